@@ -1,0 +1,37 @@
+-- A text is cut at the first octet of a kind in one way.
+use Rattle.std.proofs.Common.{◌≡◌, ◌≢◌, ℕ, List, [], ◌∷◌, ◌++◌, All, refl, sym, subst, ap}
+use Rattle.std.proofs.lemmas.List.Elements.{recursion_from_All}
+use Rattle.std.specs.List.{AllByRecursion}
+
+-- no octet of the text is `at`
+abbrev pub Lacks : ℕ → List ℕ → Type 0
+Lacks at text = All (λ octet. octet ≢ at) text
+
+abbrev LacksByRecursion : ℕ → List ℕ → Type 0
+LacksByRecursion at text = AllByRecursion (λ octet. octet ≢ at) text
+
+same_cut : (at : ℕ) (xs ys us vs : List ℕ) → LacksByRecursion at xs → LacksByRecursion at us → xs ++ at ∷ ys ≡ us ++ at ∷ vs
+    → (xs ≡ us) × (ys ≡ vs)
+same_cut at [] ys [] vs lacks_x lacks_u same = (refl, cc)
+same_cut at [] ys (u ∷ us) vs lacks_x lacks_u same = let other : u ≡ at = cc in absurd (lacks_u.0 other)
+same_cut at (x ∷ xs) ys [] vs lacks_x lacks_u same = absurd (lacks_x.0 cc)
+same_cut at (x ∷ xs) ys (u ∷ us) vs lacks_x lacks_u same =
+    let tail : xs ++ at ∷ ys ≡ us ++ at ∷ vs = cc in
+    let rest = same_cut at xs ys us vs lacks_x.1 lacks_u.1 tail in
+    let first : x ≡ u = cc in
+    (rw (first, rest.0) refl, rest.1)
+
+-- two cuts at the first `at` are the same
+pub cut_once : (at : ℕ) (xs ys us vs : List ℕ) → Lacks at xs → Lacks at us → xs ++ at ∷ ys ≡ us ++ at ∷ vs → (xs ≡ us) × (ys ≡ vs)
+cut_once at xs ys us vs lacks_x lacks_u same =
+    same_cut at xs ys us vs (recursion_from_All (λ octet. octet ≢ at) xs lacks_x)
+    (recursion_from_All (λ octet. octet ≢ at) us lacks_u) same
+
+holds_it : (at : ℕ) (xs ys : List ℕ) → LacksByRecursion at (xs ++ at ∷ ys) → ⊥
+holds_it at [] ys lacks = lacks.0 refl
+holds_it at (x ∷ xs) ys lacks = holds_it at xs ys lacks.1
+
+-- a text that has an `at` doesn't lack it
+pub not_lacking : (at : ℕ) (text xs ys : List ℕ) → Lacks at text → text ≡ xs ++ at ∷ ys → ⊥
+not_lacking at text xs ys lacks same =
+    holds_it at xs ys (recursion_from_All (λ octet. octet ≢ at) (xs ++ at ∷ ys) (subst (Lacks at) same lacks))

@@ -1,0 +1,5 @@
+pub mod Cuts
+pub mod Dotted
+pub mod NetworkOrder
+pub mod Numerals
+pub mod PeerTexts

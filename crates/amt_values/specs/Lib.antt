@@ -1,0 +1,6 @@
+pub mod Address
+pub mod Endpoint
+pub mod Group
+pub mod Numeral
+pub mod Text
+pub mod Tunnel

@@ -1,0 +1,31 @@
+//! Addresses, peers and tunnel endpoints, and their texts.
+//!
+//! Contract: a tunnel endpoint has one form, and each text names one value and is printed one way.
+//! It knows no message, socket or moment.
+//! Standard: RFC 4291, sections 2.2 and 2.5.5; RFC 5952, section 4.
+#![tactic(auto)]
+
+mod address;
+mod bytes;
+mod endpoint;
+mod group;
+mod mac;
+mod moment;
+mod numeral;
+mod octets;
+mod peer;
+mod text;
+
+pub use address::{Ip, from_wire16, wire16};
+pub use bytes::Bytes;
+pub use endpoint::Endpoint;
+pub use group::forwardable;
+pub use mac::Mac48;
+pub use moment::Moment;
+pub use numeral::{NumeralFault, parse_numeral, print_numeral};
+pub use octets::{address_of_octets, octets_of_address};
+pub use peer::Peer;
+pub use text::{parse_ip, parse_peer, print_ip, print_peer};
+
+//#[cfg(test)]
+//mod tests;
