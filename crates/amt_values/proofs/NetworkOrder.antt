@@ -1,11 +1,11 @@
 -- Numbers of any length as octets, the highest first: octets of one length are those of their number.
-use Rattle.std.proofs.Common.{◌≡◌, ℕ, zero, suc, ◌+◌, ◌*◌, ◌^◌, ◌%◌, ◌/◌, ◌<◌, List, [], ◌∷◌, length, slice_index, refl, sym, ap, ◌∙◌, arith}
+use Rattle.std.proofs.Common.{◌≡◌, ℕ, zero, suc, ◌+◌, ◌*◌, ◌^◌, ◌%◌, ◌/◌, ◌<◌, ◌≤◌, List, [], ◌∷◌, length, take, drop, slice_index, refl, sym, ap, ◌∙◌, arith, length-take}
 use Rattle.std.proofs.Math.Nat.{mod-eq_of_lt, mod-lt, mul-add-mod_self_right}
 use Rattle.std.proofs.lemmas.Nat.{div-mul-add}
 use Rattle.std.proofs.lemmas.List.{append-nil}
 use Rattle.std.specs.Int.{byte_at, bytes_high_first}
 use Rattle.byteorder.specs.Endian.{big_from}
-use Rattle.byteorder.specs.Numbers.{big_from-cons, big_from-lt, big_number-reads_back, length-bytes_high_first}
+use Rattle.byteorder.specs.Numbers.{big_from-cons, big_from-take, big_from-lt, big_number-reads_back, length-bytes_high_first}
 
 -- each item is an octet
 abbrev pub AreOctets : List ℕ → Type 0
@@ -62,3 +62,21 @@ bytes_high_first-big_from n xs len small =
 pub big_from-bytes_high_first : (n number : ℕ) → number < 256 ^ n → big_from 0 n (bytes_high_first n number) ≡ number
 big_from-bytes_high_first n number small =
     ap (big_from 0 n) (sym (append-nil (bytes_high_first n number))) ∙ big_number-reads_back n number [] small
+
+pub AreOctets-take : (n : ℕ) (xs : List ℕ) → AreOctets xs → AreOctets (take n xs)
+AreOctets-take zero xs small k = omega arith
+AreOctets-take (suc n) [] small k = omega arith
+AreOctets-take (suc n) (x ∷ xs) small zero = small 0
+AreOctets-take (suc n) (x ∷ xs) small (suc k) = AreOctets-take n xs (λ j. small (suc j)) k
+
+pub AreOctets-drop : (n : ℕ) (xs : List ℕ) → AreOctets xs → AreOctets (drop n xs)
+AreOctets-drop zero xs small k = small k
+AreOctets-drop (suc n) [] small k = omega arith
+AreOctets-drop (suc n) (x ∷ xs) small k = AreOctets-drop n xs (λ j. small (suc j)) k
+
+-- writing the number that a list's first octets carry gives those octets
+pub bytes_high_first-take : (n : ℕ) (xs : List ℕ) → n ≤ length xs → AreOctets xs → bytes_high_first n (big_from 0 n xs) ≡ take n xs
+bytes_high_first-take n xs enough small =
+    let same = big_from-take 0 n n xs (omega arith) in
+    let len : length (take n xs) ≡ n = simp length-take (omega arith) in
+    ap (bytes_high_first n) (sym same) ∙ bytes_high_first-big_from n (take n xs) len (AreOctets-take n xs small)

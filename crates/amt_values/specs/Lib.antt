@@ -2,5 +2,6 @@ pub mod Address
 pub mod Endpoint
 pub mod Group
 pub mod Numeral
+pub mod Order
 pub mod Text
 pub mod Tunnel

@@ -13,6 +13,7 @@ mod mac;
 mod moment;
 mod numeral;
 mod octets;
+mod order;
 mod peer;
 mod text;
 
@@ -24,6 +25,7 @@ pub use mac::Mac48;
 pub use moment::Moment;
 pub use numeral::{NumeralFault, parse_numeral, print_numeral};
 pub use octets::{address_of_octets, octets_of_address};
+pub use order::{order_of_endpoints, order_of_ips};
 pub use peer::Peer;
 pub use text::{parse_ip, parse_peer, print_ip, print_peer};
 

@@ -1,0 +1,20 @@
+//! The messages of the tunneling protocol, as octets and back.
+//!
+//! Contract: octets are read as a message exactly where they spell it, else as the first refusal;
+//! a message is written as its one canonical spelling.
+//! It knows no socket, state or moment, and looks into no tunnelled packet.
+//! Standard: RFC 7450, section 5.1.
+#![tactic(auto)]
+
+mod message;
+mod reading;
+mod refusal;
+mod writing;
+
+pub use message::Message;
+pub use reading::decode;
+pub use refusal::Refused;
+pub use writing::encode;
+
+//#[cfg(test)]
+//mod tests;
