@@ -1,0 +1,65 @@
+ghost use Rattle.std.specs.Prelude.{◌≡◌, [], ◌∷◌, ◌++◌, length, OnErr, IfOk};
+
+use crate::outcome::Outcome;
+use amt_values::{Bytes, Endpoint};
+use std::alloc::{AllocError, Global};
+use std::marker::Model;
+
+/// A datagram to send.
+#[derive(Debug, Drop)]
+pub struct OneSend {
+    pub to: Endpoint,
+    pub bytes: Bytes,
+}
+
+/// Datagrams to send, in order.
+#[derive(Debug, Drop)]
+pub struct Sends {
+    sends: Vec<OneSend>,
+}
+
+impl Model for Sends {
+    ghost use Rattle.std.specs.Prelude.{List};
+    ghost use Rattle.relay_machine.specs.declared.sends.OneSend.{OneSend};
+
+    ghost Value = { List OneSend };
+
+    ghost view = { λ s. s.sends.items };
+}
+
+impl Sends {
+    pub fn new(alloc: Global) -> Self
+        ensures { result ≡ [] }
+    {
+        Sends {
+            sends: Vec::new(alloc),
+        }
+    }
+
+    pub fn as_slice(&self) -> &[OneSend]
+        ensures { result.now ≡ self.now }
+    {
+        self.sends.as_slice()
+    }
+
+    pub fn len(&self) -> usize
+        ensures { result ≡ length self.now }
+    {
+        self.sends.len()
+    }
+
+    pub fn push(&mut self, send: OneSend) -> Result<(), AllocError>
+        ensures ok { IfOk result (λ _. self.new ≡ self.old ++ send ∷ []) }
+        ensures err { OnErr result (self.new ≡ self.old) }
+    {
+        self.sends.push(send)?;
+        Ok(())
+    }
+}
+
+/// What one event came to, and what is to be sent.
+#[derive(Debug, Drop)]
+pub struct Step {
+    pub outcome: Outcome,
+    pub sends: Sends,
+}
