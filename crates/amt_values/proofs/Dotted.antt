@@ -51,6 +51,10 @@ v4_only text address number dotted small same =
     let unique = IsIpv4Text_unique text address (v4_address number) dotted again in
     ap (λ (a : Ipv4Addr). from_be_bytes w32 a.octets) unique ∙ from_be_bytes-to_be_bytes_4 number small
 
+pub v4_injective : (n m : ℕ) → n < 2 ^ 32 → m < 2 ^ 32 → v4_text n ≡ v4_text m → n ≡ m
+v4_injective n m small_n small_m same =
+    sym (v4_only (v4_text n) (v4_address n) n (v4_spelled n) small_n refl) ∙ v4_only (v4_text n) (v4_address n) m (v4_spelled n) small_m same
+
 -- and where std finds no address, none is named
 pub v4_none : (text : List ℕ) (number : ℕ) → ((a : Ipv4Addr) → IsIpv4Text text a → ⊥) → text ≡ v4_text number → ⊥
 v4_none text number none same =

@@ -3,3 +3,4 @@ pub mod Dotted
 pub mod NetworkOrder
 pub mod Numerals
 pub mod PeerTexts
+pub mod Unique

@@ -7,7 +7,7 @@ use Rattle.amt_values.specs.Text.{IsIpText, IsPeerText}
 use Rattle.amt_values.proofs.Cuts.{Lacks, cut_once, not_lacking}
 use Rattle.amt_values.proofs.Dotted.{Lacks-v4_text}
 
-Lacks-IsIpText : (ip : Ip) (address : List ℕ) → IsIpText ip address → Lacks 58 address
+pub Lacks-IsIpText : (ip : Ip) (address : List ℕ) → IsIpText ip address → Lacks 58 address
 Lacks-IsIpText (V4 number) address names = subst (Lacks 58) (sym names.1) (Lacks-v4_text number)
 Lacks-IsIpText (V6 number) address names = absurd names
 

@@ -4,7 +4,7 @@ use crate::address::{from_wire16, has_ipv4_prefix, wire16};
 use crate::peer::Peer;
 use std::marker::Model;
 
-/// A tunnel endpoint (RFC 7450, section 4.2.1.1): the gateway's address and port as the relay sees them.
+/// A tunnel endpoint (RFC 7450): the gateway's address and port as the relay sees them.
 ///
 /// Each endpoint has one form: an IPv4 address stands behind 96 zero bits, and never in
 /// ::ffff:0:0/96. Endpoints are ordered by address, then port.

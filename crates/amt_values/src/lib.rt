@@ -7,6 +7,7 @@
 
 mod address;
 mod bytes;
+mod cut;
 mod endpoint;
 mod group;
 mod mac;
@@ -19,6 +20,7 @@ mod text;
 
 pub use address::{Ip, from_wire16, wire16};
 pub use bytes::Bytes;
+pub use cut::cut_at;
 pub use endpoint::Endpoint;
 pub use group::forwardable;
 pub use mac::Mac48;
@@ -29,5 +31,5 @@ pub use order::{order_of_endpoints, order_of_ips};
 pub use peer::Peer;
 pub use text::{parse_ip, parse_peer, print_ip, print_peer};
 
-//#[cfg(test)]
-//mod tests;
+#[cfg(test)]
+mod tests;

@@ -1,10 +1,11 @@
-ghost use Rattle.std.specs.Prelude.{◌≡◌, ◌≢◌, ◌<◌, ◌^◌, ℕ, ◌∷◌, ◌++◌, All, IfOk, IfSome, IfNone, Some, decimal, string_bytes};
+ghost use Rattle.std.specs.Prelude.{◌≡◌, ◌<◌, ◌^◌, ℕ, IfOk, IfSome, Some, decimal, string_bytes};
 ghost use Rattle.amt_values.specs.declared.address.Ip.{Ip as IpValue};
 ghost use Rattle.amt_values.specs.declared.peer.Peer.{Peer as PeerValue};
 ghost use Rattle.amt_values.specs.Text.{v4_text, v6_text, ip_text, peer_text, IsIpText, IsPeerText};
 
 use crate::address::Ip;
 use crate::bytes::Bytes;
+use crate::cut::cut_at;
 use crate::numeral::parse_numeral;
 use crate::peer::Peer;
 use std::alloc::{AllocError, Global};
@@ -75,18 +76,6 @@ fn parse_port(text: &[u8]) -> Option<u16>
         Ok(number) if number <= 65535 => Some(number as u16),
         _ => None,
     }
-}
-
-// The parts before and after the first octet `at`.
-fn cut_at(text: &[u8], at: u8) -> Option<(&[u8], &[u8])>
-    ensures found { IfSome result (λ parts. text.now ≡ parts.0.now ++ at ∷ parts.1.now) }
-    ensures first { IfSome result (λ parts. All (λ octet. octet ≢ at) parts.0.now) }
-    ensures none { IfNone result (All (λ octet. octet ≢ at) text.now) }
-{
-    let place = text.iter().position(|octet| *octet == at)?;
-    let (front, rest) = text.split_at(place);
-    let (_, back) = rest.split_at(1);
-    Some((front, back))
 }
 
 /// Reads a peer as `ADDRESS:PORT`, with an IPv4 address and a decimal port without leading zeros.

@@ -1,0 +1,58 @@
+-- What the statuses of `amt` say.
+use Rattle.std.specs.Prelude.{◌≡◌, ℕ, ◌==◌, List, [], ◌∷◌, ◌++◌, Option, IsTrue, codes, if◌then◌else◌}
+use Rattle.std.specs.List.{list_any}
+use Rattle.std.specs.Io.KnownBytes.{Appends}
+use Rattle.amt_ports.specs.Reading.{TakesAll}
+use Rattle.amt_command.specs.declared.script.Script.{Script}
+use Rattle.amt_command.specs.Script.{IsRelayScript}
+use Rattle.amt_command.specs.Texts.{text_of}
+use Rattle.amt_command.specs.Writing.{WritesFront}
+
+-- the words after the program's name are `replay relay`
+abbrev pub IsReplayRelay : List (List ℕ) → Type 0
+IsReplayRelay words = words ≡ codes "replay" ∷ codes "relay" ∷ []
+
+-- the input was read to its end, and spells the script
+pub record IsInput (left left' : Option (List ℕ)) (script : Script) : Type 0 where
+  pub bytes : List ℕ
+  pub read : TakesAll left left' bytes
+  pub spelled : IsRelayScript script bytes
+
+-- the input was read to its end, and the text of its script was written
+pub record Replays (left left' written written' : Option (List ℕ)) : Type 0 where
+  pub script : Script
+  pub input : IsInput left left' script
+  pub text : Appends written written' (text_of script)
+
+-- the input was read to its end, and a front of the text of its script was written
+pub record BeginsToReplay (left left' written written' : Option (List ℕ)) : Type 0 where
+  pub script : Script
+  pub input : IsInput left left' script
+  pub text : WritesFront written written' (text_of script)
+
+-- the input was read to its end, and spells no script
+pub record SpellsNothing (left left' : Option (List ℕ)) : Type 0 where
+  pub bytes : List ℕ
+  pub read : TakesAll left left' bytes
+  pub nothing : (script : Script) → IsRelayScript script bytes → ⊥
+
+-- done; usage; script; read; write; memory; too long
+abbrev pub IsStatus : ℕ → Type 0
+IsStatus status = IsTrue (list_any (λ known. known == status) (0 ∷ 2 ∷ 3 ∷ 4 ∷ 5 ∷ 7 ∷ 8 ∷ []))
+
+-- the statuses under which nothing is written: usage; script; read; too long
+abbrev pub IsQuiet : ℕ → Type 0
+IsQuiet status = IsTrue (list_any (λ known. known == status) (2 ∷ 3 ∷ 4 ∷ 8 ∷ []))
+
+-- the line on standard error, without its line feed
+abbrev pub message_of_status : ℕ → List ℕ
+message_of_status status =
+    if status == 2 then codes "amt: usage: replay relay|gateway|pair, dump, vectors, load SEED N, relay FILE, gateway FILE"
+    else (if status == 3 then codes "amt: script fault"
+    else (if status == 4 then codes "amt: read fault"
+    else (if status == 5 then codes "amt: write fault"
+    else (if status == 7 then codes "amt: out of memory" else codes "amt: input too long"))))
+
+-- what is written to standard error
+abbrev pub status_line : ℕ → List ℕ
+status_line status = if status == 0 then [] else message_of_status status ++ (10 ∷ [])

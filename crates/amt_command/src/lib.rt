@@ -1,0 +1,19 @@
+//! The command `amt`.
+//!
+//! Contract: each status has its cause, and with status 0 what was written is the text that the
+//! definitions give for the script that was read.
+//! It knows devices by their traits alone.
+//! Standard: none of its own; the formats stand in docs/FORMATS.md.
+#![tactic(auto)]
+
+mod ending;
+mod fields;
+mod lines;
+mod reading;
+mod replay;
+mod script;
+mod statement;
+mod text;
+mod top;
+
+pub use top::amt;

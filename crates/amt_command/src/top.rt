@@ -1,0 +1,135 @@
+ghost use Rattle.std.specs.Prelude.{◌≡◌, ◌≢◌, ◌≤◌, ◌↔◌, ◌⊎◌, ℕ, List, length, map, Option, Some, string_bytes, IsTrue, IsErrOf, IfErr, OnOk, OnErr};
+ghost use Rattle.std.specs.Io.KnownBytes.{Appends};
+ghost use Rattle.amt_ports.specs.Causes.{Rose};
+ghost use Rattle.amt_ports.specs.Reading.{TakesAll, TakesAtMost, TakesMore};
+ghost use Rattle.amt_ports.specs.declared.reading.TheConstants.{INPUT_LIMIT};
+ghost use Rattle.amt_command.specs.declared.script.Script.{Script as ScriptValue};
+ghost use Rattle.amt_command.specs.Command.{IsReplayRelay, Replays, BeginsToReplay, SpellsNothing, IsStatus, IsQuiet, status_line};
+ghost use Rattle.amt_command.specs.Ending.{status_of};
+ghost use Rattle.amt_command.specs.Script.{IsRelayScript};
+
+use crate::ending::Ending;
+use crate::reading::read_script;
+use crate::replay::{RunFault, run_script};
+use crate::statement::ScriptFault;
+use amt_ports::{ReadAllFault, Sink, Source, read_all, write_all_own};
+use std::alloc::Global;
+
+fn is_word(word: &String, text: &str) -> bool
+    ensures { IsTrue result ↔ (string_bytes word.now ≡ text.now) }
+{
+    word.as_str() == text
+}
+
+fn are_replay_relay(words: &[String]) -> bool
+    ensures { IsTrue result ↔ IsReplayRelay (map string_bytes words.now) }
+{
+    match words {
+        [first, second] => {
+            if is_word(first, "replay") {
+                is_word(second, "relay")
+            } else {
+                false
+            }
+        }
+        _ => false,
+    }
+}
+
+fn replay_relay<S: Source, O: Sink>(alloc: Global, input: &mut S, out: &mut O) -> Result<(), Ending>
+    ensures done { OnOk result (Replays (S.left input.old) (S.left input.new) (O.written out.old) (O.written out.new)) }
+    ensures begun { IsErrOf result Ending.WriteFault → BeginsToReplay (S.left input.old) (S.left input.new) (O.written out.old) (O.written out.new) }
+    ensures memory { IsErrOf result Ending.Memory → (out.new ≡ out.old) ⊎ BeginsToReplay (S.left input.old) (S.left input.new) (O.written out.old) (O.written out.new) }
+    ensures quiet { IfErr result (λ ending. ending ≢ Ending.WriteFault → ending ≢ Ending.Memory → out.new ≡ out.old) }
+
+    ensures no_usage { IsErrOf result Ending.Usage → ⊥ }
+    ensures script { IsErrOf result Ending.NoScript → SpellsNothing (S.left input.old) (S.left input.new) }
+    ensures read { IsErrOf result Ending.ReadFault → Rose (S.faults input.old) (S.faults input.new) }
+    ensures write { IsErrOf result Ending.WriteFault → Rose (O.faults out.old) (O.faults out.new) }
+    ensures too_long { IsErrOf result Ending.TooLong → TakesMore INPUT_LIMIT (S.left input.old) (S.left input.new) }
+    ensures within { (IsErrOf result Ending.TooLong → ⊥) → TakesAtMost INPUT_LIMIT (S.left input.old) (S.left input.new) }
+{
+    let bytes = match read_all(alloc, input) {
+        Ok(bytes) => bytes,
+        Err(ReadAllFault::ReadFault) => return Err(Ending::ReadFault),
+        Err(ReadAllFault::TooLong) => return Err(Ending::TooLong),
+        Err(ReadAllFault::Memory) => return Err(Ending::Memory),
+    };
+    let script = match read_script(alloc, bytes.as_slice()) {
+        Ok(script) => script,
+        Err(ScriptFault::NotScript) => return Err(Ending::NoScript),
+        Err(ScriptFault::Memory) => return Err(Ending::Memory),
+    };
+    match run_script(alloc, &script, out) {
+        Ok(()) => Ok(()),
+        Err(RunFault::Write) => Err(Ending::WriteFault),
+        Err(RunFault::Memory) => Err(Ending::Memory),
+    }
+}
+
+fn run<S: Source, O: Sink>(
+    alloc: Global,
+    words: &[String],
+    input: &mut S,
+    out: &mut O,
+) -> Result<(), Ending>
+    ensures usage { IsErrOf result Ending.Usage ↔ (IsReplayRelay (map string_bytes words.now) → ⊥) }
+
+    ensures done { OnOk result (Replays (S.left input.old) (S.left input.new) (O.written out.old) (O.written out.new)) }
+    ensures begun { IsErrOf result Ending.WriteFault
+        → BeginsToReplay (S.left input.old) (S.left input.new) (O.written out.old) (O.written out.new) }
+    ensures memory { IsErrOf result Ending.Memory → (out.new ≡ out.old)
+        ⊎ BeginsToReplay (S.left input.old) (S.left input.new) (O.written out.old) (O.written out.new) }
+    ensures quiet { IfErr result (λ ending. ending ≢ Ending.WriteFault → ending ≢ Ending.Memory → out.new ≡ out.old) }
+
+    ensures script { IsErrOf result Ending.NoScript → SpellsNothing (S.left input.old) (S.left input.new) }
+    ensures read { IsErrOf result Ending.ReadFault → Rose (S.faults input.old) (S.faults input.new) }
+    ensures write { IsErrOf result Ending.WriteFault → Rose (O.faults out.old) (O.faults out.new) }
+    ensures too_long { IsErrOf result Ending.TooLong → TakesMore INPUT_LIMIT (S.left input.old) (S.left input.new) }
+{
+    if !are_replay_relay(words) {
+        return Err(Ending::Usage);
+    }
+    replay_relay(alloc, input, out)
+}
+
+fn status_of(ending: &Result<(), Ending>) -> u8
+    ensures { result ≡ status_of ending.now }
+{
+    match ending {
+        Ok(()) => 0,
+        Err(ending) => ending.status(),
+    }
+}
+
+/// The command `amt`: takes the words after the program's name, and answers the exit status.
+///
+/// A fault of `err` is ignored: the status tells the same.
+pub fn amt<S: Source, O: Sink, E: Sink>(
+    alloc: Global,
+    words: &[String],
+    input: &mut S,
+    out: &mut O,
+    err: &mut E,
+) -> u8
+    ensures done { result ≡ 0 → Replays (S.left input.old) (S.left input.new) (O.written out.old) (O.written out.new) }
+    ensures usage { (result ≡ 2) ↔ (IsReplayRelay (map string_bytes words.now) → ⊥) }
+    ensures script { result ≡ 3 → SpellsNothing (S.left input.old) (S.left input.new) }
+    ensures read { result ≡ 4 → Rose (S.faults input.old) (S.faults input.new) }
+    ensures write { result ≡ 5 → Rose (O.faults out.old) (O.faults out.new) }
+    ensures too_long { result ≡ 8 → TakesMore INPUT_LIMIT (S.left input.old) (S.left input.new) }
+    ensures statuses { IsStatus result }
+
+    ensures quiet { IsQuiet result → out.new ≡ out.old }
+    ensures begun { result ≡ 5 → BeginsToReplay (S.left input.old) (S.left input.new) (O.written out.old) (O.written out.new) }
+    ensures memory { result ≡ 7 → (out.new ≡ out.old)
+        ⊎ BeginsToReplay (S.left input.old) (S.left input.new) (O.written out.old) (O.written out.new) }
+    ensures line { (Rose (E.faults err.old) (E.faults err.new) → ⊥)
+        → Appends (E.written err.old) (E.written err.new) (status_line result) }
+{
+    let ending = run(alloc, words, input, out);
+    if let Err(ending) = ending {
+        let _ = write_all_own(err, ending.line());
+    }
+    status_of(&ending)
+}
