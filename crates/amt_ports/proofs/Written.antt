@@ -1,0 +1,25 @@
+-- What several writes appended together.
+use Rattle.std.proofs.Common.{◌≡◌, ℕ, ◌+◌, ◌≤◌, Option, List, ◌++◌, length, take, drop, arith, length-append, subst, sym, ◌∙◌, ap, append_assoc}
+use Rattle.std.proofs.Math.Seq.{take-append_seam, take-append-add}
+use Rattle.std.proofs.lemmas.List.{take-append-drop}
+use Rattle.std.specs.Io.KnownBytes.{Appends, Keeps}
+use Rattle.std.proofs.KnownBytes.{Appends-kept, Appends-trans}
+
+-- what was appended before a call that kept all is a front of the whole
+pub Appends-front : (a b c : Option (List ℕ)) (all done rest : List ℕ) → all ≡ done ++ rest → Appends a b done → Keeps b c → (n : ℕ) × (n ≤ length all) × Appends a c (take n all)
+Appends-front a b c all done rest parts before kept =
+    let front : take (length done) all ≡ done = ap (take (length done)) parts ∙ take-append_seam done rest in
+    (length done, omega (arith, ap length parts, length-append done rest), subst (Appends a c) (sym front) (Appends-kept a b c done before kept))
+
+-- a front of the second text, after the whole first one, is a front of both
+pub Appends-front_after : (a b c : Option (List ℕ)) (xs ys : List ℕ) (n : ℕ) → Appends a b xs → Appends b c (take n ys) → Appends a c (take (length xs + n) (xs ++ ys))
+Appends-front_after a b c xs ys n first second =
+    subst (Appends a c) (sym (take-append-add xs ys n)) (Appends-trans a b c xs (take n ys) first second)
+
+-- n bytes more of what is left
+pub Appends-step : (a b c : Option (List ℕ)) (all done rest : List ℕ) (n : ℕ) → all ≡ done ++ rest → Appends a b done → Appends b c (take n rest) → (more : List ℕ) × (all ≡ more ++ drop n rest) × Appends a c more
+Appends-step a b c all done rest n parts before written = (
+  done ++ take n rest,
+  parts ∙ ap (λ l. done ++ l) (sym (take-append-drop n rest)) ∙ sym (append_assoc done (take n rest) (drop n rest)),
+  Appends-trans a b c done (take n rest) before written,
+)

@@ -1,0 +1,6 @@
+pub mod AdaptedDevice
+pub mod Causes
+pub mod MemSink
+pub mod MemSource
+pub mod Reading
+pub mod Tally
