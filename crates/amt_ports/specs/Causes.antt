@@ -1,6 +1,9 @@
 -- Why a call may fail: the count of faults of its device rose.
-use Rattle.std.specs.Prelude.{ℕ, ◌≤◌, OnErr, Result}
-use Rattle.amt_ports.specs.Tally.{next_count}
+use Rattle.std.specs.Prelude.{ℕ, ◌+◌, ◌-◌, ◌^◌, ◌≤◌, min, OnErr, Result}
+
+-- one more, but for the last value of a counter, which stays
+abbrev pub next_count : ℕ → ℕ
+next_count n = min (n + 1) (2 ^ 64 - 1)
 
 -- the count rose, or stands at the last value of a counter
 abbrev pub Rose : ℕ → ℕ → Type 0

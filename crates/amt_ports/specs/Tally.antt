@@ -1,9 +1,6 @@
 -- The counts that a device in memory keeps of its calls.
-use Rattle.std.specs.Prelude.{ℕ, ◌+◌, ◌-◌, ◌^◌, min, List}
-
--- one more, but for the last value of a counter, which stays
-abbrev pub next_count : ℕ → ℕ
-next_count n = min (n + 1) (2 ^ 64 - 1)
+use Rattle.std.specs.Prelude.{ℕ, List}
+use Rattle.amt_ports.specs.Causes.{next_count}
 
 -- how many calls were made, the numbers of those that fail, and how many failed
 pub record Tally : Type 0 where

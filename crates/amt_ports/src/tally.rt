@@ -1,8 +1,9 @@
 ghost use Rattle.std.specs.Prelude.{◌≡◌, ◌≤◌, ◌↔◌, Contains, IsErr, OnOk, OnErr};
-ghost use Rattle.amt_ports.specs.Causes.{HasCause};
-ghost use Rattle.amt_ports.specs.Tally.{fresh_tally, next_count, with_call, with_fault};
+ghost use Rattle.amt_ports.specs.Causes.{HasCause, next_count};
+ghost use Rattle.amt_ports.specs.Tally.{fresh_tally, with_call, with_fault};
 
 use crate::Failed;
+use crate::fault::count_fault;
 use std::marker::Model;
 
 /// The calls of a device in memory: how many there were, which of them fail, and how many failed.
@@ -58,7 +59,6 @@ impl CallTally {
         ensures fault { self.new ≡ with_fault self.old }
         ensures later { self.old.faults ≤ self.new.faults }
     {
-        self.faults = self.faults.saturating_add(1);
-        Failed
+        count_fault(&mut self.faults)
     }
 }

@@ -1,8 +1,8 @@
 ghost use Rattle.std.specs.Prelude.{◌≡◌, ◌<◌, [], length, Some, Contains, IsErr, IfOk, OnOk, OnErr};
 ghost use Rattle.std.specs.Io.{WritesAtMost};
 ghost use Rattle.std.specs.Io.KnownBytes.{WriteAppends};
-ghost use Rattle.amt_ports.specs.Causes.{HasCause};
-ghost use Rattle.amt_ports.specs.Tally.{fresh_tally, next_count, with_call, with_fault};
+ghost use Rattle.amt_ports.specs.Causes.{HasCause, next_count};
+ghost use Rattle.amt_ports.specs.Tally.{fresh_tally, with_call, with_fault};
 
 use crate::tally::CallTally;
 use crate::{Failed, Sink};

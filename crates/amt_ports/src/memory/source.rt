@@ -1,8 +1,8 @@
 ghost use Rattle.std.specs.Prelude.{◌≡◌, ◌↔◌, [], min, length, take, drop, Some, Ok, Contains, IsErr, IfOk, OnOk, OnErr};
 ghost use Rattle.std.specs.Io.{ReadsAtMost};
 ghost use Rattle.std.specs.Io.KnownBytes.{ReadConsumes};
-ghost use Rattle.amt_ports.specs.Causes.{HasCause};
-ghost use Rattle.amt_ports.specs.Tally.{fresh_tally, next_count, with_call, with_fault};
+ghost use Rattle.amt_ports.specs.Causes.{HasCause, next_count};
+ghost use Rattle.amt_ports.specs.Tally.{fresh_tally, with_call, with_fault};
 
 use crate::tally::CallTally;
 use crate::{Failed, Source};

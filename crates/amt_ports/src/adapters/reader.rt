@@ -1,0 +1,78 @@
+ghost use Rattle.std.specs.Prelude.{◌≡◌, OnOk, OnErr};
+ghost use Rattle.std.specs.Io.{ReadsAtMost};
+ghost use Rattle.std.specs.Io.KnownBytes.{ReadConsumes};
+ghost use Rattle.amt_ports.specs.Causes.{HasCause, next_count};
+
+use crate::fault::count_fault;
+use crate::{Failed, Source};
+use std::io::{ErrorKind, Read};
+use std::marker::Model;
+
+/// A std reader as a source. It tells what the reader tells, so standard input tells nothing.
+#[derive(Debug, Drop)]
+pub struct ReaderSource<R> {
+    reader: R,
+    faults: u64,
+}
+
+impl<R> Model for ReaderSource<R> {
+    ghost use Rattle.amt_ports.specs.AdaptedDevice.{AdaptedDevice};
+
+    ghost Value = { AdaptedDevice R };
+
+    ghost view = { λ s. record { device = s.reader; faults = s.faults } };
+}
+
+impl<R: Read + Drop> ReaderSource<R> {
+    pub fn new(reader: R) -> Self
+        ensures device { result.device ≡ reader }
+        ensures faults { result.faults ≡ 0 }
+    {
+        ReaderSource { reader, faults: 0 }
+    }
+
+    pub fn faults(&self) -> u64
+        ensures { result ≡ self.now.faults }
+    {
+        self.faults
+    }
+}
+
+impl<R: Read + Drop> Source for ReaderSource<R> {
+    ghost left = { λ s. R.remaining s.device };
+
+    ghost faults = { λ s. s.faults };
+
+    fn read(&mut self, buf: &mut [u8]) -> Result<usize, Failed>
+        ensures bound { ReadsAtMost result buf.new }
+        ensures bytes { ReadConsumes (R.remaining self.old.device) (R.remaining self.new.device)
+            result buf.new }
+        ensures cause { HasCause self.old.faults self.new.faults result }
+
+        ensures ok { OnOk result (self.new.faults ≡ self.old.faults) }
+        ensures err { OnErr result (self.new.faults ≡ next_count self.old.faults) }
+    {
+        match read_uninterrupted(&mut self.reader, buf) {
+            Ok(count) => Ok(count),
+            Err(_) => Err(count_fault(&mut self.faults)),
+        }
+    }
+}
+
+// A signal that interrupts a read says nothing about the reader, so the read is asked again.
+fn read_uninterrupted<R: Read>(reader: &mut R, buf: &mut [u8]) -> Result<usize, Failed>
+    ensures bound { ReadsAtMost result buf.new }
+    ensures bytes { ReadConsumes (R.remaining reader.old) (R.remaining reader.new) result buf.new }
+{
+    for _ in 0..u64::MAX {
+        match reader.read(buf) {
+            Ok(count) => return Ok(count),
+            Err(error) => {
+                if error.kind() != ErrorKind::Interrupted {
+                    return Err(Failed);
+                }
+            }
+        }
+    }
+    Err(Failed)
+}
