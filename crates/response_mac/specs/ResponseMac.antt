@@ -1,0 +1,35 @@
+-- The response MAC (RFC 7450, section 5.3.5), and the secrets that give it.
+use Rattle.std.specs.Prelude.{◌≡◌, ℕ, ◌⊎◌, List, ◌∷◌, ◌++◌, take, reverse, slice_get, slice_index_or, IsSomeAnd}
+use Rattle.byteorder.specs.Endian.{big_bytes}
+use Rattle.amt_values.specs.declared.mac.Mac48.{Mac48}
+use Rattle.amt_values.specs.Tunnel.{Tunnel}
+use Rattle.response_mac.specs.declared.secret.Secret.{Secret}
+use Rattle.response_mac.specs.declared.secrets.Secrets.{Secrets}
+use Rattle.response_mac.specs.Hmac.{hmac_of}
+
+-- the endpoint's address in 16 octets, its port in 2, the nonce in 4
+abbrev pub authenticated_octets : Tunnel → ℕ → List ℕ
+authenticated_octets endpoint nonce =
+    big_bytes 16 endpoint.address ++ (big_bytes 2 endpoint.port ++ big_bytes 4 nonce)
+
+-- the octets of a digest that a MAC keeps (RFC 2104, section 5)
+abbrev pub leftmost_48_bits : List ℕ → Mac48
+leftmost_48_bits digest = record { 0 = take 6 digest }
+
+-- the response MAC of an endpoint and a nonce under a secret
+abbrev pub mac_of : Secret → Tunnel → ℕ → Mac48
+mac_of secret endpoint nonce =
+    leftmost_48_bits (hmac_of secret.0 (authenticated_octets endpoint nonce))
+
+-- the current secret gives the MAC, or the previous one, where there is one, gives it
+abbrev pub IsGood : Secrets → Tunnel → ℕ → Mac48 → Type 0
+IsGood secrets endpoint nonce mac =
+    (mac ≡ mac_of secrets.current endpoint nonce)
+    ⊎ IsSomeAnd secrets.previous (λ previous. mac ≡ mac_of previous endpoint nonce)
+
+-- the last two items, or the only one, of the list that begins with the first secret and goes on
+-- with the secrets that it was changed to (RFC 7450, section 5.3.6)
+abbrev pub secrets_after : Secret → List Secret → Secrets
+secrets_after first changes =
+    let newest_first = reverse (first ∷ changes) in
+    record { current = slice_index_or newest_first 0 first; previous = slice_get newest_first 1 }

@@ -1,0 +1,128 @@
+ghost use Rattle.std.specs.Prelude.{◌≡◌, ◌↔◌, Some, List, [], ◌∷◌, ◌++◌, IsTrue};
+ghost use Rattle.response_mac.specs.declared.secret.Secret.{Secret};
+ghost use Rattle.response_mac.specs.ResponseMac.{mac_of, IsGood, secrets_after};
+
+use crate::response;
+use crate::secret::Secret;
+use amt_values::{Endpoint, Mac48};
+
+/// The secrets whose response MACs a relay accepts.
+#[derive(Clone, Copy, Debug)]
+pub struct Secrets {
+    pub current: Secret,
+    pub previous: Option<Secret>,
+}
+
+impl Secrets {
+    /// The secrets before the first rotation.
+    pub fn new(first: Secret) -> Secrets
+        ensures { result ≡ secrets_after first [] }
+    {
+        Secrets {
+            current: first,
+            previous: None,
+        }
+    }
+
+    /// Secret rotation (RFC 7450, section 5.3.6).
+    ///
+    /// A gateway goes on using the last MAC that it was sent, so the MACs of a secret stay good for
+    /// one rotation after it.
+    pub fn rotate(&mut self, new: Secret)
+        ensures rotated { self.new ≡ record { current = new; previous = Some self.old.current } }
+        ensures appended { (first : Secret) (changes : List Secret) → self.old ≡ secrets_after first changes
+            → self.new ≡ secrets_after first (changes ++ new ∷ []) }
+    {
+        self.previous = Some(self.current);
+        self.current = new;
+    }
+
+    /// Whether the endpoint was sent this MAC with this nonce.
+    ///
+    /// A forged MAC that is right by chance counts: one in 2^48 for each secret.
+    pub fn matches(&self, endpoint: &Endpoint, nonce: u32, mac: &Mac48) -> bool
+        ensures { IsTrue result ↔ IsGood self.now endpoint.now nonce mac.now }
+    {
+        if is_given_by(&self.current, endpoint, nonce, mac) {
+            return true;
+        }
+        match &self.previous {
+            Some(previous) => is_given_by(previous, endpoint, nonce, mac),
+            None => false,
+        }
+    }
+}
+
+fn is_given_by(secret: &Secret, endpoint: &Endpoint, nonce: u32, mac: &Mac48) -> bool
+    ensures { IsTrue result ↔ (mac.now ≡ mac_of secret.now endpoint.now nonce) }
+{
+    is_same(mac, &response::mac(secret, endpoint, nonce))
+}
+
+// Each octet is looked at, whatever those before it were: otherwise a forger could tell by the time
+// how many octets of a guess are right. No clause speaks of time.
+fn is_same(mac: &Mac48, other: &Mac48) -> bool
+    ensures { IsTrue result ↔ (mac.now ≡ other.now) }
+{
+    let mut difference = 0;
+    for i in 0..6 {
+        difference |= mac.0[i] ^ other.0[i];
+    }
+    difference == 0
+}
+
+#[cfg(test)]
+mod tests {
+    use super::*;
+
+    const NONCE: u32 = 0x0a0b_0c0d;
+
+    #[test]
+    fn a_mac_is_good_until_the_second_rotation(rt: HostRuntime) {
+        let endpoint = Endpoint::named(0xc633_6407, 5000);
+        let mut secrets = Secrets::new(Secret([1; 32]));
+        let mac = response::mac(&secrets.current, &endpoint, NONCE);
+        assert!(rt;
+            secrets.matches(&endpoint, NONCE, &mac),
+            "of the current secret"
+        );
+        secrets.rotate(Secret([2; 32]));
+        assert!(rt;
+            secrets.matches(&endpoint, NONCE, &mac),
+            "of the previous secret"
+        );
+        secrets.rotate(Secret([3; 32]));
+        assert!(rt;
+            !secrets.matches(&endpoint, NONCE, &mac),
+            "of the one before"
+        );
+    }
+
+    #[test]
+    fn another_mac_endpoint_or_nonce_is_not_good(rt: HostRuntime) {
+        let endpoint = Endpoint::named(0xc633_6407, 5000);
+        let mut secrets = Secrets::new(Secret([1; 32]));
+        secrets.rotate(Secret([2; 32]));
+        let mac = response::mac(&secrets.current, &endpoint, NONCE);
+        assert!(rt; secrets.matches(&endpoint, NONCE, &mac));
+        for bit in 0..48 {
+            let mut octets = mac.0;
+            octets[bit / 8] ^= 1 << (bit % 8);
+            assert!(rt;
+                !secrets.matches(&endpoint, NONCE, &Mac48(octets)),
+                "bit {bit}"
+            );
+        }
+        let other_port = Endpoint::named(0xc633_6407, 5001);
+        assert!(rt; !secrets.matches(&other_port, NONCE, &mac), "another port");
+        let other_address = Endpoint::named(0xc633_6408, 5000);
+        assert!(rt;
+            !secrets.matches(&other_address, NONCE, &mac),
+            "another address"
+        );
+        assert!(rt;
+            !secrets.matches(&endpoint, NONCE + 1, &mac),
+            "another nonce"
+        );
+    }
+}
