@@ -27,5 +27,5 @@ abbrev pub padded_key : List ℕ → ℕ → List ℕ
 padded_key key pad = map (λ octet. bit_xor octet pad) (key_block key)
 
 -- H (K XOR opad, H (K XOR ipad, text))
-abbrev pub hmac_of : List ℕ → List ℕ → List ℕ
+unfoldable pub hmac_of : List ℕ → List ℕ → List ℕ
 hmac_of key text = sha256 (padded_key key opad ++ sha256 (padded_key key ipad ++ text))

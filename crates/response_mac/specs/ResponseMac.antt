@@ -17,7 +17,7 @@ abbrev pub leftmost_48_bits : List ℕ → Mac48
 leftmost_48_bits digest = record { 0 = take 6 digest }
 
 -- the response MAC of an endpoint and a nonce under a secret
-abbrev pub mac_of : Secret → Tunnel → ℕ → Mac48
+unfoldable pub mac_of : Secret → Tunnel → ℕ → Mac48
 mac_of secret endpoint nonce =
     leftmost_48_bits (hmac_of secret.0 (authenticated_octets endpoint nonce))
 

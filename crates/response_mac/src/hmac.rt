@@ -14,6 +14,7 @@ const OUTER_PAD: u8 = 0x5c;
 ///
 /// A short key and itself with zeros behind are one key, and so are a key above 64 octets and its
 /// digest: let no peer choose keys.
+#[tactic(auto, unfolding(crate::specs::Hmac::hmac_of))]
 pub fn hmac_sha256(key: &[u8], message: &[u8]) -> [u8; 32]
     ensures { result ≡ hmac_of key.now message.now }
 {

@@ -9,6 +9,7 @@ use byteorder::{BigEndian, ByteOrder};
 /// The response MAC that a relay sends to an endpoint in answer to its request.
 ///
 /// RFC 7450, section 5.3.5, leaves its computation to the relay.
+#[tactic(auto, unfolding(crate::specs::ResponseMac::mac_of))]
 pub fn mac(secret: &Secret, endpoint: &Endpoint, nonce: u32) -> Mac48
     ensures { result ≡ mac_of secret.now endpoint.now nonce }
 {

@@ -10,6 +10,7 @@ use amt_values::{Endpoint, Mac48};
 #[derive(Clone, Copy, Debug)]
 pub struct Secrets {
     pub current: Secret,
+    /// None before the first rotation.
     pub previous: Option<Secret>,
 }
 
@@ -30,16 +31,17 @@ impl Secrets {
     /// one rotation after it.
     pub fn rotate(&mut self, new: Secret)
         ensures rotated { self.new ≡ record { current = new; previous = Some self.old.current } }
-        ensures appended { (first : Secret) (changes : List Secret) → self.old ≡ secrets_after first changes
+        ensures appended { (first : Secret) (changes : List Secret)
+            → self.old ≡ secrets_after first changes
             → self.new ≡ secrets_after first (changes ++ new ∷ []) }
     {
         self.previous = Some(self.current);
         self.current = new;
     }
 
-    /// Whether the endpoint was sent this MAC with this nonce.
+    /// Whether one of the two secrets gives this MAC for the endpoint and the nonce.
     ///
-    /// A forged MAC that is right by chance counts: one in 2^48 for each secret.
+    /// A forged MAC that is right by chance matches too.
     pub fn matches(&self, endpoint: &Endpoint, nonce: u32, mac: &Mac48) -> bool
         ensures { IsTrue result ↔ IsGood self.now endpoint.now nonce mac.now }
     {
