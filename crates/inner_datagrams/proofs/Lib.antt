@@ -1,0 +1,5 @@
+pub mod Octets
+pub mod OnesComplement
+pub mod Pairs
+pub mod RightSum
+pub mod ReadBack

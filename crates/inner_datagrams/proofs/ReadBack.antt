@@ -1,0 +1,43 @@
+-- A written datagram is read back.
+use Rattle.std.proofs.Common.{ℕ, ◌+◌, ◌^◌, ◌<◌, ◌≤◌, List, [], ◌∷◌, ◌++◌, length, drop, refl, ◌∙◌, arith, rules}
+use Rattle.byteorder.specs.Endian.{big_bytes}
+use Rattle.byteorder.specs.Numbers.{big_number-reads_back}
+use Rattle.amt_values.proofs.NetworkOrder.{AreOctets}
+use Rattle.inner_datagrams.specs.Checksum.{IsRight}
+use Rattle.inner_datagrams.specs.Inner.{IsInner4}
+use Rattle.inner_datagrams.specs.Written.{header4_with_sum, header4, written_inner4}
+use Rattle.inner_datagrams.proofs.Octets.{AreOctets-from_each}
+use Rattle.inner_datagrams.proofs.RightSum.{IsRight-filled}
+
+-- what stands before the checksum of a header, and behind it
+abbrev before_sum : ℕ → List ℕ
+before_sum total_length = 0x46 ∷ 0xc0 ∷ big_bytes 2 total_length ++ 0 ∷ 0 ∷ 0 ∷ 0 ∷ [] ++ 1 ∷ 2 ∷ []
+
+abbrev behind_sum : ℕ → ℕ → List ℕ
+behind_sum source destination = big_bytes 4 source ++ big_bytes 4 destination ++ 0x94 ∷ 4 ∷ 0 ∷ 0 ∷ []
+
+AreOctets-header4_with_sum : (total_length source destination : ℕ) → AreOctets (header4_with_sum 0 total_length source destination)
+AreOctets-header4_with_sum total_length source destination =
+    AreOctets-from_each (header4_with_sum 0 total_length source destination) (search rules)
+
+IsRight-header4 : (total_length source destination : ℕ) → IsRight (header4 total_length source destination)
+IsRight-header4 total_length source destination =
+    IsRight-filled (before_sum total_length) (behind_sum source destination) 5 refl (AreOctets-header4_with_sum total_length source destination)
+
+-- each field of a written datagram stands at its place
+pub IsInner4-written_inner4 : (source destination : ℕ) (payload : List ℕ) → source < 2 ^ 32 → destination < 2 ^ 32 → length payload ≤ 60000
+    → IsInner4 source destination payload (written_inner4 source destination payload)
+unfolding written_inner4
+IsInner4-written_inner4 source destination payload source_fits destination_fits short =
+    let bytes = written_inner4 source destination payload in record {
+      version = refl;
+      least_header = omega arith;
+      whole_header = omega arith;
+      total_length = big_number-reads_back 2 (24 + length payload) (drop 4 bytes) (omega arith) ∙ omega arith;
+      right_header = IsRight-header4 (24 + length payload) source destination;
+      no_fragment = refl;
+      protocol = refl;
+      comes_from = big_number-reads_back 4 source (drop 16 bytes) source_fits;
+      goes_to = big_number-reads_back 4 destination (drop 20 bytes) destination_fits;
+      carries = refl;
+    }

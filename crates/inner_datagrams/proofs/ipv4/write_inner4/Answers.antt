@@ -1,0 +1,14 @@
+use Rattle.std.proofs.Common.{rules, ℕ, List, sym, subst}
+use Rattle.inner_datagrams.specs.Inner.{IsInner4}
+use Rattle.inner_datagrams.specs.Written.{written_inner4}
+use Rattle.inner_datagrams.proofs.ReadBack.{IsInner4-written_inner4}
+use Rattle.inner_datagrams.proofs.ipv4.write_inner4.Goals as goal
+
+pub returns-clause-written : goal.returns-clause-written
+unfolding written_inner4
+returns-clause-written c = search rules
+
+pub returns-clause-read_back : goal.returns-clause-read_back
+returns-clause-read_back c =
+    let P : List ℕ → Type 0 = IsInner4 c.args.source c.args.destination c.args.payload.now in
+    subst P (sym (returns-clause-written c)) (IsInner4-written_inner4 c.args.source c.args.destination c.args.payload.now c.ranges.source.fits c.ranges.destination.fits c.requires)

@@ -1,0 +1,32 @@
+ghost use Rattle.std.specs.Prelude.{◌≡◌, ◌≤◌, ◌%◌, ◌↔◌, length};
+ghost use Rattle.inner_datagrams.specs.Checksum.{internet_sum_of};
+
+/// The most bytes of which a checksum is taken, 16 MiB.
+pub const BYTES_LIMIT: usize = 16_777_216;
+
+// Adds what a sum carries beyond 16 bits in at its low end, until nothing is carried. This keeps
+// the remainder by ffff, but ffff and 0 share one: only a sum of 0 may become 0.
+fn carried_around(mut sum: u64) -> u16
+    ensures same_remainder { result % 65535 ≡ sum % 65535 }
+    ensures zero { (result ≡ 0) ↔ (sum ≡ 0) }
+{
+    while sum > 0xffff {
+        sum = (sum & 0xffff) + (sum >> 16);
+    }
+    sum as u16
+}
+
+/// The Internet checksum of RFC 1071: the one's complement of the one's complement sum of the
+/// words of 16 bits, where a zero follows an odd last octet.
+pub fn internet_sum(bytes: &[u8]) -> u16
+    requires { length bytes.now ≤ BYTES_LIMIT }
+    ensures { result ≡ internet_sum_of bytes.now }
+{
+    let (pairs, odd) = bytes.as_chunks::<2>();
+    let mut sum = 0u64;
+    for pair in pairs {
+        sum += u64::from(u16::from_be_bytes(*pair));
+    }
+    let last = odd.first().copied().unwrap_or(0);
+    !carried_around(sum + (u64::from(last) << 8))
+}

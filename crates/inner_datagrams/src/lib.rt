@@ -1,0 +1,16 @@
+//! IP datagrams that carry membership messages, and their checksum.
+//!
+//! Contract: a written datagram is the one spelling of its addresses and payload, and is read back
+//! to them.
+//! It knows no record, tunnel or moment.
+//! Standard: RFC 791, section 3.1; RFC 1071, section 1; RFC 3376, section 4.
+#![tactic(auto)]
+
+mod checksum;
+mod ipv4;
+
+pub use checksum::{BYTES_LIMIT, internet_sum};
+pub use ipv4::{PAYLOAD_LIMIT, write_inner4};
+
+#[cfg(test)]
+mod tests;
