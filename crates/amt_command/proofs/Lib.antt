@@ -1,7 +1,9 @@
 pub mod Openings
 pub mod Rests
 pub mod Runs
+pub mod Scripts
 pub mod SoFar
 pub mod Splitting
 pub mod Statements
+pub mod Undisturbed
 pub mod Writes

@@ -1,8 +1,10 @@
 -- What the statuses of `amt` say.
-use Rattle.std.specs.Prelude.{◌≡◌, ℕ, ◌==◌, List, [], ◌∷◌, ◌++◌, Option, IsTrue, codes, if◌then◌else◌}
+use Rattle.std.specs.Prelude.{◌≡◌, ℕ, ◌≤◌, ◌==◌, List, [], ◌∷◌, ◌++◌, length, Option, Some, IsTrue, codes, if◌then◌else◌}
 use Rattle.std.specs.List.{list_any}
 use Rattle.std.specs.Io.KnownBytes.{Appends}
+use Rattle.amt_ports.specs.Causes.{Rose}
 use Rattle.amt_ports.specs.Reading.{TakesAll}
+use Rattle.amt_ports.specs.declared.reading.TheConstants.{INPUT_LIMIT}
 use Rattle.amt_command.specs.declared.script.Script.{Script}
 use Rattle.amt_command.specs.Script.{IsRelayScript}
 use Rattle.amt_command.specs.Texts.{text_of}
@@ -12,10 +14,11 @@ use Rattle.amt_command.specs.Writing.{WritesFront}
 abbrev pub IsReplayRelay : List (List ℕ) → Type 0
 IsReplayRelay words = words ≡ codes "replay" ∷ codes "relay" ∷ []
 
--- the input was read to its end, and spells the script
+-- the input was read to its end, within its limit, and spells the script
 pub record IsInput (left left' : Option (List ℕ)) (script : Script) : Type 0 where
   pub bytes : List ℕ
   pub read : TakesAll left left' bytes
+  pub short : length bytes ≤ INPUT_LIMIT
   pub spelled : IsRelayScript script bytes
 
 -- the input was read to its end, and the text of its script was written
@@ -30,10 +33,11 @@ pub record BeginsToReplay (left left' written written' : Option (List ℕ)) : Ty
   pub input : IsInput left left' script
   pub text : WritesFront written written' (text_of script)
 
--- the input was read to its end, and spells no script
+-- the input was read to its end, within its limit, and spells no script
 pub record SpellsNothing (left left' : Option (List ℕ)) : Type 0 where
   pub bytes : List ℕ
   pub read : TakesAll left left' bytes
+  pub short : length bytes ≤ INPUT_LIMIT
   pub nothing : (script : Script) → IsRelayScript script bytes → ⊥
 
 -- done; usage; script; read; write; memory; too long
@@ -56,3 +60,15 @@ message_of_status status =
 -- what is written to standard error
 abbrev pub status_line : ℕ → List ℕ
 status_line status = if status == 0 then [] else message_of_status status ++ (10 ∷ [])
+
+-- the words are those of the command, the input tells these bytes, and neither it nor the output
+-- failed, by their counts before and after
+pub record IsUndisturbed (words : List (List ℕ)) (left : Option (List ℕ)) (bytes : List ℕ) (reads reads' writes writes' : ℕ) : Type 0 where
+  pub accepted : IsReplayRelay words
+  pub told : left ≡ Some bytes
+  pub reading : Rose reads reads' → ⊥
+  pub writing : Rose writes writes' → ⊥
+
+-- no octets spell two scripts
+abbrev pub HasOneScript : Type 0
+HasOneScript = (bytes : List ℕ) (one other : Script) → IsRelayScript one bytes → IsRelayScript other bytes → one ≡ other

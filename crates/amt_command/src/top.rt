@@ -1,10 +1,10 @@
-ghost use Rattle.std.specs.Prelude.{◌≡◌, ◌≢◌, ◌≤◌, ◌↔◌, ◌⊎◌, ℕ, List, length, map, Option, Some, string_bytes, IsTrue, IsErrOf, IfErr, OnOk, OnErr};
+ghost use Rattle.std.specs.Prelude.{◌≡◌, ◌≢◌, ◌<◌, ◌≤◌, ◌↔◌, ◌⊎◌, ℕ, List, length, map, Option, Some, string_bytes, IsTrue, IsErrOf, IfErr, OnOk, OnErr};
 ghost use Rattle.std.specs.Io.KnownBytes.{Appends};
 ghost use Rattle.amt_ports.specs.Causes.{Rose};
 ghost use Rattle.amt_ports.specs.Reading.{TakesAll, TakesAtMost, TakesMore};
 ghost use Rattle.amt_ports.specs.declared.reading.TheConstants.{INPUT_LIMIT};
 ghost use Rattle.amt_command.specs.declared.script.Script.{Script as ScriptValue};
-ghost use Rattle.amt_command.specs.Command.{IsReplayRelay, Replays, BeginsToReplay, SpellsNothing, IsStatus, IsQuiet, status_line};
+ghost use Rattle.amt_command.specs.Command.{IsReplayRelay, Replays, BeginsToReplay, SpellsNothing, IsStatus, IsQuiet, IsUndisturbed, HasOneScript, status_line};
 ghost use Rattle.amt_command.specs.Ending.{status_of};
 ghost use Rattle.amt_command.specs.Script.{IsRelayScript};
 
@@ -86,6 +86,7 @@ fn run<S: Source, O: Sink>(
     ensures read { IsErrOf result Ending.ReadFault → Rose (S.faults input.old) (S.faults input.new) }
     ensures write { IsErrOf result Ending.WriteFault → Rose (O.faults out.old) (O.faults out.new) }
     ensures too_long { IsErrOf result Ending.TooLong → TakesMore INPUT_LIMIT (S.left input.old) (S.left input.new) }
+    ensures within { (IsErrOf result Ending.TooLong → ⊥) → TakesAtMost INPUT_LIMIT (S.left input.old) (S.left input.new) }
 {
     if !are_replay_relay(words) {
         return Err(Ending::Usage);
@@ -102,9 +103,17 @@ fn status_of(ending: &Result<(), Ending>) -> u8
     }
 }
 
+// A fault of the sink is ignored, since the status tells the same.
+fn report<E: Sink>(ending: &Result<(), Ending>, err: &mut E)
+    ensures { (Rose (E.faults err.old) (E.faults err.new) → ⊥)
+        → Appends (E.written err.old) (E.written err.new) (status_line (status_of ending.now)) }
+{
+    if let Err(ending) = ending {
+        let _ = write_all_own(err, ending.line());
+    }
+}
+
 /// The command `amt`: takes the words after the program's name, and answers the exit status.
-///
-/// A fault of `err` is ignored: the status tells the same.
 pub fn amt<S: Source, O: Sink, E: Sink>(
     alloc: Global,
     words: &[String],
@@ -118,7 +127,24 @@ pub fn amt<S: Source, O: Sink, E: Sink>(
     ensures read { result ≡ 4 → Rose (S.faults input.old) (S.faults input.new) }
     ensures write { result ≡ 5 → Rose (O.faults out.old) (O.faults out.new) }
     ensures too_long { result ≡ 8 → TakesMore INPUT_LIMIT (S.left input.old) (S.left input.new) }
+    ensures within { (result ≡ 8 → ⊥) → TakesAtMost INPUT_LIMIT (S.left input.old) (S.left input.new) }
     ensures statuses { IsStatus result }
+
+    // Where nothing disturbs the run, the bytes alone decide, but for want of memory.
+    ensures complete { (bytes : List ℕ) (script : ScriptValue)
+        → IsUndisturbed (map string_bytes words.now) (S.left input.old) bytes
+        (S.faults input.old) (S.faults input.new) (O.faults out.old) (O.faults out.new)
+        → length bytes ≤ INPUT_LIMIT → IsRelayScript script bytes → (result ≡ 0) ⊎ (result ≡ 7) }
+    ensures no_script { (bytes : List ℕ)
+        → IsUndisturbed (map string_bytes words.now) (S.left input.old) bytes
+        (S.faults input.old) (S.faults input.new) (O.faults out.old) (O.faults out.new)
+        → length bytes ≤ INPUT_LIMIT → ((script : ScriptValue) → IsRelayScript script bytes → ⊥)
+        → (result ≡ 3) ⊎ (result ≡ 7) }
+    ensures overlong { (bytes : List ℕ)
+        → IsUndisturbed (map string_bytes words.now) (S.left input.old) bytes
+        (S.faults input.old) (S.faults input.new) (O.faults out.old) (O.faults out.new)
+        → INPUT_LIMIT < length bytes → (result ≡ 8) ⊎ (result ≡ 7) }
+    ensures one_script { HasOneScript }
 
     ensures quiet { IsQuiet result → out.new ≡ out.old }
     ensures begun { result ≡ 5 → BeginsToReplay (S.left input.old) (S.left input.new) (O.written out.old) (O.written out.new) }
@@ -128,8 +154,6 @@ pub fn amt<S: Source, O: Sink, E: Sink>(
         → Appends (E.written err.old) (E.written err.new) (status_line result) }
 {
     let ending = run(alloc, words, input, out);
-    if let Err(ending) = ending {
-        let _ = write_all_own(err, ending.line());
-    }
+    report(&ending, err);
     status_of(&ending)
 }

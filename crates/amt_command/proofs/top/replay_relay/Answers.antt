@@ -12,5 +12,6 @@ pub returns-in-Err-NotScript-clause-script : goal.returns-in-Err-NotScript-claus
 returns-in-Err-NotScript-clause-script g c = λ _. record {
   bytes = c.in-Ok.bytes;
   read = c.in-Ok.ensures.all;
+  short = c.in-Ok.ensures.short;
   nothing = rw c.as_slice.ensures at (c.in-Err-NotScript.ensures.none (ap (λ (e : ScriptFault). Err e) c.in-Err-NotScript.field-0-is));
 }

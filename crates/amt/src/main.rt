@@ -1,0 +1,30 @@
+//! The program `amt`: the command over standard input, output and error.
+//!
+//! Contract: it ends with the status that `amt_command::amt` answers for its words and streams.
+//! It knows no format and no protocol.
+//! No standard.
+#![tactic(auto)]
+
+use amt_command::amt;
+use amt_ports::{ReaderSource, WriterSink};
+use std::process::ExitCode;
+use std::rt::Env;
+use std::{env, io};
+
+// The words after the program's name.
+fn words(rt: &(impl Env + AllocGlobal)) -> io::Result<Vec<String>> {
+    let mut words = Vec::new(rt.alloc());
+    for word in env::args(rt)?.skip(1) {
+        words.push(word)?;
+    }
+    Ok(words)
+}
+
+fn main(rt: HostRuntime) -> ExitCode {
+    let mut input = ReaderSource::new(rt.stdin());
+    let mut out = WriterSink::new(rt.stdout());
+    let mut err = WriterSink::new(rt.stderr());
+    // Words that can't be read, as those that aren't UTF-8, are no line of the command.
+    let words = words(&rt).unwrap_or(Vec::new(rt.alloc()));
+    ExitCode::from(amt(rt.alloc(), &words, &mut input, &mut out, &mut err))
+}
