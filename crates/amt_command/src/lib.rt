@@ -17,3 +17,6 @@ mod text;
 mod top;
 
 pub use top::amt;
+
+#[cfg(test)]
+mod tests;

@@ -19,5 +19,5 @@ pub use relay::Relay;
 pub use sends::{OneSend, Sends, Step};
 pub use settings::Settings;
 
-//#[cfg(test)]
-//mod tests;
+#[cfg(test)]
+mod tests;

@@ -1,0 +1,240 @@
+use super::*;
+use amt_ports::{MemSink, MemSource};
+use amt_values::Bytes;
+use std::alloc::{AllocError, Global};
+use std::test::Fail;
+
+const SCRIPT: &str = "set relay 192.0.2.1\ndg 198.51.100.7:5000 0100000001020304\n";
+
+const TEXT: &str = "= 1 advertised\n> 198.51.100.7:5000 0200000001020304c0000201\n. 1\n";
+
+const USAGE: &str =
+    "amt: usage: replay relay|gateway|pair, dump, vectors, load SEED N, relay FILE, gateway FILE\n";
+
+// The numbers of the calls that fail, counted from 1.
+#[derive(Clone, Copy)]
+struct Failing {
+    input: u64,
+    out: u64,
+    err: u64,
+}
+
+const NO_CALL: Failing = Failing {
+    input: 0,
+    out: 0,
+    err: 0,
+};
+
+#[derive(Drop)]
+struct Ended {
+    status: u8,
+    out: MemSink,
+    err: MemSink,
+}
+
+fn words_of(alloc: Global, line: &str) -> Result<Vec<String>, AllocError> {
+    let mut words = Vec::new(alloc);
+    for word in line.split_whitespace() {
+        words.push(String::from_str(alloc, word)?)?;
+    }
+    Ok(words)
+}
+
+fn sink(alloc: Global, failing: u64) -> Result<MemSink, AllocError> {
+    Ok(MemSink::failing(alloc, vec![in alloc; failing]?))
+}
+
+fn run(alloc: Global, line: &str, script: Bytes, failing: Failing) -> Result<Ended, AllocError> {
+    let words = words_of(alloc, line)?;
+    let mut input = MemSource::failing(script, vec![in alloc; failing.input]?);
+    let mut out = sink(alloc, failing.out)?;
+    let mut err = sink(alloc, failing.err)?;
+    let status = amt(alloc, &words, &mut input, &mut out, &mut err);
+    Ok(Ended { status, out, err })
+}
+
+fn replay(alloc: Global, script: &str, failing: Failing) -> Result<Ended, AllocError> {
+    let script = Bytes::copied(alloc, script.as_bytes())?;
+    run(alloc, "replay relay", script, failing)
+}
+
+// A script of one datagram from 198.51.100.7:5000, behind the relay's address.
+fn script_of(alloc: Global, hex: &str) -> Result<String, AllocError> {
+    format!(in alloc; "set relay 192.0.2.1\ndg 198.51.100.7:5000 {hex}\n")
+}
+
+#[test]
+fn a_discovery_is_answered_and_its_reserved_bits_are_ignored(rt: HostRuntime) -> Result<(), Fail> {
+    for hex in ["0100000001020304", "010000ff01020304"] {
+        let script = script_of(rt.alloc(), hex)?;
+        let ended = replay(rt.alloc(), script.as_str(), NO_CALL)?;
+        assert_eq!(rt; ended.status, 0, "{hex}");
+        assert_eq!(rt; ended.out.as_slice(), TEXT.as_bytes(), "{hex}");
+        assert_eq!(rt; ended.err.as_slice(), b"".as_slice(), "{hex}");
+    }
+    Ok(())
+}
+
+#[test]
+fn every_other_datagram_is_refused_with_its_reason(rt: HostRuntime) -> Result<(), Fail> {
+    let rows = [
+        ("030000000a0b0c0d", "refused notyet 3"),
+        ("0200000001020304c0000201", "wrongkind 2"),
+        ("-", "refused empty"),
+        ("13", "refused version 1"),
+        ("00", "refused kind 0"),
+        ("0f", "refused kind 15"),
+        ("01000000010203", "refused short 8 7"),
+        ("010000000102030405", "refused long 8 9"),
+        ("0200000001020304c00002010a", "refused short 24 13"),
+    ];
+    for (hex, outcome) in rows {
+        let script = script_of(rt.alloc(), hex)?;
+        let text = format!(in rt.alloc(); "= 1 {outcome}\n. 1\n")?;
+        let ended = replay(rt.alloc(), script.as_str(), NO_CALL)?;
+        assert_eq!(rt; ended.status, 0, "{hex}");
+        assert_eq!(rt; ended.out.as_slice(), text.as_bytes(), "{hex}");
+    }
+    Ok(())
+}
+
+#[test]
+fn other_words_are_a_usage_fault(rt: HostRuntime) -> Result<(), Fail> {
+    for line in [
+        "",
+        "jump",
+        "replay",
+        "replay gateway",
+        "replay relay relay",
+        "relay replay",
+    ] {
+        let ended = run(rt.alloc(), line, Bytes::new(rt.alloc()), NO_CALL)?;
+        assert_eq!(rt; ended.status, 2, "{line}");
+        assert_eq!(rt; ended.out.as_slice(), b"".as_slice(), "{line}");
+        assert_eq!(rt; ended.err.as_slice(), USAGE.as_bytes(), "{line}");
+    }
+    Ok(())
+}
+
+#[test]
+fn a_script_with_a_fault_takes_no_step(rt: HostRuntime) -> Result<(), Fail> {
+    let scripts = [
+        "",
+        "jump\n",
+        "dg 198.51.100.7:5000 0100000001020304\n",
+        "set relay 192.0.2.1\nset relay 192.0.2.1\n",
+        "set relay 192.0.2.1\ndg 198.51.100.7:5000 0100000001020304\njump\n",
+        "set relay 192.0.2.1\ndg 198.51.100.7:5000 010\n",
+        "set relay 192.0.2.1\ndg 198.51.100.7:5000\n",
+        "set relay 192.0.2.1\r",
+    ];
+    for script in scripts {
+        let ended = replay(rt.alloc(), script, NO_CALL)?;
+        assert_eq!(rt; ended.status, 3, "{script}");
+        assert_eq!(rt; ended.out.as_slice(), b"".as_slice(), "{script}");
+        assert_eq!(rt;
+            ended.err.as_slice(),
+            b"amt: script fault\n".as_slice(),
+            "{script}"
+        );
+    }
+    Ok(())
+}
+
+#[test]
+fn blank_lines_comments_and_spaces_say_nothing(rt: HostRuntime) -> Result<(), Fail> {
+    let script =
+        "# a relay\n\n  set  relay 192.0.2.1 \r\n   \n  # \u{e9}\ndg 198.51.100.7:5000  0100000001020304";
+    let ended = replay(rt.alloc(), script, NO_CALL)?;
+    assert_eq!(rt; ended.status, 0);
+    assert_eq!(rt; ended.out.as_slice(), TEXT.as_bytes());
+    Ok(())
+}
+
+#[test]
+fn an_input_of_one_octet_too_many_is_too_long(rt: HostRuntime) -> Result<(), Fail> {
+    let script = Bytes::from(vec![in rt.alloc(); b'\n'; 16_777_217]?);
+    let ended = run(rt.alloc(), "replay relay", script, NO_CALL)?;
+    assert_eq!(rt; ended.status, 8);
+    assert_eq!(rt; ended.out.as_slice(), b"".as_slice());
+    assert_eq!(rt; ended.err.as_slice(), b"amt: input too long\n".as_slice());
+    Ok(())
+}
+
+#[test]
+fn a_device_that_fails_at_any_call_shows_in_the_status(rt: HostRuntime) -> Result<(), Fail> {
+    let first_lines = "= 1 advertised\n> 198.51.100.7:5000 0200000001020304c0000201\n";
+    let rows = [
+        (
+            "the first read",
+            Failing {
+                input: 1,
+                ..NO_CALL
+            },
+            4,
+            "",
+            "amt: read fault\n",
+        ),
+        (
+            "the second read",
+            Failing {
+                input: 2,
+                ..NO_CALL
+            },
+            4,
+            "",
+            "amt: read fault\n",
+        ),
+        (
+            "the first write",
+            Failing { out: 1, ..NO_CALL },
+            5,
+            "",
+            "amt: write fault\n",
+        ),
+        (
+            "the second write",
+            Failing { out: 2, ..NO_CALL },
+            5,
+            first_lines,
+            "amt: write fault\n",
+        ),
+        (
+            "a write that never comes",
+            Failing { out: 3, ..NO_CALL },
+            0,
+            TEXT,
+            "",
+        ),
+        (
+            "a write and the report",
+            Failing {
+                out: 1,
+                err: 1,
+                ..NO_CALL
+            },
+            5,
+            "",
+            "",
+        ),
+    ];
+    for (what, failing, status, out, err) in rows {
+        let ended = replay(rt.alloc(), SCRIPT, failing)?;
+        assert_eq!(rt; ended.status, status, "{what}");
+        assert_eq!(rt; ended.out.as_slice(), out.as_bytes(), "{what}");
+        assert_eq!(rt; ended.err.as_slice(), err.as_bytes(), "{what}");
+    }
+    Ok(())
+}
+
+#[test]
+fn a_report_that_can_not_be_written_leaves_the_status(rt: HostRuntime) -> Result<(), Fail> {
+    let failing = Failing { err: 1, ..NO_CALL };
+    for (line, script, status) in [("jump", "", 2), ("replay relay", "jump\n", 3)] {
+        let script = Bytes::copied(rt.alloc(), script.as_bytes())?;
+        let ended = run(rt.alloc(), line, script, failing)?;
+        assert_eq!(rt; ended.status, status, "{line}");
+        assert_eq!(rt; ended.err.as_slice(), b"".as_slice(), "{line}");
+    }
+    Ok(())
+}
