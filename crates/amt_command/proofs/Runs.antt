@@ -10,7 +10,7 @@ use Rattle.relay_machine.specs.declared.settings.Settings.{Settings}
 use Rattle.relay_machine.specs.Answers.{RelayAt, outcome_of, sends_of}
 use Rattle.amt_command.specs.Texts.{step_text, events_text}
 use Rattle.amt_command.specs.Writing.{WritesUpTo, WritesFront}
-use Rattle.amt_command.proofs.Writes.{written_start, written_more, written_front, written_front_of_last}
+use Rattle.amt_command.proofs.Writes.{written_more, written_front, written_front_of_last}
 
 pub same_step : (number : ℕ) (o p : Outcome) (s t : List OneSend) → o ≡ p → s ≡ t → step_text number o s ≡ step_text number p t
 same_step number o p s t same_outcome same_sends = rw (same_outcome, same_sends) refl
@@ -19,9 +19,6 @@ same_step number o p s t same_outcome same_sends = rw (same_outcome, same_sends)
 pub record IsRunning (relay settings : Settings) (events : List Event) (taken : ℕ) (closing : List ℕ) (old new : Option (List ℕ)) : Type 0 where
   pub at : RelayAt relay settings (take taken events)
   pub text : WritesUpTo old new (events_text settings [] events ++ closing) (events_text settings (take taken events) (drop taken events) ++ closing)
-
-pub run_start : (settings : Settings) (events : List Event) (closing : List ℕ) (old : Option (List ℕ)) → IsRunning settings settings events 0 closing old old
-run_start settings events closing old = record { at = refl; text = written_start old _ }
 
 taken_more : (events : List Event) (i : ℕ) (event : Event) → i < length events → event ≡ get_or events i event → take (i + 1) events ≡ take i events ++ event ∷ []
 taken_more events i event within is = take_more events i event within ∙ ap (λ (e : Event). take i events ++ e ∷ []) (sym is)

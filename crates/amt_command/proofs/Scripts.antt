@@ -1,5 +1,5 @@
 -- Octets spell one script.
-use Rattle.std.proofs.Common.{◌≡◌, ℕ, ◌%◌, ◌⊎◌, List, [], ◌∷◌, Result, Ok, Err, codes, inl, inr, refl, sym, subst, ap, ◌∙◌}
+use Rattle.std.proofs.Common.{◌≡◌, ℕ, List, [], ◌∷◌, Ok, codes, inl, inr, refl, sym, subst, ap, ◌∙◌}
 use Rattle.hex.specs.Hex.{decode_of}
 use Rattle.hex.proofs.HexLemmas.{decode_of-odd, decode_of-same}
 use Rattle.amt_values.specs.declared.address.Ip.{Ip}
@@ -10,8 +10,7 @@ use Rattle.relay_machine.specs.declared.event.Event.{Event}
 use Rattle.relay_machine.specs.declared.event.Event.TheVariants.{Datagram}
 use Rattle.amt_command.specs.declared.script.Script.{Script}
 use Rattle.amt_command.specs.Each.{Each}
-use Rattle.amt_command.specs.Lines.{statements}
-use Rattle.amt_command.specs.Script.{IsHexText, SaysRelay, SaysEvent, IsScriptOf, IsRelayScript}
+use Rattle.amt_command.specs.Script.{IsHexText, SaysRelay, SaysEvent, IsScriptOf}
 use Rattle.amt_command.specs.Command.{HasOneScript}
 
 -- the dash is no hexadecimal text

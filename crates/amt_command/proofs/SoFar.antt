@@ -1,9 +1,9 @@
 -- The events of the lines that were read so far.
-use Rattle.std.proofs.Common.{◌≡◌, ℕ, ◌≤◌, ◌↔◌, List, [], ◌∷◌, ◌++◌, length, refl, sym, ap, subst, ◌∙◌, append_assoc, append-nil}
+use Rattle.std.proofs.Common.{◌≡◌, ℕ, ◌↔◌, List, [], ◌∷◌, ◌++◌, sym, ap, subst, ◌∙◌, append_assoc}
 use Rattle.std.specs.Str.Lines.{lines}
 use Rattle.relay_machine.specs.declared.event.Event.{Event}
 use Rattle.amt_command.specs.Each.{Each}
-use Rattle.amt_command.specs.Lines.{fields, statements, AreShort, IsNextStatement, HasNoStatement}
+use Rattle.amt_command.specs.Lines.{fields, statements, AreShort, IsNextStatement}
 use Rattle.amt_command.specs.Script.{SaysEvent}
 
 pub Each-append : {X Y : Type 0} (R : X → Y → Type 0) (xs : List X) (ys : List Y) (x : X) (y : Y) → Each R xs ys → R x y → Each R (xs ++ x ∷ []) (ys ++ y ∷ [])
@@ -26,9 +26,6 @@ pub record IsSoFar (text left : List ℕ) (events : List Event) : Type 0 where
   pub each : Each SaysEvent events said
   pub short : AreShort (lines left) ↔ AreShort (lines text)
 
-pub so_far_start : (text : List ℕ) → IsSoFar text text []
-so_far_start text = record { said = []; parts = refl; each = tt; short = (λ h. h, λ h. h) }
-
 pub so_far_more : (text left line rest : List ℕ) (events : List Event) (event : Event) → IsSoFar text left events → IsNextStatement left line rest
     → SaysEvent event (fields line) → IsSoFar text rest (events ++ event ∷ [])
 so_far_more text left line rest events event before next says = record {
@@ -38,23 +35,6 @@ so_far_more text left line rest events event before next says = record {
   each = Each-append SaysEvent events before.said event (fields line) before.each says;
   short = (λ h. before.short.0 (next.short.0 h), λ h. next.short.1 (before.short.1 h));
 }
-
--- what the reader owes where it is done
-pub record AreEvents (text : List ℕ) (events : List Event) : Type 0 where
-  pub short : AreShort (lines text)
-  pub each : Each SaysEvent events (statements (lines text))
-
-pub so_far_end : (text left : List ℕ) (events : List Event) → IsSoFar text left events → HasNoStatement left → AreEvents text events
-so_far_end text left events before none =
-    let all : statements (lines text) ≡ before.said =
-    before.parts ∙ (ap (λ (ls : List (List (List ℕ))). before.said ++ ls) none.statement ∙ append-nil before.said) in
-    record {
-      short = before.short.0 none.short;
-      each = subst (Each SaysEvent events) (sym all) before.each;
-    }
-
-pub so_far_long : (text left : List ℕ) (events : List Event) → IsSoFar text left events → (AreShort (lines left) → ⊥) → AreShort (lines text) → ⊥
-so_far_long text left events before long short = long (before.short.1 short)
 
 -- a line that says no event is in no list of lines that say events
 pub so_far_bad : (text left line rest : List ℕ) (events : List Event) → IsSoFar text left events → IsNextStatement left line rest

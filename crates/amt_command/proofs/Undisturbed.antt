@@ -1,6 +1,5 @@
 -- Where nothing disturbs a run, the octets alone decide how it ends, but for want of memory.
-use Rattle.std.proofs.Common.{◌≡◌, ℕ, ◌<◌, ◌≤◌, ◌⊎◌, Option, Some, List, length, Result, Ok, Err, IsOk, OnOk, IsErrOf, inl, inr, refl, sym, subst, arith}
-use Rattle.amt_ports.specs.Causes.{Rose}
+use Rattle.std.proofs.Common.{◌≡◌, ℕ, ◌≤◌, ◌⊎◌, Option, Some, List, length, Result, Ok, Err, IsOk, OnOk, IsErrOf, inl, inr, refl, sym, subst, arith}
 use Rattle.amt_ports.specs.Reading.{TakesAll, TakesMore}
 use Rattle.amt_ports.specs.declared.reading.TheConstants.{INPUT_LIMIT}
 use Rattle.amt_ports.proofs.Taken.{TakesAll-told, TakesMore-told}

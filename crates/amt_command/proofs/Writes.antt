@@ -1,5 +1,5 @@
 -- What was written of a text, piece by piece.
-use Rattle.std.proofs.Common.{◌≡◌, ℕ, ◌≤◌, Option, None, Some, List, [], ◌++◌, length, take, drop, refl, sym, ap, subst, ◌∙◌, append_assoc, append-nil, take-append-drop}
+use Rattle.std.proofs.Common.{ℕ, Option, List, [], ◌++◌, take, drop, refl, sym, ap, ◌∙◌, append_assoc, append-nil, take-append-drop}
 use Rattle.std.proofs.KnownBytes.{Appends-nil, Appends-trans}
 use Rattle.std.specs.Io.KnownBytes.{Appends}
 use Rattle.amt_command.specs.Writing.{WritesUpTo, WritesFront}
@@ -33,11 +33,6 @@ written_front a b c text piece rest before next =
         written = Appends-trans a b c before.front next.1.front before.written next.1.written;
       },
     )
-
--- the last piece was written
-pub written_last : (a b c : Option (List ℕ)) (text piece : List ℕ) → WritesUpTo a b text piece → Appends b c piece → Appends a c text
-written_last a b c text piece before written =
-    subst (Appends a c) (sym before.parts) (Appends-trans a b c before.front piece before.written written)
 
 pub written_front_of_last : (a b c : Option (List ℕ)) (text piece : List ℕ) → WritesUpTo a b text piece → WritesFront b c piece → WritesFront a c text
 written_front_of_last a b c text piece before next =

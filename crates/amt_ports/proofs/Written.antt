@@ -1,7 +1,7 @@
 -- What several writes appended together.
-use Rattle.std.proofs.Common.{◌≡◌, ℕ, ◌+◌, ◌≤◌, Option, List, ◌++◌, length, take, drop, arith, length-append, subst, sym, ◌∙◌, ap, append_assoc}
-use Rattle.std.proofs.Math.Seq.{take-append_seam, take-append-add}
-use Rattle.std.proofs.lemmas.List.{take-append-drop, take-append-le}
+use Rattle.std.proofs.Common.{◌≡◌, ℕ, ◌≤◌, Option, List, ◌++◌, length, take, drop, arith, length-append, subst, sym, ◌∙◌, ap, append_assoc}
+use Rattle.std.proofs.Math.Seq.{take-append_seam}
+use Rattle.std.proofs.lemmas.List.{take-append-drop}
 use Rattle.std.specs.Io.KnownBytes.{Appends, Keeps}
 use Rattle.std.proofs.KnownBytes.{Appends-kept, Appends-trans}
 
@@ -10,16 +10,6 @@ pub Appends-front : (a b c : Option (List ℕ)) (all done rest : List ℕ) → a
 Appends-front a b c all done rest parts before kept =
     let front : take (length done) all ≡ done = ap (take (length done)) parts ∙ take-append_seam done rest in
     (length done, omega (arith, ap length parts, length-append done rest), subst (Appends a c) (sym front) (Appends-kept a b c done before kept))
-
--- a front of the first text is a front of both
-pub Appends-front_before : (a b : Option (List ℕ)) (xs ys : List ℕ) (n : ℕ) → n ≤ length xs → Appends a b (take n xs) → Appends a b (take n (xs ++ ys))
-Appends-front_before a b xs ys n within first =
-    subst (Appends a b) (sym (take-append-le n xs ys within)) first
-
--- a front of the second text, after the whole first one, is a front of both
-pub Appends-front_after : (a b c : Option (List ℕ)) (xs ys : List ℕ) (n : ℕ) → Appends a b xs → Appends b c (take n ys) → Appends a c (take (length xs + n) (xs ++ ys))
-Appends-front_after a b c xs ys n first second =
-    subst (Appends a c) (sym (take-append-add xs ys n)) (Appends-trans a b c xs (take n ys) first second)
 
 -- n bytes more of what is left
 pub Appends-step : (a b c : Option (List ℕ)) (all done rest : List ℕ) (n : ℕ) → all ≡ done ++ rest → Appends a b done → Appends b c (take n rest) → (more : List ℕ) × (all ≡ more ++ drop n rest) × Appends a c more

@@ -1,12 +1,12 @@
 -- A text names one value.
-use Rattle.std.proofs.Common.{◌≡◌, ℕ, ◌^◌, ◌<◌, List, refl, sym, ap, ◌∙◌, arith}
+use Rattle.std.proofs.Common.{◌≡◌, ℕ, List, sym, ap, ◌∙◌, arith}
 use Rattle.std.proofs.lemmas.Fmt.{decimal_injective}
 use Rattle.amt_values.specs.declared.address.Ip.{Ip}
 use Rattle.amt_values.specs.declared.address.Ip.TheVariants.{V4, V6}
 use Rattle.amt_values.specs.declared.peer.Peer.{Peer}
 use Rattle.amt_values.specs.Text.{IsIpText, IsPeerText}
 use Rattle.amt_values.proofs.Dotted.{v4_injective}
-use Rattle.amt_values.proofs.PeerTexts.{HasParts, peer_parts, Lacks-IsIpText}
+use Rattle.amt_values.proofs.PeerTexts.{peer_parts, Lacks-IsIpText}
 
 pub IsIpText-unique : (one other : Ip) (text : List ℕ) → IsIpText one text → IsIpText other text → one ≡ other
 IsIpText-unique (V4 n) (V4 m) text h k = ap V4 (v4_injective n m h.0 k.0 (sym h.1 ∙ k.1))

@@ -1,5 +1,4 @@
 -- The orders of addresses and of tunnel endpoints.
-use Rattle.std.specs.Prelude.{ℕ}
 use Rattle.std.specs.Ordering.{nat_cmp}
 use Rattle.std.specs.declared.cmp.Ordering.{Ordering}
 use Rattle.std.specs.declared.cmp.Ordering.TheVariants.{Less, Equal, Greater}

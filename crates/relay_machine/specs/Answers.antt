@@ -1,5 +1,5 @@
 -- What the relay answers to an event, by the events before it (RFC 7450, section 5.3).
-use Rattle.std.specs.Prelude.{◌≡◌, ℕ, List, [], ◌∷◌, Option, Some, None, Result, Ok, Err}
+use Rattle.std.specs.Prelude.{◌≡◌, List, [], ◌∷◌, Option, Some, None, Result, Ok, Err}
 use Rattle.amt_values.specs.Endpoint.{endpoint_of}
 use Rattle.amt_values.specs.Tunnel.{Tunnel}
 use Rattle.amt_messages.specs.declared.message.Message.{Message}

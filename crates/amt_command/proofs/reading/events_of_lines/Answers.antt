@@ -1,5 +1,4 @@
 use Rattle.std.proofs.Common.{◌≡◌, Err, ap}
-use Rattle.relay_machine.specs.declared.event.Event.{Event}
 use Rattle.amt_command.specs.declared.statement.ScriptFault.{ScriptFault}
 use Rattle.amt_command.specs.declared.statement.ScriptFault.TheVariants.{NotScript}
 use Rattle.amt_command.proofs.SoFar.{so_far_more, so_far_bad}

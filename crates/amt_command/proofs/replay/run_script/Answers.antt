@@ -1,7 +1,6 @@
-use Rattle.std.proofs.Common.{◌≡◌, ℕ, ◌≤◌, Option, List, [], ◌++◌, length, take, subst, arith, rules}
+use Rattle.std.proofs.Common.{length, take, arith}
 use Rattle.std.proofs.lemmas.Result.{on_err_weaker}
-use Rattle.relay_machine.specs.declared.event.Event.{Event}
-use Rattle.amt_command.specs.Texts.{closing_text, events_text}
+use Rattle.amt_command.specs.Texts.{closing_text}
 use Rattle.amt_command.specs.Writing.{WritesFront}
 use Rattle.amt_command.proofs.Runs.{run_more, run_cut, run_closed}
 use Rattle.amt_command.proofs.replay.run_script.Goals as goal

@@ -1,7 +1,4 @@
-use Rattle.std.proofs.Common.{◌≡◌, ℕ, List, Option, subst, sym, ◌∙◌}
-use Rattle.std.specs.Io.KnownBytes.{Appends}
-use Rattle.amt_command.specs.Texts.{step_text}
-use Rattle.amt_command.specs.Writing.{WritesFront}
+use Rattle.std.proofs.Common.{◌∙◌}
 use Rattle.amt_command.proofs.Runs.{same_step}
 use Rattle.amt_command.proofs.Writes.{nothing_written}
 use Rattle.amt_command.proofs.replay.write_step.Goals as goal

@@ -1,4 +1,4 @@
-use Rattle.std.proofs.Common.{◌≡◌, ℕ, List, [], ◌∷◌, codes, Err, ap, ◌∙◌}
+use Rattle.std.proofs.Common.{◌≡◌, ℕ, List, [], ◌∷◌, codes, Err, ap}
 use Rattle.amt_command.specs.declared.statement.ScriptFault.{ScriptFault}
 use Rattle.amt_command.specs.declared.statement.ScriptFault.TheVariants.{NotScript}
 use Rattle.amt_command.specs.Lines.{fields}

@@ -1,4 +1,3 @@
-use Rattle.std.proofs.Common.{refl}
 use Rattle.amt_command.proofs.Scripts.{one_script}
 use Rattle.amt_command.proofs.Undisturbed.{done_told, nothing_told, more_told, only_done, only_no_script}
 use Rattle.amt_command.proofs.top.amt.Goals as goal

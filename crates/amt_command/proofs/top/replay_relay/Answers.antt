@@ -1,7 +1,5 @@
-use Rattle.std.proofs.Common.{Err, ap, subst, ◌≡◌, List, ℕ}
-use Rattle.amt_command.specs.declared.script.Script.{Script}
+use Rattle.std.proofs.Common.{Err, ap}
 use Rattle.amt_command.specs.declared.statement.ScriptFault.{ScriptFault}
-use Rattle.amt_command.specs.Script.{IsRelayScript}
 use Rattle.amt_command.proofs.Statements.{IsEvent-each}
 use Rattle.amt_command.proofs.top.replay_relay.Goals as goal
 

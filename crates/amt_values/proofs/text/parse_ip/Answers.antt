@@ -1,5 +1,4 @@
-use Rattle.std.proofs.Common.{◌≡◌, ℕ, ◌^◌, ◌<◌, List, Option, Some, None, sym, subst, ap, ◌∙◌, rules}
-use Rattle.std.specs.Net.Addr.{ipv4_bits}
+use Rattle.std.proofs.Common.{◌≡◌, ℕ, ◌^◌, ◌<◌, List, Option, Some, None, sym, ap, ◌∙◌}
 use Rattle.amt_values.specs.declared.address.Ip.{Ip}
 use Rattle.amt_values.specs.declared.address.Ip.TheVariants.{V4, V6}
 use Rattle.amt_values.specs.Text.{v4_text, IsIpText}
