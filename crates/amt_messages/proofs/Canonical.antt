@@ -1,12 +1,20 @@
 -- A message has one canonical spelling.
-use Rattle.std.proofs.Common.{◌≡◌, ℕ, ◌+◌, ◌<◌, ◌≤◌, List, [], ◌∷◌, ◌++◌, length, take, drop, slice_index, refl, sym, ap, ◌∙◌, arith, take-append-drop, length-drop, rules}
+use Rattle.std.proofs.Common.{◌≡◌, ℕ, ◌+◌, ◌/◌, ◌<◌, ◌≤◌, Bool, true, false, eqb, List, [], ◌∷◌, ◌++◌, length, take, drop, slice_index, Option, Some, None, refl, sym, ap, ◌∙◌, arith, append_assoc, take-append-drop, length-drop, rules}
+use Rattle.std.proofs.lemmas.Bool.{eqb-true, eqb-false}
+use Rattle.std.proofs.lemmas.List.{drop-drop, drop_all}
+use Rattle.std.proofs.lemmas.Nat.Bits.{bit_at_lowest}
+use Rattle.std.specs.Int.{bit_at}
+use Rattle.std.specs.Option.{is_some}
 use Rattle.byteorder.specs.Endian.{big_number, big_bytes}
 use Rattle.amt_values.proofs.NetworkOrder.{AreOctets, AreOctets-drop, bytes_high_first-big_from, bytes_high_first-take}
+use Rattle.amt_values.specs.Address.{is_mapped}
+use Rattle.amt_values.specs.Tunnel.{Tunnel}
 use Rattle.amt_values.specs.declared.address.Ip.{Ip}
 use Rattle.amt_values.specs.declared.address.Ip.TheVariants.{V4, V6}
+use Rattle.amt_values.specs.declared.mac.Mac48.{Mac48}
 use Rattle.amt_messages.specs.declared.message.Message.{Message}
-use Rattle.amt_messages.specs.declared.message.Message.TheVariants.{Discovery, Advertisement}
-use Rattle.amt_messages.specs.Layout.{IsCanonical, IsAdvertisement, spelling_of}
+use Rattle.amt_messages.specs.declared.message.Message.TheVariants.{Discovery, Advertisement, Request, Query}
+use Rattle.amt_messages.specs.Layout.{IsCanonical, IsAdvertisement, IsQuery, gateway_address, gateway_port, gateway_at, has_flag, query_flags, request_flags, seen_octets, spelling_of}
 
 -- the first octet, three more, and the rest
 first_four : (kind : ℕ) (bytes : List ℕ) → 4 ≤ length bytes → slice_index bytes 0 ≡ kind → take 3 (drop 1 bytes) ≡ 0 ∷ 0 ∷ 0 ∷ []
@@ -20,6 +28,24 @@ first_four kind (a ∷ b ∷ c ∷ d ∷ rest) enough first reserved =
     let third : c ≡ 0 = cc in
     let fourth : d ≡ 0 = cc in
     rw (first, second, third, fourth) refl
+
+-- octets from a place on are a part of them and those from its end on
+cut : (n place : ℕ) (bytes : List ℕ) → drop place bytes ≡ take n (drop place bytes) ++ drop (place + n) bytes
+cut n place bytes = sym (take-append-drop n (drop place bytes)) ∙ ap (λ (xs : List ℕ). take n (drop place bytes) ++ xs) (drop-drop n place bytes)
+
+-- the first two octets, and the rest
+first_two : (kind flags : ℕ) (bytes : List ℕ) → 2 ≤ length bytes → slice_index bytes 0 ≡ kind → slice_index bytes 1 ≡ flags
+    → bytes ≡ kind ∷ flags ∷ drop 2 bytes
+first_two kind flags [] enough first second = absurd (omega arith)
+first_two kind flags (a ∷ []) enough first second = absurd (omega arith)
+first_two kind flags (a ∷ b ∷ rest) enough first second = rw (first, second) refl
+
+-- the first octet, the flags, two octets more, and the rest
+first_four_flagged : (kind flags : ℕ) (bytes : List ℕ) → 4 ≤ length bytes → slice_index bytes 0 ≡ kind → slice_index bytes 1 ≡ flags
+    → take 2 (drop 2 bytes) ≡ 0 ∷ 0 ∷ [] → bytes ≡ kind ∷ flags ∷ 0 ∷ 0 ∷ drop 4 bytes
+first_four_flagged kind flags bytes enough first second reserved =
+    first_two kind flags bytes (omega arith) first second
+    ∙ ap (λ (rest : List ℕ). kind ∷ flags ∷ rest) (cut 2 2 bytes ∙ ap (λ (xs : List ℕ). xs ++ drop 4 bytes) reserved)
 
 -- an address of so many octets stands behind the nonce, and nothing behind it
 advertised : (nonce address octets : ℕ) (bytes : List ℕ) → AreOctets bytes → IsAdvertisement nonce address octets bytes
@@ -36,6 +62,82 @@ advertised nonce address octets bytes small h =
     sym (take-append-drop 4 (drop 4 bytes))
     ∙ (ap (λ (xs : List ℕ). xs ++ drop 4 (drop 4 bytes)) (sym nonce_is)
     ∙ ap (λ (xs : List ℕ). big_bytes 4 nonce ++ xs) (behind ∙ sym address_is))
+
+-- the flags are all that the second octet of a Request has, where its reserved bits are zero
+request_flags-of : (octet : ℕ) (v6 : Bool) → v6 ≡ eqb (bit_at octet 0) 1 → octet / 2 ≡ 0 → octet ≡ request_flags v6
+request_flags-of octet true flag reserved =
+    let low = bit_at_lowest octet in
+    let one = eqb-true (bit_at octet 0) 1 (sym flag) in
+    omega arith
+request_flags-of octet false flag reserved =
+    let low = bit_at_lowest octet in
+    let other = eqb-false (bit_at octet 0) 1 (sym flag) in
+    omega arith
+
+-- and those of a Query
+query_flags-of : (octet : ℕ) (limited named : Bool) → limited ≡ eqb (bit_at octet 1) 1 → named ≡ eqb (bit_at octet 0) 1 → octet / 4 ≡ 0
+    → octet ≡ query_flags limited named
+query_flags-of octet true true l_flag g_flag reserved =
+    let low = bit_at_lowest octet in
+    let l = eqb-true (bit_at octet 1) 1 (sym l_flag) in
+    let g = eqb-true (bit_at octet 0) 1 (sym g_flag) in
+    omega arith
+query_flags-of octet true false l_flag g_flag reserved =
+    let low = bit_at_lowest octet in
+    let l = eqb-true (bit_at octet 1) 1 (sym l_flag) in
+    let g = eqb-false (bit_at octet 0) 1 (sym g_flag) in
+    omega arith
+query_flags-of octet false true l_flag g_flag reserved =
+    let low = bit_at_lowest octet in
+    let l = eqb-false (bit_at octet 1) 1 (sym l_flag) in
+    let g = eqb-true (bit_at octet 0) 1 (sym g_flag) in
+    omega arith
+query_flags-of octet false false l_flag g_flag reserved =
+    let low = bit_at_lowest octet in
+    let l = eqb-false (bit_at octet 1) 1 (sym l_flag) in
+    let g = eqb-false (bit_at octet 0) 1 (sym g_flag) in
+    omega arith
+
+-- the gateway's port and address are all that follows the inner datagram
+seen_behind : (endpoint : Tunnel) (inner : ℕ) (bytes : List ℕ) → AreOctets bytes → length bytes ≡ 12 + inner + 18
+    → endpoint ≡ gateway_at inner bytes → is_mapped (gateway_address inner bytes) ≡ false → drop (12 + inner) bytes ≡ seen_octets (Some endpoint)
+seen_behind endpoint inner bytes small octets names form =
+    let port_there : 2 ≤ length (drop (12 + inner) bytes) = omega (arith, length-drop (12 + inner) bytes) in
+    let len : length (drop (14 + inner) bytes) ≡ 16 = omega (arith, length-drop (14 + inner) bytes) in
+    let port = bytes_high_first-take 2 (drop (12 + inner) bytes) port_there (AreOctets-drop (12 + inner) bytes small) in
+    let address = bytes_high_first-big_from 16 (drop (14 + inner) bytes) len (AreOctets-drop (14 + inner) bytes small) in
+    let place : 12 + inner + 2 ≡ 14 + inner = omega arith in
+    let one_form : endpoint.address ≡ gateway_address inner bytes = ap (λ (t : Tunnel). t.address) names ∙ rw form refl in
+    let port_is : endpoint.port ≡ gateway_port inner bytes = ap (λ (t : Tunnel). t.port) names in
+    cut 2 (12 + inner) bytes
+    ∙ (ap (λ (xs : List ℕ). xs ++ drop (12 + inner + 2) bytes) (sym port ∙ ap (λ (n : ℕ). big_bytes 2 n) (sym port_is))
+    ∙ ap (λ (xs : List ℕ). big_bytes 2 endpoint.port ++ xs)
+    (ap (λ (n : ℕ). drop n bytes) place ∙ (sym address ∙ ap (λ (n : ℕ). big_bytes 16 n) (sym one_form))))
+
+-- the parts of a Query behind its first two octets
+query_parts : (mac : Mac48) (nonce : ℕ) (inner tail bytes : List ℕ) → AreOctets bytes → 12 ≤ length bytes
+    → mac.0 ≡ take 6 (drop 2 bytes) → nonce ≡ big_number 4 (drop 8 bytes) → inner ≡ take (length inner) (drop 12 bytes)
+    → drop (12 + length inner) bytes ≡ tail → drop 2 bytes ≡ mac.0 ++ big_bytes 4 nonce ++ inner ++ tail
+query_parts mac nonce inner tail bytes small enough mac_field nonce_field inner_field behind =
+    let nonce_there : 4 ≤ length (drop 8 bytes) = omega (arith, length-drop 8 bytes) in
+    let octets = bytes_high_first-take 4 (drop 8 bytes) nonce_there (AreOctets-drop 8 bytes small) in
+    let nonce_is : take 4 (drop 8 bytes) ≡ big_bytes 4 nonce = sym octets ∙ ap (λ (n : ℕ). big_bytes 4 n) (sym nonce_field) in
+    let three : drop 12 bytes ≡ inner ++ tail = cut (length inner) 12 bytes
+    ∙ (ap (λ (xs : List ℕ). xs ++ drop (12 + length inner) bytes) (sym inner_field) ∙ ap (λ (xs : List ℕ). inner ++ xs) behind) in
+    let two : drop 8 bytes ≡ big_bytes 4 nonce ++ (inner ++ tail) = cut 4 8 bytes
+    ∙ (ap (λ (xs : List ℕ). xs ++ drop 12 bytes) nonce_is ∙ ap (λ (xs : List ℕ). big_bytes 4 nonce ++ xs) three) in
+    let one : drop 2 bytes ≡ mac.0 ++ (big_bytes 4 nonce ++ (inner ++ tail)) = cut 6 2 bytes
+    ∙ (ap (λ (xs : List ℕ). xs ++ drop 8 bytes) (sym mac_field) ∙ ap (λ (xs : List ℕ). mac.0 ++ xs) two) in
+    one ∙ sym (append_assoc (mac.0 ++ big_bytes 4 nonce) inner tail ∙ append_assoc mac.0 (big_bytes 4 nonce) (inner ++ tail))
+
+canonical_query : (limited : Bool) (mac : Mac48) (nonce : ℕ) (inner : List ℕ) (seen : Option Tunnel) (bytes : List ℕ) → AreOctets bytes
+    → IsQuery limited (is_some seen) mac nonce inner bytes → slice_index bytes 1 / 4 ≡ 0 → 12 + length inner ≤ length bytes
+    → drop (12 + length inner) bytes ≡ seen_octets seen → bytes ≡ spelling_of (Query limited mac nonce inner seen)
+canonical_query limited mac nonce inner seen bytes small h reserved enough behind =
+    let flags = query_flags-of (slice_index bytes 1) limited (is_some seen) h.l_flag h.g_flag reserved in
+    first_two 4 (query_flags limited (is_some seen)) bytes (omega arith) h.kind.first flags
+    ∙ ap (λ (rest : List ℕ). 4 ∷ query_flags limited (is_some seen) ∷ rest)
+    (query_parts mac nonce inner (seen_octets seen) bytes small (omega arith) h.mac_field h.nonce_field h.inner_field behind)
 
 pub canonical_once : (message : Message) (bytes : List ℕ) → AreOctets bytes → IsCanonical message bytes → bytes ≡ spelling_of message
 canonical_once (Discovery nonce) bytes small h =
@@ -55,3 +157,19 @@ canonical_once (Advertisement nonce (V6 address)) bytes small h =
     let enough : 4 ≤ length bytes = omega arith in
     first_four 2 bytes enough h.spelled.kind.first h.reserved
     ∙ ap (λ (rest : List ℕ). 2 ∷ 0 ∷ 0 ∷ 0 ∷ rest) (advertised nonce address 16 bytes small h.spelled)
+canonical_once (Request v6 nonce) bytes small h =
+    let size = h.spelled.kind.octets in
+    let enough : 4 ≤ length bytes = omega arith in
+    let len : length (drop 4 bytes) ≡ 4 = omega (arith, length-drop 4 bytes) in
+    let field = bytes_high_first-big_from 4 (drop 4 bytes) len (AreOctets-drop 4 bytes small) in
+    let flags = request_flags-of (slice_index bytes 1) v6 h.spelled.p_flag h.reserved.0 in
+    first_four_flagged 3 (request_flags v6) bytes enough h.spelled.kind.first flags h.reserved.1
+    ∙ ap (λ (rest : List ℕ). 3 ∷ request_flags v6 ∷ 0 ∷ 0 ∷ rest)
+    (sym field ∙ sym (ap (λ (n : ℕ). big_bytes 4 n) h.spelled.nonce_field))
+canonical_once (Query limited mac nonce inner None) bytes small h =
+    let size = h.spelled.kind.octets in
+    canonical_query limited mac nonce inner None bytes small h.spelled h.reserved (omega arith) (drop_all (12 + length inner) bytes (omega arith))
+canonical_once (Query limited mac nonce inner (Some endpoint)) bytes small h =
+    let size = h.spelled.0.kind.octets in
+    canonical_query limited mac nonce inner (Some endpoint) bytes small h.spelled.0 h.reserved (omega arith)
+    (seen_behind endpoint (length inner) bytes small size h.spelled.1 h.address_form)

@@ -1,2 +1,4 @@
+pub mod Conditions
+pub mod Inner
 pub mod Layout
 pub mod Refusal

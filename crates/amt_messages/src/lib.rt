@@ -2,19 +2,23 @@
 //!
 //! Contract: octets are read as a message exactly where they spell it, else as the first refusal;
 //! a message is written as its one canonical spelling.
-//! It knows no socket, state or moment, and looks into no tunnelled packet.
+//! It knows no socket, state or moment. Of a tunnelled packet it reads the length field alone.
 //! Standard: RFC 7450, section 5.1.
 #![tactic(auto)]
 
+mod fields;
+mod inner;
 mod message;
+mod query;
 mod reading;
 mod refusal;
 mod writing;
 
+pub use inner::inner_length;
 pub use message::Message;
 pub use reading::decode;
-pub use refusal::Refused;
+pub use refusal::{DecodeFault, Refused};
 pub use writing::encode;
 
-//#[cfg(test)]
-//mod tests;
+#[cfg(test)]
+mod tests;

@@ -1,35 +1,14 @@
-ghost use Rattle.std.specs.Prelude.{◌≡◌, ◌+◌, ◌≤◌, ◌⊎◌, drop, length, IfOk, Ok, Err, MatchResult, None, Some};
-ghost use Rattle.byteorder.specs.Endian.{big_number};
+ghost use Rattle.std.specs.Prelude.{◌≡◌, ◌≤◌, length, IfOk, Ok, MatchResult, None};
 ghost use Rattle.amt_messages.specs.declared.message.Message.{Message as MessageValue};
-ghost use Rattle.amt_messages.specs.Layout.{Spells, IsMessage, spelling_of};
-ghost use Rattle.amt_messages.specs.Refusal.{advertisement_length, first_refusal, length_refusal, message_of, relay_at};
+ghost use Rattle.amt_messages.specs.Conditions.{IsMessage, IsSendable};
+ghost use Rattle.amt_messages.specs.Layout.{Spells, spelling_of};
+ghost use Rattle.amt_messages.specs.Refusal.{Gives, advertisement_length, advertisement_reading, discovery_reading, first_refusal, message_of, refusal_in, request_reading};
 
+use crate::fields::{has_flag, number_at, relay_at};
 use crate::message::Message;
-use crate::refusal::Refused;
-use amt_values::Ip;
-use byteorder::{BigEndian, ByteOrder};
-
-// The lengths that are wrong for a message of `need` octets.
-fn length_refusal(need: u32, have: u32) -> Option<Refused>
-    ensures { result ≡ length_refusal need have }
-{
-    if have < need {
-        Some(Refused::Short(need, have))
-    } else if need < have {
-        Some(Refused::Long(need, have))
-    } else {
-        None
-    }
-}
-
-// The number in the four octets from a place on.
-fn number_at(bytes: &[u8], place: usize) -> u32
-    requires { place + 4 ≤ length bytes.now }
-    ensures { result ≡ big_number 4 (drop place bytes.now) }
-{
-    let (_, field) = bytes.split_at(place);
-    BigEndian::read_u32(field)
-}
+use crate::query::read_query;
+use crate::refusal::{DecodeFault, Refused, length_refusal};
+use std::alloc::Global;
 
 // An Advertisement of more than 12 octets is meant to have an IPv6 address.
 fn advertisement_length(have: u32) -> u32
@@ -38,54 +17,84 @@ fn advertisement_length(have: u32) -> u32
     if have <= 12 { 12 } else { 24 }
 }
 
-fn relay_at(bytes: &[u8]) -> Ip
-    requires { (length bytes.now ≡ 12) ⊎ (length bytes.now ≡ 24) }
-    ensures { result ≡ relay_at bytes.now }
+fn read_discovery(bytes: &[u8]) -> Result<Message, DecodeFault>
+    requires { length bytes.now ≤ 65535 }
+    ensures { Gives result (discovery_reading bytes.now) }
 {
-    let (_, field) = bytes.split_at(8);
-    if field.len() == 4 {
-        Ip::V4(BigEndian::read_u32(field))
-    } else {
-        Ip::V6(BigEndian::read_u128(field))
+    let have = bytes.len() as u32;
+    match length_refusal(8, have) {
+        Some(refusal) => Err(DecodeFault::Refused(refusal)),
+        None => Ok(Message::Discovery {
+            nonce: number_at(bytes, 4),
+        }),
+    }
+}
+
+fn read_advertisement(bytes: &[u8]) -> Result<Message, DecodeFault>
+    requires { length bytes.now ≤ 65535 }
+    ensures { Gives result (advertisement_reading bytes.now) }
+{
+    let have = bytes.len() as u32;
+    match length_refusal(advertisement_length(have), have) {
+        Some(refusal) => Err(DecodeFault::Refused(refusal)),
+        None => Ok(Message::Advertisement {
+            nonce: number_at(bytes, 4),
+            relay: relay_at(bytes),
+        }),
+    }
+}
+
+fn read_request(bytes: &[u8]) -> Result<Message, DecodeFault>
+    requires { length bytes.now ≤ 65535 }
+    ensures { Gives result (request_reading bytes.now) }
+{
+    let have = bytes.len() as u32;
+    match length_refusal(8, have) {
+        Some(refusal) => Err(DecodeFault::Refused(refusal)),
+        None => Ok(Message::Request {
+            v6: has_flag(bytes, 0),
+            nonce: number_at(bytes, 4),
+        }),
+    }
+}
+
+#[tactic(auto, using(crate::proofs::Spelled::read_as_not_yet), unfolding(crate::specs::Refusal::first_refusal, crate::specs::Refusal::message_of))]
+fn read(alloc: Global, bytes: &[u8]) -> Result<Message, DecodeFault>
+    requires { length bytes.now ≤ 65535 }
+    ensures { Gives result (message_of bytes.now) }
+{
+    let Some(first) = bytes.first() else {
+        return Err(DecodeFault::Refused(Refused::Empty));
+    };
+    let version = *first >> 4;
+    if version != 0 {
+        return Err(DecodeFault::Refused(Refused::Version(version)));
+    }
+    match *first {
+        1 => read_discovery(bytes),
+        2 => read_advertisement(bytes),
+        3 => read_request(bytes),
+        4 => read_query(alloc, bytes),
+        kind @ 5..=7 => Err(DecodeFault::Refused(Refused::NotYet(kind))),
+        kind => Err(DecodeFault::Refused(Refused::Kind(kind))),
     }
 }
 
 /// Reads a whole datagram of at most 65,535 octets as one message.
 ///
-/// Reserved bits are ignored. The refusals are tried in the order of `Refused`.
-#[tactic(auto, unfolding(crate::specs::Refusal::first_refusal, crate::specs::Refusal::message_of))]
-pub fn decode(bytes: &[u8]) -> Result<Message, Refused>
+/// Reserved bits are ignored. The refusals are tried in the order of `Refused`. Memory is asked for
+/// the inner datagram of a Query alone.
+pub fn decode(alloc: Global, bytes: &[u8]) -> Result<Message, DecodeFault>
     requires { length bytes.now ≤ 65535 }
     ensures found { IfOk result (λ message. Spells message bytes.now) }
-    ensures only { (message : MessageValue) → Spells message bytes.now → result ≡ Ok message }
-    ensures back { (message : MessageValue) → IsMessage message → bytes.now ≡ spelling_of message → result ≡ Ok message }
+    ensures only { (message : MessageValue) → Spells message bytes.now → Gives result (Ok message) }
+    ensures back { (message : MessageValue) → IsMessage message → IsSendable message → bytes.now ≡ spelling_of message
+        → Gives result (Ok message) }
+    ensures sendable { IfOk result (λ message. IsSendable message) }
+    ensures one { (message other : MessageValue) → Spells message bytes.now → Spells other bytes.now → message ≡ other }
 
-    ensures refused { MatchResult result (λ _. first_refusal bytes.now ≡ None) (λ r. first_refusal bytes.now ≡ Some r) }
-    ensures value { result ≡ message_of bytes.now }
+    ensures refused { MatchResult result (λ _. first_refusal bytes.now ≡ None) (λ fault. first_refusal bytes.now ≡ refusal_in fault) }
+    ensures value { Gives result (message_of bytes.now) }
 {
-    let Some(first) = bytes.first() else {
-        return Err(Refused::Empty);
-    };
-    let version = *first >> 4;
-    if version != 0 {
-        return Err(Refused::Version(version));
-    }
-    let have = bytes.len() as u32;
-    match *first {
-        1 => match length_refusal(8, have) {
-            Some(refusal) => Err(refusal),
-            None => Ok(Message::Discovery {
-                nonce: number_at(bytes, 4),
-            }),
-        },
-        2 => match length_refusal(advertisement_length(have), have) {
-            Some(refusal) => Err(refusal),
-            None => Ok(Message::Advertisement {
-                nonce: number_at(bytes, 4),
-                relay: relay_at(bytes),
-            }),
-        },
-        kind @ 3..=7 => Err(Refused::NotYet(kind)),
-        kind => Err(Refused::Kind(kind)),
-    }
+    read(alloc, bytes)
 }

@@ -1,3 +1,6 @@
+ghost use Rattle.std.specs.Prelude.{◌≡◌};
+ghost use Rattle.amt_messages.specs.Refusal.{length_refusal};
+
 /// Why octets are no message: the first of these that holds, in this order.
 ///
 /// Numbers are lengths in octets, needed and then found.
@@ -11,6 +14,30 @@ pub enum Refused {
     Kind(u8),
     /// The type is one of the standard's that isn't read yet.
     NotYet(u8),
+    /// Behind the 12 octets of a Query's head no IP datagram states its length. A shorter head is
+    /// `Short`, before this is tried.
+    NoInner,
     Short(u32, u32),
     Long(u32, u32),
+}
+
+/// Why no message came of octets.
+#[derive(Clone, Copy, Debug, PartialEq, Eq)]
+pub enum DecodeFault {
+    Refused(Refused),
+    /// Nothing is refused, and there is no memory for the inner datagram.
+    Memory,
+}
+
+// The lengths that are wrong for a message of `need` octets.
+pub fn length_refusal(need: u32, have: u32) -> Option<Refused>
+    ensures { result ≡ length_refusal need have }
+{
+    if have < need {
+        Some(Refused::Short(need, have))
+    } else if need < have {
+        Some(Refused::Long(need, have))
+    } else {
+        None
+    }
 }

@@ -1,32 +1,120 @@
-ghost use Rattle.std.specs.Prelude.{◌≡◌, ℕ, List, IfOk};
+ghost use Rattle.std.specs.Prelude.{◌≡◌, ◌≤◌, ◌++◌, ℕ, List, Some, length, IfOk, OnOk};
 ghost use Rattle.amt_values.proofs.NetworkOrder.{AreOctets};
-ghost use Rattle.amt_messages.specs.Layout.{IsCanonical, spelling_of};
+ghost use Rattle.amt_messages.specs.declared.message.Message.TheVariants.{Discovery, Advertisement, Request, Query};
+ghost use Rattle.amt_messages.specs.Conditions.{IsSeen, IsSendable};
+ghost use Rattle.amt_messages.specs.Inner.{inner_length_of};
+ghost use Rattle.amt_messages.specs.Layout.{IsCanonical, query_flags, request_flags, seen_octets, spelling_of};
 
 use crate::message::Message;
-use amt_values::{Bytes, Ip, octets_of_address};
+use amt_values::{Bytes, Endpoint, Ip, Mac48, octets_of_address};
 use std::alloc::{AllocError, Global};
+
+fn request_flags(v6: bool) -> u8
+    ensures { result ≡ request_flags v6 }
+{
+    if v6 { 1 } else { 0 }
+}
+
+fn query_flags(limited: bool, named: bool) -> u8
+    ensures { result ≡ query_flags limited named }
+{
+    match (limited, named) {
+        (false, false) => 0,
+        (false, true) => 1,
+        (true, false) => 2,
+        (true, true) => 3,
+    }
+}
+
+#[tactic(auto, using(std::proofs::Common::append_assoc))]
+fn append_seen(bytes: &mut Bytes, seen: &Option<Endpoint>) -> Result<(), AllocError>
+    ensures appended { OnOk result (bytes.new ≡ bytes.old ++ seen_octets seen.now) }
+    ensures form { OnOk result (IsSeen seen.now) }
+{
+    match seen {
+        None => Ok(()),
+        Some(endpoint) => {
+            bytes.append(&endpoint.port().to_be_bytes())?;
+            bytes.append(&octets_of_address(endpoint.address()))?;
+            Ok(())
+        }
+    }
+}
+
+fn write_discovery(alloc: Global, nonce: u32) -> Result<Bytes, AllocError>
+    ensures written { IfOk result (λ bytes. bytes ≡ spelling_of (Discovery nonce)) }
+    ensures canonical { IfOk result (λ bytes. IsCanonical (Discovery nonce) bytes) }
+{
+    let mut bytes = Bytes::new(alloc);
+    bytes.append(&[1, 0, 0, 0])?;
+    bytes.append(&nonce.to_be_bytes())?;
+    Ok(bytes)
+}
+
+fn write_advertisement(alloc: Global, nonce: u32, relay: Ip) -> Result<Bytes, AllocError>
+    ensures written { IfOk result (λ bytes. bytes ≡ spelling_of (Advertisement nonce relay)) }
+    ensures canonical { IfOk result (λ bytes. IsCanonical (Advertisement nonce relay) bytes) }
+{
+    let mut bytes = Bytes::new(alloc);
+    bytes.append(&[2, 0, 0, 0])?;
+    bytes.append(&nonce.to_be_bytes())?;
+    match relay {
+        Ip::V4(address) => bytes.append(&address.to_be_bytes())?,
+        Ip::V6(address) => bytes.append(&octets_of_address(address))?,
+    }
+    Ok(bytes)
+}
+
+fn write_request(alloc: Global, v6: bool, nonce: u32) -> Result<Bytes, AllocError>
+    ensures written { IfOk result (λ bytes. bytes ≡ spelling_of (Request v6 nonce)) }
+    ensures canonical { IfOk result (λ bytes. IsCanonical (Request v6 nonce) bytes) }
+{
+    let mut bytes = Bytes::new(alloc);
+    bytes.append(&[3, request_flags(v6), 0, 0])?;
+    bytes.append(&nonce.to_be_bytes())?;
+    Ok(bytes)
+}
+
+fn write_query(
+    alloc: Global,
+    limited: bool,
+    mac: &Mac48,
+    nonce: u32,
+    inner: &Bytes,
+    seen: &Option<Endpoint>,
+) -> Result<Bytes, AllocError>
+    requires { inner_length_of inner.now ≡ Some (length inner.now) }
+    ensures written { IfOk result (λ bytes. bytes ≡ spelling_of (Query limited mac.now nonce inner.now seen.now)) }
+    ensures canonical { IfOk result (λ bytes. IsCanonical (Query limited mac.now nonce inner.now seen.now) bytes) }
+{
+    let mut bytes = Bytes::new(alloc);
+    bytes.append(&[4, query_flags(limited, seen.is_some())])?;
+    bytes.append(&mac.0)?;
+    bytes.append(&nonce.to_be_bytes())?;
+    bytes.append(inner.as_slice())?;
+    append_seen(&mut bytes, seen)?;
+    Ok(bytes)
+}
 
 /// Writes a message as its one canonical spelling, with reserved bits zero.
 #[tactic(auto, using(crate::proofs::Canonical::canonical_once))]
 pub fn encode(alloc: Global, message: &Message) -> Result<Bytes, AllocError>
+    requires { IsSendable message.now }
     ensures written { IfOk result (λ bytes. bytes ≡ spelling_of message.now) }
     ensures canonical { IfOk result (λ bytes. IsCanonical message.now bytes) }
     ensures one { (bytes : List ℕ) → AreOctets bytes → IsCanonical message.now bytes → bytes ≡ spelling_of message.now }
+    ensures most { IfOk result (λ bytes. length bytes ≤ 65535) }
 {
-    let mut bytes = Bytes::new(alloc);
     match message {
-        Message::Discovery { nonce } => {
-            bytes.append(&[1, 0, 0, 0])?;
-            bytes.append(&nonce.to_be_bytes())?;
-        }
-        Message::Advertisement { nonce, relay } => {
-            bytes.append(&[2, 0, 0, 0])?;
-            bytes.append(&nonce.to_be_bytes())?;
-            match *relay {
-                Ip::V4(address) => bytes.append(&address.to_be_bytes())?,
-                Ip::V6(address) => bytes.append(&octets_of_address(address))?,
-            }
-        }
+        Message::Discovery { nonce } => write_discovery(alloc, *nonce),
+        Message::Advertisement { nonce, relay } => write_advertisement(alloc, *nonce, *relay),
+        Message::Request { v6, nonce } => write_request(alloc, *v6, *nonce),
+        Message::Query {
+            limited,
+            mac,
+            nonce,
+            inner,
+            seen,
+        } => write_query(alloc, *limited, mac, *nonce, inner, seen),
     }
-    Ok(bytes)
 }

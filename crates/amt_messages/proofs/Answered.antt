@@ -1,0 +1,71 @@
+-- From what was answered by the reading of octets to what it says of their spelling.
+use Rattle.std.proofs.Common.{◌≡◌, ◌≤◌, ℕ, List, length, arith, Option, Some, None, Result, Ok, Err, refl, sym, subst, ap, ◌∙◌}
+use Rattle.std.specs.Result.{IfOk, MatchResult}
+use Rattle.amt_messages.specs.declared.message.Message.{Message}
+use Rattle.amt_messages.specs.declared.message.Message.TheVariants.{Discovery, Advertisement, Request, Query}
+use Rattle.amt_messages.specs.declared.refusal.DecodeFault.{DecodeFault}
+use Rattle.amt_messages.specs.declared.refusal.DecodeFault.TheVariants.{Refused as RefusedBy, Memory}
+use Rattle.amt_messages.specs.declared.refusal.Refused.{Refused}
+use Rattle.amt_messages.specs.Conditions.{IsMessage, IsSendable}
+use Rattle.amt_messages.specs.Layout.{Spells, spelling_of}
+use Rattle.amt_messages.specs.Refusal.{Gives, TakesMemory, first_refusal, message_at, message_of, reading_by, refusal_in}
+use Rattle.amt_messages.proofs.Spelled.{spelled_is_read}
+use Rattle.amt_messages.proofs.Unrefused.{read_is_spelled, read_is_unrefused}
+use Rattle.amt_messages.proofs.Written.{spelling_is_canonical}
+
+pub answer_found : (answer : Result Message DecodeFault) (bytes : List ℕ) → Gives answer (message_of bytes) → IfOk answer (λ message. Spells message bytes)
+answer_found (Ok message) bytes gives = read_is_spelled bytes message gives
+answer_found (Err fault) bytes gives = tt
+
+pub answer_only : (answer : Result Message DecodeFault) (bytes : List ℕ) → Gives answer (message_of bytes) → (message : Message) → Spells message bytes
+    → Gives answer (Ok message)
+answer_only answer bytes gives message spells = subst (Gives answer) (spelled_is_read message bytes spells) gives
+
+pub answer_back : (answer : Result Message DecodeFault) (bytes : List ℕ) → Gives answer (message_of bytes) → (message : Message)
+    → IsMessage message → IsSendable message → bytes ≡ spelling_of message → Gives answer (Ok message)
+answer_back answer bytes gives message fits sendable same =
+    let spells = subst (Spells message) (sym same) (spelling_is_canonical message fits sendable).spelled in
+    answer_only answer bytes gives message spells
+
+-- what a datagram spells may be written
+spelled_is_sendable : (message : Message) (bytes : List ℕ) → length bytes ≤ 65535 → Spells message bytes → IsSendable message
+spelled_is_sendable (Discovery nonce) bytes most spells = tt
+spelled_is_sendable (Advertisement nonce relay) bytes most spells = tt
+spelled_is_sendable (Request v6 nonce) bytes most spells = tt
+spelled_is_sendable (Query limited mac nonce inner None) bytes most spells =
+    let octets = spells.kind.octets in
+    (spells.inner_whole, omega arith)
+spelled_is_sendable (Query limited mac nonce inner (Some endpoint)) bytes most spells =
+    let octets = spells.0.kind.octets in
+    (spells.0.inner_whole, omega arith)
+
+pub answer_sendable : (answer : Result Message DecodeFault) (bytes : List ℕ) → length bytes ≤ 65535 → Gives answer (message_of bytes)
+    → IfOk answer (λ message. IsSendable message)
+answer_sendable (Ok message) bytes most gives = spelled_is_sendable message bytes most (read_is_spelled bytes message gives)
+answer_sendable (Err fault) bytes most gives = tt
+
+-- octets spell one message
+pub Spells_unique : (bytes : List ℕ) (message other : Message) → Spells message bytes → Spells other bytes → message ≡ other
+Spells_unique bytes message other spells spells_other =
+    let both : Ok message ≡ Ok other = sym (spelled_is_read message bytes spells) ∙ spelled_is_read other bytes spells_other in
+    cc
+
+takes_memory-ok : (reading : Result Message Refused) → TakesMemory reading → (message : Message) × (reading ≡ Ok message)
+takes_memory-ok (Ok message) takes = (message, refl)
+takes_memory-ok (Err refusal) takes = absurd takes
+
+reading_by-err : (first : Option Refused) (at : Message) (refusal : Refused) → reading_by first at ≡ Err refusal → first ≡ Some refusal
+reading_by-err None at refusal same = cc
+reading_by-err (Some given) at refusal same = cc
+
+read_is_refused : (bytes : List ℕ) (refusal : Refused) → message_of bytes ≡ Err refusal → first_refusal bytes ≡ Some refusal
+unfolding message_of
+read_is_refused bytes refusal same = reading_by-err (first_refusal bytes) (message_at bytes) refusal same
+
+pub answer_refused : (answer : Result Message DecodeFault) (bytes : List ℕ) → Gives answer (message_of bytes)
+    → MatchResult answer (λ _. first_refusal bytes ≡ None) (λ fault. first_refusal bytes ≡ refusal_in fault)
+answer_refused (Ok message) bytes gives = read_is_unrefused bytes message gives
+answer_refused (Err (RefusedBy refusal)) bytes gives = read_is_refused bytes refusal gives
+answer_refused (Err Memory) bytes gives =
+    let found = takes_memory-ok (message_of bytes) gives in
+    read_is_unrefused bytes found.0 found.1

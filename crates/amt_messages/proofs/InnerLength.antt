@@ -1,0 +1,33 @@
+-- The length that an inner datagram states is in its first octets.
+use Rattle.std.proofs.Common.{◌≡◌, ℕ, zero, suc, ◌+◌, ◌-◌, ◌<◌, ◌≤◌, ◌==◌, List, [], ◌∷◌, length, take, drop, slice_index, Bool, true, false, ltb, eqb, Option, Some, None, refl, sym, ap, ◌∙◌, arith}
+use Rattle.std.proofs.lemmas.Bool.{cases_Bool, ltb-false, le-ltb, cond-true, cond-false}
+use Rattle.std.proofs.lemmas.List.{length-take-le, get_or-take}
+use Rattle.byteorder.specs.Numbers.{big_from-take}
+use Rattle.byteorder.specs.Endian.{big_number, big_from}
+use Rattle.amt_messages.specs.Inner.{inner_length_of, ip_version, ipv4_length, ipv6_length, total_length, payload_length}
+
+-- two octets from a place on are those of a front that reaches past them
+short_in_front : (n place : ℕ) (octets : List ℕ) → place + 2 ≤ n → big_number 2 (drop place (take n octets)) ≡ big_number 2 (drop place octets)
+short_in_front n zero octets far = big_from-take 0 2 n octets (omega arith)
+short_in_front zero (suc place) octets far = absurd (omega arith)
+short_in_front (suc n) (suc place) [] far = refl
+short_in_front (suc n) (suc place) (x ∷ octets) far = short_in_front n place octets (omega arith)
+
+-- a datagram that states its length is no shorter than the least header
+pub inner_length_of-least : (octets : List ℕ) (n : ℕ) → inner_length_of octets ≡ Some n → 20 ≤ n
+unfolding inner_length_of
+inner_length_of-least octets n states = grind arith
+
+-- so a front of six octets and more states the same length
+pub inner_length_of-take : (n : ℕ) (octets : List ℕ) → 6 ≤ n → n ≤ length octets → inner_length_of (take n octets) ≡ inner_length_of octets
+unfolding inner_length_of
+inner_length_of-take n octets far enough =
+    let len = length-take-le n octets enough in
+    let first = get_or-take n octets 0 0 (omega arith) in
+    let total = short_in_front n 2 octets (omega arith) in
+    let payload = short_in_front n 4 octets (omega arith) in
+    let four_there = le-ltb (length octets) 4 (omega arith) in
+    let four_here = le-ltb n 4 (omega arith) in
+    let six_there = le-ltb (length octets) 6 (omega arith) in
+    let six_here = le-ltb n 6 far in
+    rw (len, first, total, payload, four_there, four_here, six_there, six_here) refl

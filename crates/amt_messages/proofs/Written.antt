@@ -1,0 +1,167 @@
+-- What is written of a message spells it.
+use Rattle.std.proofs.Common.{◌≡◌, ℕ, ◌+◌, ◌/◌, ◌<◌, ◌≤◌, ◌^◌, Bool, true, false, eqb, List, [], ◌∷◌, ◌++◌, length, take, drop, slice_index, Option, Some, None, refl, sym, subst, ap, ◌∙◌, arith, append_assoc, length-append, length-drop}
+use Rattle.std.proofs.lemmas.List.{append-nil, drop-drop, drop_at, take_at}
+use Rattle.std.specs.Int.{bit_at}
+use Rattle.std.specs.Option.{is_some}
+use Rattle.byteorder.specs.Endian.{big_number, big_bytes}
+use Rattle.byteorder.specs.Numbers.{big_number-reads_back, length-bytes_high_first}
+use Rattle.amt_values.proofs.NetworkOrder.{AreOctets, big_from-bytes_high_first}
+use Rattle.amt_values.specs.Address.{is_mapped}
+use Rattle.amt_values.specs.Endpoint.{endpoint_named}
+use Rattle.amt_values.specs.Tunnel.{Tunnel}
+use Rattle.amt_values.specs.declared.address.Ip.{Ip}
+use Rattle.amt_values.specs.declared.address.Ip.TheVariants.{V4, V6}
+use Rattle.amt_values.specs.declared.mac.Mac48.{Mac48}
+use Rattle.amt_messages.specs.declared.message.Message.{Message}
+use Rattle.amt_messages.specs.declared.message.Message.TheVariants.{Discovery, Advertisement, Request, Query}
+use Rattle.amt_messages.specs.Conditions.{IsMessage, IsSendable, IsSeen}
+use Rattle.amt_messages.specs.Inner.{inner_length_of}
+use Rattle.amt_messages.specs.Layout.{IsCanonical, IsQuery, Spells, gateway_address, gateway_port, gateway_at, has_flag, query_flags, query_length, request_flags, seen_octets, spelling_of}
+
+-- a number of four octets is read back
+nonce_again : (nonce : ℕ) (rest : List ℕ) → nonce < 2 ^ 32 → nonce ≡ big_number 4 (big_bytes 4 nonce ++ rest)
+nonce_again nonce rest small = sym (big_number-reads_back 4 nonce rest small)
+
+request_flag : (v6 : Bool) → v6 ≡ eqb (bit_at (request_flags v6) 0) 1
+request_flag true = refl
+request_flag false = refl
+
+request_reserved : (v6 : Bool) → request_flags v6 / 2 ≡ 0
+request_reserved true = refl
+request_reserved false = refl
+
+l_flag_of : (limited named : Bool) → limited ≡ eqb (bit_at (query_flags limited named) 1) 1
+l_flag_of true true = refl
+l_flag_of true false = refl
+l_flag_of false true = refl
+l_flag_of false false = refl
+
+g_flag_of : (limited named : Bool) → named ≡ eqb (bit_at (query_flags limited named) 0) 1
+g_flag_of true true = refl
+g_flag_of true false = refl
+g_flag_of false true = refl
+g_flag_of false false = refl
+
+query_reserved : (limited named : Bool) → query_flags limited named / 4 ≡ 0
+query_reserved true true = refl
+query_reserved true false = refl
+query_reserved false true = refl
+query_reserved false false = refl
+
+-- the parts of a Query by their places, behind an octet of type and one of flags
+module _ (flags : ℕ) (mac nonce inner tail : List ℕ) (six : length mac ≡ 6) (four : length nonce ≡ 4) where
+  whole_length : length (4 ∷ flags ∷ (mac ++ nonce ++ inner ++ tail)) ≡ 12 + length inner + length tail
+  whole_length = omega (arith, length-append (mac ++ nonce ++ inner) tail, length-append (mac ++ nonce) inner, length-append mac nonce)
+
+  regrouped : mac ++ nonce ++ inner ++ tail ≡ mac ++ (nonce ++ (inner ++ tail))
+  regrouped = append_assoc (mac ++ nonce) inner tail ∙ append_assoc mac nonce (inner ++ tail)
+
+  mac_there : mac ≡ take 6 (drop 2 (4 ∷ flags ∷ (mac ++ nonce ++ inner ++ tail)))
+  mac_there = sym (ap (take 6) regrouped ∙ take_at mac (nonce ++ (inner ++ tail)) 6 six)
+
+  nonce_there : drop 8 (4 ∷ flags ∷ (mac ++ nonce ++ inner ++ tail)) ≡ nonce ++ (inner ++ tail)
+  nonce_there = ap (drop 6) regrouped ∙ drop_at mac (nonce ++ (inner ++ tail)) 6 six
+
+  inner_there : drop 12 (4 ∷ flags ∷ (mac ++ nonce ++ inner ++ tail)) ≡ inner ++ tail
+  inner_there =
+      sym (drop-drop 4 8 (4 ∷ flags ∷ (mac ++ nonce ++ inner ++ tail)))
+      ∙ (ap (drop 4) nonce_there ∙ drop_at nonce (inner ++ tail) 4 four)
+
+  tail_there : drop (12 + length inner) (4 ∷ flags ∷ (mac ++ nonce ++ inner ++ tail)) ≡ tail
+  tail_there =
+      sym (drop-drop (length inner) 12 (4 ∷ flags ∷ (mac ++ nonce ++ inner ++ tail)))
+      ∙ (ap (drop (length inner)) inner_there ∙ drop_at inner tail (length inner) refl)
+
+  address_there : drop (14 + length inner) (4 ∷ flags ∷ (mac ++ nonce ++ inner ++ tail)) ≡ drop 2 tail
+  address_there =
+      let place : 12 + length inner + 2 ≡ 14 + length inner = omega arith in
+      ap (λ (n : ℕ). drop n (4 ∷ flags ∷ (mac ++ nonce ++ inner ++ tail))) (sym place)
+      ∙ (sym (drop-drop 2 (12 + length inner) (4 ∷ flags ∷ (mac ++ nonce ++ inner ++ tail))) ∙ ap (drop 2) tail_there)
+
+-- what is written of a Query, with what follows its inner datagram
+query_written : (limited named : Bool) (mac : Mac48) (nonce : ℕ) (inner tail : List ℕ) → length mac.0 ≡ 6 → nonce < 2 ^ 32
+    → inner_length_of inner ≡ Some (length inner) → 12 + length inner + length tail ≡ query_length named (length inner)
+    → IsQuery limited named mac nonce inner (4 ∷ query_flags limited named ∷ (mac.0 ++ big_bytes 4 nonce ++ inner ++ tail))
+query_written limited named mac nonce inner tail six small whole size =
+    let flags = query_flags limited named in
+    record {
+      kind = record { octets = whole_length flags mac.0 (big_bytes 4 nonce) inner tail six refl ∙ size; first = refl };
+      l_flag = l_flag_of limited named;
+      g_flag = g_flag_of limited named;
+      mac_field = mac_there flags mac.0 (big_bytes 4 nonce) inner tail six refl;
+      nonce_field = nonce_again nonce (inner ++ tail) small ∙ sym (ap (big_number 4) (nonce_there flags mac.0 (big_bytes 4 nonce) inner tail six refl));
+      inner_field = sym (ap (take (length inner)) (inner_there flags mac.0 (big_bytes 4 nonce) inner tail six refl) ∙ take_at inner tail (length inner) refl);
+      inner_whole = whole;
+    }
+
+-- an endpoint's port and address are read back
+port_again : (port : ℕ) (rest : List ℕ) → port < 2 ^ 16 → big_number 2 (big_bytes 2 port ++ rest) ≡ port
+port_again port rest small = big_number-reads_back 2 port rest small
+
+address_again : (address : ℕ) → address < 2 ^ 128 → big_number 16 (big_bytes 16 address) ≡ address
+address_again address small = big_from-bytes_high_first 16 address small
+
+-- an endpoint in its one form is named by its address and port
+endpoint_named-again : (endpoint : Tunnel) (address port : ℕ) → address ≡ endpoint.address → port ≡ endpoint.port
+    → is_mapped endpoint.address ≡ false → endpoint ≡ endpoint_named address port
+endpoint_named-again endpoint address port same_address same_port form = rw (same_address, same_port, form) refl
+
+-- the spelling of a Query is canonical
+pub query_is_canonical : (limited : Bool) (mac : Mac48) (nonce : ℕ) (inner : List ℕ) (seen : Option Tunnel) → length mac.0 ≡ 6 → nonce < 2 ^ 32
+    → IsSeen seen → inner_length_of inner ≡ Some (length inner)
+    → IsCanonical (Query limited mac nonce inner seen) (spelling_of (Query limited mac nonce inner seen))
+query_is_canonical limited mac nonce inner None six small form whole = record {
+  spelled = query_written limited false mac nonce inner [] six small whole (omega arith);
+  reserved = query_reserved limited false;
+  address_form = tt;
+}
+query_is_canonical limited mac nonce inner (Some endpoint) six small form whole =
+    let flags = query_flags limited true in
+    let tail = seen_octets (Some endpoint) in
+    let port_place = tail_there flags mac.0 (big_bytes 4 nonce) inner tail six refl in
+    let address_place = address_there flags mac.0 (big_bytes 4 nonce) inner tail six refl in
+    let port_is = ap (big_number 2) port_place ∙ port_again endpoint.port (big_bytes 16 endpoint.address) form.1 in
+    let address_is = ap (big_number 16) address_place ∙ address_again endpoint.address form.0 in
+    record {
+      spelled = (
+        query_written limited true mac nonce inner tail six small whole refl,
+        endpoint_named-again endpoint _ _ address_is port_is form.2,
+      );
+      reserved = query_reserved limited true;
+      address_form = ap is_mapped address_is ∙ form.2;
+    }
+
+-- the message's spelling is canonical
+pub spelling_is_canonical : (message : Message) → IsMessage message → IsSendable message → IsCanonical message (spelling_of message)
+spelling_is_canonical (Discovery nonce) fits sendable =
+    let again = nonce_again nonce [] fits in
+    record {
+      spelled = record { kind = record { octets = refl; first = refl }; nonce_field = again };
+      reserved = refl;
+      address_form = tt;
+    }
+spelling_is_canonical (Advertisement nonce (V4 address)) fits sendable =
+    let again = nonce_again nonce (big_bytes 4 address) fits.0 in
+    let address_is = nonce_again address [] fits.1 in
+    record {
+      spelled = record { kind = record { octets = refl; first = refl }; nonce_field = again; address_field = address_is };
+      reserved = refl;
+      address_form = tt;
+    }
+spelling_is_canonical (Advertisement nonce (V6 address)) fits sendable =
+    let again = nonce_again nonce (big_bytes 16 address) fits.0 in
+    let address_is = sym (address_again address fits.1) in
+    record {
+      spelled = record { kind = record { octets = refl; first = refl }; nonce_field = again; address_field = address_is };
+      reserved = refl;
+      address_form = tt;
+    }
+spelling_is_canonical (Request v6 nonce) fits sendable =
+    let again = nonce_again nonce [] fits in
+    record {
+      spelled = record { kind = record { octets = refl; first = refl }; p_flag = request_flag v6; nonce_field = again };
+      reserved = (request_reserved v6, refl);
+      address_form = tt;
+    }
+spelling_is_canonical (Query limited mac nonce inner seen) fits sendable =
+    query_is_canonical limited mac nonce inner seen fits.0.0 fits.1 fits.3 sendable.0

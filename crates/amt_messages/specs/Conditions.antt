@@ -1,0 +1,42 @@
+-- Which messages there are, and which may be written.
+use Rattle.std.specs.Prelude.{◌≡◌, ℕ, ◌+◌, ◌<◌, ◌≤◌, ◌^◌, false, List, length, Option, Some, None}
+use Rattle.amt_values.proofs.NetworkOrder.{AreOctets}
+use Rattle.amt_values.specs.Address.{is_mapped}
+use Rattle.amt_values.specs.Tunnel.{Tunnel}
+use Rattle.amt_values.specs.declared.address.Ip.{Ip}
+use Rattle.amt_values.specs.declared.address.Ip.TheVariants.{V4, V6}
+use Rattle.amt_values.specs.declared.mac.Mac48.{Mac48}
+use Rattle.amt_messages.specs.Inner.{inner_length_of}
+use Rattle.amt_messages.specs.Layout.{seen_octets}
+use Rattle.amt_messages.specs.declared.message.Message.{Message}
+use Rattle.amt_messages.specs.declared.message.Message.TheVariants.{Discovery, Advertisement, Request, Query}
+
+-- the address has 32 or 128 bits
+abbrev pub IsAddress : Ip → Type 0
+IsAddress (V4 address) = address < 2 ^ 32
+IsAddress (V6 address) = address < 2 ^ 128
+
+-- a response MAC has six octets
+abbrev pub IsMac : Mac48 → Type 0
+IsMac mac = (length mac.0 ≡ 6) × AreOctets mac.0
+
+-- what was seen of a gateway, if anything, is an endpoint in its one form
+abbrev pub IsSeen : Option Tunnel → Type 0
+IsSeen None = Unit {0}
+IsSeen (Some endpoint) = (endpoint.address < 2 ^ 128) × (endpoint.port < 2 ^ 16) × (is_mapped endpoint.address ≡ false)
+
+-- each number of the message fits its field
+abbrev pub IsMessage : Message → Type 0
+IsMessage (Discovery nonce) = nonce < 2 ^ 32
+IsMessage (Advertisement nonce relay) = (nonce < 2 ^ 32) × IsAddress relay
+IsMessage (Request v6 nonce) = nonce < 2 ^ 32
+IsMessage (Query limited mac nonce inner seen) = IsMac mac × (nonce < 2 ^ 32) × AreOctets inner × IsSeen seen
+
+-- a Query's inner datagram is as long as its own header says, and the whole is no longer than what
+-- UDP carries; every other message may be written
+abbrev pub IsSendable : Message → Type 0
+IsSendable (Discovery nonce) = Unit {0}
+IsSendable (Advertisement nonce relay) = Unit {0}
+IsSendable (Request v6 nonce) = Unit {0}
+IsSendable (Query limited mac nonce inner seen) =
+    (inner_length_of inner ≡ Some (length inner)) × (12 + length inner + length (seen_octets seen) ≤ 65535)

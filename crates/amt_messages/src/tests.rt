@@ -1,0 +1,185 @@
+use super::*;
+use amt_values::{Bytes, Endpoint, Mac48};
+use std::alloc::{AllocError, Global};
+use std::process::Abort;
+use std::test::*;
+
+// An IGMPv3 General Query from 192.0.2.1 to 224.0.0.1.
+const INNER: &[u8; 36] =
+    b"\x46\xc0\x00\x24\x00\x00\x00\x00\x01\x02\x82\x11\xc0\x00\x02\x01\xe0\x00\x00\x01\x94\x04\x00\x00\x11\x64\xec\x1e\x00\x00\x00\x00\x02\x7d\x00\x00";
+
+// The head of a Query whose gateway was seen, and of one that is limited and says no gateway.
+const NAMED: &[u8; 12] = b"\x04\x01\xa1\xa2\xa3\xa4\xa5\xa6\x0a\x0b\x0c\x0d";
+
+const LIMITED: &[u8; 12] = b"\x04\x02\xa1\xa2\xa3\xa4\xa5\xa6\x0a\x0b\x0c\x0d";
+
+// 198.51.100.7:5000, in the canonical form and in the IPv4-mapped form.
+const SEEN: &[u8; 18] = b"\x13\x88\x00\x00\x00\x00\x00\x00\x00\x00\x00\x00\x00\x00\xc6\x33\x64\x07";
+
+const MAPPED: &[u8; 18] =
+    b"\x13\x88\x00\x00\x00\x00\x00\x00\x00\x00\x00\x00\xff\xff\xc6\x33\x64\x07";
+
+fn query_of(alloc: Global, head: &[u8; 12], tail: &[u8]) -> Result<Bytes, AllocError> {
+    let mut bytes = Bytes::copied(alloc, head)?;
+    bytes.append(INNER)?;
+    bytes.append(tail)?;
+    Ok(bytes)
+}
+
+fn assert_refused(rt: &impl Abort, alloc: Global, bytes: &[u8], want: Refused) {
+    assert!(rt; bytes.len() <= 67);
+    match decode(alloc, bytes) {
+        Ok(message) => assert!(rt; false, "{message:?} was read in place of {want:?}"),
+        Err(fault) => assert_eq!(rt; fault, DecodeFault::Refused(want)),
+    }
+}
+
+#[test]
+fn the_first_refusal_is_answered(rt: HostRuntime) -> Result<(), Fail> {
+    let rows: [(&[u8], Refused); 12] = [
+        (b"", Refused::Empty),
+        (b"\x13\x00", Refused::Version(1)),
+        (b"\x00", Refused::Kind(0)),
+        (b"\x0f", Refused::Kind(15)),
+        (b"\x05", Refused::NotYet(5)),
+        (b"\x07", Refused::NotYet(7)),
+        (b"\x03\x00\x00\x00\x00\x00\x00", Refused::Short(8, 7)),
+        (b"\x03\x00\x00\x00\x00\x00\x00\x00\x00", Refused::Long(8, 9)),
+        (b"\x01\x00\x00\x00\x00\x00\x00\x00\x00", Refused::Long(8, 9)),
+        (
+            b"\x02\x00\x00\x00\x01\x02\x03\x04\xc0\x00\x02\x01\x00",
+            Refused::Short(24, 13),
+        ),
+        (
+            b"\x04\x00\x00\x00\x00\x00\x00\x00\x00\x00\x00",
+            Refused::Short(12, 11),
+        ),
+        (
+            b"\x04\x00\x00\x00\x00\x00\x00\x00\x00\x00\x00\x00",
+            Refused::NoInner,
+        ),
+    ];
+    for (bytes, want) in rows {
+        assert_refused(&rt, rt.alloc(), bytes, want);
+    }
+    let (shorter, _) = SEEN.split_at(17);
+    let shorter = query_of(rt.alloc(), NAMED, shorter)?;
+    assert_refused(&rt, rt.alloc(), shorter.as_slice(), Refused::Short(66, 65));
+    let mut longer = query_of(rt.alloc(), NAMED, SEEN)?;
+    longer.push(0)?;
+    assert_refused(&rt, rt.alloc(), longer.as_slice(), Refused::Long(66, 67));
+    Ok(())
+}
+
+fn assert_written(
+    rt: &impl Abort,
+    alloc: Global,
+    bytes: &[u8],
+    canonical: &[u8],
+) -> Result<(), AllocError> {
+    assert!(rt; bytes.len() <= 66);
+    match decode(alloc, bytes) {
+        Ok(message) => {
+            let written = encode(alloc, &message)?;
+            assert_eq!(rt; written.as_slice(), canonical);
+        }
+        Err(fault) => assert!(rt; false, "{fault:?} in place of {canonical:?}"),
+    }
+    Ok(())
+}
+
+#[test]
+fn what_is_read_is_written_in_its_one_form(rt: HostRuntime) -> Result<(), Fail> {
+    let rows: [(&[u8], &[u8]); 5] = [
+        (
+            b"\x01\x00\x00\xff\x01\x02\x03\x04",
+            b"\x01\x00\x00\x00\x01\x02\x03\x04",
+        ),
+        (
+            b"\x02\xff\xff\xff\x01\x02\x03\x04\xc0\x00\x02\x01",
+            b"\x02\x00\x00\x00\x01\x02\x03\x04\xc0\x00\x02\x01",
+        ),
+        (
+            b"\x03\x00\x00\x00\x0a\x0b\x0c\x0d",
+            b"\x03\x00\x00\x00\x0a\x0b\x0c\x0d",
+        ),
+        (
+            b"\x03\x01\x00\x00\x0a\x0b\x0c\x0d",
+            b"\x03\x01\x00\x00\x0a\x0b\x0c\x0d",
+        ),
+        (
+            b"\x03\xfe\xff\xfe\x0a\x0b\x0c\x0d",
+            b"\x03\x00\x00\x00\x0a\x0b\x0c\x0d",
+        ),
+    ];
+    for (bytes, canonical) in rows {
+        assert_written(&rt, rt.alloc(), bytes, canonical)?;
+    }
+    let seen = query_of(rt.alloc(), NAMED, SEEN)?;
+    assert_written(&rt, rt.alloc(), seen.as_slice(), seen.as_slice())?;
+    let mapped = query_of(rt.alloc(), NAMED, MAPPED)?;
+    assert_written(&rt, rt.alloc(), mapped.as_slice(), seen.as_slice())?;
+    let unseen = query_of(rt.alloc(), LIMITED, &[])?;
+    assert_written(&rt, rt.alloc(), unseen.as_slice(), unseen.as_slice())?;
+    let reserved = query_of(
+        rt.alloc(),
+        b"\x04\xfe\xa1\xa2\xa3\xa4\xa5\xa6\x0a\x0b\x0c\x0d",
+        &[],
+    )?;
+    assert_written(&rt, rt.alloc(), reserved.as_slice(), unseen.as_slice())?;
+    Ok(())
+}
+
+#[test]
+fn a_query_is_read_and_written_by_its_fields(rt: HostRuntime) -> Result<(), Fail> {
+    let bytes = query_of(rt.alloc(), NAMED, SEEN)?;
+    assert_eq!(rt; bytes.len(), 66);
+    let Ok(
+        Message::Query {
+            limited,
+            mac,
+            nonce,
+            inner,
+            seen,
+        },
+    ) = decode(rt.alloc(), bytes.as_slice())
+    else {
+        return Err("the octets are a Query")?;
+    };
+    assert!(rt; !limited);
+    assert_eq!(rt; mac, Mac48([0xa1, 0xa2, 0xa3, 0xa4, 0xa5, 0xa6]));
+    assert_eq!(rt; nonce, 0x0a0b0c0d);
+    assert_eq!(rt; inner.as_slice(), INNER.as_slice());
+    assert_eq!(rt; seen, Some(Endpoint::named(0xc6336407, 5000)));
+
+    assert_eq!(rt; inner_length(inner.as_slice()), Some(36));
+    assert_eq!(rt; inner.len(), 36);
+    let limited = Message::Query {
+        limited: true,
+        mac,
+        nonce,
+        inner,
+        seen: None,
+    };
+    let written = encode(rt.alloc(), &limited)?;
+    let want = query_of(rt.alloc(), LIMITED, &[])?;
+    assert_eq!(rt; written.as_slice(), want.as_slice());
+    Ok(())
+}
+
+#[test]
+fn a_datagram_states_its_length(rt: HostRuntime) {
+    let rows: [(&[u8], Option<u32>); 8] = [
+        (INNER, Some(36)),
+        (b"\x45\x00\x00\x14", Some(20)),
+        (b"\x45\x00\x00\x13", None),
+        (b"\x45\x00\x00", None),
+        (b"\x60\x00\x00\x00\x01\x02", Some(298)),
+        (b"\x60\x00\x00\x00\x00", None),
+        (b"\x50\x00\x00\x40\x00\x40", None),
+        (b"", None),
+    ];
+    for (octets, want) in rows {
+        assert_eq!(rt; inner_length(octets), want);
+    }
+}
