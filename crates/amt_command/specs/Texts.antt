@@ -4,7 +4,7 @@ use Rattle.hex.specs.Hex.{encode_lower}
 use Rattle.amt_values.specs.Endpoint.{peer_of}
 use Rattle.amt_values.specs.Text.{peer_text}
 use Rattle.amt_messages.specs.declared.refusal.Refused.{Refused}
-use Rattle.amt_messages.specs.declared.refusal.Refused.TheVariants.{Empty, Version, Kind, NotYet, Short, Long}
+use Rattle.amt_messages.specs.declared.refusal.Refused.TheVariants.{Empty, Version, Kind, NotYet, NoInner, Short, Long}
 use Rattle.relay_machine.specs.declared.event.Event.{Event}
 use Rattle.relay_machine.specs.declared.outcome.Outcome.{Outcome}
 use Rattle.relay_machine.specs.declared.outcome.Outcome.TheVariants.{BadSource, Undecoded, WrongKind, Advertised}
@@ -18,6 +18,7 @@ refusal_text Empty = codes "empty"
 refusal_text (Version version) = codes "version " ++ decimal version
 refusal_text (Kind kind) = codes "kind " ++ decimal kind
 refusal_text (NotYet kind) = codes "notyet " ++ decimal kind
+refusal_text NoInner = codes "noinner"
 refusal_text (Short need have) = codes "short " ++ (decimal need ++ (codes " " ++ decimal have))
 refusal_text (Long need have) = codes "long " ++ (decimal need ++ (codes " " ++ decimal have))
 

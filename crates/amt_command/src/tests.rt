@@ -79,6 +79,8 @@ fn a_discovery_is_answered_and_its_reserved_bits_are_ignored(rt: HostRuntime) ->
 fn every_other_datagram_is_refused_with_its_reason(rt: HostRuntime) -> Result<(), Fail> {
     let rows = [
         ("030000000a0b0c0d", "refused notyet 3"),
+        ("0400", "refused short 12 2"),
+        ("040000000000000000000000", "refused noinner"),
         ("0200000001020304c0000201", "wrongkind 2"),
         ("-", "refused empty"),
         ("13", "refused version 1"),

@@ -14,6 +14,7 @@ fn print_refusal(alloc: Global, refusal: &Refused) -> Result<String, AllocError>
         Refused::Version(version) => format!(in alloc; "version {version}"),
         Refused::Kind(kind) => format!(in alloc; "kind {kind}"),
         Refused::NotYet(kind) => format!(in alloc; "notyet {kind}"),
+        Refused::NoInner => String::from_str(alloc, "noinner"),
         Refused::Short(need, have) => format!(in alloc; "short {need} {have}"),
         Refused::Long(need, have) => format!(in alloc; "long {need} {have}"),
     }

@@ -3,8 +3,9 @@ use Rattle.std.specs.Prelude.{◌≡◌, List, [], ◌∷◌, Option, Some, None
 use Rattle.amt_values.specs.Endpoint.{endpoint_of}
 use Rattle.amt_values.specs.Tunnel.{Tunnel}
 use Rattle.amt_messages.specs.declared.message.Message.{Message}
-use Rattle.amt_messages.specs.declared.message.Message.TheVariants.{Discovery, Advertisement}
+use Rattle.amt_messages.specs.declared.message.Message.TheVariants.{Discovery, Advertisement, Request, Query}
 use Rattle.amt_messages.specs.declared.refusal.Refused.{Refused}
+use Rattle.amt_messages.specs.declared.refusal.Refused.TheVariants.{NotYet}
 use Rattle.amt_messages.specs.Layout.{spelling_of}
 use Rattle.amt_messages.specs.Refusal.{message_of}
 use Rattle.relay_machine.specs.declared.event.Event.{Event}
@@ -14,11 +15,14 @@ use Rattle.relay_machine.specs.declared.outcome.Outcome.TheVariants.{BadSource, 
 use Rattle.relay_machine.specs.declared.sends.OneSend.{OneSend}
 use Rattle.relay_machine.specs.declared.settings.Settings.{Settings}
 
--- the order in which a datagram is judged: its source, its octets, its type
+-- the order in which a datagram is judged: its source, its octets, its type; Requests aren't
+-- answered yet, and count as a type that isn't read
 abbrev pub judged : Option Tunnel → Result Message Refused → Outcome
 judged None reading = BadSource
 judged (Some source) (Err refusal) = Undecoded refusal
 judged (Some source) (Ok (Advertisement nonce relay)) = WrongKind 2
+judged (Some source) (Ok (Request v6 nonce)) = Undecoded (NotYet 3)
+judged (Some source) (Ok (Query limited mac nonce inner seen)) = WrongKind 4
 judged (Some source) (Ok (Discovery nonce)) = Advertised
 
 -- a Discovery is answered by an Advertisement of its nonce and the relay's address, to its source
@@ -27,6 +31,8 @@ abbrev pub replies : Settings → Option Tunnel → Result Message Refused → L
 replies settings None reading = []
 replies settings (Some source) (Err refusal) = []
 replies settings (Some source) (Ok (Advertisement nonce relay)) = []
+replies settings (Some source) (Ok (Request v6 nonce)) = []
+replies settings (Some source) (Ok (Query limited mac nonce inner seen)) = []
 replies settings (Some source) (Ok (Discovery nonce)) =
     record { to = source; bytes = spelling_of (Advertisement nonce settings.relay) } ∷ []
 

@@ -1,5 +1,6 @@
 ghost use Rattle.std.specs.Prelude.{◌≡◌, ◌≤◌, [], ◌∷◌, length, IfOk};
 ghost use Rattle.amt_messages.specs.declared.message.Message.TheVariants.{Advertisement};
+ghost use Rattle.amt_messages.specs.Conditions.{IsSendable};
 ghost use Rattle.amt_messages.specs.Layout.{spelling_of};
 ghost use Rattle.amt_messages.specs.Refusal.{message_of};
 ghost use Rattle.amt_values.specs.Endpoint.{endpoint_of};
@@ -8,11 +9,12 @@ ghost use Rattle.relay_machine.specs.Answers.{judged, replies};
 use crate::outcome::Outcome;
 use crate::sends::{OneSend, Sends, Step};
 use crate::settings::Settings;
-use amt_messages::{Message, decode, encode};
+use amt_messages::{DecodeFault, Message, Refused, decode, encode};
 use amt_values::{Bytes, Endpoint, Peer};
 use std::alloc::{AllocError, Global};
 
 fn send_message(alloc: Global, to: Endpoint, message: &Message) -> Result<Sends, AllocError>
+    requires { IsSendable message.now }
     ensures { IfOk result (λ sends. sends ≡ record { to = to; bytes = spelling_of message.now } ∷ []) }
 {
     let bytes = encode(alloc, message)?;
@@ -45,9 +47,13 @@ pub fn answer(
     let Some(source) = Endpoint::of(from) else {
         return Ok(quiet(alloc, Outcome::BadSource));
     };
-    match decode(bytes.as_slice()) {
-        Err(refusal) => Ok(quiet(alloc, Outcome::Undecoded(refusal))),
+    match decode(alloc, bytes.as_slice()) {
+        Err(DecodeFault::Memory) => Err(AllocError),
+        Err(DecodeFault::Refused(refusal)) => Ok(quiet(alloc, Outcome::Undecoded(refusal))),
         Ok(Message::Advertisement { .. }) => Ok(quiet(alloc, Outcome::WrongKind(2))),
+        // The relay doesn't answer Requests yet, and so treats them as a type that isn't read yet.
+        Ok(Message::Request { .. }) => Ok(quiet(alloc, Outcome::Undecoded(Refused::NotYet(3)))),
+        Ok(Message::Query { .. }) => Ok(quiet(alloc, Outcome::WrongKind(4))),
         Ok(Message::Discovery { nonce }) => {
             let relay = settings.relay;
             let sends = send_message(alloc, source, &Message::Advertisement { nonce, relay })?;

@@ -55,6 +55,21 @@ fn every_other_datagram_is_refused_and_not_answered(rt: HostRuntime) -> Result<(
             [2, 0, 0, 0, 1, 2, 3, 4, 192, 0, 2, 1].as_slice(),
             Outcome::WrongKind(2),
         ),
+        (
+            GATEWAY,
+            [3, 0, 0, 0, 1, 2, 3, 4].as_slice(),
+            Outcome::Undecoded(Refused::NotYet(3)),
+        ),
+        (
+            GATEWAY,
+            [
+                4, 0, 1, 2, 3, 4, 5, 6, 1, 2, 3, 4, 0x60, 0, 0, 0, 0, 0, 58, 1, 0xfe, 0x80, 0, 0,
+                0, 0, 0, 0, 0, 0, 0, 0, 0, 0, 0, 1, 0xff, 2, 0, 0, 0, 0, 0, 0, 0, 0, 0, 0, 0, 0, 0,
+                1,
+            ]
+            .as_slice(),
+            Outcome::WrongKind(4),
+        ),
     ];
     for (from, octets, outcome) in rows {
         assert!(rt; octets.len() <= 65535);
