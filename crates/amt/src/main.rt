@@ -5,8 +5,9 @@
 //! No standard.
 #![tactic(auto)]
 
-use amt_command::amt;
+use amt_command::{amt, amt_without_memory};
 use amt_ports::{ReaderSource, WriterSink};
+use std::io::ErrorKind;
 use std::process::ExitCode;
 use std::rt::Env;
 use std::{env, io};
@@ -24,7 +25,13 @@ fn main(rt: HostRuntime) -> ExitCode {
     let mut input = ReaderSource::new(rt.stdin());
     let mut out = WriterSink::new(rt.stdout());
     let mut err = WriterSink::new(rt.stderr());
-    // Words that can't be read, as those that aren't UTF-8, are no line of the command.
-    let words = words(&rt).unwrap_or(Vec::new(rt.alloc()));
+    let words = match words(&rt) {
+        Ok(words) => words,
+        Err(error) if error.kind() == ErrorKind::OutOfMemory => {
+            return ExitCode::from(amt_without_memory(&mut err));
+        }
+        // Words that can't be read, as those that aren't UTF-8, are no line of the command.
+        Err(_) => Vec::new(rt.alloc()),
+    };
     ExitCode::from(amt(rt.alloc(), &words, &mut input, &mut out, &mut err))
 }

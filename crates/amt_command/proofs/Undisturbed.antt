@@ -1,7 +1,7 @@
 -- Where nothing disturbs a run, the octets alone decide how it ends, but for want of memory.
 use Rattle.std.proofs.Common.{◌≡◌, ℕ, ◌≤◌, ◌⊎◌, Option, Some, List, length, Result, Ok, Err, IsOk, OnOk, IsErrOf, inl, inr, refl, sym, subst, arith}
 use Rattle.amt_ports.specs.Reading.{TakesAll, TakesMore}
-use Rattle.amt_ports.specs.declared.reading.TheConstants.{INPUT_LIMIT}
+use Rattle.amt_values.specs.declared.bytes.TheConstants.{INPUT_LIMIT}
 use Rattle.amt_ports.proofs.Taken.{TakesAll-told, TakesMore-told}
 use Rattle.amt_command.specs.declared.ending.Ending.{Ending}
 use Rattle.amt_command.specs.declared.ending.Ending.TheVariants.{Usage, NoScript, ReadFault, WriteFault, Memory, TooLong}

@@ -4,7 +4,7 @@ use Rattle.std.specs.List.{list_any}
 use Rattle.std.specs.Io.KnownBytes.{Appends}
 use Rattle.amt_ports.specs.Causes.{Rose}
 use Rattle.amt_ports.specs.Reading.{TakesAll}
-use Rattle.amt_ports.specs.declared.reading.TheConstants.{INPUT_LIMIT}
+use Rattle.amt_values.specs.declared.bytes.TheConstants.{INPUT_LIMIT}
 use Rattle.amt_command.specs.declared.script.Script.{Script}
 use Rattle.amt_command.specs.Script.{IsRelayScript}
 use Rattle.amt_command.specs.Texts.{text_of}
@@ -48,18 +48,15 @@ IsStatus status = IsTrue (list_any (λ known. known == status) (0 ∷ 2 ∷ 3 �
 abbrev pub IsQuiet : ℕ → Type 0
 IsQuiet status = IsTrue (list_any (λ known. known == status) (2 ∷ 3 ∷ 4 ∷ 8 ∷ []))
 
--- the line on standard error, without its line feed
-abbrev pub message_of_status : ℕ → List ℕ
-message_of_status status =
-    if status == 2 then codes "amt: usage: replay relay|gateway|pair, dump, vectors, load SEED N, relay FILE, gateway FILE"
-    else (if status == 3 then codes "amt: script fault"
-    else (if status == 4 then codes "amt: read fault"
-    else (if status == 5 then codes "amt: write fault"
-    else (if status == 7 then codes "amt: out of memory" else codes "amt: input too long"))))
-
--- what is written to standard error
+-- what is written to standard error, which is nothing for status 0
 abbrev pub status_line : ℕ → List ℕ
-status_line status = if status == 0 then [] else message_of_status status ++ (10 ∷ [])
+status_line status =
+    if status == 2 then codes "amt: usage: replay relay|gateway|pair, dump, vectors, load SEED N, relay FILE, gateway FILE" ++ (10 ∷ [])
+    else (if status == 3 then codes "amt: script fault" ++ (10 ∷ [])
+    else (if status == 4 then codes "amt: read fault" ++ (10 ∷ [])
+    else (if status == 5 then codes "amt: write fault" ++ (10 ∷ [])
+    else (if status == 7 then codes "amt: out of memory" ++ (10 ∷ [])
+    else (if status == 8 then codes "amt: input too long" ++ (10 ∷ []) else [])))))
 
 -- the words are those of the command, the input tells these bytes, and neither it nor the output
 -- failed, by their counts before and after

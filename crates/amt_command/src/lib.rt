@@ -16,7 +16,7 @@ mod statement;
 mod text;
 mod top;
 
-pub use top::amt;
+pub use top::{amt, amt_without_memory};
 
 #[cfg(test)]
 mod tests;

@@ -1,4 +1,4 @@
-ghost use Rattle.std.specs.Prelude.{◌≡◌, [], ◌∷◌, ◌++◌, length, OnErr, IfOk};
+ghost use Rattle.std.specs.Prelude.{◌≡◌, [], ◌∷◌, ◌++◌, length, OnErr, OnOk};
 
 use relay_machine::{Event, Settings};
 use std::alloc::{AllocError, Global};
@@ -35,7 +35,7 @@ impl Events {
     }
 
     pub fn push(&mut self, event: Event) -> Result<(), AllocError>
-        ensures ok { IfOk result (λ _. self.new ≡ self.old ++ event ∷ []) }
+        ensures ok { OnOk result (self.new ≡ self.old ++ event ∷ []) }
         ensures err { OnErr result (self.new ≡ self.old) }
     {
         self.events.push(event)?;

@@ -232,11 +232,37 @@ fn a_device_that_fails_at_any_call_shows_in_the_status(rt: HostRuntime) -> Resul
 #[test]
 fn a_report_that_can_not_be_written_leaves_the_status(rt: HostRuntime) -> Result<(), Fail> {
     let failing = Failing { err: 1, ..NO_CALL };
-    for (line, script, status) in [("jump", "", 2), ("replay relay", "jump\n", 3)] {
-        let script = Bytes::copied(rt.alloc(), script.as_bytes())?;
+    let too_long = Bytes::from(vec![in rt.alloc(); b'\n'; 16_777_217]?);
+    let rows = [
+        ("jump", Bytes::new(rt.alloc()), failing, 2),
+        (
+            "replay relay",
+            Bytes::copied(rt.alloc(), b"jump")?,
+            failing,
+            3,
+        ),
+        (
+            "replay relay",
+            Bytes::new(rt.alloc()),
+            Failing {
+                input: 1,
+                ..failing
+            },
+            4,
+        ),
+        ("replay relay", too_long, failing, 8),
+    ];
+    for (line, script, failing, status) in rows {
         let ended = run(rt.alloc(), line, script, failing)?;
         assert_eq!(rt; ended.status, status, "{line}");
         assert_eq!(rt; ended.err.as_slice(), b"".as_slice(), "{line}");
     }
     Ok(())
+}
+
+#[test]
+fn no_memory_for_the_words_is_status_7(rt: HostRuntime) {
+    let mut err = MemSink::new(rt.alloc());
+    assert_eq!(rt; amt_without_memory(&mut err), 7);
+    assert_eq!(rt; err.as_slice(), b"amt: out of memory\n".as_slice());
 }

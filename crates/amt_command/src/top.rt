@@ -2,7 +2,7 @@ ghost use Rattle.std.specs.Prelude.{◌≡◌, ◌≢◌, ◌<◌, ◌≤◌, �
 ghost use Rattle.std.specs.Io.KnownBytes.{Appends};
 ghost use Rattle.amt_ports.specs.Causes.{Rose};
 ghost use Rattle.amt_ports.specs.Reading.{TakesAll, TakesAtMost, TakesMore};
-ghost use Rattle.amt_ports.specs.declared.reading.TheConstants.{INPUT_LIMIT};
+ghost use Rattle.amt_values.specs.declared.bytes.TheConstants.{INPUT_LIMIT};
 ghost use Rattle.amt_command.specs.declared.script.Script.{Script as ScriptValue};
 ghost use Rattle.amt_command.specs.Command.{IsReplayRelay, Replays, BeginsToReplay, SpellsNothing, IsStatus, IsQuiet, IsUndisturbed, HasOneScript, status_line};
 ghost use Rattle.amt_command.specs.Ending.{status_of};
@@ -37,17 +37,23 @@ fn are_replay_relay(words: &[String]) -> bool
 }
 
 fn replay_relay<S: Source, O: Sink>(alloc: Global, input: &mut S, out: &mut O) -> Result<(), Ending>
-    ensures done { OnOk result (Replays (S.left input.old) (S.left input.new) (O.written out.old) (O.written out.new)) }
-    ensures begun { IsErrOf result Ending.WriteFault → BeginsToReplay (S.left input.old) (S.left input.new) (O.written out.old) (O.written out.new) }
-    ensures memory { IsErrOf result Ending.Memory → (out.new ≡ out.old) ⊎ BeginsToReplay (S.left input.old) (S.left input.new) (O.written out.old) (O.written out.new) }
-    ensures quiet { IfErr result (λ ending. ending ≢ Ending.WriteFault → ending ≢ Ending.Memory → out.new ≡ out.old) }
+    ensures done { OnOk result (Replays (S.left input.old) (S.left input.new)
+        (O.written out.old) (O.written out.new)) }
+    ensures begun { IsErrOf result Ending.WriteFault
+        → BeginsToReplay (S.left input.old) (S.left input.new) (O.written out.old) (O.written out.new) }
+    ensures memory { IsErrOf result Ending.Memory → (out.new ≡ out.old)
+        ⊎ BeginsToReplay (S.left input.old) (S.left input.new) (O.written out.old) (O.written out.new) }
+    ensures quiet { IfErr result (λ ending. ending ≢ Ending.WriteFault → ending ≢ Ending.Memory
+        → out.new ≡ out.old) }
 
     ensures no_usage { IsErrOf result Ending.Usage → ⊥ }
     ensures script { IsErrOf result Ending.NoScript → SpellsNothing (S.left input.old) (S.left input.new) }
     ensures read { IsErrOf result Ending.ReadFault → Rose (S.faults input.old) (S.faults input.new) }
     ensures write { IsErrOf result Ending.WriteFault → Rose (O.faults out.old) (O.faults out.new) }
-    ensures too_long { IsErrOf result Ending.TooLong → TakesMore INPUT_LIMIT (S.left input.old) (S.left input.new) }
-    ensures within { (IsErrOf result Ending.TooLong → ⊥) → TakesAtMost INPUT_LIMIT (S.left input.old) (S.left input.new) }
+    ensures too_long { IsErrOf result Ending.TooLong
+        → TakesMore INPUT_LIMIT (S.left input.old) (S.left input.new) }
+    ensures within { (IsErrOf result Ending.TooLong → ⊥)
+        → TakesAtMost INPUT_LIMIT (S.left input.old) (S.left input.new) }
 {
     let bytes = match read_all(alloc, input) {
         Ok(bytes) => bytes,
@@ -74,19 +80,25 @@ fn run<S: Source, O: Sink>(
     out: &mut O,
 ) -> Result<(), Ending>
     ensures usage { IsErrOf result Ending.Usage ↔ (IsReplayRelay (map string_bytes words.now) → ⊥) }
+    ensures words { IsErrOf result Ending.Usage ⊎ IsReplayRelay (map string_bytes words.now) }
+    ensures untouched { IsErrOf result Ending.Usage → input.new ≡ input.old }
 
-    ensures done { OnOk result (Replays (S.left input.old) (S.left input.new) (O.written out.old) (O.written out.new)) }
+    ensures done { OnOk result (Replays (S.left input.old) (S.left input.new)
+        (O.written out.old) (O.written out.new)) }
     ensures begun { IsErrOf result Ending.WriteFault
         → BeginsToReplay (S.left input.old) (S.left input.new) (O.written out.old) (O.written out.new) }
     ensures memory { IsErrOf result Ending.Memory → (out.new ≡ out.old)
         ⊎ BeginsToReplay (S.left input.old) (S.left input.new) (O.written out.old) (O.written out.new) }
-    ensures quiet { IfErr result (λ ending. ending ≢ Ending.WriteFault → ending ≢ Ending.Memory → out.new ≡ out.old) }
+    ensures quiet { IfErr result (λ ending. ending ≢ Ending.WriteFault → ending ≢ Ending.Memory
+        → out.new ≡ out.old) }
 
     ensures script { IsErrOf result Ending.NoScript → SpellsNothing (S.left input.old) (S.left input.new) }
     ensures read { IsErrOf result Ending.ReadFault → Rose (S.faults input.old) (S.faults input.new) }
     ensures write { IsErrOf result Ending.WriteFault → Rose (O.faults out.old) (O.faults out.new) }
-    ensures too_long { IsErrOf result Ending.TooLong → TakesMore INPUT_LIMIT (S.left input.old) (S.left input.new) }
-    ensures within { (IsErrOf result Ending.TooLong → ⊥) → TakesAtMost INPUT_LIMIT (S.left input.old) (S.left input.new) }
+    ensures too_long { IsErrOf result Ending.TooLong
+        → TakesMore INPUT_LIMIT (S.left input.old) (S.left input.new) }
+    ensures within { (IsErrOf result Ending.TooLong → ⊥)
+        → TakesAtMost INPUT_LIMIT (S.left input.old) (S.left input.new) }
 {
     if !are_replay_relay(words) {
         return Err(Ending::Usage);
@@ -114,6 +126,9 @@ fn report<E: Sink>(ending: &Result<(), Ending>, err: &mut E)
 }
 
 /// The command `amt`: takes the words after the program's name, and answers the exit status.
+///
+/// The words are judged first, then the input is read whole, then it is read as a script; only then
+/// is a step taken and something written to `out`.
 pub fn amt<S: Source, O: Sink, E: Sink>(
     alloc: Global,
     words: &[String],
@@ -121,7 +136,9 @@ pub fn amt<S: Source, O: Sink, E: Sink>(
     out: &mut O,
     err: &mut E,
 ) -> u8
-    ensures done { result ≡ 0 → Replays (S.left input.old) (S.left input.new) (O.written out.old) (O.written out.new) }
+    ensures done { result ≡ 0 → Replays (S.left input.old) (S.left input.new)
+        (O.written out.old) (O.written out.new) }
+    ensures words { (result ≡ 2) ⊎ IsReplayRelay (map string_bytes words.now) }
     ensures usage { (result ≡ 2) ↔ (IsReplayRelay (map string_bytes words.now) → ⊥) }
     ensures script { result ≡ 3 → SpellsNothing (S.left input.old) (S.left input.new) }
     ensures read { result ≡ 4 → Rose (S.faults input.old) (S.faults input.new) }
@@ -130,7 +147,7 @@ pub fn amt<S: Source, O: Sink, E: Sink>(
     ensures within { (result ≡ 8 → ⊥) → TakesAtMost INPUT_LIMIT (S.left input.old) (S.left input.new) }
     ensures statuses { IsStatus result }
 
-    // Where nothing disturbs the run, the bytes alone decide, but for want of memory.
+    // Where nothing disturbs the run, the octets alone decide, but for want of memory.
     ensures complete { (bytes : List ℕ) (script : ScriptValue)
         → IsUndisturbed (map string_bytes words.now) (S.left input.old) bytes
         (S.faults input.old) (S.faults input.new) (O.faults out.old) (O.faults out.new)
@@ -146,14 +163,28 @@ pub fn amt<S: Source, O: Sink, E: Sink>(
         → INPUT_LIMIT < length bytes → (result ≡ 8) ⊎ (result ≡ 7) }
     ensures one_script { HasOneScript }
 
+    // What is written, and what is left alone.
+    ensures untouched { result ≡ 2 → input.new ≡ input.old }
     ensures quiet { IsQuiet result → out.new ≡ out.old }
-    ensures begun { result ≡ 5 → BeginsToReplay (S.left input.old) (S.left input.new) (O.written out.old) (O.written out.new) }
+    ensures begun { result ≡ 5 → BeginsToReplay (S.left input.old) (S.left input.new)
+        (O.written out.old) (O.written out.new) }
     ensures memory { result ≡ 7 → (out.new ≡ out.old)
         ⊎ BeginsToReplay (S.left input.old) (S.left input.new) (O.written out.old) (O.written out.new) }
     ensures line { (Rose (E.faults err.old) (E.faults err.new) → ⊥)
         → Appends (E.written err.old) (E.written err.new) (status_line result) }
 {
     let ending = run(alloc, words, input, out);
+    report(&ending, err);
+    status_of(&ending)
+}
+
+/// What `amt` answers where there is no memory for its words.
+pub fn amt_without_memory<E: Sink>(err: &mut E) -> u8
+    ensures status { result ≡ 7 }
+    ensures line { (Rose (E.faults err.old) (E.faults err.new) → ⊥)
+        → Appends (E.written err.old) (E.written err.new) (status_line result) }
+{
+    let ending = Err(Ending::Memory);
     report(&ending, err);
     status_of(&ending)
 }

@@ -6,7 +6,8 @@ use Rattle.std.proofs.lemmas.Nat.Bits.{bit_at_lowest}
 use Rattle.std.specs.Int.{bit_at}
 use Rattle.std.specs.Option.{is_some}
 use Rattle.byteorder.specs.Endian.{big_number, big_bytes}
-use Rattle.amt_values.proofs.NetworkOrder.{AreOctets, AreOctets-drop, bytes_high_first-big_from, bytes_high_first-take}
+use Rattle.amt_values.proofs.NetworkOrder.{AreOctets-drop, bytes_high_first-big_from, bytes_high_first-take}
+use Rattle.amt_values.specs.Octets.{AreOctets}
 use Rattle.amt_values.specs.Address.{is_mapped}
 use Rattle.amt_values.specs.Tunnel.{Tunnel}
 use Rattle.amt_values.specs.declared.address.Ip.{Ip}

@@ -5,7 +5,8 @@ use Rattle.std.specs.Int.{bit_at}
 use Rattle.std.specs.Option.{is_some}
 use Rattle.byteorder.specs.Endian.{big_number, big_bytes}
 use Rattle.byteorder.specs.Numbers.{big_number-reads_back, length-bytes_high_first}
-use Rattle.amt_values.proofs.NetworkOrder.{AreOctets, big_from-bytes_high_first}
+use Rattle.amt_values.proofs.NetworkOrder.{big_from-bytes_high_first}
+use Rattle.amt_values.specs.Octets.{AreOctets}
 use Rattle.amt_values.specs.Address.{is_mapped}
 use Rattle.amt_values.specs.Endpoint.{endpoint_named}
 use Rattle.amt_values.specs.Tunnel.{Tunnel}

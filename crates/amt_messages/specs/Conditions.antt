@@ -1,6 +1,6 @@
 -- Which messages there are, and which may be written.
 use Rattle.std.specs.Prelude.{◌≡◌, ℕ, ◌+◌, ◌<◌, ◌≤◌, ◌^◌, false, List, length, Option, Some, None}
-use Rattle.amt_values.proofs.NetworkOrder.{AreOctets}
+use Rattle.amt_values.specs.Octets.{AreOctets}
 use Rattle.amt_values.specs.Address.{is_mapped}
 use Rattle.amt_values.specs.Tunnel.{Tunnel}
 use Rattle.amt_values.specs.declared.address.Ip.{Ip}

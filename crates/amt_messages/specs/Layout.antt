@@ -1,7 +1,7 @@
 -- Which octets spell which message. Reserved bits are not spoken of, so a reader ignores them.
 use Rattle.std.specs.Prelude.{◌≡◌, ℕ, ◌+◌, ◌<◌, ◌/◌, ◌^◌, ◌==◌, Bool, true, false, List, [], ◌∷◌, ◌++◌, length, drop, take, slice_index, Option, Some, None, is_some, if◌then◌else◌}
 use Rattle.std.specs.Int.{bit_at}
-use Rattle.amt_values.proofs.NetworkOrder.{AreOctets}
+use Rattle.amt_values.specs.Octets.{AreOctets}
 use Rattle.amt_values.specs.Address.{is_mapped}
 use Rattle.amt_values.specs.Endpoint.{endpoint_named}
 use Rattle.amt_values.specs.Tunnel.{Tunnel}

@@ -1,5 +1,5 @@
 ghost use Rattle.std.specs.Prelude.{◌≡◌, ◌≤◌, ◌++◌, ℕ, List, Some, length, IfOk, OnOk};
-ghost use Rattle.amt_values.proofs.NetworkOrder.{AreOctets};
+ghost use Rattle.amt_values.specs.Octets.{AreOctets};
 ghost use Rattle.amt_messages.specs.declared.message.Message.TheVariants.{Discovery, Advertisement, Request, Query};
 ghost use Rattle.amt_messages.specs.Conditions.{IsSeen, IsSendable};
 ghost use Rattle.amt_messages.specs.Inner.{inner_length_of};

@@ -18,7 +18,7 @@ mod writing;
 pub use adapters::{ReaderSource, WriterSink};
 pub use fault::Failed;
 pub use memory::{FaultlessSource, MemSink, MemSource};
-pub use reading::{INPUT_LIMIT, READ_SIZE, ReadAllFault, read_all};
+pub use reading::{READ_SIZE, ReadAllFault, read_all};
 pub use sink::Sink;
 pub use source::Source;
 pub use writing::{WriteFault, write_all_own};

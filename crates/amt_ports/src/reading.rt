@@ -3,11 +3,8 @@ ghost use Rattle.amt_ports.specs.Causes.{Rose};
 ghost use Rattle.amt_ports.specs.Reading.{TakesAll, TakesAtMost, TakesMore};
 
 use crate::Source;
-use amt_values::Bytes;
+use amt_values::{Bytes, INPUT_LIMIT};
 use std::alloc::Global;
-
-/// The most bytes of one input. It bounds the memory that a hostile input can claim.
-pub const INPUT_LIMIT: usize = 16_777_216;
 
 /// How many bytes one read asks for.
 pub const READ_SIZE: usize = 4096;

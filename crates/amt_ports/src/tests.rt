@@ -1,8 +1,10 @@
+ghost use Rattle.std.specs.Prelude.{◌≤◌, IfOk};
+
 use super::*;
-use amt_values::Bytes;
+use amt_values::{Bytes, INPUT_LIMIT};
 use std::alloc::{AllocError, Global};
 use std::io;
-use std::io::{ErrorKind, Read};
+use std::io::{ErrorKind, Read, Write};
 use std::test::Fail;
 
 // More than one buffer, and less than two.
@@ -76,22 +78,40 @@ fn a_std_reader_is_read_to_its_end(rt: HostRuntime) -> Result<(), Fail> {
     Ok(())
 }
 
-// A reader that is interrupted, gives one byte, and then fails.
+// A device that is interrupted, moves one byte, and then fails.
 #[derive(Drop)]
 struct Faltering {
     calls: u8,
 }
 
-impl Read for Faltering {
-    fn read(&mut self, buf: &mut [u8]) -> io::Result<usize> {
+impl Faltering {
+    fn call(&mut self, room: usize) -> io::Result<usize>
+        ensures { IfOk result (λ n. n ≤ room) }
+    {
         self.calls = self.calls.saturating_add(1);
         if self.calls == 1 {
             return Err(io::Error::from(ErrorKind::Interrupted));
         }
-        if self.calls == 2 && !buf.is_empty() {
+        if self.calls == 2 && room > 0 {
             return Ok(1);
         }
         Err(io::Error::from(ErrorKind::BrokenPipe))
+    }
+}
+
+impl Read for Faltering {
+    fn read(&mut self, buf: &mut [u8]) -> io::Result<usize> {
+        self.call(buf.len())
+    }
+}
+
+impl Write for Faltering {
+    fn write(&mut self, buf: &[u8]) -> io::Result<usize> {
+        self.call(buf.len())
+    }
+
+    fn flush(&mut self) -> io::Result<()> {
+        Ok(())
     }
 }
 
@@ -112,6 +132,15 @@ fn a_std_writer_is_given_all(rt: HostRuntime) -> Result<(), Fail> {
     assert_eq!(rt; write_all_own(&mut sink, b"gateway"), Ok(()));
     assert_eq!(rt; written.as_slice(), b"gateway".as_slice());
     Ok(())
+}
+
+#[test]
+fn an_interrupted_write_is_no_fault_and_a_failed_one_is(rt: HostRuntime) {
+    let mut sink = WriterSink::new(Faltering { calls: 0 });
+    assert_eq!(rt; sink.write(b"gateway"), Ok(1));
+    assert_eq!(rt; sink.faults(), 0);
+    assert_eq!(rt; sink.write(b"gateway"), Err(Failed));
+    assert_eq!(rt; sink.faults(), 1);
 }
 
 #[test]

@@ -12,7 +12,8 @@ use Rattle.std.specs.Net.Text.{ipv4_text}
 use Rattle.std.specs.declared.net.ipv4_addr.Ipv4Addr.{Ipv4Addr}
 use Rattle.amt_values.specs.Text.{v4_text}
 use Rattle.amt_values.proofs.Cuts.{Lacks}
-use Rattle.amt_values.proofs.NetworkOrder.{AreOctets, AreOctets-bytes_high_first}
+use Rattle.amt_values.proofs.NetworkOrder.{AreOctets-bytes_high_first}
+use Rattle.amt_values.specs.Octets.{AreOctets}
 
 four_octets : (a b c d : ℕ) → a < 256 → b < 256 → c < 256 → d < 256 → AreOctets (a ∷ b ∷ c ∷ d ∷ [])
 four_octets a b c d small_a small_b small_c small_d zero = small_a

@@ -5,11 +5,8 @@ use Rattle.std.proofs.lemmas.Nat.{div-mul-add}
 use Rattle.std.proofs.lemmas.List.{append-nil}
 use Rattle.std.specs.Int.{byte_at, bytes_high_first}
 use Rattle.byteorder.specs.Endian.{big_from}
+use Rattle.amt_values.specs.Octets.{AreOctets}
 use Rattle.byteorder.specs.Numbers.{big_from-cons, big_from-take, big_from-lt, big_number-reads_back, length-bytes_high_first}
-
--- each item is an octet
-abbrev pub AreOctets : List ℕ → Type 0
-AreOctets xs = (k : ℕ) → slice_index xs k < 256
 
 -- a number in two parts has its low part, below the base, as remainder
 same_low : (a b base r s : ℕ) → r < base → s < base → a * base + r ≡ b * base + s → r ≡ s

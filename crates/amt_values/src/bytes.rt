@@ -3,6 +3,11 @@ ghost use Rattle.std.specs.Prelude.{◌≡◌, [], ◌∷◌, ◌++◌, length, 
 use std::alloc::{AllocError, Global};
 use std::marker::Model;
 
+/// The most octets of one input, and of a slice that a call is handed, where it says so: 16 MiB.
+///
+/// It bounds the memory that a hostile input can claim.
+pub const INPUT_LIMIT: usize = 16_777_216;
+
 /// A list of octets that owns its memory.
 #[derive(Debug, Drop)]
 pub struct Bytes {

@@ -19,7 +19,7 @@ mod peer;
 mod text;
 
 pub use address::{Ip, from_wire16, wire16};
-pub use bytes::Bytes;
+pub use bytes::{Bytes, INPUT_LIMIT};
 pub use cut::cut_at;
 pub use endpoint::Endpoint;
 pub use group::forwardable;

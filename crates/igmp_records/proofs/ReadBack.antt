@@ -1,6 +1,6 @@
 -- A written query is read back.
 use Rattle.std.proofs.Common.{◌<◌, ◌≤◌, [], ◌∷◌, refl, arith, rules}
-use Rattle.amt_values.proofs.NetworkOrder.{AreOctets}
+use Rattle.amt_values.specs.Octets.{AreOctets}
 use Rattle.inner_datagrams.specs.Checksum.{IsRight}
 use Rattle.inner_datagrams.proofs.Octets.{AreOctets-from_each}
 use Rattle.inner_datagrams.proofs.RightSum.{IsRight-filled}

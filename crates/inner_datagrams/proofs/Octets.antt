@@ -1,6 +1,6 @@
 -- Octets, one by one.
 use Rattle.std.proofs.Common.{ℕ, zero, suc, ◌<◌, List, [], ◌∷◌, arith}
-use Rattle.amt_values.proofs.NetworkOrder.{AreOctets}
+use Rattle.amt_values.specs.Octets.{AreOctets}
 
 -- each item is an octet, as facts side by side
 abbrev pub EachIsOctet : List ℕ → Type 0

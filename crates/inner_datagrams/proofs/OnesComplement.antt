@@ -2,7 +2,7 @@
 -- zero together.
 use Rattle.std.proofs.Common.{◌≡◌, ℕ, zero, suc, ◌+◌, ◌%◌, ◌↔◌, ◌<◌, List, [], ◌∷◌, slice_index, sum, min, arith}
 use Rattle.std.proofs.lemmas.List.Sums.{sum_by-cons}
-use Rattle.amt_values.proofs.NetworkOrder.{AreOctets}
+use Rattle.amt_values.specs.Octets.{AreOctets}
 use Rattle.inner_datagrams.specs.Checksum.{words, ones_add, ones_sum}
 
 -- each word has 16 bits

@@ -2,7 +2,7 @@
 use Rattle.std.proofs.Common.{◌≡◌, ℕ, zero, suc, ◌+◌, ◌-◌, ◌*◌, ◌/◌, ◌%◌, ◌<◌, List, [], ◌∷◌, ◌++◌, length, sum, refl, ap, arith}
 use Rattle.std.proofs.lemmas.List.Sums.{sum_by-cons, sum_by-append}
 use Rattle.byteorder.specs.Endian.{big_bytes}
-use Rattle.amt_values.proofs.NetworkOrder.{AreOctets}
+use Rattle.amt_values.specs.Octets.{AreOctets}
 use Rattle.inner_datagrams.specs.Checksum.{words, ones_sum, internet_sum_of, IsRight}
 use Rattle.inner_datagrams.proofs.OnesComplement.{AreWords, AreWords-words, StandsFor, StandsFor-ones_sum}
 

@@ -1,8 +1,7 @@
 ghost use Rattle.std.specs.Prelude.{◌≡◌, ◌≤◌, ◌%◌, ◌↔◌, length};
 ghost use Rattle.inner_datagrams.specs.Checksum.{internet_sum_of};
 
-/// The most bytes of which a checksum is taken, 16 MiB.
-pub const BYTES_LIMIT: usize = 16_777_216;
+use amt_values::INPUT_LIMIT;
 
 // Adds what a sum carries beyond 16 bits in at its low end, until nothing is carried. This keeps
 // the remainder by ffff, but ffff and 0 share one: only a sum of 0 may become 0.
@@ -19,7 +18,7 @@ fn carried_around(mut sum: u64) -> u16
 /// The Internet checksum of RFC 1071: the one's complement of the one's complement sum of the
 /// words of 16 bits, where a zero follows an odd last octet.
 pub fn internet_sum(bytes: &[u8]) -> u16
-    requires { length bytes.now ≤ BYTES_LIMIT }
+    requires { length bytes.now ≤ INPUT_LIMIT }
     ensures { result ≡ internet_sum_of bytes.now }
 {
     let (pairs, odd) = bytes.as_chunks::<2>();

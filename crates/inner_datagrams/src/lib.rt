@@ -9,7 +9,7 @@
 mod checksum;
 mod ipv4;
 
-pub use checksum::{BYTES_LIMIT, internet_sum};
+pub use checksum::internet_sum;
 pub use ipv4::{PAYLOAD_LIMIT, write_inner4};
 
 #[cfg(test)]

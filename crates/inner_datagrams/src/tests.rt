@@ -1,4 +1,5 @@
 use super::*;
+use amt_values::INPUT_LIMIT;
 use std::test::Fail;
 
 #[test]
@@ -31,7 +32,7 @@ fn sums_are_those_of_the_standard(rt: HostRuntime) {
         ("no octet", &[], 0xffff),
     ];
     for (what, bytes, sum) in rows {
-        assert!(rt; bytes.len() <= BYTES_LIMIT);
+        assert!(rt; bytes.len() <= INPUT_LIMIT);
         assert_eq!(rt; internet_sum(bytes), sum, "{what}");
     }
 }

@@ -26,7 +26,7 @@ judged (Some source) (Ok (Query limited mac nonce inner seen)) = WrongKind 4
 judged (Some source) (Ok (Discovery nonce)) = Advertised
 
 -- a Discovery is answered by an Advertisement of its nonce and the relay's address, to its source
--- (RFC 7450, section 5.3.2); nothing else is answered
+-- (RFC 7450, section 5.3.3); nothing else is answered
 abbrev pub replies : Settings → Option Tunnel → Result Message Refused → List OneSend
 replies settings None reading = []
 replies settings (Some source) (Err refusal) = []

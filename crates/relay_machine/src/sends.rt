@@ -1,4 +1,4 @@
-ghost use Rattle.std.specs.Prelude.{◌≡◌, [], ◌∷◌, ◌++◌, length, OnErr, IfOk};
+ghost use Rattle.std.specs.Prelude.{◌≡◌, [], ◌∷◌, ◌++◌, length, OnErr, OnOk};
 
 use crate::outcome::Outcome;
 use amt_values::{Bytes, Endpoint};
@@ -49,7 +49,7 @@ impl Sends {
     }
 
     pub fn push(&mut self, send: OneSend) -> Result<(), AllocError>
-        ensures ok { IfOk result (λ _. self.new ≡ self.old ++ send ∷ []) }
+        ensures ok { OnOk result (self.new ≡ self.old ++ send ∷ []) }
         ensures err { OnErr result (self.new ≡ self.old) }
     {
         self.sends.push(send)?;

@@ -27,7 +27,8 @@ fn authenticated_octets(endpoint: &Endpoint, nonce: u32) -> [u8; 22]
     octets
 }
 
-// RFC 2104, section 5, recommends 80 bits or more, and the field of RFC 7450 has 48.
+// RFC 2104, section 5, recommends half of the digest, which is 128 bits; the field of RFC 7450,
+// section 5.1.4.6, has 48.
 fn truncated(digest: &[u8; 32]) -> Mac48
     ensures { result ≡ leftmost_48_bits digest.now }
 {

@@ -1,8 +1,8 @@
-//! Source filters, group records and the fields of queries, for both address families.
+//! The fields of queries, which the record crates of both address families share.
 //!
-//! Contract: its values mean the same in IGMPv3 and in MLDv2.
+//! Contract: none yet, since it has no call; filters and group records will stand here.
 //! It knows no layout, endpoint or moment.
-//! Standard: RFC 3376, sections 3.2, 4.1 and 5.1.
+//! Standard: RFC 3376, section 4.1; RFC 3810, section 5.1.
 #![tactic(auto)]
 
 mod query;

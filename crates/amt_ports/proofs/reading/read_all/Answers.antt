@@ -1,7 +1,8 @@
 -- What was taken at a refusal is what was read before it and in the last read.
 use Rattle.std.proofs.Common.{◌+◌, arith}
 use Rattle.amt_ports.proofs.Taken.{TakesAtMost-read, TakesMore-read}
-use Rattle.amt_ports.specs.declared.reading.TheConstants.{INPUT_LIMIT, READ_SIZE}
+use Rattle.amt_values.specs.declared.bytes.TheConstants.{INPUT_LIMIT}
+use Rattle.amt_ports.specs.declared.reading.TheConstants.{READ_SIZE}
 use Rattle.amt_ports.proofs.reading.read_all.Goals as goal
 
 pub returns-then-count-len-clause-too_long : goal.returns-then-count-len-clause-too_long

@@ -1,7 +1,7 @@
 -- What was read so far was taken, and each turn brings it nearer to the limit.
 use Rattle.std.proofs.Common.{◌≤◌, ◌-◌, length}
 use Rattle.std.specs.Io.KnownBytes.{Consumes}
-use Rattle.amt_ports.specs.declared.reading.TheConstants.{INPUT_LIMIT}
+use Rattle.amt_values.specs.declared.bytes.TheConstants.{INPUT_LIMIT}
 use Rattle.amt_ports.proofs.reading.read_all.Given as goal
 
 abbrev pub invariant-loop-count : goal.invariant-loop-count

@@ -1,6 +1,7 @@
 use Rattle.std.proofs.Common.{ℕ, ◌≡◌, ◌∙◌, sym, ap, length, rules}
 use Rattle.std.specs.Int.{bytes_high_first}
-use Rattle.amt_values.proofs.NetworkOrder.{AreOctets, bytes_high_first-big_from}
+use Rattle.amt_values.proofs.NetworkOrder.{bytes_high_first-big_from}
+use Rattle.amt_values.specs.Octets.{AreOctets}
 use Rattle.amt_values.proofs.octets.address_of_octets.Goals as goal
 
 pub returns-clause-octets : goal.returns-clause-octets

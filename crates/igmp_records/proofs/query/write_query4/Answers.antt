@@ -1,6 +1,6 @@
 use Rattle.std.proofs.Common.{◌≡◌, ℕ, List, sym, subst, ◌∙◌, rules}
 use Rattle.std.proofs.lemmas.Result.{IfOk-weaker}
-use Rattle.amt_values.proofs.NetworkOrder.{AreOctets}
+use Rattle.amt_values.specs.Octets.{AreOctets}
 use Rattle.igmp_records.specs.Query.{IsGeneralQuery}
 use Rattle.igmp_records.proofs.ReadBack.{IsGeneralQuery-written_query4}
 use Rattle.igmp_records.proofs.query.write_query4.Goals as goal
