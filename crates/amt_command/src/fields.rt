@@ -5,7 +5,8 @@ use amt_values::cut_at;
 
 // What follows the spaces at the front; none where there are spaces alone.
 fn without_leading_spaces(line: &[u8]) -> Option<&[u8]>
-    ensures spaces { IfSome result (λ rest. (n : ℕ) × All (λ octet. octet ≡ 32) (take n line.now) × (rest.now ≡ drop n line.now)) }
+    ensures spaces { IfSome result (λ rest. (n : ℕ) × All (λ octet. octet ≡ 32) (take n line.now)
+        × (rest.now ≡ drop n line.now)) }
     ensures filled { IfSome result (λ rest. (0 < length rest.now) × (slice_index rest.now 0 ≢ 32)) }
     ensures none { IfNone result (All (λ octet. octet ≡ 32) line.now) }
 {
@@ -16,7 +17,8 @@ fn without_leading_spaces(line: &[u8]) -> Option<&[u8]>
 
 // The first field of a line and the octets after it; none where there are spaces alone.
 pub fn next_field(line: &[u8]) -> Option<(&[u8], &[u8])>
-    ensures { MatchOption result (fields line.now ≡ []) (λ parts. fields line.now ≡ parts.0.now ∷ fields parts.1.now) }
+    ensures { MatchOption result (fields line.now ≡ [])
+        (λ parts. fields line.now ≡ parts.0.now ∷ fields parts.1.now) }
 {
     let Some(text) = without_leading_spaces(line) else {
         return None;

@@ -33,7 +33,8 @@ fn is_skipped(line: &[u8]) -> bool
 
 // The next line that says something, and the octets after it; none where no line is left that does.
 fn next_statement(text: &[u8]) -> Result<Option<(&[u8], &[u8])>, LineTooLong>
-    ensures found { IfOk result (λ next. MatchOption next (HasNoStatement text.now) (λ parts. IsNextStatement text.now parts.0.now parts.1.now)) }
+    ensures found { IfOk result (λ next. MatchOption next (HasNoStatement text.now)
+        (λ parts. IsNextStatement text.now parts.0.now parts.1.now)) }
     ensures long { OnErr result (AreShort (lines text.now) → ⊥) }
 {
     let mut left = text;
@@ -51,8 +52,10 @@ fn next_statement(text: &[u8]) -> Result<Option<(&[u8], &[u8])>, LineTooLong>
 }
 
 fn events_of_lines(alloc: Global, text: &[u8]) -> Result<Events, ScriptFault>
-    ensures found { IfOk result (λ events. AreShort (lines text.now) × Each SaysEvent events (statements (lines text.now))) }
-    ensures none { IsErrOf result ScriptFault.NotScript → (events : List EventValue) → AreShort (lines text.now)
+    ensures found { IfOk result (λ events. AreShort (lines text.now)
+        × Each SaysEvent events (statements (lines text.now))) }
+    ensures none { IsErrOf result ScriptFault.NotScript → (events : List EventValue)
+        → AreShort (lines text.now)
         → Each SaysEvent events (statements (lines text.now)) → ⊥ }
 {
     let mut events = Events::new(alloc);
@@ -77,7 +80,8 @@ fn events_of_lines(alloc: Global, text: &[u8]) -> Result<Events, ScriptFault>
 /// Reads a relay's script: its address, and then events.
 pub fn read_script(alloc: Global, bytes: &[u8]) -> Result<Script, ScriptFault>
     ensures found { IfOk result (λ script. IsRelayScript script bytes.now) }
-    ensures none { IsErrOf result ScriptFault.NotScript → (script : ScriptValue) → IsRelayScript script bytes.now → ⊥ }
+    ensures none { IsErrOf result ScriptFault.NotScript → (script : ScriptValue)
+        → IsRelayScript script bytes.now → ⊥ }
 {
     let Ok(Some((line, rest))) = next_statement(bytes) else {
         return Err(ScriptFault::NotScript);

@@ -45,13 +45,18 @@ fn write_step<O: Sink>(
     out: &mut O,
 ) -> Result<(), RunFault>
     requires { IsEvent event.now }
-    ensures done { (settings : SettingsValue) (events : List EventValue) → RelayAt relay.old settings events
+    ensures done { (settings : SettingsValue) (events : List EventValue)
+        → RelayAt relay.old settings events
         → OnOk result (Appends (O.written out.old) (O.written out.new)
-        (step_text number (outcome_of settings events event.now) (sends_of settings events event.now))) }
-    ensures begun { (settings : SettingsValue) (events : List EventValue) → RelayAt relay.old settings events
+        (step_text number (outcome_of settings events event.now)
+        (sends_of settings events event.now))) }
+    ensures begun { (settings : SettingsValue) (events : List EventValue)
+        → RelayAt relay.old settings events
         → OnErr result (WritesFront (O.written out.old) (O.written out.new)
-        (step_text number (outcome_of settings events event.now) (sends_of settings events event.now))) }
-    ensures next { (settings : SettingsValue) (events : List EventValue) → RelayAt relay.old settings events
+        (step_text number (outcome_of settings events event.now)
+        (sends_of settings events event.now))) }
+    ensures next { (settings : SettingsValue) (events : List EventValue)
+        → RelayAt relay.old settings events
         → OnOk result (RelayAt relay.new settings (events ++ event.now ∷ [])) }
 
     ensures later { O.faults out.old ≤ O.faults out.new }
@@ -69,8 +74,10 @@ fn write_step<O: Sink>(
 /// Runs a relay over a script, and writes the text of its steps.
 pub fn run_script<O: Sink>(alloc: Global, script: &Script, out: &mut O) -> Result<(), RunFault>
     requires { AllByRecursion IsEvent script.now.events }
-    ensures done { OnOk result (Appends (O.written out.old) (O.written out.new) (text_of script.now)) }
-    ensures begun { OnErr result (WritesFront (O.written out.old) (O.written out.new) (text_of script.now)) }
+    ensures done { OnOk result (Appends (O.written out.old) (O.written out.new)
+        (text_of script.now)) }
+    ensures begun { OnErr result (WritesFront (O.written out.old) (O.written out.new)
+        (text_of script.now)) }
 
     ensures later { O.faults out.old ≤ O.faults out.new }
     ensures write { IsErrOf result RunFault.Write → Rose (O.faults out.old) (O.faults out.new) }

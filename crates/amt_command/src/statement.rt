@@ -61,7 +61,8 @@ pub fn relay_of_line(line: &[u8]) -> Option<Ip>
 
 fn bytes_of_hex(alloc: Global, text: &[u8]) -> Result<Bytes, ScriptFault>
     ensures found { IfOk result (λ bytes. IsHexText bytes text.now) }
-    ensures none { IsErrOf result ScriptFault.NotScript → (bytes : List ℕ) → IsHexText bytes text.now → ⊥ }
+    ensures none { IsErrOf result ScriptFault.NotScript → (bytes : List ℕ)
+        → IsHexText bytes text.now → ⊥ }
 {
     if text == b"-".as_slice() {
         return Ok(Bytes::new(alloc));
@@ -79,7 +80,8 @@ fn bytes_of_hex(alloc: Global, text: &[u8]) -> Result<Bytes, ScriptFault>
 /// The event of a line `dg PEER HEX`.
 pub fn event_of_line(alloc: Global, line: &[u8]) -> Result<Event, ScriptFault>
     ensures found { IfOk result (λ event. SaysEvent event (fields line.now)) }
-    ensures none { IsErrOf result ScriptFault.NotScript → (event : EventValue) → SaysEvent event (fields line.now) → ⊥ }
+    ensures none { IsErrOf result ScriptFault.NotScript → (event : EventValue)
+        → SaysEvent event (fields line.now) → ⊥ }
 {
     let Some(rest) = after_word(line, b"dg") else {
         return Err(ScriptFault::NotScript);

@@ -40,15 +40,19 @@ fn replay_relay<S: Source, O: Sink>(alloc: Global, input: &mut S, out: &mut O) -
     ensures done { OnOk result (Replays (S.left input.old) (S.left input.new)
         (O.written out.old) (O.written out.new)) }
     ensures begun { IsErrOf result Ending.WriteFault
-        → BeginsToReplay (S.left input.old) (S.left input.new) (O.written out.old) (O.written out.new) }
+        → BeginsToReplay (S.left input.old) (S.left input.new) (O.written out.old)
+        (O.written out.new) }
     ensures memory { IsErrOf result Ending.Memory → (out.new ≡ out.old)
-        ⊎ BeginsToReplay (S.left input.old) (S.left input.new) (O.written out.old) (O.written out.new) }
+        ⊎ BeginsToReplay (S.left input.old) (S.left input.new) (O.written out.old)
+        (O.written out.new) }
     ensures quiet { IfErr result (λ ending. ending ≢ Ending.WriteFault → ending ≢ Ending.Memory
         → out.new ≡ out.old) }
 
     ensures no_usage { IsErrOf result Ending.Usage → ⊥ }
-    ensures script { IsErrOf result Ending.NoScript → SpellsNothing (S.left input.old) (S.left input.new) }
-    ensures read { IsErrOf result Ending.ReadFault → Rose (S.faults input.old) (S.faults input.new) }
+    ensures script { IsErrOf result Ending.NoScript
+        → SpellsNothing (S.left input.old) (S.left input.new) }
+    ensures read { IsErrOf result Ending.ReadFault
+        → Rose (S.faults input.old) (S.faults input.new) }
     ensures write { IsErrOf result Ending.WriteFault → Rose (O.faults out.old) (O.faults out.new) }
     ensures too_long { IsErrOf result Ending.TooLong
         → TakesMore INPUT_LIMIT (S.left input.old) (S.left input.new) }
@@ -86,14 +90,18 @@ fn run<S: Source, O: Sink>(
     ensures done { OnOk result (Replays (S.left input.old) (S.left input.new)
         (O.written out.old) (O.written out.new)) }
     ensures begun { IsErrOf result Ending.WriteFault
-        → BeginsToReplay (S.left input.old) (S.left input.new) (O.written out.old) (O.written out.new) }
+        → BeginsToReplay (S.left input.old) (S.left input.new) (O.written out.old)
+        (O.written out.new) }
     ensures memory { IsErrOf result Ending.Memory → (out.new ≡ out.old)
-        ⊎ BeginsToReplay (S.left input.old) (S.left input.new) (O.written out.old) (O.written out.new) }
+        ⊎ BeginsToReplay (S.left input.old) (S.left input.new) (O.written out.old)
+        (O.written out.new) }
     ensures quiet { IfErr result (λ ending. ending ≢ Ending.WriteFault → ending ≢ Ending.Memory
         → out.new ≡ out.old) }
 
-    ensures script { IsErrOf result Ending.NoScript → SpellsNothing (S.left input.old) (S.left input.new) }
-    ensures read { IsErrOf result Ending.ReadFault → Rose (S.faults input.old) (S.faults input.new) }
+    ensures script { IsErrOf result Ending.NoScript
+        → SpellsNothing (S.left input.old) (S.left input.new) }
+    ensures read { IsErrOf result Ending.ReadFault
+        → Rose (S.faults input.old) (S.faults input.new) }
     ensures write { IsErrOf result Ending.WriteFault → Rose (O.faults out.old) (O.faults out.new) }
     ensures too_long { IsErrOf result Ending.TooLong
         → TakesMore INPUT_LIMIT (S.left input.old) (S.left input.new) }
@@ -144,7 +152,8 @@ pub fn amt<S: Source, O: Sink, E: Sink>(
     ensures read { result ≡ 4 → Rose (S.faults input.old) (S.faults input.new) }
     ensures write { result ≡ 5 → Rose (O.faults out.old) (O.faults out.new) }
     ensures too_long { result ≡ 8 → TakesMore INPUT_LIMIT (S.left input.old) (S.left input.new) }
-    ensures within { (result ≡ 8 → ⊥) → TakesAtMost INPUT_LIMIT (S.left input.old) (S.left input.new) }
+    ensures within { (result ≡ 8 → ⊥)
+        → TakesAtMost INPUT_LIMIT (S.left input.old) (S.left input.new) }
     ensures statuses { IsStatus result }
 
     // Where nothing disturbs the run, the octets alone decide, but for want of memory.
@@ -169,7 +178,8 @@ pub fn amt<S: Source, O: Sink, E: Sink>(
     ensures begun { result ≡ 5 → BeginsToReplay (S.left input.old) (S.left input.new)
         (O.written out.old) (O.written out.new) }
     ensures memory { result ≡ 7 → (out.new ≡ out.old)
-        ⊎ BeginsToReplay (S.left input.old) (S.left input.new) (O.written out.old) (O.written out.new) }
+        ⊎ BeginsToReplay (S.left input.old) (S.left input.new) (O.written out.old)
+        (O.written out.new) }
     ensures line { (Rose (E.faults err.old) (E.faults err.new) → ⊥)
         → Appends (E.written err.old) (E.written err.new) (status_line result) }
 {

@@ -88,12 +88,15 @@ pub fn decode(alloc: Global, bytes: &[u8]) -> Result<Message, DecodeFault>
     requires { length bytes.now ≤ 65535 }
     ensures found { IfOk result (λ message. Spells message bytes.now) }
     ensures only { (message : MessageValue) → Spells message bytes.now → Gives result (Ok message) }
-    ensures back { (message : MessageValue) → IsMessage message → IsSendable message → bytes.now ≡ spelling_of message
+    ensures back { (message : MessageValue) → IsMessage message → IsSendable message
+        → bytes.now ≡ spelling_of message
         → Gives result (Ok message) }
     ensures sendable { IfOk result (λ message. IsSendable message) }
-    ensures one { (message other : MessageValue) → Spells message bytes.now → Spells other bytes.now → message ≡ other }
+    ensures one { (message other : MessageValue) → Spells message bytes.now → Spells other bytes.now
+        → message ≡ other }
 
-    ensures refused { MatchResult result (λ _. first_refusal bytes.now ≡ None) (λ fault. first_refusal bytes.now ≡ refusal_in fault) }
+    ensures refused { MatchResult result (λ _. first_refusal bytes.now ≡ None)
+        (λ fault. first_refusal bytes.now ≡ refusal_in fault) }
     ensures value { Gives result (message_of bytes.now) }
 {
     read(alloc, bytes)

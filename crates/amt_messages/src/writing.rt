@@ -84,8 +84,10 @@ fn write_query(
     seen: &Option<Endpoint>,
 ) -> Result<Bytes, AllocError>
     requires { inner_length_of inner.now ≡ Some (length inner.now) }
-    ensures written { IfOk result (λ bytes. bytes ≡ spelling_of (Query limited mac.now nonce inner.now seen.now)) }
-    ensures canonical { IfOk result (λ bytes. IsCanonical (Query limited mac.now nonce inner.now seen.now) bytes) }
+    ensures written { IfOk result (λ bytes. bytes ≡ spelling_of
+        (Query limited mac.now nonce inner.now seen.now)) }
+    ensures canonical { IfOk result (λ bytes. IsCanonical
+        (Query limited mac.now nonce inner.now seen.now) bytes) }
 {
     let mut bytes = Bytes::new(alloc);
     bytes.append(&[4, query_flags(limited, seen.is_some())])?;
@@ -102,7 +104,8 @@ pub fn encode(alloc: Global, message: &Message) -> Result<Bytes, AllocError>
     requires { IsSendable message.now }
     ensures written { IfOk result (λ bytes. bytes ≡ spelling_of message.now) }
     ensures canonical { IfOk result (λ bytes. IsCanonical message.now bytes) }
-    ensures one { (bytes : List ℕ) → AreOctets bytes → IsCanonical message.now bytes → bytes ≡ spelling_of message.now }
+    ensures one { (bytes : List ℕ) → AreOctets bytes → IsCanonical message.now bytes
+        → bytes ≡ spelling_of message.now }
     ensures most { IfOk result (λ bytes. length bytes ≤ 65535) }
 {
     match message {

@@ -7,7 +7,8 @@ use Rattle.amt_values.specs.Tunnel.{Tunnel}
 -- the endpoint of a datagram's source
 abbrev pub endpoint_of : Peer → Option Tunnel
 endpoint_of peer =
-    if has_ipv4_prefix peer.ip then None else Some (record { address = number_of peer.ip; port = peer.port })
+    if has_ipv4_prefix peer.ip then None
+    else Some (record { address = number_of peer.ip; port = peer.port })
 
 -- the endpoint that a message names, in its one form
 abbrev pub endpoint_named : ℕ → ℕ → Tunnel

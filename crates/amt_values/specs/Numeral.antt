@@ -3,7 +3,8 @@ use Rattle.std.specs.Prelude.{◌≡◌, ℕ, ◌<◌, List, length, slice_index
 use Rattle.std.specs.Char.{IsAsciiDigit}
 use Rattle.std.specs.Str.Parse.{digits_value}
 
--- decimal digits, at least one, without a sign, and without a leading zero unless 0 is the only digit
+-- decimal digits, at least one, without a sign, and without a leading zero unless 0 is the only
+-- digit
 pub record IsNumeral (text : List ℕ) : Type 0 where
   pub some : 0 < length text
   pub digits : All IsAsciiDigit text

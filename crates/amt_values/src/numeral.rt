@@ -48,7 +48,8 @@ pub fn parse_numeral(text: &[u8]) -> Result<u64, NumeralFault>
     ensures only { (number : ℕ) → number < 2 ^ 64 → text.now ≡ decimal number → result ≡ Ok number }
 
     ensures not_decimal { IsErrOf result NumeralFault.NotDecimal → ¬ (IsNumeral text.now) }
-    ensures too_large { IsErrOf result NumeralFault.TooLarge → IsNumeral text.now × (2 ^ 64 ≤ numeral_value text.now) }
+    ensures too_large { IsErrOf result NumeralFault.TooLarge
+        → IsNumeral text.now × (2 ^ 64 ≤ numeral_value text.now) }
 {
     if !is_numeral(text) {
         return Err(NumeralFault::NotDecimal);

@@ -15,7 +15,8 @@ use std::alloc::{AllocError, Global};
 
 fn send_message(alloc: Global, to: Endpoint, message: &Message) -> Result<Sends, AllocError>
     requires { IsSendable message.now }
-    ensures { IfOk result (λ sends. sends ≡ record { to = to; bytes = spelling_of message.now } ∷ []) }
+    ensures { IfOk result
+        (λ sends. sends ≡ record { to = to; bytes = spelling_of message.now } ∷ []) }
 {
     let bytes = encode(alloc, message)?;
     let mut sends = Sends::new(alloc);
@@ -41,8 +42,10 @@ pub fn answer(
     bytes: &Bytes,
 ) -> Result<Step, AllocError>
     requires { length bytes.now ≤ 65535 }
-    ensures outcome { IfOk result (λ step. step.outcome ≡ judged (endpoint_of from.now) (message_of bytes.now)) }
-    ensures sends { IfOk result (λ step. step.sends ≡ replies settings.now (endpoint_of from.now) (message_of bytes.now)) }
+    ensures outcome { IfOk result (λ step. step.outcome ≡ judged (endpoint_of from.now)
+        (message_of bytes.now)) }
+    ensures sends { IfOk result (λ step. step.sends ≡ replies settings.now (endpoint_of from.now)
+        (message_of bytes.now)) }
 {
     let Some(source) = Endpoint::of(from) else {
         return Ok(quiet(alloc, Outcome::BadSource));

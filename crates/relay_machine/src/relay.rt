@@ -35,11 +35,14 @@ impl Relay {
     /// Takes one event. After want of memory the relay is as before, and the event may be given again.
     pub fn step(&mut self, alloc: Global, event: &Event) -> Result<Step, AllocError>
         requires { IsEvent event.now }
-        ensures outcome { (settings : SettingsValue) (events : List EventValue) → RelayAt self.old settings events
+        ensures outcome { (settings : SettingsValue) (events : List EventValue)
+            → RelayAt self.old settings events
             → IfOk result (λ step. step.outcome ≡ outcome_of settings events event.now) }
-        ensures sends { (settings : SettingsValue) (events : List EventValue) → RelayAt self.old settings events
+        ensures sends { (settings : SettingsValue) (events : List EventValue)
+            → RelayAt self.old settings events
             → IfOk result (λ step. step.sends ≡ sends_of settings events event.now) }
-        ensures next { (settings : SettingsValue) (events : List EventValue) → RelayAt self.old settings events
+        ensures next { (settings : SettingsValue) (events : List EventValue)
+            → RelayAt self.old settings events
             → IfOk result (λ _. RelayAt self.new settings (events ++ event.now ∷ [])) }
 
         // Neither a Discovery nor a refused datagram changes the relay, and there is no other event.
