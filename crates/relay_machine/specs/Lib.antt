@@ -1,2 +1,6 @@
 pub mod Answers
 pub mod Conditions
+pub mod Events
+pub mod Queries
+pub mod Settings
+pub mod State

@@ -63,3 +63,16 @@ pub struct Step {
     pub outcome: Outcome,
     pub sends: Sends,
 }
+
+impl Step {
+    /// A step that sends nothing.
+    pub fn quiet(alloc: Global, outcome: Outcome) -> Step
+        ensures outcome { result.outcome ≡ outcome }
+        ensures sends { result.sends ≡ [] }
+    {
+        Step {
+            outcome,
+            sends: Sends::new(alloc),
+        }
+    }
+}

@@ -1,8 +1,64 @@
+ghost use Rattle.std.specs.Prelude.{◌≡◌, ◌↔◌, IsTrue};
+ghost use Rattle.relay_machine.specs.Settings.{IsLawful, IsQueryTime, membership_interval_ms};
+
 use amt_values::Ip;
+use igmp_records::value_code4;
 
 /// What a relay is set up with.
 #[derive(Clone, Copy, Debug, PartialEq, Eq)]
 pub struct Settings {
     /// The address that Advertisements carry.
     pub relay: Ip,
+    /// The IPv4 source of General Queries.
+    pub query4: u32,
+    /// How many reports of a listener may be lost in a row, and one more.
+    pub robustness: u8,
+    /// The seconds from one General Query to the next.
+    pub query_seconds: u32,
+    /// The tenths of a second within which a listener answers a General Query.
+    pub response_tenths: u32,
+}
+
+impl Settings {
+    /// The settings of a relay with this address and the defaults of RFC 3376, sections 8.1 to 8.3.
+    /// The source of its queries is 0.0.0.0, as of a querier without an address.
+    pub fn of_relay(relay: Ip) -> Settings
+        ensures value { result ≡ record { relay = relay; query4 = 0; robustness = 2; query_seconds = 125; response_tenths = 100 } }
+        ensures lawful { IsLawful result }
+    {
+        Settings {
+            relay,
+            query4: 0,
+            robustness: 2,
+            query_seconds: 125,
+            response_tenths: 100,
+        }
+    }
+
+    /// Whether a relay may have these settings: its General Queries have to carry them.
+    pub fn lawful(&self) -> bool
+        ensures { IsTrue result ↔ IsLawful self.now }
+    {
+        match self.robustness {
+            1..=7 => is_query_time(self.query_seconds) && is_query_time(self.response_tenths),
+            _ => false,
+        }
+    }
+
+    /// How long a membership report counts, in milliseconds.
+    pub fn lifetime_ms(&self) -> u64
+        ensures { result ≡ membership_interval_ms self.now }
+    {
+        let interval = u64::from(self.robustness) * u64::from(self.query_seconds);
+        interval * 1000 + u64::from(self.response_tenths) * 100
+    }
+}
+
+fn is_query_time(time: u32) -> bool
+    ensures { IsTrue result ↔ IsQueryTime time }
+{
+    if time < 1 {
+        return false;
+    }
+    value_code4(time).is_some()
 }

@@ -1,0 +1,28 @@
+-- What events leave behind: the moment and the secrets.
+use Rattle.std.specs.Prelude.{ℕ, max, List, Option, Some, None}
+use Rattle.std.specs.List.{fold, filter_map}
+use Rattle.response_mac.specs.declared.secret.Secret.{Secret}
+use Rattle.response_mac.specs.declared.secrets.Secrets.{Secrets}
+use Rattle.response_mac.specs.ResponseMac.{secrets_after}
+use Rattle.relay_machine.specs.declared.event.Event.{Event}
+use Rattle.relay_machine.specs.declared.event.Event.TheVariants.{Moment, Datagram, Rotate}
+
+-- the moment that an event tells, if it tells one
+abbrev pub moment_in : Event → Option ℕ
+moment_in (Moment moment) = Some moment
+moment_in (Datagram from bytes) = None
+moment_in (Rotate secret) = None
+
+-- the greatest moment of the events, or 0
+unfoldable pub now_of : List Event → ℕ
+now_of events = fold max 0 (filter_map moment_in events)
+
+-- the secret that an event brings, if it brings one
+abbrev pub secret_in : Event → Option Secret
+secret_in (Moment moment) = None
+secret_in (Datagram from bytes) = None
+secret_in (Rotate secret) = Some secret
+
+-- the secrets after the first one and those of the events, in order (RFC 7450, section 5.3.6)
+unfoldable pub secrets_of : Secret → List Event → Secrets
+secrets_of first events = secrets_after first (filter_map secret_in events)

@@ -1,0 +1,27 @@
+-- What a relay may be set up with, and how long a report then counts.
+use Rattle.std.specs.Prelude.{◌≡◌, ℕ, ◌+◌, ◌*◌, ◌<◌, ◌≤◌}
+use Rattle.igmp_records.specs.Code.{code_value}
+use Rattle.relay_machine.specs.declared.settings.Settings.{Settings}
+
+-- a code of 8 bits stands for the time (RFC 3376, sections 4.1.1 and 4.1.7)
+abbrev pub HasCode : ℕ → Type 0
+HasCode time = (code : ℕ) × (code < 256) × (code_value code ≡ time)
+
+-- a time that a General Query can carry, and not none
+pub record IsQueryTime (time : ℕ) : Type 0 where
+  pub least : 1 ≤ time
+  pub most : time ≤ 31744
+  pub has_code : HasCode time
+
+-- a robustness that is not zero (RFC 3376, section 8.1) and that three bits carry (section 4.1.6), a
+-- Query Interval in seconds (section 8.2) and a Query Response Interval in tenths (section 8.3)
+pub record IsLawful (settings : Settings) : Type 0 where
+  pub least_robustness : 1 ≤ settings.robustness
+  pub most_robustness : settings.robustness ≤ 7
+  pub interval : IsQueryTime settings.query_seconds
+  pub response : IsQueryTime settings.response_tenths
+
+-- the Group Membership Interval (RFC 3376, section 8.4), in milliseconds
+abbrev pub membership_interval_ms : Settings → ℕ
+membership_interval_ms settings =
+    settings.robustness * settings.query_seconds * 1000 + settings.response_tenths * 100
