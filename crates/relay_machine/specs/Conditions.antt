@@ -1,4 +1,4 @@
--- Which events there are, and which need no memory.
+-- Which events there are, and which of them are datagrams.
 use Rattle.std.specs.Prelude.{◌≤◌, length}
 use Rattle.relay_machine.specs.declared.event.Event.{Event}
 use Rattle.relay_machine.specs.declared.event.Event.TheVariants.{Moment, Datagram, Rotate}

@@ -19,6 +19,6 @@ pub enum Outcome {
     /// A Discovery was answered.
     Advertised,
     /// A Request was answered, for MLD where `v6` is true. Where `limited` is true, the Query says
-    /// that no new endpoint is served.
+    /// that the relay takes no updates from new tunnel endpoints.
     Queried { v6: bool, limited: bool },
 }

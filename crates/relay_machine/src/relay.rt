@@ -69,13 +69,13 @@ impl Relay {
             → RelayAt self.old settings first events
             → IfOk result (λ _. RelayAt self.new settings first (events ++ event.now ∷ [])) }
 
-        // No datagram changes the relay: neither a refused one, nor a Discovery, nor a Request, whose
-        // nonce is not kept.
+        // No datagram changes the relay, not even a Request: what is kept for each, as its nonce, could
+        // be made to fill the relay's memory by whoever forges sources.
         ensures same { IsDatagram event.now → self.new ≡ self.old }
         ensures err { OnErr result (self.new ≡ self.old) }
 
-        // A moment and a secret take no memory.
-        ensures sure { (IsDatagram event.now → ⊥) → IsOk result }
+        // A moment and a secret take no memory, so time moves on and secrets age whatever is left of it.
+        ensures sure { ¬ IsDatagram event.now → IsOk result }
     {
         match event {
             Event::Moment(moment) => {

@@ -66,7 +66,7 @@ pub struct Step {
 
 impl Step {
     /// A step that sends nothing.
-    pub fn quiet(alloc: Global, outcome: Outcome) -> Step
+    pub(crate) fn quiet(alloc: Global, outcome: Outcome) -> Step
         ensures outcome { result.outcome ≡ outcome }
         ensures sends { result.sends ≡ [] }
     {

@@ -11,7 +11,7 @@ pub struct Settings {
     pub relay: Ip,
     /// The IPv4 source of General Queries.
     pub query4: u32,
-    /// How many reports of a listener may be lost in a row, and one more.
+    /// A listener's reports may be lost one time fewer in a row (RFC 3376, section 8.1).
     pub robustness: u8,
     /// The seconds from one General Query to the next.
     pub query_seconds: u32,
@@ -20,8 +20,8 @@ pub struct Settings {
 }
 
 impl Settings {
-    /// The settings of a relay with this address and the defaults of RFC 3376, sections 8.1 to 8.3.
-    /// The source of its queries is 0.0.0.0, as of a querier without an address.
+    /// The settings of a relay with this address: the defaults of RFC 3376, sections 8.1 to 8.3, and
+    /// queries that come from 0.0.0.0.
     pub fn of_relay(relay: Ip) -> Settings
         ensures value { result ≡ record { relay = relay; query4 = 0; robustness = 2; query_seconds = 125; response_tenths = 100 } }
         ensures lawful { IsLawful result }
