@@ -29,8 +29,8 @@ judged (Some source) (Ok (Request true nonce)) = NoFamily
 judged (Some source) (Ok (Request false nonce)) = Queried false false
 
 -- a Discovery is answered by an Advertisement of its nonce and the relay's address, and a Request
--- for IGMP by a Query under this secret, each to its source (RFC 7450, section 5.3); nothing else is
--- answered
+-- for IGMP by a Query under this secret, each to its source (RFC 7450, section 5.3.3); nothing else
+-- is answered
 abbrev pub replies : Settings → Secret → Option Tunnel → Result Message Refused → List OneSend
 replies settings secret None reading = []
 replies settings secret (Some source) (Err refusal) = []
@@ -46,7 +46,8 @@ replies settings secret (Some source) (Ok (Request false nonce)) =
 abbrev pub outcome_of : Settings → Secret → List Event → Event → Outcome
 outcome_of settings first events (Moment moment) = Moved (max (now_of events) moment)
 outcome_of settings first events (Rotate secret) = Rotated
-outcome_of settings first events (Datagram from bytes) = judged (endpoint_of from) (message_of bytes)
+outcome_of settings first events (Datagram from bytes) =
+    judged (endpoint_of from) (message_of bytes)
 
 -- what is sent after it; a Query has its MAC under the secret that is current then
 abbrev pub sends_of : Settings → Secret → List Event → Event → List OneSend
@@ -57,5 +58,8 @@ sends_of settings first events (Datagram from bytes) =
 
 -- the relay is where these events leave one of these settings that began with this secret
 abbrev pub RelayAt : RelayState → Settings → Secret → List Event → Type 0
-RelayAt relay settings first events =
-    relay ≡ record { settings = settings; secrets = secrets_of first events; moment = now_of events }
+RelayAt relay settings first events = relay ≡ record {
+  settings = settings;
+  secrets = secrets_of first events;
+  moment = now_of events;
+}

@@ -1,5 +1,6 @@
 -- What a relay may be set up with, and how long a report then counts.
 use Rattle.std.specs.Prelude.{◌≡◌, ℕ, ◌+◌, ◌*◌, ◌<◌, ◌≤◌}
+use Rattle.amt_values.specs.declared.address.Ip.{Ip}
 use Rattle.igmp_records.specs.Code.{code_value}
 use Rattle.relay_machine.specs.declared.settings.Settings.{Settings}
 
@@ -13,13 +14,23 @@ pub record IsQueryTime (time : ℕ) : Type 0 where
   pub most : time ≤ 31744
   pub has_code : HasCode time
 
--- a robustness that is not zero (RFC 3376, section 8.1) and that three bits carry (section 4.1.6), a
--- Query Interval in seconds (section 8.2) and a Query Response Interval in tenths (section 8.3)
+-- a robustness that is not zero (RFC 3376, section 8.1) and that three bits carry (section 4.1.6),
+-- a Query Interval in seconds (section 8.2) and a Query Response Interval in tenths (section 8.3)
 pub record IsLawful (settings : Settings) : Type 0 where
   pub least_robustness : 1 ≤ settings.robustness
   pub most_robustness : settings.robustness ≤ 7
   pub interval : IsQueryTime settings.query_seconds
   pub response : IsQueryTime settings.response_tenths
+
+-- the defaults of RFC 3376, sections 8.1 to 8.3, and 0.0.0.0 as the source of queries
+abbrev pub default_settings : Ip → Settings
+default_settings relay = record {
+  relay = relay;
+  query4 = 0;
+  robustness = 2;
+  query_seconds = 125;
+  response_tenths = 100;
+}
 
 -- the Group Membership Interval (RFC 3376, section 8.4), in milliseconds
 abbrev pub membership_interval_ms : Settings → ℕ

@@ -21,7 +21,8 @@ fn answered(
 ) -> Result<Step, AllocError>
     requires { IsSendable message.now }
     ensures outcome { IfOk result (λ step. step.outcome ≡ outcome) }
-    ensures sends { IfOk result (λ step. step.sends ≡ record { to = to; bytes = spelling_of message.now } ∷ []) }
+    ensures sends { IfOk result
+        (λ step. step.sends ≡ record { to = to; bytes = spelling_of message.now } ∷ []) }
 {
     let bytes = encode(alloc, message)?;
     let mut sends = Sends::new(alloc);
@@ -37,7 +38,8 @@ fn answer_message(
     message: Message,
 ) -> Result<Step, AllocError>
     ensures outcome { IfOk result (λ step. step.outcome ≡ judged (Some source) (Ok message)) }
-    ensures sends { IfOk result (λ step. step.sends ≡ replies querier.now.settings secret.now (Some source) (Ok message)) }
+    ensures sends { IfOk result (λ step. step.sends ≡ replies querier.now.settings secret.now
+        (Some source) (Ok message)) }
 {
     match message {
         Message::Advertisement { .. } => Ok(Step::quiet(alloc, Outcome::WrongKind(2))),
@@ -68,8 +70,10 @@ pub fn answer(
     bytes: &Bytes,
 ) -> Result<Step, AllocError>
     requires { length bytes.now ≤ 65535 }
-    ensures outcome { IfOk result (λ step. step.outcome ≡ judged (endpoint_of from.now) (message_of bytes.now)) }
-    ensures sends { IfOk result (λ step. step.sends ≡ replies querier.now.settings secret.now (endpoint_of from.now) (message_of bytes.now)) }
+    ensures outcome { IfOk result (λ step. step.outcome ≡ judged (endpoint_of from.now)
+        (message_of bytes.now)) }
+    ensures sends { IfOk result (λ step. step.sends ≡ replies querier.now.settings secret.now
+        (endpoint_of from.now) (message_of bytes.now)) }
 {
     let Some(source) = Endpoint::of(from) else {
         return Ok(Step::quiet(alloc, Outcome::BadSource));

@@ -61,7 +61,8 @@ impl Querier {
         source: Endpoint,
         nonce: u32,
     ) -> Result<Message, AllocError>
-        ensures value { IfOk result (λ query. query ≡ query_for self.now.settings secret.now source nonce) }
+        ensures value { IfOk result
+            (λ query. query ≡ query_for self.now.settings secret.now source nonce) }
         ensures sendable { IfOk result IsSendable }
     {
         Ok(Message::Query {

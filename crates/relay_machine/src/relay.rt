@@ -31,7 +31,11 @@ impl Model for Relay {
 
     ghost Value = { RelayState };
 
-    ghost view = { λ r. record { settings = r.querier.settings; secrets = r.secrets; moment = r.moment } };
+    ghost view = { λ r. record {
+      settings = r.querier.settings;
+      secrets = r.secrets;
+      moment = r.moment;
+    } };
 }
 
 impl Relay {
@@ -50,31 +54,33 @@ impl Relay {
     /// The latest moment that the relay was told, or 0.
     pub fn now(&self) -> Moment
         ensures value { result ≡ self.now.moment }
-        ensures latest { (settings : SettingsValue) (first : SecretValue) (events : List EventValue)
-            → RelayAt self.now settings first events → result ≡ now_of events }
+        ensures latest { (settings : SettingsValue) (first : SecretValue)
+            (events : List EventValue) → RelayAt self.now settings first events
+            → result ≡ now_of events }
     {
         self.moment
     }
 
-    /// Takes one event. After want of memory the relay is as before, and the event may be given again.
+    /// Takes one event. After want of memory the relay is as before, and the event may be given
+    /// again.
     pub fn step(&mut self, alloc: Global, event: &Event) -> Result<Step, AllocError>
         requires { IsEvent event.now }
-        ensures outcome { (settings : SettingsValue) (first : SecretValue) (events : List EventValue)
-            → RelayAt self.old settings first events
+        ensures outcome { (settings : SettingsValue) (first : SecretValue)
+            (events : List EventValue) → RelayAt self.old settings first events
             → IfOk result (λ step. step.outcome ≡ outcome_of settings first events event.now) }
-        ensures sends { (settings : SettingsValue) (first : SecretValue) (events : List EventValue)
-            → RelayAt self.old settings first events
+        ensures sends { (settings : SettingsValue) (first : SecretValue)
+            (events : List EventValue) → RelayAt self.old settings first events
             → IfOk result (λ step. step.sends ≡ sends_of settings first events event.now) }
-        ensures next { (settings : SettingsValue) (first : SecretValue) (events : List EventValue)
-            → RelayAt self.old settings first events
+        ensures next { (settings : SettingsValue) (first : SecretValue)
+            (events : List EventValue) → RelayAt self.old settings first events
             → IfOk result (λ _. RelayAt self.new settings first (events ++ event.now ∷ [])) }
 
-        // No datagram changes the relay, not even a Request: what is kept for each, as its nonce, could
-        // be made to fill the relay's memory by whoever forges sources.
+        // No datagram changes the relay, not even a Request: what is kept for each, as its nonce,
+        // could be made to fill the relay's memory by whoever forges sources.
         ensures same { IsDatagram event.now → self.new ≡ self.old }
         ensures err { OnErr result (self.new ≡ self.old) }
 
-        // A moment and a secret take no memory, so time moves on and secrets age whatever is left of it.
+        // A moment and a secret take no memory, so time moves on and secrets age whatever is left.
         ensures sure { ¬ IsDatagram event.now → IsOk result }
     {
         match event {

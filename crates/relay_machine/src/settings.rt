@@ -1,5 +1,5 @@
 ghost use Rattle.std.specs.Prelude.{◌≡◌, ◌↔◌, IsTrue};
-ghost use Rattle.relay_machine.specs.Settings.{IsLawful, IsQueryTime, membership_interval_ms};
+ghost use Rattle.relay_machine.specs.Settings.{IsLawful, IsQueryTime, default_settings, membership_interval_ms};
 
 use amt_values::Ip;
 use igmp_records::value_code4;
@@ -20,10 +20,10 @@ pub struct Settings {
 }
 
 impl Settings {
-    /// The settings of a relay with this address: the defaults of RFC 3376, sections 8.1 to 8.3, and
-    /// queries that come from 0.0.0.0.
+    /// The settings of a relay with this address: the defaults of RFC 3376, sections 8.1 to 8.3,
+    /// and queries that come from 0.0.0.0.
     pub fn of_relay(relay: Ip) -> Settings
-        ensures value { result ≡ record { relay = relay; query4 = 0; robustness = 2; query_seconds = 125; response_tenths = 100 } }
+        ensures value { result ≡ default_settings relay }
         ensures lawful { IsLawful result }
     {
         Settings {
