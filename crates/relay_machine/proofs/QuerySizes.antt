@@ -20,9 +20,9 @@ pub inner_length_of-general_query : (settings : Settings) → inner_length_of (g
 unfolding general_query written_inner4 written_query4 inner_length_of
 inner_length_of-general_query settings = refl
 
--- so a Query may carry it, with what was seen behind it
-pub query_may_carry : (inner : List ℕ) (settings : Settings) → inner ≡ general_query settings
-    → (inner_length_of inner ≡ Some (length inner)) × (12 + length inner + 18 ≤ 65535)
-query_may_carry inner settings same =
+-- so a Query may carry it, with as many octets behind it as an endpoint takes
+pub query_may_carry : (inner : List ℕ) (settings : Settings) (behind : ℕ) → behind ≤ 18 → inner ≡ general_query settings
+    → (inner_length_of inner ≡ Some (length inner)) × (12 + length inner + behind ≤ 65535)
+query_may_carry inner settings behind few same =
     let size = length-general_query settings in
     rw same (rw size (inner_length_of-general_query settings), rw size (omega arith))

@@ -8,7 +8,7 @@ use Rattle.relay_machine.specs.declared.settings.Settings.{Settings}
 abbrev pub HasCode : ℕ → Type 0
 HasCode time = (code : ℕ) × (code < 256) × (code_value code ≡ time)
 
--- a time that a General Query can carry, and not none
+-- a time from 1 on that a General Query can carry; 31,744 is the greatest
 pub record IsQueryTime (time : ℕ) : Type 0 where
   pub least : 1 ≤ time
   pub most : time ≤ 31744
