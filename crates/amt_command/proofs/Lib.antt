@@ -1,9 +1,2 @@
-pub mod Openings
-pub mod Rests
-pub mod Runs
-pub mod Scripts
-pub mod SoFar
-pub mod Splitting
-pub mod Statements
+pub mod Lines
 pub mod Undisturbed
-pub mod Writes

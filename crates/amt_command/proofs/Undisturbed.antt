@@ -1,41 +1,43 @@
 -- Where nothing disturbs a run, the octets alone decide how it ends, but for want of memory.
-use Rattle.std.proofs.Common.{◌≡◌, ℕ, ◌≤◌, ◌⊎◌, Option, Some, List, length, Result, Ok, Err, IsOk, OnOk, IsErrOf, inl, inr, refl, sym, subst, arith}
+use Rattle.std.proofs.Common.{◌≡◌, ℕ, ◌≤◌, ◌⊎◌, Option, Some, List, length, Result, Ok, Err, IsOk, OnOk, IsErrOf, IfErr, inl, inr, refl, sym, subst, arith}
 use Rattle.amt_ports.specs.Reading.{TakesAll, TakesMore}
 use Rattle.amt_values.specs.declared.bytes.TheConstants.{INPUT_LIMIT}
 use Rattle.amt_ports.proofs.Taken.{TakesAll-told, TakesMore-told}
 use Rattle.amt_command.specs.declared.ending.Ending.{Ending}
-use Rattle.amt_command.specs.declared.ending.Ending.TheVariants.{Usage, NoScript, ReadFault, WriteFault, Memory, TooLong}
-use Rattle.amt_command.specs.declared.script.Script.{Script}
-use Rattle.amt_command.specs.Script.{IsRelayScript}
-use Rattle.amt_command.specs.Ending.{status_of}
-use Rattle.amt_command.specs.Command.{IsInput, Replays, SpellsNothing}
+use Rattle.amt_command.specs.declared.ending.Ending.TheVariants.{Usage, Script, ReadFault, WriteFault, Memory, TooLong}
+use Rattle.amt_script.specs.declared.script.RelayScript.{RelayScript}
+use Rattle.amt_script.specs.declared.reason.Reason.{Reason}
+use Rattle.amt_script.specs.Fault.{IsFaultAt}
+use Rattle.amt_script.specs.Script.{IsRelayScript}
+use Rattle.amt_command.specs.Ending.{status_of, line_of, TellsItsFault}
+use Rattle.amt_command.specs.Command.{IsInput, IsFaultText, fault_line, Replays, SpellsNothing, WritesFault, status_line}
 
 -- an input that was read to its end, where it told its octets
 told_all : (left left' : Option (List ℕ)) (bytes read : List ℕ) → left ≡ Some bytes → TakesAll left left' read → read ≡ bytes
 told_all left left' bytes read told all = TakesAll-told bytes read left' (subst (λ (l : Option (List ℕ)). TakesAll l left' read) told all)
 
-input_told : (left left' : Option (List ℕ)) (bytes : List ℕ) (script : Script) → left ≡ Some bytes → IsInput left left' script → IsRelayScript script bytes
+input_told : (left left' : Option (List ℕ)) (bytes : List ℕ) (script : RelayScript) → left ≡ Some bytes → IsInput left left' script → IsRelayScript script bytes
 input_told left left' bytes script told input = subst (IsRelayScript script) (told_all left left' bytes input.bytes told input.read) input.spelled
 
 -- a run that is done has read a script
 pub done_told : (left left' written written' : Option (List ℕ)) (r : Result (Unit {0}) Ending) (bytes : List ℕ) → left ≡ Some bytes
-    → ((script : Script) → IsRelayScript script bytes → ⊥) → OnOk r (Replays left left' written written') → IsOk r → ⊥
+    → ((script : RelayScript) → IsRelayScript script bytes → ⊥) → OnOk r (Replays left left' written written') → IsOk r → ⊥
 done_told left left' written written' (Ok done) bytes told none replays ok = none replays.script (input_told left left' bytes replays.script told replays.input)
 done_told left left' written written' (Err ending) bytes told none replays ok = cc ok
 
-pub nothing_told : (left left' : Option (List ℕ)) (bytes : List ℕ) (script : Script) → left ≡ Some bytes → SpellsNothing left left' → IsRelayScript script bytes → ⊥
-nothing_told left left' bytes script told nothing spelled =
+pub nothing_told : (left left' : Option (List ℕ)) (bytes text : List ℕ) (script : RelayScript) → left ≡ Some bytes → IsFaultText left left' text → IsRelayScript script bytes → ⊥
+nothing_told left left' bytes text script told nothing spelled =
     nothing.nothing script (subst (IsRelayScript script) (sym (told_all left left' bytes nothing.bytes told nothing.read)) spelled)
 
 pub more_told : (left left' : Option (List ℕ)) (bytes : List ℕ) → left ≡ Some bytes → length bytes ≤ INPUT_LIMIT → TakesMore INPUT_LIMIT left left' → ⊥
 more_told left left' bytes told short more =
     let long = TakesMore-told INPUT_LIMIT bytes left' (subst (λ (l : Option (List ℕ)). TakesMore INPUT_LIMIT l left') told more) in absurd (omega (arith, long, short))
 
-pub only_done : (r : Result (Unit {0}) Ending) → (IsErrOf r Usage → ⊥) → (IsErrOf r NoScript → ⊥) → (IsErrOf r ReadFault → ⊥) → (IsErrOf r WriteFault → ⊥) → (IsErrOf r TooLong → ⊥)
+pub only_done : (r : Result (Unit {0}) Ending) → (IsErrOf r Usage → ⊥) → ((text : List ℕ) → IsErrOf r (Script text) → ⊥) → (IsErrOf r ReadFault → ⊥) → (IsErrOf r WriteFault → ⊥) → (IsErrOf r TooLong → ⊥)
     → (status_of r ≡ 0) ⊎ (status_of r ≡ 7)
 only_done (Ok done) usage script read write long = inl refl
 only_done (Err Usage) usage script read write long = absurd (usage refl)
-only_done (Err NoScript) usage script read write long = absurd (script refl)
+only_done (Err (Script text)) usage script read write long = absurd (script text refl)
 only_done (Err ReadFault) usage script read write long = absurd (read refl)
 only_done (Err WriteFault) usage script read write long = absurd (write refl)
 only_done (Err Memory) usage script read write long = inr refl
@@ -45,8 +47,39 @@ pub only_no_script : (r : Result (Unit {0}) Ending) → (IsErrOf r Usage → ⊥
     → (status_of r ≡ 3) ⊎ (status_of r ≡ 7)
 only_no_script (Ok done) usage ok read write long = absurd (ok refl)
 only_no_script (Err Usage) usage ok read write long = absurd (usage refl)
-only_no_script (Err NoScript) usage ok read write long = inl refl
+only_no_script (Err (Script text)) usage ok read write long = inl refl
 only_no_script (Err ReadFault) usage ok read write long = absurd (read refl)
 only_no_script (Err WriteFault) usage ok read write long = absurd (write refl)
 only_no_script (Err Memory) usage ok read write long = inr refl
 only_no_script (Err TooLong) usage ok read write long = absurd (long refl)
+
+pub fault_told : (left left' : Option (List ℕ)) (r : Result (Unit {0}) Ending) (text : List ℕ) → IfErr r (TellsItsFault left left') → IsErrOf r (Script text) → IsFaultText left left' text
+fault_told left left' r text tells is = rw is at tells
+
+-- under the status of a script with a fault, the line is its fault's
+pub script_told : (left left' : Option (List ℕ)) (r : Result (Unit {0}) Ending) → IfErr r (TellsItsFault left left') → status_of r ≡ 3 → IsFaultText left left' (line_of r)
+script_told left left' (Ok done) tells status = absurd (omega (arith, status))
+script_told left left' (Err Usage) tells status = absurd (omega (arith, status))
+script_told left left' (Err (Script text)) tells status = tells
+script_told left left' (Err ReadFault) tells status = absurd (omega (arith, status))
+script_told left left' (Err WriteFault) tells status = absurd (omega (arith, status))
+script_told left left' (Err Memory) tells status = absurd (omega (arith, status))
+script_told left left' (Err TooLong) tells status = absurd (omega (arith, status))
+
+pub other_line : (r : Result (Unit {0}) Ending) → (status_of r ≡ 3 → ⊥) → line_of r ≡ status_line (status_of r)
+other_line (Ok done) other = refl
+other_line (Err Usage) other = refl
+other_line (Err (Script text)) other = absurd (other refl)
+other_line (Err ReadFault) other = refl
+other_line (Err WriteFault) other = refl
+other_line (Err Memory) other = refl
+other_line (Err TooLong) other = refl
+
+-- the ending of a run over octets with this fault
+pub tells_fault : (left left' : Option (List ℕ)) (bytes : List ℕ) (line : ℕ) (reason : Reason) (ending : Ending)
+    → (ending ≡ Script (fault_line line reason)) ⊎ (ending ≡ Memory) → TakesAll left left' bytes → length bytes ≤ INPUT_LIMIT
+    → ((script : RelayScript) → IsRelayScript script bytes → ⊥) → IsFaultAt line reason bytes → TellsItsFault left left' ending
+tells_fault left left' bytes line reason ending (inl same) read short nothing fault =
+    subst (TellsItsFault left left') (sym same)
+    (record { bytes = bytes; read = read; short = short; nothing = nothing; line = line; reason = reason; fault = fault; told = refl })
+tells_fault left left' bytes line reason ending (inr same) read short nothing fault = subst (TellsItsFault left left') (sym same) tt

@@ -1,21 +1,23 @@
 -- What the statuses of `amt` say.
-use Rattle.std.specs.Prelude.{◌≡◌, ℕ, ◌≤◌, ◌==◌, List, [], ◌∷◌, ◌++◌, length, Option, Some, IsTrue, codes, if◌then◌else◌}
+use Rattle.std.specs.Prelude.{◌≡◌, ℕ, ◌≤◌, ◌==◌, List, [], ◌∷◌, ◌++◌, length, Option, Some, IsTrue, codes, decimal, if◌then◌else◌}
 use Rattle.std.specs.List.{list_any}
 use Rattle.std.specs.Io.KnownBytes.{Appends}
 use Rattle.amt_ports.specs.Causes.{Rose}
 use Rattle.amt_ports.specs.Reading.{TakesAll}
 use Rattle.amt_values.specs.declared.bytes.TheConstants.{INPUT_LIMIT}
-use Rattle.amt_command.specs.declared.script.Script.{Script}
-use Rattle.amt_command.specs.Script.{IsRelayScript}
-use Rattle.amt_command.specs.Texts.{text_of}
-use Rattle.amt_command.specs.Writing.{WritesFront}
+use Rattle.amt_script.specs.declared.reason.Reason.{Reason}
+use Rattle.amt_script.specs.declared.script.RelayScript.{RelayScript}
+use Rattle.amt_script.specs.Fault.{IsFaultAt}
+use Rattle.amt_script.specs.Script.{IsRelayScript}
+use Rattle.amt_script.specs.Texts.{reason_word, text_of}
+use Rattle.amt_script.specs.Writing.{WritesFront}
 
 -- the words after the program's name are `replay relay`
 abbrev pub IsReplayRelay : List (List ℕ) → Type 0
 IsReplayRelay words = words ≡ codes "replay" ∷ codes "relay" ∷ []
 
 -- the input was read to its end, within its limit, and spells the script
-pub record IsInput (left left' : Option (List ℕ)) (script : Script) : Type 0 where
+pub record IsInput (left left' : Option (List ℕ)) (script : RelayScript) : Type 0 where
   pub bytes : List ℕ
   pub read : TakesAll left left' bytes
   pub short : length bytes ≤ INPUT_LIMIT
@@ -23,22 +25,46 @@ pub record IsInput (left left' : Option (List ℕ)) (script : Script) : Type 0 w
 
 -- the input was read to its end, and the text of its script was written
 pub record Replays (left left' written written' : Option (List ℕ)) : Type 0 where
-  pub script : Script
+  pub script : RelayScript
   pub input : IsInput left left' script
   pub text : Appends written written' (text_of script)
 
 -- the input was read to its end, and a front of the text of its script was written
 pub record BeginsToReplay (left left' written written' : Option (List ℕ)) : Type 0 where
-  pub script : Script
+  pub script : RelayScript
   pub input : IsInput left left' script
   pub text : WritesFront written written' (text_of script)
 
--- the input was read to its end, within its limit, and spells no script
-pub record SpellsNothing (left left' : Option (List ℕ)) : Type 0 where
+-- `amt: line L: REASON`
+abbrev pub fault_line : ℕ → Reason → List ℕ
+fault_line line reason =
+    codes "amt: line " ++ (decimal line ++ (codes ": " ++ (reason_word reason ++ (10 ∷ []))))
+
+-- the input was read to its end, within its limit, and spells no script; the text tells the first bad
+-- line and the first reason in it
+pub record IsFaultText (left left' : Option (List ℕ)) (text : List ℕ) : Type 0 where
   pub bytes : List ℕ
   pub read : TakesAll left left' bytes
   pub short : length bytes ≤ INPUT_LIMIT
-  pub nothing : (script : Script) → IsRelayScript script bytes → ⊥
+  pub nothing : (script : RelayScript) → IsRelayScript script bytes → ⊥
+  pub line : ℕ
+  pub reason : Reason
+  pub fault : IsFaultAt line reason bytes
+  pub told : text ≡ fault_line line reason
+
+-- the input spells no script, and has a fault
+abbrev pub SpellsNothing : Option (List ℕ) → Option (List ℕ) → Type 0
+SpellsNothing left left' = (text : List ℕ) × IsFaultText left left' text
+
+-- the fault of the input was written
+abbrev pub WritesFault : Option (List ℕ) → Option (List ℕ) → Option (List ℕ) → Option (List ℕ) → Type 0
+WritesFault left left' written written' =
+    (text : List ℕ) × IsFaultText left left' text × Appends written written' text
+
+-- a front of its line was
+abbrev pub BeginsFault : Option (List ℕ) → Option (List ℕ) → Option (List ℕ) → Option (List ℕ) → Type 0
+BeginsFault left left' written written' =
+    (text : List ℕ) × IsFaultText left left' text × WritesFront written written' text
 
 -- done; usage; script; read; write; memory; too long
 abbrev pub IsStatus : ℕ → Type 0
@@ -48,15 +74,15 @@ IsStatus status = IsTrue (list_any (λ known. known == status) (0 ∷ 2 ∷ 3 �
 abbrev pub IsQuiet : ℕ → Type 0
 IsQuiet status = IsTrue (list_any (λ known. known == status) (2 ∷ 3 ∷ 4 ∷ 8 ∷ []))
 
--- what is written to standard error, which is nothing for status 0
+-- what is written to standard error under the other statuses than that of a script with a fault;
+-- nothing for status 0
 abbrev pub status_line : ℕ → List ℕ
 status_line status =
     if status == 2 then codes "amt: usage: replay relay|gateway|pair, dump, vectors, load SEED N, relay FILE, gateway FILE" ++ (10 ∷ [])
-    else (if status == 3 then codes "amt: script fault" ++ (10 ∷ [])
     else (if status == 4 then codes "amt: read fault" ++ (10 ∷ [])
     else (if status == 5 then codes "amt: write fault" ++ (10 ∷ [])
     else (if status == 7 then codes "amt: out of memory" ++ (10 ∷ [])
-    else (if status == 8 then codes "amt: input too long" ++ (10 ∷ []) else [])))))
+    else (if status == 8 then codes "amt: input too long" ++ (10 ∷ []) else []))))
 
 -- the words are those of the command, the input tells these bytes, and neither it nor the output
 -- failed, by their counts before and after
@@ -65,7 +91,3 @@ pub record IsUndisturbed (words : List (List ℕ)) (left : Option (List ℕ)) (b
   pub told : left ≡ Some bytes
   pub reading : Rose reads reads' → ⊥
   pub writing : Rose writes writes' → ⊥
-
--- no octets spell two scripts
-abbrev pub HasOneScript : Type 0
-HasOneScript = (bytes : List ℕ) (one other : Script) → IsRelayScript one bytes → IsRelayScript other bytes → one ≡ other

@@ -1,26 +1,33 @@
 ghost use Rattle.std.specs.Prelude.{◌≡◌};
-ghost use Rattle.amt_command.specs.Command.{status_line};
+
+use amt_values::Bytes;
 
 /// Why a run of `amt` didn't end well.
-#[derive(Clone, Copy, Debug, PartialEq, Eq)]
+#[derive(Debug, Drop)]
 pub enum Ending {
+    /// The words are no command.
     Usage,
-    NoScript,
+    /// The input is no script; with the line that tells its first bad line and the reason.
+    Script(Bytes),
+    /// A read of the input failed.
     ReadFault,
+    /// A write of the output failed.
     WriteFault,
+    /// Want of memory, wherever it came.
     Memory,
+    /// The input has more octets than are taken.
     TooLong,
 }
 
 impl Ending {
-    ghost use Rattle.amt_command.specs.Ending.{status_of_ending};
+    ghost use Rattle.amt_command.specs.Ending.{status_of_ending, line_of_ending};
 
     pub fn status(&self) -> u8
         ensures { result ≡ status_of_ending self.now }
     {
         match self {
             Ending::Usage => 2,
-            Ending::NoScript => 3,
+            Ending::Script(_) => 3,
             Ending::ReadFault => 4,
             Ending::WriteFault => 5,
             Ending::Memory => 7,
@@ -29,13 +36,13 @@ impl Ending {
     }
 
     /// The line on standard error, with its line feed.
-    pub fn line(&self) -> &'static [u8]
-        ensures { result.now ≡ status_line (status_of_ending self.now) }
+    pub fn line(&self) -> &[u8]
+        ensures { result.now ≡ line_of_ending self.now }
     {
         match self {
             Ending::Usage =>
                 b"amt: usage: replay relay|gateway|pair, dump, vectors, load SEED N, relay FILE, gateway FILE\n",
-            Ending::NoScript => b"amt: script fault\n",
+            Ending::Script(line) => line.as_slice(),
             Ending::ReadFault => b"amt: read fault\n",
             Ending::WriteFault => b"amt: write fault\n",
             Ending::Memory => b"amt: out of memory\n",

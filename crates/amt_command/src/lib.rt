@@ -7,13 +7,7 @@
 #![tactic(auto)]
 
 mod ending;
-mod fields;
-mod lines;
-mod reading;
-mod replay;
-mod script;
-mod statement;
-mod text;
+mod fault;
 mod top;
 
 pub use top::{amt, amt_without_memory};

@@ -78,7 +78,9 @@ fn a_discovery_is_answered_and_its_reserved_bits_are_ignored(rt: HostRuntime) ->
 #[test]
 fn every_other_datagram_is_refused_with_its_reason(rt: HostRuntime) -> Result<(), Fail> {
     let rows = [
-        ("030000000a0b0c0d", "refused notyet 3"),
+        ("030000000a0b0c", "refused short 8 7"),
+        ("030100000a0b0c0d", "nofamily"),
+        ("05", "refused notyet 5"),
         ("0400", "refused short 12 2"),
         ("040000000000000000000000", "refused noinner"),
         ("0200000001020304c0000201", "wrongkind 2"),
@@ -118,27 +120,51 @@ fn other_words_are_a_usage_fault(rt: HostRuntime) -> Result<(), Fail> {
     Ok(())
 }
 
+// The MAC was computed with another implementation, Python's hmac module.
+#[test]
+fn a_request_is_answered_with_a_query(rt: HostRuntime) -> Result<(), Fail> {
+    let script =
+        "set relay 192.0.2.1\nset query4 192.0.2.1\nat 7\ndg 198.51.100.7:5000 030000000a0b0c0d\nat 5\n";
+    let text =
+        "= 1 moved 7\n= 2 queried v4\n> 198.51.100.7:5000 04014db758a175550a0b0c0d46c000240000000001028211c0000201e0000001940400001164ec1e00000000027d00001388000000000000000000000000c6336407\n= 3 moved 7\n. 3\n";
+    let ended = replay(rt.alloc(), script, NO_CALL)?;
+    assert_eq!(rt; ended.status, 0);
+    assert_eq!(rt; ended.out.as_slice(), text.as_bytes());
+    Ok(())
+}
+
 #[test]
 fn a_script_with_a_fault_takes_no_step(rt: HostRuntime) -> Result<(), Fail> {
     let scripts = [
-        "",
-        "jump\n",
-        "dg 198.51.100.7:5000 0100000001020304\n",
-        "set relay 192.0.2.1\nset relay 192.0.2.1\n",
-        "set relay 192.0.2.1\ndg 198.51.100.7:5000 0100000001020304\njump\n",
-        "set relay 192.0.2.1\ndg 198.51.100.7:5000 010\n",
-        "set relay 192.0.2.1\ndg 198.51.100.7:5000\n",
-        "set relay 192.0.2.1\r",
+        ("", "amt: line 1: missing\n"),
+        ("jump\n", "amt: line 1: word\n"),
+        (
+            "set relay 192.0.2.1\nset relay 192.0.2.1\n",
+            "amt: line 2: twice\n",
+        ),
+        (
+            "set relay 192.0.2.1\n\n# none\ndg 198.51.100.7:5000 0100000001020304\njump\n",
+            "amt: line 5: word\n",
+        ),
+        ("at 1\nset relay 192.0.2.1\n", "amt: line 2: late\n"),
+        (
+            "set relay 192.0.2.1\ndg 198.51.100.7:5000 010\n",
+            "amt: line 2: hex\n",
+        ),
+        (
+            "set relay 192.0.2.1\ndg 198.51.100.7:5000\n",
+            "amt: line 2: count\n",
+        ),
+        ("set relay 192.0.2.1\nat 01\n", "amt: line 2: number\n"),
+        ("set relay 192.0.2\n", "amt: line 1: address\n"),
+        ("dg 198.51.100.7 -\n", "amt: line 1: peer\n"),
+        ("set robustness 0\n", "amt: line 1: range\n"),
     ];
-    for script in scripts {
+    for (script, line) in scripts {
         let ended = replay(rt.alloc(), script, NO_CALL)?;
         assert_eq!(rt; ended.status, 3, "{script}");
         assert_eq!(rt; ended.out.as_slice(), b"".as_slice(), "{script}");
-        assert_eq!(rt;
-            ended.err.as_slice(),
-            b"amt: script fault\n".as_slice(),
-            "{script}"
-        );
+        assert_eq!(rt; ended.err.as_slice(), line.as_bytes(), "{script}");
     }
     Ok(())
 }

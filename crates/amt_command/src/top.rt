@@ -1,18 +1,19 @@
-ghost use Rattle.std.specs.Prelude.{◌≡◌, ◌≢◌, ◌<◌, ◌≤◌, ◌↔◌, ◌⊎◌, ℕ, List, length, map, Option, Some, string_bytes, IsTrue, IsErrOf, IfErr, OnOk, OnErr};
+ghost use Rattle.std.specs.Prelude.{◌≡◌, ◌≢◌, ◌<◌, ◌≤◌, ◌↔◌, ◌⊎◌, ℕ, List, length, map, Option, Some, string_bytes, IsTrue, IsOk, IsErrOf, IfErr, OnOk, OnErr};
 ghost use Rattle.std.specs.Io.KnownBytes.{Appends};
 ghost use Rattle.amt_ports.specs.Causes.{Rose};
 ghost use Rattle.amt_ports.specs.Reading.{TakesAll, TakesAtMost, TakesMore};
 ghost use Rattle.amt_values.specs.declared.bytes.TheConstants.{INPUT_LIMIT};
-ghost use Rattle.amt_command.specs.declared.script.Script.{Script as ScriptValue};
-ghost use Rattle.amt_command.specs.Command.{IsReplayRelay, Replays, BeginsToReplay, SpellsNothing, IsStatus, IsQuiet, IsUndisturbed, HasOneScript, status_line};
-ghost use Rattle.amt_command.specs.Ending.{status_of};
-ghost use Rattle.amt_command.specs.Script.{IsRelayScript};
+ghost use Rattle.amt_script.specs.declared.script.RelayScript.{RelayScript as ScriptValue};
+ghost use Rattle.amt_script.specs.Fault.{HasOneScript, HasOneFault};
+ghost use Rattle.amt_script.specs.Script.{IsRelayScript};
+ghost use Rattle.amt_script.specs.Writing.{WritesFront};
+ghost use Rattle.amt_command.specs.Command.{IsReplayRelay, Replays, BeginsToReplay, SpellsNothing, WritesFault, BeginsFault, IsStatus, IsQuiet, IsUndisturbed, status_line};
+ghost use Rattle.amt_command.specs.Ending.{status_of, line_of, TellsItsFault};
 
 use crate::ending::Ending;
-use crate::reading::read_script;
-use crate::replay::{RunFault, run_script};
-use crate::statement::ScriptFault;
+use crate::fault::ending_of_fault;
 use amt_ports::{ReadAllFault, Sink, Source, read_all, write_all_own};
+use amt_script::{RunFault, ScriptError, read_relay_script, run_relay_script};
 use std::alloc::Global;
 
 fn is_word(word: &String, text: &str) -> bool
@@ -49,8 +50,7 @@ fn replay_relay<S: Source, O: Sink>(alloc: Global, input: &mut S, out: &mut O) -
         → out.new ≡ out.old) }
 
     ensures no_usage { IsErrOf result Ending.Usage → ⊥ }
-    ensures script { IsErrOf result Ending.NoScript
-        → SpellsNothing (S.left input.old) (S.left input.new) }
+    ensures script { IfErr result (TellsItsFault (S.left input.old) (S.left input.new)) }
     ensures read { IsErrOf result Ending.ReadFault
         → Rose (S.faults input.old) (S.faults input.new) }
     ensures write { IsErrOf result Ending.WriteFault → Rose (O.faults out.old) (O.faults out.new) }
@@ -65,12 +65,14 @@ fn replay_relay<S: Source, O: Sink>(alloc: Global, input: &mut S, out: &mut O) -
         Err(ReadAllFault::TooLong) => return Err(Ending::TooLong),
         Err(ReadAllFault::Memory) => return Err(Ending::Memory),
     };
-    let script = match read_script(alloc, bytes.as_slice()) {
+    let script = match read_relay_script(alloc, bytes.as_slice()) {
         Ok(script) => script,
-        Err(ScriptFault::NotScript) => return Err(Ending::NoScript),
-        Err(ScriptFault::Memory) => return Err(Ending::Memory),
+        Err(ScriptError::Fault { line, reason }) => return Err(ending_of_fault(
+            alloc, line, reason,
+        )),
+        Err(ScriptError::Memory) => return Err(Ending::Memory),
     };
-    match run_script(alloc, &script, out) {
+    match run_relay_script(alloc, &script, out) {
         Ok(()) => Ok(()),
         Err(RunFault::Write) => Err(Ending::WriteFault),
         Err(RunFault::Memory) => Err(Ending::Memory),
@@ -98,8 +100,7 @@ fn run<S: Source, O: Sink>(
     ensures quiet { IfErr result (λ ending. ending ≢ Ending.WriteFault → ending ≢ Ending.Memory
         → out.new ≡ out.old) }
 
-    ensures script { IsErrOf result Ending.NoScript
-        → SpellsNothing (S.left input.old) (S.left input.new) }
+    ensures script { IfErr result (TellsItsFault (S.left input.old) (S.left input.new)) }
     ensures read { IsErrOf result Ending.ReadFault
         → Rose (S.faults input.old) (S.faults input.new) }
     ensures write { IsErrOf result Ending.WriteFault → Rose (O.faults out.old) (O.faults out.new) }
@@ -125,8 +126,10 @@ fn status_of(ending: &Result<(), Ending>) -> u8
 
 // A fault of the sink is ignored, since the status tells the same.
 fn report<E: Sink>(ending: &Result<(), Ending>, err: &mut E)
-    ensures { (Rose (E.faults err.old) (E.faults err.new) → ⊥)
-        → Appends (E.written err.old) (E.written err.new) (status_line (status_of ending.now)) }
+    ensures line { (Rose (E.faults err.old) (E.faults err.new) → ⊥)
+        → Appends (E.written err.old) (E.written err.new) (line_of ending.now) }
+    ensures front { WritesFront (E.written err.old) (E.written err.new) (line_of ending.now) }
+    ensures silent { IsOk ending.now → err.new ≡ err.old }
 {
     if let Err(ending) = ending {
         let _ = write_all_own(err, ending.line());
@@ -171,6 +174,7 @@ pub fn amt<S: Source, O: Sink, E: Sink>(
         (S.faults input.old) (S.faults input.new) (O.faults out.old) (O.faults out.new)
         → INPUT_LIMIT < length bytes → (result ≡ 8) ⊎ (result ≡ 7) }
     ensures one_script { HasOneScript }
+    ensures one_fault { HasOneFault }
 
     // What is written, and what is left alone.
     ensures untouched { result ≡ 2 → input.new ≡ input.old }
@@ -180,8 +184,16 @@ pub fn amt<S: Source, O: Sink, E: Sink>(
     ensures memory { result ≡ 7 → (out.new ≡ out.old)
         ⊎ BeginsToReplay (S.left input.old) (S.left input.new) (O.written out.old)
         (O.written out.new) }
-    ensures line { (Rose (E.faults err.old) (E.faults err.new) → ⊥)
+    ensures line { (Rose (E.faults err.old) (E.faults err.new) → ⊥) → result ≢ 3
         → Appends (E.written err.old) (E.written err.new) (status_line result) }
+    ensures fault_line { (Rose (E.faults err.old) (E.faults err.new) → ⊥) → result ≡ 3
+        → WritesFault (S.left input.old) (S.left input.new)
+        (E.written err.old) (E.written err.new) }
+    ensures front { result ≢ 3
+        → WritesFront (E.written err.old) (E.written err.new) (status_line result) }
+    ensures fault_front { result ≡ 3 → BeginsFault (S.left input.old) (S.left input.new)
+        (E.written err.old) (E.written err.new) }
+    ensures silent { result ≡ 0 → err.new ≡ err.old }
 {
     let ending = run(alloc, words, input, out);
     report(&ending, err);
@@ -193,6 +205,7 @@ pub fn amt_without_memory<E: Sink>(err: &mut E) -> u8
     ensures status { result ≡ 7 }
     ensures line { (Rose (E.faults err.old) (E.faults err.new) → ⊥)
         → Appends (E.written err.old) (E.written err.new) (status_line result) }
+    ensures front { WritesFront (E.written err.old) (E.written err.new) (status_line result) }
 {
     let ending = Err(Ending::Memory);
     report(&ending, err);

@@ -1,15 +1,12 @@
-use Rattle.std.proofs.Common.{Err, ap}
-use Rattle.amt_command.specs.declared.statement.ScriptFault.{ScriptFault}
-use Rattle.amt_command.proofs.Statements.{IsEvent-each}
+use Rattle.amt_script.specs.Fault.{IsErrorOf, RulesOutScripts}
+use Rattle.amt_script.specs.declared.script.ScriptError.TheVariants as errors
+use Rattle.amt_command.proofs.Undisturbed.{tells_fault}
 use Rattle.amt_command.proofs.top.replay_relay.Goals as goal
 
-pub run_script-requires : goal.run_script-requires
-run_script-requires g c = IsEvent-each c.in-Ok-read_script.script.events _ c.in-Ok-read_script.ensures.found.event_lines
-
-pub returns-in-Err-NotScript-clause-script : goal.returns-in-Err-NotScript-clause-script
-returns-in-Err-NotScript-clause-script g c = λ _. record {
-  bytes = c.in-Ok.bytes;
-  read = c.in-Ok.ensures.all;
-  short = c.in-Ok.ensures.short;
-  nothing = rw c.as_slice.ensures at (c.in-Err-NotScript.ensures.none (ap (λ (e : ScriptFault). Err e) c.in-Err-NotScript.field-0-is));
-}
+pub returns-in-Err-Fault-clause-script : goal.returns-in-Err-Fault-clause-script
+returns-in-Err-Fault-clause-script g c =
+    let line = c.in-Err-Fault.line in
+    let reason = c.in-Err-Fault.reason in
+    let fault : IsErrorOf c.in-Ok.bytes (errors.Fault line reason) = rw (c.as_slice.ensures, c.in-Err-Fault.field-0-is) at c.in-Err-Fault.ensures.fault in
+    let nothing : RulesOutScripts c.in-Ok.bytes (errors.Fault line reason) = rw (c.as_slice.ensures, c.in-Err-Fault.field-0-is) at c.in-Err-Fault.ensures.none in
+    tells_fault _ _ c.in-Ok.bytes line reason c.ending_of_fault.result c.ending_of_fault.ensures c.in-Ok.ensures.all c.in-Ok.ensures.short nothing fault

@@ -1,0 +1,142 @@
+-- The first reason why a line is bad, by its kind and its fields.
+use Rattle.std.proofs.Common.{◌≡◌, ◌≢◌, ℕ, ◌⊎◌, ◌↔◌, List, [], ◌∷◌, ◌++◌, codes, IsSome, inl, inr, refl, sym, subst, ◌∙◌}
+use Rattle.std.specs.List.{AllByRecursion}
+use Rattle.relay_machine.specs.declared.event.Event.{Event}
+use Rattle.amt_script.specs.declared.kind.Key.{Key}
+use Rattle.amt_script.specs.declared.kind.Kind.{Kind}
+use Rattle.amt_script.specs.declared.kind.Kind.TheVariants as kinds
+use Rattle.amt_script.specs.declared.reason.Reason.{Reason}
+use Rattle.amt_script.specs.declared.reason.Reason.TheVariants as reasons
+use Rattle.amt_script.specs.declared.setting.Setting.{Setting}
+use Rattle.amt_script.specs.Fault.{First, Holds, FailsAs, FailsInKind, order_of_values, order_of_reasons}
+use Rattle.amt_script.specs.Lines.{fields, IsShort, IsPlain}
+use Rattle.amt_script.specs.Reading.{FailsToSet}
+use Rattle.amt_script.specs.Row.{words_of, IsUnknown}
+use Rattle.amt_script.specs.Setting.{set_at}
+use Rattle.amt_script.proofs.Rows.{same_kind, same_values}
+
+pub First-same : (P Q : Reason → Type 0) (order : List Reason) (reason : Reason) → AllByRecursion (λ r. P r ↔ Q r) order
+    → First P order reason → First Q order reason
+First-same P Q [] reason same first = absurd first
+First-same P Q (next ∷ more) reason same (inl here) = inl (same.0.0 here.0, here.1)
+First-same P Q (next ∷ more) reason same (inr later) =
+    inr (λ holds. later.0 (same.0.1 holds), First-same P Q more reason same.1 later.1)
+
+pub fails_as : (kind : Kind) (values line : List (List ℕ)) (reason : Reason) → line ≡ words_of kind ++ values → FailsInKind line reason → FailsAs kind values reason
+fails_as kind values line reason parts fails =
+    let both = sym fails.2 ∙ parts in
+    subst (λ (vs : List (List ℕ)). FailsAs kind vs reason) (same_values fails.0 kind fails.1 values both)
+    (subst (λ (k : Kind). FailsAs k fails.1 reason) (same_kind fails.0 kind fails.1 values both) fails.3)
+
+in_kind : (kind : Kind) (values line : List (List ℕ)) (reason : Reason) → line ≡ words_of kind ++ values → FailsAs kind values reason ↔ FailsInKind line reason
+in_kind kind values line reason parts = (λ h. (kind, values, parts, h), fails_as kind values line reason parts)
+
+pub no_set_alone : (kind : Kind) (values line : List (List ℕ)) → line ≡ words_of kind ++ values → line ≡ codes "set" ∷ [] → ⊥
+no_set_alone (kinds.Set key) values line parts alone = cc (sym alone ∙ parts)
+no_set_alone kinds.Moment values line parts alone = cc (sym alone ∙ parts)
+no_set_alone kinds.Secret values line parts alone = cc (sym alone ∙ parts)
+no_set_alone kinds.Datagram values line parts alone = cc (sym alone ∙ parts)
+
+counted : (kind : Kind) (values line : List (List ℕ)) → line ≡ words_of kind ++ values → (line ≡ codes "set" ∷ []) ⊎ FailsInKind line reasons.Count → FailsAs kind values reasons.Count
+counted kind values line parts (inl alone) = absurd (no_set_alone kind values line parts alone)
+counted kind values line parts (inr fails) = fails_as kind values line reasons.Count parts fails
+
+pub values_judged : (given : List Setting) (events : List Event) (line : List ℕ) (kind : Kind) (values : List (List ℕ)) (reason : Reason) → fields line ≡ words_of kind ++ values
+    → First (FailsAs kind values) order_of_values reason → First (Holds given events line) order_of_values reason
+values_judged given events line kind values reason parts first =
+    First-same (FailsAs kind values) (Holds given events line) order_of_values reason (
+      (λ h. inr (kind, values, parts, h), counted kind values (fields line) parts),
+      (
+        in_kind kind values (fields line) reasons.Number parts,
+        (
+          in_kind kind values (fields line) reasons.Hex parts,
+          (
+            in_kind kind values (fields line) reasons.Address parts,
+            (
+              in_kind kind values (fields line) reasons.Peer parts,
+              (
+                in_kind kind values (fields line) reasons.Range parts,
+                tt,
+              ),
+            ),
+          ),
+        ),
+      ),
+    ) first
+
+pub no_word : (line : List ℕ) (kind : Kind) (values : List (List ℕ)) → IsPlain line → fields line ≡ words_of kind ++ values → (IsPlain line → ⊥) ⊎ IsUnknown (fields line) → ⊥
+no_word line kind values plain parts (inl h) = h plain
+no_word line kind values plain parts (inr unknown) = unknown.no_kind kind values parts
+
+-- the kind is that of an event
+abbrev pub IsEventKind : Kind → Type 0
+IsEventKind kind = (key : Key) → kind ≢ kinds.Set key
+
+pub no_late : (kind : Kind) (values line rest : List (List ℕ)) → IsEventKind kind → line ≡ words_of kind ++ values → line ≡ codes "set" ∷ rest → ⊥
+no_late (kinds.Set key) values line rest event parts set = event key refl
+no_late kinds.Moment values line rest event parts set = cc (sym set ∙ parts)
+no_late kinds.Secret values line rest event parts set = cc (sym set ∙ parts)
+no_late kinds.Datagram values line rest event parts set = cc (sym set ∙ parts)
+
+pub event_judged : (given : List Setting) (events : List Event) (line : List ℕ) (kind : Kind) (values : List (List ℕ)) (reason : Reason)
+    → IsEventKind kind → IsShort line → IsPlain line → fields line ≡ words_of kind ++ values
+    → First (FailsAs kind values) order_of_values reason → First (Holds given events line) order_of_reasons reason
+event_judged given events line kind values reason event short plain parts first =
+    inr (
+      λ long. long short,
+      inr (
+        no_word line kind values plain parts,
+        inr (
+          λ late. no_late kind values (fields line) late.1 event parts late.2,
+          inr (
+            λ twice. event twice.0 (same_kind kind (kinds.Set twice.0) values twice.1 (sym parts ∙ twice.2)),
+            values_judged given events line kind values reason parts first,
+          ),
+        ),
+      ),
+    )
+
+set_key : (one other : Key) → kinds.Set one ≡ kinds.Set other → one ≡ other
+set_key one other same = cc
+
+pub twice_at : (given : List Setting) (line : List (List ℕ)) (key : Key) (values : List (List ℕ)) → line ≡ words_of (kinds.Set key) ++ values
+    → (other : Key) (others : List (List ℕ)) → line ≡ words_of (kinds.Set other) ++ others → IsSome (set_at given other) → IsSome (set_at given key)
+twice_at given line key values parts other others twice set =
+    subst (λ (k : Key). IsSome (set_at given k)) (set_key other key (same_kind (kinds.Set other) (kinds.Set key) others values (sym twice ∙ parts))) set
+
+pub setting_judged : (given : List Setting) (events : List Event) (line : List ℕ) (key : Key) (values : List (List ℕ)) (reason : Reason)
+    → IsShort line → IsPlain line → fields line ≡ words_of (kinds.Set key) ++ values
+    → First (FailsToSet given events key values) (reasons.Late ∷ reasons.Twice ∷ order_of_values) reason
+    → First (Holds given events line) order_of_reasons reason
+setting_judged given events line key values reason short plain parts first =
+    inr (
+      λ long. long short,
+      inr (
+        no_word line (kinds.Set key) values plain parts,
+        First-same (FailsToSet given events key values) (Holds given events line) (reasons.Late ∷ reasons.Twice ∷ order_of_values) reason (
+          (λ late. (late, _, parts), λ late. late.0),
+          (
+            (λ twice. (key, values, parts, twice), λ twice. twice_at given (fields line) key values parts twice.0 twice.1 twice.2 twice.3),
+            (
+              (λ h. inr (kinds.Set key, values, parts, h), counted (kinds.Set key) values (fields line) parts),
+              (
+                in_kind (kinds.Set key) values (fields line) reasons.Number parts,
+                (
+                  in_kind (kinds.Set key) values (fields line) reasons.Hex parts,
+                  (
+                    in_kind (kinds.Set key) values (fields line) reasons.Address parts,
+                    (
+                      in_kind (kinds.Set key) values (fields line) reasons.Peer parts,
+                      (
+                        in_kind (kinds.Set key) values (fields line) reasons.Range parts,
+                        tt,
+                      ),
+                    ),
+                  ),
+                ),
+              ),
+            ),
+          ),
+        ) first,
+      ),
+    )

@@ -1,0 +1,16 @@
+pub mod Bad
+pub mod Begun
+pub mod Failures
+pub mod Judging
+pub mod Numbers
+pub mod Once
+pub mod Printed
+pub mod Rows
+pub mod Running
+pub mod Runs
+pub mod Says
+pub mod Splitting
+pub mod Taking
+pub mod Unique
+pub mod Verdicts
+pub mod Writes

@@ -1,0 +1,14 @@
+use Rattle.std.proofs.Common.{◌≡◌, ◌++◌, codes, rules, sym, subst, append_assoc}
+use Rattle.amt_values.specs.Text.{peer_text}
+use Rattle.relay_machine.specs.declared.event.Event.TheVariants.{Datagram}
+use Rattle.amt_script.specs.Printed.{IsLineThatSays}
+use Rattle.amt_script.specs.Texts.{hex_text}
+use Rattle.amt_script.proofs.Printed.{datagram_said}
+use Rattle.amt_script.proofs.text.print_datagram_line.Goals as goal
+
+pub returns-clause-says : goal.returns-clause-says
+returns-clause-says c = λ said.
+    let bytes = c.args.bytes.now in
+    let octets = rw c.as_slice.ensures at c.print_hex.ensures.octets in
+    let same : c.append-3.new.self ≡ codes "dg " ++ (peer_text c.args.from.now ++ (codes " " ++ hex_text bytes)) = search (rules, append_assoc) in
+    subst (IsLineThatSays (Datagram c.args.from.now bytes)) (sym same) (datagram_said c.args.from.now bytes said.0 octets c.requires said.1)

@@ -1,0 +1,5 @@
+use Rattle.amt_values.specs.declared.address.Ip.TheVariants.{V4}
+use Rattle.amt_script.proofs.values.read_address4.Goals as goal
+
+pub returns-in-None-clause-none : goal.returns-in-None-clause-none
+returns-in-None-clause-none c = λ number h. let read = c.in-None.ensures.only (V4 number) h in cc read

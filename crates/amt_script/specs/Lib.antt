@@ -1,0 +1,12 @@
+pub mod Each
+pub mod Fault
+pub mod Form
+pub mod Lines
+pub mod Printed
+pub mod Reading
+pub mod Row
+pub mod Running
+pub mod Script
+pub mod Setting
+pub mod Texts
+pub mod Writing

@@ -1,0 +1,25 @@
+-- That a printed event is read back.
+use Rattle.std.specs.Prelude.{◌≡◌, List, [], ◌∷◌, ℕ}
+use Rattle.std.specs.Str.Lines.{lines}
+use Rattle.amt_values.specs.Text.{IsPeerText}
+use Rattle.relay_machine.specs.declared.event.Event.{Event}
+use Rattle.relay_machine.specs.declared.event.Event.TheVariants.{Moment, Datagram, Rotate}
+use Rattle.amt_script.specs.Lines.{IsShort}
+use Rattle.amt_script.specs.Script.{IsEventLine}
+
+-- some text names the peer of a datagram, which none does yet for IPv6
+abbrev pub CanBeSaid : Event → Type 0
+CanBeSaid (Moment moment) = Unit {0}
+CanBeSaid (Datagram from bytes) = (text : List ℕ) × IsPeerText from text
+CanBeSaid (Rotate secret) = Unit {0}
+
+-- the line says the event, and isn't too long
+pub record IsLineThatSays (event : Event) (line : List ℕ) : Type 0 where
+  pub short : IsShort line
+  pub says : IsEventLine event line
+
+-- the text is one line, which says the event
+pub record IsLineOf (event : Event) (text : List ℕ) : Type 0 where
+  pub line : List ℕ
+  pub only : lines text ≡ line ∷ []
+  pub says : IsLineThatSays event line

@@ -1,0 +1,92 @@
+-- What is written of a relay's events, of its steps, and of a reason.
+use Rattle.std.specs.Prelude.{ℕ, ◌+◌, true, false, List, [], ◌∷◌, ◌++◌, length, codes, decimal, flat_map}
+use Rattle.hex.specs.Hex.{encode_lower}
+use Rattle.amt_values.specs.Endpoint.{peer_of}
+use Rattle.amt_values.specs.Text.{peer_text}
+use Rattle.amt_messages.specs.declared.refusal.Refused.{Refused}
+use Rattle.amt_messages.specs.declared.refusal.Refused.TheVariants.{Empty, Version, Kind, NotYet, NoInner, Short, Long}
+use Rattle.response_mac.specs.declared.secret.Secret.{Secret}
+use Rattle.relay_machine.specs.declared.event.Event.{Event}
+use Rattle.relay_machine.specs.declared.event.Event.TheVariants as events
+use Rattle.relay_machine.specs.declared.outcome.Outcome.{Outcome}
+use Rattle.relay_machine.specs.declared.outcome.Outcome.TheVariants.{Moved, Rotated, BadSource, Undecoded, WrongKind, NoFamily, Advertised, Queried}
+use Rattle.relay_machine.specs.declared.sends.OneSend.{OneSend}
+use Rattle.relay_machine.specs.declared.settings.Settings.{Settings}
+use Rattle.relay_machine.specs.Answers.{outcome_of, sends_of}
+use Rattle.amt_script.specs.declared.reason.Reason.{Reason}
+use Rattle.amt_script.specs.declared.reason.Reason.TheVariants as reasons
+use Rattle.amt_script.specs.declared.script.RelayScript.{RelayScript}
+
+abbrev pub refusal_text : Refused → List ℕ
+refusal_text Empty = codes "empty"
+refusal_text (Version version) = codes "version " ++ decimal version
+refusal_text (Kind kind) = codes "kind " ++ decimal kind
+refusal_text (NotYet kind) = codes "notyet " ++ decimal kind
+refusal_text NoInner = codes "noinner"
+refusal_text (Short need have) = codes "short " ++ (decimal need ++ (codes " " ++ decimal have))
+refusal_text (Long need have) = codes "long " ++ (decimal need ++ (codes " " ++ decimal have))
+
+abbrev pub outcome_text : Outcome → List ℕ
+outcome_text (Moved moment) = codes "moved " ++ decimal moment
+outcome_text Rotated = codes "rotated"
+outcome_text BadSource = codes "badsource"
+outcome_text (Undecoded refusal) = codes "refused " ++ refusal_text refusal
+outcome_text (WrongKind kind) = codes "wrongkind " ++ decimal kind
+outcome_text NoFamily = codes "nofamily"
+outcome_text Advertised = codes "advertised"
+outcome_text (Queried false false) = codes "queried v4"
+outcome_text (Queried false true) = codes "queried v4 limited"
+outcome_text (Queried true false) = codes "queried v6"
+outcome_text (Queried true true) = codes "queried v6 limited"
+
+-- pairs of hexadecimal digits, or `-` for no octet
+abbrev pub hex_text : List ℕ → List ℕ
+hex_text [] = codes "-"
+hex_text (octet ∷ rest) = encode_lower (octet ∷ rest)
+
+-- `at MS`, `dg PEER HEX` or `secret HEX`
+abbrev pub event_line : Event → List ℕ
+event_line (events.Moment moment) = codes "at " ++ decimal moment
+event_line (events.Datagram from bytes) = codes "dg " ++ (peer_text from ++ (codes " " ++ hex_text bytes))
+event_line (events.Rotate secret) = codes "secret " ++ hex_text secret.0
+
+-- its line, with a line feed
+unfoldable pub event_text : Event → List ℕ
+event_text event = event_line event ++ 10 ∷ []
+
+-- `> PEER HEX`
+unfoldable pub send_text : OneSend → List ℕ
+send_text send =
+    codes "> " ++ (peer_text (peer_of send.to) ++ (codes " " ++ (hex_text send.bytes ++ (10 ∷ []))))
+
+-- `= N OUTCOME`, and a line for each send
+unfoldable pub step_text : ℕ → Outcome → List OneSend → List ℕ
+step_text number outcome sends =
+    codes "= " ++ (decimal number ++ (codes " " ++ (outcome_text outcome ++ (10 ∷ flat_map send_text sends))))
+
+-- `. N`, the number of events
+unfoldable pub closing_text : ℕ → List ℕ
+closing_text count = codes ". " ++ (decimal count ++ (10 ∷ []))
+
+-- the steps of the events that follow those before, numbered from 1
+abbrev pub events_text : Settings → Secret → List Event → List Event → List ℕ
+events_text settings secret before [] = []
+events_text settings secret before (event ∷ rest) =
+    step_text (length before + 1) (outcome_of settings secret before event) (sends_of settings secret before event)
+    ++ events_text settings secret (before ++ event ∷ []) rest
+
+abbrev pub text_of : RelayScript → List ℕ
+text_of script = events_text script.settings script.secret [] script.items ++ closing_text (length script.items)
+
+abbrev pub reason_word : Reason → List ℕ
+reason_word reasons.Long = codes "long"
+reason_word reasons.Word = codes "word"
+reason_word reasons.Late = codes "late"
+reason_word reasons.Twice = codes "twice"
+reason_word reasons.Count = codes "count"
+reason_word reasons.Number = codes "number"
+reason_word reasons.Hex = codes "hex"
+reason_word reasons.Address = codes "address"
+reason_word reasons.Peer = codes "peer"
+reason_word reasons.Range = codes "range"
+reason_word reasons.Missing = codes "missing"

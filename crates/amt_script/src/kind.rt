@@ -1,0 +1,120 @@
+ghost use Rattle.std.specs.Prelude.{◌≡◌, ◌≢◌, ◌∷◌, ◌++◌, [], List, ℕ, codes, IfSome, IfNone, IfOk, IsErrOf};
+ghost use Rattle.amt_script.specs.declared.kind.Key.{Key as KeyValue};
+ghost use Rattle.amt_script.specs.Lines.{fields};
+ghost use Rattle.amt_script.specs.Row.{key_word, words_of, IsUnknown};
+
+use crate::fields::next_field;
+
+/// What a `set` line sets.
+#[derive(Clone, Copy, Debug, PartialEq, Eq)]
+pub enum Key {
+    Relay,
+    Query4,
+    Robustness,
+    QuerySeconds,
+    ResponseTenths,
+    Secret,
+}
+
+impl Key {
+    ghost use Rattle.std.specs.Prelude.{◌≡◌};
+    ghost use Rattle.amt_script.specs.Setting.{place_of};
+
+    /// The place of the key among the keys.
+    pub fn place(self) -> u8
+        ensures { result ≡ place_of self }
+    {
+        match self {
+            Key::Relay => 0,
+            Key::Query4 => 1,
+            Key::Robustness => 2,
+            Key::QuerySeconds => 3,
+            Key::ResponseTenths => 4,
+            Key::Secret => 5,
+        }
+    }
+}
+
+/// The kinds of lines that say something.
+#[derive(Clone, Copy, Debug, PartialEq, Eq)]
+pub enum Kind {
+    /// A setting.
+    Set(Key),
+    /// It has become a moment.
+    Moment,
+    /// A new secret.
+    Secret,
+    /// A datagram has come.
+    Datagram,
+}
+
+/// Why a line is of no kind.
+#[derive(Clone, Copy, Debug, PartialEq, Eq)]
+pub enum NoKind {
+    Unknown,
+    /// A `set` with nothing after it.
+    SetAlone,
+}
+
+fn key_of_word(word: &[u8]) -> Option<Key>
+    ensures found { IfSome result (λ key. word.now ≡ key_word key) }
+    ensures none { IfNone result ((key : KeyValue) → word.now ≢ key_word key) }
+{
+    if word == b"relay".as_slice() {
+        return Some(Key::Relay);
+    }
+    if word == b"query4".as_slice() {
+        return Some(Key::Query4);
+    }
+    if word == b"robustness".as_slice() {
+        return Some(Key::Robustness);
+    }
+    if word == b"query_seconds".as_slice() {
+        return Some(Key::QuerySeconds);
+    }
+    if word == b"response_tenths".as_slice() {
+        return Some(Key::ResponseTenths);
+    }
+    if word == b"secret".as_slice() {
+        return Some(Key::Secret);
+    }
+    None
+}
+
+fn kind_after_set(rest: &[u8]) -> Result<(Kind, &[u8]), NoKind>
+    ensures found { IfOk result (λ parts. codes "set" ∷ fields rest.now ≡ words_of parts.0 ++ fields parts.1.now) }
+    ensures alone { IsErrOf result NoKind.SetAlone → fields rest.now ≡ [] }
+    ensures unknown { IsErrOf result NoKind.Unknown → IsUnknown (codes "set" ∷ fields rest.now) }
+{
+    let Some((word, values)) = next_field(rest) else {
+        return Err(NoKind::SetAlone);
+    };
+    match key_of_word(word) {
+        Some(key) => Ok((Kind::Set(key), values)),
+        None => Err(NoKind::Unknown),
+    }
+}
+
+/// The kind of a line by its first words, and the octets after them.
+pub fn kind_of_line(line: &[u8]) -> Result<(Kind, &[u8]), NoKind>
+    ensures found { IfOk result (λ parts. fields line.now ≡ words_of parts.0 ++ fields parts.1.now) }
+    ensures alone { IsErrOf result NoKind.SetAlone → fields line.now ≡ codes "set" ∷ [] }
+    ensures unknown { IsErrOf result NoKind.Unknown → IsUnknown (fields line.now) }
+{
+    let Some((word, rest)) = next_field(line) else {
+        return Err(NoKind::Unknown);
+    };
+    if word == b"set".as_slice() {
+        return kind_after_set(rest);
+    }
+    if word == b"at".as_slice() {
+        return Ok((Kind::Moment, rest));
+    }
+    if word == b"secret".as_slice() {
+        return Ok((Kind::Secret, rest));
+    }
+    if word == b"dg".as_slice() {
+        return Ok((Kind::Datagram, rest));
+    }
+    Err(NoKind::Unknown)
+}

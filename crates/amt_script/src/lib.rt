@@ -1,0 +1,30 @@
+//! Scripts and the texts of their steps.
+//!
+//! Contract: octets are read as a script exactly where they spell it, else as the first bad line and
+//! the first reason in it; a script's text is a function of the script.
+//! It knows sinks by their trait alone, and no real device.
+//! Standard: none of its own; the formats stand in docs/FORMATS.md.
+#![tactic(auto)]
+
+mod fields;
+mod kind;
+mod line;
+mod lines;
+mod reading;
+mod reason;
+mod replay;
+mod script;
+mod setting;
+mod settling;
+mod statement;
+mod text;
+mod values;
+
+pub use reading::read_relay_script;
+pub use reason::Reason;
+pub use replay::{RunFault, run_relay_script};
+pub use script::{Events, RelayScript, ScriptError};
+pub use text::{print_relay_event, print_relay_step};
+
+#[cfg(test)]
+mod tests;

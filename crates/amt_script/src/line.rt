@@ -1,0 +1,87 @@
+ghost use Rattle.std.specs.Prelude.{◌≡◌, ◌↔◌, ◌∷◌, ◌++◌, IsTrue, IfOk, IfErr};
+ghost use Rattle.amt_script.specs.declared.kind.Kind.TheVariants as kinds;
+ghost use Rattle.amt_script.specs.Fault.{First, Holds, order_of_values, order_of_reasons};
+ghost use Rattle.amt_script.specs.Lines.{fields, IsShort, IsPlain};
+ghost use Rattle.amt_script.specs.Reading.{FailsFirst, FailsToSet, IsGoodLine, MaySet};
+ghost use Rattle.amt_script.specs.Row.{words_of};
+ghost use Rattle.amt_script.specs.Script.{SaysSetting};
+
+use crate::kind::{Key, Kind, NoKind, kind_of_line};
+use crate::reason::Reason;
+use crate::setting::{Setting, is_given};
+use crate::statement::{LineError, read_datagram, read_moment_event, read_rotation, read_setting};
+use relay_machine::Event;
+use std::alloc::Global;
+
+/// What a line says.
+#[derive(Debug, Drop)]
+pub enum Statement {
+    Setting(Setting),
+    Event(Event),
+}
+
+fn is_plain(line: &[u8]) -> bool
+    ensures { IsTrue result ↔ IsPlain line.now }
+{
+    line.iter().all(|octet| 32 <= *octet && *octet <= 126)
+}
+
+fn read_set(given: &[Setting], events: &[Event], key: Key, values: &[u8]) -> Result<Setting, Reason>
+    ensures may { IfOk result (MaySet given.now events.now) }
+    ensures found { IfOk result (λ setting. SaysSetting setting (words_of (kinds.Set key) ++ fields values.now)) }
+    ensures reason { IfErr result (λ reason. First (FailsToSet given.now events.now key (fields values.now))
+        (Reason.Late ∷ Reason.Twice ∷ order_of_values) reason) }
+{
+    if !events.is_empty() {
+        return Err(Reason::Late);
+    }
+    if is_given(given, key) {
+        return Err(Reason::Twice);
+    }
+    match read_setting(key, values) {
+        Ok(setting) => Ok(setting),
+        Err(reason) => Err(reason),
+    }
+}
+
+/// Reads a line that says something, after lines that said these settings and events.
+pub fn read_statement(
+    alloc: Global,
+    given: &[Setting],
+    events: &[Event],
+    line: &[u8],
+) -> Result<Statement, LineError>
+    requires { IsShort line.now }
+    ensures found { IfOk result (λ statement. IsGoodLine given.now events.now statement line.now) }
+    ensures reason { IfErr result (FailsFirst (Holds given.now events.now line.now) order_of_reasons) }
+{
+    if !is_plain(line) {
+        return Err(LineError::Bad(Reason::Word));
+    }
+    match kind_of_line(line) {
+        Err(NoKind::Unknown) => Err(LineError::Bad(Reason::Word)),
+        Err(NoKind::SetAlone) => {
+            if events.is_empty() {
+                Err(LineError::Bad(Reason::Count))
+            } else {
+                Err(LineError::Bad(Reason::Late))
+            }
+        }
+        Ok((Kind::Set(key), values)) => match read_set(given, events, key, values) {
+            Ok(setting) => Ok(Statement::Setting(setting)),
+            Err(reason) => Err(LineError::Bad(reason)),
+        },
+        Ok((Kind::Moment, values)) => match read_moment_event(values) {
+            Ok(event) => Ok(Statement::Event(event)),
+            Err(reason) => Err(LineError::Bad(reason)),
+        },
+        Ok((Kind::Secret, values)) => match read_rotation(values) {
+            Ok(event) => Ok(Statement::Event(event)),
+            Err(reason) => Err(LineError::Bad(reason)),
+        },
+        Ok((Kind::Datagram, values)) => match read_datagram(alloc, values) {
+            Ok(event) => Ok(Statement::Event(event)),
+            Err(error) => Err(error),
+        },
+    }
+}

@@ -1,0 +1,104 @@
+ghost use Rattle.std.specs.Prelude.{◌≡◌, ◌+◌, ◌≤◌, ◌<◌, ◌^◌, List, [], ◌∷◌, ◌++◌, OnOk, OnErr, IfErr, IsErrOf};
+ghost use Rattle.std.specs.Io.KnownBytes.{Appends};
+ghost use Rattle.amt_ports.specs.Causes.{Rose};
+ghost use Rattle.response_mac.specs.declared.secret.Secret.{Secret as SecretValue};
+ghost use Rattle.relay_machine.specs.declared.event.Event.{Event as EventValue};
+ghost use Rattle.relay_machine.specs.declared.settings.Settings.{Settings as SettingsValue};
+ghost use Rattle.relay_machine.specs.Answers.{RelayAt, outcome_of, sends_of};
+ghost use Rattle.relay_machine.specs.Conditions.{IsEvent};
+ghost use Rattle.amt_script.specs.Running.{IsRunnable};
+ghost use Rattle.amt_script.specs.Texts.{step_text, text_of};
+ghost use Rattle.amt_script.specs.Writing.{WritesFront};
+
+use crate::script::RelayScript;
+use crate::text::{print_closing, print_relay_step};
+use amt_ports::{Sink, write_all_own};
+use amt_values::Bytes;
+use relay_machine::{Event, Relay};
+use std::alloc::Global;
+
+/// Why the text of a script was not written whole. A front of it stays written.
+#[derive(Clone, Copy, Debug, PartialEq, Eq)]
+pub enum RunFault {
+    /// The sink failed.
+    Write,
+    /// Want of memory for a step or its text.
+    Memory,
+}
+
+fn write_text<O: Sink>(out: &mut O, text: &Bytes) -> Result<(), RunFault>
+    ensures done { OnOk result (Appends (O.written out.old) (O.written out.new) text.now) }
+    ensures begun { OnErr result (WritesFront (O.written out.old) (O.written out.new) text.now) }
+
+    ensures later { O.faults out.old ≤ O.faults out.new }
+    ensures write { OnErr result (Rose (O.faults out.old) (O.faults out.new)) }
+    ensures fault { IfErr result (λ fault. fault ≡ RunFault.Write) }
+{
+    match write_all_own(out, text.as_slice()) {
+        Ok(()) => Ok(()),
+        Err(_) => Err(RunFault::Write),
+    }
+}
+
+fn write_step<O: Sink>(
+    alloc: Global,
+    relay: &mut Relay,
+    number: u64,
+    event: &Event,
+    out: &mut O,
+) -> Result<(), RunFault>
+    requires { IsEvent event.now }
+    ensures done { (settings : SettingsValue) (first : SecretValue)
+        (events : List EventValue) → RelayAt relay.old settings first events
+        → OnOk result (Appends (O.written out.old) (O.written out.new)
+        (step_text number (outcome_of settings first events event.now)
+        (sends_of settings first events event.now))) }
+    ensures begun { (settings : SettingsValue) (first : SecretValue)
+        (events : List EventValue) → RelayAt relay.old settings first events
+        → OnErr result (WritesFront (O.written out.old) (O.written out.new)
+        (step_text number (outcome_of settings first events event.now)
+        (sends_of settings first events event.now))) }
+    ensures next { (settings : SettingsValue) (first : SecretValue)
+        (events : List EventValue) → RelayAt relay.old settings first events
+        → OnOk result (RelayAt relay.new settings first (events ++ event.now ∷ [])) }
+
+    ensures later { O.faults out.old ≤ O.faults out.new }
+    ensures write { IsErrOf result RunFault.Write → Rose (O.faults out.old) (O.faults out.new) }
+{
+    let Ok(step) = relay.step(alloc, event) else {
+        return Err(RunFault::Memory);
+    };
+    let Ok(text) = print_relay_step(alloc, number, &step) else {
+        return Err(RunFault::Memory);
+    };
+    write_text(out, &text)
+}
+
+/// Runs a relay over a script, and writes the text of its steps.
+pub fn run_relay_script<O: Sink>(
+    alloc: Global,
+    script: &RelayScript,
+    out: &mut O,
+) -> Result<(), RunFault>
+    requires { IsRunnable script.now }
+    ensures done { OnOk result (Appends (O.written out.old) (O.written out.new)
+        (text_of script.now)) }
+    ensures begun { OnErr result (WritesFront (O.written out.old) (O.written out.new)
+        (text_of script.now)) }
+
+    ensures later { O.faults out.old ≤ O.faults out.new }
+    ensures write { IsErrOf result RunFault.Write → Rose (O.faults out.old) (O.faults out.new) }
+{
+    let mut relay = Relay::new(script.settings, script.secret);
+    let events = script.items.as_slice();
+    for (index, event) in events.iter().enumerate() {
+        match write_step(alloc, &mut relay, index as u64 + 1, event, out) {
+            Ok(()) => {}
+            Err(fault) => return Err(fault),
+        }
+    }
+    let Ok(text) = print_closing(alloc, events.len() as u64) else {
+        return Err(RunFault::Memory);
+    };
+    write_text(out, &text)
+}

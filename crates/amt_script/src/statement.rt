@@ -1,0 +1,119 @@
+ghost use Rattle.std.specs.Prelude.{◌≡◌, ◌⊎◌, [], ◌∷◌, ◌++◌, IfOk, IfErr, IfNone};
+ghost use Rattle.amt_script.specs.declared.kind.Kind.TheVariants as kinds;
+ghost use Rattle.amt_script.specs.Fault.{First, FailsAs, order_of_values};
+ghost use Rattle.amt_script.specs.Lines.{fields};
+ghost use Rattle.amt_script.specs.Row.{words_of, form_of_key};
+ghost use Rattle.amt_script.specs.Script.{SaysSetting, SaysEvent};
+ghost use Rattle.amt_script.specs.Setting.{key_of};
+ghost use Rattle.amt_script.specs.Reading.{FailsFirst};
+
+use crate::fields::{only_field, two_fields};
+use crate::kind::Key;
+use crate::reason::Reason;
+use crate::setting::Setting;
+use crate::values::{
+    OctetsError, read_address4, read_moment, read_number, read_octets, read_secret,
+};
+use amt_values::{parse_ip, parse_peer};
+use relay_machine::Event;
+use std::alloc::Global;
+
+/// Why a line was not read.
+#[derive(Clone, Copy, Debug, PartialEq, Eq)]
+pub enum LineError {
+    Bad(Reason),
+    Memory,
+}
+
+fn setting_of_text(key: Key, text: &[u8]) -> Result<Setting, Reason>
+    ensures key { IfOk result (λ setting. key_of setting ≡ key) }
+    ensures found { IfOk result (λ setting. SaysSetting setting (words_of (kinds.Set key) ++ text.now ∷ [])) }
+    ensures reason { IfErr result (λ reason. First (FailsAs (kinds.Set key) (text.now ∷ [])) order_of_values reason) }
+{
+    match key {
+        Key::Relay => match parse_ip(text) {
+            Some(relay) => Ok(Setting::Relay(relay)),
+            None => Err(Reason::Address),
+        },
+        Key::Query4 => match read_address4(text) {
+            Some(address) => Ok(Setting::Query4(address)),
+            None => Err(Reason::Address),
+        },
+        Key::Robustness => match read_number(text, 1, 7) {
+            Ok(number) => Ok(Setting::Robustness(number as u8)),
+            Err(reason) => Err(reason),
+        },
+        Key::QuerySeconds => match read_number(text, 1, 31_744) {
+            Ok(number) => Ok(Setting::QuerySeconds(number)),
+            Err(reason) => Err(reason),
+        },
+        Key::ResponseTenths => match read_number(text, 1, 31_744) {
+            Ok(number) => Ok(Setting::ResponseTenths(number)),
+            Err(reason) => Err(reason),
+        },
+        Key::Secret => match read_secret(text) {
+            Some(secret) => Ok(Setting::Secret(secret)),
+            None => Err(Reason::Hex),
+        },
+    }
+}
+
+/// The setting of a line, by its key and what follows the key.
+pub fn read_setting(key: Key, values: &[u8]) -> Result<Setting, Reason>
+    ensures key { IfOk result (λ setting. key_of setting ≡ key) }
+    ensures found { IfOk result (λ setting. SaysSetting setting (words_of (kinds.Set key) ++ fields values.now)) }
+    ensures reason { IfErr result (λ reason. First (FailsAs (kinds.Set key) (fields values.now)) order_of_values reason) }
+{
+    match only_field(values) {
+        Some(text) => setting_of_text(key, text),
+        None => Err(Reason::Count),
+    }
+}
+
+/// The event of a line `at MS`, by what follows its first word.
+pub fn read_moment_event(values: &[u8]) -> Result<Event, Reason>
+    ensures found { IfOk result (λ event. SaysEvent event (words_of kinds.Moment ++ fields values.now)) }
+    ensures reason { IfErr result (λ reason. First (FailsAs kinds.Moment (fields values.now)) order_of_values reason) }
+{
+    let Some(text) = only_field(values) else {
+        return Err(Reason::Count);
+    };
+    match read_moment(text) {
+        Some(moment) => Ok(Event::Moment(moment)),
+        None => Err(Reason::Number),
+    }
+}
+
+/// The event of a line `secret HEX`, by what follows its first word.
+pub fn read_rotation(values: &[u8]) -> Result<Event, Reason>
+    ensures found { IfOk result (λ event. SaysEvent event (words_of kinds.Secret ++ fields values.now)) }
+    ensures reason { IfErr result (λ reason. First (FailsAs kinds.Secret (fields values.now)) order_of_values reason) }
+{
+    let Some(text) = only_field(values) else {
+        return Err(Reason::Count);
+    };
+    match read_secret(text) {
+        Some(secret) => Ok(Event::Rotate(secret)),
+        None => Err(Reason::Hex),
+    }
+}
+
+/// The event of a line `dg PEER HEX`, by what follows its first word. The octets are read first,
+/// since their reason comes before the peer's.
+pub fn read_datagram(alloc: Global, values: &[u8]) -> Result<Event, LineError>
+    ensures found { IfOk result (λ event. SaysEvent event (words_of kinds.Datagram ++ fields values.now)) }
+    ensures reason { IfErr result (FailsFirst (FailsAs kinds.Datagram (fields values.now)) order_of_values) }
+{
+    let Some((peer, octets)) = two_fields(values) else {
+        return Err(LineError::Bad(Reason::Count));
+    };
+    let bytes = match read_octets(alloc, octets) {
+        Ok(bytes) => bytes,
+        Err(OctetsError::NotHex) => return Err(LineError::Bad(Reason::Hex)),
+        Err(OctetsError::Memory) => return Err(LineError::Memory),
+    };
+    match parse_peer(peer) {
+        Some(from) => Ok(Event::Datagram { from, bytes }),
+        None => Err(LineError::Bad(Reason::Peer)),
+    }
+}

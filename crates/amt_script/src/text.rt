@@ -1,0 +1,148 @@
+ghost use Rattle.std.specs.Prelude.{◌≡◌, ◌++◌, ◌≤◌, length, OnOk, IfOk, string_bytes};
+ghost use Rattle.amt_values.specs.Octets.{AreOctets};
+ghost use Rattle.relay_machine.specs.Conditions.{IsEvent};
+ghost use Rattle.relay_machine.specs.declared.event.Event.TheVariants as events;
+ghost use Rattle.amt_script.specs.Printed.{CanBeSaid, IsLineOf, IsLineThatSays};
+ghost use Rattle.amt_script.specs.Texts.{refusal_text, outcome_text, hex_text, event_line, event_text, send_text, step_text, closing_text};
+
+use amt_messages::Refused;
+use amt_values::{Bytes, Peer, print_peer};
+use relay_machine::{Event, OneSend, Outcome, Step};
+use std::alloc::{AllocError, Global};
+
+fn print_refusal(alloc: Global, refusal: &Refused) -> Result<String, AllocError>
+    ensures { IfOk result (λ text. string_bytes text ≡ refusal_text refusal.now) }
+{
+    match *refusal {
+        Refused::Empty => String::from_str(alloc, "empty"),
+        Refused::Version(version) => format!(in alloc; "version {version}"),
+        Refused::Kind(kind) => format!(in alloc; "kind {kind}"),
+        Refused::NotYet(kind) => format!(in alloc; "notyet {kind}"),
+        Refused::NoInner => String::from_str(alloc, "noinner"),
+        Refused::Short(need, have) => format!(in alloc; "short {need} {have}"),
+        Refused::Long(need, have) => format!(in alloc; "long {need} {have}"),
+    }
+}
+
+fn print_outcome(alloc: Global, outcome: &Outcome) -> Result<String, AllocError>
+    ensures { IfOk result (λ text. string_bytes text ≡ outcome_text outcome.now) }
+{
+    match *outcome {
+        Outcome::Moved(moment) => {
+            let ms = moment.ms();
+            format!(in alloc; "moved {ms}")
+        }
+        Outcome::Rotated => String::from_str(alloc, "rotated"),
+        Outcome::BadSource => String::from_str(alloc, "badsource"),
+        Outcome::Undecoded(refusal) => {
+            let refusal = print_refusal(alloc, &refusal)?;
+            format!(in alloc; "refused {refusal}")
+        }
+        Outcome::WrongKind(kind) => format!(in alloc; "wrongkind {kind}"),
+        Outcome::NoFamily => String::from_str(alloc, "nofamily"),
+        Outcome::Advertised => String::from_str(alloc, "advertised"),
+        Outcome::Queried { v6, limited } => {
+            let text = match (v6, limited) {
+                (false, false) => "queried v4",
+                (false, true) => "queried v4 limited",
+                (true, false) => "queried v6",
+                (true, true) => "queried v6 limited",
+            };
+            String::from_str(alloc, text)
+        }
+    }
+}
+
+fn print_hex(alloc: Global, octets: &[u8]) -> Result<String, AllocError>
+    ensures text { IfOk result (λ text. string_bytes text ≡ hex_text octets.now) }
+    ensures octets { AreOctets octets.now }
+{
+    if octets.is_empty() {
+        return String::from_str(alloc, "-");
+    }
+    hex::encode(alloc, octets)
+}
+
+fn print_datagram_line(alloc: Global, from: &Peer, bytes: &Bytes) -> Result<Bytes, AllocError>
+    requires { length bytes.now ≤ 65535 }
+    ensures value { IfOk result (λ text. text ≡ event_line (events.Datagram from.now bytes.now)) }
+    ensures says { CanBeSaid (events.Datagram from.now bytes.now)
+        → IfOk result (IsLineThatSays (events.Datagram from.now bytes.now)) }
+{
+    let peer = print_peer(alloc, from)?;
+    let hex = print_hex(alloc, bytes.as_slice())?;
+    let mut text = Bytes::copied(alloc, b"dg ")?;
+    text.append(peer.as_slice())?;
+    text.append(b" ")?;
+    text.append(hex.as_bytes())?;
+    Ok(text)
+}
+
+fn print_event_line(alloc: Global, event: &Event) -> Result<Bytes, AllocError>
+    requires { IsEvent event.now }
+    ensures value { IfOk result (λ text. text ≡ event_line event.now) }
+    ensures says { CanBeSaid event.now → IfOk result (IsLineThatSays event.now) }
+{
+    match event {
+        Event::Moment(moment) => {
+            let ms = moment.ms();
+            let line = format!(in alloc; "at {ms}")?;
+            Bytes::copied(alloc, line.as_bytes())
+        }
+        Event::Datagram { from, bytes } => print_datagram_line(alloc, from, bytes),
+        Event::Rotate(secret) => {
+            let hex = print_hex(alloc, &secret.0)?;
+            let line = format!(in alloc; "secret {hex}")?;
+            Bytes::copied(alloc, line.as_bytes())
+        }
+    }
+}
+
+/// A script's line that says the event, with its line feed. It is read back as the event, but not yet
+/// where a datagram comes from an IPv6 peer.
+#[tactic(auto, unfolding(crate::specs::Texts::event_text))]
+pub fn print_relay_event(alloc: Global, event: &Event) -> Result<Bytes, AllocError>
+    requires { IsEvent event.now }
+    ensures text { IfOk result (λ text. text ≡ event_text event.now) }
+    ensures back { CanBeSaid event.now → IfOk result (IsLineOf event.now) }
+{
+    let mut text = print_event_line(alloc, event)?;
+    text.append(b"\n")?;
+    Ok(text)
+}
+
+#[tactic(auto, unfolding(crate::specs::Texts::send_text))]
+fn append_send(alloc: Global, text: &mut Bytes, send: &OneSend) -> Result<(), AllocError>
+    ensures { OnOk result (text.new ≡ text.old ++ send_text send.now) }
+{
+    let peer = print_peer(alloc, &send.to.peer())?;
+    let hex = print_hex(alloc, send.bytes.as_slice())?;
+    text.append(b"> ")?;
+    text.append(peer.as_slice())?;
+    text.append(b" ")?;
+    text.append(hex.as_bytes())?;
+    text.append(b"\n")
+}
+
+/// The lines of one step: its number and outcome, and a line for each send.
+#[tactic(auto, unfolding(crate::specs::Texts::step_text))]
+pub fn print_relay_step(alloc: Global, number: u64, step: &Step) -> Result<Bytes, AllocError>
+    ensures { IfOk result (λ text. text ≡ step_text number step.now.outcome step.now.sends) }
+{
+    let outcome = print_outcome(alloc, &step.outcome)?;
+    let line = format!(in alloc; "= {number} {outcome}\n")?;
+    let mut text = Bytes::copied(alloc, line.as_bytes())?;
+    for send in step.sends.as_slice() {
+        append_send(alloc, &mut text, send)?;
+    }
+    Ok(text)
+}
+
+/// The last line: the number of events.
+#[tactic(auto, unfolding(crate::specs::Texts::closing_text))]
+pub fn print_closing(alloc: Global, count: u64) -> Result<Bytes, AllocError>
+    ensures { IfOk result (λ text. text ≡ closing_text count) }
+{
+    let line = format!(in alloc; ". {count}\n")?;
+    Bytes::copied(alloc, line.as_bytes())
+}
