@@ -1,0 +1,57 @@
+#!/bin/sh
+# Times the proved binary over scripts of Discovery and of Request lines, beside sed over the same
+# octets. It builds nothing: `rt run` in crates/amt leaves the binary at crates/amt/out/amt.
+#
+# usage: bench/replay.sh [BINARY]
+set -eu
+
+here=$(cd "$(dirname "$0")/.." && pwd)
+amt=${1:-$here/crates/amt/out/amt}
+runs=5
+work=$(mktemp -d)
+trap 'rm -rf "$work"' EXIT
+
+if [ ! -x "$amt" ]; then
+    echo "no binary at $amt: run 'rt run -- replay relay < stdin' in crates/amt first" >&2
+    exit 1
+fi
+
+# script KIND MIB: a relay's address, and lines of one datagram up to so many MiB
+script() {
+    case $1 in
+        discovery) line='dg 198.51.100.7:5000 0100000001020304' ;;
+        request) line='dg 198.51.100.7:5000 030000000a0b0c0d' ;;
+    esac
+    echo 'set relay 192.0.2.1'
+    yes "$line" | head -n $(($2 * 1048576 / (${#line} + 1) - 1))
+}
+
+# milliseconds COMMAND..: how long it takes, its output thrown away
+milliseconds() {
+    start=$(date +%s%N)
+    "$@" > /dev/null
+    end=$(date +%s%N)
+    echo $(((end - start) / 1000000))
+}
+
+median() {
+    sort -n "$1" | sed -n "$((runs / 2 + 1))p"
+}
+
+printf '%-10s %4s %8s %8s %7s\n' lines MiB 'amt ms' 'sed ms' ratio
+for kind in discovery request; do
+    for mib in 1 4 16; do
+        input=$work/$kind.$mib
+        script "$kind" "$mib" > "$input"
+        : > "$work/amt"
+        : > "$work/sed"
+        for run in $(seq $runs); do
+            milliseconds sh -c '"$0" replay relay < "$1"' "$amt" "$input" >> "$work/amt"
+            milliseconds sed 's/dg /> /' "$input" >> "$work/sed"
+        done
+        a=$(median "$work/amt")
+        s=$(median "$work/sed")
+        ratio=$(awk "BEGIN { printf \"%.1f\", $a / ($s > 0 ? $s : 1) }")
+        printf '%-10s %4s %8s %8s %7s\n' "$kind" "$mib" "$a" "$s" "$ratio"
+    done
+done
