@@ -13,7 +13,7 @@ moment_in (Moment moment) = Some moment
 moment_in (Datagram from bytes) = None
 moment_in (Rotate secret) = None
 
--- the greatest moment of the events, or 0
+-- how late the events have told that it is; 0 before they tell
 unfoldable pub now_of : List Event → ℕ
 now_of events = fold max 0 (filter_map moment_in events)
 

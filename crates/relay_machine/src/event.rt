@@ -6,8 +6,8 @@ use response_mac::Secret;
 pub enum Event {
     /// It has become this late; a moment before the relay's own changes nothing.
     Moment(Moment),
-    /// A UDP payload has come from a peer.
+    /// A UDP payload has come from a peer: at most 65,535 octets.
     Datagram { from: Peer, bytes: Bytes },
-    /// A new private secret was drawn.
+    /// A new private secret was drawn (RFC 7450, section 5.3.6).
     Rotate(Secret),
 }

@@ -11,11 +11,13 @@ pub struct Settings {
     pub relay: Ip,
     /// The IPv4 source of General Queries.
     pub query4: u32,
-    /// A listener's reports may be lost one time fewer in a row (RFC 3376, section 8.1).
+    /// The Robustness Variable, 1 to 7: one more than the reports in a row that may be lost without
+    /// harm (RFC 3376, section 8.1).
     pub robustness: u8,
-    /// The seconds from one General Query to the next.
+    /// The seconds from one General Query to the next, 1 to 31,744 (RFC 3376, section 8.2).
     pub query_seconds: u32,
-    /// The tenths of a second within which a listener answers a General Query.
+    /// The tenths of a second within which a listener answers a General Query, 1 to 31,744 (RFC 3376,
+    /// section 8.3).
     pub response_tenths: u32,
 }
 
@@ -35,7 +37,8 @@ impl Settings {
         }
     }
 
-    /// Whether a relay may have these settings: its General Queries have to carry them.
+    /// Whether a relay may have these settings. General Queries carry the robustness in three bits,
+    /// and each time as a code, which not every number has (RFC 3376, sections 4.1.1, 4.1.6, 4.1.7).
     pub fn lawful(&self) -> bool
         ensures { IsTrue result ↔ IsLawful self.now }
     {
@@ -45,7 +48,7 @@ impl Settings {
         }
     }
 
-    /// How long a membership report counts, in milliseconds.
+    /// How long a membership report counts, in milliseconds (RFC 3376, section 8.4).
     pub fn lifetime_ms(&self) -> u64
         ensures { result ≡ membership_interval_ms self.now }
     {

@@ -133,7 +133,7 @@ fn every_other_datagram_is_not_answered(rt: HostRuntime) -> Result<(), Fail> {
 }
 
 #[test]
-fn an_earlier_moment_is_read_as_the_last_one(rt: HostRuntime) -> Result<(), Fail> {
+fn time_never_goes_back(rt: HostRuntime) -> Result<(), Fail> {
     let mut relay = relay(&rt, Ip::V4(RELAY));
     assert_eq!(rt; relay.now().ms(), 0);
     let last = Moment::new(1000).ok_or("a moment")?;

@@ -27,8 +27,8 @@ IsGood secrets endpoint nonce mac =
     (mac ≡ mac_of secrets.current endpoint nonce)
     ⊎ IsSomeAnd secrets.previous (λ previous. mac ≡ mac_of previous endpoint nonce)
 
--- the last two items, or the only one, of the list that begins with the first secret and goes on
--- with the secrets that it was changed to (RFC 7450, section 5.3.6)
+-- the newest secret is current; the one that it took over from, if any, is still good (RFC 7450,
+-- section 5.3.6)
 abbrev pub secrets_after : Secret → List Secret → Secrets
 secrets_after first changes =
     let newest_first = reverse (first ∷ changes) in
