@@ -1,8 +1,8 @@
 -- From what was answered by the reading of octets to what it says of their spelling.
-use Rattle.std.proofs.Common.{◌≡◌, ◌≤◌, ℕ, List, length, arith, Option, Some, None, Result, Ok, Err, refl, sym, subst, ap, ◌∙◌}
+use Rattle.std.proofs.Common.{◌≡◌, ◌≤◌, ℕ, List, length, arith, Option, Some, None, Result, Ok, Err, refl, sym, subst, ◌∙◌}
 use Rattle.std.specs.Result.{IfOk, MatchResult}
 use Rattle.amt_messages.specs.declared.message.Message.{Message}
-use Rattle.amt_messages.specs.declared.message.Message.TheVariants.{Discovery, Advertisement, Request, Query}
+use Rattle.amt_messages.specs.declared.message.Message.TheVariants.{Discovery, Advertisement, Request, Query, Update}
 use Rattle.amt_messages.specs.declared.refusal.DecodeFault.{DecodeFault}
 use Rattle.amt_messages.specs.declared.refusal.DecodeFault.TheVariants.{Refused as RefusedBy, Memory}
 use Rattle.amt_messages.specs.declared.refusal.Refused.{Refused}
@@ -38,6 +38,9 @@ spelled_is_sendable (Query limited mac nonce inner None) bytes most spells =
 spelled_is_sendable (Query limited mac nonce inner (Some endpoint)) bytes most spells =
     let octets = spells.0.kind.octets in
     (spells.0.inner_whole, omega arith)
+spelled_is_sendable (Update mac nonce inner) bytes most spells =
+    let octets = spells.kind.octets in
+    omega arith
 
 pub answer_sendable : (answer : Result Message DecodeFault) (bytes : List ℕ) → length bytes ≤ 65535 → Gives answer (message_of bytes)
     → IfOk answer (λ message. IsSendable message)

@@ -1,7 +1,7 @@
 -- A message has one canonical spelling.
-use Rattle.std.proofs.Common.{◌≡◌, ℕ, ◌+◌, ◌/◌, ◌<◌, ◌≤◌, Bool, true, false, eqb, List, [], ◌∷◌, ◌++◌, length, take, drop, slice_index, Option, Some, None, refl, sym, ap, ◌∙◌, arith, append_assoc, take-append-drop, length-drop, rules}
+use Rattle.std.proofs.Common.{◌≡◌, ℕ, ◌+◌, ◌/◌, ◌≤◌, Bool, true, false, eqb, List, [], ◌∷◌, ◌++◌, length, take, drop, slice_index, Option, Some, None, refl, sym, ap, ◌∙◌, arith, append_assoc, take-append-drop, length-drop, rules}
 use Rattle.std.proofs.lemmas.Bool.{eqb-true, eqb-false}
-use Rattle.std.proofs.lemmas.List.{drop-drop, drop_all}
+use Rattle.std.proofs.lemmas.List.{append-nil, drop-drop, drop_all, take_all}
 use Rattle.std.proofs.lemmas.Nat.Bits.{bit_at_lowest}
 use Rattle.std.specs.Int.{bit_at}
 use Rattle.std.specs.Option.{is_some}
@@ -10,12 +10,11 @@ use Rattle.amt_values.proofs.NetworkOrder.{AreOctets-drop, bytes_high_first-big_
 use Rattle.amt_values.specs.Octets.{AreOctets}
 use Rattle.amt_values.specs.Address.{is_mapped}
 use Rattle.amt_values.specs.Tunnel.{Tunnel}
-use Rattle.amt_values.specs.declared.address.Ip.{Ip}
 use Rattle.amt_values.specs.declared.address.Ip.TheVariants.{V4, V6}
 use Rattle.amt_values.specs.declared.mac.Mac48.{Mac48}
 use Rattle.amt_messages.specs.declared.message.Message.{Message}
-use Rattle.amt_messages.specs.declared.message.Message.TheVariants.{Discovery, Advertisement, Request, Query}
-use Rattle.amt_messages.specs.Layout.{IsCanonical, IsAdvertisement, IsQuery, gateway_address, gateway_port, gateway_at, has_flag, query_flags, request_flags, seen_octets, spelling_of}
+use Rattle.amt_messages.specs.declared.message.Message.TheVariants.{Discovery, Advertisement, Request, Query, Update}
+use Rattle.amt_messages.specs.Layout.{IsCanonical, IsAdvertisement, IsQuery, gateway_address, gateway_port, gateway_at, query_flags, request_flags, seen_octets, spelling_of}
 
 -- the first octet, three more, and the rest
 first_four : (kind : ℕ) (bytes : List ℕ) → 4 ≤ length bytes → slice_index bytes 0 ≡ kind → take 3 (drop 1 bytes) ≡ 0 ∷ 0 ∷ 0 ∷ []
@@ -115,7 +114,7 @@ seen_behind endpoint inner bytes small octets names form =
     ∙ ap (λ (xs : List ℕ). big_bytes 2 endpoint.port ++ xs)
     (ap (λ (n : ℕ). drop n bytes) place ∙ (sym address ∙ ap (λ (n : ℕ). big_bytes 16 n) (sym one_form))))
 
--- the parts of a Query behind its first two octets
+-- the parts of a Query or an Update behind the first two octets
 query_parts : (mac : Mac48) (nonce : ℕ) (inner tail bytes : List ℕ) → AreOctets bytes → 12 ≤ length bytes
     → mac.0 ≡ take 6 (drop 2 bytes) → nonce ≡ big_number 4 (drop 8 bytes) → inner ≡ take (length inner) (drop 12 bytes)
     → drop (12 + length inner) bytes ≡ tail → drop 2 bytes ≡ mac.0 ++ big_bytes 4 nonce ++ inner ++ tail
@@ -174,3 +173,11 @@ canonical_once (Query limited mac nonce inner (Some endpoint)) bytes small h =
     let size = h.spelled.0.kind.octets in
     canonical_query limited mac nonce inner (Some endpoint) bytes small h.spelled.0 h.reserved (omega arith)
     (seen_behind endpoint (length inner) bytes small size h.spelled.1 h.address_form)
+canonical_once (Update mac nonce inner) bytes small h =
+    let size = h.spelled.kind.octets in
+    let rest : length (drop 12 bytes) ≡ length inner = omega (arith, length-drop 12 bytes) in
+    let inner_field = h.spelled.inner_field ∙ sym (take_all (length inner) (drop 12 bytes) (omega arith)) in
+    let parts = query_parts mac nonce inner [] bytes small (omega arith) h.spelled.mac_field h.spelled.nonce_field inner_field
+    (drop_all (12 + length inner) bytes (omega arith)) in
+    first_two 5 0 bytes (omega arith) h.spelled.kind.first h.reserved
+    ∙ ap (λ (rest : List ℕ). 5 ∷ 0 ∷ rest) (parts ∙ append-nil (mac.0 ++ big_bytes 4 nonce ++ inner))

@@ -1,10 +1,10 @@
 -- The length that an inner datagram states is in its first octets.
-use Rattle.std.proofs.Common.{◌≡◌, ℕ, zero, suc, ◌+◌, ◌-◌, ◌<◌, ◌≤◌, ◌==◌, List, [], ◌∷◌, length, take, drop, slice_index, Bool, true, false, ltb, eqb, Option, Some, None, refl, sym, ap, ◌∙◌, arith}
-use Rattle.std.proofs.lemmas.Bool.{cases_Bool, ltb-false, le-ltb, cond-true, cond-false}
+use Rattle.std.proofs.Common.{◌≡◌, ℕ, zero, suc, ◌+◌, ◌≤◌, List, [], ◌∷◌, length, take, drop, Some, refl, arith}
+use Rattle.std.proofs.lemmas.Bool.{le-ltb}
 use Rattle.std.proofs.lemmas.List.{length-take-le, get_or-take}
 use Rattle.byteorder.specs.Numbers.{big_from-take}
-use Rattle.byteorder.specs.Endian.{big_number, big_from}
-use Rattle.amt_messages.specs.Inner.{inner_length_of, ip_version, ipv4_length, ipv6_length, total_length, payload_length}
+use Rattle.byteorder.specs.Endian.{big_number}
+use Rattle.amt_messages.specs.Inner.{inner_length_of}
 
 -- two octets from a place on are those of a front that reaches past them
 short_in_front : (n place : ℕ) (octets : List ℕ) → place + 2 ≤ n → big_number 2 (drop place (take n octets)) ≡ big_number 2 (drop place octets)

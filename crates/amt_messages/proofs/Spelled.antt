@@ -1,30 +1,27 @@
 -- Reading by the refusals and the places of fields is the relation between octets and messages.
-use Rattle.std.proofs.Common.{◌≡◌, ℕ, zero, suc, ◌+◌, ◌/◌, ◌%◌, ◌<◌, ◌≤◌, List, [], ◌∷◌, ◌++◌, length, take, drop, slice_index, Bool, true, false, Option, Some, None, Result, Ok, Err, refl, sym, ap, ◌∙◌, arith, length-drop, length-take, rules, cond, eqb, ltb, not, inl, inr, ◌⊎◌}
-use Rattle.std.specs.Int.{bit_at}
-use Rattle.std.proofs.lemmas.Bool.{cases_Bool, le-ltb, ne_eqb, eqb-true, eqb-false, cases_eq, cases_lt}
-use Rattle.byteorder.specs.Endian.{big_number}
+use Rattle.std.proofs.Common.{◌≡◌, ℕ, ◌+◌, ◌/◌, ◌%◌, ◌<◌, ◌≤◌, List, [], ◌∷◌, length, take, drop, slice_index, Bool, true, false, Option, Some, None, Ok, Err, refl, sym, ap, ◌∙◌, arith, length-drop, cond}
+use Rattle.std.proofs.lemmas.Bool.{le-ltb, ne_eqb}
 use Rattle.amt_values.specs.Tunnel.{Tunnel}
-use Rattle.amt_values.specs.declared.address.Ip.{Ip}
 use Rattle.amt_values.specs.declared.address.Ip.TheVariants.{V4, V6}
 use Rattle.amt_values.specs.declared.mac.Mac48.{Mac48}
 use Rattle.amt_messages.specs.declared.message.Message.{Message}
-use Rattle.amt_messages.specs.declared.message.Message.TheVariants.{Discovery, Advertisement, Request, Query}
-use Rattle.amt_messages.specs.declared.refusal.Refused.{Refused}
+use Rattle.amt_messages.specs.declared.message.Message.TheVariants.{Discovery, Advertisement, Request, Query, Update}
 use Rattle.amt_messages.specs.declared.refusal.Refused.TheVariants.{NotYet}
 use Rattle.amt_messages.specs.Inner.{inner_length_of}
 use Rattle.amt_messages.specs.Layout.{Spells, IsQuery, has_flag, query_length, gateway_at}
-use Rattle.amt_messages.specs.Refusal.{first_refusal, kind_refusal, query_refusal, inner_refusal, length_refusal, message_at, message_of, query_at, query_with, reading_by, relay_at}
+use Rattle.amt_messages.specs.Refusal.{first_refusal, kind_refusal, query_refusal, length_refusal, message_at, message_of}
 use Rattle.amt_messages.proofs.InnerLength.{inner_length_of-least, inner_length_of-take}
 
 -- the types of the standard that aren't read yet
-kind_refusal-not_yet : (kind : ℕ) (bytes : List ℕ) → 5 ≤ kind → kind ≤ 7 → kind_refusal kind bytes ≡ Some (NotYet kind)
+kind_refusal-not_yet : (kind : ℕ) (bytes : List ℕ) → 6 ≤ kind → kind ≤ 7 → kind_refusal kind bytes ≡ Some (NotYet kind)
 kind_refusal-not_yet kind bytes low high =
     let zero_no = ne_eqb kind 0 (λ e. omega arith) in
     let one_no = ne_eqb kind 1 (λ e. omega arith) in
     let two_no = ne_eqb kind 2 (λ e. omega arith) in
     let three_no = ne_eqb kind 3 (λ e. omega arith) in
     let four_no = ne_eqb kind 4 (λ e. omega arith) in
-    rw (zero_no, le-ltb 7 kind high, one_no, two_no, three_no, four_no) refl
+    let five_no = ne_eqb kind 5 (λ e. omega arith) in
+    rw (zero_no, le-ltb 7 kind high, one_no, two_no, three_no, four_no, five_no) refl
 
 -- octets of version 0 are refused by their type
 first_refusal-kind : (kind : ℕ) (bytes : List ℕ) → kind < 16 → 0 < length bytes → slice_index bytes 0 ≡ kind → first_refusal bytes ≡ kind_refusal kind bytes
@@ -39,7 +36,7 @@ length_refusal-same : (need : ℕ) → length_refusal need need ≡ None
 length_refusal-same need = rw (le-ltb need need (omega arith)) refl
 
 -- octets are refused as another type where their type isn't read yet
-pub read_as_not_yet : (kind : ℕ) (bytes : List ℕ) → 5 ≤ kind → kind ≤ 7 → 0 < length bytes → slice_index bytes 0 ≡ kind
+pub read_as_not_yet : (kind : ℕ) (bytes : List ℕ) → 6 ≤ kind → kind ≤ 7 → 0 < length bytes → slice_index bytes 0 ≡ kind
     → message_of bytes ≡ Err (NotYet kind)
 unfolding message_of
 read_as_not_yet kind bytes low high some first =
@@ -102,3 +99,8 @@ spelled_is_read (Query limited mac nonce inner None) bytes h =
 spelled_is_read (Query limited mac nonce inner (Some endpoint)) bytes h =
     let octets = h.0.kind.octets in
     spelled_query limited true mac nonce inner (Some endpoint) bytes h.0 (ap (λ (e : Tunnel). Some e) (sym h.1)) (omega arith)
+spelled_is_read (Update mac nonce inner) bytes h =
+    let octets = h.kind.octets in
+    let first = first_refusal-kind 5 bytes (omega arith) (omega arith) h.kind.first in
+    reading_unrefused bytes (Update mac nonce inner) (first ∙ rw (le-ltb (length bytes) 12 (omega arith)) refl)
+    (rw (h.kind.first, sym h.mac_field, sym h.nonce_field, sym h.inner_field) refl)

@@ -1,15 +1,13 @@
 -- Octets that nothing refuses spell the message that stands at the places of its fields.
-use Rattle.std.proofs.Common.{◌≡◌, ℕ, zero, suc, ◌+◌, ◌/◌, ◌%◌, ◌<◌, ◌≤◌, ◌⊎◌, inl, inr, List, [], ◌∷◌, length, take, drop, slice_index, Bool, true, false, not, cond, eqb, ltb, Option, Some, None, Result, Ok, Err, refl, sym, subst, ap, ◌∙◌, arith, length-drop}
-use Rattle.std.proofs.lemmas.Bool.{cases_Bool, ltb-true, ltb-false, leb-true, leb-false, eqb-true, not-false}
+use Rattle.std.proofs.Common.{◌≡◌, ℕ, ◌+◌, ◌/◌, ◌%◌, ◌≤◌, ◌⊎◌, inl, inr, List, [], ◌∷◌, length, take, drop, slice_index, Bool, true, false, not, cond, eqb, ltb, Option, Some, None, Ok, refl, sym, subst, ap, ◌∙◌, arith, length-drop}
+use Rattle.std.proofs.lemmas.Bool.{eqb-true, not-false}
 use Rattle.std.proofs.lemmas.List.{length-take-le}
 use Rattle.byteorder.specs.Endian.{big_number}
-use Rattle.amt_values.specs.Tunnel.{Tunnel}
 use Rattle.amt_messages.specs.declared.message.Message.{Message}
-use Rattle.amt_messages.specs.declared.message.Message.TheVariants.{Discovery, Advertisement, Request, Query}
 use Rattle.amt_messages.specs.declared.refusal.Refused.{Refused}
 use Rattle.amt_messages.specs.Inner.{inner_length_of}
 use Rattle.amt_messages.specs.Layout.{Spells, IsQuery, has_flag, query_length, gateway_at}
-use Rattle.amt_messages.specs.Refusal.{first_refusal, kind_refusal, query_refusal, inner_refusal, length_refusal, advertisement_length, is_unknown, message_at, message_of, query_with, query_at, reading_by}
+use Rattle.amt_messages.specs.Refusal.{first_refusal, kind_refusal, query_refusal, update_refusal, inner_refusal, length_refusal, advertisement_length, is_unknown, message_at, message_of, query_with, reading_by}
 use Rattle.amt_messages.proofs.InnerLength.{inner_length_of-least, inner_length_of-take}
 
 -- which way a choice went
@@ -27,12 +25,16 @@ length_refusal-none need have unrefused = grind arith
 advertisement_length-none : (have : ℕ) → length_refusal (advertisement_length have) have ≡ None → (have ≡ 12) ⊎ (have ≡ 24)
 advertisement_length-none have unrefused = grind arith
 
+update_refusal-none : (bytes : List ℕ) → update_refusal bytes ≡ None → 12 ≤ length bytes
+update_refusal-none bytes unrefused = grind arith
+
 -- the types that are read, each with the length that it may have
 data IsKnown (kind : ℕ) (bytes : List ℕ) : Type 0 where
   discovery : kind ≡ 1 → length bytes ≡ 8 → IsKnown kind bytes
   advertisement : kind ≡ 2 → (length bytes ≡ 12) ⊎ (length bytes ≡ 24) → IsKnown kind bytes
   request : kind ≡ 3 → length bytes ≡ 8 → IsKnown kind bytes
   query : kind ≡ 4 → query_refusal bytes ≡ None → IsKnown kind bytes
+  update : kind ≡ 5 → 12 ≤ length bytes → IsKnown kind bytes
 
 kind_refusal-none : (kind : ℕ) (bytes : List ℕ) → kind_refusal kind bytes ≡ None → IsKnown kind bytes
 kind_refusal-none kind bytes unrefused =
@@ -46,7 +48,10 @@ kind_refusal-none kind bytes unrefused =
             | inl three ↦ request (eqb-true kind 3 three.0) (length_refusal-none 8 (length bytes) three.1)
             | inr past_three ↦ elim (chosen (eqb kind 4) _ _ None past_three.1) [
               | inl four ↦ query (eqb-true kind 4 four.0) four.1
-              | inr past_four ↦ cc past_four.1
+              | inr past_four ↦ elim (chosen (eqb kind 5) _ _ None past_four.1) [
+                | inl five ↦ update (eqb-true kind 5 five.0) (update_refusal-none bytes five.1)
+                | inr past_five ↦ cc past_five.1
+              ]
             ]
           ]
         ]
@@ -127,6 +132,9 @@ message_spelled bytes (request first octets) =
 message_spelled bytes (query first unrefused) =
     let found = query_refusal-none bytes unrefused in
     rw (first, found.1.states) (query_spelled (has_flag 0 bytes) found.0 bytes first refl found.1)
+message_spelled bytes (update first enough) =
+    let octets : length bytes ≡ 12 + length (drop 12 bytes) = omega (arith, length-drop 12 bytes) in
+    rw first record { kind = record { octets = octets; first = first }; mac_field = refl; nonce_field = refl; inner_field = refl }
 
 -- what is read of octets, they spell
 pub read_is_spelled : (bytes : List ℕ) (message : Message) → message_of bytes ≡ Ok message → Spells message bytes

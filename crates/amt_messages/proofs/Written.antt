@@ -1,23 +1,20 @@
 -- What is written of a message spells it.
-use Rattle.std.proofs.Common.{◌≡◌, ℕ, ◌+◌, ◌/◌, ◌<◌, ◌≤◌, ◌^◌, Bool, true, false, eqb, List, [], ◌∷◌, ◌++◌, length, take, drop, slice_index, Option, Some, None, refl, sym, subst, ap, ◌∙◌, arith, append_assoc, length-append, length-drop}
+use Rattle.std.proofs.Common.{◌≡◌, ℕ, ◌+◌, ◌/◌, ◌<◌, ◌^◌, Bool, true, false, eqb, List, [], ◌∷◌, ◌++◌, length, take, drop, Option, Some, None, refl, sym, subst, ap, ◌∙◌, arith, append_assoc, length-append}
 use Rattle.std.proofs.lemmas.List.{append-nil, drop-drop, drop_at, take_at}
 use Rattle.std.specs.Int.{bit_at}
-use Rattle.std.specs.Option.{is_some}
 use Rattle.byteorder.specs.Endian.{big_number, big_bytes}
-use Rattle.byteorder.specs.Numbers.{big_number-reads_back, length-bytes_high_first}
+use Rattle.byteorder.specs.Numbers.{big_number-reads_back}
 use Rattle.amt_values.proofs.NetworkOrder.{big_from-bytes_high_first}
-use Rattle.amt_values.specs.Octets.{AreOctets}
 use Rattle.amt_values.specs.Address.{is_mapped}
 use Rattle.amt_values.specs.Endpoint.{endpoint_named}
 use Rattle.amt_values.specs.Tunnel.{Tunnel}
-use Rattle.amt_values.specs.declared.address.Ip.{Ip}
 use Rattle.amt_values.specs.declared.address.Ip.TheVariants.{V4, V6}
 use Rattle.amt_values.specs.declared.mac.Mac48.{Mac48}
 use Rattle.amt_messages.specs.declared.message.Message.{Message}
-use Rattle.amt_messages.specs.declared.message.Message.TheVariants.{Discovery, Advertisement, Request, Query}
+use Rattle.amt_messages.specs.declared.message.Message.TheVariants.{Discovery, Advertisement, Request, Query, Update}
 use Rattle.amt_messages.specs.Conditions.{IsMessage, IsSendable, IsSeen}
 use Rattle.amt_messages.specs.Inner.{inner_length_of}
-use Rattle.amt_messages.specs.Layout.{IsCanonical, IsQuery, Spells, gateway_address, gateway_port, gateway_at, has_flag, query_flags, query_length, request_flags, seen_octets, spelling_of}
+use Rattle.amt_messages.specs.Layout.{IsCanonical, IsQuery, IsUpdate, query_flags, query_length, request_flags, seen_octets, spelling_of}
 
 -- a number of four octets is read back
 nonce_again : (nonce : ℕ) (rest : List ℕ) → nonce < 2 ^ 32 → nonce ≡ big_number 4 (big_bytes 4 nonce ++ rest)
@@ -49,35 +46,35 @@ query_reserved true false = refl
 query_reserved false true = refl
 query_reserved false false = refl
 
--- the parts of a Query by their places, behind an octet of type and one of flags
-module _ (flags : ℕ) (mac nonce inner tail : List ℕ) (six : length mac ≡ 6) (four : length nonce ≡ 4) where
-  whole_length : length (4 ∷ flags ∷ (mac ++ nonce ++ inner ++ tail)) ≡ 12 + length inner + length tail
+-- the parts of a Query or an Update by their places, behind an octet of type and one of flags
+module _ (kind flags : ℕ) (mac nonce inner tail : List ℕ) (six : length mac ≡ 6) (four : length nonce ≡ 4) where
+  whole_length : length (kind ∷ flags ∷ (mac ++ nonce ++ inner ++ tail)) ≡ 12 + length inner + length tail
   whole_length = omega (arith, length-append (mac ++ nonce ++ inner) tail, length-append (mac ++ nonce) inner, length-append mac nonce)
 
   regrouped : mac ++ nonce ++ inner ++ tail ≡ mac ++ (nonce ++ (inner ++ tail))
   regrouped = append_assoc (mac ++ nonce) inner tail ∙ append_assoc mac nonce (inner ++ tail)
 
-  mac_there : mac ≡ take 6 (drop 2 (4 ∷ flags ∷ (mac ++ nonce ++ inner ++ tail)))
+  mac_there : mac ≡ take 6 (drop 2 (kind ∷ flags ∷ (mac ++ nonce ++ inner ++ tail)))
   mac_there = sym (ap (take 6) regrouped ∙ take_at mac (nonce ++ (inner ++ tail)) 6 six)
 
-  nonce_there : drop 8 (4 ∷ flags ∷ (mac ++ nonce ++ inner ++ tail)) ≡ nonce ++ (inner ++ tail)
+  nonce_there : drop 8 (kind ∷ flags ∷ (mac ++ nonce ++ inner ++ tail)) ≡ nonce ++ (inner ++ tail)
   nonce_there = ap (drop 6) regrouped ∙ drop_at mac (nonce ++ (inner ++ tail)) 6 six
 
-  inner_there : drop 12 (4 ∷ flags ∷ (mac ++ nonce ++ inner ++ tail)) ≡ inner ++ tail
+  inner_there : drop 12 (kind ∷ flags ∷ (mac ++ nonce ++ inner ++ tail)) ≡ inner ++ tail
   inner_there =
-      sym (drop-drop 4 8 (4 ∷ flags ∷ (mac ++ nonce ++ inner ++ tail)))
+      sym (drop-drop 4 8 (kind ∷ flags ∷ (mac ++ nonce ++ inner ++ tail)))
       ∙ (ap (drop 4) nonce_there ∙ drop_at nonce (inner ++ tail) 4 four)
 
-  tail_there : drop (12 + length inner) (4 ∷ flags ∷ (mac ++ nonce ++ inner ++ tail)) ≡ tail
+  tail_there : drop (12 + length inner) (kind ∷ flags ∷ (mac ++ nonce ++ inner ++ tail)) ≡ tail
   tail_there =
-      sym (drop-drop (length inner) 12 (4 ∷ flags ∷ (mac ++ nonce ++ inner ++ tail)))
+      sym (drop-drop (length inner) 12 (kind ∷ flags ∷ (mac ++ nonce ++ inner ++ tail)))
       ∙ (ap (drop (length inner)) inner_there ∙ drop_at inner tail (length inner) refl)
 
-  address_there : drop (14 + length inner) (4 ∷ flags ∷ (mac ++ nonce ++ inner ++ tail)) ≡ drop 2 tail
+  address_there : drop (14 + length inner) (kind ∷ flags ∷ (mac ++ nonce ++ inner ++ tail)) ≡ drop 2 tail
   address_there =
       let place : 12 + length inner + 2 ≡ 14 + length inner = omega arith in
-      ap (λ (n : ℕ). drop n (4 ∷ flags ∷ (mac ++ nonce ++ inner ++ tail))) (sym place)
-      ∙ (sym (drop-drop 2 (12 + length inner) (4 ∷ flags ∷ (mac ++ nonce ++ inner ++ tail))) ∙ ap (drop 2) tail_there)
+      ap (λ (n : ℕ). drop n (kind ∷ flags ∷ (mac ++ nonce ++ inner ++ tail))) (sym place)
+      ∙ (sym (drop-drop 2 (12 + length inner) (kind ∷ flags ∷ (mac ++ nonce ++ inner ++ tail))) ∙ ap (drop 2) tail_there)
 
 -- what is written of a Query, with what follows its inner datagram
 query_written : (limited named : Bool) (mac : Mac48) (nonce : ℕ) (inner tail : List ℕ) → length mac.0 ≡ 6 → nonce < 2 ^ 32
@@ -86,14 +83,32 @@ query_written : (limited named : Bool) (mac : Mac48) (nonce : ℕ) (inner tail :
 query_written limited named mac nonce inner tail six small whole size =
     let flags = query_flags limited named in
     record {
-      kind = record { octets = whole_length flags mac.0 (big_bytes 4 nonce) inner tail six refl ∙ size; first = refl };
+      kind = record { octets = whole_length 4 flags mac.0 (big_bytes 4 nonce) inner tail six refl ∙ size; first = refl };
       l_flag = l_flag_of limited named;
       g_flag = g_flag_of limited named;
-      mac_field = mac_there flags mac.0 (big_bytes 4 nonce) inner tail six refl;
-      nonce_field = nonce_again nonce (inner ++ tail) small ∙ sym (ap (big_number 4) (nonce_there flags mac.0 (big_bytes 4 nonce) inner tail six refl));
-      inner_field = sym (ap (take (length inner)) (inner_there flags mac.0 (big_bytes 4 nonce) inner tail six refl) ∙ take_at inner tail (length inner) refl);
+      mac_field = mac_there 4 flags mac.0 (big_bytes 4 nonce) inner tail six refl;
+      nonce_field = nonce_again nonce (inner ++ tail) small ∙ sym (ap (big_number 4) (nonce_there 4 flags mac.0 (big_bytes 4 nonce) inner tail six refl));
+      inner_field = sym (ap (take (length inner)) (inner_there 4 flags mac.0 (big_bytes 4 nonce) inner tail six refl) ∙ take_at inner tail (length inner) refl);
       inner_whole = whole;
     }
+
+-- what is written of an Update
+update_written : (mac : Mac48) (nonce : ℕ) (inner : List ℕ) → length mac.0 ≡ 6 → nonce < 2 ^ 32
+    → IsUpdate mac nonce inner (5 ∷ 0 ∷ (mac.0 ++ big_bytes 4 nonce ++ inner ++ []))
+update_written mac nonce inner six small = record {
+  kind = record { octets = whole_length 5 0 mac.0 (big_bytes 4 nonce) inner [] six refl ∙ omega arith; first = refl };
+  mac_field = mac_there 5 0 mac.0 (big_bytes 4 nonce) inner [] six refl;
+  nonce_field = nonce_again nonce (inner ++ []) small ∙ sym (ap (big_number 4) (nonce_there 5 0 mac.0 (big_bytes 4 nonce) inner [] six refl));
+  inner_field = sym (inner_there 5 0 mac.0 (big_bytes 4 nonce) inner [] six refl ∙ append-nil inner);
+}
+
+-- the spelling of an Update is canonical
+pub update_is_canonical : (mac : Mac48) (nonce : ℕ) (inner : List ℕ) → length mac.0 ≡ 6 → nonce < 2 ^ 32
+    → IsCanonical (Update mac nonce inner) (spelling_of (Update mac nonce inner))
+update_is_canonical mac nonce inner six small =
+    let no_tail = append-nil (mac.0 ++ big_bytes 4 nonce ++ inner) in
+    let spelled = subst (λ (rest : List ℕ). IsUpdate mac nonce inner (5 ∷ 0 ∷ rest)) no_tail (update_written mac nonce inner six small) in
+    record { spelled = spelled; reserved = refl; address_form = tt }
 
 -- an endpoint's port and address are read back
 port_again : (port : ℕ) (rest : List ℕ) → port < 2 ^ 16 → big_number 2 (big_bytes 2 port ++ rest) ≡ port
@@ -119,8 +134,8 @@ query_is_canonical limited mac nonce inner None six small form whole = record {
 query_is_canonical limited mac nonce inner (Some endpoint) six small form whole =
     let flags = query_flags limited true in
     let tail = seen_octets (Some endpoint) in
-    let port_place = tail_there flags mac.0 (big_bytes 4 nonce) inner tail six refl in
-    let address_place = address_there flags mac.0 (big_bytes 4 nonce) inner tail six refl in
+    let port_place = tail_there 4 flags mac.0 (big_bytes 4 nonce) inner tail six refl in
+    let address_place = address_there 4 flags mac.0 (big_bytes 4 nonce) inner tail six refl in
     let port_is = ap (big_number 2) port_place ∙ port_again endpoint.port (big_bytes 16 endpoint.address) form.1 in
     let address_is = ap (big_number 16) address_place ∙ address_again endpoint.address form.0 in
     record {
@@ -166,3 +181,4 @@ spelling_is_canonical (Request v6 nonce) fits sendable =
     }
 spelling_is_canonical (Query limited mac nonce inner seen) fits sendable =
     query_is_canonical limited mac nonce inner seen fits.0.0 fits.1 fits.3 sendable.0
+spelling_is_canonical (Update mac nonce inner) fits sendable = update_is_canonical mac nonce inner fits.0.0 fits.1

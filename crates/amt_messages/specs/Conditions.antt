@@ -1,5 +1,5 @@
 -- Which messages there are, and which may be written.
-use Rattle.std.specs.Prelude.{◌≡◌, ℕ, ◌+◌, ◌<◌, ◌≤◌, ◌^◌, false, List, length, Option, Some, None}
+use Rattle.std.specs.Prelude.{◌≡◌, ◌+◌, ◌<◌, ◌≤◌, ◌^◌, false, length, Option, Some, None}
 use Rattle.amt_values.specs.Octets.{AreOctets}
 use Rattle.amt_values.specs.Address.{is_mapped}
 use Rattle.amt_values.specs.Tunnel.{Tunnel}
@@ -9,7 +9,7 @@ use Rattle.amt_values.specs.declared.mac.Mac48.{Mac48}
 use Rattle.amt_messages.specs.Inner.{inner_length_of}
 use Rattle.amt_messages.specs.Layout.{seen_octets}
 use Rattle.amt_messages.specs.declared.message.Message.{Message}
-use Rattle.amt_messages.specs.declared.message.Message.TheVariants.{Discovery, Advertisement, Request, Query}
+use Rattle.amt_messages.specs.declared.message.Message.TheVariants.{Discovery, Advertisement, Request, Query, Update}
 
 -- the address has 32 or 128 bits
 abbrev pub IsAddress : Ip → Type 0
@@ -31,12 +31,14 @@ IsMessage (Discovery nonce) = nonce < 2 ^ 32
 IsMessage (Advertisement nonce relay) = (nonce < 2 ^ 32) × IsAddress relay
 IsMessage (Request v6 nonce) = nonce < 2 ^ 32
 IsMessage (Query limited mac nonce inner seen) = IsMac mac × (nonce < 2 ^ 32) × AreOctets inner × IsSeen seen
+IsMessage (Update mac nonce inner) = IsMac mac × (nonce < 2 ^ 32) × AreOctets inner
 
--- a Query's inner datagram is as long as its own header says, and the whole is no longer than what
--- UDP carries; every other message may be written
+-- a Query's inner datagram is as long as its own header says, and a Query or an Update is no longer
+-- than what UDP carries; every other message may be written
 abbrev pub IsSendable : Message → Type 0
 IsSendable (Discovery nonce) = Unit {0}
 IsSendable (Advertisement nonce relay) = Unit {0}
 IsSendable (Request v6 nonce) = Unit {0}
 IsSendable (Query limited mac nonce inner seen) =
     (inner_length_of inner ≡ Some (length inner)) × (12 + length inner + length (seen_octets seen) ≤ 65535)
+IsSendable (Update mac nonce inner) = 12 + length inner ≤ 65535

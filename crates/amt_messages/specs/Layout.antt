@@ -1,7 +1,6 @@
 -- Which octets spell which message. Reserved bits are not spoken of, so a reader ignores them.
-use Rattle.std.specs.Prelude.{◌≡◌, ℕ, ◌+◌, ◌<◌, ◌/◌, ◌^◌, ◌==◌, Bool, true, false, List, [], ◌∷◌, ◌++◌, length, drop, take, slice_index, Option, Some, None, is_some, if◌then◌else◌}
+use Rattle.std.specs.Prelude.{◌≡◌, ℕ, ◌+◌, ◌/◌, ◌==◌, Bool, true, false, List, [], ◌∷◌, ◌++◌, length, drop, take, slice_index, Option, Some, None, is_some, if◌then◌else◌}
 use Rattle.std.specs.Int.{bit_at}
-use Rattle.amt_values.specs.Octets.{AreOctets}
 use Rattle.amt_values.specs.Address.{is_mapped}
 use Rattle.amt_values.specs.Endpoint.{endpoint_named}
 use Rattle.amt_values.specs.Tunnel.{Tunnel}
@@ -11,7 +10,7 @@ use Rattle.amt_values.specs.declared.mac.Mac48.{Mac48}
 use Rattle.byteorder.specs.Endian.{big_number, big_bytes}
 use Rattle.amt_messages.specs.Inner.{inner_length_of}
 use Rattle.amt_messages.specs.declared.message.Message.{Message}
-use Rattle.amt_messages.specs.declared.message.Message.TheVariants.{Discovery, Advertisement, Request, Query}
+use Rattle.amt_messages.specs.declared.message.Message.TheVariants.{Discovery, Advertisement, Request, Query, Update}
 
 -- so many octets, of which the first has this type and version 0 (RFC 7450, section 5.1)
 pub record IsOfKind (kind size : ℕ) (bytes : List ℕ) : Type 0 where
@@ -67,6 +66,14 @@ gateway_address inner bytes = big_number 16 (drop (14 + inner) bytes)
 abbrev pub gateway_at : ℕ → List ℕ → Tunnel
 gateway_at inner bytes = endpoint_named (gateway_address inner bytes) (gateway_port inner bytes)
 
+-- one reserved octet, the MAC, the nonce, and the inner datagram, which is all the rest
+-- (RFC 7450, section 5.1.5)
+pub record IsUpdate (mac : Mac48) (nonce : ℕ) (inner bytes : List ℕ) : Type 0 where
+  pub kind : IsOfKind 5 (12 + length inner) bytes
+  pub mac_field : mac.0 ≡ take 6 (drop 2 bytes)
+  pub nonce_field : nonce ≡ big_number 4 (drop 8 bytes)
+  pub inner_field : inner ≡ drop 12 bytes
+
 -- the octets spell the message; the G flag of a Query is set exactly where it says what was seen
 abbrev pub Spells : Message → List ℕ → Type 0
 Spells (Discovery nonce) bytes = IsDiscovery nonce bytes
@@ -76,6 +83,7 @@ Spells (Request v6 nonce) bytes = IsRequest v6 nonce bytes
 Spells (Query limited mac nonce inner None) bytes = IsQuery limited false mac nonce inner bytes
 Spells (Query limited mac nonce inner (Some endpoint)) bytes =
     IsQuery limited true mac nonce inner bytes × (endpoint ≡ gateway_at (length inner) bytes)
+Spells (Update mac nonce inner) bytes = IsUpdate mac nonce inner bytes
 
 -- reserved bits are zero: of a Request all but P, of a Query's second octet all but L and G
 abbrev pub HasZeroReserved : Message → List ℕ → Type 0
@@ -83,6 +91,7 @@ HasZeroReserved (Discovery nonce) bytes = take 3 (drop 1 bytes) ≡ 0 ∷ 0 ∷ 
 HasZeroReserved (Advertisement nonce relay) bytes = take 3 (drop 1 bytes) ≡ 0 ∷ 0 ∷ 0 ∷ []
 HasZeroReserved (Request v6 nonce) bytes = (slice_index bytes 1 / 2 ≡ 0) × (take 2 (drop 2 bytes) ≡ 0 ∷ 0 ∷ [])
 HasZeroReserved (Query limited mac nonce inner seen) bytes = slice_index bytes 1 / 4 ≡ 0
+HasZeroReserved (Update mac nonce inner) bytes = slice_index bytes 1 ≡ 0
 
 -- an IPv4 address of a gateway stands behind 96 zero bits
 abbrev pub HasZeroForm : Message → List ℕ → Type 0
@@ -91,6 +100,7 @@ HasZeroForm (Advertisement nonce relay) bytes = Unit {0}
 HasZeroForm (Request v6 nonce) bytes = Unit {0}
 HasZeroForm (Query limited mac nonce inner None) bytes = Unit {0}
 HasZeroForm (Query limited mac nonce inner (Some endpoint)) bytes = is_mapped (gateway_address (length inner) bytes) ≡ false
+HasZeroForm (Update mac nonce inner) bytes = Unit {0}
 
 -- the octets spell the message, with reserved bits zero and the gateway's address in its one form
 pub record IsCanonical (message : Message) (bytes : List ℕ) : Type 0 where
@@ -123,3 +133,4 @@ spelling_of (Advertisement nonce relay) = 2 ∷ 0 ∷ 0 ∷ 0 ∷ (big_bytes 4 n
 spelling_of (Request v6 nonce) = 3 ∷ request_flags v6 ∷ 0 ∷ 0 ∷ big_bytes 4 nonce
 spelling_of (Query limited mac nonce inner seen) =
     4 ∷ query_flags limited (is_some seen) ∷ (mac.0 ++ big_bytes 4 nonce ++ inner ++ seen_octets seen)
+spelling_of (Update mac nonce inner) = 5 ∷ 0 ∷ (mac.0 ++ big_bytes 4 nonce ++ inner)

@@ -1,14 +1,12 @@
 -- The first refusal of octets, the message where there is none, and what may be answered.
-use Rattle.std.specs.Prelude.{◌≡◌, ℕ, ◌+◌, ◌/◌, ◌%◌, ◌==◌, nat_lt, nat_le, not, ◌||◌, Bool, List, [], ◌∷◌, length, drop, take, slice_index, Option, Some, None, unwrap_or, Result, Ok, Err, if◌then◌else◌}
+use Rattle.std.specs.Prelude.{◌≡◌, ℕ, ◌/◌, ◌%◌, ◌==◌, nat_lt, nat_le, not, ◌||◌, Bool, List, [], ◌∷◌, length, drop, take, slice_index, Option, Some, None, unwrap_or, Result, Ok, Err, if◌then◌else◌}
 use Rattle.byteorder.specs.Endian.{big_number}
-use Rattle.amt_values.specs.Tunnel.{Tunnel}
 use Rattle.amt_values.specs.declared.address.Ip.{Ip}
 use Rattle.amt_values.specs.declared.address.Ip.TheVariants.{V4, V6}
-use Rattle.amt_values.specs.declared.mac.Mac48.{Mac48}
 use Rattle.amt_messages.specs.Inner.{inner_length_of}
 use Rattle.amt_messages.specs.Layout.{has_flag, query_length, gateway_at}
 use Rattle.amt_messages.specs.declared.message.Message.{Message}
-use Rattle.amt_messages.specs.declared.message.Message.TheVariants.{Discovery, Advertisement, Request, Query}
+use Rattle.amt_messages.specs.declared.message.Message.TheVariants.{Discovery, Advertisement, Request, Query, Update}
 use Rattle.amt_messages.specs.declared.refusal.DecodeFault.{DecodeFault}
 use Rattle.amt_messages.specs.declared.refusal.DecodeFault.TheVariants.{Refused as RefusedBy, Memory}
 use Rattle.amt_messages.specs.declared.refusal.Refused.{Refused}
@@ -46,6 +44,10 @@ advertisement_refusal bytes = length_refusal (advertisement_length (length bytes
 abbrev pub request_refusal : List ℕ → Option Refused
 request_refusal bytes = length_refusal 8 (length bytes)
 
+-- an Update has a head, and any octets behind it
+abbrev pub update_refusal : List ℕ → Option Refused
+update_refusal bytes = if nat_lt (length bytes) 12 then Some (Short 12 (length bytes)) else None
+
 -- the type is tried before the length, which goes by it
 abbrev pub kind_refusal : ℕ → List ℕ → Option Refused
 kind_refusal kind bytes =
@@ -53,7 +55,8 @@ kind_refusal kind bytes =
     else (if kind == 1 then discovery_refusal bytes
     else (if kind == 2 then advertisement_refusal bytes
     else (if kind == 3 then request_refusal bytes
-    else (if kind == 4 then query_refusal bytes else Some (NotYet kind)))))
+    else (if kind == 4 then query_refusal bytes
+    else (if kind == 5 then update_refusal bytes else Some (NotYet kind))))))
 
 -- the first condition that holds: no octet, another version, an unknown type, a type that isn't
 -- read yet, no inner datagram, too few or too many octets
@@ -84,12 +87,16 @@ query_with inner bytes =
 abbrev pub query_at : List ℕ → Message
 query_at bytes = query_with (unwrap_or (inner_length_of (drop 12 bytes)) 0) bytes
 
+abbrev pub update_at : List ℕ → Message
+update_at bytes = Update (record { 0 = take 6 (drop 2 bytes) }) (big_number 4 (drop 8 bytes)) (drop 12 bytes)
+
 -- the fields by their places, where nothing is refused
 abbrev pub message_at : List ℕ → Message
 message_at bytes =
     if slice_index bytes 0 == 1 then discovery_at bytes
     else (if slice_index bytes 0 == 2 then advertisement_at bytes
-    else (if slice_index bytes 0 == 3 then request_at bytes else query_at bytes))
+    else (if slice_index bytes 0 == 3 then request_at bytes
+    else (if slice_index bytes 0 == 4 then query_at bytes else update_at bytes)))
 
 abbrev pub reading_by : Option Refused → Message → Result Message Refused
 reading_by None message = Ok message
@@ -108,13 +115,17 @@ request_reading bytes = reading_by (request_refusal bytes) (request_at bytes)
 abbrev pub query_reading : List ℕ → Result Message Refused
 query_reading bytes = reading_by (query_refusal bytes) (query_at bytes)
 
+abbrev pub update_reading : List ℕ → Result Message Refused
+update_reading bytes = reading_by (update_refusal bytes) (update_at bytes)
+
 -- the message that the octets spell, or their first refusal
 unfoldable pub message_of : List ℕ → Result Message Refused
 message_of bytes = reading_by (first_refusal bytes) (message_at bytes)
 
--- memory is asked for the inner datagram of a Query alone
+-- memory is asked for the inner datagram of a Query or an Update alone
 abbrev pub TakesMemory : Result Message Refused → Type 0
 TakesMemory (Ok (Query limited mac nonce inner seen)) = Unit {0}
+TakesMemory (Ok (Update mac nonce inner)) = Unit {0}
 TakesMemory (Ok (Discovery nonce)) = ⊥
 TakesMemory (Ok (Advertisement nonce relay)) = ⊥
 TakesMemory (Ok (Request v6 nonce)) = ⊥

@@ -2,7 +2,7 @@
 //!
 //! Contract: octets are read as a message exactly where they spell it, else as the first refusal;
 //! a message is written as its one canonical spelling.
-//! It knows no socket, state or moment. Of a tunnelled packet it reads the length field alone.
+//! It knows no socket, state or moment. Of a tunnelled packet it reads the length field alone, in a Query.
 //! Standard: RFC 7450, section 5.1.
 #![tactic(auto)]
 
@@ -12,6 +12,7 @@ mod message;
 mod query;
 mod reading;
 mod refusal;
+mod update;
 mod writing;
 
 pub use inner::inner_length;

@@ -29,4 +29,12 @@ pub enum Message {
         /// The gateway's address and port as the relay sees them.
         seen: Option<Endpoint>,
     },
+    /// A gateway reports its memberships, by the response MAC and the nonce of a Query
+    /// (section 5.1.5).
+    Update {
+        mac: Mac48,
+        nonce: u32,
+        /// The IP datagram that carries the membership report; a codec takes any octets for it.
+        inner: Bytes,
+    },
 }

@@ -8,6 +8,7 @@ use crate::fields::{has_flag, number_at, relay_at};
 use crate::message::Message;
 use crate::query::read_query;
 use crate::refusal::{DecodeFault, Refused, length_refusal};
+use crate::update::read_update;
 use std::alloc::Global;
 
 // An Advertisement of more than 12 octets is meant to have an IPv6 address.
@@ -75,7 +76,8 @@ fn read(alloc: Global, bytes: &[u8]) -> Result<Message, DecodeFault>
         2 => read_advertisement(bytes),
         3 => read_request(bytes),
         4 => read_query(alloc, bytes),
-        kind @ 5..=7 => Err(DecodeFault::Refused(Refused::NotYet(kind))),
+        5 => read_update(alloc, bytes),
+        kind @ 6..=7 => Err(DecodeFault::Refused(Refused::NotYet(kind))),
         kind => Err(DecodeFault::Refused(Refused::Kind(kind))),
     }
 }
@@ -83,7 +85,7 @@ fn read(alloc: Global, bytes: &[u8]) -> Result<Message, DecodeFault>
 /// Reads a whole datagram of at most 65,535 octets as one message.
 ///
 /// Reserved bits are ignored. The refusals are tried in the order of `Refused`. Memory is asked for
-/// the inner datagram of a Query alone.
+/// the inner datagram of a Query or an Update alone.
 pub fn decode(alloc: Global, bytes: &[u8]) -> Result<Message, DecodeFault>
     requires { length bytes.now ≤ 65535 }
     ensures found { IfOk result (λ message. Spells message bytes.now) }

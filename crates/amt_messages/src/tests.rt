@@ -36,12 +36,12 @@ fn assert_refused(rt: &impl Abort, alloc: Global, bytes: &[u8], want: Refused) {
 
 #[test]
 fn the_first_refusal_is_answered(rt: HostRuntime) -> Result<(), Fail> {
-    let rows: [(&[u8], Refused); 12] = [
+    let rows: [(&[u8], Refused); 13] = [
         (b"", Refused::Empty),
         (b"\x13\x00", Refused::Version(1)),
         (b"\x00", Refused::Kind(0)),
         (b"\x0f", Refused::Kind(15)),
-        (b"\x05", Refused::NotYet(5)),
+        (b"\x06", Refused::NotYet(6)),
         (b"\x07", Refused::NotYet(7)),
         (b"\x03\x00\x00\x00\x00\x00\x00", Refused::Short(8, 7)),
         (b"\x03\x00\x00\x00\x00\x00\x00\x00\x00", Refused::Long(8, 9)),
@@ -57,6 +57,10 @@ fn the_first_refusal_is_answered(rt: HostRuntime) -> Result<(), Fail> {
         (
             b"\x04\x00\x00\x00\x00\x00\x00\x00\x00\x00\x00\x00",
             Refused::NoInner,
+        ),
+        (
+            b"\x05\x00\xa1\xa2\xa3\xa4\xa5\xa6\x0a\x0b\x0c",
+            Refused::Short(12, 11),
         ),
     ];
     for (bytes, want) in rows {
@@ -90,7 +94,7 @@ fn assert_written(
 
 #[test]
 fn what_is_read_is_written_in_its_one_form(rt: HostRuntime) -> Result<(), Fail> {
-    let rows: [(&[u8], &[u8]); 5] = [
+    let rows: [(&[u8], &[u8]); 8] = [
         (
             b"\x01\x00\x00\xff\x01\x02\x03\x04",
             b"\x01\x00\x00\x00\x01\x02\x03\x04",
@@ -110,6 +114,18 @@ fn what_is_read_is_written_in_its_one_form(rt: HostRuntime) -> Result<(), Fail> 
         (
             b"\x03\xfe\xff\xfe\x0a\x0b\x0c\x0d",
             b"\x03\x00\x00\x00\x0a\x0b\x0c\x0d",
+        ),
+        (
+            b"\x05\x00\xa1\xa2\xa3\xa4\xa5\xa6\x0a\x0b\x0c\x0d",
+            b"\x05\x00\xa1\xa2\xa3\xa4\xa5\xa6\x0a\x0b\x0c\x0d",
+        ),
+        (
+            b"\x05\xff\xa1\xa2\xa3\xa4\xa5\xa6\x0a\x0b\x0c\x0d",
+            b"\x05\x00\xa1\xa2\xa3\xa4\xa5\xa6\x0a\x0b\x0c\x0d",
+        ),
+        (
+            b"\x05\x80\xa1\xa2\xa3\xa4\xa5\xa6\x0a\x0b\x0c\x0d\x45\x00\x00",
+            b"\x05\x00\xa1\xa2\xa3\xa4\xa5\xa6\x0a\x0b\x0c\x0d\x45\x00\x00",
         ),
     ];
     for (bytes, canonical) in rows {
@@ -164,6 +180,36 @@ fn a_query_is_read_and_written_by_its_fields(rt: HostRuntime) -> Result<(), Fail
     let written = encode(rt.alloc(), &limited)?;
     let want = query_of(rt.alloc(), LIMITED, &[])?;
     assert_eq!(rt; written.as_slice(), want.as_slice());
+    Ok(())
+}
+
+#[test]
+fn an_update_is_read_and_written_by_its_fields(rt: HostRuntime) -> Result<(), Fail> {
+    // A datagram that is shorter than it states is the report's matter, and not the message's.
+    let rows: [&[u8]; 3] = [b"", b"\x46", INNER];
+    for want in rows {
+        let mut bytes = Bytes::copied(
+            rt.alloc(),
+            b"\x05\x01\xa1\xa2\xa3\xa4\xa5\xa6\x0a\x0b\x0c\x0d",
+        )?;
+        bytes.append(want)?;
+        assert!(rt; bytes.len() <= 48);
+        let Ok(Message::Update { mac, nonce, inner }) = decode(rt.alloc(), bytes.as_slice()) else {
+            return Err("the octets are an Update")?;
+        };
+        assert_eq!(rt; mac, Mac48([0xa1, 0xa2, 0xa3, 0xa4, 0xa5, 0xa6]));
+        assert_eq!(rt; nonce, 0x0a0b0c0d);
+        assert_eq!(rt; inner.as_slice(), want);
+
+        assert!(rt; inner.len() <= 36);
+        let written = encode(rt.alloc(), &Message::Update { mac, nonce, inner })?;
+        let mut canonical = Bytes::copied(
+            rt.alloc(),
+            b"\x05\x00\xa1\xa2\xa3\xa4\xa5\xa6\x0a\x0b\x0c\x0d",
+        )?;
+        canonical.append(want)?;
+        assert_eq!(rt; written.as_slice(), canonical.as_slice());
+    }
     Ok(())
 }
 

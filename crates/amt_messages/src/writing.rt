@@ -6,6 +6,7 @@ ghost use Rattle.amt_messages.specs.Inner.{inner_length_of};
 ghost use Rattle.amt_messages.specs.Layout.{IsCanonical, query_flags, request_flags, seen_octets, spelling_of};
 
 use crate::message::Message;
+use crate::update::write_update;
 use amt_values::{Bytes, Endpoint, Ip, Mac48, octets_of_address};
 use std::alloc::{AllocError, Global};
 
@@ -119,5 +120,6 @@ pub fn encode(alloc: Global, message: &Message) -> Result<Bytes, AllocError>
             inner,
             seen,
         } => write_query(alloc, *limited, mac, *nonce, inner, seen),
+        Message::Update { mac, nonce, inner } => write_update(alloc, mac, *nonce, inner),
     }
 }
