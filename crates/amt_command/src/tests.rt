@@ -80,7 +80,9 @@ fn every_other_datagram_is_refused_with_its_reason(rt: HostRuntime) -> Result<()
     let rows = [
         ("030000000a0b0c", "refused short 8 7"),
         ("030100000a0b0c0d", "nofamily"),
-        ("05", "refused notyet 5"),
+        ("06", "refused notyet 6"),
+        ("0500a1a2a3a4a5a60a0b0c", "refused short 12 11"),
+        ("0500a1a2a3a4a5a60a0b0c0d", "wrongkind 5"),
         ("0400", "refused short 12 2"),
         ("040000000000000000000000", "refused noinner"),
         ("0200000001020304c0000201", "wrongkind 2"),

@@ -3,7 +3,7 @@ use Rattle.std.specs.Prelude.{◌≡◌, max, true, false, List, [], ◌∷◌, 
 use Rattle.amt_values.specs.Endpoint.{endpoint_of}
 use Rattle.amt_values.specs.Tunnel.{Tunnel}
 use Rattle.amt_messages.specs.declared.message.Message.{Message}
-use Rattle.amt_messages.specs.declared.message.Message.TheVariants.{Discovery, Advertisement, Request, Query}
+use Rattle.amt_messages.specs.declared.message.Message.TheVariants.{Discovery, Advertisement, Request, Query, Update}
 use Rattle.amt_messages.specs.declared.refusal.Refused.{Refused}
 use Rattle.amt_messages.specs.Layout.{spelling_of}
 use Rattle.amt_messages.specs.Refusal.{message_of}
@@ -24,6 +24,7 @@ judged None reading = BadSource
 judged (Some source) (Err refusal) = Undecoded refusal
 judged (Some source) (Ok (Advertisement nonce relay)) = WrongKind 2
 judged (Some source) (Ok (Query limited mac nonce inner seen)) = WrongKind 4
+judged (Some source) (Ok (Update mac nonce inner)) = WrongKind 5
 judged (Some source) (Ok (Discovery nonce)) = Advertised
 judged (Some source) (Ok (Request true nonce)) = NoFamily
 judged (Some source) (Ok (Request false nonce)) = Queried false false
@@ -36,6 +37,7 @@ replies settings secret None reading = []
 replies settings secret (Some source) (Err refusal) = []
 replies settings secret (Some source) (Ok (Advertisement nonce relay)) = []
 replies settings secret (Some source) (Ok (Query limited mac nonce inner seen)) = []
+replies settings secret (Some source) (Ok (Update mac nonce inner)) = []
 replies settings secret (Some source) (Ok (Discovery nonce)) =
     record { to = source; bytes = spelling_of (Advertisement nonce settings.relay) } ∷ []
 replies settings secret (Some source) (Ok (Request true nonce)) = []

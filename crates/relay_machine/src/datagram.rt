@@ -44,6 +44,7 @@ fn answer_message(
     match message {
         Message::Advertisement { .. } => Ok(Step::quiet(alloc, Outcome::WrongKind(2))),
         Message::Query { .. } => Ok(Step::quiet(alloc, Outcome::WrongKind(4))),
+        Message::Update { .. } => Ok(Step::quiet(alloc, Outcome::WrongKind(5))),
         Message::Discovery { nonce } => {
             let relay = querier.settings.relay;
             let advertisement = Message::Advertisement { nonce, relay };

@@ -13,7 +13,8 @@ pub enum Outcome {
     BadSource,
     /// The octets are no message.
     Undecoded(Refused),
-    /// A message of this type is for gateways.
+    /// A message of this type is for gateways; or it is an Update, which the relay doesn't act on
+    /// yet.
     WrongKind(u8),
     /// A Request asks for MLD by its P flag (RFC 7450, section 5.1.3), in which nothing is answered
     /// yet.

@@ -101,11 +101,11 @@ fn a_request_is_answered_with_a_query_under_the_current_secret(
 
 #[test]
 fn every_other_datagram_is_not_answered(rt: HostRuntime) -> Result<(), Fail> {
-    let rows: [(Ip, &[u8], Outcome); 7] = [
+    let rows: [(Ip, &[u8], Outcome); 8] = [
         (Ip::V6(1), DISCOVERY, Outcome::BadSource),
         (Ip::V6(0xffff_c633_6407), b"", Outcome::BadSource),
         (GATEWAY, b"", Outcome::Undecoded(Refused::Empty)),
-        (GATEWAY, b"\x05", Outcome::Undecoded(Refused::NotYet(5))),
+        (GATEWAY, b"\x06", Outcome::Undecoded(Refused::NotYet(6))),
         (
             GATEWAY,
             b"\x02\x00\x00\x00\x01\x02\x03\x04\xc0\x00\x02\x01",
@@ -115,6 +115,11 @@ fn every_other_datagram_is_not_answered(rt: HostRuntime) -> Result<(), Fail> {
             GATEWAY,
             b"\x04\x00\x4d\xb7\x58\xa1\x75\x55\x0a\x0b\x0c\x0d\x45\x00\x00\x14\x00\x00\x00\x00\x01\x02\x00\x00\x00\x00\x00\x00\x00\x00\x00\x00",
             Outcome::WrongKind(4),
+        ),
+        (
+            GATEWAY,
+            b"\x05\x00\x4d\xb7\x58\xa1\x75\x55\x0a\x0b\x0c\x0d",
+            Outcome::WrongKind(5),
         ),
         (
             GATEWAY,
