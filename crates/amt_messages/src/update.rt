@@ -29,6 +29,7 @@ pub fn read_update(alloc: Global, bytes: &[u8]) -> Result<Message, DecodeFault>
     })
 }
 
+#[tactic(auto, using(crate::proofs::Written::update_is_canonical))]
 pub fn write_update(
     alloc: Global,
     mac: &Mac48,
