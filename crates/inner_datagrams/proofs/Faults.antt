@@ -1,12 +1,11 @@
 -- What no fault says of bytes, and that an inner datagram has none.
-use Rattle.std.proofs.Common.{◌≡◌, ◌≢◌, ℕ, zero, suc, ◌+◌, ◌-◌, ◌*◌, ◌^◌, ◌<◌, ◌≤◌, List, [], ◌∷◌, ◌++◌, length, take, drop, Bool, true, false, not, eqb, ltb, Option, Some, None, Result, Ok, Err, refl, sym, subst, ap, ◌∙◌, arith, length-drop}
+use Rattle.std.proofs.Common.{◌≡◌, ℕ, ◌-◌, ◌^◌, ◌<◌, ◌≤◌, List, [], ◌∷◌, ◌++◌, length, drop, Bool, true, false, not, eqb, ltb, Option, Some, None, Result, Ok, Err, refl, sym, subst, ap, ◌∙◌, arith, length-drop}
 use Rattle.std.proofs.lemmas.Bool.{le-ltb, ltb-false, eqb-true, ne_eqb, not-false}
 use Rattle.std.proofs.lemmas.List.{take_all}
 use Rattle.std.specs.Result.{IfOk, IsOkAnd, MatchResult}
 use Rattle.amt_values.specs.declared.address.Ip.{Ip}
 use Rattle.amt_values.specs.declared.address.Ip.TheVariants.{V4, V6}
-use Rattle.inner_datagrams.specs.Checksum.{words, ones_sum, is_right}
-use Rattle.inner_datagrams.specs.Header.{ip_version, header_words, header_octets, header_of, total_length, fragment_bits, protocol_number, source_number, destination_number}
+use Rattle.inner_datagrams.specs.Header.{header_octets, source_number, destination_number}
 use Rattle.inner_datagrams.specs.Inner.{IsInner, IsInner4}
 use Rattle.inner_datagrams.specs.Fault.{Conditions, first_holding, first_inner_fault, version_faults, length_faults, header_faults}
 use Rattle.inner_datagrams.specs.Reading.{HasParts, inner4_at, payload_of, unless}

@@ -1,5 +1,5 @@
 -- The fields of an IPv4 header (RFC 791, section 3.1).
-use Rattle.std.specs.Prelude.{ℕ, ◌*◌, ◌/◌, ◌%◌, ◌^◌, List, [], ◌∷◌, ◌++◌, take, drop, slice_index}
+use Rattle.std.specs.Prelude.{ℕ, ◌*◌, ◌/◌, ◌%◌, ◌^◌, List, ◌∷◌, ◌++◌, take, drop, slice_index}
 use Rattle.byteorder.specs.Endian.{big_number}
 
 -- of any IP datagram, the high half of the first octet

@@ -41,7 +41,7 @@ pub fn is_right(bytes: &[u8]) -> bool
 
 // The checksum that a header is meant to have: that of its octets with a zero in its place. A zero
 // adds nothing, so the words on both sides of it are added.
-pub fn zeroed_sum(header: &[u8]) -> u16
+pub fn expected_sum(header: &[u8]) -> u16
     requires least { 12 ≤ length header.now }
     requires most { length header.now ≤ INPUT_LIMIT }
     ensures { result ≡ internet_sum_of (with_zero_sum header.now) }

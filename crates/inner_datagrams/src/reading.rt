@@ -7,7 +7,7 @@ ghost use Rattle.inner_datagrams.specs.Inner.{IsInner};
 ghost use Rattle.inner_datagrams.specs.Reading.{HasParts, inner4_at, payload_of, unless};
 ghost use Rattle.inner_datagrams.specs.Written.{written_inner4};
 
-use crate::checksum::{is_right, zeroed_sum};
+use crate::checksum::{expected_sum, is_right};
 use crate::fields::{number_at, short_at};
 use crate::inner::{Inner, InnerFault};
 use crate::ipv4::PAYLOAD_LIMIT;
@@ -41,7 +41,7 @@ fn header_end(bytes: &[u8]) -> Result<usize, InnerFault>
     Ok(need as usize)
 }
 
-// Why the header, which ends there, is none of a whole datagram that carries IGMP.
+// What a header that ends there has against it: a wrong checksum, a fragment, another protocol.
 fn header_fault(bytes: &[u8], end: usize) -> Option<InnerFault>
     requires least { 20 ≤ end }
     requires most { end ≤ 60 }
@@ -51,7 +51,7 @@ fn header_fault(bytes: &[u8], end: usize) -> Option<InnerFault>
 {
     let (header, _) = bytes.split_at(end);
     if !is_right(header) {
-        let want = zeroed_sum(header);
+        let want = expected_sum(header);
         return Some(InnerFault::HeaderSum(want, short_at(bytes, 10)));
     }
     let fragment = short_at(bytes, 6) & 0x3fff;
@@ -118,8 +118,8 @@ pub fn read_inner(bytes: &[u8]) -> Result<Inner, InnerFault>
     ensures read_back { (source destination : ℕ) (payload : List ℕ)
         → source < 2 ^ 32 → destination < 2 ^ 32 → length payload ≤ PAYLOAD_LIMIT
         → bytes.now ≡ written_inner4 source destination payload
-        → IsOkAnd result (λ inner.
-        HasParts (V4 source) (V4 destination) payload bytes.now inner × (inner.start ≡ 24)) }
+        → IsOkAnd result (λ inner. HasParts (V4 source) (V4 destination) payload bytes.now inner
+        × (inner.start ≡ 24)) }
 {
     read(bytes)
 }

@@ -1,8 +1,8 @@
-use Rattle.std.proofs.Common.{◌≡◌, ℕ, List, ◌+◌, ◌-◌, ◌∙◌, length, take, drop, ap, sym, refl, arith, rules}
+use Rattle.std.proofs.Common.{◌+◌, rules}
 use Rattle.amt_values.specs.Octets.{AreOctets}
 use Rattle.inner_datagrams.proofs.OnesComplement.{StandsFor-zero_alone}
 use Rattle.inner_datagrams.proofs.RightSum.{checksum-around, complement_twice}
-use Rattle.inner_datagrams.proofs.checksum.zeroed_sum.Goals as goal
+use Rattle.inner_datagrams.proofs.checksum.expected_sum.Goals as goal
 
 pub returns : goal.returns
 returns c =
