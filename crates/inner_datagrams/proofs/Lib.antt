@@ -1,3 +1,4 @@
+pub mod Faults
 pub mod Octets
 pub mod OnesComplement
 pub mod Pairs

@@ -33,7 +33,7 @@ IsInner4-written_inner4 source destination payload source_fits destination_fits 
       version = refl;
       least_header = omega arith;
       whole_header = omega arith;
-      total_length = big_number-reads_back 2 (24 + length payload) (drop 4 bytes) (omega arith) ∙ omega arith;
+      whole_datagram = big_number-reads_back 2 (24 + length payload) (drop 4 bytes) (omega arith) ∙ omega arith;
       right_header = IsRight-header4 (24 + length payload) source destination;
       no_fragment = refl;
       protocol = refl;

@@ -1,5 +1,5 @@
 -- The Internet checksum (RFC 1071, section 1).
-use Rattle.std.specs.Prelude.{◌≡◌, ℕ, ◌+◌, ◌-◌, ◌*◌, ◌/◌, ◌%◌, ◌^◌, List, [], ◌∷◌}
+use Rattle.std.specs.Prelude.{◌≡◌, ℕ, ◌+◌, ◌-◌, ◌*◌, ◌/◌, ◌%◌, ◌^◌, ◌==◌, Bool, List, [], ◌∷◌}
 
 -- bytes as words of 16 bits, the high octet first; a zero follows an odd last octet
 abbrev pub words : List ℕ → List ℕ
@@ -23,3 +23,7 @@ internet_sum_of bytes = 65535 - ones_sum (words bytes)
 -- all words, the one with the checksum among them, add up to ffff
 abbrev pub IsRight : List ℕ → Type 0
 IsRight bytes = ones_sum (words bytes) ≡ 65535
+
+-- the same as a test
+abbrev pub is_right : List ℕ → Bool
+is_right bytes = ones_sum (words bytes) == 65535

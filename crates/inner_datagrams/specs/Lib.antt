@@ -1,3 +1,6 @@
 pub mod Checksum
+pub mod Fault
+pub mod Header
 pub mod Inner
+pub mod Reading
 pub mod Written

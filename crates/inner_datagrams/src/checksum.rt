@@ -1,5 +1,6 @@
 ghost use Rattle.std.specs.Prelude.{◌≡◌, ◌≤◌, ◌%◌, ◌↔◌, length};
-ghost use Rattle.inner_datagrams.specs.Checksum.{internet_sum_of};
+ghost use Rattle.inner_datagrams.specs.Checksum.{internet_sum_of, is_right};
+ghost use Rattle.inner_datagrams.specs.Header.{with_zero_sum};
 
 use amt_values::INPUT_LIMIT;
 
@@ -28,4 +29,26 @@ pub fn internet_sum(bytes: &[u8]) -> u16
     }
     let last = odd.first().copied().unwrap_or(0);
     !carried_around(sum + (u64::from(last) << 8))
+}
+
+// All words, the checksum among them, add up to ffff.
+pub fn is_right(bytes: &[u8]) -> bool
+    requires { length bytes.now ≤ INPUT_LIMIT }
+    ensures { result ≡ is_right bytes.now }
+{
+    internet_sum(bytes) == 0
+}
+
+// The checksum that a header is meant to have: that of its octets with a zero in its place. A zero
+// adds nothing, so the words on both sides of it are added.
+pub fn expected_sum(header: &[u8]) -> u16
+    requires least { 12 ≤ length header.now }
+    requires most { length header.now ≤ INPUT_LIMIT }
+    ensures { result ≡ internet_sum_of (with_zero_sum header.now) }
+{
+    let (front, _) = header.split_at(10);
+    let (_, back) = header.split_at(12);
+    let front_sum = u64::from(!internet_sum(front));
+    let back_sum = u64::from(!internet_sum(back));
+    !carried_around(front_sum + back_sum)
 }

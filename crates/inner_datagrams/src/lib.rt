@@ -7,10 +7,15 @@
 #![tactic(auto)]
 
 mod checksum;
+mod fields;
+mod inner;
 mod ipv4;
+mod reading;
 
 pub use checksum::internet_sum;
+pub use inner::{Inner, InnerFault};
 pub use ipv4::{PAYLOAD_LIMIT, write_inner4};
+pub use reading::read_inner;
 
 #[cfg(test)]
 mod tests;

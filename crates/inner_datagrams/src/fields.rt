@@ -1,0 +1,22 @@
+ghost use Rattle.std.specs.Prelude.{◌≡◌, ◌+◌, ◌≤◌, drop, length};
+ghost use Rattle.byteorder.specs.Endian.{big_number};
+
+use byteorder::{BigEndian, ByteOrder};
+
+// The number in the two octets from a place on.
+pub fn short_at(bytes: &[u8], place: usize) -> u16
+    requires { place + 2 ≤ length bytes.now }
+    ensures { result ≡ big_number 2 (drop place bytes.now) }
+{
+    let (_, field) = bytes.split_at(place);
+    BigEndian::read_u16(field)
+}
+
+// The number in the four octets from a place on.
+pub fn number_at(bytes: &[u8], place: usize) -> u32
+    requires { place + 4 ≤ length bytes.now }
+    ensures { result ≡ big_number 4 (drop place bytes.now) }
+{
+    let (_, field) = bytes.split_at(place);
+    BigEndian::read_u32(field)
+}
