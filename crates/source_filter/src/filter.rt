@@ -44,7 +44,8 @@ impl Filter {
         ensures mode { IfOk result (λ filter. filter.mode ≡ mode) }
         ensures sources { IfOk result (λ filter. filter.sources ≡ rising_sources sources.now) }
         ensures rising { IfOk result (λ filter. IsRising ip_order filter.sources) }
-        ensures listed { IfOk result (λ filter. (source : Ip) → lists filter.sources source ≡ lists sources.now source) }
+        ensures listed { IfOk result
+            (λ filter. (source : Ip) → lists filter.sources source ≡ lists sources.now source) }
     {
         let mut listed = Ips::copied(alloc, sources)?;
         listed.make_rising();
@@ -81,8 +82,12 @@ impl Filter {
     /// The filter after a group record (RFC 3376, section 5.1).
     pub fn apply(&self, alloc: Global, change: &Record) -> Result<Filter, AllocError>
         ensures table { IfOk result (λ after. after ≡ applied self.now change.now) }
-        ensures says { IfOk result (λ after. (source : Ip) → speaks change.now source ≡ true → admits after source ≡ says change.now source) }
-        ensures keeps { IfOk result (λ after. (source : Ip) → speaks change.now source ≡ false → admits after source ≡ admits self.now source) }
+        ensures says { IfOk result
+            (λ after. (source : Ip) → speaks change.now source ≡ true
+            → admits after source ≡ says change.now source) }
+        ensures keeps { IfOk result
+            (λ after. (source : Ip) → speaks change.now source ≡ false
+            → admits after source ≡ admits self.now source) }
     {
         self.changed(alloc, change)
     }
@@ -107,7 +112,9 @@ impl Filter {
 
     // The filter with these sources on its list too.
     fn listing(&self, alloc: Global, sources: &[Ip]) -> Result<Filter, AllocError>
-        ensures { IfOk result (λ after. after ≡ record { mode = self.now.mode; sources = union ip_order self.now.sources sources.now }) }
+        ensures mode { IfOk result (λ after. after.mode ≡ self.now.mode) }
+        ensures sources { IfOk result
+            (λ after. after.sources ≡ union ip_order self.now.sources sources.now) }
     {
         let mut listed = Ips::copied(alloc, self.sources.as_slice())?;
         listed.append(sources)?;
@@ -120,7 +127,9 @@ impl Filter {
 
     // The filter with none of these sources on its list.
     fn without(&self, alloc: Global, sources: &[Ip]) -> Result<Filter, AllocError>
-        ensures { IfOk result (λ after. after ≡ record { mode = self.now.mode; sources = difference ip_order self.now.sources sources.now }) }
+        ensures mode { IfOk result (λ after. after.mode ≡ self.now.mode) }
+        ensures sources { IfOk result
+            (λ after. after.sources ≡ difference ip_order self.now.sources sources.now) }
     {
         let mut removed = Ips::copied(alloc, sources)?;
         removed.make_rising();
