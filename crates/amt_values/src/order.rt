@@ -1,4 +1,6 @@
 ghost use Rattle.std.specs.Prelude.{◌≡◌};
+ghost use Rattle.std.specs.Cmp.{IsTotalOrder};
+ghost use Rattle.std.specs.declared.cmp.Ordering.TheVariants.{Equal};
 ghost use Rattle.amt_values.specs.Order.{ip_order, tunnel_order};
 
 use crate::address::Ip;
@@ -7,14 +9,18 @@ use std::cmp::Ordering;
 
 /// The order of addresses, which is that of `<`: IPv4 before IPv6, then by number.
 pub fn order_of_ips(one: &Ip, other: &Ip) -> Ordering
-    ensures { result ≡ ip_order one.now other.now }
+    ensures value { result ≡ ip_order one.now other.now }
+    ensures total { IsTotalOrder ip_order }
+    ensures exact { result ≡ Equal → one.now ≡ other.now }
 {
     one.cmp(other)
 }
 
 /// The order of endpoints, which is that of `<`: by address, then port.
 pub fn order_of_endpoints(one: &Endpoint, other: &Endpoint) -> Ordering
-    ensures { result ≡ tunnel_order one.now other.now }
+    ensures value { result ≡ tunnel_order one.now other.now }
+    ensures total { IsTotalOrder tunnel_order }
+    ensures exact { result ≡ Equal → one.now ≡ other.now }
 {
     one.cmp(other)
 }

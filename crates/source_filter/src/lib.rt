@@ -1,10 +1,26 @@
-//! The fields of queries, which the record crates of both address families share.
+//! Source filters and group records, and what the readers of both address families share.
 //!
-//! Contract: none yet, since it has no call; filters and group records will stand here.
-//! It knows no layout, endpoint or moment.
-//! Standard: RFC 3376, section 4.1; RFC 3810, section 5.1.
+//! Contract: a filter after a record admits a source by what the record says, where the record
+//! speaks of it, and as before elsewhere.
+//! It knows no layout, tunnel endpoint or moment.
+//! Standard: RFC 3376, sections 3.2, 4.1, 4.2.12 and 5.1; RFC 3810, section 5.1.
 #![tactic(auto)]
 
+mod fault;
+mod filter;
+mod ips;
+mod mode;
 mod query;
+mod record;
+mod records;
 
+pub use fault::{ReadFault, ReportFault};
+pub use filter::{Filter, copy_filter};
+pub use ips::Ips;
+pub use mode::Mode;
 pub use query::QueryFields;
+pub use record::{Record, RecordKind};
+pub use records::{Records, copy_records};
+
+#[cfg(test)]
+mod tests;

@@ -1,0 +1,60 @@
+-- Filters of one group, and what a group record makes of them (RFC 3376, sections 3.2 and 5.1).
+use Rattle.std.specs.Prelude.{Bool, not, List, []}
+use Rattle.amt_values.specs.declared.address.Ip.{Ip}
+use Rattle.amt_values.specs.Order.{ip_order}
+use Rattle.source_filter.specs.Record.{lists}
+use Rattle.source_filter.specs.Rising.{rising, union, difference}
+use Rattle.source_filter.specs.declared.mode.Mode.{Mode}
+use Rattle.source_filter.specs.declared.mode.Mode.TheVariants.{Include, Exclude}
+use Rattle.source_filter.specs.declared.record.Record.{Record}
+use Rattle.source_filter.specs.declared.record.RecordKind.{RecordKind}
+use Rattle.source_filter.specs.declared.record.RecordKind.TheVariants.{IsIn, IsEx, ToIn, ToEx, Allow, Block}
+
+-- what contracts see of a filter: its mode, and its sources, which rise
+pub record FilterValue : Type 0 where
+  pub mode : Mode
+  pub sources : List Ip
+
+-- the listed sources are wanted, or all others
+abbrev pub admits_by : Mode → Bool → Bool
+admits_by Include listed = listed
+admits_by Exclude listed = not listed
+
+-- the filter lets the source in
+abbrev pub admits : FilterValue → Ip → Bool
+admits filter source = admits_by filter.mode (lists filter.sources source)
+
+-- a group of which nothing is wanted
+abbrev pub nothing : FilterValue
+nothing = record { mode = Include; sources = [] }
+
+-- the different sources, rising
+abbrev pub rising_sources : List Ip → List Ip
+rising_sources sources = rising ip_order sources
+
+-- IS and TO records set the mode; ALLOW and BLOCK leave it
+abbrev pub mode_after : RecordKind → Mode → Mode
+mode_after IsIn mode = Include
+mode_after IsEx mode = Exclude
+mode_after ToIn mode = Include
+mode_after ToEx mode = Exclude
+mode_after Allow mode = mode
+mode_after Block mode = mode
+
+-- IS and TO records replace the sources; ALLOW and BLOCK add to a filter's list or take from it
+abbrev pub sources_after : RecordKind → Mode → List Ip → List Ip → List Ip
+sources_after IsIn mode old listed = rising_sources listed
+sources_after IsEx mode old listed = rising_sources listed
+sources_after ToIn mode old listed = rising_sources listed
+sources_after ToEx mode old listed = rising_sources listed
+sources_after Allow Include old listed = union ip_order old listed
+sources_after Allow Exclude old listed = difference ip_order old listed
+sources_after Block Include old listed = difference ip_order old listed
+sources_after Block Exclude old listed = union ip_order old listed
+
+-- the filter after the record
+abbrev pub applied : FilterValue → Record → FilterValue
+applied filter group_record = record {
+  mode = mode_after group_record.kind filter.mode;
+  sources = sources_after group_record.kind filter.mode filter.sources group_record.sources;
+}

@@ -1,0 +1,3 @@
+pub mod Filter
+pub mod Record
+pub mod Rising

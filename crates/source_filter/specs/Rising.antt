@@ -1,0 +1,33 @@
+-- Lists that rise by an order, with each item once: sets with one form.
+use Rattle.std.specs.Prelude.{Bool, not, List, [], ◌∷◌, ◌++◌}
+use Rattle.std.specs.List.{filter, list_any}
+use Rattle.std.specs.List.Sorted.{IsStrictlySortedBy}
+use Rattle.std.specs.Ordering.{eq_by_cmp, match_ordering}
+use Rattle.std.specs.declared.cmp.Ordering.{Ordering}
+
+module _ {K : Type 0} (order : K → K → Ordering) where
+  -- x is one of the items
+  abbrev pub has : List K → K → Bool
+  has xs x = list_any (eq_by_cmp order x) xs
+
+  -- each item is below those after it
+  abbrev pub IsRising : List K → Type 0
+  IsRising xs = IsStrictlySortedBy order xs
+
+  -- rising items with x among them
+  abbrev pub placed : K → List K → List K
+  placed x [] = x ∷ []
+  placed x (y ∷ ys) = match_ordering (order x y) (x ∷ y ∷ ys) (y ∷ ys) (y ∷ placed x ys)
+
+  -- the different items of a list, rising
+  abbrev pub rising : List K → List K
+  rising [] = []
+  rising (x ∷ xs) = placed x (rising xs)
+
+  -- the items of either list, rising
+  abbrev pub union : List K → List K → List K
+  union xs ys = rising (xs ++ ys)
+
+  -- the items of xs that ys lacks
+  abbrev pub difference : List K → List K → List K
+  difference xs ys = filter (λ x. not (has ys x)) xs
