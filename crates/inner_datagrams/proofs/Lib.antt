@@ -1,3 +1,4 @@
+pub mod Parts
 pub mod Octets
 pub mod OnesComplement
 pub mod Pairs
