@@ -81,6 +81,26 @@ fn read_records(
     Ok(records)
 }
 
+#[tactic(auto, unfolding(crate::specs::Reading::first_report_fault, crate::specs::Reading::records_reading, crate::specs::Reading::report_of))]
+fn read(
+    alloc: Global,
+    family: Family,
+    pseudo_header: &[u8],
+    payload: &[u8],
+) -> Result<Records, ReadFault>
+    requires even { length pseudo_header.now % 2 ≡ 0 }
+    requires short { length pseudo_header.now ≤ 65535 }
+    requires most { length payload.now ≤ INPUT_LIMIT }
+    ensures { Gives result (report_of family pseudo_header.now payload.now) }
+{
+    if let Some(fault) = head_fault(family, pseudo_header, payload) {
+        return Err(ReadFault::Report(fault));
+    }
+    let (_, count_and_records) = payload.split_at(6);
+    let (_, records) = payload.split_at(8);
+    read_records(alloc, family, BigEndian::read_u16(count_and_records), records)
+}
+
 /// Reads a whole payload of at most 16 MiB as one membership report.
 ///
 /// The pseudo-header is summed before the payload: it is empty in IGMP, and in MLD the 40 octets of
@@ -114,10 +134,5 @@ pub fn read_report(
         → Gives result (Err fault) }
     ensures value { Gives result (report_of family pseudo_header.now payload.now) }
 {
-    if let Some(fault) = head_fault(family, pseudo_header, payload) {
-        return Err(ReadFault::Report(fault));
-    }
-    let (_, count_and_records) = payload.split_at(6);
-    let (_, records) = payload.split_at(8);
-    read_records(alloc, family, BigEndian::read_u16(count_and_records), records)
+    read(alloc, family, pseudo_header, payload)
 }

@@ -1,0 +1,27 @@
+use Rattle.std.proofs.Common.{◌≡◌, ℕ, drop, Some, None, sym, ap, ◌∙◌, rules}
+use Rattle.group_records.specs.Reading.{record_fault, record_length}
+use Rattle.group_records.proofs.Steps.{fault_here, fault_step, known_step, reading-err, reading-ok}
+use Rattle.group_records.proofs.report.read_records.Goals as goal
+
+pub returns-in-Some : goal.returns-in-Some
+returns-in-Some c =
+    let left = c.loop-index.left.now in
+    let here : record_fault c.args.family c.loop-index.index left ≡ Some c.in-Some.fault = search rules in
+    reading-err c.args.family c.args.count c.args.octets.now c.in-Some.fault
+    (fault_here c.args.family c.args.count c.loop-index.index left c.in-Some.fault _ c.loop-index-test.true here c.loop-index.invariant.fault)
+
+pub loop-index-preserved : goal.loop-index-preserved
+loop-index-preserved c =
+    let left = c.loop-index.left.now in
+    let rest = c.split_at.result.1.now in
+    let none : record_fault c.args.family c.loop-index.index left ≡ None = search rules in
+    let behind : rest ≡ drop (record_length c.args.family left) left = c.split_at.ensures.back ∙ ap (λ (n : ℕ). drop n left) c.record_length.ensures in
+    let known = known_step c.args.family c.args.count c.loop-index.index c.loop-index.records _ left rest c.loop-index-test.true behind c.loop-index.invariant.known in
+    record {
+      fault = fault_step c.args.family c.args.count c.loop-index.index left rest _ c.loop-index-test.true none behind c.loop-index.invariant.fault;
+      known = rw c.in-Ok.ensures known;
+    }
+
+pub returns : goal.returns
+returns c =
+    reading-ok c.args.family c.args.count c.loop-index.index c.loop-index.records c.loop-index.left.now c.args.octets.now c.loop-index-test.false c.loop-index.invariant.fault c.loop-index.invariant.known
