@@ -1,5 +1,5 @@
 -- From what was answered by the reading of a payload to what it says of the report.
-use Rattle.std.proofs.Common.{◌≡◌, ℕ, ◌+◌, ◌<◌, ◌≤◌, List, length, drop, slice_index, ◌++◌, Bool, true, false, cond, eqb, ltb, Option, Some, None, Result, Ok, Err, refl, sym, subst, ap, ◌∙◌, arith}
+use Rattle.std.proofs.Common.{◌≡◌, ℕ, ◌≤◌, List, length, drop, slice_index, ◌++◌, Bool, true, false, cond, eqb, ltb, Option, Some, None, Result, Ok, Err, refl, sym, subst, ap, ◌∙◌}
 use Rattle.std.proofs.lemmas.Bool.{eqb-true, eq-eqb, ltb-false, le-ltb}
 use Rattle.std.specs.Result.{IfOk, MatchResult}
 use Rattle.byteorder.specs.Endian.{big_number}
@@ -14,8 +14,8 @@ use Rattle.source_filter.specs.declared.fault.ReadFault.TheVariants.{Report, Mem
 use Rattle.group_records.specs.declared.family.Family.{Family}
 use Rattle.group_records.specs.Carried.{known_records}
 use Rattle.group_records.specs.Family.{report_type}
-use Rattle.group_records.specs.Report.{AreRecords, IsReport}
-use Rattle.group_records.specs.Reading.{Gives, Tells, all_carried_at, fault_or, first_record_fault, first_report_fault, head_fault, kind_fault, reading_by, report_of, sum_fault}
+use Rattle.group_records.specs.Report.{IsReport}
+use Rattle.group_records.specs.Reading.{Gives, Tells, all_carried_at, first_report_fault, head_fault, reading_by, report_of, sum_fault}
 use Rattle.group_records.proofs.Spelled.{untaken}
 use Rattle.group_records.proofs.Walk.{AreRecords-once, AreRecords-read, fault_or-none}
 

@@ -1,5 +1,5 @@
 -- One record: its octets are read as it, and octets that are no fault are those of what is read.
-use Rattle.std.proofs.Common.{◌≡◌, ℕ, zero, suc, ◌+◌, ◌*◌, ◌/◌, ◌%◌, ◌^◌, ◌<◌, ◌≤◌, List, [], ◌∷◌, ◌++◌, length, length-append, length-drop, take, drop, slice_index, Bool, true, false, cond, ltb, Option, Some, None, refl, sym, ap, ◌∙◌, arith, append_assoc, take-append-drop}
+use Rattle.std.proofs.Common.{◌≡◌, ℕ, ◌+◌, ◌*◌, ◌/◌, ◌≤◌, List, [], ◌∷◌, ◌++◌, length, length-append, length-drop, take, drop, slice_index, Bool, true, false, cond, ltb, Option, Some, None, refl, sym, ap, ◌∙◌, arith, append_assoc, take-append-drop}
 use Rattle.std.proofs.lemmas.Bool.{ltb-false, le-ltb}
 use Rattle.std.proofs.lemmas.List.{drop-drop, length-take-le}
 use Rattle.std.specs.List.{flat_map}
@@ -146,7 +146,7 @@ carried_at-lawful family bytes small whole =
       group = big_from-lt 0 (width family) (drop 4 bytes) (AreOctets-drop 4 bytes small);
       sources = numbers_at-fit (width family) (source_count bytes) (drop (head_length family) bytes) (AreOctets-drop (head_length family) bytes small);
       source_count = rw (length-numbers_at (width family) (source_count bytes) (drop (head_length family) bytes))
-      (big_from-lt 0 2 (drop 2 bytes) (AreOctets-drop 2 bytes small));
+          (big_from-lt 0 2 (drop 2 bytes) (AreOctets-drop 2 bytes small));
       auxiliary_words = rw auxiliary (omega arith);
       word_count = rw auxiliary (omega arith);
       auxiliary_octets = AreOctets-take (slice_index bytes 1 * 4) (drop place bytes) (AreOctets-drop place bytes small);

@@ -1,5 +1,5 @@
 -- The sum of a report's head, and one step of each of the two loops.
-use Rattle.std.proofs.Common.{◌≡◌, ℕ, suc, ◌+◌, ◌-◌, ◌*◌, ◌%◌, ◌<◌, ◌≤◌, List, [], ◌∷◌, ◌++◌, length, length-drop, drop, map, Option, Some, None, Result, Ok, Err, refl, sym, subst, ap, ◌∙◌, arith, append_assoc}
+use Rattle.std.proofs.Common.{◌≡◌, ℕ, suc, ◌+◌, ◌-◌, ◌*◌, ◌%◌, ◌<◌, ◌≤◌, List, [], ◌∷◌, ◌++◌, length, length-drop, drop, map, Option, Some, None, Ok, Err, refl, sym, subst, ap, ◌∙◌, arith, append_assoc}
 use Rattle.std.proofs.Math.Nat.{suc-mul}
 use Rattle.std.proofs.lemmas.Bool.{eq-eqb, ne_eqb}
 use Rattle.std.proofs.lemmas.List.{append-nil}
@@ -12,9 +12,9 @@ use Rattle.source_filter.specs.declared.record.Record.{Record}
 use Rattle.source_filter.specs.declared.fault.ReportFault.{ReportFault}
 use Rattle.source_filter.specs.declared.fault.ReportFault.TheVariants.{Sum}
 use Rattle.group_records.specs.declared.family.Family.{Family}
-use Rattle.group_records.specs.Carried.{Carried, known_record, known_records}
+use Rattle.group_records.specs.Carried.{known_record, known_records}
 use Rattle.group_records.specs.Family.{address_in, width}
-use Rattle.group_records.specs.Reading.{all_carried_at, carried_at, fault_or, first_record_fault, numbers_at, reading_by, record_fault, record_length, records_reading, sum_fault, wanted_sum}
+use Rattle.group_records.specs.Reading.{all_carried_at, carried_at, first_record_fault, numbers_at, reading_by, record_fault, record_length, records_reading, sum_fault, wanted_sum}
 
 pub sum_fault-right : (pseudo_header payload : List ℕ) → length pseudo_header % 2 ≡ 0 → AreOctets pseudo_header → AreOctets payload
     → internet_sum_of (pseudo_header ++ [] ++ 0 ∷ 0 ∷ payload) ≡ 0 → sum_fault pseudo_header payload ≡ None

@@ -1,5 +1,5 @@
 -- Records one after another: their octets are read as them, and octets without fault are theirs.
-use Rattle.std.proofs.Common.{◌≡◌, ℕ, zero, suc, ◌+◌, ◌<◌, ◌≤◌, List, [], ◌∷◌, ◌++◌, length, drop, Option, Some, None, refl, sym, subst, ap, ◌∙◌, arith, append_assoc}
+use Rattle.std.proofs.Common.{◌≡◌, ℕ, zero, suc, List, [], ◌∷◌, ◌++◌, length, drop, Option, Some, None, refl, sym, subst, ap, ◌∙◌, arith, append_assoc}
 use Rattle.std.proofs.lemmas.List.Elements.{All-cons, All-head, All-tail}
 use Rattle.std.specs.List.{All, flat_map}
 use Rattle.amt_values.specs.Octets.{AreOctets}
@@ -64,8 +64,8 @@ AreRecords-read family index (suc count) bytes small none =
       number = ap suc later.number;
       lawful = All-cons (IsCarried family) first later.carried (carried_at-lawful family bytes small whole) later.lawful;
       spelled = spelled-carried_at family bytes small whole
-      ∙ (ap (λ (xs : List ℕ). carried_octets family first ++ xs) later.spelled
-      ∙ sym (append_assoc (carried_octets family first) (flat_map (carried_octets family) later.carried) later.rest));
+          ∙ (ap (λ (xs : List ℕ). carried_octets family first ++ xs) later.spelled
+          ∙ sym (append_assoc (carried_octets family first) (flat_map (carried_octets family) later.carried) later.rest));
       known = ap (λ (records : List Record). known_record family first ++ records) later.known;
     }
 

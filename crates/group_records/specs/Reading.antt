@@ -1,5 +1,5 @@
 -- The first fault of a payload, its records where there is none, and what may be answered.
-use Rattle.std.specs.Prelude.{◌≡◌, ℕ, zero, suc, ◌+◌, ◌*◌, ◌==◌, nat_lt, not, List, [], ◌∷◌, ◌++◌, length, drop, take, slice_index, Option, Some, None, Result, Ok, Err, if◌then◌else◌}
+use Rattle.std.specs.Prelude.{◌≡◌, ℕ, zero, suc, ◌+◌, ◌*◌, ◌==◌, nat_lt, List, [], ◌∷◌, ◌++◌, length, drop, take, slice_index, Option, Some, None, Result, Ok, Err, if◌then◌else◌}
 use Rattle.byteorder.specs.Endian.{big_number}
 use Rattle.inner_datagrams.specs.Checksum.{words, ones_sum, internet_sum_of}
 use Rattle.source_filter.specs.declared.record.Record.{Record}

@@ -53,12 +53,7 @@ pub fn record_fault(family: Family, index: u32, octets: &[u8]) -> Option<ReportF
     None
 }
 
-fn read_sources(
-    alloc: Global,
-    family: Family,
-    count: u16,
-    octets: &[u8],
-) -> Result<Ips, AllocError>
+fn read_sources(alloc: Global, family: Family, count: u16, octets: &[u8]) -> Result<Ips, AllocError>
     requires { count * width family ≤ length octets.now }
     ensures { IfOk result (λ sources. sources
         ≡ map (address_in family) (numbers_at (width family) count octets.now)) }

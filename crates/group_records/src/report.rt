@@ -98,7 +98,12 @@ fn read(
     }
     let (_, count_and_records) = payload.split_at(6);
     let (_, records) = payload.split_at(8);
-    read_records(alloc, family, BigEndian::read_u16(count_and_records), records)
+    read_records(
+        alloc,
+        family,
+        BigEndian::read_u16(count_and_records),
+        records,
+    )
 }
 
 /// Reads a whole payload of at most 16 MiB as one membership report.

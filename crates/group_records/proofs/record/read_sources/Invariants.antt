@@ -7,5 +7,5 @@ abbrev pub invariant-loop : goal.invariant-loop
 invariant-loop l = record {
   enough : (l.count - l.counter) * width l.family ≤ length l.left;
   read : l.sources ++ map (address_in l.family) (numbers_at (width l.family) (l.count - l.counter) l.left)
-  ≡ map (address_in l.family) (numbers_at (width l.family) l.count l.octets)
+      ≡ map (address_in l.family) (numbers_at (width l.family) l.count l.octets);
 }

@@ -1,4 +1,4 @@
-use Rattle.std.proofs.Common.{◌≡◌, ℕ, drop, Some, None, sym, ap, ◌∙◌, rules}
+use Rattle.std.proofs.Common.{◌≡◌, ℕ, drop, Some, None, ap, ◌∙◌, rules}
 use Rattle.group_records.specs.Reading.{record_fault, record_length}
 use Rattle.group_records.proofs.Steps.{fault_here, fault_step, known_step, reading-err, reading-ok}
 use Rattle.group_records.proofs.report.read_records.Goals as goal

@@ -7,5 +7,5 @@ abbrev pub invariant-loop-index : goal.invariant-loop-index
 invariant-loop-index l = record {
   fault : first_record_fault l.family l.index (l.count - l.index) l.left ≡ first_record_fault l.family 0 l.count l.octets;
   known : l.records ++ known_records l.family (all_carried_at l.family (l.count - l.index) l.left)
-  ≡ known_records l.family (all_carried_at l.family l.count l.octets)
+      ≡ known_records l.family (all_carried_at l.family l.count l.octets);
 }

@@ -1,4 +1,4 @@
-use Rattle.std.proofs.Common.{◌≡◌, ℕ, List, rules, sym, ap, ◌∙◌, refl}
+use Rattle.std.proofs.Common.{rules, sym, ◌∙◌}
 use Rattle.amt_values.specs.Octets.{AreOctets}
 use Rattle.group_records.proofs.Steps.{sum_fault-right, sum_fault-wrong}
 use Rattle.group_records.proofs.report.sum_fault.Goals as goal
