@@ -25,10 +25,10 @@ fn kind_fault(family: Family, kind: u8) -> ReportFault
 // The checksum that is wanted is taken where the sum of all is wrong, and only there: 0000 and ffff
 // are one number to the sum, so a field may be right that isn't the one wanted.
 fn sum_fault(pseudo_header: &[u8], payload: &[u8]) -> Option<ReportFault>
-    requires even { length pseudo_header.now % 2 ≡ 0 }
-    requires short { length pseudo_header.now ≤ 65535 }
-    requires least { 8 ≤ length payload.now }
-    requires most { length payload.now ≤ INPUT_LIMIT }
+    requires pseudo_header_even { length pseudo_header.now % 2 ≡ 0 }
+    requires pseudo_header_most { length pseudo_header.now ≤ 65535 }
+    requires payload_least { 8 ≤ length payload.now }
+    requires payload_most { length payload.now ≤ INPUT_LIMIT }
     ensures { result ≡ sum_fault pseudo_header.now payload.now }
 {
     if internet_sum_around(pseudo_header, &[], payload) == 0 {
@@ -43,9 +43,9 @@ fn sum_fault(pseudo_header: &[u8], payload: &[u8]) -> Option<ReportFault>
 }
 
 fn head_fault(family: Family, pseudo_header: &[u8], payload: &[u8]) -> Option<ReportFault>
-    requires even { length pseudo_header.now % 2 ≡ 0 }
-    requires short { length pseudo_header.now ≤ 65535 }
-    requires most { length payload.now ≤ INPUT_LIMIT }
+    requires pseudo_header_even { length pseudo_header.now % 2 ≡ 0 }
+    requires pseudo_header_most { length pseudo_header.now ≤ 65535 }
+    requires payload_most { length payload.now ≤ INPUT_LIMIT }
     ensures { result ≡ head_fault family pseudo_header.now payload.now }
 {
     if payload.len() < 8 {
@@ -88,9 +88,9 @@ fn read(
     pseudo_header: &[u8],
     payload: &[u8],
 ) -> Result<Records, ReadFault>
-    requires even { length pseudo_header.now % 2 ≡ 0 }
-    requires short { length pseudo_header.now ≤ 65535 }
-    requires most { length payload.now ≤ INPUT_LIMIT }
+    requires pseudo_header_even { length pseudo_header.now % 2 ≡ 0 }
+    requires pseudo_header_most { length pseudo_header.now ≤ 65535 }
+    requires payload_most { length payload.now ≤ INPUT_LIMIT }
     ensures { Gives result (report_of family pseudo_header.now payload.now) }
 {
     if let Some(fault) = head_fault(family, pseudo_header, payload) {
@@ -118,9 +118,9 @@ pub fn read_report(
     pseudo_header: &[u8],
     payload: &[u8],
 ) -> Result<Records, ReadFault>
-    requires even { length pseudo_header.now % 2 ≡ 0 }
-    requires short { length pseudo_header.now ≤ 65535 }
-    requires most { length payload.now ≤ INPUT_LIMIT }
+    requires pseudo_header_even { length pseudo_header.now % 2 ≡ 0 }
+    requires pseudo_header_most { length pseudo_header.now ≤ 65535 }
+    requires payload_most { length payload.now ≤ INPUT_LIMIT }
 
     ensures found { IfOk result (λ records. IsReport family pseudo_header.now records payload.now) }
     ensures only { (records : List RecordValue)
