@@ -15,7 +15,7 @@ use Rattle.group_records.specs.declared.family.Family.{Family}
 use Rattle.group_records.specs.Carried.{known_records}
 use Rattle.group_records.specs.Family.{report_type}
 use Rattle.group_records.specs.Report.{IsReport}
-use Rattle.group_records.specs.Reading.{Gives, Tells, all_carried_at, first_report_fault, head_fault, reading_by, report_of, sum_fault}
+use Rattle.group_records.specs.Reading.{Gives, Tells, all_carried_at, first_report_fault, report_head_fault, reading_by, report_of, sum_fault}
 use Rattle.group_records.proofs.Spelled.{untaken}
 use Rattle.group_records.proofs.Walk.{AreRecords-once, AreRecords-read, fault_or-none}
 
@@ -29,8 +29,8 @@ taken : (test : Bool) (chosen : Option ReportFault) (fault : ReportFault) → co
 taken true chosen fault same = (refl, same)
 taken false chosen fault same = cc
 
-head_fault-none : (family : Family) (pseudo_header payload : List ℕ) → head_fault family pseudo_header payload ≡ None → IsHead family pseudo_header payload
-head_fault-none family pseudo_header payload none =
+report_head_fault-none : (family : Family) (pseudo_header payload : List ℕ) → report_head_fault family pseudo_header payload ≡ None → IsHead family pseudo_header payload
+report_head_fault-none family pseudo_header payload none =
     let long = untaken (ltb (length payload) 8) (Short 8 (length payload)) _ none in
     let known = taken (eqb (slice_index payload 0) (report_type family)) (sum_fault pseudo_header payload) _ long.1 in
     let right = taken (eqb (ones_sum (words (pseudo_header ++ payload))) 65535) None _ known.1 in
@@ -40,8 +40,8 @@ head_fault-none family pseudo_header payload none =
       right_sum = eqb-true (ones_sum (words (pseudo_header ++ payload))) 65535 right.0;
     }
 
-none-head_fault : (family : Family) (pseudo_header payload : List ℕ) → IsHead family pseudo_header payload → head_fault family pseudo_header payload ≡ None
-none-head_fault family pseudo_header payload head =
+none-report_head_fault : (family : Family) (pseudo_header payload : List ℕ) → IsHead family pseudo_header payload → report_head_fault family pseudo_header payload ≡ None
+none-report_head_fault family pseudo_header payload head =
     let long = le-ltb (length payload) 8 head.whole in
     let known = eq-eqb (slice_index payload 0) (report_type family) head.kind in
     let right = eq-eqb (ones_sum (words (pseudo_header ++ payload))) 65535 head.right_sum in
@@ -52,8 +52,8 @@ faultless_is_report : (family : Family) (pseudo_header payload : List ℕ) → A
     → IsReport family pseudo_header (known_records family (all_carried_at family (big_number 2 (drop 6 payload)) (drop 8 payload))) payload
 unfolding first_report_fault
 faultless_is_report family pseudo_header payload small none =
-    let both = fault_or-none (head_fault family pseudo_header payload) _ none in
-    let head = head_fault-none family pseudo_header payload both.0 in
+    let both = fault_or-none (report_head_fault family pseudo_header payload) _ none in
+    let head = report_head_fault-none family pseudo_header payload both.0 in
     record {
       whole = head.whole;
       kind = head.kind;
@@ -65,7 +65,7 @@ report_is_read : (family : Family) (pseudo_header payload : List ℕ) (records :
     → report_of family pseudo_header payload ≡ Ok records
 unfolding first_report_fault report_of
 report_is_read family pseudo_header payload records report =
-    let head = none-head_fault family pseudo_header payload (record { whole = report.whole; kind = report.kind; right_sum = report.right_sum }) in
+    let head = none-report_head_fault family pseudo_header payload (record { whole = report.whole; kind = report.kind; right_sum = report.right_sum }) in
     let walk = AreRecords-once family 0 (big_number 2 (drop 6 payload)) records (drop 8 payload) report.carries in
     rw (head, walk.0, walk.1) refl
 

@@ -73,8 +73,8 @@ sum_fault pseudo_header payload =
     else Some (Sum (wanted_sum pseudo_header payload) (big_number 2 (drop 2 payload)))
 
 -- the first condition that holds of a report's head: too few octets, another type, a wrong sum
-abbrev pub head_fault : Family → List ℕ → List ℕ → Option ReportFault
-head_fault family pseudo_header payload =
+abbrev pub report_head_fault : Family → List ℕ → List ℕ → Option ReportFault
+report_head_fault family pseudo_header payload =
     if nat_lt (length payload) 8 then Some (Short 8 (length payload))
     else (if slice_index payload 0 == report_type family then sum_fault pseudo_header payload
     else Some (kind_fault family (slice_index payload 0)))
@@ -82,7 +82,7 @@ head_fault family pseudo_header payload =
 -- the head is tried first, then one record after another
 unfoldable pub first_report_fault : Family → List ℕ → List ℕ → Option ReportFault
 first_report_fault family pseudo_header payload =
-    fault_or (head_fault family pseudo_header payload)
+    fault_or (report_head_fault family pseudo_header payload)
     (first_record_fault family 0 (big_number 2 (drop 6 payload)) (drop 8 payload))
 
 abbrev pub reading_by : Option ReportFault → List Record → Result (List Record) ReportFault

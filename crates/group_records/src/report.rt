@@ -1,8 +1,9 @@
 ghost use Rattle.std.specs.Prelude.{◌≡◌, ◌≤◌, ◌%◌, List, length, drop, IfOk, Ok, Err, MatchResult, None, Some};
 ghost use Rattle.source_filter.specs.declared.record.Record.{Record as RecordValue};
+ghost use Rattle.source_filter.specs.declared.fault.ReadFault.TheVariants.{Report};
 ghost use Rattle.source_filter.specs.declared.fault.ReportFault.{ReportFault as ReportFaultValue};
 ghost use Rattle.group_records.specs.Report.{IsReport};
-ghost use Rattle.group_records.specs.Reading.{Gives, Tells, first_report_fault, head_fault, kind_fault, records_reading, report_of, sum_fault};
+ghost use Rattle.group_records.specs.Reading.{Gives, Tells, first_report_fault, report_head_fault, kind_fault, records_reading, report_of, sum_fault};
 
 use crate::family::{Family, is_old_report, report_type};
 use crate::record::{append_record, record_fault, record_length};
@@ -42,11 +43,11 @@ fn sum_fault(pseudo_header: &[u8], payload: &[u8]) -> Option<ReportFault>
     ))
 }
 
-fn head_fault(family: Family, pseudo_header: &[u8], payload: &[u8]) -> Option<ReportFault>
+fn report_head_fault(family: Family, pseudo_header: &[u8], payload: &[u8]) -> Option<ReportFault>
     requires pseudo_header_even { length pseudo_header.now % 2 ≡ 0 }
     requires pseudo_header_most { length pseudo_header.now ≤ 65535 }
     requires payload_most { length payload.now ≤ INPUT_LIMIT }
-    ensures { result ≡ head_fault family pseudo_header.now payload.now }
+    ensures { result ≡ report_head_fault family pseudo_header.now payload.now }
 {
     if payload.len() < 8 {
         return Some(ReportFault::Short(8, payload.len() as u32));
@@ -91,9 +92,12 @@ fn read(
     requires pseudo_header_even { length pseudo_header.now % 2 ≡ 0 }
     requires pseudo_header_most { length pseudo_header.now ≤ 65535 }
     requires payload_most { length payload.now ≤ INPUT_LIMIT }
-    ensures { Gives result (report_of family pseudo_header.now payload.now) }
+    ensures value { Gives result (report_of family pseudo_header.now payload.now) }
+    ensures head { (fault : ReportFaultValue)
+        → report_head_fault family pseudo_header.now payload.now ≡ Some fault
+        → result ≡ Err (Report fault) }
 {
-    if let Some(fault) = head_fault(family, pseudo_header, payload) {
+    if let Some(fault) = report_head_fault(family, pseudo_header, payload) {
         return Err(ReadFault::Report(fault));
     }
     let (_, count_and_records) = payload.split_at(6);
@@ -111,7 +115,8 @@ fn read(
 /// The pseudo-header is summed before the payload: it is empty in IGMP, and in MLD the 40 octets of
 /// RFC 8200, section 8.1. The faults are tried in the order of `ReportFault`. Reserved octets, and
 /// what follows the last record, may be any. A record of unknown type is skipped (RFC 3376, section
-/// 4.2.12). Memory is asked for the records alone; want of it may come before a later fault.
+/// 4.2.12). Memory is asked for the records alone, so a fault of the head is told without any; want of
+/// it may come before a later fault of a record.
 pub fn read_report(
     alloc: Global,
     family: Family,
@@ -137,6 +142,9 @@ pub fn read_report(
     ensures fault { (fault : ReportFaultValue)
         → first_report_fault family pseudo_header.now payload.now ≡ Some fault
         → Gives result (Err fault) }
+    ensures head { (fault : ReportFaultValue)
+        → report_head_fault family pseudo_header.now payload.now ≡ Some fault
+        → result ≡ Err (Report fault) }
     ensures value { Gives result (report_of family pseudo_header.now payload.now) }
 {
     read(alloc, family, pseudo_header, payload)

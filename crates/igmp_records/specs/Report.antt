@@ -4,11 +4,15 @@ use Rattle.source_filter.specs.declared.record.Record.{Record}
 use Rattle.source_filter.specs.declared.fault.ReportFault.{ReportFault}
 use Rattle.group_records.specs.declared.family.Family.TheVariants.{V4}
 use Rattle.group_records.specs.Report.{IsReport}
-use Rattle.group_records.specs.Reading.{first_report_fault, report_of}
+use Rattle.group_records.specs.Reading.{first_report_fault, report_head_fault, report_of}
 
 -- a report of these records
 abbrev pub IsReport4 : List Record → List ℕ → Type 0
 IsReport4 records payload = IsReport V4 [] records payload
+
+-- the first fault of a payload's first 8 octets, type and sum, if any
+abbrev pub report_head_fault4 : List ℕ → Option ReportFault
+report_head_fault4 payload = report_head_fault V4 [] payload
 
 -- the first fault of a payload, if any
 abbrev pub first_report_fault4 : List ℕ → Option ReportFault
