@@ -1,7 +1,7 @@
 -- The sum of a report's head, and one step of each of the two loops.
-use Rattle.std.proofs.Common.{◌≡◌, ℕ, suc, ◌+◌, ◌-◌, ◌*◌, ◌%◌, ◌<◌, ◌≤◌, List, [], ◌∷◌, ◌++◌, length, length-drop, drop, map, Option, Some, None, Ok, Err, refl, sym, subst, ap, ◌∙◌, arith, append_assoc}
+use Rattle.std.proofs.Common.{◌≡◌, ℕ, suc, ◌+◌, ◌-◌, ◌*◌, ◌%◌, ◌<◌, ◌≤◌, List, [], ◌∷◌, ◌++◌, length, length-drop, slice_index, Bool, true, false, ◌||◌, is_some, drop, slice_index, Bool, true, false, ◌||◌, is_some, map, Option, Some, None, Ok, Err, refl, sym, subst, ap, ◌∙◌, arith, append_assoc}
 use Rattle.std.proofs.Math.Nat.{suc-mul}
-use Rattle.std.proofs.lemmas.Bool.{eq-eqb, ne_eqb}
+use Rattle.std.proofs.lemmas.Bool.{eq-eqb, le-leb, ne_eqb}
 use Rattle.std.proofs.lemmas.List.{append-nil}
 use Rattle.byteorder.specs.Endian.{big_number}
 use Rattle.amt_values.specs.Octets.{AreOctets}
@@ -13,8 +13,8 @@ use Rattle.source_filter.specs.declared.fault.ReportFault.{ReportFault}
 use Rattle.source_filter.specs.declared.fault.ReportFault.TheVariants.{Sum}
 use Rattle.group_records.specs.declared.family.Family.{Family}
 use Rattle.group_records.specs.Carried.{known_record, known_records}
-use Rattle.group_records.specs.Family.{address_in, width}
-use Rattle.group_records.specs.Reading.{all_carried_at, carried_at, first_record_fault, numbers_at, reading_by, record_fault, record_length, records_reading, sum_fault, wanted_sum}
+use Rattle.group_records.specs.Family.{address_in, kind_of, width}
+use Rattle.group_records.specs.Reading.{all_carried_at, asks_memory, carried_at, first_record_fault, numbers_at, reading_by, record_fault, record_length, records_reading, sum_fault, wanted_sum}
 
 pub sum_fault-right : (pseudo_header payload : List ℕ) → length pseudo_header % 2 ≡ 0 → AreOctets pseudo_header → AreOctets payload
     → internet_sum_of (pseudo_header ++ [] ++ 0 ∷ 0 ∷ payload) ≡ 0 → sum_fault pseudo_header payload ≡ None
@@ -111,3 +111,25 @@ reading-ok family count index records left bytes all fault known =
     let kept = rw done at known in
     let ok : reading_by None (known_records family (all_carried_at family count bytes)) ≡ Ok records = ap Ok (sym kept ∙ append-nil records) in
     subst (λ (f : Option ReportFault). reading_by f (known_records family (all_carried_at family count bytes)) ≡ Ok records) faultless ok
+
+-- a record that is there in full, and is kept, asks memory
+pub asks_here : (family : Family) (count index : ℕ) (left : List ℕ) → index < count → record_length family left ≤ length left
+    → is_some (kind_of (slice_index left 0)) ≡ true → asks_memory family (count - index) left ≡ true
+asks_here family count index left below whole known =
+    let next : count - index ≡ suc (count - (index + 1)) = omega arith in
+    let there = le-leb (record_length family left) (length left) whole in
+    rw (next, there, known) refl
+
+either : (first second : Bool) → second ≡ true → (first || second) ≡ true
+either true second holds = refl
+either false second holds = holds
+
+-- and so does a record behind it
+pub asks_later : (family : Family) (count index : ℕ) (left rest : List ℕ) → index < count → record_length family left ≤ length left
+    → rest ≡ drop (record_length family left) left → asks_memory family (count - (index + 1)) rest ≡ true
+    → asks_memory family (count - index) left ≡ true
+asks_later family count index left rest below whole behind later =
+    let next : count - index ≡ suc (count - (index + 1)) = omega arith in
+    let there = le-leb (record_length family left) (length left) whole in
+    let moved = rw behind at later in
+    rw (next, there) (either (is_some (kind_of (slice_index left 0))) _ moved)

@@ -1,5 +1,5 @@
 -- The first fault of a payload, its records where there is none, and what may be answered.
-use Rattle.std.specs.Prelude.{◌≡◌, ℕ, zero, suc, ◌+◌, ◌*◌, ◌==◌, nat_lt, List, [], ◌∷◌, ◌++◌, length, drop, take, slice_index, Option, Some, None, Result, Ok, Err, if◌then◌else◌}
+use Rattle.std.specs.Prelude.{◌≡◌, ℕ, zero, suc, ◌+◌, ◌*◌, ◌==◌, nat_lt, nat_le, ◌&&◌, ◌||◌, Bool, true, false, is_some, List, [], ◌∷◌, ◌++◌, length, drop, take, slice_index, Option, Some, None, Result, Ok, Err, if◌then◌else◌}
 use Rattle.byteorder.specs.Endian.{big_number}
 use Rattle.inner_datagrams.specs.Checksum.{words, ones_sum, internet_sum_of}
 use Rattle.source_filter.specs.declared.record.Record.{Record}
@@ -9,7 +9,7 @@ use Rattle.source_filter.specs.declared.fault.ReadFault.{ReadFault}
 use Rattle.source_filter.specs.declared.fault.ReadFault.TheVariants.{Report, Memory}
 use Rattle.group_records.specs.declared.family.Family.{Family}
 use Rattle.group_records.specs.Carried.{Carried, known_records}
-use Rattle.group_records.specs.Family.{width, report_type, is_old_report}
+use Rattle.group_records.specs.Family.{width, kind_of, report_type, is_old_report}
 
 -- so many numbers of so many octets each, one after another
 abbrev pub numbers_at : ℕ → ℕ → List ℕ → List ℕ
@@ -84,6 +84,18 @@ unfoldable pub first_report_fault : Family → List ℕ → List ℕ → Option 
 first_report_fault family pseudo_header payload =
     fault_or (report_head_fault family pseudo_header payload)
     (first_record_fault family 0 (big_number 2 (drop 6 payload)) (drop 8 payload))
+
+-- a record of known type comes before any fault: memory is asked for it
+abbrev pub asks_memory : Family → ℕ → List ℕ → Bool
+asks_memory family zero bytes = false
+asks_memory family (suc count) bytes =
+    nat_le (record_length family bytes) (length bytes)
+    && (is_some (kind_of (slice_index bytes 0)) || asks_memory family count (drop (record_length family bytes) bytes))
+
+-- the head has no fault, and a record is kept before one has
+pub record AsksMemory (family : Family) (pseudo_header payload : List ℕ) : Type 0 where
+  pub head : report_head_fault family pseudo_header payload ≡ None
+  pub kept : asks_memory family (big_number 2 (drop 6 payload)) (drop 8 payload) ≡ true
 
 abbrev pub reading_by : Option ReportFault → List Record → Result (List Record) ReportFault
 reading_by None records = Ok records

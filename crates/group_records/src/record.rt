@@ -1,4 +1,4 @@
-ghost use Rattle.std.specs.Prelude.{◌≡◌, ◌≤◌, ◌*◌, ◌++◌, length, map, IfOk, OnOk};
+ghost use Rattle.std.specs.Prelude.{◌≡◌, ◌≤◌, ◌*◌, ◌++◌, length, map, slice_index, is_some, true, IfOk, OnOk, OnErr};
 ghost use Rattle.group_records.specs.Family.{address_in, kind_of, width};
 ghost use Rattle.group_records.specs.Carried.{known_record};
 ghost use Rattle.group_records.specs.Reading.{carried_at, head_length, numbers_at, record_fault, record_length, source_count};
@@ -78,7 +78,8 @@ pub fn append_record(
 ) -> Result<(), AllocError>
     requires head { head_length family ≤ length octets.now }
     requires whole { record_length family octets.now ≤ length octets.now }
-    ensures { OnOk result (records.new
+    ensures asks { OnErr result (is_some (kind_of (slice_index octets.now 0)) ≡ true) }
+    ensures kept { OnOk result (records.new
         ≡ records.old ++ known_record family (carried_at family octets.now)) }
 {
     let Some(kind) = kind_of(octets[0]) else {

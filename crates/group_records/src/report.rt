@@ -1,9 +1,9 @@
-ghost use Rattle.std.specs.Prelude.{◌≡◌, ◌≤◌, ◌%◌, List, length, drop, IfOk, Ok, Err, MatchResult, None, Some};
+ghost use Rattle.std.specs.Prelude.{◌≡◌, ◌≤◌, ◌%◌, List, length, drop, IfOk, Ok, Err, MatchResult, None, Some, true};
 ghost use Rattle.source_filter.specs.declared.record.Record.{Record as RecordValue};
-ghost use Rattle.source_filter.specs.declared.fault.ReadFault.TheVariants.{Report};
+ghost use Rattle.source_filter.specs.declared.fault.ReadFault.TheVariants.{Memory};
 ghost use Rattle.source_filter.specs.declared.fault.ReportFault.{ReportFault as ReportFaultValue};
 ghost use Rattle.group_records.specs.Report.{IsReport};
-ghost use Rattle.group_records.specs.Reading.{Gives, Tells, first_report_fault, report_head_fault, kind_fault, records_reading, report_of, sum_fault};
+ghost use Rattle.group_records.specs.Reading.{AsksMemory, Gives, Tells, asks_memory, first_report_fault, report_head_fault, kind_fault, records_reading, report_of, sum_fault};
 
 use crate::family::{Family, is_old_report, report_type};
 use crate::record::{append_record, record_fault, record_length};
@@ -65,7 +65,8 @@ fn read_records(
     count: u16,
     octets: &[u8],
 ) -> Result<Records, ReadFault>
-    ensures { Gives result (records_reading family count octets.now) }
+    ensures value { Gives result (records_reading family count octets.now) }
+    ensures memory { result ≡ Err Memory → asks_memory family count octets.now ≡ true }
 {
     let mut records = Records::new(alloc);
     let mut left = octets;
@@ -93,9 +94,7 @@ fn read(
     requires pseudo_header_most { length pseudo_header.now ≤ 65535 }
     requires payload_most { length payload.now ≤ INPUT_LIMIT }
     ensures value { Gives result (report_of family pseudo_header.now payload.now) }
-    ensures head { (fault : ReportFaultValue)
-        → report_head_fault family pseudo_header.now payload.now ≡ Some fault
-        → result ≡ Err (Report fault) }
+    ensures memory { result ≡ Err Memory → AsksMemory family pseudo_header.now payload.now }
 {
     if let Some(fault) = report_head_fault(family, pseudo_header, payload) {
         return Err(ReadFault::Report(fault));
@@ -115,8 +114,8 @@ fn read(
 /// The pseudo-header is summed before the payload: it is empty in IGMP, and in MLD the 40 octets of
 /// RFC 8200, section 8.1. The faults are tried in the order of `ReportFault`. Reserved octets, and
 /// what follows the last record, may be any. A record of unknown type is skipped (RFC 3376, section
-/// 4.2.12). Memory is asked for the records alone, so a fault of the head is told without any; want of
-/// it may come before a later fault of a record.
+/// 4.2.12). Memory is asked for the records that are kept; want of it may come before a later record's
+/// fault.
 pub fn read_report(
     alloc: Global,
     family: Family,
@@ -142,9 +141,7 @@ pub fn read_report(
     ensures fault { (fault : ReportFaultValue)
         → first_report_fault family pseudo_header.now payload.now ≡ Some fault
         → Gives result (Err fault) }
-    ensures head { (fault : ReportFaultValue)
-        → report_head_fault family pseudo_header.now payload.now ≡ Some fault
-        → result ≡ Err (Report fault) }
+    ensures memory { result ≡ Err Memory → AsksMemory family pseudo_header.now payload.now }
     ensures value { Gives result (report_of family pseudo_header.now payload.now) }
 {
     read(alloc, family, pseudo_header, payload)

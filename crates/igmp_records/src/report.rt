@@ -1,9 +1,9 @@
 ghost use Rattle.std.specs.Prelude.{◌≡◌, ◌≤◌, List, length, IfOk, Ok, Err, MatchResult, None, Some};
 ghost use Rattle.source_filter.specs.declared.record.Record.{Record as RecordValue};
-ghost use Rattle.source_filter.specs.declared.fault.ReadFault.TheVariants.{Report};
+ghost use Rattle.source_filter.specs.declared.fault.ReadFault.TheVariants.{Memory};
 ghost use Rattle.source_filter.specs.declared.fault.ReportFault.{ReportFault as ReportFaultValue};
 ghost use Rattle.group_records.specs.Reading.{Gives, Tells};
-ghost use Rattle.igmp_records.specs.Report.{IsReport4, first_report_fault4, report4_of, report_head_fault4};
+ghost use Rattle.igmp_records.specs.Report.{AsksMemory4, IsReport4, first_report_fault4, report4_of};
 
 use amt_values::INPUT_LIMIT;
 use group_records::{Family, read_report};
@@ -13,8 +13,8 @@ use std::alloc::Global;
 /// Reads a whole payload of at most 16 MiB as one IGMPv3 membership report (RFC 3376, section 4.2).
 ///
 /// The faults are tried in the order of `ReportFault`; the reports of IGMPv1 and IGMPv2 and the
-/// leave of IGMPv2 are old reports. Memory is asked for the records alone, so a fault of the
-/// head is told without any; want of it may come before a later fault of a record.
+/// leave of IGMPv2 are old reports. Memory is asked for the records that are kept; want of
+/// it may come before a later record's fault.
 pub fn read_report4(alloc: Global, payload: &[u8]) -> Result<Records, ReadFault>
     requires { length payload.now ≤ INPUT_LIMIT }
 
@@ -29,8 +29,7 @@ pub fn read_report4(alloc: Global, payload: &[u8]) -> Result<Records, ReadFault>
         (Tells (first_report_fault4 payload.now)) }
     ensures fault { (fault : ReportFaultValue) → first_report_fault4 payload.now ≡ Some fault
         → Gives result (Err fault) }
-    ensures head { (fault : ReportFaultValue) → report_head_fault4 payload.now ≡ Some fault
-        → result ≡ Err (Report fault) }
+    ensures memory { result ≡ Err Memory → AsksMemory4 payload.now }
     ensures value { Gives result (report4_of payload.now) }
 {
     read_report(alloc, Family::V4, &[], payload)
