@@ -1,16 +1,18 @@
 //! IGMPv3 messages, and the codes in which they carry times.
 //!
-//! Contract: a written query is the one spelling of its fields and is read back to them, and a time
-//! has at most one code.
+//! Contract: a written query is the one spelling of its fields and is read back to them, a payload is
+//! a report of at most one list of records, and a time has at most one code.
 //! It knows no datagram, tunnel or moment.
-//! Standard: RFC 3376, section 4.1.
+//! Standard: RFC 3376, sections 4.1 and 4.2.
 #![tactic(auto)]
 
 mod code;
 mod query;
+mod report;
 
 pub use code::{code_value4, value_code4};
 pub use query::write_query4;
+pub use report::read_report4;
 
 #[cfg(test)]
 mod tests;

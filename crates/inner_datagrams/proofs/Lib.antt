@@ -1,4 +1,5 @@
 pub mod Faults
+pub mod Parts
 pub mod Octets
 pub mod OnesComplement
 pub mod Pairs

@@ -1,12 +1,10 @@
 -- Bytes whose checksum field holds the checksum of the same bytes with a zero there add up right.
-use Rattle.std.proofs.Common.{◌≡◌, ℕ, zero, suc, ◌+◌, ◌-◌, ◌*◌, ◌/◌, ◌%◌, ◌<◌, ◌≤◌, List, [], ◌∷◌, ◌++◌, length, sum, take, drop, eqb, refl, sym, ap, ◌∙◌, arith}
+use Rattle.std.proofs.Common.{◌≡◌, ℕ, zero, suc, ◌+◌, ◌-◌, ◌*◌, ◌/◌, ◌%◌, ◌<◌, List, [], ◌∷◌, ◌++◌, length, sum, eqb, refl, ap, arith}
 use Rattle.std.proofs.lemmas.List.Sums.{sum_by-cons, sum_by-append}
-use Rattle.std.proofs.lemmas.List.{length-take-le}
 use Rattle.byteorder.specs.Endian.{big_bytes}
 use Rattle.amt_values.specs.Octets.{AreOctets}
 use Rattle.inner_datagrams.specs.Checksum.{words, ones_sum, internet_sum_of, IsRight, is_right}
-use Rattle.inner_datagrams.specs.Header.{with_zero_sum}
-use Rattle.inner_datagrams.proofs.OnesComplement.{AreWords, AreWords-words, StandsFor, StandsFor-ones_sum, same_word}
+use Rattle.inner_datagrams.proofs.OnesComplement.{AreWords, AreWords-words, StandsFor, StandsFor-ones_sum}
 
 -- words stay words where one takes another's place
 AreWords-between : (front back : List ℕ) (word other : ℕ) → AreWords (front ++ other ∷ back) → word < 65536 → AreWords (front ++ word ∷ back)
@@ -55,35 +53,6 @@ IsRight-filled front back pairs even small =
     let words_small = rw blank at (AreWords-words (front ++ 0 ∷ 0 ∷ back) small) in
     rw (words-append front (big_bytes 2 field ++ back) pairs even, octets, blank) (ones_sum-complement (words front) (words back) words_small)
 
-AreWords-both : (front back : List ℕ) → AreWords front → AreWords back → AreWords (front ++ 0 ∷ back)
-AreWords-both [] back front_small back_small zero = omega arith
-AreWords-both [] back front_small back_small (suc k) = back_small k
-AreWords-both (first ∷ front) back front_small back_small zero = front_small 0
-AreWords-both (first ∷ front) back front_small back_small (suc k) =
-    AreWords-both front back (λ j. front_small (suc j)) back_small k
-
-both_sides : (front_total back_total front_left back_left left : ℕ) → StandsFor front_total front_left → StandsFor back_total back_left
-    → StandsFor (front_left + back_left) left → StandsFor (0 + (front_total + back_total)) left
-both_sides front_total back_total front_left back_left left before behind stands =
-    record { fits = stands.fits; same_remainder = omega arith; both_zero = omega arith }
-
--- what is left of the words' total on both sides of a zero is the sum with the zero in its place
-pub ones_sum-around : (front back : List ℕ) (pairs left : ℕ) → length front ≡ pairs * 2 → AreOctets front → AreOctets back
-    → StandsFor (ones_sum (words front) + ones_sum (words back)) left
-    → ones_sum (words (front ++ 0 ∷ 0 ∷ back)) ≡ left
-ones_sum-around front back pairs left even front_small back_small stands =
-    let before = StandsFor-ones_sum (words front) (AreWords-words front front_small) in
-    let behind = StandsFor-ones_sum (words back) (AreWords-words back back_small) in
-    let small = AreWords-both (words front) (words back) (AreWords-words front front_small) (AreWords-words back back_small) in
-    let whole = rw (sum-between (words front) (words back) 0, sum_by-append (λ (x : ℕ). x) (words front) (words back)) at (StandsFor-ones_sum (words front ++ 0 ∷ words back) small) in
-    rw (words-append front (0 ∷ 0 ∷ back) pairs even) (same_word _ _ left whole (both_sides _ _ _ _ left before behind stands))
-
--- the complement of a checksum is the sum
-pub complement_twice : (bytes : List ℕ) (checksum sum : ℕ) → AreOctets bytes → checksum ≡ internet_sum_of bytes → sum ≡ 65535 - checksum
-    → sum ≡ ones_sum (words bytes)
-complement_twice bytes checksum sum small checksum_is sum_is =
-    let stands = StandsFor-ones_sum (words bytes) (AreWords-words bytes small) in omega arith
-
 zero_complement : (checksum sum : ℕ) → checksum ≡ 65535 - sum → sum < 65536 → eqb checksum 0 ≡ eqb sum 65535
 zero_complement checksum sum checksum_is fits = grind arith
 
@@ -91,12 +60,3 @@ zero_complement checksum sum checksum_is fits = grind arith
 pub is_right-zero : (bytes : List ℕ) (checksum : ℕ) → AreOctets bytes → checksum ≡ internet_sum_of bytes → eqb checksum 0 ≡ is_right bytes
 is_right-zero bytes checksum small checksum_is =
     zero_complement checksum (ones_sum (words bytes)) checksum_is (StandsFor-ones_sum (words bytes) (AreWords-words bytes small)).fits
-
--- a header's checksum by what stands before and behind its field
-pub checksum-around : (header front back : List ℕ) (front_sum back_sum left : ℕ) → front ≡ take 10 header → back ≡ drop 12 header → 12 ≤ length header
-    → AreOctets front → AreOctets back → front_sum ≡ ones_sum (words front) → back_sum ≡ ones_sum (words back)
-    → StandsFor (front_sum + back_sum) left → 65535 - left ≡ internet_sum_of (with_zero_sum header)
-checksum-around header front back front_sum back_sum left front_is back_is least front_small back_small front_sum_is back_sum_is stands =
-    let len = ap length front_is ∙ length-take-le 10 header (omega arith) in
-    let around = ones_sum-around front back 5 left len front_small back_small (rw (front_sum_is, back_sum_is) at stands) in
-    ap (λ (word : ℕ). 65535 - word) (sym around ∙ rw (front_is, back_is) refl)

@@ -2,6 +2,7 @@ ghost use Rattle.std.specs.Prelude.{◌≡◌, ◌≤◌, ◌%◌, ◌↔◌, le
 ghost use Rattle.inner_datagrams.specs.Checksum.{internet_sum_of, is_right};
 ghost use Rattle.inner_datagrams.specs.Header.{with_zero_sum};
 
+use crate::around::internet_sum_around;
 use amt_values::INPUT_LIMIT;
 
 // Adds what a sum carries beyond 16 bits in at its low end, until nothing is carried. This keeps
@@ -39,8 +40,7 @@ pub fn is_right(bytes: &[u8]) -> bool
     internet_sum(bytes) == 0
 }
 
-// The checksum that a header is meant to have: that of its octets with a zero in its place. A zero
-// adds nothing, so the words on both sides of it are added.
+// The checksum that a header is meant to have: that of its octets with a zero in its place.
 pub fn expected_sum(header: &[u8]) -> u16
     requires least { 12 ≤ length header.now }
     requires most { length header.now ≤ INPUT_LIMIT }
@@ -48,7 +48,5 @@ pub fn expected_sum(header: &[u8]) -> u16
 {
     let (front, _) = header.split_at(10);
     let (_, back) = header.split_at(12);
-    let front_sum = u64::from(!internet_sum(front));
-    let back_sum = u64::from(!internet_sum(back));
-    !carried_around(front_sum + back_sum)
+    internet_sum_around(&[], front, back)
 }

@@ -6,12 +6,14 @@
 //! Standard: RFC 791, section 3.1; RFC 1071, section 1; RFC 3376, section 4.
 #![tactic(auto)]
 
+mod around;
 mod checksum;
 mod fields;
 mod inner;
 mod ipv4;
 mod reading;
 
+pub use around::internet_sum_around;
 pub use checksum::internet_sum;
 pub use inner::{Inner, InnerFault};
 pub use ipv4::{PAYLOAD_LIMIT, write_inner4};

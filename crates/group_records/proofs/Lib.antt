@@ -1,0 +1,5 @@
+pub mod Numbers
+pub mod Spelled
+pub mod Walk
+pub mod Steps
+pub mod Answered

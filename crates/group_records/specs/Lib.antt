@@ -1,0 +1,4 @@
+pub mod Family
+pub mod Carried
+pub mod Report
+pub mod Reading

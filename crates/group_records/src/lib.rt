@@ -1,0 +1,17 @@
+//! Membership reports and their group records, over the address width of both families.
+//!
+//! Contract: octets are a report of at most one list of records, which is what is read, and what is
+//! no report is refused by the first fault.
+//! It knows no datagram, tunnel or moment, and none of a family's own messages.
+//! Standard: RFC 3376, section 4.2; RFC 3810, section 5.2.
+#![tactic(auto)]
+
+mod family;
+mod record;
+mod report;
+
+pub use family::Family;
+pub use report::read_report;
+
+#[cfg(test)]
+mod tests;

@@ -1,0 +1,148 @@
+ghost use Rattle.std.specs.Prelude.{◌≡◌, ◌≤◌, ◌%◌, List, length, drop, IfOk, Ok, Err, MatchResult, None, Some, true};
+ghost use Rattle.source_filter.specs.declared.record.Record.{Record as RecordValue};
+ghost use Rattle.source_filter.specs.declared.fault.ReadFault.TheVariants.{Memory};
+ghost use Rattle.source_filter.specs.declared.fault.ReportFault.{ReportFault as ReportFaultValue};
+ghost use Rattle.group_records.specs.Report.{IsReport};
+ghost use Rattle.group_records.specs.Reading.{AsksMemory, Gives, Tells, asks_memory, first_report_fault, report_head_fault, kind_fault, records_reading, report_of, sum_fault};
+
+use crate::family::{Family, is_old_report, report_type};
+use crate::record::{append_record, record_fault, record_length};
+use amt_values::INPUT_LIMIT;
+use byteorder::{BigEndian, ByteOrder};
+use inner_datagrams::internet_sum_around;
+use source_filter::{ReadFault, Records, ReportFault};
+use std::alloc::Global;
+
+fn kind_fault(family: Family, kind: u8) -> ReportFault
+    ensures { result ≡ kind_fault family kind }
+{
+    if is_old_report(family, kind) {
+        ReportFault::OldReport(kind)
+    } else {
+        ReportFault::Kind(kind)
+    }
+}
+
+// The checksum that is wanted is taken where the sum of all is wrong, and only there: 0000 and ffff
+// are one number to the sum, so a field may be right that isn't the one wanted.
+fn sum_fault(pseudo_header: &[u8], payload: &[u8]) -> Option<ReportFault>
+    requires pseudo_header_even { length pseudo_header.now % 2 ≡ 0 }
+    requires pseudo_header_most { length pseudo_header.now ≤ 65535 }
+    requires payload_least { 8 ≤ length payload.now }
+    requires payload_most { length payload.now ≤ INPUT_LIMIT }
+    ensures { result ≡ sum_fault pseudo_header.now payload.now }
+{
+    if internet_sum_around(pseudo_header, &[], payload) == 0 {
+        return None;
+    }
+    let (front, field_and_back) = payload.split_at(2);
+    let (_, back) = field_and_back.split_at(2);
+    Some(ReportFault::Sum(
+        internet_sum_around(pseudo_header, front, back),
+        BigEndian::read_u16(field_and_back),
+    ))
+}
+
+fn report_head_fault(family: Family, pseudo_header: &[u8], payload: &[u8]) -> Option<ReportFault>
+    requires pseudo_header_even { length pseudo_header.now % 2 ≡ 0 }
+    requires pseudo_header_most { length pseudo_header.now ≤ 65535 }
+    requires payload_most { length payload.now ≤ INPUT_LIMIT }
+    ensures { result ≡ report_head_fault family pseudo_header.now payload.now }
+{
+    if payload.len() < 8 {
+        return Some(ReportFault::Short(8, payload.len() as u32));
+    }
+    let kind = payload[0];
+    if kind != report_type(family) {
+        return Some(kind_fault(family, kind));
+    }
+    sum_fault(pseudo_header, payload)
+}
+
+fn read_records(
+    alloc: Global,
+    family: Family,
+    count: u16,
+    octets: &[u8],
+) -> Result<Records, ReadFault>
+    ensures value { Gives result (records_reading family count octets.now) }
+    ensures memory { result ≡ Err Memory → asks_memory family count octets.now ≡ true }
+{
+    let mut records = Records::new(alloc);
+    let mut left = octets;
+    for index in 0..count {
+        if let Some(fault) = record_fault(family, u32::from(index), left) {
+            return Err(ReadFault::Report(fault));
+        }
+        let Ok(()) = append_record(alloc, family, left, &mut records) else {
+            return Err(ReadFault::Memory);
+        };
+        let (_, rest) = left.split_at(record_length(family, left));
+        left = rest;
+    }
+    Ok(records)
+}
+
+#[tactic(auto, unfolding(crate::specs::Reading::first_report_fault, crate::specs::Reading::records_reading, crate::specs::Reading::report_of))]
+fn read(
+    alloc: Global,
+    family: Family,
+    pseudo_header: &[u8],
+    payload: &[u8],
+) -> Result<Records, ReadFault>
+    requires pseudo_header_even { length pseudo_header.now % 2 ≡ 0 }
+    requires pseudo_header_most { length pseudo_header.now ≤ 65535 }
+    requires payload_most { length payload.now ≤ INPUT_LIMIT }
+    ensures value { Gives result (report_of family pseudo_header.now payload.now) }
+    ensures memory { result ≡ Err Memory → AsksMemory family pseudo_header.now payload.now }
+{
+    if let Some(fault) = report_head_fault(family, pseudo_header, payload) {
+        return Err(ReadFault::Report(fault));
+    }
+    let (_, count_and_records) = payload.split_at(6);
+    let (_, records) = payload.split_at(8);
+    read_records(
+        alloc,
+        family,
+        BigEndian::read_u16(count_and_records),
+        records,
+    )
+}
+
+/// Reads a whole payload of at most 16 MiB as one membership report.
+///
+/// The pseudo-header is summed before the payload: it is empty in IGMP, and in MLD the 40 octets of
+/// RFC 8200, section 8.1. The faults are tried in the order of `ReportFault`. Reserved octets, and
+/// what follows the last record, may be any. A record of unknown type is skipped (RFC 3376, section
+/// 4.2.12). Memory is asked for the records that are kept; want of it may come before a later record's
+/// fault.
+pub fn read_report(
+    alloc: Global,
+    family: Family,
+    pseudo_header: &[u8],
+    payload: &[u8],
+) -> Result<Records, ReadFault>
+    requires pseudo_header_even { length pseudo_header.now % 2 ≡ 0 }
+    requires pseudo_header_most { length pseudo_header.now ≤ 65535 }
+    requires payload_most { length payload.now ≤ INPUT_LIMIT }
+
+    ensures found { IfOk result (λ records. IsReport family pseudo_header.now records payload.now) }
+    ensures only { (records : List RecordValue)
+        → IsReport family pseudo_header.now records payload.now
+        → Gives result (Ok records) }
+    ensures one { (records others : List RecordValue)
+        → IsReport family pseudo_header.now records payload.now
+        → IsReport family pseudo_header.now others payload.now
+        → records ≡ others }
+
+    ensures refused { MatchResult result
+        (λ _. first_report_fault family pseudo_header.now payload.now ≡ None)
+        (Tells (first_report_fault family pseudo_header.now payload.now)) }
+    ensures fault { (fault : ReportFaultValue)
+        → first_report_fault family pseudo_header.now payload.now ≡ Some fault
+        → Gives result (Err fault) }
+    ensures memory { result ≡ Err Memory → AsksMemory family pseudo_header.now payload.now }
+    ensures value { Gives result (report_of family pseudo_header.now payload.now) }
+{
+    read(alloc, family, pseudo_header, payload)
+}

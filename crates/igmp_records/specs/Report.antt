@@ -1,0 +1,23 @@
+-- Membership reports of IGMPv3, whose checksum has no pseudo-header (RFC 3376, section 4.2).
+use Rattle.std.specs.Prelude.{ℕ, List, [], Option, Result}
+use Rattle.source_filter.specs.declared.record.Record.{Record}
+use Rattle.source_filter.specs.declared.fault.ReportFault.{ReportFault}
+use Rattle.group_records.specs.declared.family.Family.TheVariants.{V4}
+use Rattle.group_records.specs.Report.{IsReport}
+use Rattle.group_records.specs.Reading.{AsksMemory, first_report_fault, report_of}
+
+-- a report of these records
+abbrev pub IsReport4 : List Record → List ℕ → Type 0
+IsReport4 records payload = IsReport V4 [] records payload
+
+-- the first fault of a payload, if any
+abbrev pub first_report_fault4 : List ℕ → Option ReportFault
+first_report_fault4 payload = first_report_fault V4 [] payload
+
+-- the records of the report that the payload is, or its first fault
+abbrev pub report4_of : List ℕ → Result (List Record) ReportFault
+report4_of payload = report_of V4 [] payload
+
+-- a record is kept before any fault, so memory is asked for it
+abbrev pub AsksMemory4 : List ℕ → Type 0
+AsksMemory4 payload = AsksMemory V4 [] payload

@@ -1,0 +1,36 @@
+ghost use Rattle.std.specs.Prelude.{◌≡◌, ◌≤◌, List, length, IfOk, Ok, Err, MatchResult, None, Some};
+ghost use Rattle.source_filter.specs.declared.record.Record.{Record as RecordValue};
+ghost use Rattle.source_filter.specs.declared.fault.ReadFault.TheVariants.{Memory};
+ghost use Rattle.source_filter.specs.declared.fault.ReportFault.{ReportFault as ReportFaultValue};
+ghost use Rattle.group_records.specs.Reading.{Gives, Tells};
+ghost use Rattle.igmp_records.specs.Report.{AsksMemory4, IsReport4, first_report_fault4, report4_of};
+
+use amt_values::INPUT_LIMIT;
+use group_records::{Family, read_report};
+use source_filter::{ReadFault, Records};
+use std::alloc::Global;
+
+/// Reads a whole payload of at most 16 MiB as one IGMPv3 membership report (RFC 3376, section 4.2).
+///
+/// The faults are tried in the order of `ReportFault`; the reports of IGMPv1 and IGMPv2 and the
+/// leave of IGMPv2 are old reports. Memory is asked for the records that are kept; want of
+/// it may come before a later record's fault.
+pub fn read_report4(alloc: Global, payload: &[u8]) -> Result<Records, ReadFault>
+    requires { length payload.now ≤ INPUT_LIMIT }
+
+    ensures found { IfOk result (λ records. IsReport4 records payload.now) }
+    ensures only { (records : List RecordValue) → IsReport4 records payload.now
+        → Gives result (Ok records) }
+    ensures one { (records others : List RecordValue) → IsReport4 records payload.now
+        → IsReport4 others payload.now → records ≡ others }
+
+    ensures refused { MatchResult result
+        (λ _. first_report_fault4 payload.now ≡ None)
+        (Tells (first_report_fault4 payload.now)) }
+    ensures fault { (fault : ReportFaultValue) → first_report_fault4 payload.now ≡ Some fault
+        → Gives result (Err fault) }
+    ensures memory { result ≡ Err Memory → AsksMemory4 payload.now }
+    ensures value { Gives result (report4_of payload.now) }
+{
+    read_report(alloc, Family::V4, &[], payload)
+}

@@ -1,0 +1,50 @@
+ghost use Rattle.std.specs.Prelude.{◌≡◌, ◌≤◌, ◌%◌, ◌∷◌, ◌++◌, length};
+ghost use Rattle.inner_datagrams.specs.Checksum.{ones_add, internet_sum_of};
+
+use crate::checksum::internet_sum;
+use amt_values::INPUT_LIMIT;
+
+fn ones_add(one: u16, other: u16) -> u16
+    ensures { result ≡ ones_add one other }
+{
+    let sum = u32::from(one) + u32::from(other);
+    (sum % 0x10000 + sum / 0x10000) as u16
+}
+
+/// The checksum that belongs into a field of two octets between `front` and `back`, behind a
+/// pseudo-header that is summed and not sent (RFC 1071, section 1; RFC 8200, section 8.1).
+///
+/// The field stands at an even place, so the parts are summed where they stand.
+pub fn internet_sum_around(pseudo_header: &[u8], front: &[u8], back: &[u8]) -> u16
+    requires pseudo_header_even { length pseudo_header.now % 2 ≡ 0 }
+    requires pseudo_header_limit { length pseudo_header.now ≤ INPUT_LIMIT }
+    requires front_even { length front.now % 2 ≡ 0 }
+    requires front_limit { length front.now ≤ INPUT_LIMIT }
+    requires back_limit { length back.now ≤ INPUT_LIMIT }
+    ensures { result ≡ internet_sum_of (pseudo_header.now ++ front.now ++ 0 ∷ 0 ∷ back.now) }
+{
+    let before = ones_add(!internet_sum(pseudo_header), !internet_sum(front));
+    !ones_add(before, !internet_sum(back))
+}
+
+#[cfg(test)]
+mod tests {
+    use super::*;
+
+    #[test]
+    fn a_sum_leaves_room_for_its_own_field(rt: HostRuntime) {
+        let rows: [(&[u8], &[u8], &[u8], u16); 4] = [
+            (&[], &[0x11, 0x64], &[0, 0, 0, 0, 0, 0, 0, 0], 0xee9b),
+            (&[0x11, 0x64], &[], &[0, 0, 0, 0, 0, 0, 0, 0], 0xee9b),
+            // The field is left out of the sum, and an odd last octet is a high one.
+            (&[0xff, 0xff], &[0x00, 0x01], &[0x01], 0xfefe),
+            (&[], &[], &[], 0xffff),
+        ];
+        for (pseudo_header, front, back, sum) in rows {
+            assert!(rt; pseudo_header.len() <= 2 && pseudo_header.len() % 2 == 0);
+            assert!(rt; front.len() <= 2 && front.len() % 2 == 0);
+            assert!(rt; back.len() <= 8);
+            assert_eq!(rt; internet_sum_around(pseudo_header, front, back), sum);
+        }
+    }
+}
