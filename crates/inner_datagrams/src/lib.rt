@@ -1,7 +1,7 @@
 //! IP datagrams that carry membership messages, and their checksum.
 //!
-//! Contract: a written datagram is the one spelling of its addresses and payload, and is read back
-//! to them.
+//! Contract: octets are read as a datagram exactly where they are one, and otherwise have a first
+//! fault; a written datagram is the one spelling of its addresses and payload, and is read back.
 //! It knows no record, tunnel or moment.
 //! Standard: RFC 791, section 3.1; RFC 1071, section 1; RFC 3376, section 4.
 #![tactic(auto)]
