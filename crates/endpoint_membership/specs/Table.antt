@@ -1,0 +1,52 @@
+-- What a membership table stands for.
+use Rattle.std.specs.Prelude.{◌≡◌, ℕ, ◌++◌, ◌∷◌, [], max, List, Option, reverse, map}
+use Rattle.std.specs.List.{find}
+use Rattle.amt_values.specs.Tunnel.{Tunnel}
+use Rattle.source_filter.specs.Rising.{IsRising}
+use Rattle.source_filter.specs.declared.record.Record.{Record}
+use Rattle.endpoint_membership.specs.Limits.{IsWithin}
+use Rattle.endpoint_membership.specs.Log.{latest}
+use Rattle.endpoint_membership.specs.Place.{Place, place_order, same_place}
+use Rattle.endpoint_membership.specs.Rows.{standing, standing_rows}
+use Rattle.endpoint_membership.specs.declared.change.Change.{Change}
+use Rattle.endpoint_membership.specs.declared.kept.Kept.{Kept}
+use Rattle.endpoint_membership.specs.declared.limits.Limits.{Limits}
+
+-- what contracts see of a table: the moment, the rows that stand, and how it was made
+pub record TableValue : Type 0 where
+  pub moment : ℕ
+  pub limits : Limits
+  pub lifetime : ℕ
+  pub rows : List Kept
+
+-- the limits, and the lifetime in milliseconds, by which a log is read
+pub record Terms : Type 0 where
+  pub limits : Limits
+  pub lifetime : ℕ
+
+abbrev pub place_of : Kept → Place
+place_of kept = record { endpoint = kept.endpoint; group = kept.group }
+
+-- the row of the place
+abbrev pub row_at : List Kept → Place → Option Kept
+row_at rows place = find (λ kept. same_place place (place_of kept)) rows
+
+-- the rows rise by endpoint and group, and at each place stands what stands there by the entries
+pub record AreRows (lifetime moment : ℕ) (past : List Change) (rows : List Kept) : Type 0 where
+  pub rise : IsRising place_order (map place_of rows)
+  pub each : (place : Place) → row_at rows place ≡ standing lifetime moment past place
+
+-- the table stands for the log, oldest entry first, by these terms
+pub record Holds (terms : Terms) (table : TableValue) (log : List Change) : Type 0 where
+  pub limits : table.limits ≡ terms.limits
+  pub lifetime : table.lifetime ≡ terms.lifetime
+  pub moment : table.moment ≡ latest log
+  pub rows : AreRows terms.lifetime (latest log) (reverse log) table.rows
+
+-- what the table keeps is within its limits
+abbrev pub IsWithinLimits : TableValue → Type 0
+IsWithinLimits table = IsWithin table.limits table.rows
+
+-- what stands by the log at its latest moment
+abbrev pub standing_now : Terms → List Change → List Kept
+standing_now terms log = standing_rows terms.lifetime (latest log) log
