@@ -1,0 +1,66 @@
+-- What a filter admits after a record, and that its sources rise.
+use Rattle.std.proofs.Common.{◌≡◌, Bool, true, false, not, ◌&&◌, ◌||◌, if◌then◌else◌, List, ◌++◌, refl, ap, ◌∙◌}
+use Rattle.amt_values.specs.declared.address.Ip.{Ip}
+use Rattle.amt_values.specs.Order.{ip_order}
+use Rattle.amt_values.proofs.Orders.{ip_order-total, ip_order-exact}
+use Rattle.source_filter.specs.Filter.{FilterValue, admits, admits_by, applied, mode_after, rising_sources, sources_after}
+use Rattle.source_filter.specs.Record.{is_full, lists, says, says_by, speaks}
+use Rattle.source_filter.specs.Rising.{IsRising, has}
+use Rattle.source_filter.specs.declared.mode.Mode.{Mode}
+use Rattle.source_filter.specs.declared.mode.Mode.TheVariants.{Include, Exclude}
+use Rattle.source_filter.specs.declared.record.Record.{Record}
+use Rattle.source_filter.specs.declared.record.RecordKind.{RecordKind}
+use Rattle.source_filter.specs.declared.record.RecordKind.TheVariants.{IsIn, IsEx, ToIn, ToEx, Allow, Block}
+use Rattle.source_filter.proofs.RisingLaws.{has-rising, has-union, has-difference, IsRising-rising, IsRising-filter}
+
+IsRising-sources_after : (kind : RecordKind) (mode : Mode) (old listed : List Ip) → IsRising ip_order old → IsRising ip_order (sources_after kind mode old listed)
+IsRising-sources_after Allow Include old listed rises = IsRising-rising ip_order-total (old ++ listed)
+IsRising-sources_after Allow Exclude old listed rises = IsRising-filter ip_order (λ x. not (has ip_order listed x)) old rises
+IsRising-sources_after Block Include old listed rises = IsRising-filter ip_order (λ x. not (has ip_order listed x)) old rises
+IsRising-sources_after Block Exclude old listed rises = IsRising-rising ip_order-total (old ++ listed)
+IsRising-sources_after full mode old listed rises = IsRising-rising ip_order-total listed
+
+pub IsRising-applied : (filter : FilterValue) (change : Record) → IsRising ip_order filter.sources → IsRising ip_order (applied filter change).sources
+IsRising-applied filter change rises = IsRising-sources_after change.kind filter.mode filter.sources change.sources rises
+
+added : (was listed : Bool) → (was || listed) ≡ (if listed then true else was)
+added true true = refl
+added true false = refl
+added false true = refl
+added false false = refl
+
+removed : (was listed : Bool) → (was && not listed) ≡ (if listed then false else was)
+removed true true = refl
+removed true false = refl
+removed false true = refl
+removed false false = refl
+
+readmitted : (was listed : Bool) → not (was && not listed) ≡ (if listed then true else not was)
+readmitted true true = refl
+readmitted true false = refl
+readmitted false true = refl
+readmitted false false = refl
+
+excluded : (was listed : Bool) → not (was || listed) ≡ (if listed then false else not was)
+excluded true true = refl
+excluded true false = refl
+excluded false true = refl
+excluded false false = refl
+
+-- the list loses only repeats
+pub lists-rising : (listed : List Ip) (source : Ip) → lists (rising_sources listed) source ≡ lists listed source
+lists-rising listed source = has-rising ip_order-total listed source
+
+admitted : (kind : RecordKind) (mode : Mode) (old listed : List Ip) (source : Ip) → admits_by (mode_after kind mode) (lists (sources_after kind mode old listed) source)
+    ≡ (if is_full kind || lists listed source then says_by kind (lists listed source) else admits_by mode (lists old source))
+admitted IsIn mode old listed source = lists-rising listed source
+admitted IsEx mode old listed source = ap not (lists-rising listed source)
+admitted ToIn mode old listed source = lists-rising listed source
+admitted ToEx mode old listed source = ap not (lists-rising listed source)
+admitted Allow Include old listed source = has-union ip_order-total old listed source ∙ added (lists old source) (lists listed source)
+admitted Allow Exclude old listed source = ap not (has-difference ip_order-exact old listed source) ∙ readmitted (lists old source) (lists listed source)
+admitted Block Include old listed source = has-difference ip_order-exact old listed source ∙ removed (lists old source) (lists listed source)
+admitted Block Exclude old listed source = ap not (has-union ip_order-total old listed source) ∙ excluded (lists old source) (lists listed source)
+
+pub admits-applied : (filter : FilterValue) (change : Record) (source : Ip) → admits (applied filter change) source ≡ (if speaks change source then says change source else admits filter source)
+admits-applied filter change source = admitted change.kind filter.mode filter.sources change.sources source

@@ -1,0 +1,123 @@
+-- Rising lists under any total order.
+use Rattle.std.proofs.Common.{◌≡◌, ◌≤◌, suc, Bool, true, false, not, ◌&&◌, ◌||◌, List, [], ◌∷◌, ◌++◌, length, filter, refl, sym, ap, ◌∙◌, arith}
+use Rattle.std.specs.Cmp.{IsTotalOrder}
+use Rattle.std.specs.List.{AllByRecursion}
+use Rattle.std.specs.List.Sorted.{IsStrictlySortedBy}
+use Rattle.std.specs.Ordering.{is_eq, eq_by_cmp, match_ordering, ordering_reverse}
+use Rattle.std.specs.declared.cmp.Ordering.{Ordering}
+use Rattle.std.specs.declared.cmp.Ordering.TheVariants.{Less, Equal, Greater}
+use Rattle.std.proofs.lemmas.Cmp.{alike_right}
+use Rattle.std.proofs.lemmas.List.Folds.{list_any-append}
+use Rattle.std.proofs.lemmas.List.Kept.{IsStrictlySortedBy-filter}
+use Rattle.std.proofs.lemmas.Map.Keys.{sorted_tail}
+use Rattle.std.proofs.lemmas.Map.Lookups.{CmpEqualImpliesEq, btree_set_from_contains}
+use Rattle.std.proofs.lemmas.Map.Views.{any-filter_same}
+use Rattle.source_filter.specs.Rising.{has, IsRising, placed, rising, union, difference}
+
+twice : (a b c : Bool) → a ≡ b → (b || c) ≡ (a || (b || c))
+twice true b c same = ap (λ t. t || c) (sym same)
+twice false b c same = refl
+
+swapped : (a b c d : Bool) → d ≡ (a || c) → (b || d) ≡ (a || (b || c))
+swapped true true c d is = refl
+swapped false true c d is = refl
+swapped a false c d is = is
+
+turned : (a b : Bool) → (a && b) ≡ (b && a)
+turned true true = refl
+turned true false = refl
+turned false true = refl
+turned false false = refl
+
+tied : (o : Ordering) → is_eq o ≡ true → o ≡ Equal
+tied Less is = cc
+tied Equal is = refl
+tied Greater is = cc
+
+module _ {K : Type 0} (order : K → K → Ordering) where
+  pub has-append : (xs ys : List K) (s : K) → has order (xs ++ ys) s ≡ (has order xs s || has order ys s)
+  has-append xs ys s = list_any-append (eq_by_cmp order s) xs ys
+
+  pub IsRising-filter : (p : K → Bool) (xs : List K) → IsRising order xs → IsRising order (filter p xs)
+  IsRising-filter p xs rises = IsStrictlySortedBy-filter order p xs rises
+
+  length-placed_by : (o : Ordering) (x y : K) (ys : List K) → length (placed order x ys) ≤ suc (length ys)
+      → length (match_ordering o (x ∷ y ∷ ys) (y ∷ ys) (y ∷ placed order x ys)) ≤ suc (suc (length ys))
+  length-placed_by Less x y ys rest = omega arith
+  length-placed_by Equal x y ys rest = omega arith
+  length-placed_by Greater x y ys rest = omega arith
+
+  length-placed : (x : K) (ys : List K) → length (placed order x ys) ≤ suc (length ys)
+  length-placed x [] = omega arith
+  length-placed x (y ∷ ys) = length-placed_by (order x y) x y ys (length-placed x ys)
+
+  pub length-rising : (xs : List K) → length (rising order xs) ≤ length xs
+  length-rising [] = omega arith
+  length-rising (x ∷ xs) = omega (arith, length-placed x (rising order xs), length-rising xs)
+
+module _ {K : Type 0} {order : K → K → Ordering} where
+  pub has-filter : CmpEqualImpliesEq order → (p : K → Bool) (xs : List K) (s : K) → has order (filter p xs) s ≡ (has order xs s && p s)
+  has-filter exact p xs s =
+      any-filter_same (eq_by_cmp order s) p (p s) (λ k same. ap p (sym (exact s k (tied (order s k) same)))) xs
+      ∙ turned (p s) (has order xs s)
+
+  pub has-difference : CmpEqualImpliesEq order → (xs ys : List K) (s : K) → has order (difference order xs ys) s ≡ (has order xs s && not (has order ys s))
+  has-difference exact xs ys s = has-filter exact (λ x. not (has order ys x)) xs s
+
+  module _ (total : IsTotalOrder order) where
+    has-placed_by : (o : Ordering) (x y : K) (ys : List K) (s : K) → order x y ≡ o → has order (placed order x ys) s ≡ (eq_by_cmp order s x || has order ys s)
+        → has order (match_ordering o (x ∷ y ∷ ys) (y ∷ ys) (y ∷ placed order x ys)) s ≡ (eq_by_cmp order s x || has order (y ∷ ys) s)
+    has-placed_by Less x y ys s is rest = refl
+    has-placed_by Equal x y ys s is rest = twice (eq_by_cmp order s x) (eq_by_cmp order s y) (has order ys s) (ap is_eq (alike_right total x y s is))
+    has-placed_by Greater x y ys s is rest = swapped (eq_by_cmp order s x) (eq_by_cmp order s y) (has order ys s) (has order (placed order x ys) s) rest
+
+    pub has-placed : (x : K) (ys : List K) (s : K) → has order (placed order x ys) s ≡ (eq_by_cmp order s x || has order ys s)
+    has-placed x [] s = refl
+    has-placed x (y ∷ ys) s = has-placed_by (order x y) x y ys s refl (has-placed x ys s)
+
+    pub has-rising : (xs : List K) (s : K) → has order (rising order xs) s ≡ has order xs s
+    has-rising [] s = refl
+    has-rising (x ∷ xs) s = has-placed x (rising order xs) s ∙ ap (λ t. eq_by_cmp order s x || t) (has-rising xs s)
+
+    pub has-union : (xs ys : List K) (s : K) → has order (union order xs ys) s ≡ (has order xs s || has order ys s)
+    has-union xs ys s = has-rising (xs ++ ys) s ∙ has-append order xs ys s
+
+    above_placed_by : (P : K → Type 0) (o : Ordering) (x y : K) (ys : List K) → P x → P y → AllByRecursion P ys → AllByRecursion P (placed order x ys)
+        → AllByRecursion P (match_ordering o (x ∷ y ∷ ys) (y ∷ ys) (y ∷ placed order x ys))
+    above_placed_by P Less x y ys first second rest more = (first, (second, rest))
+    above_placed_by P Equal x y ys first second rest more = (second, rest)
+    above_placed_by P Greater x y ys first second rest more = (second, more)
+
+    above_placed : (P : K → Type 0) (x : K) (ys : List K) → P x → AllByRecursion P ys → AllByRecursion P (placed order x ys)
+    above_placed P x [] first rest = (first, tt)
+    above_placed P x (y ∷ ys) first rest = above_placed_by P (order x y) x y ys first rest.0 rest.1 (above_placed P x ys first rest.1)
+
+    above_lower : (x y : K) (ys : List K) → order x y ≡ Less → AllByRecursion (λ z. order y z ≡ Less) ys → AllByRecursion (λ z. order x z ≡ Less) ys
+    above_lower x y [] is rest = tt
+    above_lower x y (z ∷ zs) is rest = (total.trans x y z is rest.0, above_lower x y zs is rest.1)
+
+    IsRising-placed_by : (o : Ordering) (x y : K) (ys : List K) → order x y ≡ o → IsRising order (y ∷ ys) → IsRising order (placed order x ys)
+        → IsRising order (match_ordering o (x ∷ y ∷ ys) (y ∷ ys) (y ∷ placed order x ys))
+    unfolding IsStrictlySortedBy
+    IsRising-placed_by Less x y ys is rises more = ((is, above_lower x y ys is rises.0), rises)
+    IsRising-placed_by Equal x y ys is rises more = rises
+    IsRising-placed_by Greater x y ys is rises more =
+        (above_placed (λ z. order y z ≡ Less) x ys (total.antisymm y x ∙ ap ordering_reverse is) rises.0, more)
+
+    pub IsRising-placed : (x : K) (ys : List K) → IsRising order ys → IsRising order (placed order x ys)
+    unfolding IsStrictlySortedBy
+    IsRising-placed x [] rises = (tt, tt)
+    IsRising-placed x (y ∷ ys) rises = IsRising-placed_by (order x y) x y ys refl rises (IsRising-placed x ys (sorted_tail order y ys rises))
+
+    pub IsRising-rising : (xs : List K) → IsRising order (rising order xs)
+    unfolding IsStrictlySortedBy
+    IsRising-rising [] = tt
+    IsRising-rising (x ∷ xs) = IsRising-placed x (rising order xs) (IsRising-rising xs)
+
+    -- a set has one rising list
+    pub same_rising : CmpEqualImpliesEq order → (xs ys : List K) → IsRising order xs → IsRising order ys → ((s : K) → has order xs s ≡ has order ys s) → xs ≡ ys
+    same_rising exact xs ys first second same =
+        btree_set_from_contains total (record { keys = xs }) (record { keys = ys }) first second same exact
+
+    pub rising-fixed : CmpEqualImpliesEq order → (xs : List K) → IsRising order xs → rising order xs ≡ xs
+    rising-fixed exact xs rises = same_rising exact (rising order xs) xs (IsRising-rising xs) rises (has-rising xs)
