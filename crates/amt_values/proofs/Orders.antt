@@ -47,7 +47,7 @@ pub tunnel_order-total : IsTotalOrder tunnel_order
 tunnel_order-total = then_total (on_total (λ (tunnel : Tunnel). tunnel.address) nat_cmp_total) (on_total (λ (tunnel : Tunnel). tunnel.port) nat_cmp_total)
 
 -- where two orders find no difference, neither does
-both_tied : (first second : Ordering) → ordering_then first second ≡ Equal → (first ≡ Equal) × (second ≡ Equal)
+pub both_tied : (first second : Ordering) → ordering_then first second ≡ Equal → (first ≡ Equal) × (second ≡ Equal)
 both_tied Less second tied = cc
 both_tied Equal second tied = (refl, tied)
 both_tied Greater second tied = cc

@@ -16,9 +16,8 @@ pub renewed_at-other : (place : Place) (entry : Change) (past : List Change) →
 renewed_at-other place entry past none = rw none refl
 
 -- an entry that makes a record renews the place
-pub renewed_at-entry : (place : Place) (entry : Change) (past : List Change) (newest : Record) (rest : List Record) → records_at place entry ≡ newest ∷ rest
-    → renewed_at place (entry ∷ past) ≡ latest (entry ∷ past)
-renewed_at-entry place entry past newest rest some = rw some refl
+pub renewed_at-entry : (place : Place) (entry : Change) (past : List Change) → concerns place entry ≡ true → renewed_at place (entry ∷ past) ≡ latest (entry ∷ past)
+renewed_at-entry place entry past some = rw some refl
 
 entry_by : (records rest : List Record) (live : Bool) → live ≡ true
     → cond (not (is_empty records)) (cond live (records ++ rest) []) rest ≡ records ++ rest

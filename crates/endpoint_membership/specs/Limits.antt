@@ -1,10 +1,11 @@
 -- The limits of a membership table: each keeps hosts from claiming the relay's memory.
-use Rattle.std.specs.Prelude.{ℕ, ◌+◌, ◌≤◌, nat_lt, Bool, List, [], ◌∷◌, length, Option, Some, None, ◌&&◌, if◌then◌else◌}
+use Rattle.std.specs.Prelude.{ℕ, ◌+◌, ◌≤◌, nat_lt, Bool, List, [], ◌∷◌, length, map, Option, Some, None, ◌&&◌, if◌then◌else◌}
 use Rattle.std.specs.List.{list_any, find, count_by, AllByRecursion}
+use Rattle.amt_values.specs.Order.{tunnel_order}
 use Rattle.amt_values.specs.Tunnel.{Tunnel}
+use Rattle.source_filter.specs.Rising.{rising}
 use Rattle.source_filter.specs.declared.record.Record.{Record}
 use Rattle.endpoint_membership.specs.Place.{same_endpoint, same_group}
-use Rattle.endpoint_membership.specs.Rows.{is_live}
 use Rattle.endpoint_membership.specs.declared.kept.Kept.{Kept}
 use Rattle.endpoint_membership.specs.declared.limits.LimitFault.{LimitFault}
 use Rattle.endpoint_membership.specs.declared.limits.LimitFault.TheVariants.{Sources, Groups, Endpoints}
@@ -12,12 +13,11 @@ use Rattle.endpoint_membership.specs.declared.limits.Limits.{Limits}
 
 -- the number of groups that stand at the endpoint
 abbrev pub group_count : Tunnel → List Kept → ℕ
-group_count endpoint rows = count_by (λ kept. same_endpoint endpoint kept.endpoint) rows
+group_count endpoint rows = count_by (λ kept. same_endpoint kept.endpoint endpoint) rows
 
 -- the number of different endpoints
 abbrev pub live_count : List Kept → ℕ
-live_count [] = 0
-live_count (kept ∷ rest) = if is_live kept.endpoint rest then live_count rest else 1 + live_count rest
+live_count rows = length (rising tunnel_order (map (λ kept. kept.endpoint) rows))
 
 -- the number of listed sources
 abbrev pub size : Kept → ℕ
@@ -32,7 +32,7 @@ pub record IsWithin (limits : Limits) (rows : List Kept) : Type 0 where
 -- a group of the endpoint that a record is on, with more sources than allowed
 abbrev pub is_too_wide : Limits → Tunnel → List Record → Kept → Bool
 is_too_wide limits endpoint records kept =
-    (same_endpoint endpoint kept.endpoint && list_any (λ group_record. same_group group_record.group kept.group) records)
+    (same_endpoint kept.endpoint endpoint && list_any (λ group_record. same_group kept.group group_record.group) records)
     && nat_lt limits.sources (size kept)
 
 abbrev pub fault_by : Limits → ℕ → ℕ → Option Kept → Option LimitFault

@@ -29,8 +29,8 @@ leaving group = record { kind = ToIn; group = group; sources = [] }
 -- the records that an entry makes at a place, newest first; a clearing leaves every group
 abbrev pub records_at : Place → Change → List Record
 records_at place (Reported endpoint records at) =
-    if same_endpoint endpoint place.endpoint then reverse (filter (λ group_record. same_group group_record.group place.group) records) else []
-records_at place (Clear endpoint at) = if same_endpoint endpoint place.endpoint then leaving place.group ∷ [] else []
+    if same_endpoint place.endpoint endpoint then reverse (filter (λ group_record. same_group place.group group_record.group) records) else []
+records_at place (Clear endpoint at) = if same_endpoint place.endpoint endpoint then leaving place.group ∷ [] else []
 records_at place (Mark at) = []
 
 abbrev pub is_empty : {X : Type 0} → List X → Bool

@@ -1,6 +1,8 @@
 -- Which groups stand at which endpoints, by the log alone.
 use Rattle.std.specs.Prelude.{ℕ, ◌+◌, Bool, true, false, not, List, [], ◌∷◌, ◌++◌, reverse, map, Option, Some, None, if◌then◌else◌, ◌||◌}
-use Rattle.std.specs.List.{list_any}
+use Rattle.std.specs.List.{filter_map, find, list_any}
+use Rattle.std.specs.Ordering.{on}
+use Rattle.std.specs.declared.cmp.Ordering.{Ordering}
 use Rattle.amt_values.specs.Tunnel.{Tunnel}
 use Rattle.source_filter.specs.Filter.{FilterValue}
 use Rattle.source_filter.specs.Rising.{rising}
@@ -8,7 +10,7 @@ use Rattle.source_filter.specs.declared.mode.Mode.{Mode}
 use Rattle.source_filter.specs.declared.mode.Mode.TheVariants.{Include, Exclude}
 use Rattle.source_filter.specs.declared.record.Record.{Record}
 use Rattle.endpoint_membership.specs.Log.{is_empty, live_chain, renewed_at}
-use Rattle.endpoint_membership.specs.Place.{Place, place_order, same_endpoint}
+use Rattle.endpoint_membership.specs.Place.{Place, place_order, same_endpoint, same_place}
 use Rattle.endpoint_membership.specs.Wishes.{wish_of}
 use Rattle.endpoint_membership.specs.declared.change.Change.{Change}
 use Rattle.endpoint_membership.specs.declared.change.Change.TheVariants.{Reported, Clear, Mark}
@@ -46,20 +48,21 @@ places_in (Reported endpoint records at ∷ rest) = places_of endpoint records +
 places_in (Clear endpoint at ∷ rest) = places_in rest
 places_in (Mark at ∷ rest) = places_in rest
 
-abbrev pub kept_of_option : Option Kept → List Kept
-kept_of_option None = []
-kept_of_option (Some kept) = kept ∷ []
-
--- what stands at these places, in their order
-abbrev pub standing_at : ℕ → ℕ → List Change → List Place → List Kept
-standing_at lifetime moment past [] = []
-standing_at lifetime moment past (place ∷ places) =
-    kept_of_option (standing lifetime moment past place) ++ standing_at lifetime moment past places
-
 -- all that stands at the moment by the log, oldest entry first: by endpoint, then group
 abbrev pub standing_rows : ℕ → ℕ → List Change → List Kept
 standing_rows lifetime moment log =
-    let past = reverse log in standing_at lifetime moment past (rising place_order (places_in past))
+    let past = reverse log in filter_map (standing lifetime moment past) (rising place_order (places_in past))
+
+abbrev pub place_of : Kept → Place
+place_of kept = record { endpoint = kept.endpoint; group = kept.group }
+
+-- rows are ordered by their places
+abbrev pub kept_order : Kept → Kept → Ordering
+kept_order = on place_of place_order
+
+-- the row of the place
+abbrev pub row_at : List Kept → Place → Option Kept
+row_at rows place = find (λ kept. same_place place (place_of kept)) rows
 
 -- a row as it is shown
 abbrev pub shown : Kept → Row
@@ -71,4 +74,4 @@ rows_of lifetime moment log = map shown (standing_rows lifetime moment log)
 
 -- some group stands at the endpoint
 abbrev pub is_live : Tunnel → List Kept → Bool
-is_live endpoint rows = list_any (λ kept. same_endpoint endpoint kept.endpoint) rows
+is_live endpoint rows = list_any (λ kept. same_endpoint kept.endpoint endpoint) rows

@@ -1,13 +1,12 @@
 -- What a membership table stands for.
-use Rattle.std.specs.Prelude.{◌≡◌, ℕ, ◌++◌, ◌∷◌, [], max, List, Option, reverse, map}
-use Rattle.std.specs.List.{find}
+use Rattle.std.specs.Prelude.{◌≡◌, ℕ, ◌++◌, ◌∷◌, [], max, List, Option, reverse}
 use Rattle.amt_values.specs.Tunnel.{Tunnel}
 use Rattle.source_filter.specs.Rising.{IsRising}
 use Rattle.source_filter.specs.declared.record.Record.{Record}
 use Rattle.endpoint_membership.specs.Limits.{IsWithin}
 use Rattle.endpoint_membership.specs.Log.{latest}
-use Rattle.endpoint_membership.specs.Place.{Place, place_order, same_place}
-use Rattle.endpoint_membership.specs.Rows.{standing, standing_rows}
+use Rattle.endpoint_membership.specs.Place.{Place}
+use Rattle.endpoint_membership.specs.Rows.{kept_order, row_at, standing, standing_rows}
 use Rattle.endpoint_membership.specs.declared.change.Change.{Change}
 use Rattle.endpoint_membership.specs.declared.kept.Kept.{Kept}
 use Rattle.endpoint_membership.specs.declared.limits.Limits.{Limits}
@@ -24,16 +23,9 @@ pub record Terms : Type 0 where
   pub limits : Limits
   pub lifetime : ℕ
 
-abbrev pub place_of : Kept → Place
-place_of kept = record { endpoint = kept.endpoint; group = kept.group }
-
--- the row of the place
-abbrev pub row_at : List Kept → Place → Option Kept
-row_at rows place = find (λ kept. same_place place (place_of kept)) rows
-
 -- the rows rise by endpoint and group, and at each place stands what stands there by the entries
 pub record AreRows (lifetime moment : ℕ) (past : List Change) (rows : List Kept) : Type 0 where
-  pub rise : IsRising place_order (map place_of rows)
+  pub rise : IsRising kept_order rows
   pub each : (place : Place) → row_at rows place ≡ standing lifetime moment past place
 
 -- the table stands for the log, oldest entry first, by these terms
