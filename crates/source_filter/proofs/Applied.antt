@@ -64,3 +64,15 @@ admitted Block Exclude old listed source = ap not (has-union ip_order-total old 
 
 pub admits-applied : (filter : FilterValue) (change : Record) (source : Ip) → admits (applied filter change) source ≡ (if speaks change source then says change source else admits filter source)
 admits-applied filter change source = admitted change.kind filter.mode filter.sources change.sources source
+
+pub said : (filter : FilterValue) (change : Record) (after : FilterValue) → after ≡ applied filter change → (source : Ip) → speaks change source ≡ true
+    → admits after source ≡ says change source
+said filter change after is source told =
+    ap (λ (f : FilterValue). admits f source) is ∙ admits-applied filter change source
+    ∙ ap (λ t. if t then says change source else admits filter source) told
+
+pub unsaid : (filter : FilterValue) (change : Record) (after : FilterValue) → after ≡ applied filter change → (source : Ip) → speaks change source ≡ false
+    → admits after source ≡ admits filter source
+unsaid filter change after is source untold =
+    ap (λ (f : FilterValue). admits f source) is ∙ admits-applied filter change source
+    ∙ ap (λ t. if t then says change source else admits filter source) untold

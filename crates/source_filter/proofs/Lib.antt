@@ -1,2 +1,4 @@
 pub mod Applied
+pub mod Compared
 pub mod RisingLaws
+pub mod Sorting

@@ -1,9 +1,12 @@
-ghost use Rattle.std.specs.Prelude.{◌≡◌, ◌≤◌, length, IfOk, if◌then◌else◌};
+ghost use Rattle.std.specs.Prelude.{◌≡◌, true, false, IfOk};
+ghost use Rattle.amt_values.specs.Order.{ip_order};
 ghost use Rattle.amt_values.specs.declared.address.Ip.{Ip};
+ghost use Rattle.source_filter.specs.Record.{lists};
+ghost use Rattle.source_filter.specs.Rising.{IsRising};
 
 use crate::ips::Ips;
 use crate::mode::Mode;
-use crate::record::Record;
+use crate::record::{Record, RecordKind};
 use amt_values::Ip;
 use std::alloc::{AllocError, Global};
 use std::marker::Model;
@@ -32,7 +35,25 @@ impl Model for Filter {
 }
 
 impl Filter {
-    ghost use Rattle.source_filter.specs.Filter.{admits};
+    ghost use Rattle.source_filter.specs.Filter.{admits, applied, rising_sources};
+    ghost use Rattle.source_filter.specs.Record.{says, speaks};
+    ghost use Rattle.source_filter.specs.Rising.{difference, union};
+
+    /// A filter of these sources, in any order and with any repeats.
+    pub fn new(alloc: Global, mode: Mode, sources: &[Ip]) -> Result<Filter, AllocError>
+        ensures mode { IfOk result (λ filter. filter.mode ≡ mode) }
+        ensures sources { IfOk result (λ filter. filter.sources ≡ rising_sources sources.now) }
+        ensures rising { IfOk result (λ filter. IsRising ip_order filter.sources) }
+        ensures listed { IfOk result
+            (λ filter. (source : Ip) → lists filter.sources source ≡ lists sources.now source) }
+    {
+        let mut listed = Ips::copied(alloc, sources)?;
+        listed.make_rising();
+        Ok(Filter {
+            mode,
+            sources: listed,
+        })
+    }
 
     pub fn mode(&self) -> Mode
         ensures { result ≡ self.now.mode }
@@ -46,4 +67,99 @@ impl Filter {
     {
         self.sources.as_slice()
     }
+
+    /// Whether the source is wanted.
+    pub fn admits(&self, source: &Ip) -> bool
+        ensures { result ≡ admits self.now source.now }
+    {
+        let listed = is_among(self.sources.as_slice(), source);
+        match self.mode {
+            Mode::Include => listed,
+            Mode::Exclude => !listed,
+        }
+    }
+
+    /// The filter after a group record (RFC 3376, section 5.1).
+    pub fn apply(&self, alloc: Global, change: &Record) -> Result<Filter, AllocError>
+        ensures table { IfOk result (λ after. after ≡ applied self.now change.now) }
+        ensures says { IfOk result
+            (λ after. (source : Ip) → speaks change.now source ≡ true
+            → admits after source ≡ says change.now source) }
+        ensures keeps { IfOk result
+            (λ after. (source : Ip) → speaks change.now source ≡ false
+            → admits after source ≡ admits self.now source) }
+    {
+        self.changed(alloc, change)
+    }
+
+    fn changed(&self, alloc: Global, change: &Record) -> Result<Filter, AllocError>
+        ensures { IfOk result (λ after. after ≡ applied self.now change.now) }
+    {
+        let listed = change.sources.as_slice();
+        match change.kind {
+            RecordKind::IsIn | RecordKind::ToIn => Filter::new(alloc, Mode::Include, listed),
+            RecordKind::IsEx | RecordKind::ToEx => Filter::new(alloc, Mode::Exclude, listed),
+            RecordKind::Allow => match self.mode {
+                Mode::Include => self.listing(alloc, listed),
+                Mode::Exclude => self.without(alloc, listed),
+            },
+            RecordKind::Block => match self.mode {
+                Mode::Include => self.without(alloc, listed),
+                Mode::Exclude => self.listing(alloc, listed),
+            },
+        }
+    }
+
+    // The filter with these sources on its list too.
+    fn listing(&self, alloc: Global, sources: &[Ip]) -> Result<Filter, AllocError>
+        ensures mode { IfOk result (λ after. after.mode ≡ self.now.mode) }
+        ensures sources { IfOk result
+            (λ after. after.sources ≡ union ip_order self.now.sources sources.now) }
+    {
+        let mut listed = Ips::copied(alloc, self.sources.as_slice())?;
+        listed.append(sources)?;
+        listed.make_rising();
+        Ok(Filter {
+            mode: self.mode,
+            sources: listed,
+        })
+    }
+
+    // The filter with none of these sources on its list.
+    fn without(&self, alloc: Global, sources: &[Ip]) -> Result<Filter, AllocError>
+        ensures mode { IfOk result (λ after. after.mode ≡ self.now.mode) }
+        ensures sources { IfOk result
+            (λ after. after.sources ≡ difference ip_order self.now.sources sources.now) }
+    {
+        let mut removed = Ips::copied(alloc, sources)?;
+        removed.make_rising();
+        let mut kept = Ips::new(alloc);
+        for source in self.sources.as_slice() {
+            if is_among(removed.as_slice(), source) {
+                continue;
+            }
+            kept.push(*source)?;
+        }
+        Ok(Filter {
+            mode: self.mode,
+            sources: kept,
+        })
+    }
+}
+
+fn is_among(rising: &[Ip], source: &Ip) -> bool
+    requires { IsRising ip_order rising.now }
+    ensures { result ≡ lists rising.now source.now }
+{
+    rising.binary_search(source).is_ok()
+}
+
+/// An equal filter that owns its memory.
+pub fn copy_filter(alloc: Global, filter: &Filter) -> Result<Filter, AllocError>
+    ensures { IfOk result (λ copy. copy ≡ filter.now) }
+{
+    Ok(Filter {
+        mode: filter.mode,
+        sources: Ips::copied(alloc, filter.sources.as_slice())?,
+    })
 }

@@ -20,6 +20,10 @@ impl Model for Ips {
 }
 
 impl Ips {
+    ghost use Rattle.amt_values.specs.Order.{ip_order};
+    ghost use Rattle.source_filter.specs.Filter.{rising_sources};
+    ghost use Rattle.source_filter.specs.Rising.{IsRising};
+
     pub fn new(alloc: Global) -> Self
         ensures { result ≡ [] }
     {
@@ -54,5 +58,21 @@ impl Ips {
     {
         self.addresses.push(address)?;
         Ok(())
+    }
+
+    pub(crate) fn append(&mut self, addresses: &[Ip]) -> Result<(), AllocError>
+        ensures ok { OnOk result (self.new ≡ self.old ++ addresses.now) }
+        ensures err { OnErr result (self.new ≡ self.old) }
+    {
+        self.addresses.extend_from_slice(addresses)
+    }
+
+    // Puts the addresses into their order and drops repeats.
+    pub(crate) fn make_rising(&mut self)
+        ensures value { self.new ≡ rising_sources self.old }
+        ensures rising { IsRising ip_order self.new }
+    {
+        self.addresses.sort_unstable();
+        self.addresses.dedup();
     }
 }

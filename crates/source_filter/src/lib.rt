@@ -15,7 +15,7 @@ mod record;
 mod records;
 
 pub use fault::{ReadFault, ReportFault};
-pub use filter::Filter;
+pub use filter::{Filter, copy_filter};
 pub use ips::Ips;
 pub use mode::Mode;
 pub use query::QueryFields;
