@@ -15,12 +15,13 @@ use Rattle.endpoint_membership.specs.declared.change.Change.{Change}
 use Rattle.endpoint_membership.specs.declared.change.Change.TheVariants.{Reported, Clear, Mark}
 use Rattle.endpoint_membership.specs.declared.kept.Kept.{Kept}
 use Rattle.endpoint_membership.specs.Log.{concerns, is_empty, latest, leaving, live_chain, records_at, renewed_at}
+use Rattle.endpoint_membership.specs.Own.{on_group}
 use Rattle.endpoint_membership.specs.Place.{Place, place_order, same_endpoint, same_group, same_place}
 use Rattle.endpoint_membership.specs.Rows.{is_standing, kept_if_standing, kept_order, place_of, places_in, places_of, row_at, standing, standing_rows}
 use Rattle.endpoint_membership.specs.Table.{AreRows}
 use Rattle.endpoint_membership.proofs.Lookup.{AreAfter, same_place-exact, same_rows}
 use Rattle.endpoint_membership.proofs.Places.{place_order-total, same_place-is}
-use Rattle.endpoint_membership.proofs.Standing.{on_group, standing-is}
+use Rattle.endpoint_membership.proofs.Standing.{standing-is}
 use Rattle.endpoint_membership.proofs.Wishing.{filter_of}
 
 -- what a function of places gives is a row of the place
@@ -102,7 +103,7 @@ on_group-none endpoint [] place same none = refl
 on_group-none endpoint (first ∷ later) place same none =
     let both = either_part _ _ none in
     let apart : same_group place.group first.group ≡ false =
-        ap (λ (test : Bool). test && same_group place.group first.group) (sym same) ∙ sym (same_place-is place (record { endpoint = endpoint; group = first.group })) ∙ both.0 in
+    ap (λ (test : Bool). test && same_group place.group first.group) (sym same) ∙ sym (same_place-is place (record { endpoint = endpoint; group = first.group })) ∙ both.0 in
     rw apart (on_group-none endpoint later place same both.1)
 
 records_at-none : (endpoint : Tunnel) (records : List Record) (at : ℕ) (place : Place) → has place_order (places_of endpoint records) place ≡ false
@@ -123,7 +124,7 @@ unnamed : (lifetime moment : ℕ) (past : List Change) (place : Place) → has p
 unnamed lifetime moment [] place none = refl
 unnamed lifetime moment (Reported endpoint records at ∷ older) place none =
     let both = either_part (has place_order (places_of endpoint records) place) (has place_order (places_in older) place)
-        (sym (has-append place_order (places_of endpoint records) (places_in older) place) ∙ none) in
+    (sym (has-append place_order (places_of endpoint records) (places_in older) place) ∙ none) in
     rw (records_at-none endpoint records at place both.0) (unnamed lifetime moment older place both.1)
 unnamed lifetime moment (Clear endpoint at ∷ older) place none =
     cleared_by (same_endpoint place.endpoint endpoint) (ltb moment (latest (Clear endpoint at ∷ older) + lifetime)) place
@@ -145,8 +146,8 @@ AreRows-standing_rows lifetime moment log =
     let its = GivesItsPlace-standing lifetime moment past in record {
       rise = IsRising-filter_map (standing lifetime moment past) its (rising place_order places) (IsRising-rising place_order-total places);
       each = λ place. row_at-filter_map (standing lifetime moment past) its (rising place_order places) place
-        ∙ ap (λ (listed : Bool). cond listed (standing lifetime moment past place) None) (has-rising place_order-total places place)
-        ∙ listed_by (has place_order places place) (standing lifetime moment past place) (bare lifetime moment past place);
+          ∙ ap (λ (listed : Bool). cond listed (standing lifetime moment past place) None) (has-rising place_order-total places place)
+          ∙ listed_by (has place_order places place) (standing lifetime moment past place) (bare lifetime moment past place);
     }
 
 -- rows that are what stands are the rows by the log

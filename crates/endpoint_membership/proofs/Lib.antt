@@ -1,6 +1,9 @@
 pub mod ByLog
 pub mod Chains
+pub mod Drained
 pub mod Lookup
+pub mod Owned
+pub mod Parts
 pub mod Places
 pub mod Standing
 pub mod Steps

@@ -13,10 +13,10 @@ use Rattle.std.proofs.lemmas.Map.Keys.{sorted_head, sorted_tail}
 use Rattle.std.proofs.lemmas.Map.Views.{tells_apart}
 use Rattle.source_filter.specs.Rising.{IsRising, has}
 use Rattle.endpoint_membership.specs.declared.kept.Kept.{Kept}
+use Rattle.endpoint_membership.specs.Kept.{only}
 use Rattle.endpoint_membership.specs.Place.{Place, place_order, same_place}
 use Rattle.endpoint_membership.specs.Rows.{kept_order, place_of, row_at}
 use Rattle.endpoint_membership.proofs.Places.{kept_order-total, place_order-exact, place_order-total}
-use Rattle.endpoint_membership.proofs.Standing.{only}
 
 -- the place comes before all of the rows
 abbrev pub AreAfter : Place → List Kept → Type 0
@@ -116,4 +116,3 @@ same_rows (one ∷ xs) (other ∷ ys) first second same =
     let equal = same_first (kept_order one other) one other xs ys refl first second same in
     let behind = same_rows xs ys (sorted_tail kept_order one xs first) (sorted_tail kept_order other ys second) (same_behind one other xs ys first second equal same) in
     ap (λ (kept : Kept). kept ∷ xs) equal ∙ ap (λ (rest : List Kept). other ∷ rest) behind
-

@@ -11,29 +11,19 @@ use Rattle.source_filter.specs.declared.record.Record.{Record}
 use Rattle.endpoint_membership.specs.declared.change.Change.{Change}
 use Rattle.endpoint_membership.specs.declared.change.Change.TheVariants.{Reported, Clear, Mark}
 use Rattle.endpoint_membership.specs.declared.kept.Kept.{Kept}
+use Rattle.endpoint_membership.specs.Kept.{is_fresh, only}
 use Rattle.endpoint_membership.specs.Log.{concerns, is_empty, latest, leaving, live_chain, records_at, renewed_at}
+use Rattle.endpoint_membership.specs.Own.{applied_all, on_group}
 use Rattle.endpoint_membership.specs.Place.{Place, same_endpoint, same_group}
 use Rattle.endpoint_membership.specs.Rows.{kept_if_standing, standing}
 use Rattle.endpoint_membership.specs.Wishes.{wish_of}
 use Rattle.endpoint_membership.proofs.Chains.{live_chain-entry, live_chain-later, live_chain-other, renewed_at-entry, renewed_at-other}
-use Rattle.endpoint_membership.proofs.Wishing.{applied_all, filter_of, filter_of-append, filter_of-is}
-
--- less than a lifetime has passed since the last renewal
-abbrev pub is_fresh : ℕ → ℕ → Kept → Bool
-is_fresh lifetime moment kept = nat_lt moment (kept.renewed + lifetime)
-
-abbrev pub only : (Kept → Bool) → Option Kept → Option Kept
-only test None = None
-only test (Some kept) = if test kept then Some kept else None
+use Rattle.endpoint_membership.proofs.Wishing.{filter_of, filter_of-append, filter_of-is}
 
 -- the filter of a row, and of a place where none stands
 abbrev pub filter_in : Option Kept → FilterValue
 filter_in None = nothing
 filter_in (Some kept) = kept.filter
-
--- the records of a report on a group
-abbrev pub on_group : Ip → List Record → List Record
-on_group group records = filter (λ (group_record : Record). same_group group group_record.group) records
 
 abbrev made : Mode → List Ip → FilterValue
 made mode sources = record { mode = mode; sources = sources }
@@ -89,18 +79,18 @@ standing-other lifetime moment entry past place none =
 pub standing-entry : (lifetime : ℕ) (entry : Change) (past : List Change) (place : Place) (records : List Record) → 0 < lifetime
     → records_at place entry ≡ reverse records → concerns place entry ≡ true
     → standing lifetime (latest (entry ∷ past)) (entry ∷ past) place
-      ≡ kept_if_standing place (applied_all (filter_in (standing lifetime (latest (entry ∷ past)) past place)) records) (latest (entry ∷ past))
+    ≡ kept_if_standing place (applied_all (filter_in (standing lifetime (latest (entry ∷ past)) past place)) records) (latest (entry ∷ past))
 standing-entry lifetime entry past place records some makes concerned =
     let moment = latest (entry ∷ past) in
     let older = live_chain lifetime place moment past in
     let chain : live_chain lifetime place moment (entry ∷ past) ≡ reverse records ++ older =
-        live_chain-entry lifetime place entry past some ∙ ap (λ (made_here : List Record). made_here ++ older) makes in
+    live_chain-entry lifetime place entry past some ∙ ap (λ (made_here : List Record). made_here ++ older) makes in
     standing-is lifetime moment (entry ∷ past) place
     ∙ ap (λ (chained : List Record). kept_if_standing place (filter_of chained) (renewed_at place (entry ∷ past))) chain
     ∙ ap (λ (filter : FilterValue). kept_if_standing place filter (renewed_at place (entry ∷ past))) (filter_of-append records older)
     ∙ ap (λ (renewed : ℕ). kept_if_standing place (applied_all (filter_of older) records) renewed) (renewed_at-entry place entry past concerned)
     ∙ ap (λ (filter : FilterValue). kept_if_standing place (applied_all filter records) moment)
-      (sym (ap filter_in (standing-is lifetime moment past place) ∙ filter_in-kept place (filter_of older) (renewed_at place past)))
+    (sym (ap filter_in (standing-is lifetime moment past place) ∙ filter_in-kept place (filter_of older) (renewed_at place past)))
 
 -- nothing stands at a cleared endpoint
 pub standing-clear : (lifetime at : ℕ) (endpoint : Tunnel) (past : List Change) (place : Place) → 0 < lifetime → same_endpoint place.endpoint endpoint ≡ true
@@ -119,8 +109,8 @@ nonempty-reverse (first ∷ later) = ap is_empty (reverse_onto later first []) �
 reported_by : (lifetime at : ℕ) (endpoint : Tunnel) (records : List Record) (past : List Change) (place : Place) (on : List Record) → 0 < lifetime
     → on ≡ on_group place.group records → same_endpoint place.endpoint endpoint ≡ true
     → standing lifetime (latest (Reported endpoint records at ∷ past)) (Reported endpoint records at ∷ past) place
-      ≡ (if is_empty on then standing lifetime (latest (Reported endpoint records at ∷ past)) past place
-        else kept_if_standing place (applied_all (filter_in (standing lifetime (latest (Reported endpoint records at ∷ past)) past place)) on) (latest (Reported endpoint records at ∷ past)))
+    ≡ (if is_empty on then standing lifetime (latest (Reported endpoint records at ∷ past)) past place
+    else kept_if_standing place (applied_all (filter_in (standing lifetime (latest (Reported endpoint records at ∷ past)) past place)) on) (latest (Reported endpoint records at ∷ past)))
 reported_by lifetime at endpoint records past place [] some is same =
     standing-other lifetime (latest (Reported endpoint records at ∷ past)) (Reported endpoint records at) past place (rw (same, sym is) refl)
 reported_by lifetime at endpoint records past place (first ∷ later) some is same =
@@ -131,7 +121,7 @@ reported_by lifetime at endpoint records past place (first ∷ later) some is sa
 pub standing-report : (lifetime at : ℕ) (endpoint : Tunnel) (records : List Record) (past : List Change) (place : Place) → 0 < lifetime
     → same_endpoint place.endpoint endpoint ≡ true
     → standing lifetime (latest (Reported endpoint records at ∷ past)) (Reported endpoint records at ∷ past) place
-      ≡ (if is_empty (on_group place.group records) then standing lifetime (latest (Reported endpoint records at ∷ past)) past place
-        else kept_if_standing place (applied_all (filter_in (standing lifetime (latest (Reported endpoint records at ∷ past)) past place)) (on_group place.group records)) (latest (Reported endpoint records at ∷ past)))
+    ≡ (if is_empty (on_group place.group records) then standing lifetime (latest (Reported endpoint records at ∷ past)) past place
+    else kept_if_standing place (applied_all (filter_in (standing lifetime (latest (Reported endpoint records at ∷ past)) past place)) (on_group place.group records)) (latest (Reported endpoint records at ∷ past)))
 standing-report lifetime at endpoint records past place some same =
     reported_by lifetime at endpoint records past place (on_group place.group records) some refl same

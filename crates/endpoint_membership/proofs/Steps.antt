@@ -20,14 +20,16 @@ use Rattle.source_filter.proofs.RisingLaws.{IsRising-filter}
 use Rattle.endpoint_membership.specs.declared.change.Change.{Change}
 use Rattle.endpoint_membership.specs.declared.change.Change.TheVariants.{Reported, Clear, Mark}
 use Rattle.endpoint_membership.specs.declared.kept.Kept.{Kept}
+use Rattle.endpoint_membership.specs.Kept.{is_besides, is_fresh, only}
 use Rattle.endpoint_membership.specs.Log.{latest, records_at}
+use Rattle.endpoint_membership.specs.Own.{AreOf}
 use Rattle.endpoint_membership.specs.Place.{Place, same_endpoint, same_group, same_place}
 use Rattle.endpoint_membership.specs.Rows.{kept_order, place_of, row_at, standing}
 use Rattle.endpoint_membership.specs.Table.{AreRows}
 use Rattle.endpoint_membership.proofs.ByLog.{GivesItsPlace-standing}
 use Rattle.endpoint_membership.proofs.Lookup.{row_at-append, row_at-filter}
 use Rattle.endpoint_membership.proofs.Places.{same_place-is}
-use Rattle.endpoint_membership.proofs.Standing.{is_fresh, only, standing-clear, standing-later, standing-other}
+use Rattle.endpoint_membership.proofs.Standing.{standing-clear, standing-later, standing-other}
 
 -- as time passes, the rows that are still fresh stand
 pub AreRows-later : (lifetime moment later : ℕ) (past : List Change) (rows : List Kept) → moment ≤ later → AreRows lifetime moment past rows
@@ -35,8 +37,8 @@ pub AreRows-later : (lifetime moment later : ℕ) (past : List Change) (rows : L
 AreRows-later lifetime moment later past rows onward are = record {
   rise = IsRising-filter kept_order (is_fresh lifetime later) rows are.rise;
   each = λ place. row_at-filter (is_fresh lifetime later) rows place are.rise
-    ∙ ap (only (is_fresh lifetime later)) (are.each place)
-    ∙ sym (standing-later lifetime moment later past place onward);
+      ∙ ap (only (is_fresh lifetime later)) (are.each place)
+      ∙ sym (standing-later lifetime moment later past place onward);
 }
 
 -- an entry that makes no record anywhere changes no row
@@ -44,10 +46,6 @@ pub AreRows-other : (lifetime moment : ℕ) (entry : Change) (past : List Change
     → AreRows lifetime moment past rows → AreRows lifetime moment (entry ∷ past) rows
 AreRows-other lifetime moment entry past rows none are =
     record { rise = are.rise; each = λ place. are.each place ∙ sym (standing-other lifetime moment entry past place (none place)) }
-
--- a row of another endpoint
-abbrev pub is_besides : Tunnel → Kept → Bool
-is_besides endpoint kept = not (same_endpoint kept.endpoint endpoint)
 
 either_way : (found : Option Kept) (here : Bool) → found ≡ cond here found found
 either_way found true = refl
@@ -75,9 +73,9 @@ AreRows-clear lifetime at endpoint past rows some are =
     let moment = latest (Clear endpoint at ∷ past) in record {
       rise = IsRising-filter kept_order (is_besides endpoint) rows are.rise;
       each = λ place. row_at-filter (is_besides endpoint) rows place are.rise
-        ∙ ap (only (is_besides endpoint)) (are.each place)
-        ∙ only_besides (standing lifetime moment past place) endpoint place (GivesItsPlace-standing lifetime moment past place)
-        ∙ cleared_by (same_endpoint place.endpoint endpoint) (standing lifetime moment past place) (standing lifetime moment (Clear endpoint at ∷ past) place)
+          ∙ ap (only (is_besides endpoint)) (are.each place)
+          ∙ only_besides (standing lifetime moment past place) endpoint place (GivesItsPlace-standing lifetime moment past place)
+          ∙ cleared_by (same_endpoint place.endpoint endpoint) (standing lifetime moment past place) (standing lifetime moment (Clear endpoint at ∷ past) place)
           (standing-clear lifetime at endpoint past place some)
           (λ apart. standing-other lifetime moment (Clear endpoint at) past place (rw apart refl));
     }
@@ -85,9 +83,6 @@ AreRows-clear lifetime at endpoint past rows some are =
 -- all rows are of endpoints before this one, of this one, or of later ones
 abbrev pub AreBefore : Tunnel → List Kept → Type 0
 AreBefore endpoint rows = AllByRecursion (λ kept. tunnel_order kept.endpoint endpoint ≡ Less) rows
-
-abbrev pub AreOf : Tunnel → List Kept → Type 0
-AreOf endpoint rows = AllByRecursion (λ kept. same_endpoint kept.endpoint endpoint ≡ true) rows
 
 abbrev pub AreBehind : Tunnel → List Kept → Type 0
 AreBehind endpoint rows = AllByRecursion (λ kept. tunnel_order endpoint kept.endpoint ≡ Less) rows
@@ -171,10 +166,11 @@ pub IsRising-three : (endpoint : Tunnel) (before own behind : List Kept) → IsR
     → AreBefore endpoint before → AreOf endpoint own → AreBehind endpoint behind → IsRising kept_order (before ++ (own ++ behind))
 unfolding IsStrictlySortedBy
 IsRising-three endpoint [] own behind first second third earlier of later = IsRising-of_behind endpoint own behind second third of later
-IsRising-three endpoint (kept ∷ before) own behind first second third earlier of later =
-    (both_all (λ other. kept_order kept other ≡ Less) before (own ++ behind) first.0
+IsRising-three endpoint (kept ∷ before) own behind first second third earlier of later = (
+  both_all (λ other. kept_order kept other ≡ Less) before (own ++ behind) first.0
       (both_all (λ other. kept_order kept other ≡ Less) own behind (before_of endpoint kept own earlier.0 of) (before_behind endpoint kept behind earlier.0 later)),
-    IsRising-three endpoint before own behind first.1 second third earlier.1 of later)
+  IsRising-three endpoint before own behind first.1 second third earlier.1 of later,
+)
 
 -- rows in three parts: of earlier endpoints, of this one, and of later ones
 pub record IsParted (endpoint : Tunnel) (rows before own behind : List Kept) : Type 0 where
@@ -202,8 +198,8 @@ row_at-others : (endpoint : Tunnel) (before own other behind : List Kept) (place
 row_at-others endpoint before own other behind place of others apart =
     row_at-append before (own ++ behind) place
     ∙ ap (option_or (row_at before place)) (row_at-append own behind place
-      ∙ ap (λ (found : Option Kept). option_or found (row_at behind place)) (row_at-of endpoint own place of apart ∙ sym (row_at-of endpoint other place others apart))
-      ∙ sym (row_at-append other behind place))
+    ∙ ap (λ (found : Option Kept). option_or found (row_at behind place)) (row_at-of endpoint own place of apart ∙ sym (row_at-of endpoint other place others apart))
+    ∙ sym (row_at-append other behind place))
     ∙ sym (row_at-append before (other ++ behind) place)
 
 -- a report replaces the endpoint's rows by what stands there then
@@ -211,22 +207,22 @@ pub AreRows-report : (lifetime moment at : ℕ) (endpoint : Tunnel) (records : L
     → moment ≤ latest (Reported endpoint records at ∷ past) → AreRows lifetime moment past rows
     → IsParted endpoint rows before own behind → IsRising kept_order replaced → AreOf endpoint replaced
     → ((place : Place) → same_endpoint place.endpoint endpoint ≡ true
-      → row_at replaced place ≡ standing lifetime (latest (Reported endpoint records at ∷ past)) (Reported endpoint records at ∷ past) place)
+    → row_at replaced place ≡ standing lifetime (latest (Reported endpoint records at ∷ past)) (Reported endpoint records at ∷ past) place)
     → AreRows lifetime (latest (Reported endpoint records at ∷ past)) (Reported endpoint records at ∷ past)
-      (filter (is_fresh lifetime (latest (Reported endpoint records at ∷ past))) (before ++ (replaced ++ behind)))
+    (filter (is_fresh lifetime (latest (Reported endpoint records at ∷ past))) (before ++ (replaced ++ behind)))
 AreRows-report lifetime moment at endpoint records past rows before own behind replaced onward are parted rises of each =
     let entry = Reported endpoint records at in
     let later = latest (entry ∷ past) in
     let whole = rw parted.whole at are.rise in
     let rise = IsRising-three endpoint before replaced behind (IsRising-front before (own ++ behind) whole) rises
-      (IsRising-back own behind (IsRising-back before (own ++ behind) whole)) parted.earlier of parted.later in record {
+    (IsRising-back own behind (IsRising-back before (own ++ behind) whole)) parted.earlier of parted.later in record {
       rise = IsRising-filter kept_order (is_fresh lifetime later) (before ++ (replaced ++ behind)) rise;
       each = λ place. row_at-filter (is_fresh lifetime later) (before ++ (replaced ++ behind)) place rise ∙ elim (cases_Bool (same_endpoint place.endpoint endpoint)) [
         | inl same ↦ ap (only (is_fresh lifetime later)) (row_at-three endpoint before replaced behind place parted.earlier parted.later same ∙ each place same)
-          ∙ sym (standing-later lifetime later later (entry ∷ past) place (omega arith))
+            ∙ sym (standing-later lifetime later later (entry ∷ past) place (omega arith))
         | inr apart ↦ ap (only (is_fresh lifetime later))
-          (row_at-others endpoint before replaced own behind place of parted.of apart ∙ ap (λ (all : List Kept). row_at all place) (sym parted.whole) ∙ are.each place)
-          ∙ sym (standing-later lifetime moment later past place onward)
-          ∙ sym (standing-other lifetime later entry past place (rw apart refl))
+            (row_at-others endpoint before replaced own behind place of parted.of apart ∙ ap (λ (all : List Kept). row_at all place) (sym parted.whole) ∙ are.each place)
+            ∙ sym (standing-later lifetime moment later past place onward)
+            ∙ sym (standing-other lifetime later entry past place (rw apart refl))
       ];
     }

@@ -15,17 +15,13 @@ use Rattle.source_filter.specs.declared.record.RecordKind.{RecordKind}
 use Rattle.source_filter.specs.declared.record.RecordKind.TheVariants.{IsIn, IsEx, ToIn, ToEx, Allow, Block}
 use Rattle.source_filter.proofs.Applied.{IsRising-applied, admits-applied, lists-rising}
 use Rattle.source_filter.proofs.RisingLaws.{IsRising-rising, has-append, has-difference, has-filter, has-union, same_rising}
+use Rattle.endpoint_membership.specs.Own.{applied_all}
 use Rattle.endpoint_membership.specs.Wishes.{admitted, counted_sources, excludes, is_counted, is_excluding, named, wish_of}
 
 -- the filter that records leave, newest first
 abbrev pub filter_of : List Record → FilterValue
 filter_of [] = nothing
 filter_of (newest ∷ older) = applied (filter_of older) newest
-
--- the filter after records, oldest first
-abbrev pub applied_all : FilterValue → List Record → FilterValue
-applied_all filter [] = filter
-applied_all filter (group_record ∷ later) = applied_all (applied filter group_record) later
 
 abbrev mode_by : Bool → Mode
 mode_by excluding = if excluding then Exclude else Include
@@ -97,7 +93,7 @@ lists-named [] source given = given
 lists-named (newest ∷ older) source given =
     has-append ip_order newest.sources (named older) source
     ∙ either_onward (lists newest.sources source) (lists (filter_of older).sources source) (lists (named older) source) (lists-named older source)
-      (from_either newest.kind (filter_of older).mode (filter_of older).sources newest.sources source given)
+    (from_either newest.kind (filter_of older).mode (filter_of older).sources newest.sources source given)
 
 within_by : (a b : Bool) → (b ≡ true → a ≡ true) → b ≡ (a && b)
 within_by a true within = rw (within refl) refl

@@ -9,8 +9,11 @@
 mod change;
 mod kept;
 mod limits;
+mod own;
 mod row;
+mod sweep;
 mod table;
+mod wish;
 
 pub use change::Change;
 pub use limits::{AcceptFault, LimitFault, Limits};
