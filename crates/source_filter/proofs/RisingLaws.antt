@@ -29,10 +29,10 @@ turned true false = refl
 turned false true = refl
 turned false false = refl
 
-tied : (o : Ordering) → is_eq o ≡ true → o ≡ Equal
-tied Less is = cc
-tied Equal is = refl
-tied Greater is = cc
+pub Equal-from_test : (o : Ordering) → is_eq o ≡ true → o ≡ Equal
+Equal-from_test Less is = cc
+Equal-from_test Equal is = refl
+Equal-from_test Greater is = cc
 
 module _ {K : Type 0} (order : K → K → Ordering) where
   pub has-append : (xs ys : List K) (s : K) → has order (xs ++ ys) s ≡ (has order xs s || has order ys s)
@@ -58,7 +58,7 @@ module _ {K : Type 0} (order : K → K → Ordering) where
 module _ {K : Type 0} {order : K → K → Ordering} where
   pub has-filter : CmpEqualImpliesEq order → (p : K → Bool) (xs : List K) (s : K) → has order (filter p xs) s ≡ (has order xs s && p s)
   has-filter exact p xs s =
-      any-filter_same (eq_by_cmp order s) p (p s) (λ k same. ap p (sym (exact s k (tied (order s k) same)))) xs
+      any-filter_same (eq_by_cmp order s) p (p s) (λ k same. ap p (sym (exact s k (Equal-from_test (order s k) same)))) xs
       ∙ turned (p s) (has order xs s)
 
   pub has-difference : CmpEqualImpliesEq order → (xs ys : List K) (s : K) → has order (difference order xs ys) s ≡ (has order xs s && not (has order ys s))

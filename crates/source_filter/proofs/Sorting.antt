@@ -6,7 +6,7 @@ use Rattle.std.specs.List.Retain.{IsFiltered, DiffersFromLast}
 use Rattle.std.specs.List.Sorted.{IsBinarySearchResult, IsSearchInRange}
 use Rattle.std.specs.Ordering.{is_eq, eq_by_cmp, ordering_reverse}
 use Rattle.std.specs.declared.cmp.Ordering.{Ordering}
-use Rattle.std.specs.declared.cmp.Ordering.TheVariants.{Less, Equal, Greater}
+use Rattle.std.specs.declared.cmp.Ordering.TheVariants.{Less, Greater}
 use Rattle.std.proofs.lemmas.Bool.{cases_lt}
 use Rattle.std.proofs.lemmas.Cmp.{alike_right, tied_back}
 use Rattle.std.proofs.lemmas.List.Filters.{dedup_is}
@@ -16,16 +16,11 @@ use Rattle.std.proofs.lemmas.List.Sorted.{list_any-IsPermutation, searchable_fro
 use Rattle.std.proofs.lemmas.Map.Keys.{Less-from_sorted}
 use Rattle.std.proofs.lemmas.Map.Lookups.{CmpEqualImpliesEq}
 use Rattle.source_filter.specs.Rising.{has, IsRising, rising}
-use Rattle.source_filter.proofs.RisingLaws.{has-rising, IsRising-rising, same_rising}
+use Rattle.source_filter.proofs.RisingLaws.{Equal-from_test, has-rising, IsRising-rising, same_rising}
 
 either_again : (a b c : Bool) → a ≡ b → (a || c) ≡ (a || (b || c))
 either_again true b c same = refl
 either_again false b c same = ap (λ t. t || c) same
-
-tied : (o : Ordering) → is_eq o ≡ true → o ≡ Equal
-tied Less is = cc
-tied Equal is = refl
-tied Greater is = cc
 
 module _ {K : Type 0} {order : K → K → Ordering} (total : IsTotalOrder order) where
   module _ {same : K → K → Bool} (ties : (x y : K) → same x y ≡ eq_by_cmp order x y) where
@@ -35,7 +30,7 @@ module _ {K : Type 0} {order : K → K → Ordering} (total : IsTotalOrder order
         → has order (cond b (dedup same (x ∷ rest)) (x ∷ dedup same (y ∷ rest))) s ≡ has order (x ∷ y ∷ rest) s
     has-dedup_by true x y rest s is one other =
         one ∙ either_again (eq_by_cmp order s x) (eq_by_cmp order s y) (has order rest s)
-        (ap is_eq (sym (alike_right total y x s (tied (order y x) (sym (ties y x) ∙ is)))))
+        (ap is_eq (sym (alike_right total y x s (Equal-from_test (order y x) (sym (ties y x) ∙ is)))))
     has-dedup_by false x y rest s is one other = ap (λ t. eq_by_cmp order s x || t) other
 
     has-dedup_from : (x : K) (xs : List K) (s : K) → has order (dedup same (x ∷ xs)) s ≡ has order (x ∷ xs) s

@@ -92,6 +92,7 @@ impl Filter {
         self.changed(alloc, change)
     }
 
+    // The table alone. What `apply` says besides follows from it, whichever cell it was.
     fn changed(&self, alloc: Global, change: &Record) -> Result<Filter, AllocError>
         ensures { IfOk result (λ after. after ≡ applied self.now change.now) }
     {
