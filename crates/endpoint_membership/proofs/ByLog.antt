@@ -28,7 +28,7 @@ use Rattle.endpoint_membership.proofs.Wishing.{filter_of}
 abbrev GivesItsPlace : (Place → Option Kept) → Type 0
 GivesItsPlace given = (place : Place) (kept : Kept) → given place ≡ Some kept → place_of kept ≡ place
 
-kept_by : (test : Bool) (one other : Kept) → cond test (Some one) None ≡ Some other → one ≡ other
+pub kept_by : (test : Bool) (one other : Kept) → cond test (Some one) None ≡ Some other → one ≡ other
 kept_by true one other same = ap (λ (found : Option Kept). unwrap_or found one) same
 kept_by false one other same = cc
 
@@ -48,7 +48,7 @@ or_none : (found : Option Kept) → option_or found None ≡ found
 or_none None = refl
 or_none (Some kept) = refl
 
-row_at-cons_option : (one : Option Kept) (rest : List Kept) (at place : Place) → ((kept : Kept) → one ≡ Some kept → place_of kept ≡ at)
+pub row_at-cons_option : (one : Option Kept) (rest : List Kept) (at place : Place) → ((kept : Kept) → one ≡ Some kept → place_of kept ≡ at)
     → row_at (cons_option one rest) place ≡ cond (same_place place at) (option_or one (row_at rest place)) (row_at rest place)
 row_at-cons_option None rest at place its = either_way (row_at rest place) (same_place place at)
 row_at-cons_option (Some kept) rest at place its =
@@ -69,7 +69,7 @@ row_at-filter_map given its (at ∷ places) place =
     ∙ ap (λ (later : Option Kept). cond (same_place place at) (option_or (given at) later) later) (row_at-filter_map given its places place)
     ∙ place_by (same_place place at) (has place_order places place) given at place (same_place-exact place at)
 
-AreAfter-cons_option : (place at : Place) (one : Option Kept) (rest : List Kept) → ((kept : Kept) → one ≡ Some kept → place_of kept ≡ at)
+pub AreAfter-cons_option : (place at : Place) (one : Option Kept) (rest : List Kept) → ((kept : Kept) → one ≡ Some kept → place_of kept ≡ at)
     → place_order place at ≡ Less → AreAfter place rest → AreAfter place (cons_option one rest)
 AreAfter-cons_option place at None rest its before after = after
 AreAfter-cons_option place at (Some kept) rest its before after = (ap (place_order place) (its kept refl) ∙ before, after)
@@ -80,7 +80,7 @@ AreAfter-filter_map given its place [] before = tt
 AreAfter-filter_map given its place (at ∷ places) before =
     AreAfter-cons_option place at (given at) (filter_map given places) (its at) before.0 (AreAfter-filter_map given its place places before.1)
 
-IsRising-cons_option : (at : Place) (one : Option Kept) (rest : List Kept) → ((kept : Kept) → one ≡ Some kept → place_of kept ≡ at) → AreAfter at rest → IsRising kept_order rest
+pub IsRising-cons_option : (at : Place) (one : Option Kept) (rest : List Kept) → ((kept : Kept) → one ≡ Some kept → place_of kept ≡ at) → AreAfter at rest → IsRising kept_order rest
     → IsRising kept_order (cons_option one rest)
 unfolding IsStrictlySortedBy
 IsRising-cons_option at None rest its after rises = rises

@@ -126,7 +126,7 @@ both_all : (P : Kept → Type 0) (xs ys : List Kept) → AllByRecursion P xs →
 both_all P [] ys first second = second
 both_all P (x ∷ xs) ys first second = (first.0, both_all P xs ys first.1 second)
 
-IsRising-front : (xs ys : List Kept) → IsRising kept_order (xs ++ ys) → IsRising kept_order xs
+pub IsRising-front : (xs ys : List Kept) → IsRising kept_order (xs ++ ys) → IsRising kept_order xs
 unfolding IsStrictlySortedBy
 IsRising-front [] ys rises = tt
 IsRising-front (x ∷ xs) ys rises = (front_of (λ kept. kept_order x kept ≡ Less) xs ys rises.0, IsRising-front xs ys rises.1)

@@ -1,4 +1,4 @@
-ghost use Rattle.std.specs.Prelude.{◌≡◌, ◌≤◌, [], ◌∷◌, IfOk, OnOk};
+ghost use Rattle.std.specs.Prelude.{◌≡◌, ◌≤◌, [], ◌∷◌, IfOk, OnOk, Some, if◌then◌else◌};
 ghost use Rattle.std.specs.BTreeMap.{BTreeMap as Map, get, IsOrdered};
 ghost use Rattle.std.specs.List.{filter_map};
 ghost use Rattle.amt_values.specs.declared.address.Ip.{Ip as Address};
@@ -6,6 +6,7 @@ ghost use Rattle.amt_values.specs.Order.{ip_order};
 ghost use Rattle.source_filter.specs.Rising.{IsRising};
 ghost use Rattle.endpoint_membership.specs.Kept.{is_fresh, only};
 ghost use Rattle.endpoint_membership.specs.Own.{AreOf, is_own, kept_wish, on_group, row_of_wish, wish_after_all, wish_in};
+ghost use Rattle.endpoint_membership.specs.Place.{same_group};
 ghost use Rattle.endpoint_membership.specs.Rows.{kept_order, row_at};
 
 use crate::kept::Kept;
@@ -20,6 +21,26 @@ fn is_own(kept: &Kept, endpoint: &Endpoint, moment: Moment, lifetime_ms: u64) ->
     ensures { result ≡ is_own lifetime_ms moment endpoint.now kept.now }
 {
     kept.is_of(endpoint) && kept.is_fresh(moment, lifetime_ms)
+}
+
+// Puts this wish in the place of the group's.
+fn set_wish(wishes: &mut BTreeMap<Ip, Wish>, group: Ip, wish: Wish) -> Result<(), AllocError>
+    ensures { OnOk result ((other : Address) → get ip_order wishes.new other
+        ≡ (if same_group group other then Some wish else get ip_order wishes.old other)) }
+{
+    match wishes.insert(group, wish) {
+        Ok(_) => Ok(()),
+        Err(_) => Err(AllocError),
+    }
+}
+
+fn wish_of(alloc: Global, kept: &Kept) -> Result<Wish, AllocError>
+    ensures { IfOk result (λ wish. wish_in (Some kept.now) ≡ Some wish) }
+{
+    Ok(Wish {
+        filter: copy_filter(alloc, &kept.filter)?,
+        renewed: kept.renewed,
+    })
 }
 
 // What the endpoint wants before a report.
@@ -38,11 +59,7 @@ fn wishes_before(
     let mut wishes = BTreeMap::new(alloc);
     for kept in rows {
         if is_own(kept, endpoint, moment, lifetime_ms) {
-            let wish = Wish {
-                filter: copy_filter(alloc, &kept.filter)?,
-                renewed: kept.renewed,
-            };
-            wishes.insert(kept.group, wish)?;
+            set_wish(&mut wishes, kept.group, wish_of(alloc, kept)?)?;
         }
     }
     Ok(wishes)
@@ -63,7 +80,7 @@ fn apply_record(
         filter,
         renewed: moment,
     };
-    wishes.insert(group_record.group, wish)?;
+    set_wish(wishes, group_record.group, wish)?;
     Ok(())
 }
 
@@ -126,5 +143,6 @@ pub fn own_rows(
 {
     let mut wishes = wishes_before(alloc, rows, endpoint, moment, lifetime_ms)?;
     apply_records(alloc, &mut wishes, records.as_slice(), moment)?;
-    rows_of_wishes(alloc, endpoint, wishes)
+    let own = rows_of_wishes(alloc, endpoint, wishes)?;
+    Ok(own)
 }
