@@ -5,6 +5,7 @@ pub mod Lookup
 pub mod Owned
 pub mod Parts
 pub mod Places
+pub mod Reported
 pub mod Standing
 pub mod Steps
 pub mod Wishing
