@@ -1,6 +1,7 @@
 pub mod ByLog
 pub mod Chains
 pub mod Drained
+pub mod Judged
 pub mod Lookup
 pub mod Owned
 pub mod Parts

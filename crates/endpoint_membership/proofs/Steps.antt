@@ -87,7 +87,7 @@ AreBefore endpoint rows = AllByRecursion (λ kept. tunnel_order kept.endpoint en
 abbrev pub AreBehind : Tunnel → List Kept → Type 0
 AreBehind endpoint rows = AllByRecursion (λ kept. tunnel_order endpoint kept.endpoint ≡ Less) rows
 
-same_back : (one other : Tunnel) → same_endpoint one other ≡ same_endpoint other one
+pub same_back : (one other : Tunnel) → same_endpoint one other ≡ same_endpoint other one
 same_back one other = (eq_by_cmp_equiv tunnel_order-total).symm one other
 
 pub same_endpoint-exact : (one other : Tunnel) → same_endpoint one other ≡ true → one ≡ other
