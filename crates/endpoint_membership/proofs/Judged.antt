@@ -110,7 +110,7 @@ wide-three limits endpoint records before own behind none of nothing =
     ∙ wide-own limits endpoint records own of
 
 -- counting live endpoints
-abbrev endpoints_of : List Kept → List Tunnel
+abbrev pub endpoints_of : List Kept → List Tunnel
 endpoints_of rows = map (λ (kept : Kept). kept.endpoint) rows
 
 has-none : (endpoint : Tunnel) (rows : List Kept) → AreNotOf endpoint rows → has tunnel_order (endpoints_of rows) endpoint ≡ false
@@ -142,7 +142,7 @@ longer_by Less one next others is apart more = omega arith
 longer_by Equal one next others is apart more = let same = ap is_eq is in absurd cc
 longer_by Greater one next others is apart more = omega (arith, more)
 
-length-placed_new : (one : Tunnel) (others : List Tunnel) → has tunnel_order others one ≡ false → length (placed tunnel_order one others) ≡ 1 + length others
+pub length-placed_new : (one : Tunnel) (others : List Tunnel) → has tunnel_order others one ≡ false → length (placed tunnel_order one others) ≡ 1 + length others
 length-placed_new one [] none = refl
 length-placed_new one (next ∷ others) none =
     let both = either_part (eq_by_cmp tunnel_order one next) (has tunnel_order others one) none in
@@ -159,8 +159,8 @@ endpoints-three before own behind one =
     ap (λ (all : List Tunnel). has tunnel_order all one) (map-append (λ (kept : Kept). kept.endpoint) before (own ++ behind))
     ∙ has-append tunnel_order (endpoints_of before) (endpoints_of (own ++ behind)) one
     ∙ ap (λ (more : Bool). has tunnel_order (endpoints_of before) one || more)
-      (ap (λ (all : List Tunnel). has tunnel_order all one) (map-append (λ (kept : Kept). kept.endpoint) own behind)
-      ∙ has-append tunnel_order (endpoints_of own) (endpoints_of behind) one)
+    (ap (λ (all : List Tunnel). has tunnel_order all one) (map-append (λ (kept : Kept). kept.endpoint) own behind)
+    ∙ has-append tunnel_order (endpoints_of own) (endpoints_of behind) one)
 
 endpoints-two : (before behind : List Kept) (one : Tunnel)
     → has tunnel_order (endpoints_of (before ++ behind)) one ≡ (has tunnel_order (endpoints_of before) one || has tunnel_order (endpoints_of behind) one)
@@ -181,13 +181,13 @@ live-three endpoint before (kept ∷ own) behind none of nothing =
     let others = endpoints_of (before ++ behind) in
     let all = endpoints_of (before ++ (kept ∷ own ++ behind)) in
     let placed_there = same_rising tunnel_order-total tunnel_order-exact (rising tunnel_order all) (placed tunnel_order endpoint (rising tunnel_order others))
-        (IsRising-rising tunnel_order-total all) (IsRising-placed tunnel_order-total endpoint (rising tunnel_order others) (IsRising-rising tunnel_order-total others))
-        (λ one. has-rising tunnel_order-total all one
-          ∙ endpoints-three before (kept ∷ own) behind one
-          ∙ ap (λ (test : Bool). has tunnel_order (endpoints_of before) one || (test || has tunnel_order (endpoints_of behind) one)) (has-own endpoint kept own one of)
-          ∙ swapped (has tunnel_order (endpoints_of before) one) (same_endpoint one endpoint) (has tunnel_order (endpoints_of behind) one)
-          ∙ sym (has-placed tunnel_order-total endpoint (rising tunnel_order others) one
-            ∙ ap (λ (test : Bool). same_endpoint one endpoint || test) (has-rising tunnel_order-total others one ∙ endpoints-two before behind one))) in
+    (IsRising-rising tunnel_order-total all) (IsRising-placed tunnel_order-total endpoint (rising tunnel_order others) (IsRising-rising tunnel_order-total others))
+    (λ one. has-rising tunnel_order-total all one
+    ∙ endpoints-three before (kept ∷ own) behind one
+    ∙ ap (λ (test : Bool). has tunnel_order (endpoints_of before) one || (test || has tunnel_order (endpoints_of behind) one)) (has-own endpoint kept own one of)
+    ∙ swapped (has tunnel_order (endpoints_of before) one) (same_endpoint one endpoint) (has tunnel_order (endpoints_of behind) one)
+    ∙ sym (has-placed tunnel_order-total endpoint (rising tunnel_order others) one
+    ∙ ap (λ (test : Bool). same_endpoint one endpoint || test) (has-rising tunnel_order-total others one ∙ endpoints-two before behind one))) in
     let longer = length-placed_new endpoint (rising tunnel_order others) (has-rising tunnel_order-total others endpoint ∙ both_none before behind endpoint none nothing) in
     let whole = ap (λ (tunnels : List Tunnel). length tunnels) placed_there in
     omega (arith, whole, longer)
@@ -217,15 +217,15 @@ others_are lifetime moment endpoint rows before own behind parts =
     let test = is_counted lifetime moment (Some endpoint) in
     ap (filter test) parts.whole ∙ filter-append test before (own ++ behind)
     ∙ ap (λ (rest : List Kept). filter test before ++ rest) (filter-append test own behind
-      ∙ ap (λ (none : List Kept). none ++ filter test behind) (counted_own lifetime moment endpoint own parts.of)
-      ∙ counted_before lifetime moment endpoint behind (AreNotOf-behind endpoint behind parts.later))
+    ∙ ap (λ (none : List Kept). none ++ filter test behind) (counted_own lifetime moment endpoint own parts.of)
+    ∙ counted_before lifetime moment endpoint behind (AreNotOf-behind endpoint behind parts.later))
     ∙ ap (λ (front : List Kept). front ++ filter (is_fresh lifetime moment) behind) (counted_before lifetime moment endpoint before (AreNotOf-before endpoint before parts.earlier))
 
 -- the limits that the rows pass, as the code judges them
 pub judged : (lifetime moment : ℕ) (limits : Limits) (endpoint : Tunnel) (records : List Record) (rows own : List Kept) → IsRising kept_order rows → AreOf endpoint own
     → filter (is_fresh lifetime moment) own ≡ own
     → first_limit limits endpoint records (filter (is_fresh lifetime moment) (earlier endpoint rows ++ (own ++ later endpoint rows)))
-      ≡ fault_by limits (length own) (live_count (filter (is_counted lifetime moment (Some endpoint)) rows) + (if is_empty own then 0 else 1)) (find (is_over limits.sources records) own)
+    ≡ fault_by limits (length own) (live_count (filter (is_counted lifetime moment (Some endpoint)) rows) + (if is_empty own then 0 else 1)) (find (is_over limits.sources records) own)
 judged lifetime moment limits endpoint records rows own rises of fresh =
     let parts = parted endpoint rows rises in
     let test = is_fresh lifetime moment in
@@ -234,12 +234,12 @@ judged lifetime moment limits endpoint records rows own rises of fresh =
     let none = AreNotOf-filter endpoint test (earlier endpoint rows) (AreNotOf-before endpoint (earlier endpoint rows) parts.earlier) in
     let nothing = AreNotOf-filter endpoint test (later endpoint rows) (AreNotOf-behind endpoint (later endpoint rows) parts.later) in
     let whole = filter-append test (earlier endpoint rows) (own ++ later endpoint rows)
-        ∙ ap (λ (rest : List Kept). before ++ rest) (filter-append test own (later endpoint rows) ∙ ap (λ (kept : List Kept). kept ++ behind) fresh) in
+    ∙ ap (λ (rest : List Kept). before ++ rest) (filter-append test own (later endpoint rows) ∙ ap (λ (kept : List Kept). kept ++ behind) fresh) in
     ap (first_limit limits endpoint records) whole
     ∙ ap (λ (found : Option Kept). fault_by limits (group_count endpoint (before ++ (own ++ behind))) (live_count (before ++ (own ++ behind))) found)
-      (wide-three limits endpoint records before own behind none of nothing)
+    (wide-three limits endpoint records before own behind none of nothing)
     ∙ ap (λ (groups : ℕ). fault_by limits groups (live_count (before ++ (own ++ behind))) (find (is_over limits.sources records) own))
-      (count-none endpoint before (own ++ behind) none ∙ count-own endpoint own behind of nothing)
+    (count-none endpoint before (own ++ behind) none ∙ count-own endpoint own behind of nothing)
     ∙ ap (λ (live : ℕ). fault_by limits (length own) live (find (is_over limits.sources records) own))
-      (live-three endpoint before own behind none of nothing
-      ∙ ap (λ (others : List Kept). live_count others + (if is_empty own then 0 else 1)) (sym (others_are lifetime moment endpoint rows (earlier endpoint rows) (filter (is_of endpoint) rows) (later endpoint rows) parts)))
+    (live-three endpoint before own behind none of nothing
+    ∙ ap (λ (others : List Kept). live_count others + (if is_empty own then 0 else 1)) (sym (others_are lifetime moment endpoint rows (earlier endpoint rows) (filter (is_of endpoint) rows) (later endpoint rows) parts)))

@@ -2,6 +2,7 @@ pub mod ByLog
 pub mod Chains
 pub mod Drained
 pub mod Judged
+pub mod Living
 pub mod Lookup
 pub mod Owned
 pub mod Parts

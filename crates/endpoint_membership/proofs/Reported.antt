@@ -52,7 +52,7 @@ wish_after_all-is moment first (second ∷ later) wish = wish_after_all-is momen
 
 row_by : (endpoint : Tunnel) (group : Ip) (moment : ℕ) (on : List Record) (filter : FilterValue) (renewed : ℕ) (found : Option Kept) → found ≡ kept_if_standing (place endpoint group) filter renewed
     → row_of_wish endpoint group (wish_after_all moment on (wish_in found))
-      ≡ (if is_empty on then found else kept_if_standing (place endpoint group) (applied_all (filter_in found) on) moment)
+    ≡ (if is_empty on then found else kept_if_standing (place endpoint group) (applied_all (filter_in found) on) moment)
 row_by endpoint group moment [] filter renewed found is =
     subst (λ (one : Option Kept). row_of_wish endpoint group (wish_in one) ≡ one) (sym is) (rewished endpoint group filter.mode filter.sources renewed)
 row_by endpoint group moment (first ∷ later) filter renewed found is =
@@ -63,8 +63,8 @@ row_by endpoint group moment (first ∷ later) filter renewed found is =
 pub own_stands : (lifetime moment at : ℕ) (endpoint : Tunnel) (records : List Record) (past : List Change) (rows : List Kept) (group : Ip) → 0 < lifetime
     → moment ≤ latest (Reported endpoint records at ∷ past) → AreRows lifetime moment past rows
     → row_of_wish endpoint group (wish_after_all (latest (Reported endpoint records at ∷ past)) (on_group group records)
-        (wish_in (only (is_fresh lifetime (latest (Reported endpoint records at ∷ past))) (row_at rows (place endpoint group)))))
-      ≡ standing lifetime (latest (Reported endpoint records at ∷ past)) (Reported endpoint records at ∷ past) (place endpoint group)
+    (wish_in (only (is_fresh lifetime (latest (Reported endpoint records at ∷ past))) (row_at rows (place endpoint group)))))
+    ≡ standing lifetime (latest (Reported endpoint records at ∷ past)) (Reported endpoint records at ∷ past) (place endpoint group)
 own_stands lifetime moment at endpoint records past rows group some onward are =
     let now = latest (Reported endpoint records at ∷ past) in
     let here = place endpoint group in
@@ -95,7 +95,7 @@ own_at lifetime moment at endpoint records past rows own some onward are owned h
 pub AreRows-reported : (lifetime moment at : ℕ) (endpoint : Tunnel) (records : List Record) (past : List Change) (rows own : List Kept) → 0 < lifetime
     → moment ≤ latest (Reported endpoint records at ∷ past) → AreRows lifetime moment past rows → AreOwn lifetime (latest (Reported endpoint records at ∷ past)) endpoint records rows own
     → AreRows lifetime (latest (Reported endpoint records at ∷ past)) (Reported endpoint records at ∷ past)
-      (filter (is_fresh lifetime (latest (Reported endpoint records at ∷ past))) (earlier endpoint rows ++ (own ++ later endpoint rows)))
+    (filter (is_fresh lifetime (latest (Reported endpoint records at ∷ past))) (earlier endpoint rows ++ (own ++ later endpoint rows)))
 AreRows-reported lifetime moment at endpoint records past rows own some onward are owned =
     AreRows-report lifetime moment at endpoint records past rows (earlier endpoint rows) (filter (is_of endpoint) rows) (later endpoint rows) own onward are
     (parted endpoint rows are.rise) owned.rises owned.of (own_at lifetime moment at endpoint records past rows own some onward are owned)
@@ -114,5 +114,5 @@ own_fresh lifetime moment at endpoint records past rows own some onward are owne
     let now = latest (Reported endpoint records at ∷ past) in
     same_rows (filter (is_fresh lifetime now) own) own (IsRising-filter kept_order (is_fresh lifetime now) own owned.rises) owned.rises
     (λ here. row_at-filter (is_fresh lifetime now) own here owned.rises
-      ∙ fresh_by (same_endpoint here.endpoint endpoint) lifetime now (Reported endpoint records at ∷ past) own here
-        (own_at lifetime moment at endpoint records past rows own some onward are owned here) (row_at-of endpoint own here owned.of))
+    ∙ fresh_by (same_endpoint here.endpoint endpoint) lifetime now (Reported endpoint records at ∷ past) own here
+    (own_at lifetime moment at endpoint records past rows own some onward are owned here) (row_at-of endpoint own here owned.of))
