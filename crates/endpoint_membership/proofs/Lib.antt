@@ -1,5 +1,6 @@
 pub mod ByLog
 pub mod Chains
+pub mod Counts
 pub mod Drained
 pub mod Lookup
 pub mod Owned
