@@ -1,18 +1,18 @@
 -- What holds of the row of each place holds of all rows; and how many sources and groups a report can bring.
-use Rattle.std.proofs.Common.{◌≡◌, ℕ, ◌+◌, ◌≤◌, Bool, true, false, cond, not, ◌&&◌, ◌||◌, List, [], ◌∷◌, ◌++◌, length, map, filter, Option, Some, None, is_some, sum_by, refl, sym, ap, ◌∙◌, subst, arith, length-append, length-map}
+use Rattle.std.proofs.Common.{◌≡◌, ◌+◌, ◌≤◌, Bool, true, false, cond, not, ◌&&◌, ◌||◌, List, [], ◌∷◌, ◌++◌, length, map, filter, Option, Some, None, is_some, sum_by, refl, sym, ap, ◌∙◌, subst, arith, length-append}
 use Rattle.std.specs.List.{AllByRecursion}
 use Rattle.std.specs.List.Sorted.{IsStrictlySortedBy}
 use Rattle.std.specs.Ordering.{is_eq}
 use Rattle.std.specs.declared.cmp.Ordering.TheVariants.{Less}
-use Rattle.std.proofs.lemmas.Bool.{cases_Bool}
 use Rattle.std.proofs.lemmas.Cmp.{eq_by_cmp_equiv, tied_itself}
+use Rattle.std.proofs.lemmas.List.{length-map}
 use Rattle.std.proofs.lemmas.List.Filters.{length-filter_both, sum_by-filter_both}
 use Rattle.std.proofs.lemmas.List.Sums.{length-filter, sum_by-cons}
 use Rattle.std.proofs.lemmas.Map.Keys.{IsDistinct-from_sorted, sorted_head, sorted_tail}
 use Rattle.std.proofs.lemmas.Map.Made.{length-le_from_is_member}
 use Rattle.std.proofs.lemmas.Map.Views.{tells_apart}
 use Rattle.amt_values.specs.declared.address.Ip.{Ip}
-use Rattle.amt_values.specs.Order.{ip_order, tunnel_order}
+use Rattle.amt_values.specs.Order.{ip_order}
 use Rattle.amt_values.specs.Tunnel.{Tunnel}
 use Rattle.amt_values.proofs.Orders.{ip_order-total, tunnel_order-exact, tunnel_order-total}
 use Rattle.source_filter.specs.Filter.{FilterValue, applied, sources_after}
@@ -21,7 +21,7 @@ use Rattle.source_filter.specs.declared.mode.Mode.{Mode}
 use Rattle.source_filter.specs.declared.mode.Mode.TheVariants.{Include, Exclude}
 use Rattle.source_filter.specs.declared.record.Record.{Record}
 use Rattle.source_filter.specs.declared.record.RecordKind.{RecordKind}
-use Rattle.source_filter.specs.declared.record.RecordKind.TheVariants.{IsIn, IsEx, ToIn, ToEx, Allow, Block}
+use Rattle.source_filter.specs.declared.record.RecordKind.TheVariants.{Allow, Block}
 use Rattle.source_filter.proofs.RisingLaws.{has-append, length-rising}
 use Rattle.endpoint_membership.specs.Limits.{group_count}
 use Rattle.endpoint_membership.specs.Own.{AreOf, applied_all, on_group}
@@ -105,9 +105,9 @@ is_some-row_at : (endpoint : Tunnel) (rows : List Kept) (group : Ip) → is_some
 is_some-row_at endpoint [] group = refl
 is_some-row_at endpoint (kept ∷ rest) group =
     ap (λ (test : Bool). is_some (cond test (Some kept) (row_at rest (at endpoint group))))
-      (same_place-is (at endpoint group) (place_of kept) ∙ ap (λ (test : Bool). test && same_group group kept.group) ((eq_by_cmp_equiv tunnel_order-total).symm endpoint kept.endpoint))
+    (same_place-is (at endpoint group) (place_of kept) ∙ ap (λ (test : Bool). test && same_group group kept.group) ((eq_by_cmp_equiv tunnel_order-total).symm endpoint kept.endpoint))
     ∙ found_by (same_endpoint kept.endpoint endpoint) (same_group group kept.group) kept (row_at rest (at endpoint group)) (filter (λ (one : Kept). same_endpoint one.endpoint endpoint) rest) group refl
-      (is_some-row_at endpoint rest group)
+    (is_some-row_at endpoint rest group)
 
 -- all rows of one endpoint: its groups are those of the rows, and rise with them
 groups_at-own : (endpoint : Tunnel) (own : List Kept) → AreOf endpoint own → groups_at endpoint own ≡ map (λ (kept : Kept). kept.group) own
@@ -147,9 +147,9 @@ few_groups endpoint records rows own first second of each =
     let reported = map (λ (one : Record). one.group) records in
     let groups = map (λ (kept : Kept). kept.group) own in
     let wide = length-le_from_is_member (eq_by_cmp_equiv ip_order-total) groups (groups_at endpoint rows ++ reported) (IsDistinct-from_sorted ip_order groups (IsRising-groups endpoint own of second))
-      (λ group listed.
-        given_by (has ip_order (groups_at endpoint rows ++ reported) group ≡ true) (row_at own (at endpoint group))
-        (is_some-row_at endpoint own group ∙ ap (λ (all : List Ip). has ip_order all group) (groups_at-own endpoint own of) ∙ listed)
-        (λ kept found. has-append ip_order (groups_at endpoint rows) reported group
-          ∙ listed_by (has ip_order reported group) (is_some (row_at rows (at endpoint group))) (has ip_order (groups_at endpoint rows) group) (each group kept found) (is_some-row_at endpoint rows group))) in
+    (λ group listed.
+    given_by (has ip_order (groups_at endpoint rows ++ reported) group ≡ true) (row_at own (at endpoint group))
+    (is_some-row_at endpoint own group ∙ ap (λ (all : List Ip). has ip_order all group) (groups_at-own endpoint own of) ∙ listed)
+    (λ kept found. has-append ip_order (groups_at endpoint rows) reported group
+    ∙ listed_by (has ip_order reported group) (is_some (row_at rows (at endpoint group))) (has ip_order (groups_at endpoint rows) group) (each group kept found) (is_some-row_at endpoint rows group))) in
     omega (arith, wide, length-append (groups_at endpoint rows) reported, length-groups_at endpoint rows, length-map own (λ (kept : Kept). kept.group), length-map records (λ (one : Record). one.group))

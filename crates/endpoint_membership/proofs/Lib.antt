@@ -1,3 +1,4 @@
+pub mod Bounds
 pub mod ByLog
 pub mod Chains
 pub mod Counts
