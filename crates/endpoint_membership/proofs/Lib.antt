@@ -10,3 +10,4 @@ pub mod Places
 pub mod Standing
 pub mod Steps
 pub mod Wishing
+pub mod Within
