@@ -1,5 +1,5 @@
--- What holds of the row of each place holds of all rows; and how many sources and groups a report can bring.
-use Rattle.std.proofs.Common.{◌≡◌, ◌+◌, ◌≤◌, Bool, true, false, cond, not, ◌&&◌, ◌||◌, List, [], ◌∷◌, ◌++◌, length, map, filter, Option, Some, None, is_some, sum_by, refl, sym, ap, ◌∙◌, subst, arith, length-append}
+-- What holds of each place's row holds of all rows; and how many sources and groups a report can bring.
+use Rattle.std.proofs.Common.{◌≡◌, ℕ, ◌+◌, ◌≤◌, Bool, true, false, cond, not, ◌&&◌, ◌||◌, List, [], ◌∷◌, ◌++◌, length, map, filter, Option, Some, None, is_some, sum_by, refl, sym, ap, ◌∙◌, subst, arith, length-append}
 use Rattle.std.specs.List.{AllByRecursion}
 use Rattle.std.specs.List.Sorted.{IsStrictlySortedBy}
 use Rattle.std.specs.Ordering.{is_eq}
@@ -41,7 +41,8 @@ found_more kept one rest place true same rises found =
     let none = ap (row_at rest) (same_place-exact place (place_of kept) same) ∙ row_at-after (place_of kept) rest (sorted_head kept_order kept rest rises) in cc
 found_more kept one rest place false same rises found = found
 
-pub All-from_row_at : (P : Kept → Type 0) (rows : List Kept) → IsRising kept_order rows → ((place : Place) (kept : Kept) → row_at rows place ≡ Some kept → P kept) → AllByRecursion P rows
+pub All-from_row_at : (P : Kept → Type 0) (rows : List Kept) → IsRising kept_order rows
+    → ((place : Place) (kept : Kept) → row_at rows place ≡ Some kept → P kept) → AllByRecursion P rows
 All-from_row_at P [] rises each = tt
 All-from_row_at P (kept ∷ rest) rises each = (
   each (place_of kept) kept (row_at-first kept rest),
@@ -63,7 +64,8 @@ length-union old listed = omega (arith, length-rising ip_order (old ++ listed), 
 
 length-difference : (old listed : List Ip) → length (filter (λ (source : Ip). not (has ip_order listed source)) old) ≤ length old + length listed
 length-difference old listed =
-    omega (arith, length-filter_both (λ (source : Ip). not (has ip_order listed source)) (λ (source : Ip). not (not (has ip_order listed source))) (λ (source : Ip). refl) old)
+    let lost = λ (source : Ip). not (has ip_order listed source) in
+    omega (arith, length-filter_both lost (λ (source : Ip). not (lost source)) (λ (source : Ip). refl) old)
 
 length-listed : (old listed : List Ip) → length (rising ip_order listed) ≤ length old + length listed
 length-listed old listed = omega (arith, length-rising ip_order listed)
@@ -76,54 +78,67 @@ length-sources_after Block Include old listed = length-difference old listed
 length-sources_after Block Exclude old listed = length-union old listed
 length-sources_after full mode old listed = length-listed old listed
 
-pub sources-applied_all : (filter : FilterValue) (records : List Record) → length (applied_all filter records).sources ≤ length filter.sources + sum_by (λ (one : Record). length one.sources) records
+abbrev width : Record → ℕ
+width one = length one.sources
+
+pub sources-applied_all : (filter : FilterValue) (records : List Record)
+    → length (applied_all filter records).sources ≤ length filter.sources + sum_by (λ (one : Record). length one.sources) records
 sources-applied_all filter [] = omega arith
 sources-applied_all filter (first ∷ later) =
-    omega (arith, length-sources_after first.kind filter.mode filter.sources first.sources, sources-applied_all (applied filter first) later, sum_by-cons (λ (one : Record). length one.sources) first later)
+    omega (arith, length-sources_after first.kind filter.mode filter.sources first.sources, sources-applied_all (applied filter first) later, sum_by-cons width first later)
 
-pub sum_by-on_group : (group : Ip) (records : List Record) → sum_by (λ (one : Record). length one.sources) (on_group group records) ≤ sum_by (λ (one : Record). length one.sources) records
+pub sum_by-on_group : (group : Ip) (records : List Record)
+    → sum_by (λ (one : Record). length one.sources) (on_group group records) ≤ sum_by (λ (one : Record). length one.sources) records
 sum_by-on_group group records =
-    omega (arith, sum_by-filter_both (λ (one : Record). same_group group one.group) (λ (one : Record). not (same_group group one.group)) (λ (one : Record). refl) (λ (one : Record). length one.sources) records)
+    let test = λ (one : Record). same_group group one.group in
+    omega (arith, sum_by-filter_both test (λ (one : Record). not (test one)) (λ (one : Record). refl) width records)
 
--- the groups that stand at an endpoint
-abbrev groups_at : Tunnel → List Kept → List Ip
-groups_at endpoint rows = map (λ kept. kept.group) (filter (λ kept. same_endpoint kept.endpoint endpoint) rows)
+abbrev groups_of : List Kept → List Ip
+groups_of rows = map (λ kept. kept.group) rows
 
-length-groups_at : (endpoint : Tunnel) (rows : List Kept) → length (groups_at endpoint rows) ≡ group_count endpoint rows
-length-groups_at endpoint rows = length-map (filter (λ (kept : Kept). same_endpoint kept.endpoint endpoint) rows) (λ (kept : Kept). kept.group) ∙ length-filter (λ (kept : Kept). same_endpoint kept.endpoint endpoint) rows
+-- the rows of an endpoint
+abbrev rows_at : Tunnel → List Kept → List Kept
+rows_at endpoint rows = filter (λ kept. same_endpoint kept.endpoint endpoint) rows
+
+length-groups : (endpoint : Tunnel) (rows : List Kept) → length (groups_of (rows_at endpoint rows)) ≡ group_count endpoint rows
+length-groups endpoint rows = length-map (rows_at endpoint rows) (λ (kept : Kept). kept.group) ∙ length-filter (λ (kept : Kept). same_endpoint kept.endpoint endpoint) rows
 
 abbrev at : Tunnel → Ip → Place
 at endpoint group = record { endpoint = endpoint; group = group }
 
-found_by : (here same : Bool) (kept : Kept) (later : Option Kept) (rest : List Kept) (group : Ip) → same_group group kept.group ≡ same → is_some later ≡ has ip_order (map (λ (one : Kept). one.group) rest) group
-    → is_some (cond (here && same) (Some kept) later) ≡ has ip_order (map (λ (one : Kept). one.group) (cond here (kept ∷ rest) rest)) group
+found_by : (here same : Bool) (kept : Kept) (later : Option Kept) (rest : List Kept) (group : Ip) → same_group group kept.group ≡ same → is_some later ≡ has ip_order (groups_of rest) group
+    → is_some (cond (here && same) (Some kept) later) ≡ has ip_order (groups_of (cond here (kept ∷ rest) rest)) group
 found_by true true kept later rest group is more = rw is refl
 found_by true false kept later rest group is more = rw is more
 found_by false same kept later rest group is more = more
 
-is_some-row_at : (endpoint : Tunnel) (rows : List Kept) (group : Ip) → is_some (row_at rows (at endpoint group)) ≡ has ip_order (groups_at endpoint rows) group
+same_turned : (endpoint : Tunnel) (group : Ip) (kept : Kept) → same_place (at endpoint group) (place_of kept) ≡ (same_endpoint kept.endpoint endpoint && same_group group kept.group)
+same_turned endpoint group kept = same_place-is (at endpoint group) (place_of kept)
+    ∙ ap (λ (test : Bool). test && same_group group kept.group) ((eq_by_cmp_equiv tunnel_order-total).symm endpoint kept.endpoint)
+
+-- a place has a row where its group is one of the endpoint's
+is_some-row_at : (endpoint : Tunnel) (rows : List Kept) (group : Ip) → is_some (row_at rows (at endpoint group)) ≡ has ip_order (groups_of (rows_at endpoint rows)) group
 is_some-row_at endpoint [] group = refl
 is_some-row_at endpoint (kept ∷ rest) group =
-    ap (λ (test : Bool). is_some (cond test (Some kept) (row_at rest (at endpoint group))))
-    (same_place-is (at endpoint group) (place_of kept) ∙ ap (λ (test : Bool). test && same_group group kept.group) ((eq_by_cmp_equiv tunnel_order-total).symm endpoint kept.endpoint))
-    ∙ found_by (same_endpoint kept.endpoint endpoint) (same_group group kept.group) kept (row_at rest (at endpoint group)) (filter (λ (one : Kept). same_endpoint one.endpoint endpoint) rest) group refl
-    (is_some-row_at endpoint rest group)
+    let later = row_at rest (at endpoint group) in
+    ap (λ (test : Bool). is_some (cond test (Some kept) later)) (same_turned endpoint group kept)
+    ∙ found_by (same_endpoint kept.endpoint endpoint) (same_group group kept.group) kept later (rows_at endpoint rest) group refl (is_some-row_at endpoint rest group)
 
--- all rows of one endpoint: its groups are those of the rows, and rise with them
-groups_at-own : (endpoint : Tunnel) (own : List Kept) → AreOf endpoint own → groups_at endpoint own ≡ map (λ (kept : Kept). kept.group) own
-groups_at-own endpoint [] of = refl
-groups_at-own endpoint (kept ∷ own) of = rw of.0 (ap (λ (groups : List Ip). kept.group ∷ groups) (groups_at-own endpoint own of.1))
+rows_at-own : (endpoint : Tunnel) (own : List Kept) → AreOf endpoint own → rows_at endpoint own ≡ own
+rows_at-own endpoint [] of = refl
+rows_at-own endpoint (kept ∷ own) of = rw of.0 (ap (λ (rest : List Kept). kept ∷ rest) (rows_at-own endpoint own of.1))
 
 by_group : (one other : Kept) → one.endpoint ≡ other.endpoint → kept_order one other ≡ ip_order one.group other.group
 by_group one other same = rw (same, tied_itself tunnel_order-total other.endpoint) refl
 
 above_group : (endpoint : Tunnel) (kept : Kept) (own : List Kept) → kept.endpoint ≡ endpoint → AreOf endpoint own → AllByRecursion (λ (later : Kept). kept_order kept later ≡ Less) own
-    → AllByRecursion (λ (group : Ip). ip_order kept.group group ≡ Less) (map (λ (later : Kept). later.group) own)
+    → AllByRecursion (λ (group : Ip). ip_order kept.group group ≡ Less) (groups_of own)
 above_group endpoint kept [] here of above = tt
 above_group endpoint kept (later ∷ own) here of above =
     (sym (by_group kept later (here ∙ sym (tells_apart tunnel_order-exact later.endpoint endpoint of.0))) ∙ above.0, above_group endpoint kept own here of.1 above.1)
 
-IsRising-groups : (endpoint : Tunnel) (own : List Kept) → AreOf endpoint own → IsRising kept_order own → IsRising ip_order (map (λ (kept : Kept). kept.group) own)
+-- the groups of an endpoint rise with its rows
+IsRising-groups : (endpoint : Tunnel) (own : List Kept) → AreOf endpoint own → IsRising kept_order own → IsRising ip_order (groups_of own)
 unfolding IsStrictlySortedBy
 IsRising-groups endpoint [] of rises = tt
 IsRising-groups endpoint (kept ∷ own) of rises =
@@ -138,18 +153,26 @@ listed_by true stood true some is = refl
 listed_by true stood false some is = refl
 listed_by false stood before some is = cc
 
--- a group that stands after a report stood before, or a record is on it
+-- a group of the rows after a report was one of the endpoint's, or a record is on it
+stood_or_reported : (endpoint : Tunnel) (records : List Record) (rows own : List Kept) → AreOf endpoint own
+    → ((group : Ip) (kept : Kept) → row_at own (at endpoint group) ≡ Some kept
+    → (has ip_order (map (λ (one : Record). one.group) records) group || is_some (row_at rows (at endpoint group))) ≡ true)
+    → (group : Ip) → has ip_order (groups_of own) group ≡ true → has ip_order (groups_of (rows_at endpoint rows) ++ map (λ (one : Record). one.group) records) group ≡ true
+stood_or_reported endpoint records rows own of each group stands =
+    let stood = groups_of (rows_at endpoint rows) in
+    let reported = map (λ (one : Record). one.group) records in
+    let found = is_some-row_at endpoint own group ∙ ap (λ (all : List Kept). has ip_order (groups_of all) group) (rows_at-own endpoint own of) ∙ stands in
+    given_by (has ip_order (stood ++ reported) group ≡ true) (row_at own (at endpoint group)) found (λ kept is. has-append ip_order stood reported group
+    ∙ listed_by (has ip_order reported group) (is_some (row_at rows (at endpoint group))) (has ip_order stood group) (each group kept is) (is_some-row_at endpoint rows group))
+
+-- a report brings at most a group for each record
 pub few_groups : (endpoint : Tunnel) (records : List Record) (rows own : List Kept) → IsRising kept_order rows → IsRising kept_order own → AreOf endpoint own
     → ((group : Ip) (kept : Kept) → row_at own (record { endpoint = endpoint; group = group }) ≡ Some kept
     → (has ip_order (map (λ (one : Record). one.group) records) group || is_some (row_at rows (record { endpoint = endpoint; group = group }))) ≡ true)
     → length own ≤ group_count endpoint rows + length records
 few_groups endpoint records rows own first second of each =
+    let stood = groups_of (rows_at endpoint rows) in
     let reported = map (λ (one : Record). one.group) records in
-    let groups = map (λ (kept : Kept). kept.group) own in
-    let wide = length-le_from_is_member (eq_by_cmp_equiv ip_order-total) groups (groups_at endpoint rows ++ reported) (IsDistinct-from_sorted ip_order groups (IsRising-groups endpoint own of second))
-    (λ group listed.
-    given_by (has ip_order (groups_at endpoint rows ++ reported) group ≡ true) (row_at own (at endpoint group))
-    (is_some-row_at endpoint own group ∙ ap (λ (all : List Ip). has ip_order all group) (groups_at-own endpoint own of) ∙ listed)
-    (λ kept found. has-append ip_order (groups_at endpoint rows) reported group
-    ∙ listed_by (has ip_order reported group) (is_some (row_at rows (at endpoint group))) (has ip_order (groups_at endpoint rows) group) (each group kept found) (is_some-row_at endpoint rows group))) in
-    omega (arith, wide, length-append (groups_at endpoint rows) reported, length-groups_at endpoint rows, length-map own (λ (kept : Kept). kept.group), length-map records (λ (one : Record). one.group))
+    let apart = IsDistinct-from_sorted ip_order (groups_of own) (IsRising-groups endpoint own of second) in
+    let fewer = length-le_from_is_member (eq_by_cmp_equiv ip_order-total) (groups_of own) (stood ++ reported) apart (stood_or_reported endpoint records rows own of each) in
+    omega (arith, fewer, length-append stood reported, length-groups endpoint rows, length-map own (λ (kept : Kept). kept.group), length-map records (λ (one : Record). one.group))

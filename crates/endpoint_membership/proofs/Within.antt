@@ -31,19 +31,19 @@ All-filter P test [] each = tt
 All-filter P test (kept ∷ rest) each = kept_all P (test kept) kept (filter test rest) each.0 (All-filter P test rest each.1)
 
 pub IsWithin-filter : (limits : Limits) (test : Kept → Bool) (rows : List Kept) → IsWithin limits rows → IsWithin limits (filter test rows)
-IsWithin-filter limits test rows within =
-    let live = within.endpoints in record {
-      endpoints = omega (arith, live_count-filter test rows);
-      groups = λ endpoint. omega (arith, within.groups endpoint, group_count-filter test endpoint rows);
-      sources = All-filter (λ (kept : Kept). size kept ≤ limits.sources) test rows within.sources;
-    }
+IsWithin-filter limits test rows within = record {
+  endpoints = omega (arith, within.endpoints, live_count-filter test rows);
+  groups = λ endpoint. omega (arith, within.groups endpoint, group_count-filter test endpoint rows);
+  sources = All-filter (λ (kept : Kept). size kept ≤ limits.sources) test rows within.sources;
+}
 
 none_wide : (limits : Limits) (endpoint : Tunnel) (records : List Record) (rows : List Kept) → AllByRecursion (λ kept. size kept ≤ limits.sources) rows
     → find (is_too_wide limits endpoint records) rows ≡ None
 none_wide limits endpoint records [] each = refl
 none_wide limits endpoint records (kept ∷ rest) each =
-    let narrow = and_right (same_endpoint kept.endpoint endpoint && list_any (λ (one : Record). same_group kept.group one.group) records) (ltb limits.sources (size kept)) (le-ltb limits.sources (size kept) each.0) in
-    rw narrow (none_wide limits endpoint records rest each.1)
+    let reported = same_endpoint kept.endpoint endpoint && list_any (λ (one : Record). same_group kept.group one.group) records in
+    let passes = and_right reported (ltb limits.sources (size kept)) (le-ltb limits.sources (size kept) each.0) in
+    rw passes (none_wide limits endpoint records rest each.1)
 
 -- rows within the limits pass none
 pub none_passed : (limits : Limits) (endpoint : Tunnel) (records : List Record) (rows : List Kept) → IsWithin limits rows → first_limit limits endpoint records rows ≡ None
@@ -51,7 +51,7 @@ none_passed limits endpoint records rows within =
     ap (fault_by limits (group_count endpoint rows) (live_count rows)) (none_wide limits endpoint records rows within.sources)
     ∙ rw (le-ltb limits.groups (group_count endpoint rows) (within.groups endpoint), le-ltb limits.endpoints (live_count rows) within.endpoints) refl
 
--- what it says that no limit is passed
+-- what is known of rows that pass no limit
 record PassesNone (limits : Limits) (groups endpoints : ℕ) (found : Option Kept) : Type 0 where
   none_wide : found ≡ None
   few_groups : groups ≤ limits.groups
@@ -71,11 +71,11 @@ passes_none limits endpoint records rows none =
     PassesNone_by limits (group_count endpoint rows) (live_count rows) (find (is_too_wide limits endpoint records) rows)
     (ltb limits.groups (group_count endpoint rows)) (ltb limits.endpoints (live_count rows)) refl refl none
 
--- none of the rows passes a test by which none is found
 fails_first : (here : Bool) (kept : Kept) (later : Option Kept) → cond here (Some kept) later ≡ None → (here ≡ false) × (later ≡ None)
 fails_first true kept later none = cc
 fails_first false kept later none = (refl, none)
 
+-- no row passes a test by which none is found
 All-fail : (test : Kept → Bool) (rows : List Kept) → find test rows ≡ None → AllByRecursion (λ kept. test kept ≡ false) rows
 All-fail test [] none = tt
 All-fail test (kept ∷ rest) none =
@@ -92,11 +92,11 @@ its_place [] place kept found = cc
 its_place (first ∷ rest) place kept found =
     its_by (same_place place (place_of first)) first kept (row_at rest place) place (same_place-exact place (place_of first)) (its_place rest place kept) found
 
--- where the group has a record, some record is on it
 on_first : (here : Bool) (one : Record) (some : List Record) (any : Bool) → (any ≡ false → some ≡ []) → (here || any) ≡ false → cond here (one ∷ some) some ≡ []
 on_first true one some any more none = cc
 on_first false one some any more none = more none
 
+-- a group on which no record is found has no records
 on_none : (group : Ip) (records : List Record) → list_any (λ one. same_group group one.group) records ≡ false → on_group group records ≡ []
 on_none group [] none = refl
 on_none group (first ∷ later) none =
@@ -164,7 +164,7 @@ narrow limits endpoint records rows after within none others silent place kept f
 pub IsWithin-report : (limits : Limits) (endpoint : Tunnel) (records : List Record) (rows after : List Kept) → IsRising kept_order rows → IsRising kept_order after
     → IsWithin limits rows → first_limit limits endpoint records after ≡ None
     → ((place : Place) → same_endpoint place.endpoint endpoint ≡ false → row_at after place ≡ row_at rows place)
-    → ((group : Ip) → on_group group records ≡ [] → row_at after (at endpoint group) ≡ row_at rows (at endpoint group))
+    → ((group : Ip) → on_group group records ≡ [] → row_at after (record { endpoint = endpoint; group = group }) ≡ row_at rows (record { endpoint = endpoint; group = group }))
     → IsWithin limits after
 IsWithin-report limits endpoint records rows after first second within none others silent =
     let passes = passes_none limits endpoint records after none in record {
