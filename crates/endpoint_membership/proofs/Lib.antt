@@ -1,5 +1,7 @@
+pub mod Bounds
 pub mod ByLog
 pub mod Chains
+pub mod Counts
 pub mod Drained
 pub mod Judged
 pub mod Living
@@ -11,3 +13,4 @@ pub mod Reported
 pub mod Standing
 pub mod Steps
 pub mod Wishing
+pub mod Within
