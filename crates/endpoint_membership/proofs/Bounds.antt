@@ -1,6 +1,6 @@
 -- What holds of each place's row holds of all rows; and how many sources and groups a report can bring.
-use Rattle.std.proofs.Common.{◌≡◌, ℕ, ◌+◌, ◌≤◌, Bool, true, false, cond, not, ◌&&◌, ◌||◌, List, [], ◌∷◌, ◌++◌, length, map, filter, Option, Some, None, is_some, sum_by, refl, sym, ap, ◌∙◌, subst, arith, length-append}
-use Rattle.std.specs.List.{AllByRecursion}
+use Rattle.std.proofs.Common.{◌≡◌, ℕ, ◌+◌, ◌≤◌, Bool, true, false, cond, not, ◌&&◌, ◌||◌, List, [], ◌∷◌, ◌++◌, length, map, filter, Option, Some, None, is_some, sum_by, unwrap_or, refl, sym, ap, ◌∙◌, subst, arith, length-append}
+use Rattle.std.specs.List.{AllByRecursion, find}
 use Rattle.std.specs.List.Sorted.{IsStrictlySortedBy}
 use Rattle.std.specs.Ordering.{is_eq}
 use Rattle.std.specs.declared.cmp.Ordering.TheVariants.{Less}
@@ -176,3 +176,12 @@ few_groups endpoint records rows own first second of each =
     let apart = IsDistinct-from_sorted ip_order (groups_of own) (IsRising-groups endpoint own of second) in
     let fewer = length-le_from_is_member (eq_by_cmp_equiv ip_order-total) (groups_of own) (stood ++ reported) apart (stood_or_reported endpoint records rows own of each) in
     omega (arith, fewer, length-append stood reported, length-groups endpoint rows, length-map own (λ (kept : Kept). kept.group), length-map records (λ (one : Record). one.group))
+
+found_here : (P : Kept → Type 0) (passes : Bool) (one kept : Kept) (later : Option Kept) → P one → (Some kept ≡ later → P kept) → Some kept ≡ cond passes (Some one) later → P kept
+found_here P true one kept later first rest found = subst P (sym (ap (λ (each : Option Kept). unwrap_or each one) found)) first
+found_here P false one kept later first rest found = rest found
+
+-- what holds of all rows holds of the one that is found
+pub All-find : (P : Kept → Type 0) (test : Kept → Bool) (rows : List Kept) (kept : Kept) → AllByRecursion P rows → Some kept ≡ find test rows → P kept
+All-find P test [] kept all found = cc
+All-find P test (one ∷ rest) kept all found = found_here P (test one) one kept (find test rest) all.0 (All-find P test rest kept all.1) found

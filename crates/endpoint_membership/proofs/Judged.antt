@@ -192,13 +192,12 @@ live-three endpoint before (kept ∷ own) behind none of nothing =
     let whole = ap (λ (tunnels : List Tunnel). length tunnels) placed_there in
     omega (arith, whole, longer)
 
-counted_by : (fresh same : Bool) (kept : Kept) (rest more : List Kept) → same ≡ false → rest ≡ more → cond (fresh && not same) (kept ∷ rest) rest ≡ cond fresh (kept ∷ more) more
+counted_by : (fresh same : Bool) (kept : Kept) (rest more : List Kept) → same ≡ false → rest ≡ more → cond (not same && fresh) (kept ∷ rest) rest ≡ cond fresh (kept ∷ more) more
 counted_by true same kept rest more is equal = rw is (ap (λ (all : List Kept). kept ∷ all) equal)
-counted_by false same kept rest more is equal = equal
+counted_by false same kept rest more is equal = rw is equal
 
-uncounted_by : (fresh same : Bool) (kept : Kept) (rest : List Kept) → same ≡ true → rest ≡ [] → cond (fresh && not same) (kept ∷ rest) rest ≡ []
-uncounted_by true same kept rest is none = rw is none
-uncounted_by false same kept rest is none = none
+uncounted_by : (fresh same : Bool) (kept : Kept) (rest : List Kept) → same ≡ true → rest ≡ [] → cond (not same && fresh) (kept ∷ rest) rest ≡ []
+uncounted_by fresh same kept rest is none = rw is none
 
 counted_before : (lifetime moment : ℕ) (endpoint : Tunnel) (rows : List Kept) → AreNotOf endpoint rows → filter (is_counted lifetime moment (Some endpoint)) rows ≡ filter (is_fresh lifetime moment) rows
 counted_before lifetime moment endpoint [] none = refl

@@ -3,6 +3,7 @@ pub mod ByLog
 pub mod Chains
 pub mod Counts
 pub mod Drained
+pub mod Held
 pub mod Judged
 pub mod Living
 pub mod Lookup

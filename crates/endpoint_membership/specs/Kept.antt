@@ -48,7 +48,7 @@ is_other None kept = true
 is_other (Some endpoint) kept = is_besides endpoint kept
 
 abbrev pub is_counted : ℕ → ℕ → Option Tunnel → Kept → Bool
-is_counted lifetime moment besides kept = is_fresh lifetime moment kept && is_other besides kept
+is_counted lifetime moment besides kept = is_other besides kept && is_fresh lifetime moment kept
 
 -- the endpoint of the last row
 abbrev pub last_of : List Kept → Option Tunnel

@@ -13,7 +13,7 @@ fn is_counted(kept: &Kept, besides: &Option<Endpoint>, moment: Moment, lifetime_
     ensures { result ≡ is_counted lifetime_ms moment besides.now kept.now }
 {
     match besides {
-        Some(endpoint) => kept.is_fresh(moment, lifetime_ms) && !kept.is_of(endpoint),
+        Some(endpoint) => !kept.is_of(endpoint) && kept.is_fresh(moment, lifetime_ms),
         None => kept.is_fresh(moment, lifetime_ms),
     }
 }

@@ -1,36 +1,105 @@
-ghost use Rattle.std.specs.Prelude.{◌≡◌, ◌≤◌, ◌<◌, [], ◌∷◌, ◌++◌, List, IfOk};
-ghost use Rattle.endpoint_membership.specs.Table.{Holds, Terms};
+ghost use Rattle.std.specs.Prelude.{◌≡◌, ◌≤◌, ◌+◌, [], ◌∷◌, ◌++◌, List, max, length, sum_by, IfOk, OnOk, OnErr, Err};
+ghost use Rattle.std.specs.Prelude.{map};
+ghost use Rattle.endpoint_membership.specs.Limits.{live_count};
+ghost use Rattle.endpoint_membership.specs.Log.{latest};
+ghost use Rattle.endpoint_membership.specs.Rows.{is_live, rows_of, standing_rows};
+ghost use Rattle.endpoint_membership.specs.Table.{Accepts, Holds, IsWithinLimits, Terms, item_count, standing_now};
+ghost use Rattle.endpoint_membership.specs.declared.change.Change.{Change as Entry};
+ghost use Rattle.endpoint_membership.specs.declared.change.Change.TheVariants.{Clear, Mark};
 
+use crate::judge::limit_passed;
 use crate::kept::Kept;
-use crate::limits::Limits;
-use amt_values::Moment;
+use crate::limits::{AcceptFault, LimitFault, Limits};
+use crate::live::count_live;
+use crate::own::own_rows;
+use crate::row::{Row, Rows};
+use crate::sweep::{drop_endpoint, is_live, purge, replace};
+use amt_values::{Endpoint, Moment};
+use source_filter::{Records, copy_filter};
 use std::alloc::{AllocError, Global};
 use std::marker::Model;
 
-/// The groups that stand at each endpoint of a relay.
+/// The groups that stand at each tunnel endpoint of a relay.
+///
+/// A group stands from an accepted record by which something is wanted of it until a lifetime has
+/// passed with no further record. Each call first moves the table to the later of its own moment
+/// and the one that it is given.
 #[derive(Debug, Drop)]
 pub struct Table {
     moment: Moment,
     limits: Limits,
     lifetime_ms: u64,
+    // By endpoint, then group.
     rows: Vec<Kept>,
 }
 
 impl Model for Table {
-    ghost use Rattle.std.specs.Prelude.{◌<◌, ◌≤◌};
-    ghost use Rattle.endpoint_membership.specs.Table.{TableValue};
+    ghost use Rattle.source_filter.specs.Rising.{IsRising};
+    ghost use Rattle.endpoint_membership.specs.Rows.{kept_order};
+    ghost use Rattle.endpoint_membership.specs.Table.{AreLawful, TableValue};
 
     ghost Value = { TableValue };
 
     ghost view = { λ t. record { moment = t.moment; limits = t.limits; lifetime = t.lifetime_ms; rows = t.rows.items } };
 
-    ghost invariant = { λ t. (0 < t.lifetime_ms) × (t.lifetime_ms ≤ 1000000000) };
+    ghost invariant = { λ t. AreLawful t.limits t.lifetime_ms × IsRising kept_order t.rows.items };
 }
 
 impl Table {
+    ghost use Rattle.endpoint_membership.specs.Table.{AreLawful};
+
+    /// An empty table at moment 0, with a lifetime in milliseconds.
+    pub fn new(alloc: Global, limits: Limits, lifetime_ms: u64) -> Result<Table, AllocError>
+        requires { AreLawful limits lifetime_ms }
+        ensures stands { IfOk result (λ table. Holds (record { limits = limits; lifetime = lifetime_ms }) table []) }
+        ensures within { IfOk result IsWithinLimits }
+    {
+        Ok(Table {
+            moment: Moment::new(0).unwrap(),
+            limits,
+            lifetime_ms,
+            rows: Vec::new(alloc),
+        })
+    }
+
+    /// The latest moment of all calls.
     pub fn now(&self) -> Moment
-        ensures { result ≡ self.now.moment }
+        ensures { (terms : Terms) (log : List Entry) → Holds terms self.now log → result ≡ latest log }
     {
         self.moment
+    }
+
+    /// Lets time pass: what was not renewed in time ends.
+    pub fn advance(&mut self, at: &Moment)
+        ensures stands { (terms : Terms) (log : List Entry) → Holds terms self.old log
+            → Holds terms self.new (log ++ Mark at.now ∷ []) }
+        ensures within { IsWithinLimits self.old → IsWithinLimits self.new }
+    {
+        self.moment = self.moment.later(at);
+        purge(&mut self.rows, self.moment, self.lifetime_ms);
+    }
+
+    /// Takes away the endpoint's groups; whether it was live.
+    pub fn clear(&mut self, endpoint: &Endpoint, at: &Moment) -> bool
+        ensures live { (terms : Terms) (log : List Entry) → Holds terms self.old log
+            → result ≡ is_live endpoint.now (standing_rows terms.lifetime (max at.now (latest log)) log) }
+        ensures stands { (terms : Terms) (log : List Entry) → Holds terms self.old log
+            → Holds terms self.new (log ++ Clear endpoint.now at.now ∷ []) }
+        ensures within { IsWithinLimits self.old → IsWithinLimits self.new }
+    {
+        self.moment = self.moment.later(at);
+        purge(&mut self.rows, self.moment, self.lifetime_ms);
+        let live = is_live(&self.rows, endpoint);
+        drop_endpoint(&mut self.rows, endpoint);
+        live
+    }
+
+    /// How many endpoints have some group that stands.
+    pub fn live_endpoints(&self) -> u32
+        requires { IsWithinLimits self.now }
+        ensures { (terms : Terms) (log : List Entry) → Holds terms self.now log
+            → result ≡ live_count (standing_now terms log) }
+    {
+        count_live(&self.rows, &None, self.moment, self.lifetime_ms) as u32
     }
 }
