@@ -8,6 +8,7 @@ pub mod Judged
 pub mod Living
 pub mod Lookup
 pub mod Owned
+pub mod Owning
 pub mod Parts
 pub mod Places
 pub mod Reported

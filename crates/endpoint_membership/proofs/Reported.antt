@@ -45,7 +45,7 @@ filter_wished-in None = refl
 filter_wished-in (Some kept) = refl
 
 -- records one by one leave the filter of them all, renewed
-wish_after_all-is : (moment : ℕ) (first : Record) (later : List Record) (wish : Option Wish)
+pub wish_after_all-is : (moment : ℕ) (first : Record) (later : List Record) (wish : Option Wish)
     → wish_after_all moment (first ∷ later) wish ≡ Some (record { filter = applied_all (filter_wished wish) (first ∷ later); renewed = moment })
 wish_after_all-is moment first [] wish = refl
 wish_after_all-is moment first (second ∷ later) wish = wish_after_all-is moment second later (wish_after moment first wish)

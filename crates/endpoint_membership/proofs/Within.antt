@@ -87,7 +87,7 @@ its_by true first kept later place same more found = let is : first ≡ kept = c
 its_by false first kept later place same more found = more found
 
 -- the row of a place is of the place
-its_place : (rows : List Kept) (place : Place) (kept : Kept) → row_at rows place ≡ Some kept → place ≡ place_of kept
+pub its_place : (rows : List Kept) (place : Place) (kept : Kept) → row_at rows place ≡ Some kept → place ≡ place_of kept
 its_place [] place kept found = cc
 its_place (first ∷ rest) place kept found =
     its_by (same_place place (place_of first)) first kept (row_at rest place) place (same_place-exact place (place_of first)) (its_place rest place kept) found
@@ -97,7 +97,7 @@ on_first true one some any more none = cc
 on_first false one some any more none = more none
 
 -- a group on which no record is found has no records
-on_none : (group : Ip) (records : List Record) → list_any (λ one. same_group group one.group) records ≡ false → on_group group records ≡ []
+pub on_none : (group : Ip) (records : List Record) → list_any (λ one. same_group group one.group) records ≡ false → on_group group records ≡ []
 on_none group [] none = refl
 on_none group (first ∷ later) none =
     on_first (same_group group first.group) first (on_group group later) (list_any (λ (one : Record). same_group group one.group) later) (on_none group later) none
@@ -139,18 +139,18 @@ narrow_by false reported wide first second none = cc
 -- a row that is found after a report has at most as many sources as allowed: it is an old one, or a reported one that isn't too wide
 narrow : (limits : Limits) (endpoint : Tunnel) (records : List Record) (rows after : List Kept) → IsWithin limits rows → find (is_too_wide limits endpoint records) after ≡ None
     → ((place : Place) → same_endpoint place.endpoint endpoint ≡ false → row_at after place ≡ row_at rows place)
-    → ((group : Ip) → on_group group records ≡ [] → row_at after (at endpoint group) ≡ row_at rows (at endpoint group))
+    → ((group : Ip) (kept : Kept) → on_group group records ≡ [] → row_at after (at endpoint group) ≡ Some kept → row_at rows (at endpoint group) ≡ Some kept)
     → (place : Place) (kept : Kept) → row_at after place ≡ Some kept → size kept ≤ limits.sources
 narrow limits endpoint records rows after within none others silent place kept found =
-    let old : row_at after place ≡ row_at rows place → size kept ≤ limits.sources =
-    λ same. All-at (λ (one : Kept). size one ≤ limits.sources) rows place kept within.sources (sym same ∙ found) in
+    let old : row_at rows place ≡ Some kept → size kept ≤ limits.sources =
+    λ there. All-at (λ (one : Kept). size one ≤ limits.sources) rows place kept within.sources there in
     let is = its_place after place kept found in
     elim (cases_Bool (same_endpoint place.endpoint endpoint)) [
-      | inr away ↦ old (others place away)
+      | inr away ↦ old (sym (others place away) ∙ found)
       | inl here ↦ elim (cases_Bool (list_any (λ (one : Record). same_group place.group one.group) records)) [
         | inr quiet ↦
             let made = at_endpoint endpoint place here in
-            old (ap (row_at after) made ∙ silent place.group (on_none place.group records quiet) ∙ sym (ap (row_at rows) made))
+            old (ap (row_at rows) made ∙ silent place.group kept (on_none place.group records quiet) (sym (ap (row_at after) made) ∙ found))
         | inl reported ↦
             let fails = All-at (λ (one : Kept). is_too_wide limits endpoint records one ≡ false) after place kept (All-fail (is_too_wide limits endpoint records) after none) found in
             ltb-false limits.sources (size kept)
@@ -164,7 +164,8 @@ narrow limits endpoint records rows after within none others silent place kept f
 pub IsWithin-report : (limits : Limits) (endpoint : Tunnel) (records : List Record) (rows after : List Kept) → IsRising kept_order rows → IsRising kept_order after
     → IsWithin limits rows → first_limit limits endpoint records after ≡ None
     → ((place : Place) → same_endpoint place.endpoint endpoint ≡ false → row_at after place ≡ row_at rows place)
-    → ((group : Ip) → on_group group records ≡ [] → row_at after (record { endpoint = endpoint; group = group }) ≡ row_at rows (record { endpoint = endpoint; group = group }))
+    → ((group : Ip) (kept : Kept) → on_group group records ≡ [] → row_at after (record { endpoint = endpoint; group = group }) ≡ Some kept
+        → row_at rows (record { endpoint = endpoint; group = group }) ≡ Some kept)
     → IsWithin limits after
 IsWithin-report limits endpoint records rows after first second within none others silent =
     let passes = passes_none limits endpoint records after none in record {
