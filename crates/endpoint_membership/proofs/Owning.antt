@@ -2,26 +2,33 @@
 use Rattle.std.proofs.Common.{◌≡◌, ℕ, ◌+◌, ◌≤◌, ◌<◌, ltb, Bool, true, false, cond, ◌&&◌, ◌||◌, List, [], ◌∷◌, ◌++◌, filter, length, map, Option, Some, None, is_some, sum_by, unwrap_or, refl, sym, ap, subst, ◌∙◌, arith, inl, inr}
 use Rattle.std.specs.List.{AllByRecursion, list_any}
 use Rattle.std.proofs.lemmas.Bool.{cases_Bool, lt-ltb}
+use Rattle.std.specs.Ordering.{is_eq}
+use Rattle.std.proofs.lemmas.Cmp.{tied_itself}
 use Rattle.std.proofs.lemmas.Map.Views.{tells_apart}
 use Rattle.amt_values.specs.declared.address.Ip.{Ip}
 use Rattle.amt_values.specs.Order.{ip_order}
 use Rattle.amt_values.specs.Tunnel.{Tunnel}
+use Rattle.amt_values.proofs.Orders.{tunnel_order-exact, tunnel_order-total}
 use Rattle.source_filter.specs.Filter.{FilterValue}
 use Rattle.source_filter.specs.Rising.{IsRising, has}
 use Rattle.source_filter.specs.declared.record.Record.{Record}
+use Rattle.source_filter.proofs.RisingLaws.{IsRising-filter}
 use Rattle.endpoint_membership.specs.declared.kept.Kept.{Kept}
 use Rattle.endpoint_membership.specs.declared.limits.Limits.{Limits}
 use Rattle.endpoint_membership.specs.declared.wish.Wish.{Wish}
-use Rattle.endpoint_membership.specs.Kept.{is_fresh, only}
-use Rattle.endpoint_membership.specs.Limits.{IsWithin, group_count, size}
+use Rattle.endpoint_membership.specs.Kept.{earlier, is_fresh, later, only}
+use Rattle.endpoint_membership.specs.Limits.{IsWithin, first_limit, group_count, size}
 use Rattle.endpoint_membership.specs.Own.{AreOf, applied_all, filter_wished, on_group, row_of_wish, wish_after_all, wish_in}
 use Rattle.endpoint_membership.specs.Place.{Place, same_endpoint, same_group}
 use Rattle.endpoint_membership.specs.Rows.{is_standing, kept_order, place_of, row_at}
 use Rattle.endpoint_membership.specs.Table.{item_count}
 use Rattle.endpoint_membership.proofs.Bounds.{All-at, All-from_row_at, few_groups, sources-applied_all, sum_by-on_group}
 use Rattle.endpoint_membership.proofs.ByLog.{kept_by}
+use Rattle.endpoint_membership.proofs.Lookup.{row_at-filter}
+use Rattle.endpoint_membership.proofs.Parts.{IsRising-replaced, is_of, parted}
 use Rattle.endpoint_membership.proofs.Reported.{AreOwn, wish_after_all-is}
-use Rattle.endpoint_membership.proofs.Within.{its_place, on_none}
+use Rattle.endpoint_membership.proofs.Steps.{row_at-others, row_at-three}
+use Rattle.endpoint_membership.proofs.Within.{IsWithin-filter, IsWithin-report, its_place, on_none}
 
 abbrev place : Tunnel → Ip → Place
 place endpoint group = record { endpoint = endpoint; group = group }
@@ -101,3 +108,82 @@ own_row : (lifetime moment : ℕ) (endpoint : Tunnel) (records : List Record) (r
     → row_at own (place endpoint group) ≡ Some kept → IsOwnRow lifetime moment endpoint records (only (is_fresh lifetime moment) (row_at rows (place endpoint group))) group kept
 own_row lifetime moment endpoint records rows own group kept some owned found =
     own_row_by lifetime moment endpoint records rows group kept (on_group group records) some refl (sym (owned.each group) ∙ found)
+
+abbrev pub replaced : ℕ → ℕ → Tunnel → List Kept → List Kept → List Kept
+replaced lifetime moment endpoint rows own = filter (is_fresh lifetime moment) (earlier endpoint rows ++ (own ++ later endpoint rows))
+
+own_place : (endpoint : Tunnel) (own : List Kept) (at : Place) (kept : Kept) → AreOf endpoint own → row_at own at ≡ Some kept → at ≡ place endpoint at.group
+own_place endpoint own at kept of found =
+    let here = its_place own at kept found in
+    let same = All-at (λ (one : Kept). same_endpoint one.endpoint endpoint ≡ true) own at kept of found in
+    ap (λ (one : Tunnel). place one at.group) (ap (λ (one : Place). one.endpoint) here ∙ tells_apart tunnel_order-exact kept.endpoint endpoint same)
+
+filter_all : (test : Kept → Bool) (rows : List Kept) → AllByRecursion (λ kept. test kept ≡ true) rows → filter test rows ≡ rows
+filter_all test [] each = refl
+filter_all test (kept ∷ rest) each = rw each.0 (ap (λ (more : List Kept). kept ∷ more) (filter_all test rest each.1))
+
+-- all of the endpoint's rows are fresh
+pub own_fresh : (lifetime moment : ℕ) (endpoint : Tunnel) (records : List Record) (rows own : List Kept) → 0 < lifetime → AreOwn lifetime moment endpoint records rows own
+    → filter (is_fresh lifetime moment) own ≡ own
+own_fresh lifetime moment endpoint records rows own some owned =
+    filter_all (is_fresh lifetime moment) own (All-from_row_at (λ (kept : Kept). is_fresh lifetime moment kept ≡ true) own owned.rises
+      (λ at kept found. (own_row lifetime moment endpoint records rows own at.group kept some owned (ap (row_at own) (sym (own_place endpoint own at kept owned.of found)) ∙ found)).fresh))
+
+wished_size : (limits : Limits) (test : Kept → Bool) (rows : List Kept) (at : Place) → IsWithin limits rows → (found : Option Kept) → found ≡ only test (row_at rows at)
+    → length (filter_wished (wish_in found)).sources ≤ limits.sources
+wished_size limits test rows at within None is = omega arith
+wished_size limits test rows at within (Some kept) is =
+    All-at (λ (one : Kept). size one ≤ limits.sources) rows at kept within.sources (only_found test (row_at rows at) kept (sym is))
+
+-- no row of the endpoint has more sources than an old one and the report together
+pub own_sizes : (limits : Limits) (lifetime moment : ℕ) (endpoint : Tunnel) (records : List Record) (rows own : List Kept) → 0 < lifetime → AreOwn lifetime moment endpoint records rows own
+    → IsWithin limits rows → AllByRecursion (λ kept. size kept ≤ limits.sources + item_count records) own
+own_sizes limits lifetime moment endpoint records rows own some owned within =
+    All-from_row_at (λ (kept : Kept). size kept ≤ limits.sources + item_count records) own owned.rises
+    (λ at kept found.
+      let test = is_fresh lifetime moment in
+      let here = place endpoint at.group in
+      let row = own_row lifetime moment endpoint records rows own at.group kept some owned (ap (row_at own) (sym (own_place endpoint own at kept owned.of found)) ∙ found) in
+      let before = wished_size limits test rows here within (only test (row_at rows here)) refl in
+      let added = sum_by-on_group at.group records in
+      let most = row.size in
+      omega arith)
+
+is_some-found : (found : Option Kept) (kept : Kept) → found ≡ Some kept → is_some found ≡ true
+is_some-found None kept found = cc
+is_some-found (Some one) kept found = refl
+
+has-groups : (records : List Record) (group : Ip) → has ip_order (map (λ (one : Record). one.group) records) group ≡ list_any (λ one. same_group group one.group) records
+has-groups [] group = refl
+has-groups (first ∷ later) group = ap (λ (more : Bool). same_group group first.group || more) (has-groups later group)
+
+reported_or_old : (reported : Bool) (old : Bool) → (reported ≡ false → old ≡ true) → (reported || old) ≡ true
+reported_or_old true old either = refl
+reported_or_old false old either = either refl
+
+-- each group of the endpoint stood before or is reported
+pub own_few : (lifetime moment : ℕ) (endpoint : Tunnel) (records : List Record) (rows own : List Kept) → 0 < lifetime → IsRising kept_order rows → AreOwn lifetime moment endpoint records rows own
+    → length own ≤ group_count endpoint rows + length records
+own_few lifetime moment endpoint records rows own some rises owned =
+    few_groups endpoint records rows own rises owned.rises owned.of
+    (λ group kept found. reported_or_old (has ip_order (map (λ (one : Record). one.group) records) group) (is_some (row_at rows (place endpoint group)))
+      (λ silent. is_some-found (row_at rows (place endpoint group)) kept (only_found (is_fresh lifetime moment) (row_at rows (place endpoint group)) kept
+        ((own_row lifetime moment endpoint records rows own group kept some owned found).old (on_none group records (sym (has-groups records group) ∙ silent))))))
+
+-- rows within the limits stay so by a report that passes none
+pub IsWithin-replaced : (limits : Limits) (lifetime moment : ℕ) (endpoint : Tunnel) (records : List Record) (rows own : List Kept) → 0 < lifetime → IsRising kept_order rows
+    → AreOwn lifetime moment endpoint records rows own → IsWithin limits rows → first_limit limits endpoint records (replaced lifetime moment endpoint rows own) ≡ None
+    → IsWithin limits (replaced lifetime moment endpoint rows own)
+IsWithin-replaced limits lifetime moment endpoint records rows own some rises owned within none =
+    let test = is_fresh lifetime moment in
+    let parts = parted endpoint rows rises in
+    let all = earlier endpoint rows ++ (own ++ later endpoint rows) in
+    let rise = IsRising-replaced endpoint rows own rises owned.rises owned.of in
+    IsWithin-report limits endpoint records (filter test rows) (filter test all) (IsRising-filter kept_order test rows rises) (IsRising-filter kept_order test all rise) (IsWithin-filter limits test rows within) none
+    (λ at apart. row_at-filter test all at rise
+      ∙ ap (only test) (row_at-others endpoint (earlier endpoint rows) own (filter (is_of endpoint) rows) (later endpoint rows) at owned.of parts.of apart ∙ ap (λ (whole : List Kept). row_at whole at) (sym parts.whole))
+      ∙ sym (row_at-filter test rows at rises))
+    (λ group kept silent found. row_at-filter test rows (place endpoint group) rises
+      ∙ (own_row lifetime moment endpoint records rows own group kept some owned
+        (sym (row_at-three endpoint (earlier endpoint rows) own (later endpoint rows) (place endpoint group) parts.earlier parts.later (ap is_eq (tied_itself tunnel_order-total endpoint)))
+        ∙ only_found test (row_at all (place endpoint group)) kept (sym (row_at-filter test all (place endpoint group) rise) ∙ found))).old silent)

@@ -99,20 +99,3 @@ pub AreRows-reported : (lifetime moment at : ℕ) (endpoint : Tunnel) (records :
 AreRows-reported lifetime moment at endpoint records past rows own some onward are owned =
     AreRows-report lifetime moment at endpoint records past rows (earlier endpoint rows) (filter (is_of endpoint) rows) (later endpoint rows) own onward are
     (parted endpoint rows are.rise) owned.rises owned.of (own_at lifetime moment at endpoint records past rows own some onward are owned)
-
-fresh_by : (same : Bool) (lifetime moment : ℕ) (past : List Change) (own : List Kept) (here : Place) → (same ≡ true → row_at own here ≡ standing lifetime moment past here) → (same ≡ false → row_at own here ≡ None)
-    → only (is_fresh lifetime moment) (row_at own here) ≡ row_at own here
-fresh_by true lifetime moment past own here stands none =
-    ap (only (is_fresh lifetime moment)) (stands refl) ∙ sym (standing-later lifetime moment moment past here (omega arith)) ∙ sym (stands refl)
-fresh_by false lifetime moment past own here stands none = ap (only (is_fresh lifetime moment)) (none refl) ∙ sym (none refl)
-
--- all of them are fresh
-pub own_fresh : (lifetime moment at : ℕ) (endpoint : Tunnel) (records : List Record) (past : List Change) (rows own : List Kept) → 0 < lifetime
-    → moment ≤ latest (Reported endpoint records at ∷ past) → AreRows lifetime moment past rows → AreOwn lifetime (latest (Reported endpoint records at ∷ past)) endpoint records rows own
-    → filter (is_fresh lifetime (latest (Reported endpoint records at ∷ past))) own ≡ own
-own_fresh lifetime moment at endpoint records past rows own some onward are owned =
-    let now = latest (Reported endpoint records at ∷ past) in
-    same_rows (filter (is_fresh lifetime now) own) own (IsRising-filter kept_order (is_fresh lifetime now) own owned.rises) owned.rises
-    (λ here. row_at-filter (is_fresh lifetime now) own here owned.rises
-    ∙ fresh_by (same_endpoint here.endpoint endpoint) lifetime now (Reported endpoint records at ∷ past) own here
-    (own_at lifetime moment at endpoint records past rows own some onward are owned here) (row_at-of endpoint own here owned.of))
