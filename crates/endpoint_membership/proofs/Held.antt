@@ -4,15 +4,19 @@ use Rattle.std.specs.List.Sorted.{IsStrictlySortedBy}
 use Rattle.std.proofs.lemmas.List.{reverse-append}
 use Rattle.amt_values.specs.Tunnel.{Tunnel}
 use Rattle.source_filter.specs.Rising.{IsRising}
+use Rattle.source_filter.specs.declared.record.Record.{Record}
 use Rattle.endpoint_membership.specs.declared.change.Change.{Change}
 use Rattle.endpoint_membership.specs.declared.change.Change.TheVariants.{Reported, Clear, Mark}
 use Rattle.endpoint_membership.specs.declared.kept.Kept.{Kept}
 use Rattle.endpoint_membership.specs.declared.limits.Limits.{Limits}
 use Rattle.endpoint_membership.specs.Kept.{is_besides, is_counted, is_fresh}
+use Rattle.endpoint_membership.specs.Limits.{first_limit}
 use Rattle.endpoint_membership.specs.Log.{brought, latest}
 use Rattle.endpoint_membership.specs.Rows.{kept_order, standing_rows}
-use Rattle.endpoint_membership.specs.Table.{AreRows, Holds, TableValue, Terms, standing_now}
+use Rattle.endpoint_membership.specs.Table.{AreRows, Holds, TableValue, Terms, limit_passed, standing_now}
 use Rattle.endpoint_membership.proofs.ByLog.{rows_are}
+use Rattle.endpoint_membership.proofs.Owning.{replaced}
+use Rattle.endpoint_membership.proofs.Reported.{AreOwn, AreRows-reported}
 use Rattle.endpoint_membership.proofs.Steps.{AreRows-clear, AreRows-later, AreRows-other}
 
 latest-append : (xs ys : List Change) → latest (xs ++ ys) ≡ max (latest xs) (latest ys)
@@ -52,7 +56,7 @@ held terms table log entry moment rows holds is are =
       lifetime = holds.lifetime;
       moment = omega arith;
       rows = subst (λ (at : ℕ). AreRows terms.lifetime at (reverse (log ++ entry ∷ [])) rows) now
-        (subst (λ (past : List Change). AreRows terms.lifetime (latest (entry ∷ reverse log)) past rows) (sym (reverse-push log entry)) are);
+          (subst (λ (past : List Change). AreRows terms.lifetime (latest (entry ∷ reverse log)) past rows) (sym (reverse-push log entry)) are);
     }
 
 -- the rows that are fresh at a later moment
@@ -64,7 +68,7 @@ fresh_rows terms table log entry moment holds is =
     let now : latest (entry ∷ reverse log) ≡ moment = omega arith in
     subst (λ (lifetime : ℕ). AreRows terms.lifetime (latest (entry ∷ reverse log)) (reverse log) (filter (is_fresh lifetime moment) table.rows)) (sym holds.lifetime)
     (subst (λ (at : ℕ). AreRows terms.lifetime (latest (entry ∷ reverse log)) (reverse log) (filter (is_fresh terms.lifetime at) table.rows)) now
-      (AreRows-later terms.lifetime (latest log) (latest (entry ∷ reverse log)) (reverse log) table.rows (omega arith) holds.rows))
+    (AreRows-later terms.lifetime (latest log) (latest (entry ∷ reverse log)) (reverse log) table.rows (omega arith) holds.rows))
 
 -- time passes
 pub Holds-mark : (terms : Terms) (table : TableValue) (log : List Change) (at moment : ℕ) (rows : List Kept) → moment ≡ max table.moment at → rows ≡ filter (is_fresh table.lifetime moment) table.rows
@@ -72,7 +76,7 @@ pub Holds-mark : (terms : Terms) (table : TableValue) (log : List Change) (at mo
 Holds-mark terms table log at moment rows is fresh holds =
     held terms table log (Mark at) moment rows holds is
     (AreRows-other terms.lifetime (latest (Mark at ∷ reverse log)) (Mark at) (reverse log) rows (λ place. refl)
-      (subst (AreRows terms.lifetime (latest (Mark at ∷ reverse log)) (reverse log)) (sym fresh) (fresh_rows terms table log (Mark at) moment holds is)))
+    (subst (AreRows terms.lifetime (latest (Mark at ∷ reverse log)) (reverse log)) (sym fresh) (fresh_rows terms table log (Mark at) moment holds is)))
 
 -- an endpoint leaves every group
 pub Holds-clear : (terms : Terms) (table : TableValue) (log : List Change) (endpoint : Tunnel) (at moment : ℕ) (fresh rows : List Kept) → 0 < table.lifetime → moment ≡ max table.moment at
@@ -104,3 +108,29 @@ rows_now terms table log holds =
 pub IsRising-none : IsRising kept_order []
 unfolding IsStrictlySortedBy
 IsRising-none = tt
+
+-- a report, with the rows that its records leave in the place of the endpoint's
+pub Holds-report : (terms : Terms) (table : TableValue) (log : List Change) (endpoint : Tunnel) (records : List Record) (at moment : ℕ) (own rows : List Kept) → 0 < table.lifetime
+    → moment ≡ max table.moment at → AreOwn table.lifetime moment endpoint records table.rows own → rows ≡ replaced table.lifetime moment endpoint table.rows own
+    → Holds terms table log → Holds terms (table_of moment table.limits table.lifetime rows) (log ++ Reported endpoint records at ∷ [])
+Holds-report terms table log endpoint records at moment own rows some is owned put holds =
+    let entry = Reported endpoint records at in
+    let past = reverse log in
+    let turned = latest-reverse log in
+    let same = holds.moment in
+    let long = holds.lifetime in
+    let now : moment ≡ latest (entry ∷ past) = omega arith in
+    let owned_here = subst (λ (lifetime : ℕ). AreOwn lifetime (latest (entry ∷ past)) endpoint records table.rows own) long
+      (subst (λ (later : ℕ). AreOwn table.lifetime later endpoint records table.rows own) now owned) in
+    let put_here = put ∙ ap (λ (lifetime : ℕ). replaced lifetime moment endpoint table.rows own) long ∙ ap (λ (later : ℕ). replaced terms.lifetime later endpoint table.rows own) now in
+    held terms table log entry moment rows holds is
+    (subst (AreRows terms.lifetime (latest (entry ∷ past)) (entry ∷ past)) (sym put_here)
+      (AreRows-reported terms.lifetime (latest log) at endpoint records past table.rows own (omega arith) (omega arith) holds.rows owned_here))
+
+-- the limit that a report passes is judged by the rows that stand with it
+pub passed_is : (terms : Terms) (table : TableValue) (log : List Change) (endpoint : Tunnel) (records : List Record) (at : ℕ) → Holds terms table (log ++ Reported endpoint records at ∷ [])
+    → limit_passed terms log endpoint records at ≡ first_limit table.limits endpoint records table.rows
+passed_is terms table log endpoint records at holds =
+    let entries = log ++ Reported endpoint records at ∷ [] in
+    ap (first_limit terms.limits endpoint records) (sym (rows_are terms.lifetime (latest entries) entries table.rows holds.rows))
+    ∙ ap (λ (limits : Limits). first_limit limits endpoint records table.rows) (sym holds.limits)

@@ -165,7 +165,7 @@ pub IsWithin-report : (limits : Limits) (endpoint : Tunnel) (records : List Reco
     → IsWithin limits rows → first_limit limits endpoint records after ≡ None
     → ((place : Place) → same_endpoint place.endpoint endpoint ≡ false → row_at after place ≡ row_at rows place)
     → ((group : Ip) (kept : Kept) → on_group group records ≡ [] → row_at after (record { endpoint = endpoint; group = group }) ≡ Some kept
-        → row_at rows (record { endpoint = endpoint; group = group }) ≡ Some kept)
+    → row_at rows (record { endpoint = endpoint; group = group }) ≡ Some kept)
     → IsWithin limits after
 IsWithin-report limits endpoint records rows after first second within none others silent =
     let passes = passes_none limits endpoint records after none in record {

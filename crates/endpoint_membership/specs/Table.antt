@@ -1,5 +1,5 @@
 -- What a membership table stands for.
-use Rattle.std.specs.Prelude.{◌≡◌, ℕ, ◌+◌, ◌≤◌, ◌++◌, ◌∷◌, [], List, length, sum_by, Option, Some, None, Result, Ok, Err, reverse}
+use Rattle.std.specs.Prelude.{◌≡◌, ℕ, ◌+◌, ◌≤◌, ◌++◌, ◌∷◌, [], List, length, sum_by, Option, Result, Ok, Err, reverse}
 use Rattle.amt_values.specs.Tunnel.{Tunnel}
 use Rattle.source_filter.specs.Rising.{IsRising}
 use Rattle.source_filter.specs.declared.record.Record.{Record}
@@ -8,7 +8,7 @@ use Rattle.endpoint_membership.specs.Log.{latest}
 use Rattle.endpoint_membership.specs.Place.{Place}
 use Rattle.endpoint_membership.specs.Rows.{kept_order, row_at, standing, standing_rows}
 use Rattle.endpoint_membership.specs.declared.change.Change.{Change}
-use Rattle.endpoint_membership.specs.declared.change.Change.TheVariants.{Reported, Mark}
+use Rattle.endpoint_membership.specs.declared.change.Change.TheVariants.{Reported}
 use Rattle.endpoint_membership.specs.declared.kept.Kept.{Kept}
 use Rattle.endpoint_membership.specs.declared.limits.AcceptFault.{AcceptFault}
 use Rattle.endpoint_membership.specs.declared.limits.AcceptFault.TheVariants.{Limit, Memory}
@@ -64,13 +64,13 @@ abbrev pub limit_passed : Terms → List Change → Tunnel → List Record → �
 limit_passed terms log endpoint records at =
     first_limit terms.limits endpoint records (standing_now terms (log ++ Reported endpoint records at ∷ []))
 
--- a report is accepted whole where it passes no limit, and refused whole with the first that it
--- passes; after want of memory nothing has changed
-abbrev pub Accepts : TableValue → Tunnel → List Record → ℕ → Result (Unit {0}) AcceptFault → TableValue → Type 0
-Accepts old endpoint records at (Ok done) new =
-    (terms : Terms) (log : List Change) → Holds terms old log
-    → (limit_passed terms log endpoint records at ≡ None) × Holds terms new (log ++ Reported endpoint records at ∷ [])
-Accepts old endpoint records at (Err (Limit fault)) new =
-    (terms : Terms) (log : List Change) → Holds terms old log
-    → (limit_passed terms log endpoint records at ≡ Some fault) × Holds terms new (log ++ Mark at ∷ [])
-Accepts old endpoint records at (Err Memory) new = new ≡ old
+-- what holds where a report was refused by a limit, and where memory was wanted
+abbrev pub OnLimit : Result (Unit {0}) AcceptFault → (LimitFault → Type 0) → Type 0
+OnLimit (Ok done) P = Unit {0}
+OnLimit (Err (Limit fault)) P = P fault
+OnLimit (Err Memory) P = Unit {0}
+
+abbrev pub OnMemory : Result (Unit {0}) AcceptFault → Type 0 → Type 0
+OnMemory (Ok done) P = Unit {0}
+OnMemory (Err (Limit fault)) P = Unit {0}
+OnMemory (Err Memory) P = P

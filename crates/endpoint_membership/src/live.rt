@@ -27,7 +27,7 @@ fn ends_with(last: &Option<Endpoint>, endpoint: &Endpoint) -> bool
     }
 }
 
-fn one_unless(seen: bool) -> usize
+pub fn one_unless(seen: bool) -> usize
     ensures value { result ≡ (if seen then 0 else 1) }
     ensures most { result ≤ 1 }
 {

@@ -12,9 +12,11 @@ use Rattle.endpoint_membership.proofs.Within.{IsWithin-filter}
 use Rattle.endpoint_membership.proofs.table.Table.advance.Goals as goal
 
 pub invariant_of-self : goal.invariant_of-self
-invariant_of-self c =
-    (c.self.invariant.0, subst (IsRising kept_order) (sym c.purge.ensures)
-      (IsRising-filter kept_order (is_fresh c.self.inside.lifetime_ms c.later-self-inside.result) c.self.inside.rows.items c.self.invariant.1))
+invariant_of-self c = (
+  c.self.invariant.0,
+  subst (IsRising kept_order) (sym c.purge.ensures)
+      (IsRising-filter kept_order (is_fresh c.self.inside.lifetime_ms c.later-self-inside.result) c.self.inside.rows.items c.self.invariant.1),
+)
 
 pub returns-clause-stands : goal.returns-clause-stands
 returns-clause-stands c terms log holds =

@@ -14,14 +14,14 @@ use Rattle.endpoint_membership.proofs.table.Table.clear.Goals as goal
 pub invariant_of-self : goal.invariant_of-self
 invariant_of-self c =
     let fresh = subst (IsRising kept_order) (sym c.purge.ensures)
-      (IsRising-filter kept_order (is_fresh c.self.inside.lifetime_ms c.later-self-inside.result) c.self.inside.rows.items c.self.invariant.1) in
+    (IsRising-filter kept_order (is_fresh c.self.inside.lifetime_ms c.later-self-inside.result) c.self.inside.rows.items c.self.invariant.1) in
     (c.self.invariant.0, subst (IsRising kept_order) (sym c.drop_endpoint.ensures) (IsRising-filter kept_order (is_besides c.args.endpoint.now) c.purge.new.rows.items fresh))
 
 pub returns-clause-live : goal.returns-clause-live
 returns-clause-live c terms log holds =
     let inside = subst (λ (table : TableValue). Holds terms table log) (sym c.self.view_is) holds in
     c.is_live-live.ensures ∙ ap (is_live c.args.endpoint.now) (c.deref.ensures.value ∙ c.purge.ensures
-      ∙ fresh_are terms _ log c.args.at.now c.later-self-inside.result c.later-self-inside.ensures inside)
+    ∙ fresh_are terms _ log c.args.at.now c.later-self-inside.result c.later-self-inside.ensures inside)
 
 pub returns-clause-stands : goal.returns-clause-stands
 returns-clause-stands c terms log holds =
