@@ -121,11 +121,11 @@ Holds-report terms table log endpoint records at moment own rows some is owned p
     let long = holds.lifetime in
     let now : moment ≡ latest (entry ∷ past) = omega arith in
     let owned_here = subst (λ (lifetime : ℕ). AreOwn lifetime (latest (entry ∷ past)) endpoint records table.rows own) long
-      (subst (λ (later : ℕ). AreOwn table.lifetime later endpoint records table.rows own) now owned) in
+    (subst (λ (later : ℕ). AreOwn table.lifetime later endpoint records table.rows own) now owned) in
     let put_here = put ∙ ap (λ (lifetime : ℕ). replaced lifetime moment endpoint table.rows own) long ∙ ap (λ (later : ℕ). replaced terms.lifetime later endpoint table.rows own) now in
     held terms table log entry moment rows holds is
     (subst (AreRows terms.lifetime (latest (entry ∷ past)) (entry ∷ past)) (sym put_here)
-      (AreRows-reported terms.lifetime (latest log) at endpoint records past table.rows own (omega arith) (omega arith) holds.rows owned_here))
+    (AreRows-reported terms.lifetime (latest log) at endpoint records past table.rows own (omega arith) (omega arith) holds.rows owned_here))
 
 -- the limit that a report passes is judged by the rows that stand with it
 pub passed_is : (terms : Terms) (table : TableValue) (log : List Change) (endpoint : Tunnel) (records : List Record) (at : ℕ) → Holds terms table (log ++ Reported endpoint records at ∷ [])

@@ -206,7 +206,7 @@ judged_at lifetime moment limits endpoint records rows own slice result some ris
 -- what own_rows answers of a slice of these rows
 pub owned_rows : (lifetime moment : ℕ) (endpoint : Tunnel) (records : List Record) (slice rows own : List Kept) → slice ≡ rows → IsRising kept_order rows → IsRising kept_order own → AreOf endpoint own
     → (IsRising kept_order slice → (group : Ip) → row_at own (place endpoint group)
-      ≡ row_of_wish endpoint group (wish_after_all moment (on_group group records) (wish_in (only (is_fresh lifetime moment) (row_at slice (place endpoint group))))))
+    ≡ row_of_wish endpoint group (wish_after_all moment (on_group group records) (wish_in (only (is_fresh lifetime moment) (row_at slice (place endpoint group))))))
     → AreOwn lifetime moment endpoint records rows own
 owned_rows lifetime moment endpoint records slice rows own same rises rise of each =
     subst (λ (all : List Kept). AreOwn lifetime moment endpoint records all own) same

@@ -14,10 +14,10 @@ use crate::kept::Kept;
 use crate::limits::{AcceptFault, LimitFault, Limits};
 use crate::live::{count_live, one_unless};
 use crate::own::own_rows;
-use crate::row::{Row, Rows};
+use crate::row::{Rows, show};
 use crate::sweep::{drop_endpoint, is_live, purge, replace};
 use amt_values::{Endpoint, Moment};
-use source_filter::{Records, copy_filter};
+use source_filter::Records;
 use std::alloc::{AllocError, Global};
 use std::marker::Model;
 
@@ -103,6 +103,15 @@ impl Table {
             → result ≡ live_count (standing_now terms log) }
     {
         count_live(&self.rows, &None, self.moment, self.lifetime_ms) as u32
+    }
+
+    /// What stands, by endpoint and then by group.
+    pub fn rows(&self, alloc: Global) -> Result<Rows, AllocError>
+        ensures { IfOk result (λ rows. (terms : Terms) (log : List Entry) → Holds terms self.now log
+            → rows ≡ rows_of terms.lifetime (latest log) log) }
+    {
+        let rows = show(alloc, &self.rows)?;
+        Ok(rows)
     }
 
     // The first limit that a report passes, if these are its endpoint's rows afterwards.
