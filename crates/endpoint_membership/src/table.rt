@@ -1,7 +1,7 @@
 ghost use Rattle.std.specs.Prelude.{◌≡◌, ◌<◌, ◌≤◌, ◌+◌, ◌^◌, [], ◌∷◌, ◌++◌, List, max, length, Some, None, IfOk, OnOk, if◌then◌else◌};
 ghost use Rattle.std.specs.List.{AllByRecursion, filter, find};
 ghost use Rattle.endpoint_membership.specs.Kept.{is_counted};
-ghost use Rattle.endpoint_membership.specs.Limits.{fault_by, live_count, size};
+ghost use Rattle.endpoint_membership.specs.Limits.{IsWithin, fault_by, live_count, size};
 ghost use Rattle.endpoint_membership.specs.Log.{is_empty, latest};
 ghost use Rattle.endpoint_membership.specs.Own.{is_over};
 ghost use Rattle.endpoint_membership.specs.Rows.{is_live, rows_of, standing_rows};
@@ -161,6 +161,10 @@ impl Table {
         ensures memory { OnMemory result (self.new ≡ self.old) }
 
         ensures within { IsWithinLimits self.new }
+        ensures fits { (terms : Terms) (log : List Entry) → Holds terms self.old log
+            → OnOk result (IsWithin terms.limits (standing_now terms (log ++ Reported endpoint.now records.now at.now ∷ []))) }
+        ensures fits_not { (terms : Terms) (log : List Entry) → Holds terms self.old log
+            → OnLimit result (λ _. IsWithin terms.limits (standing_now terms (log ++ Reported endpoint.now records.now at.now ∷ [])) → ⊥) }
     {
         let moment = self.moment.later(at);
         let own = match own_rows(

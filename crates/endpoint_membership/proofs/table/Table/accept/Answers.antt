@@ -1,12 +1,11 @@
-use Rattle.std.proofs.Common.{List, Some, None, filter, refl, sym, ap, subst, ◌≡◌, ◌≤◌, ◌∙◌, arith}
+use Rattle.std.proofs.Common.{filter, refl, sym, ap, subst, ◌∙◌}
 use Rattle.source_filter.specs.Rising.{IsRising}
 use Rattle.source_filter.proofs.RisingLaws.{IsRising-filter}
-use Rattle.endpoint_membership.specs.declared.kept.Kept.{Kept}
 use Rattle.endpoint_membership.specs.Kept.{is_fresh}
 use Rattle.endpoint_membership.specs.Limits.{IsWithin}
 use Rattle.endpoint_membership.specs.Rows.{kept_order}
-use Rattle.endpoint_membership.specs.Table.{Holds, IsWithinLimits, TableValue, Terms}
-use Rattle.endpoint_membership.proofs.Held.{Holds-report, passed_is}
+use Rattle.endpoint_membership.specs.Table.{Holds, IsWithinLimits, TableValue}
+use Rattle.endpoint_membership.proofs.Held.{Holds-report, IsWithin-log, passed_is, unfit}
 use Rattle.endpoint_membership.proofs.Owning.{IsWithin-replaced, groups_fit, judged_at, judgement, owned_rows, replaced, sizes_fit}
 use Rattle.endpoint_membership.proofs.Parts.{IsRising-replaced}
 use Rattle.endpoint_membership.proofs.table.Table.accept.Goals as goal
@@ -74,3 +73,10 @@ returns-clause-within c =
     subst (IsWithin c.self.inside.limits) (sym put)
     (IsWithin-replaced c.self.inside.limits c.self.inside.lifetime_ms c.later-moment.result c.args.endpoint.now c.args.records.now c.self.inside.rows.items c.in-Ok.own.items
     c.self.invariant.0.some_time c.self.invariant.1 owned (subst IsWithinLimits (sym c.self.view_is) c.requires.within) (judged ∙ c.in_default.is))
+
+pub returns-clause-fits : goal.returns-clause-fits
+returns-clause-fits c terms log holds = IsWithin-log terms _ _ (returns-clause-stands c terms log holds) (returns-clause-within c)
+
+pub returns-in-Some-clause-fits_not : goal.returns-in-Some-clause-fits_not
+returns-in-Some-clause-fits_not c terms log holds =
+    unfit terms log c.args.endpoint.now c.args.records.now c.args.at.now c.in-Some.fault (returns-in-Some-clause-limit c terms log holds)

@@ -1,8 +1,7 @@
-use Rattle.std.proofs.Common.{List, map, sym, ap, subst, ◌≡◌, ◌∙◌}
-use Rattle.endpoint_membership.specs.declared.change.Change.{Change}
+use Rattle.std.proofs.Common.{map, sym, ap, subst, ◌∙◌}
 use Rattle.endpoint_membership.specs.Log.{latest}
 use Rattle.endpoint_membership.specs.Rows.{shown}
-use Rattle.endpoint_membership.specs.Table.{Holds, TableValue, Terms}
+use Rattle.endpoint_membership.specs.Table.{Holds, TableValue}
 use Rattle.endpoint_membership.proofs.ByLog.{rows_are}
 use Rattle.endpoint_membership.proofs.table.Table.rows.Goals as goal
 
