@@ -1,0 +1,58 @@
+-- The log of accepted entries, and which of them still count.
+--
+-- A log stands oldest first. What is said here by recursion reads it from its newest entry, so its
+-- list is the log turned round.
+use Rattle.std.specs.Prelude.{ℕ, ◌+◌, max, nat_lt, not, Bool, true, false, List, [], ◌∷◌, ◌++◌, reverse, if◌then◌else◌}
+use Rattle.std.specs.List.{filter}
+use Rattle.amt_values.specs.declared.address.Ip.{Ip}
+use Rattle.source_filter.specs.declared.record.Record.{Record}
+use Rattle.source_filter.specs.declared.record.RecordKind.TheVariants.{ToIn}
+use Rattle.endpoint_membership.specs.Place.{Place, same_endpoint, same_group}
+use Rattle.endpoint_membership.specs.declared.change.Change.{Change}
+use Rattle.endpoint_membership.specs.declared.change.Change.TheVariants.{Reported, Clear, Mark}
+
+-- the moment that an entry brings
+abbrev pub brought : Change → ℕ
+brought (Reported endpoint records at) = at
+brought (Clear endpoint at) = at
+brought (Mark at) = at
+
+-- the latest moment of the entries, or 0: time doesn't run backwards
+abbrev pub latest : List Change → ℕ
+latest [] = 0
+latest (entry ∷ rest) = max (brought entry) (latest rest)
+
+-- leaving a group is the record TO_IN of nothing (RFC 3376, section 5.1)
+abbrev pub leaving : Ip → Record
+leaving group = record { kind = ToIn; group = group; sources = [] }
+
+-- the records that an entry makes at a place, newest first; a clearing leaves every group
+abbrev pub records_at : Place → Change → List Record
+records_at place (Reported endpoint records at) =
+    if same_endpoint place.endpoint endpoint then reverse (filter (λ group_record. same_group place.group group_record.group) records) else []
+records_at place (Clear endpoint at) = if same_endpoint place.endpoint endpoint then leaving place.group ∷ [] else []
+records_at place (Mark at) = []
+
+abbrev pub is_empty : {X : Type 0} → List X → Bool
+is_empty [] = true
+is_empty (x ∷ xs) = false
+
+-- the entry makes a record at the place
+abbrev pub concerns : Place → Change → Bool
+concerns place entry = not (is_empty (records_at place entry))
+
+-- The records at the place that still count at a moment, newest first: each entry renews the
+-- membership for a lifetime (RFC 3376, section 8.4), so an entry counts where it was made less than
+-- a lifetime before the next one that counts, and the last one less than a lifetime before the
+-- moment.
+abbrev pub live_chain : ℕ → Place → ℕ → List Change → List Record
+live_chain lifetime place moment [] = []
+live_chain lifetime place moment (entry ∷ older) =
+    if concerns place entry
+    then (if nat_lt moment (latest (entry ∷ older) + lifetime) then records_at place entry ++ live_chain lifetime place (latest (entry ∷ older)) older else [])
+    else live_chain lifetime place moment older
+
+-- the moment of the newest entry that concerns the place, or 0
+abbrev pub renewed_at : Place → List Change → ℕ
+renewed_at place [] = 0
+renewed_at place (entry ∷ older) = if concerns place entry then latest (entry ∷ older) else renewed_at place older

@@ -1,0 +1,23 @@
+//! What every tunnel endpoint wants: the membership table of a relay.
+//!
+//! Contract: a table stands for the whole log of accepted entries, so its rows are what the log's
+//! live records wish, whatever calls made them.
+//! It knows no message, socket or clock.
+//! Standard: RFC 7450, section 5.3; RFC 3376, sections 3.2, 5.1 and 8.4.
+#![tactic(auto)]
+
+mod change;
+mod judge;
+mod kept;
+mod limits;
+mod live;
+mod own;
+mod row;
+mod sweep;
+mod table;
+mod wish;
+
+pub use change::Change;
+pub use limits::{AcceptFault, LimitFault, Limits};
+pub use row::{Row, Rows};
+pub use table::Table;

@@ -1,0 +1,30 @@
+use amt_values::Ip;
+
+/// How much a table keeps; each is at most 16,777,216.
+#[derive(Clone, Copy, Debug, PartialEq, Eq)]
+pub struct Limits {
+    /// Endpoints at which some group stands.
+    pub endpoints: u32,
+    /// Groups that stand at one endpoint.
+    pub groups: u32,
+    /// Listed sources of one group at one endpoint.
+    pub sources: u32,
+}
+
+/// The first limit that a report would pass, with the number that passes it.
+#[derive(Clone, Copy, Debug, PartialEq, Eq)]
+pub enum LimitFault {
+    /// The least reported group with too many sources, and how many it would list.
+    Sources(Ip, u32),
+    /// How many groups would stand at the endpoint.
+    Groups(u32),
+    /// How many endpoints would be live.
+    Endpoints(u32),
+}
+
+/// Why a report was not accepted.
+#[derive(Clone, Copy, Debug, PartialEq, Eq)]
+pub enum AcceptFault {
+    Limit(LimitFault),
+    Memory,
+}
