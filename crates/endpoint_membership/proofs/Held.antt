@@ -1,5 +1,5 @@
 -- Tables that stand for a log, and what each call leaves.
-use Rattle.std.proofs.Common.{◌≡◌, ℕ, ◌<◌, max, List, [], ◌∷◌, ◌++◌, reverse, filter, Some, None, refl, sym, ap, subst, ◌∙◌, arith}
+use Rattle.std.proofs.Common.{◌≤◌, ◌≡◌, ℕ, ◌<◌, max, List, [], ◌∷◌, ◌++◌, reverse, filter, Some, None, refl, sym, ap, subst, ◌∙◌, arith}
 use Rattle.std.specs.List.Sorted.{IsStrictlySortedBy}
 use Rattle.std.proofs.lemmas.List.{reverse-append}
 use Rattle.amt_values.specs.Tunnel.{Tunnel}
@@ -149,3 +149,13 @@ pub unfit : (terms : Terms) (log : List Change) (endpoint : Tunnel) (records : L
 unfit terms log endpoint records at fault passed within =
     let none = none_passed terms.limits endpoint records (standing_now terms (log ++ Reported endpoint records at ∷ [])) within in
     cc
+
+-- a table that stands for a log has only fresh rows, so where no time passes nothing changes
+pub no_later : (terms : Terms) (table : TableValue) (log : List Change) (at moment : ℕ) (rows : List Kept) → moment ≡ max table.moment at → rows ≡ filter (is_fresh table.lifetime moment) table.rows
+    → Holds terms table log → at ≤ latest log → table_of moment table.limits table.lifetime rows ≡ table
+no_later terms table log at moment rows is fresh holds before =
+    let same = holds.moment in
+    let still : moment ≡ table.moment = omega arith in
+    let all = fresh ∙ fresh_are terms table log at moment is holds
+    ∙ ap (λ (later : ℕ). standing_rows terms.lifetime later log) (omega arith) ∙ sym (rows_are terms.lifetime (latest log) log table.rows holds.rows) in
+    ap (λ (at_last : ℕ). table_of at_last table.limits table.lifetime rows) still ∙ ap (table_of table.moment table.limits table.lifetime) all

@@ -75,6 +75,8 @@ impl Table {
     pub fn advance(&mut self, at: &Moment)
         ensures stands { (terms : Terms) (log : List Entry) → Holds terms self.old log
             → Holds terms self.new (log ++ Mark at.now ∷ []) }
+        ensures same { (terms : Terms) (log : List Entry) → Holds terms self.old log
+            → at.now ≤ latest log → self.new ≡ self.old }
         ensures within { IsWithinLimits self.old → IsWithinLimits self.new }
     {
         self.moment = self.moment.later(at);
@@ -158,6 +160,8 @@ impl Table {
             → OnLimit result (λ fault. limit_passed terms log endpoint.now records.now at.now ≡ Some fault) }
         ensures marks { (terms : Terms) (log : List Entry) → Holds terms self.old log
             → OnLimit result (λ _. Holds terms self.new (log ++ Mark at.now ∷ [])) }
+        ensures same { (terms : Terms) (log : List Entry) → Holds terms self.old log
+            → at.now ≤ latest log → OnLimit result (λ _. self.new ≡ self.old) }
         ensures memory { OnMemory result (self.new ≡ self.old) }
 
         ensures within { IsWithinLimits self.new }

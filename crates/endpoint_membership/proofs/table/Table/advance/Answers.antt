@@ -1,11 +1,11 @@
-use Rattle.std.proofs.Common.{sym, subst}
+use Rattle.std.proofs.Common.{◌∙◌, sym, subst}
 use Rattle.source_filter.specs.Rising.{IsRising}
 use Rattle.source_filter.proofs.RisingLaws.{IsRising-filter}
 use Rattle.endpoint_membership.specs.Kept.{is_fresh}
 use Rattle.endpoint_membership.specs.Limits.{IsWithin}
 use Rattle.endpoint_membership.specs.Rows.{kept_order}
 use Rattle.endpoint_membership.specs.Table.{Holds, IsWithinLimits, TableValue}
-use Rattle.endpoint_membership.proofs.Held.{Holds-mark}
+use Rattle.endpoint_membership.proofs.Held.{Holds-mark, no_later}
 use Rattle.endpoint_membership.proofs.Within.{IsWithin-filter}
 use Rattle.endpoint_membership.proofs.table.Table.advance.Goals as goal
 
@@ -25,3 +25,8 @@ pub returns-clause-within : goal.returns-clause-within
 returns-clause-within c within =
     let inside = subst IsWithinLimits (sym c.self.view_is) within in
     subst (IsWithin c.self.inside.limits) (sym c.purge.ensures) (IsWithin-filter c.self.inside.limits (is_fresh c.self.inside.lifetime_ms c.later-self-inside.result) c.self.inside.rows.items inside)
+
+pub returns-clause-same : goal.returns-clause-same
+returns-clause-same c terms log holds before =
+    let inside = subst (λ (table : TableValue). Holds terms table log) (sym c.self.view_is) holds in
+    no_later terms _ log c.args.at.now c.later-self-inside.result c.purge.new.rows.items c.later-self-inside.ensures c.purge.ensures inside before ∙ c.self.view_is
