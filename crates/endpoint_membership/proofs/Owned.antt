@@ -82,7 +82,7 @@ pub more_applied : (group : Ip) (done : List Record) (group_record : Record) (mo
 more_applied group done group_record moment first before after so_far is =
     is ∙ ap (wish_after_all moment (on_group group (group_record ∷ []))) so_far
     ∙ sym (ap (λ (records : List Record). wish_after_all moment records first) (filter-append (λ (one : Record). same_group group one.group) done (group_record ∷ []))
-      ∙ wish_after_all-append moment (on_group group done) (on_group group (group_record ∷ [])) first)
+    ∙ wish_after_all-append moment (on_group group done) (on_group group (group_record ∷ [])) first)
 
 last_of : (P : Kept → Type 0) (xs : List Kept) (last : Kept) → AllByRecursion P (xs ++ last ∷ []) → P last
 last_of P [] last each = each.0
@@ -94,7 +94,7 @@ not_earlier [] kept at rises here = refl
 not_earlier (first ∷ xs) kept at rises here =
     let before = last_of (λ (later : Kept). kept_order first later ≡ Less) xs kept (sorted_head kept_order first (xs ++ kept ∷ []) rises) in
     let apart : same_place at (place_of first) ≡ false = ap (λ (one : Place). same_place one (place_of first)) here
-        ∙ ap is_eq (kept_order-total.antisymm kept first ∙ ap ordering_reverse before) in
+    ∙ ap is_eq (kept_order-total.antisymm kept first ∙ ap ordering_reverse before) in
     rw apart (not_earlier xs kept at (sorted_tail kept_order first (xs ++ kept ∷ []) rises) here)
 
 found_by : (here fresh : Bool) (kept : Kept) (before : Option Kept) (test : Kept → Bool) → test kept ≡ fresh → (here ≡ true → before ≡ None)
@@ -111,19 +111,19 @@ reordered false g f = refl
 -- what is wished with one row more
 pub one_more_wish : (lifetime moment : ℕ) (endpoint : Tunnel) (xs : List Kept) (kept : Kept) (group : Ip) → IsRising kept_order (xs ++ kept ∷ [])
     → wish_in (only (is_fresh lifetime moment) (row_at (xs ++ kept ∷ []) (place endpoint group)))
-      ≡ cond (is_own lifetime moment endpoint kept && same_group kept.group group) (wish_in (Some kept)) (wish_in (only (is_fresh lifetime moment) (row_at xs (place endpoint group))))
+    ≡ cond (is_own lifetime moment endpoint kept && same_group kept.group group) (wish_in (Some kept)) (wish_in (only (is_fresh lifetime moment) (row_at xs (place endpoint group))))
 one_more_wish lifetime moment endpoint xs kept group rises =
     let at = place endpoint group in
     let fresh = is_fresh lifetime moment kept in
     let before = wish_in (only (is_fresh lifetime moment) (row_at xs at)) in
     ap (λ (found : Option Kept). wish_in (only (is_fresh lifetime moment) found)) (row_at-append xs (kept ∷ []) at)
     ∙ found_by (same_place at (place_of kept)) fresh kept (row_at xs at) (is_fresh lifetime moment) refl
-      (λ same. not_earlier xs kept at rises (same_place-exact at (place_of kept) same))
+    (λ same. not_earlier xs kept at rises (same_place-exact at (place_of kept) same))
     ∙ ap (λ (test : Bool). cond test (wish_in (Some kept)) before)
-      (ap (λ (test : Bool). test && fresh) (same_place-is at (place_of kept)
-        ∙ ap (λ (test : Bool). test && same_group group kept.group) (same_endpoint-back endpoint kept.endpoint)
-        ∙ ap (λ (test : Bool). same_endpoint kept.endpoint endpoint && test) (same_group-back group kept.group))
-      ∙ reordered (same_endpoint kept.endpoint endpoint) (same_group kept.group group) fresh)
+    (ap (λ (test : Bool). test && fresh) (same_place-is at (place_of kept)
+    ∙ ap (λ (test : Bool). test && same_group group kept.group) (same_endpoint-back endpoint kept.endpoint)
+    ∙ ap (λ (test : Bool). same_endpoint kept.endpoint endpoint && test) (same_group-back group kept.group))
+    ∙ reordered (same_endpoint kept.endpoint endpoint) (same_group kept.group group) fresh)
 
 -- the wishes of rows after one row more, of the endpoint or not
 pub more_found : (lifetime moment : ℕ) (endpoint : Tunnel) (xs : List Kept) (kept : Kept) (group : Ip) (before after : Option Wish) (own : Bool)
@@ -153,7 +153,7 @@ set_by false group_record moment old before is = refl
 -- the wish of the record's own group is the one that the record changes
 pub set_here : (key group : Ip) (group_record : Record) (moment : ℕ) (wishes : BTreeMap Ip Wish) (old : Option Wish) → old ≡ get ip_order wishes key
     → cond (same_group key group) (wish_after moment group_record old) (get ip_order wishes group)
-      ≡ cond (same_group key group) (wish_after moment group_record (get ip_order wishes group)) (get ip_order wishes group)
+    ≡ cond (same_group key group) (wish_after moment group_record (get ip_order wishes group)) (get ip_order wishes group)
 set_here key group group_record moment wishes old is = set_by (same_group key group) group_record moment old (get ip_order wishes group)
     (λ same. is ∙ ap (get ip_order wishes) (tells_apart ip_order-exact key group same))
 
@@ -207,5 +207,5 @@ row_at-wishes endpoint (entry ∷ rest) group sorted =
     row_at-cons_option (kept_wish endpoint entry) more (place endpoint entry.0) at (its_place endpoint entry)
     ∙ ap (λ (test : Bool). cond test (option_or (kept_wish endpoint entry) (row_at more at)) (row_at more at)) (ap is_eq (place_by_group endpoint group entry.0))
     ∙ wish_found (same_group group entry.0) endpoint group entry.0 entry.1 (lookup (is_at (ip_order group)) rest) (row_at more at) exact
-      (λ same. row_at-after at more (subst (λ (key : Ip). AreAfter (place endpoint key) more) (sym (exact same)) (AreAfter-wishes endpoint entry.0 rest (sorted_head ip_order entry.0 (keys_of rest) sorted))))
-      (row_at-wishes endpoint rest group (sorted_tail ip_order entry.0 (keys_of rest) sorted))
+    (λ same. row_at-after at more (subst (λ (key : Ip). AreAfter (place endpoint key) more) (sym (exact same)) (AreAfter-wishes endpoint entry.0 rest (sorted_head ip_order entry.0 (keys_of rest) sorted))))
+    (row_at-wishes endpoint rest group (sorted_tail ip_order entry.0 (keys_of rest) sorted))

@@ -1,5 +1,5 @@
 -- Rows that rise fall into three parts: of earlier endpoints, of one endpoint, and of later ones.
-use Rattle.std.proofs.Common.{◌≡◌, ℕ, suc, ◌+◌, ◌≤◌, Bool, true, false, cond, not, List, [], ◌∷◌, ◌++◌, take, drop, filter, length, refl, sym, ap, ◌∙◌, arith}
+use Rattle.std.proofs.Common.{◌≡◌, ℕ, suc, ◌+◌, ◌≤◌, Bool, true, false, cond, not, List, [], ◌∷◌, ◌++◌, take, drop, filter, length, refl, sym, ap, subst, ◌∙◌, arith}
 use Rattle.std.specs.List.{AllByRecursion, prefix_len, splice}
 use Rattle.std.specs.Ordering.{is_eq, is_lt, ordering_reverse, ordering_then}
 use Rattle.std.specs.declared.cmp.Ordering.{Ordering}
@@ -16,7 +16,7 @@ use Rattle.endpoint_membership.specs.Own.{AreOf}
 use Rattle.endpoint_membership.specs.Place.{same_endpoint}
 use Rattle.endpoint_membership.specs.Rows.{kept_order, place_of}
 use Rattle.endpoint_membership.proofs.Lookup.{AreAfter}
-use Rattle.endpoint_membership.proofs.Steps.{AreBefore, AreBehind, IsParted}
+use Rattle.endpoint_membership.proofs.Steps.{AreBefore, AreBehind, IsParted, IsRising-back, IsRising-front, IsRising-three}
 
 one_more : (n : ℕ) → 1 + n ≡ suc n
 one_more n = omega arith
@@ -147,3 +147,13 @@ start_before_end endpoint (kept ∷ rest) =
 pub spliced_is : (endpoint : Tunnel) (rows items own : List Kept) (start end : ℕ) → start ≡ start_of endpoint rows → end ≡ end_of endpoint rows → items ≡ own
     → splice rows start end items ≡ earlier endpoint rows ++ (own ++ later endpoint rows)
 spliced_is endpoint rows items own start end starts ends same = rw (starts, ends, same) refl
+
+-- rows rise with other rows of the endpoint in the place of its rows
+pub IsRising-replaced : (endpoint : Tunnel) (rows own : List Kept) → IsRising kept_order rows → IsRising kept_order own → AreOf endpoint own
+    → IsRising kept_order (earlier endpoint rows ++ (own ++ later endpoint rows))
+IsRising-replaced endpoint rows own rises rise of =
+    let parts = parted endpoint rows rises in
+    let whole = subst (IsRising kept_order) parts.whole rises in
+    let old = filter (is_of endpoint) rows in
+    IsRising-three endpoint (earlier endpoint rows) own (later endpoint rows) (IsRising-front (earlier endpoint rows) (old ++ later endpoint rows) whole) rise
+    (IsRising-back old (later endpoint rows) (IsRising-back (earlier endpoint rows) (old ++ later endpoint rows) whole)) parts.earlier of parts.later

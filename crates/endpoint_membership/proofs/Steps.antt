@@ -87,10 +87,10 @@ AreBefore endpoint rows = AllByRecursion (λ kept. tunnel_order kept.endpoint en
 abbrev pub AreBehind : Tunnel → List Kept → Type 0
 AreBehind endpoint rows = AllByRecursion (λ kept. tunnel_order endpoint kept.endpoint ≡ Less) rows
 
-same_back : (one other : Tunnel) → same_endpoint one other ≡ same_endpoint other one
+pub same_back : (one other : Tunnel) → same_endpoint one other ≡ same_endpoint other one
 same_back one other = (eq_by_cmp_equiv tunnel_order-total).symm one other
 
-same_endpoint-exact : (one other : Tunnel) → same_endpoint one other ≡ true → one ≡ other
+pub same_endpoint-exact : (one other : Tunnel) → same_endpoint one other ≡ true → one ≡ other
 same_endpoint-exact one other same = tells_apart tunnel_order-exact one other same
 
 -- a place of the endpoint has no row among rows of earlier or later endpoints
@@ -111,7 +111,7 @@ row_at-behind endpoint (kept ∷ rest) place behind same =
     rw apart (row_at-behind endpoint rest place behind.1 same)
 
 -- a place of another endpoint has no row among the endpoint's
-row_at-of : (endpoint : Tunnel) (rows : List Kept) (place : Place) → AreOf endpoint rows → same_endpoint place.endpoint endpoint ≡ false → row_at rows place ≡ None
+pub row_at-of : (endpoint : Tunnel) (rows : List Kept) (place : Place) → AreOf endpoint rows → same_endpoint place.endpoint endpoint ≡ false → row_at rows place ≡ None
 row_at-of endpoint [] place of apart = refl
 row_at-of endpoint (kept ∷ rest) place of apart =
     let here = same_endpoint-exact kept.endpoint endpoint of.0 in
@@ -183,7 +183,7 @@ or_none : (found : Option Kept) → option_or found None ≡ found
 or_none None = refl
 or_none (Some kept) = refl
 
-row_at-three : (endpoint : Tunnel) (before own behind : List Kept) (place : Place) → AreBefore endpoint before → AreBehind endpoint behind → same_endpoint place.endpoint endpoint ≡ true
+pub row_at-three : (endpoint : Tunnel) (before own behind : List Kept) (place : Place) → AreBefore endpoint before → AreBehind endpoint behind → same_endpoint place.endpoint endpoint ≡ true
     → row_at (before ++ (own ++ behind)) place ≡ row_at own place
 row_at-three endpoint before own behind place earlier later same =
     let here = same_endpoint-exact place.endpoint endpoint same in
@@ -193,7 +193,7 @@ row_at-three endpoint before own behind place earlier later same =
     ∙ ap (option_or (row_at own place)) (row_at-behind endpoint behind place later here)
     ∙ or_none (row_at own place)
 
-row_at-others : (endpoint : Tunnel) (before own other behind : List Kept) (place : Place) → AreOf endpoint own → AreOf endpoint other → same_endpoint place.endpoint endpoint ≡ false
+pub row_at-others : (endpoint : Tunnel) (before own other behind : List Kept) (place : Place) → AreOf endpoint own → AreOf endpoint other → same_endpoint place.endpoint endpoint ≡ false
     → row_at (before ++ (own ++ behind)) place ≡ row_at (before ++ (other ++ behind)) place
 row_at-others endpoint before own other behind place of others apart =
     row_at-append before (own ++ behind) place

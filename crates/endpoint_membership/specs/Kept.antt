@@ -1,6 +1,7 @@
 -- Rows as the body of a table handles them. No public contract says these words.
-use Rattle.std.specs.Prelude.{ℕ, ◌+◌, nat_lt, not, Bool, List, take, drop, Option, Some, None, if◌then◌else◌}
+use Rattle.std.specs.Prelude.{ℕ, ◌+◌, nat_lt, not, Bool, true, false, ◌&&◌, List, [], ◌∷◌, take, drop, Option, Some, None, if◌then◌else◌}
 use Rattle.std.specs.List.{prefix_len}
+use Rattle.std.specs.Option.{option_or}
 use Rattle.std.specs.Ordering.{is_lt}
 use Rattle.amt_values.specs.Order.{tunnel_order}
 use Rattle.amt_values.specs.Tunnel.{Tunnel}
@@ -40,3 +41,21 @@ earlier endpoint rows = take (start_of endpoint rows) rows
 
 abbrev pub later : Tunnel → List Kept → List Kept
 later endpoint rows = drop (end_of endpoint rows) rows
+
+-- a row that counts at the moment, of another endpoint than this one, if one is named
+abbrev pub is_other : Option Tunnel → Kept → Bool
+is_other None kept = true
+is_other (Some endpoint) kept = is_besides endpoint kept
+
+abbrev pub is_counted : ℕ → ℕ → Option Tunnel → Kept → Bool
+is_counted lifetime moment besides kept = is_other besides kept && is_fresh lifetime moment kept
+
+-- the endpoint of the last row
+abbrev pub last_of : List Kept → Option Tunnel
+last_of [] = None
+last_of (kept ∷ rest) = option_or (last_of rest) (Some kept.endpoint)
+
+-- the last row is of the endpoint
+abbrev pub ends_with : Option Tunnel → Tunnel → Bool
+ends_with None endpoint = false
+ends_with (Some last) endpoint = same_endpoint last endpoint

@@ -1,6 +1,6 @@
 -- The groups of one endpoint as the body of a table handles them. No public contract says these words.
-use Rattle.std.specs.Prelude.{◌≡◌, ℕ, Bool, true, List, [], ◌∷◌, Option, Some, None, ◌&&◌, if◌then◌else◌}
-use Rattle.std.specs.List.{AllByRecursion, filter}
+use Rattle.std.specs.Prelude.{◌≡◌, ℕ, Bool, true, List, [], ◌∷◌, Option, Some, None, ◌&&◌, length, nat_lt, if◌then◌else◌}
+use Rattle.std.specs.List.{AllByRecursion, filter, list_any}
 use Rattle.amt_values.specs.declared.address.Ip.{Ip}
 use Rattle.amt_values.specs.Tunnel.{Tunnel}
 use Rattle.source_filter.specs.Filter.{FilterValue, applied, nothing}
@@ -54,3 +54,8 @@ row_of_wish endpoint group (Some wish) = kept_wish endpoint (group, wish)
 -- all rows are of the endpoint
 abbrev pub AreOf : Tunnel → List Kept → Type 0
 AreOf endpoint rows = AllByRecursion (λ kept. same_endpoint kept.endpoint endpoint ≡ true) rows
+
+-- a row of a reported group with more sources than allowed
+abbrev pub is_over : ℕ → List Record → Kept → Bool
+is_over most records kept =
+    nat_lt most (length kept.filter.sources) && list_any (λ group_record. same_group kept.group group_record.group) records

@@ -1,14 +1,18 @@
 -- What a membership table stands for.
-use Rattle.std.specs.Prelude.{◌≡◌, ℕ, ◌++◌, ◌∷◌, [], max, List, Option, reverse}
+use Rattle.std.specs.Prelude.{◌≡◌, ℕ, ◌+◌, ◌≤◌, ◌++◌, ◌∷◌, [], List, length, sum_by, Option, Result, Ok, Err, reverse}
 use Rattle.amt_values.specs.Tunnel.{Tunnel}
 use Rattle.source_filter.specs.Rising.{IsRising}
 use Rattle.source_filter.specs.declared.record.Record.{Record}
-use Rattle.endpoint_membership.specs.Limits.{IsWithin}
+use Rattle.endpoint_membership.specs.Limits.{IsWithin, first_limit}
 use Rattle.endpoint_membership.specs.Log.{latest}
 use Rattle.endpoint_membership.specs.Place.{Place}
 use Rattle.endpoint_membership.specs.Rows.{kept_order, row_at, standing, standing_rows}
 use Rattle.endpoint_membership.specs.declared.change.Change.{Change}
+use Rattle.endpoint_membership.specs.declared.change.Change.TheVariants.{Reported}
 use Rattle.endpoint_membership.specs.declared.kept.Kept.{Kept}
+use Rattle.endpoint_membership.specs.declared.limits.AcceptFault.{AcceptFault}
+use Rattle.endpoint_membership.specs.declared.limits.AcceptFault.TheVariants.{Limit, Memory}
+use Rattle.endpoint_membership.specs.declared.limits.LimitFault.{LimitFault}
 use Rattle.endpoint_membership.specs.declared.limits.Limits.{Limits}
 
 -- what contracts see of a table: the moment, the rows that stand, and how it was made
@@ -42,3 +46,31 @@ IsWithinLimits table = IsWithin table.limits table.rows
 -- what stands by the log at its latest moment
 abbrev pub standing_now : Terms → List Change → List Kept
 standing_now terms log = standing_rows terms.lifetime (latest log) log
+
+-- the limits and the lifetime that a table may have
+pub record AreLawful (limits : Limits) (lifetime : ℕ) : Type 0 where
+  pub some_time : 1 ≤ lifetime
+  pub at_most : lifetime ≤ 1000000000
+  pub endpoints : limits.endpoints ≤ 16777216
+  pub groups : limits.groups ≤ 16777216
+  pub sources : limits.sources ≤ 16777216
+
+-- the number of records and of their sources
+abbrev pub item_count : List Record → ℕ
+item_count records = length records + sum_by (λ group_record. length group_record.sources) records
+
+-- the limit that a report passes, by the log with the report
+abbrev pub limit_passed : Terms → List Change → Tunnel → List Record → ℕ → Option LimitFault
+limit_passed terms log endpoint records at =
+    first_limit terms.limits endpoint records (standing_now terms (log ++ Reported endpoint records at ∷ []))
+
+-- what holds where a report was refused by a limit, and where memory was wanted
+abbrev pub OnLimit : Result (Unit {0}) AcceptFault → (LimitFault → Type 0) → Type 0
+OnLimit (Ok done) P = Unit {0}
+OnLimit (Err (Limit fault)) P = P fault
+OnLimit (Err Memory) P = Unit {0}
+
+abbrev pub OnMemory : Result (Unit {0}) AcceptFault → Type 0 → Type 0
+OnMemory (Ok done) P = Unit {0}
+OnMemory (Err (Limit fault)) P = Unit {0}
+OnMemory (Err Memory) P = P

@@ -7,8 +7,10 @@
 #![tactic(auto)]
 
 mod change;
+mod judge;
 mod kept;
 mod limits;
+mod live;
 mod own;
 mod row;
 mod sweep;

@@ -137,9 +137,9 @@ pub fn own_rows(
     ensures of { IfOk result (λ own. AreOf endpoint.now own.items) }
     ensures each { IfOk result (λ own. IsRising kept_order rows.now → (group : Address)
         → row_at own.items (record { endpoint = endpoint.now; group = group })
-            ≡ row_of_wish endpoint.now group (wish_after_all moment (on_group group records.now)
-                (wish_in (only (is_fresh lifetime_ms moment)
-                    (row_at rows.now (record { endpoint = endpoint.now; group = group })))))) }
+        ≡ row_of_wish endpoint.now group (wish_after_all moment (on_group group records.now)
+        (wish_in (only (is_fresh lifetime_ms moment)
+        (row_at rows.now (record { endpoint = endpoint.now; group = group })))))) }
 {
     let mut wishes = wishes_before(alloc, rows, endpoint, moment, lifetime_ms)?;
     apply_records(alloc, &mut wishes, records.as_slice(), moment)?;

@@ -24,5 +24,5 @@ returns-clause-each c rises group =
     ap (λ (own : List Kept). row_at own (record { endpoint = endpoint; group = group })) c.in_ok-own.ensures.rows
     ∙ row_at-wishes endpoint c.apply_records.new.wishes.entries group c.in_ok-own.ensures.ordered
     ∙ ap (row_of_wish endpoint group) (c.in_ok-apply_records.ensures group
-      ∙ ap (λ (records : List Record). wish_after_all moment (on_group group records) (get ip_order c.in_ok-wishes.wishes group)) c.as_slice.ensures
-      ∙ ap (wish_after_all moment (on_group group c.args.records.now)) (c.in_ok-wishes.ensures rises group))
+    ∙ ap (λ (records : List Record). wish_after_all moment (on_group group records) (get ip_order c.in_ok-wishes.wishes group)) c.as_slice.ensures
+    ∙ ap (wish_after_all moment (on_group group c.args.records.now)) (c.in_ok-wishes.ensures rises group))

@@ -25,11 +25,11 @@ loop-kept-preserved c rises group =
     let rises_here = subst (IsRising kept_order) more (IsRising-front (take (k + 1) rows) (drop (k + 1) rows) whole) in
     let step = more_found c.args.lifetime_ms c.args.moment c.args.endpoint.now (take k rows) kept group (get ip_order c.loop-kept.wishes group) (get ip_order c.if-is_own.wishes group) in
     let Found : List Kept → Type 0 = λ done.
-      get ip_order c.if-is_own.wishes group ≡ wish_in (only (is_fresh c.args.lifetime_ms c.args.moment) (row_at done (record { endpoint = c.args.endpoint.now; group = group }))) in
+    get ip_order c.if-is_own.wishes group ≡ wish_in (only (is_fresh c.args.lifetime_ms c.args.moment) (row_at done (record { endpoint = c.args.endpoint.now; group = group }))) in
     subst Found (sym more) (elim c.if-is_own.branch [
       | then-is_own+in_ok-wish_of+in_ok-set_wish w ↦ step true rises_here (sym c.is_own.ensures ∙ w.if-is_own.true) (c.loop-kept.invariant rises group)
-        (ap (λ (map : BTreeMap Ip Wish). get ip_order map group) w.wishes-is ∙ w.in_ok-set_wish.ensures group
+          (ap (λ (map : BTreeMap Ip Wish). get ip_order map group) w.wishes-is ∙ w.in_ok-set_wish.ensures group
           ∙ ap (λ (wish : Option Wish). cond (same_group kept.group group) wish (get ip_order c.loop-kept.wishes group)) (sym w.in_ok-wish_of.ensures))
       | else-is_own w ↦ step false rises_here (sym c.is_own.ensures ∙ w.if-is_own.false) (c.loop-kept.invariant rises group)
-        (ap (λ (map : BTreeMap Ip Wish). get ip_order map group) w.wishes-is)
+          (ap (λ (map : BTreeMap Ip Wish). get ip_order map group) w.wishes-is)
     ])

@@ -1,0 +1,136 @@
+-- Tables that stand for a log, and what each call leaves.
+use Rattle.std.proofs.Common.{◌≡◌, ℕ, ◌+◌, ◌≤◌, ◌<◌, max, Bool, List, [], ◌∷◌, ◌++◌, reverse, filter, Option, Some, None, refl, sym, ap, subst, ◌∙◌, arith}
+use Rattle.std.specs.List.Sorted.{IsStrictlySortedBy}
+use Rattle.std.proofs.lemmas.List.{reverse-append}
+use Rattle.amt_values.specs.Tunnel.{Tunnel}
+use Rattle.source_filter.specs.Rising.{IsRising}
+use Rattle.source_filter.specs.declared.record.Record.{Record}
+use Rattle.endpoint_membership.specs.declared.change.Change.{Change}
+use Rattle.endpoint_membership.specs.declared.change.Change.TheVariants.{Reported, Clear, Mark}
+use Rattle.endpoint_membership.specs.declared.kept.Kept.{Kept}
+use Rattle.endpoint_membership.specs.declared.limits.Limits.{Limits}
+use Rattle.endpoint_membership.specs.Kept.{is_besides, is_counted, is_fresh}
+use Rattle.endpoint_membership.specs.Limits.{first_limit}
+use Rattle.endpoint_membership.specs.Log.{brought, latest}
+use Rattle.endpoint_membership.specs.Rows.{kept_order, standing_rows}
+use Rattle.endpoint_membership.specs.Table.{AreRows, Holds, TableValue, Terms, limit_passed, standing_now}
+use Rattle.endpoint_membership.proofs.ByLog.{rows_are}
+use Rattle.endpoint_membership.proofs.Owning.{replaced}
+use Rattle.endpoint_membership.proofs.Reported.{AreOwn, AreRows-reported}
+use Rattle.endpoint_membership.proofs.Steps.{AreRows-clear, AreRows-later, AreRows-other}
+
+latest-append : (xs ys : List Change) → latest (xs ++ ys) ≡ max (latest xs) (latest ys)
+latest-append [] ys = omega arith
+latest-append (entry ∷ xs) ys = omega (arith, latest-append xs ys)
+
+-- the latest moment with one entry more
+pub latest-push : (log : List Change) (entry : Change) → latest (log ++ entry ∷ []) ≡ max (brought entry) (latest log)
+latest-push log entry = omega (arith, latest-append log (entry ∷ []))
+
+-- a log turned round has the same latest moment
+pub latest-reverse : (log : List Change) → latest (reverse log) ≡ latest log
+latest-reverse [] = refl
+latest-reverse (entry ∷ rest) =
+    ap latest (reverse-append (entry ∷ []) rest) ∙ omega (arith, latest-append (reverse rest) (entry ∷ []), latest-reverse rest)
+
+pub reverse-push : (log : List Change) (entry : Change) → reverse (log ++ entry ∷ []) ≡ entry ∷ reverse log
+reverse-push log entry = reverse-append log (entry ∷ [])
+
+abbrev pub table_of : ℕ → Limits → ℕ → List Kept → TableValue
+table_of moment limits lifetime rows = record { moment = moment; limits = limits; lifetime = lifetime; rows = rows }
+
+-- no entry, no row
+pub Holds-new : (limits : Limits) (lifetime : ℕ) → Holds (record { limits = limits; lifetime = lifetime }) (table_of 0 limits lifetime []) []
+unfolding IsStrictlySortedBy
+Holds-new limits lifetime = record { limits = refl; lifetime = refl; moment = refl; rows = record { rise = tt; each = λ place. refl } }
+
+-- rows by the log with an entry, from rows by the log turned round
+held : (terms : Terms) (table : TableValue) (log : List Change) (entry : Change) (moment : ℕ) (rows : List Kept) → Holds terms table log → moment ≡ max table.moment (brought entry)
+    → AreRows terms.lifetime (latest (entry ∷ reverse log)) (entry ∷ reverse log) rows → Holds terms (table_of moment table.limits table.lifetime rows) (log ++ entry ∷ [])
+held terms table log entry moment rows holds is are =
+    let later = latest-push log entry in
+    let turned = latest-reverse log in
+    let same = holds.moment in
+    let now : latest (entry ∷ reverse log) ≡ latest (log ++ entry ∷ []) = omega arith in record {
+      limits = holds.limits;
+      lifetime = holds.lifetime;
+      moment = omega arith;
+      rows = subst (λ (at : ℕ). AreRows terms.lifetime at (reverse (log ++ entry ∷ [])) rows) now
+          (subst (λ (past : List Change). AreRows terms.lifetime (latest (entry ∷ reverse log)) past rows) (sym (reverse-push log entry)) are);
+    }
+
+-- the rows that are fresh at a later moment
+fresh_rows : (terms : Terms) (table : TableValue) (log : List Change) (entry : Change) (moment : ℕ) → Holds terms table log → moment ≡ max table.moment (brought entry)
+    → AreRows terms.lifetime (latest (entry ∷ reverse log)) (reverse log) (filter (is_fresh table.lifetime moment) table.rows)
+fresh_rows terms table log entry moment holds is =
+    let turned = latest-reverse log in
+    let same = holds.moment in
+    let now : latest (entry ∷ reverse log) ≡ moment = omega arith in
+    subst (λ (lifetime : ℕ). AreRows terms.lifetime (latest (entry ∷ reverse log)) (reverse log) (filter (is_fresh lifetime moment) table.rows)) (sym holds.lifetime)
+    (subst (λ (at : ℕ). AreRows terms.lifetime (latest (entry ∷ reverse log)) (reverse log) (filter (is_fresh terms.lifetime at) table.rows)) now
+    (AreRows-later terms.lifetime (latest log) (latest (entry ∷ reverse log)) (reverse log) table.rows (omega arith) holds.rows))
+
+-- time passes
+pub Holds-mark : (terms : Terms) (table : TableValue) (log : List Change) (at moment : ℕ) (rows : List Kept) → moment ≡ max table.moment at → rows ≡ filter (is_fresh table.lifetime moment) table.rows
+    → Holds terms table log → Holds terms (table_of moment table.limits table.lifetime rows) (log ++ Mark at ∷ [])
+Holds-mark terms table log at moment rows is fresh holds =
+    held terms table log (Mark at) moment rows holds is
+    (AreRows-other terms.lifetime (latest (Mark at ∷ reverse log)) (Mark at) (reverse log) rows (λ place. refl)
+    (subst (AreRows terms.lifetime (latest (Mark at ∷ reverse log)) (reverse log)) (sym fresh) (fresh_rows terms table log (Mark at) moment holds is)))
+
+-- an endpoint leaves every group
+pub Holds-clear : (terms : Terms) (table : TableValue) (log : List Change) (endpoint : Tunnel) (at moment : ℕ) (fresh rows : List Kept) → 0 < table.lifetime → moment ≡ max table.moment at
+    → fresh ≡ filter (is_fresh table.lifetime moment) table.rows → rows ≡ filter (is_besides endpoint) fresh
+    → Holds terms table log → Holds terms (table_of moment table.limits table.lifetime rows) (log ++ Clear endpoint at ∷ [])
+Holds-clear terms table log endpoint at moment fresh rows some is left gone holds =
+    let entry = Clear endpoint at in
+    let now = latest (entry ∷ reverse log) in
+    let same = holds.lifetime in
+    let here = subst (AreRows terms.lifetime now (reverse log)) (sym left) (fresh_rows terms table log entry moment holds is) in
+    held terms table log entry moment rows holds is
+    (subst (AreRows terms.lifetime now (entry ∷ reverse log)) (sym gone) (AreRows-clear terms.lifetime at endpoint (reverse log) fresh (omega arith) here))
+
+-- the rows that are left at a later moment are the rows by the log then
+pub fresh_are : (terms : Terms) (table : TableValue) (log : List Change) (at moment : ℕ) → moment ≡ max table.moment at → Holds terms table log
+    → filter (is_fresh table.lifetime moment) table.rows ≡ standing_rows terms.lifetime (max at (latest log)) log
+fresh_are terms table log at moment is holds =
+    let rows = filter (is_fresh table.lifetime moment) table.rows in
+    let turned = latest-reverse log in
+    let now : latest (Mark at ∷ reverse log) ≡ max at (latest log) = omega arith in
+    rows_are terms.lifetime (max at (latest log)) log rows
+    (subst (λ (later : ℕ). AreRows terms.lifetime later (reverse log) rows) now (fresh_rows terms table log (Mark at) moment holds is))
+
+-- the rows that count at the table's own moment are all that stand now
+pub rows_now : (terms : Terms) (table : TableValue) (log : List Change) → Holds terms table log → filter (is_counted table.lifetime table.moment None) table.rows ≡ standing_now terms log
+rows_now terms table log holds =
+    fresh_are terms table log 0 table.moment (omega arith) holds ∙ ap (λ (moment : ℕ). standing_rows terms.lifetime moment log) (omega arith)
+
+pub IsRising-none : IsRising kept_order []
+unfolding IsStrictlySortedBy
+IsRising-none = tt
+
+-- a report, with the rows that its records leave in the place of the endpoint's
+pub Holds-report : (terms : Terms) (table : TableValue) (log : List Change) (endpoint : Tunnel) (records : List Record) (at moment : ℕ) (own rows : List Kept) → 0 < table.lifetime
+    → moment ≡ max table.moment at → AreOwn table.lifetime moment endpoint records table.rows own → rows ≡ replaced table.lifetime moment endpoint table.rows own
+    → Holds terms table log → Holds terms (table_of moment table.limits table.lifetime rows) (log ++ Reported endpoint records at ∷ [])
+Holds-report terms table log endpoint records at moment own rows some is owned put holds =
+    let entry = Reported endpoint records at in
+    let past = reverse log in
+    let turned = latest-reverse log in
+    let same = holds.moment in
+    let long = holds.lifetime in
+    let now : moment ≡ latest (entry ∷ past) = omega arith in
+    let owned_here = subst (λ (lifetime : ℕ). AreOwn lifetime (latest (entry ∷ past)) endpoint records table.rows own) long
+      (subst (λ (later : ℕ). AreOwn table.lifetime later endpoint records table.rows own) now owned) in
+    let put_here = put ∙ ap (λ (lifetime : ℕ). replaced lifetime moment endpoint table.rows own) long ∙ ap (λ (later : ℕ). replaced terms.lifetime later endpoint table.rows own) now in
+    held terms table log entry moment rows holds is
+    (subst (AreRows terms.lifetime (latest (entry ∷ past)) (entry ∷ past)) (sym put_here)
+      (AreRows-reported terms.lifetime (latest log) at endpoint records past table.rows own (omega arith) (omega arith) holds.rows owned_here))
+
+-- the limit that a report passes is judged by the rows that stand with it
+pub passed_is : (terms : Terms) (table : TableValue) (log : List Change) (endpoint : Tunnel) (records : List Record) (at : ℕ) → Holds terms table (log ++ Reported endpoint records at ∷ [])
+    → limit_passed terms log endpoint records at ≡ first_limit table.limits endpoint records table.rows
+passed_is terms table log endpoint records at holds =
+    let entries = log ++ Reported endpoint records at ∷ [] in
+    ap (first_limit terms.limits endpoint records) (sym (rows_are terms.lifetime (latest entries) entries table.rows holds.rows))
+    ∙ ap (λ (limits : Limits). first_limit limits endpoint records table.rows) (sym holds.limits)

@@ -1,0 +1,29 @@
+use Rattle.std.proofs.Common.{List, filter, sym, ap, subst, ◌≡◌, ◌∙◌}
+use Rattle.source_filter.specs.Rising.{IsRising}
+use Rattle.source_filter.proofs.RisingLaws.{IsRising-filter}
+use Rattle.endpoint_membership.specs.declared.change.Change.{Change}
+use Rattle.endpoint_membership.specs.declared.kept.Kept.{Kept}
+use Rattle.endpoint_membership.specs.Kept.{is_fresh}
+use Rattle.endpoint_membership.specs.Limits.{IsWithin}
+use Rattle.endpoint_membership.specs.Rows.{kept_order}
+use Rattle.endpoint_membership.specs.Table.{Holds, IsWithinLimits, TableValue, Terms}
+use Rattle.endpoint_membership.proofs.Held.{Holds-mark}
+use Rattle.endpoint_membership.proofs.Within.{IsWithin-filter}
+use Rattle.endpoint_membership.proofs.table.Table.advance.Goals as goal
+
+pub invariant_of-self : goal.invariant_of-self
+invariant_of-self c = (
+  c.self.invariant.0,
+  subst (IsRising kept_order) (sym c.purge.ensures)
+      (IsRising-filter kept_order (is_fresh c.self.inside.lifetime_ms c.later-self-inside.result) c.self.inside.rows.items c.self.invariant.1),
+)
+
+pub returns-clause-stands : goal.returns-clause-stands
+returns-clause-stands c terms log holds =
+    let inside = subst (λ (table : TableValue). Holds terms table log) (sym c.self.view_is) holds in
+    Holds-mark terms _ log c.args.at.now c.later-self-inside.result c.purge.new.rows.items c.later-self-inside.ensures c.purge.ensures inside
+
+pub returns-clause-within : goal.returns-clause-within
+returns-clause-within c within =
+    let inside = subst IsWithinLimits (sym c.self.view_is) within in
+    subst (IsWithin c.self.inside.limits) (sym c.purge.ensures) (IsWithin-filter c.self.inside.limits (is_fresh c.self.inside.lifetime_ms c.later-self-inside.result) c.self.inside.rows.items inside)

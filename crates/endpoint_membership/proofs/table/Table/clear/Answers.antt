@@ -1,0 +1,37 @@
+use Rattle.std.proofs.Common.{List, filter, sym, ap, subst, ◌≡◌, ◌∙◌}
+use Rattle.source_filter.specs.Rising.{IsRising}
+use Rattle.source_filter.proofs.RisingLaws.{IsRising-filter}
+use Rattle.endpoint_membership.specs.declared.change.Change.{Change}
+use Rattle.endpoint_membership.specs.declared.kept.Kept.{Kept}
+use Rattle.endpoint_membership.specs.Kept.{is_besides, is_fresh}
+use Rattle.endpoint_membership.specs.Limits.{IsWithin}
+use Rattle.endpoint_membership.specs.Rows.{is_live, kept_order}
+use Rattle.endpoint_membership.specs.Table.{Holds, IsWithinLimits, TableValue, Terms}
+use Rattle.endpoint_membership.proofs.Held.{Holds-clear, fresh_are}
+use Rattle.endpoint_membership.proofs.Within.{IsWithin-filter}
+use Rattle.endpoint_membership.proofs.table.Table.clear.Goals as goal
+
+pub invariant_of-self : goal.invariant_of-self
+invariant_of-self c =
+    let fresh = subst (IsRising kept_order) (sym c.purge.ensures)
+    (IsRising-filter kept_order (is_fresh c.self.inside.lifetime_ms c.later-self-inside.result) c.self.inside.rows.items c.self.invariant.1) in
+    (c.self.invariant.0, subst (IsRising kept_order) (sym c.drop_endpoint.ensures) (IsRising-filter kept_order (is_besides c.args.endpoint.now) c.purge.new.rows.items fresh))
+
+pub returns-clause-live : goal.returns-clause-live
+returns-clause-live c terms log holds =
+    let inside = subst (λ (table : TableValue). Holds terms table log) (sym c.self.view_is) holds in
+    c.is_live-live.ensures ∙ ap (is_live c.args.endpoint.now) (c.deref.ensures.value ∙ c.purge.ensures
+    ∙ fresh_are terms _ log c.args.at.now c.later-self-inside.result c.later-self-inside.ensures inside)
+
+pub returns-clause-stands : goal.returns-clause-stands
+returns-clause-stands c terms log holds =
+    let inside = subst (λ (table : TableValue). Holds terms table log) (sym c.self.view_is) holds in
+    Holds-clear terms _ log c.args.endpoint.now c.args.at.now c.later-self-inside.result c.purge.new.rows.items c.drop_endpoint.new.rows.items c.self.invariant.0.some_time
+    c.later-self-inside.ensures c.purge.ensures c.drop_endpoint.ensures inside
+
+pub returns-clause-within : goal.returns-clause-within
+returns-clause-within c within =
+    let inside = subst IsWithinLimits (sym c.self.view_is) within in
+    let limits = c.self.inside.limits in
+    let fresh = subst (IsWithin limits) (sym c.purge.ensures) (IsWithin-filter limits (is_fresh c.self.inside.lifetime_ms c.later-self-inside.result) c.self.inside.rows.items inside) in
+    subst (IsWithin limits) (sym c.drop_endpoint.ensures) (IsWithin-filter limits (is_besides c.args.endpoint.now) c.purge.new.rows.items fresh)

@@ -1,0 +1,31 @@
+use Rattle.std.proofs.Common.{List, Some, None, filter, sym, ap, subst, ◌≡◌, ◌≤◌, ◌∙◌, arith}
+use Rattle.source_filter.specs.Rising.{IsRising}
+use Rattle.endpoint_membership.specs.declared.kept.Kept.{Kept}
+use Rattle.endpoint_membership.specs.Kept.{is_counted}
+use Rattle.endpoint_membership.specs.Limits.{live_count}
+use Rattle.endpoint_membership.specs.Rows.{kept_order}
+use Rattle.endpoint_membership.specs.Table.{IsWithinLimits}
+use Rattle.endpoint_membership.proofs.Counts.{live_count-filter}
+use Rattle.endpoint_membership.proofs.table.Table.limit_passed.Goals as goal
+
+pub overflow_add-live : goal.overflow_add-live
+overflow_add-live c =
+    let within = subst IsWithinLimits (sym c.self.view_is) c.requires.within in
+    let count = c.count_live-others.ensures (subst (IsRising kept_order) (sym c.deref.ensures.value) c.self.invariant.1) in
+    let fewer = live_count-filter (is_counted c.self.inside.lifetime_ms c.args.moment (Some c.args.endpoint.now)) c.deref.result.now in
+    let all = ap live_count c.deref.ensures.value in
+    let most = within.endpoints in
+    let lawful = c.self.invariant.0.endpoints in
+    let step = c.one_unless.ensures.most in
+    omega arith
+
+pub limit_passed-requires-clause-endpoints : goal.limit_passed-requires-clause-endpoints
+limit_passed-requires-clause-endpoints c =
+    let within = subst IsWithinLimits (sym c.self.view_is) c.requires.within in
+    let count = c.count_live-others.ensures (subst (IsRising kept_order) (sym c.deref.ensures.value) c.self.invariant.1) in
+    let fewer = live_count-filter (is_counted c.self.inside.lifetime_ms c.args.moment (Some c.args.endpoint.now)) c.deref.result.now in
+    let all = ap live_count c.deref.ensures.value in
+    let most = within.endpoints in
+    let lawful = c.self.invariant.0.endpoints in
+    let step = c.one_unless.ensures.most in
+    omega arith
