@@ -24,3 +24,6 @@ pub use table::Table;
 
 #[cfg(test)]
 mod slow;
+
+#[cfg(test)]
+mod tests;
