@@ -1,11 +1,10 @@
 -- The rows by the log are exactly what stands.
-use Rattle.std.proofs.Common.{◌≡◌, ℕ, ◌+◌, Bool, true, false, cond, ltb, not, ◌&&◌, ◌||◌, List, [], ◌∷◌, ◌++◌, reverse, filter, map, Option, Some, None, unwrap_or, refl, sym, ap, ◌∙◌, inl, inr}
+use Rattle.std.proofs.Common.{◌≡◌, ℕ, ◌+◌, Bool, true, false, cond, ltb, not, ◌&&◌, ◌||◌, List, [], ◌∷◌, ◌++◌, reverse, Option, Some, None, unwrap_or, refl, sym, ap, ◌∙◌, inl, inr}
 use Rattle.std.specs.List.{AllByRecursion, cons_option, filter_map}
 use Rattle.std.specs.List.Sorted.{IsStrictlySortedBy}
 use Rattle.std.specs.Option.{option_or}
 use Rattle.std.specs.declared.cmp.Ordering.TheVariants.{Less}
 use Rattle.std.proofs.lemmas.Bool.{cases_Bool}
-use Rattle.amt_values.specs.declared.address.Ip.{Ip}
 use Rattle.amt_values.specs.Tunnel.{Tunnel}
 use Rattle.source_filter.specs.Filter.{FilterValue, nothing}
 use Rattle.source_filter.specs.Rising.{IsRising, has, rising}
@@ -14,10 +13,10 @@ use Rattle.source_filter.proofs.RisingLaws.{IsRising-rising, has-append, has-ris
 use Rattle.endpoint_membership.specs.declared.change.Change.{Change}
 use Rattle.endpoint_membership.specs.declared.change.Change.TheVariants.{Reported, Clear, Mark}
 use Rattle.endpoint_membership.specs.declared.kept.Kept.{Kept}
-use Rattle.endpoint_membership.specs.Log.{concerns, is_empty, latest, leaving, live_chain, records_at, renewed_at}
+use Rattle.endpoint_membership.specs.Log.{is_empty, latest, leaving, live_chain, records_at, renewed_at}
 use Rattle.endpoint_membership.specs.Own.{on_group}
 use Rattle.endpoint_membership.specs.Place.{Place, place_order, same_endpoint, same_group, same_place}
-use Rattle.endpoint_membership.specs.Rows.{is_standing, kept_if_standing, kept_order, place_of, places_in, places_of, row_at, standing, standing_rows}
+use Rattle.endpoint_membership.specs.Rows.{kept_if_standing, kept_order, place_of, places_in, places_of, row_at, standing, standing_rows}
 use Rattle.endpoint_membership.specs.Table.{AreRows}
 use Rattle.endpoint_membership.proofs.Lookup.{AreAfter, same_place-exact, same_rows}
 use Rattle.endpoint_membership.proofs.Places.{place_order-total, same_place-is}

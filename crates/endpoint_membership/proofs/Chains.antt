@@ -1,9 +1,9 @@
 -- How a place's live chain goes on as entries come and time passes.
-use Rattle.std.proofs.Common.{◌≡◌, ℕ, ◌+◌, ◌≤◌, ◌<◌, max, Bool, true, false, cond, ltb, not, List, [], ◌∷◌, ◌++◌, reverse, refl, sym, ap, ◌∙◌, arith, inl, inr}
-use Rattle.std.proofs.lemmas.Bool.{cases_Bool, ltb-true, le-ltb, lt-ltb}
+use Rattle.std.proofs.Common.{◌≡◌, ℕ, ◌+◌, ◌≤◌, ◌<◌, Bool, true, false, cond, ltb, not, List, [], ◌∷◌, ◌++◌, refl, arith, inl, inr}
+use Rattle.std.proofs.lemmas.Bool.{cases_Bool, ltb-true, lt-ltb}
 use Rattle.source_filter.specs.declared.record.Record.{Record}
 use Rattle.endpoint_membership.specs.declared.change.Change.{Change}
-use Rattle.endpoint_membership.specs.Log.{brought, latest, records_at, is_empty, concerns, live_chain, renewed_at}
+use Rattle.endpoint_membership.specs.Log.{latest, records_at, is_empty, concerns, live_chain, renewed_at}
 use Rattle.endpoint_membership.specs.Place.{Place}
 
 -- an entry that makes no record at the place changes nothing there

@@ -1,5 +1,5 @@
 -- Tables that stand for a log, and what each call leaves.
-use Rattle.std.proofs.Common.{◌≡◌, ℕ, ◌+◌, ◌≤◌, ◌<◌, max, Bool, List, [], ◌∷◌, ◌++◌, reverse, filter, Option, Some, None, refl, sym, ap, subst, ◌∙◌, arith}
+use Rattle.std.proofs.Common.{◌≡◌, ℕ, ◌<◌, max, List, [], ◌∷◌, ◌++◌, reverse, filter, Some, None, refl, sym, ap, subst, ◌∙◌, arith}
 use Rattle.std.specs.List.Sorted.{IsStrictlySortedBy}
 use Rattle.std.proofs.lemmas.List.{reverse-append}
 use Rattle.amt_values.specs.Tunnel.{Tunnel}
@@ -8,16 +8,18 @@ use Rattle.source_filter.specs.declared.record.Record.{Record}
 use Rattle.endpoint_membership.specs.declared.change.Change.{Change}
 use Rattle.endpoint_membership.specs.declared.change.Change.TheVariants.{Reported, Clear, Mark}
 use Rattle.endpoint_membership.specs.declared.kept.Kept.{Kept}
+use Rattle.endpoint_membership.specs.declared.limits.LimitFault.{LimitFault}
 use Rattle.endpoint_membership.specs.declared.limits.Limits.{Limits}
 use Rattle.endpoint_membership.specs.Kept.{is_besides, is_counted, is_fresh}
-use Rattle.endpoint_membership.specs.Limits.{first_limit}
+use Rattle.endpoint_membership.specs.Limits.{IsWithin, first_limit}
 use Rattle.endpoint_membership.specs.Log.{brought, latest}
 use Rattle.endpoint_membership.specs.Rows.{kept_order, standing_rows}
-use Rattle.endpoint_membership.specs.Table.{AreRows, Holds, TableValue, Terms, limit_passed, standing_now}
+use Rattle.endpoint_membership.specs.Table.{AreRows, Holds, IsWithinLimits, TableValue, Terms, limit_passed, standing_now}
 use Rattle.endpoint_membership.proofs.ByLog.{rows_are}
 use Rattle.endpoint_membership.proofs.Owning.{replaced}
 use Rattle.endpoint_membership.proofs.Reported.{AreOwn, AreRows-reported}
 use Rattle.endpoint_membership.proofs.Steps.{AreRows-clear, AreRows-later, AreRows-other}
+use Rattle.endpoint_membership.proofs.Within.{none_passed}
 
 latest-append : (xs ys : List Change) → latest (xs ++ ys) ≡ max (latest xs) (latest ys)
 latest-append [] ys = omega arith
@@ -121,11 +123,11 @@ Holds-report terms table log endpoint records at moment own rows some is owned p
     let long = holds.lifetime in
     let now : moment ≡ latest (entry ∷ past) = omega arith in
     let owned_here = subst (λ (lifetime : ℕ). AreOwn lifetime (latest (entry ∷ past)) endpoint records table.rows own) long
-      (subst (λ (later : ℕ). AreOwn table.lifetime later endpoint records table.rows own) now owned) in
+    (subst (λ (later : ℕ). AreOwn table.lifetime later endpoint records table.rows own) now owned) in
     let put_here = put ∙ ap (λ (lifetime : ℕ). replaced lifetime moment endpoint table.rows own) long ∙ ap (λ (later : ℕ). replaced terms.lifetime later endpoint table.rows own) now in
     held terms table log entry moment rows holds is
     (subst (AreRows terms.lifetime (latest (entry ∷ past)) (entry ∷ past)) (sym put_here)
-      (AreRows-reported terms.lifetime (latest log) at endpoint records past table.rows own (omega arith) (omega arith) holds.rows owned_here))
+    (AreRows-reported terms.lifetime (latest log) at endpoint records past table.rows own (omega arith) (omega arith) holds.rows owned_here))
 
 -- the limit that a report passes is judged by the rows that stand with it
 pub passed_is : (terms : Terms) (table : TableValue) (log : List Change) (endpoint : Tunnel) (records : List Record) (at : ℕ) → Holds terms table (log ++ Reported endpoint records at ∷ [])
@@ -134,3 +136,16 @@ passed_is terms table log endpoint records at holds =
     let entries = log ++ Reported endpoint records at ∷ [] in
     ap (first_limit terms.limits endpoint records) (sym (rows_are terms.lifetime (latest entries) entries table.rows holds.rows))
     ∙ ap (λ (limits : Limits). first_limit limits endpoint records table.rows) (sym holds.limits)
+
+-- what a table keeps within its limits is within them by the log
+pub IsWithin-log : (terms : Terms) (table : TableValue) (log : List Change) → Holds terms table log → IsWithinLimits table → IsWithin terms.limits (standing_now terms log)
+IsWithin-log terms table log holds within =
+    subst (IsWithin terms.limits) (rows_are terms.lifetime (latest log) log table.rows holds.rows)
+    (subst (λ (limits : Limits). IsWithin limits table.rows) holds.limits within)
+
+-- where a limit is passed, what would stand isn't within the limits
+pub unfit : (terms : Terms) (log : List Change) (endpoint : Tunnel) (records : List Record) (at : ℕ) (fault : LimitFault) → limit_passed terms log endpoint records at ≡ Some fault
+    → IsWithin terms.limits (standing_now terms (log ++ Reported endpoint records at ∷ [])) → ⊥
+unfit terms log endpoint records at fault passed within =
+    let none = none_passed terms.limits endpoint records (standing_now terms (log ++ Reported endpoint records at ∷ [])) within in
+    cc

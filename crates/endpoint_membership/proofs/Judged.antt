@@ -1,11 +1,10 @@
 -- The limits that a report's rows pass, by the rows of its endpoint and the number of other live endpoints.
-use Rattle.std.proofs.Common.{◌≡◌, ℕ, ◌+◌, ◌≤◌, nat_lt, Bool, true, false, cond, not, ◌&&◌, ◌||◌, if◌then◌else◌, List, [], ◌∷◌, ◌++◌, filter, length, map, Option, Some, None, refl, sym, ap, ◌∙◌, arith}
-use Rattle.std.specs.List.{AllByRecursion, count_by, find, list_any}
+use Rattle.std.proofs.Common.{◌≡◌, ℕ, ◌+◌, nat_lt, Bool, true, false, cond, not, ◌&&◌, ◌||◌, if◌then◌else◌, List, [], ◌∷◌, ◌++◌, filter, length, map, Option, Some, None, refl, sym, ap, ◌∙◌, arith}
+use Rattle.std.specs.List.{AllByRecursion, find, list_any}
 use Rattle.std.specs.Option.{option_or}
 use Rattle.std.specs.Ordering.{eq_by_cmp, is_eq, match_ordering}
 use Rattle.std.specs.declared.cmp.Ordering.{Ordering}
 use Rattle.std.specs.declared.cmp.Ordering.TheVariants.{Less, Equal, Greater}
-use Rattle.std.proofs.lemmas.Cmp.{tied_itself}
 use Rattle.std.proofs.lemmas.List.{map-append}
 use Rattle.std.proofs.lemmas.List.Elements.{filter-append}
 use Rattle.std.proofs.lemmas.List.Folds.{find-append}
@@ -17,9 +16,8 @@ use Rattle.source_filter.specs.Rising.{IsRising, has, placed, rising}
 use Rattle.source_filter.specs.declared.record.Record.{Record}
 use Rattle.source_filter.proofs.RisingLaws.{IsRising-placed, IsRising-rising, has-append, has-placed, has-rising, same_rising}
 use Rattle.endpoint_membership.specs.declared.kept.Kept.{Kept}
-use Rattle.endpoint_membership.specs.declared.limits.LimitFault.{LimitFault}
 use Rattle.endpoint_membership.specs.declared.limits.Limits.{Limits}
-use Rattle.endpoint_membership.specs.Kept.{earlier, is_besides, is_counted, is_fresh, later}
+use Rattle.endpoint_membership.specs.Kept.{earlier, is_counted, is_fresh, later}
 use Rattle.endpoint_membership.specs.Limits.{fault_by, first_limit, group_count, is_too_wide, live_count}
 use Rattle.endpoint_membership.specs.Log.{is_empty}
 use Rattle.endpoint_membership.specs.Own.{AreOf, is_over}

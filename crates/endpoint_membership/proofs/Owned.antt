@@ -1,34 +1,33 @@
 -- The groups of one endpoint, as a map of wishes and as rows.
-use Rattle.std.proofs.Common.{◌≡◌, ℕ, ◌+◌, Bool, true, false, cond, not, ◌&&◌, List, [], ◌∷◌, ◌++◌, filter, Option, Some, None, refl, sym, ap, subst, ◌∙◌, append-nil}
-use Rattle.std.specs.BTreeMap.{BTreeMap, Updates, get, is_at, keys}
+use Rattle.std.proofs.Common.{◌≡◌, ℕ, Bool, true, false, cond, ◌&&◌, List, [], ◌∷◌, ◌++◌, filter, Option, Some, None, refl, sym, ap, subst, ◌∙◌, append-nil}
+use Rattle.std.specs.BTreeMap.{BTreeMap, Updates, get, is_at}
 use Rattle.std.specs.List.{AllByRecursion, cons_option, filter_map}
 use Rattle.std.specs.List.Sorted.{IsStrictlySortedBy}
 use Rattle.std.specs.Map.{keys_of, lookup}
 use Rattle.std.specs.Option.{option_or}
-use Rattle.std.specs.Ordering.{eq_by_cmp, is_eq, ordering_reverse}
+use Rattle.std.specs.Ordering.{is_eq, ordering_reverse}
 use Rattle.std.specs.declared.cmp.Ordering.{Ordering}
 use Rattle.std.specs.declared.cmp.Ordering.TheVariants.{Less}
-use Rattle.std.proofs.lemmas.Bool.{cases_Bool}
 use Rattle.std.proofs.lemmas.Cmp.{eq_by_cmp_equiv, tied_itself}
 use Rattle.std.proofs.lemmas.List.Elements.{filter-append, filter_map-append}
 use Rattle.std.proofs.lemmas.Map.Keys.{sorted_head, sorted_tail}
 use Rattle.std.proofs.lemmas.Map.Views.{tells_apart}
 use Rattle.amt_values.specs.declared.address.Ip.{Ip}
-use Rattle.amt_values.specs.Order.{ip_order, tunnel_order}
+use Rattle.amt_values.specs.Order.{ip_order}
 use Rattle.amt_values.specs.Tunnel.{Tunnel}
 use Rattle.amt_values.proofs.Orders.{ip_order-exact, ip_order-total, tunnel_order-total}
-use Rattle.source_filter.specs.Filter.{FilterValue, applied}
+use Rattle.source_filter.specs.Filter.{FilterValue}
 use Rattle.source_filter.specs.Rising.{IsRising}
 use Rattle.source_filter.specs.declared.record.Record.{Record}
 use Rattle.endpoint_membership.specs.declared.kept.Kept.{Kept}
 use Rattle.endpoint_membership.specs.declared.wish.Wish.{Wish}
 use Rattle.endpoint_membership.specs.Kept.{is_fresh, only}
-use Rattle.endpoint_membership.specs.Own.{AreOf, applied_all, filter_wished, is_own, kept_wish, on_group, row_of_wish, wish_after, wish_after_all, wish_in}
+use Rattle.endpoint_membership.specs.Own.{AreOf, is_own, kept_wish, on_group, row_of_wish, wish_after, wish_after_all, wish_in}
 use Rattle.endpoint_membership.specs.Place.{Place, place_order, same_endpoint, same_group, same_place}
-use Rattle.endpoint_membership.specs.Rows.{is_standing, kept_if_standing, kept_order, place_of, row_at}
+use Rattle.endpoint_membership.specs.Rows.{is_standing, kept_order, place_of, row_at}
 use Rattle.endpoint_membership.proofs.ByLog.{AreAfter-cons_option, IsRising-cons_option, kept_by, row_at-cons_option}
 use Rattle.endpoint_membership.proofs.Lookup.{AreAfter, row_at-after, row_at-append, same_place-exact}
-use Rattle.endpoint_membership.proofs.Places.{kept_order-total, place_order-total, same_place-is}
+use Rattle.endpoint_membership.proofs.Places.{kept_order-total, same_place-is}
 
 pub same_group-back : (one other : Ip) → same_group one other ≡ same_group other one
 same_group-back one other = (eq_by_cmp_equiv ip_order-total).symm one other

@@ -1,7 +1,7 @@
 -- What the rows of an endpoint after its report may be, whatever log the rows before stood for.
-use Rattle.std.proofs.Common.{◌≡◌, ℕ, ◌+◌, ◌≤◌, ◌<◌, ◌^◌, ltb, Bool, true, false, cond, ◌&&◌, ◌||◌, if◌then◌else◌, List, [], ◌∷◌, ◌++◌, filter, length, map, Option, Some, None, is_some, sum_by, unwrap_or, refl, sym, ap, subst, ◌∙◌, arith, inl, inr}
+use Rattle.std.proofs.Common.{◌≡◌, ℕ, ◌+◌, ◌≤◌, ◌<◌, ◌^◌, Bool, true, false, cond, ◌||◌, if◌then◌else◌, List, [], ◌∷◌, ◌++◌, filter, length, map, Option, Some, None, is_some, sum_by, unwrap_or, refl, sym, ap, subst, ◌∙◌, arith}
 use Rattle.std.specs.List.{AllByRecursion, find, list_any}
-use Rattle.std.proofs.lemmas.Bool.{cases_Bool, lt-ltb}
+use Rattle.std.proofs.lemmas.Bool.{lt-ltb}
 use Rattle.std.specs.Ordering.{is_eq}
 use Rattle.std.proofs.lemmas.Cmp.{tied_itself}
 use Rattle.std.proofs.lemmas.Map.Views.{tells_apart}
@@ -20,7 +20,7 @@ use Rattle.endpoint_membership.specs.declared.wish.Wish.{Wish}
 use Rattle.endpoint_membership.specs.Kept.{earlier, is_counted, is_fresh, later, only}
 use Rattle.endpoint_membership.specs.Limits.{IsWithin, fault_by, first_limit, group_count, live_count, size}
 use Rattle.endpoint_membership.specs.Log.{is_empty}
-use Rattle.endpoint_membership.specs.Own.{AreOf, applied_all, filter_wished, is_over, on_group, row_of_wish, wish_after_all, wish_in}
+use Rattle.endpoint_membership.specs.Own.{AreOf, filter_wished, is_over, on_group, row_of_wish, wish_after_all, wish_in}
 use Rattle.endpoint_membership.specs.Place.{Place, same_endpoint, same_group}
 use Rattle.endpoint_membership.specs.Rows.{is_standing, kept_order, place_of, row_at}
 use Rattle.endpoint_membership.specs.Table.{AreLawful, item_count}
@@ -206,7 +206,7 @@ judged_at lifetime moment limits endpoint records rows own slice result some ris
 -- what own_rows answers of a slice of these rows
 pub owned_rows : (lifetime moment : ℕ) (endpoint : Tunnel) (records : List Record) (slice rows own : List Kept) → slice ≡ rows → IsRising kept_order rows → IsRising kept_order own → AreOf endpoint own
     → (IsRising kept_order slice → (group : Ip) → row_at own (place endpoint group)
-      ≡ row_of_wish endpoint group (wish_after_all moment (on_group group records) (wish_in (only (is_fresh lifetime moment) (row_at slice (place endpoint group))))))
+    ≡ row_of_wish endpoint group (wish_after_all moment (on_group group records) (wish_in (only (is_fresh lifetime moment) (row_at slice (place endpoint group))))))
     → AreOwn lifetime moment endpoint records rows own
 owned_rows lifetime moment endpoint records slice rows own same rises rise of each =
     subst (λ (all : List Kept). AreOwn lifetime moment endpoint records all own) same

@@ -1,22 +1,21 @@
 -- Rows that rise fall into three parts: of earlier endpoints, of one endpoint, and of later ones.
-use Rattle.std.proofs.Common.{◌≡◌, ℕ, suc, ◌+◌, ◌≤◌, Bool, true, false, cond, not, List, [], ◌∷◌, ◌++◌, take, drop, filter, length, refl, sym, ap, subst, ◌∙◌, arith}
-use Rattle.std.specs.List.{AllByRecursion, prefix_len, splice}
+use Rattle.std.proofs.Common.{◌≡◌, ℕ, suc, ◌+◌, ◌≤◌, Bool, cond, not, List, [], ◌∷◌, ◌++◌, take, drop, filter, refl, sym, ap, subst, ◌∙◌, arith}
+use Rattle.std.specs.List.{splice}
 use Rattle.std.specs.Ordering.{is_eq, is_lt, ordering_reverse, ordering_then}
 use Rattle.std.specs.declared.cmp.Ordering.{Ordering}
 use Rattle.std.specs.declared.cmp.Ordering.TheVariants.{Less, Equal, Greater}
 use Rattle.std.proofs.lemmas.Map.Keys.{sorted_head, sorted_tail}
-use Rattle.amt_values.specs.declared.address.Ip.{Ip}
 use Rattle.amt_values.specs.Order.{ip_order, tunnel_order}
 use Rattle.amt_values.specs.Tunnel.{Tunnel}
 use Rattle.amt_values.proofs.Orders.{tunnel_order-exact, tunnel_order-total}
 use Rattle.source_filter.specs.Rising.{IsRising}
 use Rattle.endpoint_membership.specs.declared.kept.Kept.{Kept}
-use Rattle.endpoint_membership.specs.Kept.{earlier, end_of, is_before, is_behind, later, start_of}
+use Rattle.endpoint_membership.specs.Kept.{earlier, end_of, later, start_of}
 use Rattle.endpoint_membership.specs.Own.{AreOf}
 use Rattle.endpoint_membership.specs.Place.{same_endpoint}
 use Rattle.endpoint_membership.specs.Rows.{kept_order, place_of}
 use Rattle.endpoint_membership.proofs.Lookup.{AreAfter}
-use Rattle.endpoint_membership.proofs.Steps.{AreBefore, AreBehind, IsParted, IsRising-back, IsRising-front, IsRising-three}
+use Rattle.endpoint_membership.proofs.Steps.{AreBehind, IsParted, IsRising-back, IsRising-front, IsRising-three}
 
 one_more : (n : ℕ) → 1 + n ≡ suc n
 one_more n = omega arith

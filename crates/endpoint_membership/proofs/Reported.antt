@@ -1,5 +1,5 @@
 -- The rows of an endpoint after its report are what stands there by the log with the report.
-use Rattle.std.proofs.Common.{◌≡◌, ℕ, ◌≤◌, ◌<◌, max, Bool, true, false, cond, if◌then◌else◌, List, [], ◌∷◌, ◌++◌, reverse, filter, Option, Some, None, refl, sym, ap, subst, ◌∙◌, arith}
+use Rattle.std.proofs.Common.{◌≡◌, ℕ, ◌≤◌, ◌<◌, true, if◌then◌else◌, List, [], ◌∷◌, ◌++◌, filter, Option, Some, None, refl, sym, ap, subst, ◌∙◌}
 use Rattle.std.specs.Ordering.{is_eq}
 use Rattle.std.proofs.lemmas.Cmp.{tied_itself}
 use Rattle.std.proofs.lemmas.Map.Views.{tells_apart}
@@ -11,21 +11,19 @@ use Rattle.source_filter.specs.Rising.{IsRising}
 use Rattle.source_filter.specs.declared.mode.Mode.{Mode}
 use Rattle.source_filter.specs.declared.mode.Mode.TheVariants.{Include, Exclude}
 use Rattle.source_filter.specs.declared.record.Record.{Record}
-use Rattle.source_filter.proofs.RisingLaws.{IsRising-filter}
 use Rattle.endpoint_membership.specs.declared.change.Change.{Change}
-use Rattle.endpoint_membership.specs.declared.change.Change.TheVariants.{Reported, Clear, Mark}
+use Rattle.endpoint_membership.specs.declared.change.Change.TheVariants.{Reported}
 use Rattle.endpoint_membership.specs.declared.kept.Kept.{Kept}
 use Rattle.endpoint_membership.specs.declared.wish.Wish.{Wish}
 use Rattle.endpoint_membership.specs.Kept.{earlier, is_fresh, later, only}
 use Rattle.endpoint_membership.specs.Log.{is_empty, latest}
 use Rattle.endpoint_membership.specs.Own.{AreOf, applied_all, filter_wished, on_group, row_of_wish, wish_after, wish_after_all, wish_in}
-use Rattle.endpoint_membership.specs.Place.{Place, same_endpoint, same_group}
-use Rattle.endpoint_membership.specs.Rows.{is_standing, kept_if_standing, kept_order, row_at, standing}
+use Rattle.endpoint_membership.specs.Place.{Place, same_endpoint}
+use Rattle.endpoint_membership.specs.Rows.{kept_if_standing, kept_order, row_at, standing}
 use Rattle.endpoint_membership.specs.Table.{AreRows}
-use Rattle.endpoint_membership.proofs.Lookup.{row_at-filter, same_rows}
 use Rattle.endpoint_membership.proofs.Parts.{is_of, parted}
 use Rattle.endpoint_membership.proofs.Standing.{filter_in, standing-later, standing-report}
-use Rattle.endpoint_membership.proofs.Steps.{AreRows-report, row_at-of}
+use Rattle.endpoint_membership.proofs.Steps.{AreRows-report}
 
 abbrev place : Tunnel → Ip → Place
 place endpoint group = record { endpoint = endpoint; group = group }

@@ -1,20 +1,19 @@
 -- What stands at a place as entries come and time passes.
-use Rattle.std.proofs.Common.{◌≡◌, ℕ, ◌+◌, ◌≤◌, ◌<◌, Bool, true, false, cond, ltb, nat_lt, not, if◌then◌else◌, List, [], ◌∷◌, ◌++◌, reverse, filter, Option, Some, None, refl, sym, ap, ◌∙◌, arith, inl, inr}
-use Rattle.std.proofs.lemmas.Bool.{cases_Bool}
+use Rattle.std.proofs.Common.{◌≡◌, ℕ, ◌+◌, ◌≤◌, ◌<◌, Bool, true, false, cond, ltb, not, if◌then◌else◌, List, [], ◌∷◌, ◌++◌, reverse, filter, Option, Some, None, refl, sym, ap, ◌∙◌}
 use Rattle.std.proofs.lemmas.Grind.{reverse_onto}
 use Rattle.amt_values.specs.declared.address.Ip.{Ip}
 use Rattle.amt_values.specs.Tunnel.{Tunnel}
-use Rattle.source_filter.specs.Filter.{FilterValue, applied, nothing}
+use Rattle.source_filter.specs.Filter.{FilterValue, nothing}
 use Rattle.source_filter.specs.declared.mode.Mode.{Mode}
 use Rattle.source_filter.specs.declared.mode.Mode.TheVariants.{Include, Exclude}
 use Rattle.source_filter.specs.declared.record.Record.{Record}
 use Rattle.endpoint_membership.specs.declared.change.Change.{Change}
-use Rattle.endpoint_membership.specs.declared.change.Change.TheVariants.{Reported, Clear, Mark}
+use Rattle.endpoint_membership.specs.declared.change.Change.TheVariants.{Reported, Clear}
 use Rattle.endpoint_membership.specs.declared.kept.Kept.{Kept}
 use Rattle.endpoint_membership.specs.Kept.{is_fresh, only}
 use Rattle.endpoint_membership.specs.Log.{concerns, is_empty, latest, leaving, live_chain, records_at, renewed_at}
 use Rattle.endpoint_membership.specs.Own.{applied_all, on_group}
-use Rattle.endpoint_membership.specs.Place.{Place, same_endpoint, same_group}
+use Rattle.endpoint_membership.specs.Place.{Place, same_endpoint}
 use Rattle.endpoint_membership.specs.Rows.{kept_if_standing, standing}
 use Rattle.endpoint_membership.specs.Wishes.{wish_of}
 use Rattle.endpoint_membership.proofs.Chains.{live_chain-entry, live_chain-later, live_chain-other, renewed_at-entry, renewed_at-other}

@@ -1,5 +1,5 @@
 -- The groups of one endpoint as the body of a table handles them. No public contract says these words.
-use Rattle.std.specs.Prelude.{◌≡◌, ℕ, Bool, true, List, [], ◌∷◌, Option, Some, None, ◌&&◌, length, nat_lt, if◌then◌else◌}
+use Rattle.std.specs.Prelude.{◌≡◌, ℕ, Bool, true, List, [], ◌∷◌, Option, Some, None, ◌&&◌, length, nat_lt}
 use Rattle.std.specs.List.{AllByRecursion, filter, list_any}
 use Rattle.amt_values.specs.declared.address.Ip.{Ip}
 use Rattle.amt_values.specs.Tunnel.{Tunnel}

@@ -1,5 +1,5 @@
 -- Which groups stand at which endpoints, by the log alone.
-use Rattle.std.specs.Prelude.{ℕ, ◌+◌, Bool, true, false, not, List, [], ◌∷◌, ◌++◌, reverse, map, Option, Some, None, if◌then◌else◌, ◌||◌}
+use Rattle.std.specs.Prelude.{ℕ, Bool, true, false, not, List, [], ◌∷◌, ◌++◌, reverse, map, Option, Some, None, if◌then◌else◌, ◌||◌}
 use Rattle.std.specs.List.{filter_map, find, list_any}
 use Rattle.std.specs.Ordering.{on}
 use Rattle.std.specs.declared.cmp.Ordering.{Ordering}

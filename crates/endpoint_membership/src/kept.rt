@@ -1,12 +1,9 @@
-ghost use Rattle.std.specs.Prelude.{◌≡◌, ◌≤◌, ◌&&◌, IfOk};
+ghost use Rattle.std.specs.Prelude.{◌≡◌, ◌≤◌};
 ghost use Rattle.endpoint_membership.specs.Place.{same_endpoint};
 ghost use Rattle.endpoint_membership.specs.Kept.{is_before, is_behind, is_fresh};
-ghost use Rattle.endpoint_membership.specs.Rows.{shown};
 
-use crate::row::Row;
 use amt_values::{Endpoint, Ip, Moment};
-use source_filter::{Filter, copy_filter};
-use std::alloc::{AllocError, Global};
+use source_filter::Filter;
 
 /// A group that stands at an endpoint, and when its membership was last renewed.
 #[derive(Debug, Drop)]

@@ -1,7 +1,9 @@
-ghost use Rattle.std.specs.Prelude.{◌≡◌, [], ◌∷◌, ◌++◌, length, OnOk, OnErr};
+ghost use Rattle.std.specs.Prelude.{◌≡◌, [], ◌∷◌, ◌++◌, length, map, IfOk, OnOk, OnErr};
+ghost use Rattle.endpoint_membership.specs.Rows.{shown};
 
+use crate::kept::Kept;
 use amt_values::{Endpoint, Ip};
-use source_filter::Filter;
+use source_filter::{Filter, copy_filter};
 use std::alloc::{AllocError, Global};
 use std::marker::Model;
 
@@ -56,4 +58,25 @@ impl Rows {
         self.rows.push(row)?;
         Ok(())
     }
+}
+
+fn shown(alloc: Global, kept: &Kept) -> Result<Row, AllocError>
+    ensures { IfOk result (λ row. row ≡ shown kept.now) }
+{
+    Ok(Row {
+        endpoint: kept.endpoint,
+        group: kept.group,
+        filter: copy_filter(alloc, &kept.filter)?,
+    })
+}
+
+// Rows as they are shown, in their order.
+pub fn show(alloc: Global, rows: &[Kept]) -> Result<Rows, AllocError>
+    ensures { IfOk result (λ all. all ≡ map shown rows.now) }
+{
+    let mut all = Rows::new(alloc);
+    for kept in rows {
+        all.push(shown(alloc, kept)?)?;
+    }
+    Ok(all)
 }

@@ -1,7 +1,7 @@
 ghost use Rattle.std.specs.Prelude.{◌≡◌, ◌<◌, ◌≤◌, ◌+◌, ◌^◌, [], ◌∷◌, ◌++◌, List, max, length, Some, None, IfOk, OnOk, if◌then◌else◌};
 ghost use Rattle.std.specs.List.{AllByRecursion, filter, find};
 ghost use Rattle.endpoint_membership.specs.Kept.{is_counted};
-ghost use Rattle.endpoint_membership.specs.Limits.{fault_by, live_count, size};
+ghost use Rattle.endpoint_membership.specs.Limits.{IsWithin, fault_by, live_count, size};
 ghost use Rattle.endpoint_membership.specs.Log.{is_empty, latest};
 ghost use Rattle.endpoint_membership.specs.Own.{is_over};
 ghost use Rattle.endpoint_membership.specs.Rows.{is_live, rows_of, standing_rows};
@@ -14,10 +14,10 @@ use crate::kept::Kept;
 use crate::limits::{AcceptFault, LimitFault, Limits};
 use crate::live::{count_live, one_unless};
 use crate::own::own_rows;
-use crate::row::{Row, Rows};
+use crate::row::{Rows, show};
 use crate::sweep::{drop_endpoint, is_live, purge, replace};
 use amt_values::{Endpoint, Moment};
-use source_filter::{Records, copy_filter};
+use source_filter::Records;
 use std::alloc::{AllocError, Global};
 use std::marker::Model;
 
@@ -105,6 +105,15 @@ impl Table {
         count_live(&self.rows, &None, self.moment, self.lifetime_ms) as u32
     }
 
+    /// What stands, by endpoint and then by group.
+    pub fn rows(&self, alloc: Global) -> Result<Rows, AllocError>
+        ensures { IfOk result (λ rows. (terms : Terms) (log : List Entry) → Holds terms self.now log
+            → rows ≡ rows_of terms.lifetime (latest log) log) }
+    {
+        let rows = show(alloc, &self.rows)?;
+        Ok(rows)
+    }
+
     // The first limit that a report passes, if these are its endpoint's rows afterwards.
     fn limit_passed(
         &self,
@@ -152,6 +161,10 @@ impl Table {
         ensures memory { OnMemory result (self.new ≡ self.old) }
 
         ensures within { IsWithinLimits self.new }
+        ensures fits { (terms : Terms) (log : List Entry) → Holds terms self.old log
+            → OnOk result (IsWithin terms.limits (standing_now terms (log ++ Reported endpoint.now records.now at.now ∷ []))) }
+        ensures fits_not { (terms : Terms) (log : List Entry) → Holds terms self.old log
+            → OnLimit result (λ _. IsWithin terms.limits (standing_now terms (log ++ Reported endpoint.now records.now at.now ∷ [])) → ⊥) }
     {
         let moment = self.moment.later(at);
         let own = match own_rows(

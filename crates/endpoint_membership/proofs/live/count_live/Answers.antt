@@ -1,8 +1,8 @@
-use Rattle.std.proofs.Common.{Bool, List, Option, sym, ap, subst, take, drop, filter, not, if◌then◌else◌, ◌+◌, ◌≡◌, ◌∙◌, ◌++◌, ◌∷◌, [], arith}
+use Rattle.std.proofs.Common.{Bool, List, sym, ap, subst, take, drop, filter, if◌then◌else◌, ◌+◌, ◌∙◌, ◌++◌, ◌∷◌, [], arith}
 use Rattle.std.proofs.lemmas.List.{take-append-drop, take_more}
 use Rattle.source_filter.specs.Rising.{IsRising}
 use Rattle.endpoint_membership.specs.declared.kept.Kept.{Kept}
-use Rattle.endpoint_membership.specs.Kept.{ends_with, is_counted, last_of}
+use Rattle.endpoint_membership.specs.Kept.{is_counted, last_of}
 use Rattle.endpoint_membership.specs.Limits.{live_count}
 use Rattle.endpoint_membership.specs.Rows.{kept_order}
 use Rattle.endpoint_membership.proofs.Living.{filter-push_no, filter-push_yes, last_of-push, more_live}

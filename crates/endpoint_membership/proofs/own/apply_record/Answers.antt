@@ -1,4 +1,4 @@
-use Rattle.std.proofs.Common.{ap, cond, option_copied, sym, Some, ◌∙◌}
+use Rattle.std.proofs.Common.{ap, cond, option_copied, ◌∙◌}
 use Rattle.std.specs.BTreeMap.{get}
 use Rattle.std.specs.declared.cmp.Ordering.{Ordering}
 use Rattle.amt_values.specs.declared.address.Ip.{Ip}

@@ -1,10 +1,9 @@
-use Rattle.std.proofs.Common.{List, Option, sym, ap, subst, ◌≡◌, ◌∙◌}
+use Rattle.std.proofs.Common.{List, sym, ap, subst, ◌∙◌}
 use Rattle.std.specs.BTreeMap.{get}
 use Rattle.amt_values.specs.Order.{ip_order}
 use Rattle.source_filter.specs.Rising.{IsRising}
 use Rattle.source_filter.specs.declared.record.Record.{Record}
 use Rattle.endpoint_membership.specs.declared.kept.Kept.{Kept}
-use Rattle.endpoint_membership.specs.declared.wish.Wish.{Wish}
 use Rattle.endpoint_membership.specs.Own.{AreOf, on_group, row_of_wish, wish_after_all}
 use Rattle.endpoint_membership.specs.Rows.{kept_order, row_at}
 use Rattle.endpoint_membership.proofs.Owned.{AreOf-wishes, IsRising-wishes, row_at-wishes}

@@ -1,4 +1,4 @@
-use Rattle.std.proofs.Common.{rules, arith, ◌≡◌, ◌≤◌, length, not, ap, sym, ◌∙◌}
+use Rattle.std.proofs.Common.{arith, not, ap, ◌∙◌}
 use Rattle.std.proofs.lemmas.List.Sums.{prefix_len-le-length}
 use Rattle.endpoint_membership.specs.Kept.{end_of, is_behind, start_of}
 use Rattle.endpoint_membership.proofs.Drained.{drained}

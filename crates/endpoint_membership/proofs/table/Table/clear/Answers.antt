@@ -1,12 +1,10 @@
-use Rattle.std.proofs.Common.{List, filter, sym, ap, subst, ◌≡◌, ◌∙◌}
+use Rattle.std.proofs.Common.{sym, ap, subst, ◌∙◌}
 use Rattle.source_filter.specs.Rising.{IsRising}
 use Rattle.source_filter.proofs.RisingLaws.{IsRising-filter}
-use Rattle.endpoint_membership.specs.declared.change.Change.{Change}
-use Rattle.endpoint_membership.specs.declared.kept.Kept.{Kept}
 use Rattle.endpoint_membership.specs.Kept.{is_besides, is_fresh}
 use Rattle.endpoint_membership.specs.Limits.{IsWithin}
 use Rattle.endpoint_membership.specs.Rows.{is_live, kept_order}
-use Rattle.endpoint_membership.specs.Table.{Holds, IsWithinLimits, TableValue, Terms}
+use Rattle.endpoint_membership.specs.Table.{Holds, IsWithinLimits, TableValue}
 use Rattle.endpoint_membership.proofs.Held.{Holds-clear, fresh_are}
 use Rattle.endpoint_membership.proofs.Within.{IsWithin-filter}
 use Rattle.endpoint_membership.proofs.table.Table.clear.Goals as goal

@@ -1,6 +1,5 @@
-use Rattle.std.proofs.Common.{List, Some, None, filter, sym, ap, subst, ◌≡◌, ◌≤◌, ◌∙◌, arith}
+use Rattle.std.proofs.Common.{Some, sym, ap, subst, arith}
 use Rattle.source_filter.specs.Rising.{IsRising}
-use Rattle.endpoint_membership.specs.declared.kept.Kept.{Kept}
 use Rattle.endpoint_membership.specs.Kept.{is_counted}
 use Rattle.endpoint_membership.specs.Limits.{live_count}
 use Rattle.endpoint_membership.specs.Rows.{kept_order}

@@ -1,11 +1,10 @@
-use Rattle.std.proofs.Common.{List, None, filter, sym, ap, subst, ◌≡◌, ◌∙◌, arith}
+use Rattle.std.proofs.Common.{List, None, filter, sym, ap, subst, ◌∙◌, arith}
 use Rattle.source_filter.specs.Rising.{IsRising}
-use Rattle.endpoint_membership.specs.declared.change.Change.{Change}
 use Rattle.endpoint_membership.specs.declared.kept.Kept.{Kept}
 use Rattle.endpoint_membership.specs.Kept.{is_counted}
 use Rattle.endpoint_membership.specs.Limits.{live_count}
 use Rattle.endpoint_membership.specs.Rows.{kept_order}
-use Rattle.endpoint_membership.specs.Table.{Holds, IsWithinLimits, TableValue, Terms}
+use Rattle.endpoint_membership.specs.Table.{Holds, IsWithinLimits, TableValue}
 use Rattle.endpoint_membership.proofs.Counts.{live_count-filter}
 use Rattle.endpoint_membership.proofs.Held.{rows_now}
 use Rattle.endpoint_membership.proofs.table.Table.live_endpoints.Goals as goal

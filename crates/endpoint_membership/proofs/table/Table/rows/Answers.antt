@@ -1,0 +1,11 @@
+use Rattle.std.proofs.Common.{map, sym, ap, subst, ◌∙◌}
+use Rattle.endpoint_membership.specs.Log.{latest}
+use Rattle.endpoint_membership.specs.Rows.{shown}
+use Rattle.endpoint_membership.specs.Table.{Holds, TableValue}
+use Rattle.endpoint_membership.proofs.ByLog.{rows_are}
+use Rattle.endpoint_membership.proofs.table.Table.rows.Goals as goal
+
+pub returns : goal.returns
+returns c terms log holds =
+    let inside = subst (λ (table : TableValue). Holds terms table log) (sym c.self.view_is) holds in
+    c.in_ok-rows.ensures ∙ ap (map shown) (c.deref.ensures.value ∙ rows_are terms.lifetime (latest log) log c.self.inside.rows.items inside.rows)
