@@ -24,6 +24,5 @@ pub use table::Table;
 
 #[cfg(test)]
 mod slow;
-
 #[cfg(test)]
 mod tests;

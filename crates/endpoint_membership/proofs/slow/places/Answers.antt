@@ -1,5 +1,4 @@
-use Rattle.std.proofs.Common.{◌≡◌, Bool, ◌&&◌, List, ◌++◌, reverse, refl, rules, sym, ap, subst, ◌∙◌, IsSorted}
-use Rattle.std.specs.Cmp.{unsigned_ties}
+use Rattle.std.proofs.Common.{◌≡◌, Bool, ◌&&◌, List, ◌++◌, reverse, rules, sym, ap, subst, ◌∙◌, IsSorted}
 use Rattle.std.specs.Ordering.{eq_by_cmp, on, then_cmp}
 use Rattle.std.specs.declared.cmp.Ordering.{Ordering}
 use Rattle.amt_values.specs.declared.address.Ip.{Ip}
@@ -10,7 +9,7 @@ use Rattle.amt_values.specs.Tunnel.{Tunnel}
 use Rattle.source_filter.specs.Rising.{rising}
 use Rattle.source_filter.proofs.Compared.{compared, tied}
 use Rattle.source_filter.proofs.Sorting.{rising-sorted}
-use Rattle.endpoint_membership.specs.Place.{Place, place_order, same_endpoint, same_group}
+use Rattle.endpoint_membership.specs.Place.{Place, place_order, same_endpoint}
 use Rattle.endpoint_membership.specs.Rows.{places_in}
 use Rattle.endpoint_membership.specs.contracts.slow.SpotOrd as ord
 use Rattle.endpoint_membership.specs.contracts.slow.SpotPartialEq as eq
