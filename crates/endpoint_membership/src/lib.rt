@@ -21,3 +21,8 @@ pub use change::Change;
 pub use limits::{AcceptFault, LimitFault, Limits};
 pub use row::{Row, Rows};
 pub use table::Table;
+
+#[cfg(test)]
+mod slow;
+#[cfg(test)]
+mod tests;
