@@ -6,12 +6,14 @@ pub mod Drained
 pub mod Held
 pub mod Judged
 pub mod Living
+pub mod Longest
 pub mod Lookup
 pub mod Owned
 pub mod Owning
 pub mod Parts
 pub mod Places
 pub mod Reported
+pub mod Speaking
 pub mod Standing
 pub mod Steps
 pub mod Wishing
