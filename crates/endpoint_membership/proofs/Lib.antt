@@ -1,6 +1,7 @@
 pub mod Bounds
 pub mod ByLog
 pub mod Chains
+pub mod Clearings
 pub mod Counts
 pub mod Drained
 pub mod Held
