@@ -1,3 +1,5 @@
+pub mod Admission
+pub mod Chain
 pub mod Kept
 pub mod Limits
 pub mod Log

@@ -9,6 +9,7 @@
 mod change;
 mod judge;
 mod kept;
+mod laws;
 mod limits;
 mod live;
 mod own;
@@ -18,6 +19,15 @@ mod table;
 mod wish;
 
 pub use change::Change;
+pub use laws::{
+    clearings_change_nothing_where_none_is_live, live_chains_are_longest,
+    rows_admit_by_the_newest_record,
+};
 pub use limits::{AcceptFault, LimitFault, Limits};
 pub use row::{Row, Rows};
 pub use table::Table;
+
+#[cfg(test)]
+mod slow;
+#[cfg(test)]
+mod tests;

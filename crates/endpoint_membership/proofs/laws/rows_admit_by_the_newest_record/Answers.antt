@@ -1,0 +1,8 @@
+use Rattle.endpoint_membership.proofs.Speaking.{admits-none, admits-row}
+use Rattle.endpoint_membership.proofs.laws.rows_admit_by_the_newest_record.Goals as goal
+
+pub returns-clause-row : goal.returns-clause-row
+returns-clause-row c = admits-row
+
+pub returns-clause-no_row : goal.returns-clause-no_row
+returns-clause-no_row c = admits-none

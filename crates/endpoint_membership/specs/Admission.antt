@@ -1,0 +1,19 @@
+-- Which sources a tunnel endpoint wants of a group, and where it wants nothing, by the log alone.
+use Rattle.std.specs.Prelude.{◌≡◌, ℕ, max, Bool, List, reverse, None}
+use Rattle.amt_values.specs.declared.address.Ip.{Ip}
+use Rattle.amt_values.specs.Tunnel.{Tunnel}
+use Rattle.endpoint_membership.specs.Log.{latest, live_chain}
+use Rattle.endpoint_membership.specs.Place.{Place}
+use Rattle.endpoint_membership.specs.Rows.{standing}
+use Rattle.endpoint_membership.specs.Wishes.{admitted}
+use Rattle.endpoint_membership.specs.declared.change.Change.{Change}
+
+-- The newest record that still counts and speaks of the source wants it (RFC 3376, section 5.1). The
+-- log stands oldest first, and no moment is before its latest one.
+abbrev pub is_admitted : ℕ → List Change → Place → Ip → ℕ → Bool
+is_admitted lifetime log place source moment = admitted (live_chain lifetime place (max moment (latest log)) (reverse log)) source
+
+-- no group stands at the endpoint at the moment
+abbrev pub NothingStands : ℕ → ℕ → List Change → Tunnel → Type 0
+NothingStands lifetime moment log endpoint =
+    (group : Ip) → standing lifetime moment (reverse log) (record { endpoint = endpoint; group = group }) ≡ None

@@ -1,0 +1,41 @@
+-- The live chain of a place, said of the whole log. As in Log, a log that is read here is turned
+-- round: its newest entry stands first.
+use Rattle.std.specs.Prelude.{◌≡◌, ℕ, ◌+◌, ◌≤◌, ◌<◌, List, [], ◌∷◌, ◌++◌, length, if◌then◌else◌}
+use Rattle.source_filter.specs.declared.record.Record.{Record}
+use Rattle.endpoint_membership.specs.Log.{concerns, latest, records_at}
+use Rattle.endpoint_membership.specs.Place.{Place}
+use Rattle.endpoint_membership.specs.declared.change.Change.{Change}
+
+-- an entry that renews the membership of a place: its moment, and its records there, newest first
+pub record Renewal : Type 0 where
+  pub moment : ℕ
+  pub records : List Record
+
+-- the entries that concern the place; an entry's moment is the latest one of the log up to it
+abbrev pub renewals : Place → List Change → List Renewal
+renewals place [] = []
+renewals place (entry ∷ older) =
+    if concerns place entry
+    then record { moment = latest (entry ∷ older); records = records_at place entry } ∷ renewals place older
+    else renewals place older
+
+-- each renewal was made less than a lifetime before the next newer one, and the newest one less than
+-- a lifetime before the moment (RFC 3376, section 8.4)
+abbrev pub IsUnbroken : ℕ → ℕ → List Renewal → Type 0
+IsUnbroken lifetime moment [] = Unit {0}
+IsUnbroken lifetime moment (newest ∷ older) = (moment < newest.moment + lifetime) × IsUnbroken lifetime newest.moment older
+
+-- the records of renewals
+abbrev pub records_of : List Renewal → List Record
+records_of [] = []
+records_of (newest ∷ older) = newest.records ++ records_of older
+
+-- The records are those of a front, which are the newest renewals of the place. The front is
+-- unbroken, and no longer front is.
+pub record IsLongestChain (lifetime : ℕ) (place : Place) (moment : ℕ) (past : List Change) (records : List Record) : Type 0 where
+  pub front : List Renewal
+  pub before : List Renewal
+  pub is_front : renewals place past ≡ front ++ before
+  pub unbroken : IsUnbroken lifetime moment front
+  pub longest : (other rest : List Renewal) → renewals place past ≡ other ++ rest → IsUnbroken lifetime moment other → length other ≤ length front
+  pub are_its : records ≡ records_of front

@@ -1,0 +1,56 @@
+//! What the definitions of a membership table mean in the words of the field.
+ghost use Rattle.std.specs.Prelude.{ℕ, ◌≡◌, ◌≤◌, ◌<◌, max, false, List, [], ◌∷◌, ◌++◌, reverse, Some, None};
+ghost use Rattle.amt_values.specs.declared.address.Ip.{Ip};
+ghost use Rattle.amt_values.specs.Tunnel.{Tunnel};
+ghost use Rattle.source_filter.specs.Filter.{admits};
+ghost use Rattle.endpoint_membership.specs.Admission.{NothingStands, is_admitted};
+ghost use Rattle.endpoint_membership.specs.Chain.{IsLongestChain};
+ghost use Rattle.endpoint_membership.specs.Log.{latest, live_chain};
+ghost use Rattle.endpoint_membership.specs.Place.{Place};
+ghost use Rattle.endpoint_membership.specs.Rows.{is_live, rows_of, standing, standing_rows};
+ghost use Rattle.endpoint_membership.specs.declared.change.Change.{Change};
+ghost use Rattle.endpoint_membership.specs.declared.change.Change.TheVariants.{Clear, Mark};
+ghost use Rattle.endpoint_membership.specs.declared.kept.Kept.{Kept};
+
+/// A membership lasts as long as reports renew it in time (RFC 3376, section 8.4): what counts of a
+/// place is the longest run of its newest renewals in which no gap, and none up to the moment, is as
+/// long as a lifetime.
+pub fn live_chains_are_longest()
+    ensures { (lifetime : ℕ) (place : Place) (moment : ℕ) (log : List Change)
+        → let past = reverse log in
+        IsLongestChain lifetime place moment past (live_chain lifetime place moment past) }
+{}
+
+/// A row lets in a source exactly where the newest record that speaks of the source wants it (RFC
+/// 3376, section 5.1), so keeping a filter instead of the records loses nothing. Where no row
+/// stands, no source is wanted.
+pub fn rows_admit_by_the_newest_record()
+    ensures row { (lifetime : ℕ) (log : List Change) (place : Place) (source : Ip) (moment : ℕ)
+        (kept : Kept)
+        → latest log ≤ moment
+        → standing lifetime moment (reverse log) place ≡ Some kept
+        → admits kept.filter source ≡ is_admitted lifetime log place source moment }
+    ensures no_row { (lifetime : ℕ) (log : List Change) (place : Place) (source : Ip) (moment : ℕ)
+        → latest log ≤ moment
+        → standing lifetime moment (reverse log) place ≡ None
+        → is_admitted lifetime log place source moment ≡ false }
+{}
+
+/// A clearing of an endpoint at which nothing stands needs no place in the log: with no more than
+/// its moment there the same stands from then on, whatever is accepted later. `Table::clear` tells
+/// whether its endpoint was live.
+pub fn clearings_change_nothing_where_none_is_live()
+    ensures standing { (lifetime : ℕ) (log later : List Change) (endpoint : Tunnel) (at moment : ℕ)
+        (place : Place)
+        → 0 < lifetime
+        → NothingStands lifetime (max at (latest log)) log endpoint
+        → latest (log ++ Clear endpoint at ∷ later) ≤ moment
+        → standing lifetime moment (reverse (log ++ Clear endpoint at ∷ later)) place
+        ≡ standing lifetime moment (reverse (log ++ Mark at ∷ later)) place }
+    ensures rows { (lifetime : ℕ) (log later : List Change) (endpoint : Tunnel) (at moment : ℕ)
+        → 0 < lifetime
+        → is_live endpoint (standing_rows lifetime (max at (latest log)) log) ≡ false
+        → latest (log ++ Clear endpoint at ∷ later) ≤ moment
+        → rows_of lifetime moment (log ++ Clear endpoint at ∷ later)
+        ≡ rows_of lifetime moment (log ++ Mark at ∷ later) }
+{}
