@@ -8,7 +8,7 @@ use Rattle.endpoint_membership.specs.Rows.{standing}
 use Rattle.endpoint_membership.specs.Wishes.{admitted}
 use Rattle.endpoint_membership.specs.declared.change.Change.{Change}
 
--- The newest record that still counts and speaks of the source wants it (RFC 3376, section 5.1). The
+-- The newest record that still counts and speaks of the source wants it (RFC 3376, section 4.2.12). The
 -- log stands oldest first, and no moment is before its latest one.
 abbrev pub is_admitted : ℕ → List Change → Place → Ip → ℕ → Bool
 is_admitted lifetime log place source moment = admitted (live_chain lifetime place (max moment (latest log)) (reverse log)) source

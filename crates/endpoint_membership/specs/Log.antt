@@ -41,10 +41,10 @@ is_empty (x ∷ xs) = false
 abbrev pub concerns : Place → Change → Bool
 concerns place entry = not (is_empty (records_at place entry))
 
--- The records at the place that still count at a moment, newest first: each entry renews the
--- membership for a lifetime (RFC 3376, section 8.4), so an entry counts where it was made less than
--- a lifetime before the next one that counts, and the last one less than a lifetime before the
--- moment.
+-- The records at the place that still count at a moment not before the latest, newest first. Each
+-- entry renews the membership for a lifetime, the Group Membership Interval of RFC 3376, section
+-- 8.4: an entry counts where it was made less than a lifetime before the next one that counts, and
+-- the last one less than a lifetime before the moment.
 abbrev pub live_chain : ℕ → Place → ℕ → List Change → List Record
 live_chain lifetime place moment [] = []
 live_chain lifetime place moment (entry ∷ older) =

@@ -32,7 +32,7 @@ kept_if_standing place filter renewed =
     then Some (record { endpoint = place.endpoint; group = place.group; filter = filter; renewed = renewed })
     else None
 
--- what stands at the place at a moment, by the entries, newest first
+-- what stands at the place at a moment not before the latest, by the entries, newest first
 abbrev pub standing : ℕ → ℕ → List Change → Place → Option Kept
 standing lifetime moment past place =
     kept_if_standing place (wish_of (live_chain lifetime place moment past)) (renewed_at place past)

@@ -22,7 +22,7 @@ pub fn live_chains_are_longest()
 {}
 
 /// A row lets in a source exactly where the newest record that speaks of the source wants it (RFC
-/// 3376, section 5.1), so keeping a filter instead of the records loses nothing. Where no row
+/// 3376, section 4.2.12), so keeping a filter instead of the records loses nothing. Where no row
 /// stands, no source is wanted.
 pub fn rows_admit_by_the_newest_record()
     ensures row { (lifetime : ℕ) (log : List Change) (place : Place) (source : Ip) (moment : ℕ)

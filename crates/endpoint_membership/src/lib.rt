@@ -3,7 +3,7 @@
 //! Contract: a table stands for the whole log of accepted entries, so its rows are what the log's
 //! live records wish, whatever calls made them.
 //! It knows no message, socket or clock.
-//! Standard: RFC 7450, section 5.3; RFC 3376, sections 3.2, 5.1 and 8.4.
+//! Standard: RFC 7450, section 5.3; RFC 3376, sections 3.2, 4.2.12 and 8.4.
 #![tactic(auto)]
 
 mod change;

@@ -2,7 +2,8 @@
 //!
 //! Contract: octets are a report of at most one list of records, which is what is read, and what is
 //! no report is refused by the first fault.
-//! It knows no datagram, tunnel or moment, and none of a family's own messages.
+//! It knows no datagram's layout, no tunnel or moment, and none of a family's own messages. The
+//! checksum it takes from inner_datagrams.
 //! Standard: RFC 3376, section 4.2; RFC 3810, section 5.2.
 #![tactic(auto)]
 

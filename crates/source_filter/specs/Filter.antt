@@ -1,4 +1,5 @@
--- Filters of one group, and what a group record makes of them (RFC 3376, sections 3.2 and 5.1).
+-- Filters of one group (RFC 3376, section 3.2), and what a group record of the same listener makes
+-- of them (section 4.2.12).
 use Rattle.std.specs.Prelude.{Bool, not, List, []}
 use Rattle.amt_values.specs.declared.address.Ip.{Ip}
 use Rattle.amt_values.specs.Order.{ip_order}

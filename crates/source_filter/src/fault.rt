@@ -1,5 +1,5 @@
-/// Why a payload is no membership report, and for a query why it is none: the first of these that
-/// holds, in this order. Record numbers are counted from 0.
+/// Why a payload is no membership report, or no query: the first of these that holds, in this order.
+/// Record numbers are counted from 0.
 #[derive(Clone, Copy, Debug, PartialEq, Eq)]
 pub enum ReportFault {
     /// Fewer octets than needed: the octets needed, and those there.

@@ -79,7 +79,8 @@ impl Filter {
         }
     }
 
-    /// The filter after a group record (RFC 3376, section 5.1).
+    /// The filter of a listener after one of its group records: what the record types of RFC 3376,
+    /// section 4.2.12, say of it, at once.
     pub fn apply(&self, alloc: Global, change: &Record) -> Result<Filter, AllocError>
         ensures table { IfOk result (λ after. after ≡ applied self.now change.now) }
         ensures says { IfOk result

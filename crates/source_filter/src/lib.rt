@@ -3,7 +3,7 @@
 //! Contract: a filter after a record admits a source by what the record says, where the record
 //! speaks of it, and as before elsewhere.
 //! It knows no layout, tunnel endpoint or moment.
-//! Standard: RFC 3376, sections 3.2, 4.1, 4.2.12 and 5.1; RFC 3810, section 5.1.
+//! Standard: RFC 3376, sections 3.2, 4.1 and 4.2.12; RFC 3810, section 5.1.
 #![tactic(auto)]
 
 mod fault;
