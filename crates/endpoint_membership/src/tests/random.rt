@@ -3,15 +3,15 @@ ghost use Rattle.std.specs.Prelude.{◌<◌, ◌≤◌};
 ghost use Rattle.endpoint_membership.specs.Table.{IsWithinLimits};
 
 use super::fixtures::{
-    CHANNEL, GROUP, LIFETIME_MS, ONE, TWO, WIDE, are_few, are_same_rows, endpoint, moment,
-    record_of, table,
+    CHANNEL, GROUP, LIFETIME_MS, ONE, TWO, WIDE, are_few, are_same_rows, moment, record_of, table,
 };
 use crate::change::Change;
-use crate::limits::{AcceptFault, Limits};
+use crate::limits::{AcceptFault, LimitFault, Limits};
+use crate::row::{Row, Rows};
 use crate::slow::slow_rows;
 use crate::table::Table;
 use amt_values::{Endpoint, Moment};
-use source_filter::{RecordKind, Records};
+use source_filter::{RecordKind, Records, copy_records};
 use std::alloc::{AllocError, Global};
 use std::process::Abort;
 use std::test::Fail;
@@ -58,6 +58,54 @@ fn random_records(alloc: Global, words: &mut Words) -> Result<Records, AllocErro
     Ok(records)
 }
 
+fn word(count: usize) -> u32 {
+    u32::try_from(count).unwrap_or(u32::MAX)
+}
+
+fn is_too_wide(row: &Row, endpoint: &Endpoint, records: &Records, limits: &Limits) -> bool {
+    let reported = records
+        .as_slice()
+        .iter()
+        .any(|told| told.group == row.group);
+    row.endpoint == *endpoint && reported && row.filter.sources().len() > limits.sources as usize
+}
+
+fn count_endpoints(alloc: Global, rows: &Rows) -> Result<usize, AllocError> {
+    let mut endpoints = Vec::new(alloc);
+    for row in rows.as_slice() {
+        endpoints.push(row.endpoint)?;
+    }
+    endpoints.dedup();
+    Ok(endpoints.len())
+}
+
+// The first limit that these rows pass after a report of the endpoint, counted plainly.
+fn passed(
+    alloc: Global,
+    rows: &Rows,
+    endpoint: &Endpoint,
+    records: &Records,
+    limits: &Limits,
+) -> Result<Option<LimitFault>, AllocError> {
+    let all = rows.as_slice();
+    if let Some(row) = all
+        .iter()
+        .find(|row| is_too_wide(row, endpoint, records, limits))
+    {
+        let sources = word(row.filter.sources().len());
+        return Ok(Some(LimitFault::Sources(row.group, sources)));
+    }
+    let groups = word(all.iter().filter(|row| row.endpoint == *endpoint).count());
+    if groups > limits.groups {
+        return Ok(Some(LimitFault::Groups(groups)));
+    }
+    let live = word(count_endpoints(alloc, rows)?);
+    if live > limits.endpoints {
+        return Ok(Some(LimitFault::Endpoints(live)));
+    }
+    Ok(None)
+}
+
 // Lets the endpoint report random records, and writes down what was accepted.
 fn accept(
     rt: &impl Abort,
@@ -67,19 +115,29 @@ fn accept(
     words: &mut Words,
     endpoint: Endpoint,
     at: Moment,
+    limits: &Limits,
 ) -> Result<(), AllocError>
     requires { IsWithinLimits table.old }
     ensures { IsWithinLimits table.new }
 {
     let records = random_records(alloc, words)?;
     assert!(rt; are_few(&records));
-    match table.accept(alloc, &endpoint, &records, &at) {
-        Ok(()) => log.push(Change::Reported {
-            endpoint,
-            records,
-            at,
-        })?,
-        Err(AcceptFault::Limit(_)) => log.push(Change::Mark { at })?,
+    let answer = table.accept(alloc, &endpoint, &records, &at);
+    let copies = copy_records(alloc, &records)?;
+    log.push(Change::Reported {
+        endpoint,
+        records: copies,
+        at,
+    })?;
+    let wanted = slow_rows(alloc, LIFETIME_MS, &table.now(), log.as_slice())?;
+    let passed = passed(alloc, &wanted, &endpoint, &records, limits)?;
+    match answer {
+        Ok(()) => assert_eq!(rt; passed, None),
+        Err(AcceptFault::Limit(fault)) => {
+            assert_eq!(rt; passed, Some(fault));
+            log.pop();
+            log.push(Change::Mark { at })?;
+        }
         Err(AcceptFault::Memory) => return Err(AllocError),
     }
     Ok(())
@@ -105,6 +163,24 @@ fn clear(
     Ok(())
 }
 
+// Two hosts, with two ports each.
+fn random_endpoint(words: &mut Words) -> Endpoint {
+    let address = 0xc633_6407 + u128::from(words.below(2));
+    Endpoint::named(address, 5000 + words.below(2) as u16)
+}
+
+// How much later a call comes: at once, around a lifetime, or somewhere between.
+fn random_pause(words: &mut Words) -> u64
+    ensures { result ≤ 300000 }
+{
+    match words.below(6) {
+        0 => 0,
+        1 => LIFETIME_MS - 1,
+        2 => LIFETIME_MS,
+        _ => u64::from(words.below(130_000)),
+    }
+}
+
 // One random call at a moment.
 fn call(
     rt: &impl Abort,
@@ -114,11 +190,12 @@ fn call(
     words: &mut Words,
     latest: Moment,
     at: Moment,
+    limits: &Limits,
 ) -> Result<(), AllocError>
     requires { IsWithinLimits table.old }
     ensures { IsWithinLimits table.new }
 {
-    let endpoint = endpoint(words.below(3) as u8);
+    let endpoint = random_endpoint(words);
     match words.below(8) {
         0 => clear(rt, alloc, table, log, endpoint, latest, at),
         1 => {
@@ -126,7 +203,7 @@ fn call(
             log.push(Change::Mark { at })?;
             Ok(())
         }
-        _ => accept(rt, alloc, table, log, words, endpoint, at),
+        _ => accept(rt, alloc, table, log, words, endpoint, at, limits),
     }
 }
 
@@ -144,9 +221,11 @@ fn compare(
     let mut table = table(alloc, limits)?;
     let mut log = Vec::new(alloc);
     let mut latest = moment(rt, 0);
-    for step in 0..20 {
-        let at = moment(rt, step * 90_000 + u64::from(words.below(130_000)));
-        call(rt, alloc, &mut table, &mut log, words, latest, at)?;
+    for _ in 0..12 {
+        // Every eighth call tells a moment that is over.
+        let start = if words.below(8) == 0 { 0 } else { latest.ms() };
+        let at = Moment::new(start + random_pause(words)).expect(rt, "the logs are short");
+        call(rt, alloc, &mut table, &mut log, words, latest, at, limits)?;
         latest = latest.later(&at);
         assert_eq!(rt; table.now(), latest);
         let rows = table.rows(alloc)?;
@@ -162,7 +241,7 @@ fn compare(
 #[test]
 fn random_calls_leave_the_rows_of_the_definitions(rt: HostRuntime) -> Result<(), Fail> {
     let mut words = Words { state: 1 };
-    for _ in 0..8 {
+    for _ in 0..180 {
         compare(&rt, rt.alloc(), &mut words, &WIDE)?;
     }
     let narrow = [
@@ -174,7 +253,7 @@ fn random_calls_leave_the_rows_of_the_definitions(rt: HostRuntime) -> Result<(),
         Limits { sources: 1, ..WIDE },
     ];
     for limits in narrow {
-        for _ in 0..4 {
+        for _ in 0..60 {
             compare(&rt, rt.alloc(), &mut words, &limits)?;
         }
     }
