@@ -5,7 +5,8 @@ ghost use Rattle.endpoint_membership.specs.Kept.{is_before, is_behind, is_fresh}
 use amt_values::{Endpoint, Ip, Moment};
 use source_filter::Filter;
 
-/// A group that stands at an endpoint, and when its membership was last renewed.
+/// A group that stands at an endpoint, and when its membership was last renewed. The definitions
+/// speak of what stands in these terms, however a table keeps it.
 #[derive(Debug, Drop)]
 pub struct Kept {
     pub endpoint: Endpoint,
