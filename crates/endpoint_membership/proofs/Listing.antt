@@ -10,7 +10,6 @@ use Rattle.amt_values.proofs.Orders.{ip_order-exact, ip_order-total}
 use Rattle.source_filter.specs.Filter.{FilterValue, rising_sources}
 use Rattle.source_filter.specs.Rising.{IsRising, difference, has, union}
 use Rattle.source_filter.specs.declared.mode.Mode.{Mode}
-use Rattle.source_filter.proofs.Compared.{compared}
 use Rattle.source_filter.proofs.RisingLaws.{IsRising-filter, IsRising-rising, has-append, has-difference, has-union, rising-fixed, same_rising}
 
 -- what stands in the set: the old sources and those put in

@@ -56,7 +56,8 @@ fn wishes_before(
     Ok(wishes)
 }
 
-// Applies one record to the wish of its group.
+// Applies one record to the wish of its group, which is out of the map meanwhile: after an error
+// the wish is lost, and the map is of no more use.
 fn apply_record(
     alloc: Global,
     wishes: &mut BTreeMap<Ip, Wish>,
@@ -115,6 +116,11 @@ fn rows_of_wishes(
 }
 
 // The rows of the endpoint after its records, by group.
+//
+// A report may hold thousands of records of one source each on one group, and anyone may send it.
+// So records change sets in place, and each row's list is made once, at the end: a report costs the
+// table's rows and, with n for the endpoint's sources and those of the report and its records,
+// n log n steps, however the sources are spread over records.
 pub fn own_rows(
     alloc: Global,
     rows: &[Kept],

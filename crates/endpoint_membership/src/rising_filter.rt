@@ -9,6 +9,8 @@ use std::alloc::{AllocError, Global};
 use std::marker::Model;
 
 /// A filter that tells its holders that its sources rise, which `Filter` keeps to itself.
+///
+/// A set that is filled with such a list has the list as its keys.
 #[derive(Debug, Drop)]
 pub struct RisingFilter {
     filter: Filter,

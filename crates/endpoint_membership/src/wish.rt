@@ -128,6 +128,7 @@ impl Wish {
     }
 }
 
+// After an error some of them are in.
 fn insert_all(sources: &mut BTreeSet<Ip>, listed: &[Ip]) -> Result<(), AllocError>
     requires { IsRising ip_order sources.old.keys }
     ensures listed { OnOk result (sources.new.keys ≡ union ip_order sources.old.keys listed.now) }
