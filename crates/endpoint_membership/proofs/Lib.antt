@@ -6,6 +6,7 @@ pub mod Counts
 pub mod Drained
 pub mod Held
 pub mod Judged
+pub mod Listing
 pub mod Living
 pub mod Longest
 pub mod Lookup

@@ -20,9 +20,8 @@ use Rattle.source_filter.specs.Filter.{FilterValue}
 use Rattle.source_filter.specs.Rising.{IsRising}
 use Rattle.source_filter.specs.declared.record.Record.{Record}
 use Rattle.endpoint_membership.specs.declared.kept.Kept.{Kept}
-use Rattle.endpoint_membership.specs.declared.wish.Wish.{Wish}
 use Rattle.endpoint_membership.specs.Kept.{is_fresh, only}
-use Rattle.endpoint_membership.specs.Own.{AreOf, is_own, kept_wish, on_group, row_of_wish, wish_after, wish_after_all, wish_in}
+use Rattle.endpoint_membership.specs.Own.{WishValue, AreOf, is_own, kept_wish, on_group, row_of_wish, wish_after, wish_after_all, wish_in}
 use Rattle.endpoint_membership.specs.Place.{Place, place_order, same_endpoint, same_group, same_place}
 use Rattle.endpoint_membership.specs.Rows.{is_standing, kept_order, place_of, row_at}
 use Rattle.endpoint_membership.proofs.ByLog.{AreAfter-cons_option, IsRising-cons_option, kept_by, row_at-cons_option}
@@ -35,7 +34,7 @@ same_group-back one other = (eq_by_cmp_equiv ip_order-total).symm one other
 abbrev place : Tunnel → Ip → Place
 place endpoint group = record { endpoint = endpoint; group = group }
 
-abbrev made : Tunnel → Ip → FilterValue → ℕ → Kept
+abbrev pub made : Tunnel → Ip → FilterValue → ℕ → Kept
 made endpoint group filter renewed = record { endpoint = endpoint; group = group; filter = filter; renewed = renewed }
 
 same_endpoint-back : (one other : Tunnel) → same_endpoint one other ≡ same_endpoint other one
@@ -54,29 +53,29 @@ only_false true = refl
 only_false false = refl
 
 -- one more wish makes one more row, or none
-pub one_more_row : (endpoint : Tunnel) (done : List (Ip × Wish)) (group : Ip) (wish : Wish) (rows more : List Kept) → is_standing wish.filter ≡ true → rows ≡ filter_map (kept_wish endpoint) done
+pub one_more_row : (endpoint : Tunnel) (done : List (Ip × WishValue)) (group : Ip) (wish : WishValue) (rows more : List Kept) → is_standing wish.filter ≡ true → rows ≡ filter_map (kept_wish endpoint) done
     → more ≡ rows ++ made endpoint group wish.filter wish.renewed ∷ [] → more ≡ filter_map (kept_wish endpoint) (done ++ (group, wish) ∷ [])
 one_more_row endpoint done group wish rows more stands so_far pushed =
     pushed ∙ ap (λ (before : List Kept). before ++ made endpoint group wish.filter wish.renewed ∷ []) so_far
     ∙ sym (filter_map-append (kept_wish endpoint) done ((group, wish) ∷ []) ∙ rw stands refl)
 
-pub no_more_rows : (endpoint : Tunnel) (done : List (Ip × Wish)) (group : Ip) (wish : Wish) (rows : List Kept) → is_standing wish.filter ≡ false → rows ≡ filter_map (kept_wish endpoint) done
+pub no_more_rows : (endpoint : Tunnel) (done : List (Ip × WishValue)) (group : Ip) (wish : WishValue) (rows : List Kept) → is_standing wish.filter ≡ false → rows ≡ filter_map (kept_wish endpoint) done
     → rows ≡ filter_map (kept_wish endpoint) (done ++ (group, wish) ∷ [])
 no_more_rows endpoint done group wish rows falls so_far =
     so_far ∙ sym (filter_map-append (kept_wish endpoint) done ((group, wish) ∷ []) ∙ rw falls (append-nil (filter_map (kept_wish endpoint) done)))
 
 -- a map after its group's wish was replaced
-pub one_applied : (group : Ip) (group_record : Record) (moment : ℕ) (before after : Option Wish) (key : Bool) → key ≡ same_group group group_record.group
+pub one_applied : (group : Ip) (group_record : Record) (moment : ℕ) (before after : Option WishValue) (key : Bool) → key ≡ same_group group group_record.group
     → after ≡ cond key (wish_after moment group_record before) before → after ≡ wish_after_all moment (on_group group (group_record ∷ [])) before
 one_applied group group_record moment before after true here is = rw (sym here) is
 one_applied group group_record moment before after false here is = rw (sym here) is
 
-wish_after_all-append : (moment : ℕ) (done more : List Record) (wish : Option Wish) → wish_after_all moment (done ++ more) wish ≡ wish_after_all moment more (wish_after_all moment done wish)
+wish_after_all-append : (moment : ℕ) (done more : List Record) (wish : Option WishValue) → wish_after_all moment (done ++ more) wish ≡ wish_after_all moment more (wish_after_all moment done wish)
 wish_after_all-append moment [] more wish = refl
 wish_after_all-append moment (first ∷ done) more wish = wish_after_all-append moment done more (wish_after moment first wish)
 
 -- one record more
-pub more_applied : (group : Ip) (done : List Record) (group_record : Record) (moment : ℕ) (first before after : Option Wish) → before ≡ wish_after_all moment (on_group group done) first
+pub more_applied : (group : Ip) (done : List Record) (group_record : Record) (moment : ℕ) (first before after : Option WishValue) → before ≡ wish_after_all moment (on_group group done) first
     → after ≡ wish_after_all moment (on_group group (group_record ∷ [])) before → after ≡ wish_after_all moment (on_group group (done ++ group_record ∷ [])) first
 more_applied group done group_record moment first before after so_far is =
     is ∙ ap (wish_after_all moment (on_group group (group_record ∷ []))) so_far
@@ -125,7 +124,7 @@ one_more_wish lifetime moment endpoint xs kept group rises =
     ∙ reordered (same_endpoint kept.endpoint endpoint) (same_group kept.group group) fresh)
 
 -- the wishes of rows after one row more, of the endpoint or not
-pub more_found : (lifetime moment : ℕ) (endpoint : Tunnel) (xs : List Kept) (kept : Kept) (group : Ip) (before after : Option Wish) (own : Bool)
+pub more_found : (lifetime moment : ℕ) (endpoint : Tunnel) (xs : List Kept) (kept : Kept) (group : Ip) (before after : Option WishValue) (own : Bool)
     → IsRising kept_order (xs ++ kept ∷ []) → is_own lifetime moment endpoint kept ≡ own
     → before ≡ wish_in (only (is_fresh lifetime moment) (row_at xs (place endpoint group)))
     → after ≡ cond (own && same_group kept.group group) (wish_in (Some kept)) before
@@ -136,27 +135,32 @@ more_found lifetime moment endpoint xs kept group before after own rises is so_f
     ∙ sym (one_more_wish lifetime moment endpoint xs kept group rises)
 
 -- an insertion, by the order of addresses
-pub updated : (cmp : Ip → Ip → Ordering) (before after : BTreeMap Ip Wish) (key : Ip) (wish : Option Wish) → cmp ≡ ip_order → Updates cmp before after key wish
+pub updated : (cmp : Ip → Ip → Ordering) (before after : BTreeMap Ip WishValue) (key : Ip) (wish : Option WishValue) → cmp ≡ ip_order → Updates cmp before after key wish
     → (other : Ip) → get ip_order after other ≡ cond (same_group key other) wish (get ip_order before other)
 updated cmp before after key wish same updates =
     subst (λ (order : Ip → Ip → Ordering). (other : Ip) → get order after other ≡ cond (is_at (order key) other) wish (get order before other)) same updates.0
 
-abbrev pub wished : FilterValue → ℕ → Option Wish
+abbrev pub wished : FilterValue → ℕ → Option WishValue
 wished filter renewed = Some (record { filter = filter; renewed = renewed })
 
-set_by : (same : Bool) (group_record : Record) (moment : ℕ) (old before : Option Wish) → (same ≡ true → old ≡ before)
+set_by : (same : Bool) (group_record : Record) (moment : ℕ) (old before : Option WishValue) → (same ≡ true → old ≡ before)
     → cond same (wish_after moment group_record old) before ≡ cond same (wish_after moment group_record before) before
 set_by true group_record moment old before is = ap (wish_after moment group_record) (is refl)
 set_by false group_record moment old before is = refl
 
 -- the wish of the record's own group is the one that the record changes
-pub set_here : (key group : Ip) (group_record : Record) (moment : ℕ) (wishes : BTreeMap Ip Wish) (old : Option Wish) → old ≡ get ip_order wishes key
+pub set_here : (key group : Ip) (group_record : Record) (moment : ℕ) (wishes : BTreeMap Ip WishValue) (old : Option WishValue) → old ≡ get ip_order wishes key
     → cond (same_group key group) (wish_after moment group_record old) (get ip_order wishes group)
     ≡ cond (same_group key group) (wish_after moment group_record (get ip_order wishes group)) (get ip_order wishes group)
 set_here key group group_record moment wishes old is = set_by (same_group key group) group_record moment old (get ip_order wishes group)
     (λ same. is ∙ ap (get ip_order wishes) (tells_apart ip_order-exact key group same))
 
-its_place : (endpoint : Tunnel) (entry : Ip × Wish) (kept : Kept) → kept_wish endpoint entry ≡ Some kept → place_of kept ≡ place endpoint entry.0
+-- what was taken out is put back
+pub put_back : (same : Bool) (wish none before : Option WishValue) → cond same wish (cond same none before) ≡ cond same wish before
+put_back true wish none before = refl
+put_back false wish none before = refl
+
+its_place : (endpoint : Tunnel) (entry : Ip × WishValue) (kept : Kept) → kept_wish endpoint entry ≡ Some kept → place_of kept ≡ place endpoint entry.0
 its_place endpoint entry kept given =
     ap place_of (sym (kept_by (is_standing entry.1.filter) (made endpoint entry.0 entry.1.filter entry.1.renewed) kept given))
 
@@ -164,7 +168,7 @@ AreOf-cons_option : (endpoint : Tunnel) (one : Option Kept) (rest : List Kept) �
 AreOf-cons_option endpoint None rest its of = of
 AreOf-cons_option endpoint (Some kept) rest its of = (ap (λ (one : Tunnel). same_endpoint one endpoint) (its kept refl) ∙ ap is_eq (tied_itself tunnel_order-total endpoint), of)
 
-pub AreOf-wishes : (endpoint : Tunnel) (entries : List (Ip × Wish)) → AreOf endpoint (filter_map (kept_wish endpoint) entries)
+pub AreOf-wishes : (endpoint : Tunnel) (entries : List (Ip × WishValue)) → AreOf endpoint (filter_map (kept_wish endpoint) entries)
 AreOf-wishes endpoint [] = tt
 AreOf-wishes endpoint (entry ∷ rest) =
     AreOf-cons_option endpoint (kept_wish endpoint entry) (filter_map (kept_wish endpoint) rest)
@@ -173,7 +177,7 @@ AreOf-wishes endpoint (entry ∷ rest) =
 place_by_group : (endpoint : Tunnel) (one other : Ip) → place_order (place endpoint one) (place endpoint other) ≡ ip_order one other
 place_by_group endpoint one other = rw (tied_itself tunnel_order-total endpoint) refl
 
-AreAfter-wishes : (endpoint : Tunnel) (group : Ip) (entries : List (Ip × Wish)) → AllByRecursion (λ later. ip_order group later ≡ Less) (keys_of entries)
+AreAfter-wishes : (endpoint : Tunnel) (group : Ip) (entries : List (Ip × WishValue)) → AllByRecursion (λ later. ip_order group later ≡ Less) (keys_of entries)
     → AreAfter (place endpoint group) (filter_map (kept_wish endpoint) entries)
 AreAfter-wishes endpoint group [] before = tt
 AreAfter-wishes endpoint group (entry ∷ rest) before =
@@ -181,14 +185,14 @@ AreAfter-wishes endpoint group (entry ∷ rest) before =
     (place_by_group endpoint group entry.0 ∙ before.0) (AreAfter-wishes endpoint group rest before.1)
 
 -- the rows of a map's wishes rise
-pub IsRising-wishes : (endpoint : Tunnel) (entries : List (Ip × Wish)) → IsStrictlySortedBy ip_order (keys_of entries) → IsRising kept_order (filter_map (kept_wish endpoint) entries)
+pub IsRising-wishes : (endpoint : Tunnel) (entries : List (Ip × WishValue)) → IsStrictlySortedBy ip_order (keys_of entries) → IsRising kept_order (filter_map (kept_wish endpoint) entries)
 unfolding IsStrictlySortedBy
 IsRising-wishes endpoint [] sorted = tt
 IsRising-wishes endpoint (entry ∷ rest) sorted =
     IsRising-cons_option (place endpoint entry.0) (kept_wish endpoint entry) (filter_map (kept_wish endpoint) rest) (its_place endpoint entry)
     (AreAfter-wishes endpoint entry.0 rest sorted.0) (IsRising-wishes endpoint rest sorted.1)
 
-wish_found : (here : Bool) (endpoint : Tunnel) (group key : Ip) (wish : Wish) (later : Option Wish) (rest : Option Kept) → (here ≡ true → group ≡ key) → (here ≡ true → rest ≡ None)
+wish_found : (here : Bool) (endpoint : Tunnel) (group key : Ip) (wish : WishValue) (later : Option WishValue) (rest : Option Kept) → (here ≡ true → group ≡ key) → (here ≡ true → rest ≡ None)
     → rest ≡ row_of_wish endpoint group later
     → cond here (option_or (kept_wish endpoint (key, wish)) rest) rest ≡ row_of_wish endpoint group (cond here (Some wish) later)
 wish_found true endpoint group key wish later rest same none is =
@@ -196,7 +200,7 @@ wish_found true endpoint group key wish later rest same none is =
 wish_found false endpoint group key wish later rest same none is = is
 
 -- the row of a group is what its wish makes
-pub row_at-wishes : (endpoint : Tunnel) (entries : List (Ip × Wish)) (group : Ip) → IsStrictlySortedBy ip_order (keys_of entries)
+pub row_at-wishes : (endpoint : Tunnel) (entries : List (Ip × WishValue)) (group : Ip) → IsStrictlySortedBy ip_order (keys_of entries)
     → row_at (filter_map (kept_wish endpoint) entries) (place endpoint group) ≡ row_of_wish endpoint group (lookup (is_at (ip_order group)) entries)
 row_at-wishes endpoint [] group sorted = refl
 row_at-wishes endpoint (entry ∷ rest) group sorted =

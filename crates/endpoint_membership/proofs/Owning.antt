@@ -16,11 +16,10 @@ use Rattle.source_filter.proofs.RisingLaws.{IsRising-filter}
 use Rattle.endpoint_membership.specs.declared.kept.Kept.{Kept}
 use Rattle.endpoint_membership.specs.declared.limits.LimitFault.{LimitFault}
 use Rattle.endpoint_membership.specs.declared.limits.Limits.{Limits}
-use Rattle.endpoint_membership.specs.declared.wish.Wish.{Wish}
 use Rattle.endpoint_membership.specs.Kept.{earlier, is_counted, is_fresh, later, only}
 use Rattle.endpoint_membership.specs.Limits.{IsWithin, fault_by, first_limit, group_count, live_count, size}
 use Rattle.endpoint_membership.specs.Log.{is_empty}
-use Rattle.endpoint_membership.specs.Own.{AreOf, filter_wished, is_over, on_group, row_of_wish, wish_after_all, wish_in}
+use Rattle.endpoint_membership.specs.Own.{WishValue, AreOf, filter_wished, is_over, on_group, row_of_wish, wish_after_all, wish_in}
 use Rattle.endpoint_membership.specs.Place.{Place, same_endpoint, same_group}
 use Rattle.endpoint_membership.specs.Rows.{is_standing, kept_order, place_of, row_at}
 use Rattle.endpoint_membership.specs.Table.{AreLawful, item_count}
@@ -40,17 +39,17 @@ abbrev made : Tunnel → Ip → FilterValue → ℕ → Kept
 made endpoint group filter renewed = record { endpoint = endpoint; group = group; filter = filter; renewed = renewed }
 
 -- the row of a wish has its filter and its renewal
-record IsRowOf (endpoint : Tunnel) (group : Ip) (wish : Option Wish) (kept : Kept) : Type 0 where
+record IsRowOf (endpoint : Tunnel) (group : Ip) (wish : Option WishValue) (kept : Kept) : Type 0 where
   filter : kept.filter ≡ filter_wished wish
-  renewed : (one : Wish) → wish ≡ Some one → kept.renewed ≡ one.renewed
+  renewed : (one : WishValue) → wish ≡ Some one → kept.renewed ≡ one.renewed
   some : is_some wish ≡ true
 
-row_is : (endpoint : Tunnel) (group : Ip) (wish : Option Wish) (kept : Kept) → row_of_wish endpoint group wish ≡ Some kept → IsRowOf endpoint group wish kept
+row_is : (endpoint : Tunnel) (group : Ip) (wish : Option WishValue) (kept : Kept) → row_of_wish endpoint group wish ≡ Some kept → IsRowOf endpoint group wish kept
 row_is endpoint group None kept found = cc
 row_is endpoint group (Some wish) kept found =
     let is = kept_by (is_standing wish.filter) (made endpoint group wish.filter wish.renewed) kept found in record {
       filter = ap (λ (one : Kept). one.filter) (sym is);
-      renewed = λ one same. ap (λ (each : Kept). each.renewed) (sym is) ∙ ap (λ (each : Option Wish). (unwrap_or each one).renewed) same;
+      renewed = λ one same. ap (λ (each : Kept). each.renewed) (sym is) ∙ ap (λ (each : Option WishValue). (unwrap_or each one).renewed) same;
       some = refl;
     }
 

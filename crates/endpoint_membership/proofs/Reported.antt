@@ -14,10 +14,9 @@ use Rattle.source_filter.specs.declared.record.Record.{Record}
 use Rattle.endpoint_membership.specs.declared.change.Change.{Change}
 use Rattle.endpoint_membership.specs.declared.change.Change.TheVariants.{Reported}
 use Rattle.endpoint_membership.specs.declared.kept.Kept.{Kept}
-use Rattle.endpoint_membership.specs.declared.wish.Wish.{Wish}
 use Rattle.endpoint_membership.specs.Kept.{earlier, is_fresh, later, only}
 use Rattle.endpoint_membership.specs.Log.{is_empty, latest}
-use Rattle.endpoint_membership.specs.Own.{AreOf, applied_all, filter_wished, on_group, row_of_wish, wish_after, wish_after_all, wish_in}
+use Rattle.endpoint_membership.specs.Own.{WishValue, AreOf, applied_all, filter_wished, on_group, row_of_wish, wish_after, wish_after_all, wish_in}
 use Rattle.endpoint_membership.specs.Place.{Place, same_endpoint}
 use Rattle.endpoint_membership.specs.Rows.{kept_if_standing, kept_order, row_at, standing}
 use Rattle.endpoint_membership.specs.Table.{AreRows}
@@ -43,7 +42,7 @@ filter_wished-in None = refl
 filter_wished-in (Some kept) = refl
 
 -- records one by one leave the filter of them all, renewed
-pub wish_after_all-is : (moment : ℕ) (first : Record) (later : List Record) (wish : Option Wish)
+pub wish_after_all-is : (moment : ℕ) (first : Record) (later : List Record) (wish : Option WishValue)
     → wish_after_all moment (first ∷ later) wish ≡ Some (record { filter = applied_all (filter_wished wish) (first ∷ later); renewed = moment })
 wish_after_all-is moment first [] wish = refl
 wish_after_all-is moment first (second ∷ later) wish = wish_after_all-is moment second later (wish_after moment first wish)

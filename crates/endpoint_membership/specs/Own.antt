@@ -9,7 +9,11 @@ use Rattle.endpoint_membership.specs.Kept.{is_fresh}
 use Rattle.endpoint_membership.specs.Place.{same_endpoint, same_group}
 use Rattle.endpoint_membership.specs.Rows.{kept_if_standing}
 use Rattle.endpoint_membership.specs.declared.kept.Kept.{Kept}
-use Rattle.endpoint_membership.specs.declared.wish.Wish.{Wish}
+
+-- what is wanted of a group, and since when it counts
+pub record WishValue : Type 0 where
+  pub filter : FilterValue
+  pub renewed : ℕ
 
 -- the filter after records, oldest first
 abbrev pub applied_all : FilterValue → List Record → FilterValue
@@ -25,29 +29,29 @@ abbrev pub is_own : ℕ → ℕ → Tunnel → Kept → Bool
 is_own lifetime moment endpoint kept = same_endpoint kept.endpoint endpoint && is_fresh lifetime moment kept
 
 -- what a row wishes
-abbrev pub wish_in : Option Kept → Option Wish
+abbrev pub wish_in : Option Kept → Option WishValue
 wish_in None = None
 wish_in (Some kept) = Some (record { filter = kept.filter; renewed = kept.renewed })
 
 -- the filter of a wish, and of a group of which nothing is wished
-abbrev pub filter_wished : Option Wish → FilterValue
+abbrev pub filter_wished : Option WishValue → FilterValue
 filter_wished None = nothing
 filter_wished (Some wish) = wish.filter
 
 -- a wish after a record on its group
-abbrev pub wish_after : ℕ → Record → Option Wish → Option Wish
+abbrev pub wish_after : ℕ → Record → Option WishValue → Option WishValue
 wish_after moment group_record wish = Some (record { filter = applied (filter_wished wish) group_record; renewed = moment })
 
 -- a wish after records on its group, oldest first
-abbrev pub wish_after_all : ℕ → List Record → Option Wish → Option Wish
+abbrev pub wish_after_all : ℕ → List Record → Option WishValue → Option WishValue
 wish_after_all moment [] wish = wish
 wish_after_all moment (group_record ∷ later) wish = wish_after_all moment later (wish_after moment group_record wish)
 
 -- the row that a wish makes, where something is wanted
-abbrev pub kept_wish : Tunnel → Ip × Wish → Option Kept
+abbrev pub kept_wish : Tunnel → Ip × WishValue → Option Kept
 kept_wish endpoint entry = kept_if_standing (record { endpoint = endpoint; group = entry.0 }) entry.1.filter entry.1.renewed
 
-abbrev pub row_of_wish : Tunnel → Ip → Option Wish → Option Kept
+abbrev pub row_of_wish : Tunnel → Ip → Option WishValue → Option Kept
 row_of_wish endpoint group None = None
 row_of_wish endpoint group (Some wish) = kept_wish endpoint (group, wish)
 

@@ -10,9 +10,9 @@ ghost use Rattle.endpoint_membership.specs.Place.{same_group};
 ghost use Rattle.endpoint_membership.specs.Rows.{kept_order, row_at};
 
 use crate::kept::Kept;
-use crate::wish::{Wish, filter_after};
+use crate::wish::Wish;
 use amt_values::{Endpoint, Ip, Moment};
-use source_filter::{Record, Records, copy_filter};
+use source_filter::{Record, Records};
 use std::alloc::{AllocError, Global};
 use std::collections::BTreeMap;
 
@@ -34,15 +34,6 @@ fn set_wish(wishes: &mut BTreeMap<Ip, Wish>, group: Ip, wish: Wish) -> Result<()
     }
 }
 
-fn wish_of(alloc: Global, kept: &Kept) -> Result<Wish, AllocError>
-    ensures { IfOk result (λ wish. wish_in (Some kept.now) ≡ Some wish) }
-{
-    Ok(Wish {
-        filter: copy_filter(alloc, &kept.filter)?,
-        renewed: kept.renewed,
-    })
-}
-
 // What the endpoint wants before a report.
 fn wishes_before(
     alloc: Global,
@@ -59,13 +50,14 @@ fn wishes_before(
     let mut wishes = BTreeMap::new(alloc);
     for kept in rows {
         if is_own(kept, endpoint, moment, lifetime_ms) {
-            set_wish(&mut wishes, kept.group, wish_of(alloc, kept)?)?;
+            set_wish(&mut wishes, kept.group, Wish::of_kept(alloc, kept)?)?;
         }
     }
     Ok(wishes)
 }
 
-// Applies one record to the wish of its group.
+// Applies one record to the wish of its group, which is out of the map meanwhile: after an error
+// the wish is lost, and the map is of no more use.
 fn apply_record(
     alloc: Global,
     wishes: &mut BTreeMap<Ip, Wish>,
@@ -75,11 +67,11 @@ fn apply_record(
     ensures { OnOk result ((group : Address) → get ip_order wishes.new group
         ≡ wish_after_all moment (on_group group (group_record.now ∷ [])) (get ip_order wishes.old group)) }
 {
-    let filter = filter_after(alloc, wishes.get(&group_record.group), group_record)?;
-    let wish = Wish {
-        filter,
-        renewed: moment,
+    let mut wish = match wishes.remove(&group_record.group) {
+        Some(wish) => wish,
+        None => Wish::nothing(alloc, moment),
     };
+    wish.apply(group_record, moment)?;
     set_wish(wishes, group_record.group, wish)?;
     Ok(())
 }
@@ -115,8 +107,8 @@ fn rows_of_wishes(
             rows.push(Kept {
                 endpoint: *endpoint,
                 group,
-                filter: wish.filter,
-                renewed: wish.renewed,
+                filter: wish.to_filter(alloc)?,
+                renewed: wish.renewed(),
             })?;
         }
     }
@@ -124,6 +116,11 @@ fn rows_of_wishes(
 }
 
 // The rows of the endpoint after its records, by group.
+//
+// A report may hold thousands of records of one source each on one group, and anyone may send it.
+// So records change sets in place, and each row's list is made once, at the end: a report costs the
+// table's rows and, with n for the endpoint's sources and those of the report and its records,
+// n log n steps, however the sources are spread over records.
 pub fn own_rows(
     alloc: Global,
     rows: &[Kept],

@@ -1,4 +1,5 @@
 mod fixtures;
+mod long;
 mod random;
 
 use super::*;

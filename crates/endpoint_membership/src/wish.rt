@@ -1,42 +1,154 @@
-ghost use Rattle.std.specs.Prelude.{◌≡◌, IfOk};
-ghost use Rattle.std.specs.Option.{option_copied};
-ghost use Rattle.source_filter.specs.Filter.{applied};
-ghost use Rattle.endpoint_membership.specs.Own.{filter_wished};
+ghost use Rattle.std.specs.Prelude.{◌≡◌, Some, IfOk, OnOk};
+ghost use Rattle.amt_values.specs.Order.{ip_order};
+ghost use Rattle.source_filter.specs.Filter.{applied, nothing};
+ghost use Rattle.source_filter.specs.Rising.{IsRising, difference, union};
+ghost use Rattle.endpoint_membership.specs.Own.{wish_in};
 ghost use Rattle.endpoint_membership.specs.Rows.{is_standing};
 
-use amt_values::Moment;
-use source_filter::{Filter, Mode, Record};
+use crate::kept::Kept;
+use crate::rising_filter::RisingFilter;
+use amt_values::{Ip, Moment};
+use source_filter::{Mode, Record, RecordKind};
 use std::alloc::{AllocError, Global};
+use std::collections::BTreeSet;
+use std::marker::Model;
 
-/// What an endpoint wants of a group, and since when it counts.
+/// What an endpoint wants of a group while the records of a report are applied, and since when it
+/// counts.
+///
+/// The sources stand in a set, not in a `Filter`: a record of one source must not cost a copy of
+/// all the others, or a report of many such records would cost the square of their number.
 #[derive(Debug, Drop)]
 pub struct Wish {
-    pub filter: Filter,
-    pub renewed: Moment,
+    mode: Mode,
+    sources: BTreeSet<Ip>,
+    renewed: Moment,
 }
 
-/// The filter after a record; before the first one nothing is wanted.
-pub fn filter_after(
-    alloc: Global,
-    wish: Option<&Wish>,
-    group_record: &Record,
-) -> Result<Filter, AllocError>
-    ensures { IfOk result (λ filter. filter ≡ applied (filter_wished (option_copied wish.entry)) group_record.now) }
-{
-    match wish {
-        Some(wish) => wish.filter.apply(alloc, group_record),
-        None => Filter::new(alloc, Mode::Include, &[])?.apply(alloc, group_record),
-    }
+impl Model for Wish {
+    ghost use Rattle.amt_values.specs.Order.{ip_order};
+    ghost use Rattle.source_filter.specs.Rising.{IsRising};
+    ghost use Rattle.endpoint_membership.specs.Own.{WishValue};
+
+    ghost Value = { WishValue };
+
+    ghost view = { λ w. record { filter = record { mode = w.mode; sources = w.sources.keys }; renewed = w.renewed } };
+
+    ghost invariant = { λ w. IsRising ip_order w.sources.keys };
 }
 
 impl Wish {
+    /// Nothing is wanted.
+    pub fn nothing(alloc: Global, moment: Moment) -> Self
+        ensures { result ≡ record { filter = nothing; renewed = moment } }
+    {
+        Wish {
+            mode: Mode::Include,
+            sources: BTreeSet::new(alloc),
+            renewed: moment,
+        }
+    }
+
+    /// What a row wishes.
+    pub fn of_kept(alloc: Global, kept: &Kept) -> Result<Self, AllocError>
+        ensures { IfOk result (λ wish. wish_in (Some kept.now) ≡ Some wish) }
+    {
+        let mut sources = BTreeSet::new(alloc);
+        insert_all(&mut sources, kept.filter.sources())?;
+        Ok(Wish {
+            mode: kept.filter.mode(),
+            sources,
+            renewed: kept.renewed,
+        })
+    }
+
+    /// Since when it counts.
+    pub fn renewed(&self) -> Moment
+        ensures { result ≡ self.now.renewed }
+    {
+        self.renewed
+    }
+
     /// Whether something is wanted.
     pub fn is_standing(&self) -> bool
         ensures { result ≡ is_standing self.now.filter }
     {
-        match self.filter.mode() {
-            Mode::Include => !self.filter.sources().is_empty(),
+        match self.mode {
+            Mode::Include => !self.sources.is_empty(),
             Mode::Exclude => true,
         }
+    }
+
+    /// What is wanted, as a filter.
+    pub fn to_filter(&self, alloc: Global) -> Result<RisingFilter, AllocError>
+        ensures { IfOk result (λ filter. filter ≡ self.now.filter) }
+    {
+        let mut listed = Vec::with_capacity(alloc, self.sources.len())?;
+        for source in &self.sources {
+            listed.push(*source)?;
+        }
+        RisingFilter::new(alloc, self.mode, listed.as_slice())
+    }
+
+    /// Applies a record in place. An error leaves the wish half changed.
+    pub fn apply(&mut self, group_record: &Record, moment: Moment) -> Result<(), AllocError>
+        ensures { OnOk result (self.new ≡ record {
+          filter = applied self.old.filter group_record.now;
+          renewed = moment;
+        }) }
+    {
+        self.renewed = moment;
+        let listed = group_record.sources.as_slice();
+        match group_record.kind {
+            RecordKind::IsIn | RecordKind::ToIn => {
+                self.mode = Mode::Include;
+                self.sources.clear();
+                insert_all(&mut self.sources, listed)
+            }
+            RecordKind::IsEx | RecordKind::ToEx => {
+                self.mode = Mode::Exclude;
+                self.sources.clear();
+                insert_all(&mut self.sources, listed)
+            }
+            RecordKind::Allow => match self.mode {
+                Mode::Include => insert_all(&mut self.sources, listed),
+                Mode::Exclude => {
+                    remove_all(&mut self.sources, listed);
+                    Ok(())
+                }
+            },
+            RecordKind::Block => match self.mode {
+                Mode::Include => {
+                    remove_all(&mut self.sources, listed);
+                    Ok(())
+                }
+                Mode::Exclude => insert_all(&mut self.sources, listed),
+            },
+        }
+    }
+}
+
+// After an error some of them are in.
+fn insert_all(sources: &mut BTreeSet<Ip>, listed: &[Ip]) -> Result<(), AllocError>
+    requires { IsRising ip_order sources.old.keys }
+    ensures listed { OnOk result (sources.new.keys ≡ union ip_order sources.old.keys listed.now) }
+    ensures rising { IsRising ip_order sources.new.keys }
+{
+    for source in listed {
+        match sources.insert(*source) {
+            Ok(_) => {}
+            Err(_) => return Err(AllocError),
+        }
+    }
+    Ok(())
+}
+
+fn remove_all(sources: &mut BTreeSet<Ip>, listed: &[Ip])
+    requires { IsRising ip_order sources.old.keys }
+    ensures listed { sources.new.keys ≡ difference ip_order sources.old.keys listed.now }
+    ensures rising { IsRising ip_order sources.new.keys }
+{
+    for source in listed {
+        sources.remove(source);
     }
 }

@@ -27,13 +27,13 @@ const KINDS: [RecordKind; 6] = [
 
 // Random words: a fixed sequence, so that a failure comes again.
 #[derive(Drop)]
-struct Words {
-    state: u64,
+pub struct Words {
+    pub state: u64,
 }
 
 impl Words {
     // A word below the bound.
-    fn below(&mut self, bound: u32) -> u32
+    pub fn below(&mut self, bound: u32) -> u32
         requires { 0 < bound }
         ensures { result < bound }
     {

@@ -1,13 +1,21 @@
-use Rattle.std.proofs.Common.{rules, sym, ◌∙◌}
-use Rattle.endpoint_membership.proofs.Owned.{no_more_rows, one_more_row}
+use Rattle.std.proofs.Common.{ℕ, Vec, Global, ◌++◌, ◌∷◌, [], sym, ap, ◌∙◌}
+use Rattle.source_filter.specs.Filter.{FilterValue}
+use Rattle.endpoint_membership.specs.declared.kept.Kept.{Kept}
+use Rattle.endpoint_membership.proofs.Owned.{made, no_more_rows, one_more_row}
+use Rattle.endpoint_membership.proofs.own.rows_of_wishes.Goals.{then-is_standing+in_ok-to_filter+in_ok-push, else-is_standing}
 use Rattle.endpoint_membership.proofs.own.rows_of_wishes.Goals as goal
-
-pub loop-group-preserved-in-Continue-branch-2 : goal.loop-group-preserved-in-Continue-branch-2
-loop-group-preserved-in-Continue-branch-2 c =
-    one_more_row c.args.endpoint.now c.loop-group.yielded c.in-Some.group c.in-Some.wish c.loop-group.rows.items c.push.new.self.items
-    (sym c.is_standing.ensures ∙ c.if-is_standing.true) c.loop-group.invariant (search rules)
 
 pub loop-group-preserved : goal.loop-group-preserved
 loop-group-preserved c =
-    no_more_rows c.args.endpoint.now c.loop-group.yielded c.in-Some.group c.in-Some.wish c.loop-group.rows.items
-    (sym c.is_standing.ensures ∙ c.if-is_standing.false) c.loop-group.invariant
+    let endpoint = c.args.endpoint.now in
+    let group = c.in-Some.group in
+    let wish = c.in-Some.wish in
+    let before = c.loop-group.rows.items in
+    elim c.if-is_standing.branch [
+      | then-is_standing+in_ok-to_filter+in_ok-push w ↦ ap (λ (rows : Vec Kept Global). rows.items) w.rows-is
+          ∙ one_more_row endpoint c.loop-group.yielded group wish before w.push.new.self.items (sym c.is_standing.ensures ∙ w.if-is_standing.true) c.loop-group.invariant
+          (w.in_ok-push.ensures.items ∙ ap (λ (filter : FilterValue). before ++ made endpoint group filter w.renewed.result ∷ []) w.in_ok-to_filter.ensures
+          ∙ ap (λ (renewed : ℕ). before ++ made endpoint group wish.filter renewed ∷ []) w.renewed.ensures)
+      | else-is_standing w ↦ ap (λ (rows : Vec Kept Global). rows.items) w.rows-is
+          ∙ no_more_rows endpoint c.loop-group.yielded group wish before (sym c.is_standing.ensures ∙ w.if-is_standing.false) c.loop-group.invariant
+    ]

@@ -5,14 +5,13 @@ use Rattle.amt_values.specs.declared.address.Ip.{Ip}
 use Rattle.amt_values.specs.Order.{ip_order}
 use Rattle.source_filter.specs.Rising.{IsRising}
 use Rattle.endpoint_membership.specs.declared.kept.Kept.{Kept}
-use Rattle.endpoint_membership.specs.declared.wish.Wish.{Wish}
 use Rattle.endpoint_membership.specs.Kept.{is_fresh, only}
-use Rattle.endpoint_membership.specs.Own.{wish_in}
+use Rattle.endpoint_membership.specs.Own.{WishValue, wish_in}
 use Rattle.endpoint_membership.specs.Place.{same_group}
 use Rattle.endpoint_membership.specs.Rows.{kept_order, row_at}
 use Rattle.endpoint_membership.proofs.Owned.{more_found}
 use Rattle.endpoint_membership.proofs.Steps.{IsRising-front}
-use Rattle.endpoint_membership.proofs.own.wishes_before.Goals.{then-is_own+in_ok-wish_of+in_ok-set_wish, else-is_own}
+use Rattle.endpoint_membership.proofs.own.wishes_before.Goals.{then-is_own+in_ok-of_kept+in_ok-set_wish, else-is_own}
 use Rattle.endpoint_membership.proofs.own.wishes_before.Goals as goal
 
 pub loop-kept-preserved : goal.loop-kept-preserved
@@ -27,9 +26,9 @@ loop-kept-preserved c rises group =
     let Found : List Kept → Type 0 = λ done.
     get ip_order c.if-is_own.wishes group ≡ wish_in (only (is_fresh c.args.lifetime_ms c.args.moment) (row_at done (record { endpoint = c.args.endpoint.now; group = group }))) in
     subst Found (sym more) (elim c.if-is_own.branch [
-      | then-is_own+in_ok-wish_of+in_ok-set_wish w ↦ step true rises_here (sym c.is_own.ensures ∙ w.if-is_own.true) (c.loop-kept.invariant rises group)
-          (ap (λ (map : BTreeMap Ip Wish). get ip_order map group) w.wishes-is ∙ w.in_ok-set_wish.ensures group
-          ∙ ap (λ (wish : Option Wish). cond (same_group kept.group group) wish (get ip_order c.loop-kept.wishes group)) (sym w.in_ok-wish_of.ensures))
+      | then-is_own+in_ok-of_kept+in_ok-set_wish w ↦ step true rises_here (sym c.is_own.ensures ∙ w.if-is_own.true) (c.loop-kept.invariant rises group)
+          (ap (λ (map : BTreeMap Ip WishValue). get ip_order map group) w.wishes-is ∙ w.in_ok-set_wish.ensures group
+          ∙ ap (λ (wish : Option WishValue). cond (same_group kept.group group) wish (get ip_order c.loop-kept.wishes group)) (sym w.in_ok-of_kept.ensures))
       | else-is_own w ↦ step false rises_here (sym c.is_own.ensures ∙ w.if-is_own.false) (c.loop-kept.invariant rises group)
-          (ap (λ (map : BTreeMap Ip Wish). get ip_order map group) w.wishes-is)
+          (ap (λ (map : BTreeMap Ip WishValue). get ip_order map group) w.wishes-is)
     ])
