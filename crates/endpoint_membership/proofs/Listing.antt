@@ -106,6 +106,9 @@ reduced old done held rises all =
 abbrev pub listing : Mode → List Ip → FilterValue
 listing mode sources = record { mode = mode; sources = sources }
 
+pub same_filter : {one other : FilterValue} → one.mode ≡ other.mode → one.sources ≡ other.sources → one ≡ other
+same_filter h k = λ i. record { mode = h i; sources = k i }
+
 -- the different sources of a list that rises are the list
 pub rising_listed : (mode : Mode) (listed keys : List Ip) → listed ≡ keys → IsRising ip_order keys → listing mode (rising_sources listed) ≡ listing mode keys
 rising_listed mode listed keys same rises = ap (listing mode) (ap rising_sources same ∙ rising-fixed ip_order-total ip_order-exact keys rises)

@@ -2,8 +2,8 @@ ghost use Rattle.std.specs.Prelude.{◌≡◌, ◌≤◌};
 ghost use Rattle.endpoint_membership.specs.Place.{same_endpoint};
 ghost use Rattle.endpoint_membership.specs.Kept.{is_before, is_behind, is_fresh};
 
-use crate::rising_filter::RisingFilter;
 use amt_values::{Endpoint, Ip, Moment};
+use source_filter::Filter;
 
 /// A group that stands at an endpoint, and when its membership was last renewed. The definitions
 /// speak of what stands in these terms, however a table keeps it.
@@ -11,7 +11,7 @@ use amt_values::{Endpoint, Ip, Moment};
 pub struct Kept {
     pub endpoint: Endpoint,
     pub group: Ip,
-    pub filter: RisingFilter,
+    pub filter: Filter,
     pub renewed: Moment,
 }
 

@@ -13,7 +13,6 @@ mod laws;
 mod limits;
 mod live;
 mod own;
-mod rising_filter;
 mod row;
 mod sweep;
 mod table;

@@ -66,7 +66,7 @@ fn shown(alloc: Global, kept: &Kept) -> Result<Row, AllocError>
     Ok(Row {
         endpoint: kept.endpoint,
         group: kept.group,
-        filter: copy_filter(alloc, kept.filter.as_filter())?,
+        filter: copy_filter(alloc, &kept.filter)?,
     })
 }
 

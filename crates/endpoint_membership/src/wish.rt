@@ -6,9 +6,8 @@ ghost use Rattle.endpoint_membership.specs.Own.{wish_in};
 ghost use Rattle.endpoint_membership.specs.Rows.{is_standing};
 
 use crate::kept::Kept;
-use crate::rising_filter::RisingFilter;
 use amt_values::{Ip, Moment};
-use source_filter::{Mode, Record, RecordKind};
+use source_filter::{Filter, Mode, Record, RecordKind};
 use std::alloc::{AllocError, Global};
 use std::collections::BTreeSet;
 use std::marker::Model;
@@ -80,14 +79,15 @@ impl Wish {
     }
 
     /// What is wanted, as a filter.
-    pub fn to_filter(&self, alloc: Global) -> Result<RisingFilter, AllocError>
+    pub fn to_filter(&self, alloc: Global) -> Result<Filter, AllocError>
         ensures { IfOk result (λ filter. filter ≡ self.now.filter) }
     {
         let mut listed = Vec::with_capacity(alloc, self.sources.len())?;
         for source in &self.sources {
             listed.push(*source)?;
         }
-        RisingFilter::new(alloc, self.mode, listed.as_slice())
+        let filter = Filter::new(alloc, self.mode, listed.as_slice())?;
+        Ok(filter)
     }
 
     /// Applies a record in place. An error leaves the wish half changed.

@@ -63,7 +63,8 @@ impl Filter {
 
     /// The listed sources, rising.
     pub fn sources(&self) -> &[Ip]
-        ensures { result.now ≡ self.now.sources }
+        ensures listed { result.now ≡ self.now.sources }
+        ensures rising { IsRising ip_order self.now.sources }
     {
         self.sources.as_slice()
     }
