@@ -156,9 +156,9 @@ set_here key group group_record moment wishes old is = set_by (same_group key gr
     (λ same. is ∙ ap (get ip_order wishes) (tells_apart ip_order-exact key group same))
 
 -- what was taken out is put back
-pub put_back : (same : Bool) (wish none before : Option WishValue) → cond same wish (cond same none before) ≡ cond same wish before
-put_back true wish none before = refl
-put_back false wish none before = refl
+pub put_back : (same : Bool) (wish absent before : Option WishValue) → cond same wish (cond same absent before) ≡ cond same wish before
+put_back true wish absent before = refl
+put_back false wish absent before = refl
 
 its_place : (endpoint : Tunnel) (entry : Ip × WishValue) (kept : Kept) → kept_wish endpoint entry ≡ Some kept → place_of kept ≡ place endpoint entry.0
 its_place endpoint entry kept given =
