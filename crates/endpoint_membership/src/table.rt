@@ -67,7 +67,9 @@ impl Table {
 
     /// The latest moment of all calls.
     pub fn now(&self) -> Moment
-        ensures { (terms : Terms) (log : List Entry) → Holds terms self.now log → result ≡ latest log }
+        ensures value { result ≡ self.now.moment }
+        ensures latest { (terms : Terms) (log : List Entry) → Holds terms self.now log
+            → result ≡ latest log }
     {
         self.moment
     }

@@ -17,11 +17,11 @@ const DISCOVERY: &[u8] = b"\x01\x00\x00\x00\x01\x02\x03\x04";
 
 const REQUEST: &[u8] = b"\x03\x00\x00\x00\x0a\x0b\x0c\x0d";
 
-fn relay(rt: &impl Abort, address: Ip) -> Relay {
+fn relay(rt: &impl Abort, alloc: Global, address: Ip) -> Result<Relay, AllocError> {
     let mut settings = Settings::of_relay(address);
     settings.query4 = RELAY;
     assert!(rt; settings.lawful());
-    Relay::new(settings, Secret([0; 32]))
+    Relay::new(alloc, settings, Secret([0; 32]))
 }
 
 fn datagram(alloc: Global, relay: &mut Relay, from: Ip, octets: &[u8]) -> Result<Step, AllocError>
@@ -63,7 +63,7 @@ fn query(alloc: Global, mac: &[u8; 6]) -> Result<Bytes, AllocError> {
 #[test]
 fn a_discovery_is_answered_with_the_relays_address(rt: HostRuntime) -> Result<(), Fail> {
     let address = Ip::V6(0x2001_0db8_0000_0000_0000_0000_0000_0001);
-    let mut relay = relay(&rt, address);
+    let mut relay = relay(&rt, rt.alloc(), address)?;
     let step = datagram(rt.alloc(), &mut relay, GATEWAY, DISCOVERY)?;
     assert_eq!(rt; step.outcome, Outcome::Advertised);
     let advertisement =
@@ -77,7 +77,7 @@ fn a_discovery_is_answered_with_the_relays_address(rt: HostRuntime) -> Result<()
 fn a_request_is_answered_with_a_query_under_the_current_secret(
     rt: HostRuntime,
 ) -> Result<(), Fail> {
-    let mut relay = relay(&rt, Ip::V4(RELAY));
+    let mut relay = relay(&rt, rt.alloc(), Ip::V4(RELAY))?;
     let rows: [(Option<Secret>, &[u8; 6]); 2] = [
         (None, b"\x4d\xb7\x58\xa1\x75\x55"),
         (Some(Secret([1; 32])), b"\xbf\x8a\xb1\xca\x09\xd1"),
@@ -127,7 +127,7 @@ fn every_other_datagram_is_not_answered(rt: HostRuntime) -> Result<(), Fail> {
             Outcome::NoFamily,
         ),
     ];
-    let mut relay = relay(&rt, Ip::V4(RELAY));
+    let mut relay = relay(&rt, rt.alloc(), Ip::V4(RELAY))?;
     for (from, octets, outcome) in rows {
         assert!(rt; octets.len() <= 65535);
         let step = datagram(rt.alloc(), &mut relay, from, octets)?;
@@ -139,7 +139,7 @@ fn every_other_datagram_is_not_answered(rt: HostRuntime) -> Result<(), Fail> {
 
 #[test]
 fn time_never_goes_back(rt: HostRuntime) -> Result<(), Fail> {
-    let mut relay = relay(&rt, Ip::V4(RELAY));
+    let mut relay = relay(&rt, rt.alloc(), Ip::V4(RELAY))?;
     assert_eq!(rt; relay.now().ms(), 0);
     let last = Moment::new(1000).ok_or("a moment")?;
     for told in [1000, 500] {
