@@ -27,3 +27,5 @@ pub use settings::Settings;
 
 #[cfg(test)]
 mod tests;
+#[cfg(test)]
+mod update_tests;
