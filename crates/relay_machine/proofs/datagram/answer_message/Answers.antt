@@ -1,6 +1,5 @@
-use Rattle.std.proofs.Common.{◌≡◌, ◌∙◌, true, sym, ap}
+use Rattle.std.proofs.Common.{◌≡◌, true}
 use Rattle.response_mac.specs.ResponseMac.{is_good}
-use Rattle.endpoint_membership.specs.Log.{latest}
 use Rattle.relay_machine.specs.Settings.{terms_of}
 use Rattle.relay_machine.proofs.datagram.answer_message.Goals as goal
 

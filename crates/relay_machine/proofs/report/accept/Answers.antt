@@ -1,4 +1,4 @@
-use Rattle.std.proofs.Common.{◌≡◌, ◌≤◌, Option, None, Some, sym, ap, subst, ◌∙◌, arith}
+use Rattle.std.proofs.Common.{◌≤◌, Option, sym, ap, subst, ◌∙◌, arith}
 use Rattle.endpoint_membership.specs.Log.{latest}
 use Rattle.endpoint_membership.specs.Table.{Holds, TableValue, limit_passed}
 use Rattle.endpoint_membership.specs.declared.change.Change.{Change}
