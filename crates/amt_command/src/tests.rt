@@ -82,7 +82,7 @@ fn every_other_datagram_is_refused_with_its_reason(rt: HostRuntime) -> Result<()
         ("030100000a0b0c0d", "nofamily"),
         ("06", "refused notyet 6"),
         ("0500a1a2a3a4a5a60a0b0c", "refused short 12 11"),
-        ("0500a1a2a3a4a5a60a0b0c0d", "wrongkind 5"),
+        ("0500a1a2a3a4a5a60a0b0c0d", "badmac"),
         ("0400", "refused short 12 2"),
         ("040000000000000000000000", "refused noinner"),
         ("0200000001020304c0000201", "wrongkind 2"),
@@ -100,6 +100,41 @@ fn every_other_datagram_is_refused_with_its_reason(rt: HostRuntime) -> Result<()
         let ended = replay(rt.alloc(), script.as_str(), NO_CALL)?;
         assert_eq!(rt; ended.status, 0, "{hex}");
         assert_eq!(rt; ended.out.as_slice(), text.as_bytes(), "{hex}");
+    }
+    Ok(())
+}
+
+// The Updates have the MAC of this peer and nonce under 32 zero octets, which was computed with
+// another implementation, Python's hmac module.
+#[test]
+fn an_update_is_judged_by_its_mac_and_its_report(rt: HostRuntime) -> Result<(), Fail> {
+    let rows = [
+        ("", "unlawful inner short 20 0"),
+        ("60", "unlawful inner version 6"),
+        (
+            "46c00028000000000102aaaa0a000002e0000016940400002200ebfb0000000102000000ef010101",
+            "unlawful inner sum 39f8 aaaa",
+        ),
+        (
+            "46c0002800000000010239f80a000002e0000016940400002200ebfc0000000102000000ef010101",
+            "unlawful report sum ebfb ebfc",
+        ),
+        (
+            "46c0002800000000010239f80a000002e0000016940400002200ebfb0000000102000000ef010101",
+            "updated",
+        ),
+        (
+            "46c0003000000000010239f00a000002e000001694040000220010ff0000000202000000e801010101000000e00000fb",
+            "updated",
+        ),
+    ];
+    for (inner, outcome) in rows {
+        let hex = format!(in rt.alloc(); "05004db758a175550a0b0c0d{inner}")?;
+        let script = script_of(rt.alloc(), hex.as_str())?;
+        let text = format!(in rt.alloc(); "= 1 {outcome}\n. 1\n")?;
+        let ended = replay(rt.alloc(), script.as_str(), NO_CALL)?;
+        assert_eq!(rt; ended.status, 0, "{inner}");
+        assert_eq!(rt; ended.out.as_slice(), text.as_bytes(), "{inner}");
     }
     Ok(())
 }

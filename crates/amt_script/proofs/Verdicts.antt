@@ -34,12 +34,14 @@ settled_values given values values' secret secret' h k =
     let robustness = h.robustness ∙ sym k.robustness in
     let query_seconds = h.query_seconds ∙ sym k.query_seconds in
     let response_tenths = h.response_tenths ∙ sym k.response_tenths in
+    let limits = h.limits ∙ sym k.limits in
     λ i. record {
       relay = relay i;
       query4 = query4 i;
       robustness = robustness i;
       query_seconds = query_seconds i;
       response_tenths = response_tenths i;
+      limits = limits i;
     }
 
 same_script : (one other : RelayScript) → one.settings ≡ other.settings → one.secret ≡ other.secret → one.items ≡ other.items → one ≡ other

@@ -5,7 +5,7 @@ use Rattle.std.specs.Str.Lines.{lines}
 use Rattle.amt_values.specs.declared.address.Ip.{Ip}
 use Rattle.amt_values.specs.declared.address.Ip.TheVariants.{V4}
 use Rattle.amt_values.specs.Text.{IsIpText, IsPeerText}
-use Rattle.relay_machine.specs.Settings.{IsLawful}
+use Rattle.relay_machine.specs.Settings.{IsLawful, default_settings}
 use Rattle.response_mac.specs.declared.secret.Secret.{Secret}
 use Rattle.relay_machine.specs.declared.event.Event.{Event}
 use Rattle.relay_machine.specs.declared.event.Event.TheVariants as events
@@ -91,13 +91,14 @@ abbrev pub secret_in : Option Setting → Secret
 secret_in (Some (settings.Secret secret)) = secret
 secret_in other = record { 0 = replicate 32 0 }
 
--- a relay's address was given, and these are the settings with the defaults
+-- a relay's address was given, and these are the settings with the defaults; no line sets a limit yet
 pub record Settles (given : List Setting) (values : Settings) (secret : Secret) : Type 0 where
   pub relay : relay_in (set_at given keys.Relay) ≡ Some values.relay
   pub query4 : values.query4 ≡ query4_in (set_at given keys.Query4)
   pub robustness : values.robustness ≡ robustness_in (set_at given keys.Robustness)
   pub query_seconds : values.query_seconds ≡ query_seconds_in (set_at given keys.QuerySeconds)
   pub response_tenths : values.response_tenths ≡ response_tenths_in (set_at given keys.ResponseTenths)
+  pub limits : values.limits ≡ (default_settings values.relay).limits
   pub first_secret : secret ≡ secret_in (set_at given keys.Secret)
 
 -- the lines say events after settings with which a relay may be set up. Each number is in its range,

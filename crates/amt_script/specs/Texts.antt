@@ -1,15 +1,25 @@
 -- What is written of a relay's events, of its steps, and of a reason.
 use Rattle.std.specs.Prelude.{ℕ, ◌+◌, true, false, List, [], ◌∷◌, ◌++◌, length, codes, decimal, flat_map}
+use Rattle.std.specs.Int.{w16, to_be_bytes}
 use Rattle.hex.specs.Hex.{encode_lower}
 use Rattle.amt_values.specs.Endpoint.{peer_of}
-use Rattle.amt_values.specs.Text.{peer_text}
+use Rattle.amt_values.specs.Text.{ip_text, peer_text}
 use Rattle.amt_messages.specs.declared.refusal.Refused.{Refused}
 use Rattle.amt_messages.specs.declared.refusal.Refused.TheVariants.{Empty, Version, Kind, NotYet, NoInner, Short, Long}
+use Rattle.inner_datagrams.specs.declared.inner.InnerFault.{InnerFault}
+use Rattle.inner_datagrams.specs.declared.inner.InnerFault.TheVariants as inner
+use Rattle.source_filter.specs.declared.fault.ReportFault.{ReportFault}
+use Rattle.source_filter.specs.declared.fault.ReportFault.TheVariants as report
+use Rattle.endpoint_membership.specs.declared.limits.LimitFault.{LimitFault}
+use Rattle.endpoint_membership.specs.declared.limits.LimitFault.TheVariants.{Sources, Groups, Endpoints}
 use Rattle.response_mac.specs.declared.secret.Secret.{Secret}
 use Rattle.relay_machine.specs.declared.event.Event.{Event}
 use Rattle.relay_machine.specs.declared.event.Event.TheVariants as events
 use Rattle.relay_machine.specs.declared.outcome.Outcome.{Outcome}
-use Rattle.relay_machine.specs.declared.outcome.Outcome.TheVariants.{Moved, Rotated, BadSource, Undecoded, WrongKind, NoFamily, Advertised, Queried}
+use Rattle.relay_machine.specs.declared.outcome.Outcome.TheVariants as outcomes
+use Rattle.relay_machine.specs.declared.outcome.Outcome.TheVariants.{Moved, Rotated, BadSource, Undecoded, WrongKind, NoFamily, Advertised, Queried, BadMac, Over, Updated}
+use Rattle.relay_machine.specs.declared.outcome.Unlawful.{Unlawful}
+use Rattle.relay_machine.specs.declared.outcome.Unlawful.TheVariants.{Inner, Report}
 use Rattle.relay_machine.specs.declared.sends.OneSend.{OneSend}
 use Rattle.relay_machine.specs.declared.settings.Settings.{Settings}
 use Rattle.relay_machine.specs.Answers.{outcome_of, sends_of}
@@ -26,6 +36,39 @@ refusal_text NoInner = codes "noinner"
 refusal_text (Short need have) = codes "short " ++ (decimal need ++ (codes " " ++ decimal have))
 refusal_text (Long need have) = codes "long " ++ (decimal need ++ (codes " " ++ decimal have))
 
+-- a checksum, in four hexadecimal digits
+abbrev pub sum_text : ℕ → List ℕ
+sum_text sum = encode_lower (to_be_bytes w16 sum)
+
+-- what is wrong with the datagram in an Update (RFC 791, section 3.1)
+abbrev pub inner_text : InnerFault → List ℕ
+inner_text (inner.Version version) = codes "version " ++ decimal version
+inner_text (inner.ShortHeader need have) = codes "short " ++ (decimal need ++ (codes " " ++ decimal have))
+inner_text (inner.HeaderLength words) = codes "header " ++ decimal words
+inner_text (inner.TotalLength want have) = codes "length " ++ (decimal want ++ (codes " " ++ decimal have))
+inner_text (inner.HeaderSum want have) = codes "sum " ++ (sum_text want ++ (codes " " ++ sum_text have))
+inner_text (inner.Fragment bits) = codes "fragment " ++ decimal bits
+inner_text (inner.Protocol protocol) = codes "protocol " ++ decimal protocol
+
+-- what is wrong with the membership report in it (RFC 3376, section 4.2)
+abbrev pub report_text : ReportFault → List ℕ
+report_text (report.Short need have) = codes "short " ++ (decimal need ++ (codes " " ++ decimal have))
+report_text (report.Kind kind) = codes "kind " ++ decimal kind
+report_text (report.OldReport kind) = codes "old " ++ decimal kind
+report_text (report.Sum want have) = codes "sum " ++ (sum_text want ++ (codes " " ++ sum_text have))
+report_text (report.RecordShort index) = codes "record " ++ decimal index
+report_text (report.SourceShort index) = codes "sources " ++ decimal index
+
+abbrev pub unlawful_text : Unlawful → List ℕ
+unlawful_text (Inner fault) = codes "inner " ++ inner_text fault
+unlawful_text (Report fault) = codes "report " ++ report_text fault
+
+-- which limit was passed, and the number that passes it
+abbrev pub limit_text : LimitFault → List ℕ
+limit_text (Sources group count) = codes "sources " ++ (ip_text group ++ (codes " " ++ decimal count))
+limit_text (Groups count) = codes "groups " ++ decimal count
+limit_text (Endpoints count) = codes "endpoints " ++ decimal count
+
 abbrev pub outcome_text : Outcome → List ℕ
 outcome_text (Moved moment) = codes "moved " ++ decimal moment
 outcome_text Rotated = codes "rotated"
@@ -38,6 +81,10 @@ outcome_text (Queried false false) = codes "queried v4"
 outcome_text (Queried false true) = codes "queried v4 limited"
 outcome_text (Queried true false) = codes "queried v6"
 outcome_text (Queried true true) = codes "queried v6 limited"
+outcome_text BadMac = codes "badmac"
+outcome_text (outcomes.Unlawful fault) = codes "unlawful " ++ unlawful_text fault
+outcome_text (Over fault) = codes "limit " ++ limit_text fault
+outcome_text Updated = codes "updated"
 
 -- pairs of hexadecimal digits, or `-` for no octet
 abbrev pub hex_text : List ℕ → List ℕ

@@ -22,7 +22,7 @@ use std::alloc::Global;
 pub enum RunFault {
     /// The sink failed.
     Write,
-    /// Want of memory for a step or its text.
+    /// Want of memory for the relay, a step or its text.
     Memory,
 }
 
@@ -89,7 +89,9 @@ pub fn run_relay_script<O: Sink>(
     ensures later { O.faults out.old ≤ O.faults out.new }
     ensures write { IsErrOf result RunFault.Write → Rose (O.faults out.old) (O.faults out.new) }
 {
-    let mut relay = Relay::new(script.settings, script.secret);
+    let Ok(mut relay) = Relay::new(alloc, script.settings, script.secret) else {
+        return Err(RunFault::Memory);
+    };
     let events = script.items.as_slice();
     for (index, event) in events.iter().enumerate() {
         match write_step(alloc, &mut relay, index as u64 + 1, event, out) {

@@ -82,6 +82,7 @@ pub fn settle(given: &[Setting]) -> Option<Settled>
                 robustness: robustness_of(given),
                 query_seconds: query_seconds_of(given),
                 response_tenths: response_tenths_of(given),
+                limits: Settings::of_relay(relay).limits,
             },
             secret: secret_of(given),
         }),

@@ -2,11 +2,14 @@ ghost use Rattle.std.specs.Prelude.{◌≡◌, ◌++◌, ◌≤◌, length, OnOk
 ghost use Rattle.amt_values.specs.Octets.{AreOctets};
 ghost use Rattle.relay_machine.specs.Conditions.{IsEvent};
 ghost use Rattle.relay_machine.specs.declared.event.Event.TheVariants as events;
+ghost use Rattle.relay_machine.specs.declared.outcome.Outcome.TheVariants.{Over, Queried};
 ghost use Rattle.amt_script.specs.Printed.{CanBeSaid, IsLineOf, IsLineThatSays};
 ghost use Rattle.amt_script.specs.Texts.{refusal_text, outcome_text, hex_text, event_line, event_text, send_text, step_text, closing_text};
 
+use crate::fault_text::{print_limit, print_unlawful};
 use amt_messages::Refused;
 use amt_values::{Bytes, Peer, print_peer};
+use endpoint_membership::LimitFault;
 use relay_machine::{Event, OneSend, Outcome, Step};
 use std::alloc::{AllocError, Global};
 
@@ -24,32 +27,57 @@ fn print_refusal(alloc: Global, refusal: &Refused) -> Result<String, AllocError>
     }
 }
 
-fn print_outcome(alloc: Global, outcome: &Outcome) -> Result<String, AllocError>
-    ensures { IfOk result (λ text. string_bytes text ≡ outcome_text outcome.now) }
+fn print_queried(alloc: Global, v6: bool, limited: bool) -> Result<Bytes, AllocError>
+    ensures { IfOk result (λ text. text ≡ outcome_text (Queried v6 limited)) }
+{
+    match (v6, limited) {
+        (false, false) => Bytes::copied(alloc, b"queried v4"),
+        (false, true) => Bytes::copied(alloc, b"queried v4 limited"),
+        (true, false) => Bytes::copied(alloc, b"queried v6"),
+        (true, true) => Bytes::copied(alloc, b"queried v6 limited"),
+    }
+}
+
+fn print_over(alloc: Global, fault: &LimitFault) -> Result<Bytes, AllocError>
+    ensures { IfOk result (λ text. text ≡ outcome_text (Over fault.now)) }
+{
+    let limit = print_limit(alloc, fault)?;
+    let mut text = Bytes::copied(alloc, b"limit ")?;
+    text.append(limit.as_slice())?;
+    Ok(text)
+}
+
+fn print_outcome(alloc: Global, outcome: &Outcome) -> Result<Bytes, AllocError>
+    ensures { IfOk result (λ text. text ≡ outcome_text outcome.now) }
 {
     match *outcome {
         Outcome::Moved(moment) => {
             let ms = moment.ms();
-            format!(in alloc; "moved {ms}")
+            let text = format!(in alloc; "moved {ms}")?;
+            Bytes::copied(alloc, text.as_bytes())
         }
-        Outcome::Rotated => String::from_str(alloc, "rotated"),
-        Outcome::BadSource => String::from_str(alloc, "badsource"),
+        Outcome::Rotated => Bytes::copied(alloc, b"rotated"),
+        Outcome::BadSource => Bytes::copied(alloc, b"badsource"),
         Outcome::Undecoded(refusal) => {
             let refusal = print_refusal(alloc, &refusal)?;
-            format!(in alloc; "refused {refusal}")
+            let text = format!(in alloc; "refused {refusal}")?;
+            Bytes::copied(alloc, text.as_bytes())
         }
-        Outcome::WrongKind(kind) => format!(in alloc; "wrongkind {kind}"),
-        Outcome::NoFamily => String::from_str(alloc, "nofamily"),
-        Outcome::Advertised => String::from_str(alloc, "advertised"),
-        Outcome::Queried { v6, limited } => {
-            let text = match (v6, limited) {
-                (false, false) => "queried v4",
-                (false, true) => "queried v4 limited",
-                (true, false) => "queried v6",
-                (true, true) => "queried v6 limited",
-            };
-            String::from_str(alloc, text)
+        Outcome::WrongKind(kind) => {
+            let text = format!(in alloc; "wrongkind {kind}")?;
+            Bytes::copied(alloc, text.as_bytes())
         }
+        Outcome::NoFamily => Bytes::copied(alloc, b"nofamily"),
+        Outcome::Advertised => Bytes::copied(alloc, b"advertised"),
+        Outcome::Queried { v6, limited } => print_queried(alloc, v6, limited),
+        Outcome::BadMac => Bytes::copied(alloc, b"badmac"),
+        Outcome::Unlawful(fault) => {
+            let fault = print_unlawful(alloc, &fault)?;
+            let text = format!(in alloc; "unlawful {fault}")?;
+            Bytes::copied(alloc, text.as_bytes())
+        }
+        Outcome::Over(fault) => print_over(alloc, &fault),
+        Outcome::Updated => Bytes::copied(alloc, b"updated"),
     }
 }
 
@@ -130,8 +158,10 @@ pub fn print_relay_step(alloc: Global, number: u64, step: &Step) -> Result<Bytes
     ensures { IfOk result (λ text. text ≡ step_text number step.now.outcome step.now.sends) }
 {
     let outcome = print_outcome(alloc, &step.outcome)?;
-    let line = format!(in alloc; "= {number} {outcome}\n")?;
+    let line = format!(in alloc; "= {number} ")?;
     let mut text = Bytes::copied(alloc, line.as_bytes())?;
+    text.append(outcome.as_slice())?;
+    text.append(b"\n")?;
     for send in step.sends.as_slice() {
         append_send(alloc, &mut text, send)?;
     }

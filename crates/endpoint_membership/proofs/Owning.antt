@@ -10,6 +10,7 @@ use Rattle.amt_values.specs.Order.{ip_order}
 use Rattle.amt_values.specs.Tunnel.{Tunnel}
 use Rattle.amt_values.proofs.Orders.{tunnel_order-exact, tunnel_order-total}
 use Rattle.source_filter.specs.Filter.{FilterValue}
+use Rattle.source_filter.specs.Record.{item_count}
 use Rattle.source_filter.specs.Rising.{IsRising, has}
 use Rattle.source_filter.specs.declared.record.Record.{Record}
 use Rattle.source_filter.proofs.RisingLaws.{IsRising-filter}
@@ -22,7 +23,7 @@ use Rattle.endpoint_membership.specs.Log.{is_empty}
 use Rattle.endpoint_membership.specs.Own.{WishValue, AreOf, filter_wished, is_over, on_group, row_of_wish, wish_after_all, wish_in}
 use Rattle.endpoint_membership.specs.Place.{Place, same_endpoint, same_group}
 use Rattle.endpoint_membership.specs.Rows.{is_standing, kept_order, place_of, row_at}
-use Rattle.endpoint_membership.specs.Table.{AreLawful, item_count}
+use Rattle.endpoint_membership.specs.Table.{AreLawful}
 use Rattle.endpoint_membership.proofs.Bounds.{All-at, All-from_row_at, few_groups, sources-applied_all, sum_by-on_group}
 use Rattle.endpoint_membership.proofs.ByLog.{kept_by}
 use Rattle.endpoint_membership.proofs.Judged.{judged}

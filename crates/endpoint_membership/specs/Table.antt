@@ -1,5 +1,5 @@
 -- What a membership table stands for.
-use Rattle.std.specs.Prelude.{◌≡◌, ℕ, ◌+◌, ◌≤◌, ◌++◌, ◌∷◌, [], List, length, sum_by, Option, Result, Ok, Err, reverse}
+use Rattle.std.specs.Prelude.{◌≡◌, ℕ, ◌≤◌, ◌++◌, ◌∷◌, [], List, Option, Result, Ok, Err, reverse}
 use Rattle.amt_values.specs.Tunnel.{Tunnel}
 use Rattle.source_filter.specs.Rising.{IsRising}
 use Rattle.source_filter.specs.declared.record.Record.{Record}
@@ -54,10 +54,6 @@ pub record AreLawful (limits : Limits) (lifetime : ℕ) : Type 0 where
   pub endpoints : limits.endpoints ≤ 16777216
   pub groups : limits.groups ≤ 16777216
   pub sources : limits.sources ≤ 16777216
-
--- the number of records and of their sources
-abbrev pub item_count : List Record → ℕ
-item_count records = length records + sum_by (λ group_record. length group_record.sources) records
 
 -- the limit that a report passes, by the log with the report
 abbrev pub limit_passed : Terms → List Change → Tunnel → List Record → ℕ → Option LimitFault

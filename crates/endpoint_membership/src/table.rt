@@ -1,11 +1,12 @@
 ghost use Rattle.std.specs.Prelude.{◌≡◌, ◌<◌, ◌≤◌, ◌+◌, ◌^◌, [], ◌∷◌, ◌++◌, List, max, length, Some, None, IfOk, OnOk, if◌then◌else◌};
 ghost use Rattle.std.specs.List.{AllByRecursion, filter, find};
+ghost use Rattle.source_filter.specs.Record.{item_count};
 ghost use Rattle.endpoint_membership.specs.Kept.{is_counted};
 ghost use Rattle.endpoint_membership.specs.Limits.{IsWithin, fault_by, live_count, size};
 ghost use Rattle.endpoint_membership.specs.Log.{is_empty, latest};
 ghost use Rattle.endpoint_membership.specs.Own.{is_over};
 ghost use Rattle.endpoint_membership.specs.Rows.{is_live, rows_of, standing_rows};
-ghost use Rattle.endpoint_membership.specs.Table.{Holds, IsWithinLimits, OnLimit, OnMemory, Terms, item_count, limit_passed, standing_now};
+ghost use Rattle.endpoint_membership.specs.Table.{Holds, IsWithinLimits, OnLimit, OnMemory, Terms, limit_passed, standing_now};
 ghost use Rattle.endpoint_membership.specs.declared.change.Change.{Change as Entry};
 ghost use Rattle.endpoint_membership.specs.declared.change.Change.TheVariants.{Clear, Mark, Reported};
 
@@ -66,7 +67,9 @@ impl Table {
 
     /// The latest moment of all calls.
     pub fn now(&self) -> Moment
-        ensures { (terms : Terms) (log : List Entry) → Holds terms self.now log → result ≡ latest log }
+        ensures value { result ≡ self.now.moment }
+        ensures latest { (terms : Terms) (log : List Entry) → Holds terms self.now log
+            → result ≡ latest log }
     {
         self.moment
     }

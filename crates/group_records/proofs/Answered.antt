@@ -69,7 +69,7 @@ report_is_read family pseudo_header payload records report =
     let walk = AreRecords-once family 0 (big_number 2 (drop 6 payload)) records (drop 8 payload) report.carries in
     rw (head, walk.0, walk.1) refl
 
-reading_by-ok : (first : Option ReportFault) (at records : List Record) → reading_by first at ≡ Ok records → (first ≡ None) × (at ≡ records)
+pub reading_by-ok : (first : Option ReportFault) (at records : List Record) → reading_by first at ≡ Ok records → (first ≡ None) × (at ≡ records)
 reading_by-ok None at records same = (refl, cc)
 reading_by-ok (Some fault) at records same = cc
 

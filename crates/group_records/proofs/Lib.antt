@@ -3,3 +3,4 @@ pub mod Spelled
 pub mod Walk
 pub mod Steps
 pub mod Answered
+pub mod Few

@@ -1,4 +1,5 @@
 ghost use Rattle.std.specs.Prelude.{◌≡◌, ◌≤◌, ◌%◌, List, length, drop, IfOk, Ok, Err, MatchResult, None, Some, true};
+ghost use Rattle.source_filter.specs.Record.{item_count};
 ghost use Rattle.source_filter.specs.declared.record.Record.{Record as RecordValue};
 ghost use Rattle.source_filter.specs.declared.fault.ReadFault.TheVariants.{Memory};
 ghost use Rattle.source_filter.specs.declared.fault.ReportFault.{ReportFault as ReportFaultValue};
@@ -143,6 +144,7 @@ pub fn read_report(
         → Gives result (Err fault) }
     ensures memory { result ≡ Err Memory → AsksMemory family pseudo_header.now payload.now }
     ensures value { Gives result (report_of family pseudo_header.now payload.now) }
+    ensures few { IfOk result (λ records. item_count records ≤ length payload.now) }
 {
     read(alloc, family, pseudo_header, payload)
 }

@@ -1,4 +1,5 @@
 ghost use Rattle.std.specs.Prelude.{◌≡◌, ◌≤◌, List, length, IfOk, Ok, Err, MatchResult, None, Some};
+ghost use Rattle.source_filter.specs.Record.{item_count};
 ghost use Rattle.source_filter.specs.declared.record.Record.{Record as RecordValue};
 ghost use Rattle.source_filter.specs.declared.fault.ReadFault.TheVariants.{Memory};
 ghost use Rattle.source_filter.specs.declared.fault.ReportFault.{ReportFault as ReportFaultValue};
@@ -31,6 +32,7 @@ pub fn read_report4(alloc: Global, payload: &[u8]) -> Result<Records, ReadFault>
         → Gives result (Err fault) }
     ensures memory { result ≡ Err Memory → AsksMemory4 payload.now }
     ensures value { Gives result (report4_of payload.now) }
+    ensures few { IfOk result (λ records. item_count records ≤ length payload.now) }
 {
     read_report(alloc, Family::V4, &[], payload)
 }

@@ -1,3 +1,4 @@
 pub mod Onward
 pub mod QuerySizes
+pub mod Reports
 pub mod Times

@@ -1,23 +1,39 @@
 -- Where one more event leaves a relay.
-use Rattle.std.proofs.Common.{◌≡◌, ℕ, max, List, [], ◌∷◌, ◌++◌, Result, Ok, Err, OnOk, refl, sym, ap, ◌∙◌}
-use Rattle.std.proofs.lemmas.List.{append-nil}
+use Rattle.std.proofs.Common.{◌≡◌, ℕ, max, Bool, true, false, List, [], ◌∷◌, ◌++◌, Option, Some, None, Result, Ok, Err, refl, sym, ap, subst, ◌∙◌, arith}
+use Rattle.std.proofs.lemmas.List.{append-nil, reverse-append, reverse-reverse}
 use Rattle.std.proofs.lemmas.List.Elements.{filter_map-append}
 use Rattle.std.proofs.lemmas.List.Sums.{fold-append}
 use Rattle.std.specs.List.{fold, filter_map}
+use Rattle.std.specs.Result.{IfOk}
+use Rattle.amt_values.specs.Endpoint.{endpoint_of}
+use Rattle.amt_values.specs.Tunnel.{Tunnel}
 use Rattle.amt_values.specs.declared.peer.Peer.{Peer}
+use Rattle.amt_messages.specs.declared.message.Message.{Message}
+use Rattle.amt_messages.specs.declared.message.Message.TheVariants.{Discovery, Advertisement, Request, Query, Update}
+use Rattle.amt_messages.specs.declared.refusal.Refused.{Refused}
+use Rattle.amt_messages.specs.Refusal.{message_of}
 use Rattle.response_mac.specs.declared.secret.Secret.{Secret}
 use Rattle.response_mac.specs.declared.secrets.Secrets.{Secrets}
-use Rattle.response_mac.specs.ResponseMac.{secrets_after}
+use Rattle.response_mac.specs.ResponseMac.{is_good, secrets_after}
+use Rattle.source_filter.specs.declared.record.Record.{Record}
+use Rattle.endpoint_membership.specs.Limits.{IsWithin}
+use Rattle.endpoint_membership.specs.Log.{latest}
+use Rattle.endpoint_membership.specs.Table.{Holds, IsWithinLimits, TableValue, Terms, limit_passed, standing_now}
+use Rattle.endpoint_membership.specs.declared.change.Change.{Change}
+use Rattle.endpoint_membership.specs.declared.change.Change.TheVariants.{Mark, Reported}
+use Rattle.endpoint_membership.specs.declared.limits.LimitFault.{LimitFault}
+use Rattle.endpoint_membership.proofs.Held.{IsWithin-log, latest-push}
 use Rattle.relay_machine.specs.declared.event.Event.{Event}
 use Rattle.relay_machine.specs.declared.event.Event.TheVariants.{Moment, Datagram, Rotate}
+use Rattle.relay_machine.specs.declared.outcome.Unlawful.{Unlawful}
+use Rattle.relay_machine.specs.declared.sends.Step.{Step}
 use Rattle.relay_machine.specs.declared.settings.Settings.{Settings}
+use Rattle.relay_machine.specs.Accepted.{accepted, accepted_back, change_after, change_of, datagram_change, with_change}
 use Rattle.relay_machine.specs.Answers.{RelayAt}
 use Rattle.relay_machine.specs.Events.{moment_in, now_of, secret_in, secrets_of}
+use Rattle.relay_machine.specs.Settings.{terms_of}
 use Rattle.relay_machine.specs.State.{RelayState}
-
-pub same_state : (one other : RelayState) → one.settings ≡ other.settings → one.secrets ≡ other.secrets → one.moment ≡ other.moment → one ≡ other
-same_state one other same_settings same_secrets same_moment =
-    λ i. record { settings = same_settings i; secrets = same_secrets i; moment = same_moment i }
+use Rattle.relay_machine.specs.Updates.{forwarded, limit_change, report_in, update_change}
 
 now_of-moment : (events : List Event) (moment : ℕ) → now_of (events ++ Moment moment ∷ []) ≡ max (now_of events) moment
 unfolding now_of
@@ -43,28 +59,115 @@ secrets_of-other first events event none =
     ap (secrets_after first)
     (filter_map-append secret_in events (event ∷ []) ∙ (ap (λ (brought : List Secret). filter_map secret_in events ++ brought) none ∙ append-nil _))
 
+-- one event more adds its entry, or none, to the log
+pub accepted-push : (settings : Settings) (first : Secret) (events : List Event) (event : Event)
+    → accepted settings first (events ++ event ∷ []) ≡ with_change (accepted settings first events) (change_of settings first events event)
+unfolding accepted_back
+accepted-push settings first events event =
+    let log = accepted settings first events in
+    ap (accepted_back settings first) (reverse-append events (event ∷ []))
+    ∙ ap (λ (earlier : List Event). with_change log (change_after settings first earlier log event)) (reverse-reverse events)
+
+-- the log's latest moment is the events'
+pub latest-accepted : (relay : RelayState) (settings : Settings) (first : Secret) (events : List Event) → RelayAt relay settings first events
+    → latest (accepted settings first events) ≡ now_of events
+latest-accepted relay settings first events at = sym at.table.moment ∙ at.moment
+
 -- a new relay
 pub RelayAt-new : (relay : RelayState) (settings : Settings) (first : Secret) → relay.settings ≡ settings → relay.secrets ≡ secrets_after first []
-    → relay.moment ≡ 0 → RelayAt relay settings first []
-unfolding now_of secrets_of
-RelayAt-new relay settings first same_settings same_secrets same_moment = same_state relay _ same_settings same_secrets same_moment
+    → Holds (terms_of settings) relay.table [] → RelayAt relay settings first []
+unfolding now_of secrets_of accepted_back
+RelayAt-new relay settings first same_settings same_secrets holds =
+    record { settings_kept = same_settings; secrets = same_secrets; table = holds; moment = holds.moment }
 
--- a moment moves the relay's own on, and changes nothing else
-pub RelayAt-moment : (relay : RelayState) (settings : Settings) (first : Secret) (events : List Event) (moment later : ℕ)
-    → RelayAt relay settings first events → later ≡ max relay.moment moment
-    → RelayAt (record relay { moment = later }) settings first (events ++ Moment moment ∷ [])
-RelayAt-moment relay settings first events moment later at later_is =
-    same_state _ _ (ap (λ (r : RelayState). r.settings) at)
-    (ap (λ (r : RelayState). r.secrets) at ∙ sym (secrets_of-other first events (Moment moment) refl))
-    (later_is ∙ (ap (λ (r : RelayState). max r.moment moment) at ∙ sym (now_of-moment events moment)))
+-- the table after an event, with the entry that the event adds
+Holds-push : (settings : Settings) (first : Secret) (events : List Event) (event : Event) (table : TableValue) (change : Option Change)
+    → change ≡ change_of settings first events event → Holds (terms_of settings) table (with_change (accepted settings first events) change)
+    → Holds (terms_of settings) table (accepted settings first (events ++ event ∷ []))
+Holds-push settings first events event table change same holds =
+    subst (Holds (terms_of settings) table) (ap (with_change (accepted settings first events)) same ∙ sym (accepted-push settings first events event)) holds
 
--- a datagram changes nothing
+-- a moment moves the table on, and changes nothing else
+pub RelayAt-moment : (relay : RelayState) (settings : Settings) (first : Secret) (events : List Event) (moment later : ℕ) (table : TableValue)
+    → RelayAt relay settings first events → later ≡ max relay.table.moment moment
+    → ((terms : Terms) (log : List Change) → Holds terms relay.table log → Holds terms table (log ++ Mark later ∷ []))
+    → RelayAt (record relay { table = table }) settings first (events ++ Moment moment ∷ [])
+RelayAt-moment relay settings first events moment later table at later_is marked =
+    let log = accepted settings first events in
+    let held = marked (terms_of settings) log at.table in
+    let by_events : later ≡ max (now_of events) moment = later_is ∙ ap (λ (m : ℕ). max m moment) at.moment in
+    let told = now_of-moment events moment in
+    let shown = held.moment in
+    let pushed = latest-push log (Mark later) in
+    let before = latest-accepted relay settings first events at in record {
+      settings_kept = at.settings_kept;
+      secrets = at.secrets ∙ sym (secrets_of-other first events (Moment moment) refl);
+      table = Holds-push settings first events (Moment moment) table (Some (Mark later)) (ap (λ (m : ℕ). Some (Mark m)) by_events) held;
+      moment = omega arith;
+    }
+
+limit_change-unmoved : (passed : Option LimitFault) (log : List Change) (source : Tunnel) (records : List Record)
+    → latest (with_change log (limit_change passed (Reported source records (latest log)))) ≡ latest log
+limit_change-unmoved None log source records = let pushed = latest-push log (Reported source records (latest log)) in omega arith
+limit_change-unmoved (Some fault) log source records = refl
+
+update_change-unmoved : (good : Bool) (reading : Result (List Record) Unlawful) (passed : List Record → Option LimitFault) (log : List Change) (source : Tunnel)
+    → latest (with_change log (update_change good reading passed source (latest log))) ≡ latest log
+update_change-unmoved false reading passed log source = refl
+update_change-unmoved true (Err fault) passed log source = refl
+update_change-unmoved true (Ok records) passed log source = limit_change-unmoved (passed (forwarded records)) log source (forwarded records)
+
+-- what a datagram adds to the log is made at the log's latest moment
+datagram_change-unmoved : (terms : Terms) (secrets : Secrets) (log : List Change) (source : Option Tunnel) (reading : Result Message Refused)
+    → latest (with_change log (datagram_change terms secrets (latest log) log source reading)) ≡ latest log
+datagram_change-unmoved terms secrets log None reading = refl
+datagram_change-unmoved terms secrets log (Some source) (Err refusal) = refl
+datagram_change-unmoved terms secrets log (Some source) (Ok (Discovery nonce)) = refl
+datagram_change-unmoved terms secrets log (Some source) (Ok (Advertisement nonce relay)) = refl
+datagram_change-unmoved terms secrets log (Some source) (Ok (Request v6 nonce)) = refl
+datagram_change-unmoved terms secrets log (Some source) (Ok (Query limited mac nonce inner seen)) = refl
+datagram_change-unmoved terms secrets log (Some source) (Ok (Update mac nonce inner)) =
+    update_change-unmoved (is_good secrets source nonce mac) (report_in inner) (λ (records : List Record). limit_passed terms log source records (latest log)) log source
+
+-- a datagram changes the table by the entry that it adds, and nothing else
 pub RelayAt-datagram : (relay : RelayState) (settings : Settings) (first : Secret) (events : List Event) (from : Peer) (bytes : List ℕ)
-    → RelayAt relay settings first events → RelayAt relay settings first (events ++ Datagram from bytes ∷ [])
-RelayAt-datagram relay settings first events from bytes at =
-    same_state _ _ (ap (λ (r : RelayState). r.settings) at)
-    (ap (λ (r : RelayState). r.secrets) at ∙ sym (secrets_of-other first events (Datagram from bytes) refl))
-    (ap (λ (r : RelayState). r.moment) at ∙ sym (now_of-other events (Datagram from bytes) refl))
+    (table : TableValue) (change : Option Change) → RelayAt relay settings first events → change ≡ change_of settings first events (Datagram from bytes)
+    → Holds (terms_of settings) table (with_change (accepted settings first events) change)
+    → RelayAt (record relay { table = table }) settings first (events ++ Datagram from bytes ∷ [])
+RelayAt-datagram relay settings first events from bytes table change at same holds =
+    let log = accepted settings first events in
+    let before = latest-accepted relay settings first events at in
+    let by_log : change ≡ datagram_change (terms_of settings) (secrets_of first events) (latest log) log (endpoint_of from) (message_of bytes) =
+    same ∙ ap (λ (m : ℕ). datagram_change (terms_of settings) (secrets_of first events) m log (endpoint_of from) (message_of bytes)) (sym before) in
+    let unmoved = ap (λ (c : Option Change). latest (with_change log c)) by_log
+    ∙ datagram_change-unmoved (terms_of settings) (secrets_of first events) log (endpoint_of from) (message_of bytes) in record {
+      settings_kept = at.settings_kept;
+      secrets = at.secrets ∙ sym (secrets_of-other first events (Datagram from bytes) refl);
+      table = Holds-push settings first events (Datagram from bytes) table change same holds;
+      moment = holds.moment ∙ (unmoved ∙ (before ∙ sym (now_of-other events (Datagram from bytes) refl)));
+    }
+
+-- by what is answered to a datagram: its entry, and the table that it leaves
+pub RelayAt-answered : {E : Type 0} (relay : RelayState) (settings : Settings) (first : Secret) (events : List Event) (from : Peer) (bytes : List ℕ)
+    (table : TableValue) (answer : Result Step E) → RelayAt relay settings first events
+    → ((log : List Change) → Holds (terms_of relay.settings) relay.table log
+    → IfOk answer (λ step. step.change ≡ datagram_change (terms_of relay.settings) relay.secrets (latest log) log (endpoint_of from) (message_of bytes)))
+    → ((log : List Change) → Holds (terms_of relay.settings) relay.table log
+    → IfOk answer (λ step. Holds (terms_of relay.settings) table (with_change log step.change)))
+    → IfOk answer (λ step. RelayAt (record relay { table = table }) settings first (events ++ Datagram from bytes ∷ []))
+RelayAt-answered relay settings first events from bytes table (Err fault) at changes stands = tt
+RelayAt-answered relay settings first events from bytes table (Ok step) at changes stands =
+    let log = accepted settings first events in
+    let source = endpoint_of from in
+    let reading = message_of bytes in
+    let holds = subst (λ (known : Settings). Holds (terms_of known) relay.table log) (sym at.settings_kept) at.table in
+    let same = changes log holds
+    ∙ (ap (λ (known : Settings). datagram_change (terms_of known) relay.secrets (latest log) log source reading) at.settings_kept
+    ∙ (ap (λ (secrets : Secrets). datagram_change (terms_of settings) secrets (latest log) log source reading) at.secrets
+    ∙ ap (λ (moment : ℕ). datagram_change (terms_of settings) (secrets_of first events) moment log source reading)
+    (latest-accepted relay settings first events at))) in
+    RelayAt-datagram relay settings first events from bytes table step.change at same
+    (subst (λ (known : Settings). Holds (terms_of known) table (with_change log step.change)) at.settings_kept (stands log holds))
 
 -- a secret is the last of the secrets, and nothing else changes
 pub RelayAt-rotate : (relay : RelayState) (settings : Settings) (first : Secret) (events : List Event) (secret : Secret) (rotated : Secrets)
@@ -72,12 +175,14 @@ pub RelayAt-rotate : (relay : RelayState) (settings : Settings) (first : Secret)
     → ((f : Secret) (changes : List Secret) → relay.secrets ≡ secrets_after f changes → rotated ≡ secrets_after f (changes ++ secret ∷ []))
     → RelayAt (record relay { secrets = rotated }) settings first (events ++ Rotate secret ∷ [])
 unfolding secrets_of
-RelayAt-rotate relay settings first events secret rotated at appended =
-    same_state _ _ (ap (λ (r : RelayState). r.settings) at)
-    (appended first (filter_map secret_in events) (ap (λ (r : RelayState). r.secrets) at) ∙ sym (secrets_of-rotate first events secret))
-    (ap (λ (r : RelayState). r.moment) at ∙ sym (now_of-other events (Rotate secret) refl))
+RelayAt-rotate relay settings first events secret rotated at appended = record {
+  settings_kept = at.settings_kept;
+  secrets = appended first (filter_map secret_in events) at.secrets ∙ sym (secrets_of-rotate first events secret);
+  table = Holds-push settings first events (Rotate secret) relay.table None refl at.table;
+  moment = at.moment ∙ sym (now_of-other events (Rotate secret) refl);
+}
 
--- what holds anyway holds of an answer
-pub OnOk-always : {T E P : Type 0} (answer : Result T E) → P → OnOk answer P
-OnOk-always (Ok value) holds = holds
-OnOk-always (Err fault) holds = tt
+-- a relay that keeps its table within the limits stays within them by the log
+pub IsWithin-events : (relay : RelayState) (settings : Settings) (first : Secret) (events : List Event) → RelayAt relay settings first events → IsWithinLimits relay.table
+    → IsWithin settings.limits (standing_now (terms_of settings) (accepted settings first events))
+IsWithin-events relay settings first events at within = IsWithin-log (terms_of settings) relay.table (accepted settings first events) at.table within

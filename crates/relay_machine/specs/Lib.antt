@@ -1,6 +1,9 @@
+pub mod Accepted
 pub mod Answers
 pub mod Conditions
 pub mod Events
 pub mod Queries
+pub mod Reading
 pub mod Settings
 pub mod State
+pub mod Updates

@@ -1,5 +1,5 @@
 -- The Membership Query that answers a Request.
-use Rattle.std.specs.Prelude.{ℕ, List, Some, false}
+use Rattle.std.specs.Prelude.{ℕ, Bool, List, Some}
 use Rattle.amt_values.specs.Tunnel.{Tunnel}
 use Rattle.amt_messages.specs.declared.message.Message.{Message}
 use Rattle.amt_messages.specs.declared.message.Message.TheVariants.{Query}
@@ -29,8 +29,8 @@ general_query settings =
     written_inner4 settings.query4 all_systems (written_query4 (query_fields settings))
 
 -- the answer to a source's Request: the MAC of the source and the nonce, the nonce, the General
--- Query, and the source as it was seen (RFC 7450, section 5.1.4). No listener is known yet, so no
--- limit is reached.
-abbrev pub query_for : Settings → Secret → Tunnel → ℕ → Message
-query_for settings secret source nonce =
-    Query false (mac_of secret source nonce) nonce (general_query settings) (Some source)
+-- Query, and the source as it was seen; the L flag says whether the relay is limited (RFC 7450,
+-- section 5.1.4)
+abbrev pub query_for : Settings → Secret → Bool → Tunnel → ℕ → Message
+query_for settings secret limited source nonce =
+    Query limited (mac_of secret source nonce) nonce (general_query settings) (Some source)

@@ -1,6 +1,8 @@
 -- What a relay may be set up with, and how long a report then counts.
 use Rattle.std.specs.Prelude.{◌≡◌, ℕ, ◌+◌, ◌*◌, ◌<◌, ◌≤◌}
 use Rattle.amt_values.specs.declared.address.Ip.{Ip}
+use Rattle.endpoint_membership.specs.Table.{Terms}
+use Rattle.endpoint_membership.specs.declared.limits.Limits.{Limits}
 use Rattle.igmp_records.specs.Code.{code_value}
 use Rattle.relay_machine.specs.declared.settings.Settings.{Settings}
 
@@ -14,13 +16,29 @@ pub record IsQueryTime (time : ℕ) : Type 0 where
   pub most : time ≤ 31744
   pub has_code : HasCode time
 
+-- a Query Interval in seconds (RFC 3376, section 8.2) and a Query Response Interval in tenths
+-- (section 8.3) that a General Query can carry
+pub record HasQueryTimes (settings : Settings) : Type 0 where
+  pub interval : IsQueryTime settings.query_seconds
+  pub response : IsQueryTime settings.response_tenths
+
+-- limits by which the sources of all rows are at most 16,777,216
+pub record AreLimits (limits : Limits) : Type 0 where
+  pub least_endpoints : 1 ≤ limits.endpoints
+  pub most_endpoints : limits.endpoints ≤ 65536
+  pub least_groups : 1 ≤ limits.groups
+  pub most_groups : limits.groups ≤ 256
+  pub least_sources : 1 ≤ limits.sources
+  pub most_sources : limits.sources ≤ 64
+  pub product : limits.endpoints * limits.groups * limits.sources ≤ 16777216
+
 -- a robustness that is not zero (RFC 3376, section 8.1) and that three bits carry (section 4.1.6),
--- a Query Interval in seconds (section 8.2) and a Query Response Interval in tenths (section 8.3)
+-- times that queries carry, and limits
 pub record IsLawful (settings : Settings) : Type 0 where
   pub least_robustness : 1 ≤ settings.robustness
   pub most_robustness : settings.robustness ≤ 7
-  pub interval : IsQueryTime settings.query_seconds
-  pub response : IsQueryTime settings.response_tenths
+  pub times : HasQueryTimes settings
+  pub limits : AreLimits settings.limits
 
 -- the defaults of RFC 3376, sections 8.1 to 8.3, and 0.0.0.0 as the source of queries
 abbrev pub default_settings : Ip → Settings
@@ -30,9 +48,14 @@ default_settings relay = record {
   robustness = 2;
   query_seconds = 125;
   response_tenths = 100;
+  limits = record { endpoints = 1024; groups = 64; sources = 64 };
 }
 
 -- the Group Membership Interval (RFC 3376, section 8.4), in milliseconds
 abbrev pub membership_interval_ms : Settings → ℕ
 membership_interval_ms settings =
     settings.robustness * settings.query_seconds * 1000 + settings.response_tenths * 100
+
+-- the limits, and the lifetime of a membership, by which the relay's log is read
+abbrev pub terms_of : Settings → Terms
+terms_of settings = record { limits = settings.limits; lifetime = membership_interval_ms settings }

@@ -1,16 +1,23 @@
-ghost use Rattle.std.specs.Prelude.{◌≡◌, ◌≤◌, [], ◌∷◌, length, IfOk, Ok, Some};
+ghost use Rattle.std.specs.Prelude.{◌≡◌, ◌≤◌, [], ◌∷◌, List, length, IfOk, OnErr, None, Ok, Some};
 ghost use Rattle.amt_messages.specs.Conditions.{IsSendable};
 ghost use Rattle.amt_messages.specs.Layout.{spelling_of};
 ghost use Rattle.amt_messages.specs.Refusal.{message_of};
 ghost use Rattle.amt_values.specs.Endpoint.{endpoint_of};
-ghost use Rattle.relay_machine.specs.Answers.{judged, replies};
+ghost use Rattle.endpoint_membership.specs.Log.{latest};
+ghost use Rattle.endpoint_membership.specs.Table.{Holds, IsWithinLimits};
+ghost use Rattle.endpoint_membership.specs.declared.change.Change.{Change as Entry};
+ghost use Rattle.relay_machine.specs.Accepted.{datagram_change, with_change};
+ghost use Rattle.relay_machine.specs.Answers.{is_limited, judged, replies};
+ghost use Rattle.relay_machine.specs.Settings.{terms_of};
 
 use crate::outcome::Outcome;
 use crate::querier::Querier;
+use crate::report::take_report;
 use crate::sends::{OneSend, Sends, Step};
 use amt_messages::{DecodeFault, Message, decode, encode};
 use amt_values::{Bytes, Endpoint, Peer};
-use response_mac::Secret;
+use endpoint_membership::Table;
+use response_mac::Secrets;
 use std::alloc::{AllocError, Global};
 
 fn answered(
@@ -23,28 +30,56 @@ fn answered(
     ensures outcome { IfOk result (λ step. step.outcome ≡ outcome) }
     ensures sends { IfOk result
         (λ step. step.sends ≡ record { to = to; bytes = spelling_of message.now } ∷ []) }
+    ensures change { IfOk result (λ step. step.change ≡ None) }
 {
     let bytes = encode(alloc, message)?;
     let mut sends = Sends::new(alloc);
     sends.push(OneSend { to, bytes })?;
-    Ok(Step { outcome, sends })
+    Ok(Step {
+        outcome,
+        sends,
+        change: None,
+    })
+}
+
+fn is_limited(querier: &Querier, table: &Table) -> bool
+    requires { IsWithinLimits table.now }
+    ensures { (log : List Entry) → Holds (terms_of querier.now.settings) table.now log
+        → result ≡ is_limited (terms_of querier.now.settings) log }
+{
+    table.live_endpoints() >= querier.settings.limits.endpoints
 }
 
 fn answer_message(
     alloc: Global,
     querier: &Querier,
-    secret: &Secret,
+    secrets: &Secrets,
+    table: &mut Table,
     source: Endpoint,
     message: Message,
 ) -> Result<Step, AllocError>
-    ensures outcome { IfOk result (λ step. step.outcome ≡ judged (Some source) (Ok message)) }
-    ensures sends { IfOk result (λ step. step.sends ≡ replies querier.now.settings secret.now
-        (Some source) (Ok message)) }
+    requires sendable { IsSendable message }
+    requires within { IsWithinLimits table.old }
+    ensures outcome { (log : List Entry) → Holds (terms_of querier.now.settings) table.old log
+        → IfOk result (λ step. step.outcome ≡ judged (terms_of querier.now.settings) secrets.now
+        (latest log) log (Some source) (Ok message)) }
+    ensures sends { (log : List Entry) → Holds (terms_of querier.now.settings) table.old log
+        → IfOk result (λ step. step.sends ≡ replies querier.now.settings secrets.now.current
+        (is_limited (terms_of querier.now.settings) log) (Some source) (Ok message)) }
+    ensures change { (log : List Entry) → Holds (terms_of querier.now.settings) table.old log
+        → IfOk result (λ step. step.change ≡ datagram_change (terms_of querier.now.settings)
+        secrets.now (latest log) log (Some source) (Ok message)) }
+    ensures stands { (log : List Entry) → Holds (terms_of querier.now.settings) table.old log
+        → IfOk result (λ step. Holds (terms_of querier.now.settings) table.new
+        (with_change log step.change)) }
+    ensures same { (log : List Entry) → Holds (terms_of querier.now.settings) table.old log
+        → IfOk result (λ step. step.change ≡ None → table.new ≡ table.old) }
+    ensures err { OnErr result (table.new ≡ table.old) }
+    ensures within { IsWithinLimits table.new }
 {
     match message {
         Message::Advertisement { .. } => Ok(Step::quiet(alloc, Outcome::WrongKind(2))),
         Message::Query { .. } => Ok(Step::quiet(alloc, Outcome::WrongKind(4))),
-        Message::Update { .. } => Ok(Step::quiet(alloc, Outcome::WrongKind(5))),
         Message::Discovery { nonce } => {
             let relay = querier.settings.relay;
             let advertisement = Message::Advertisement { nonce, relay };
@@ -52,12 +87,16 @@ fn answer_message(
         }
         Message::Request { v6: true, .. } => Ok(Step::quiet(alloc, Outcome::NoFamily)),
         Message::Request { v6: false, nonce } => {
-            let queried = Outcome::Queried {
-                v6: false,
-                limited: false,
-            };
-            let query = querier.query_for(alloc, secret, source, nonce)?;
+            let limited = is_limited(querier, table);
+            let queried = Outcome::Queried { v6: false, limited };
+            let query = querier.query_for(alloc, &secrets.current, limited, source, nonce)?;
             answered(alloc, queried, source, &query)
+        }
+        Message::Update { mac, nonce, inner } => {
+            if !secrets.matches(&source, nonce, &mac) {
+                return Ok(Step::quiet(alloc, Outcome::BadMac));
+            }
+            take_report(alloc, table, source, &inner)
         }
     }
 }
@@ -66,15 +105,29 @@ fn answer_message(
 pub fn answer(
     alloc: Global,
     querier: &Querier,
-    secret: &Secret,
+    secrets: &Secrets,
+    table: &mut Table,
     from: &Peer,
     bytes: &Bytes,
 ) -> Result<Step, AllocError>
-    requires { length bytes.now ≤ 65535 }
-    ensures outcome { IfOk result (λ step. step.outcome ≡ judged (endpoint_of from.now)
-        (message_of bytes.now)) }
-    ensures sends { IfOk result (λ step. step.sends ≡ replies querier.now.settings secret.now
-        (endpoint_of from.now) (message_of bytes.now)) }
+    requires size { length bytes.now ≤ 65535 }
+    requires within { IsWithinLimits table.old }
+    ensures outcome { (log : List Entry) → Holds (terms_of querier.now.settings) table.old log
+        → IfOk result (λ step. step.outcome ≡ judged (terms_of querier.now.settings) secrets.now
+        (latest log) log (endpoint_of from.now) (message_of bytes.now)) }
+    ensures sends { (log : List Entry) → Holds (terms_of querier.now.settings) table.old log
+        → IfOk result (λ step. step.sends ≡ replies querier.now.settings secrets.now.current
+        (is_limited (terms_of querier.now.settings) log) (endpoint_of from.now) (message_of bytes.now)) }
+    ensures change { (log : List Entry) → Holds (terms_of querier.now.settings) table.old log
+        → IfOk result (λ step. step.change ≡ datagram_change (terms_of querier.now.settings)
+        secrets.now (latest log) log (endpoint_of from.now) (message_of bytes.now)) }
+    ensures stands { (log : List Entry) → Holds (terms_of querier.now.settings) table.old log
+        → IfOk result (λ step. Holds (terms_of querier.now.settings) table.new
+        (with_change log step.change)) }
+    ensures same { (log : List Entry) → Holds (terms_of querier.now.settings) table.old log
+        → IfOk result (λ step. step.change ≡ None → table.new ≡ table.old) }
+    ensures err { OnErr result (table.new ≡ table.old) }
+    ensures within { IsWithinLimits table.new }
 {
     let Some(source) = Endpoint::of(from) else {
         return Ok(Step::quiet(alloc, Outcome::BadSource));
@@ -82,6 +135,6 @@ pub fn answer(
     match decode(alloc, bytes.as_slice()) {
         Err(DecodeFault::Memory) => Err(AllocError),
         Err(DecodeFault::Refused(refusal)) => Ok(Step::quiet(alloc, Outcome::Undecoded(refusal))),
-        Ok(message) => answer_message(alloc, querier, secret, source, message),
+        Ok(message) => answer_message(alloc, querier, secrets, table, source, message),
     }
 }

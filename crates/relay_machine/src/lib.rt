@@ -2,24 +2,30 @@
 //!
 //! Contract: what the relay answers to an event is a function of its settings, its first secret,
 //! the events before and the event.
+//! What stands in its table is what the accepted log of the events wishes.
 //! It knows no socket, clock or thread: datagrams, moments and secrets come in as events, and
-//! datagrams go out as sends.
+//! datagrams and entries of the log go out as steps.
 //! Standard: RFC 7450, section 5.3; RFC 3376, sections 4.1 and 8.
 #![tactic(auto)]
 
 mod datagram;
 mod event;
+mod forward;
 mod outcome;
 mod querier;
 mod relay;
+mod report;
 mod sends;
 mod settings;
+mod update;
 
 pub use event::Event;
-pub use outcome::Outcome;
+pub use outcome::{Outcome, Unlawful};
 pub use relay::Relay;
 pub use sends::{OneSend, Sends, Step};
 pub use settings::Settings;
 
 #[cfg(test)]
 mod tests;
+#[cfg(test)]
+mod update_tests;

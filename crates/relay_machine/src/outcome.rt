@@ -1,7 +1,20 @@
 use amt_messages::Refused;
 use amt_values::Moment;
+use endpoint_membership::LimitFault;
+use inner_datagrams::InnerFault;
+use source_filter::ReportFault;
 
-/// What an event came to. A datagram is judged by its source, then by its octets, then by its type.
+/// Why an Update carries no membership report: the datagram is judged before what it carries.
+#[derive(Clone, Copy, Debug, PartialEq, Eq)]
+pub enum Unlawful {
+    /// The inner octets are no datagram that carries membership messages.
+    Inner(InnerFault),
+    /// What the inner datagram carries is no membership report.
+    Report(ReportFault),
+}
+
+/// What an event came to. A datagram is judged by its source, then by its octets, then by its type;
+/// an Update by its MAC, then by the report in it, then by the relay's limits.
 #[derive(Clone, Copy, Debug, PartialEq, Eq)]
 pub enum Outcome {
     /// The relay's moment, from now on.
@@ -13,8 +26,7 @@ pub enum Outcome {
     BadSource,
     /// The octets are no message.
     Undecoded(Refused),
-    /// A message of this type is for gateways; or it is an Update, which the relay doesn't act on
-    /// yet.
+    /// A message of this type is for gateways.
     WrongKind(u8),
     /// A Request asks for MLD by its P flag (RFC 7450, section 5.1.3), in which nothing is answered
     /// yet.
@@ -24,4 +36,13 @@ pub enum Outcome {
     /// A Request was answered, for MLD where `v6` is true. Where `limited` is true, the Query says by
     /// its L flag that new tunnel endpoints find no room (RFC 7450, section 5.1.4).
     Queried { v6: bool, limited: bool },
+    /// An Update's response MAC is not one that the relay gave its source and nonce lately
+    /// (RFC 7450, section 5.3.3.5).
+    BadMac,
+    /// An Update with a good MAC carries no membership report.
+    Unlawful(Unlawful),
+    /// What would stand with the report of an Update passes a limit of the relay.
+    Over(LimitFault),
+    /// The report of an Update was accepted.
+    Updated,
 }

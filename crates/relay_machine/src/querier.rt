@@ -58,15 +58,16 @@ impl Querier {
         &self,
         alloc: Global,
         secret: &Secret,
+        limited: bool,
         source: Endpoint,
         nonce: u32,
     ) -> Result<Message, AllocError>
         ensures value { IfOk result
-            (λ query. query ≡ query_for self.now.settings secret.now source nonce) }
+            (λ query. query ≡ query_for self.now.settings secret.now limited source nonce) }
         ensures sendable { IfOk result IsSendable }
     {
         Ok(Message::Query {
-            limited: false,
+            limited,
             mac: mac(secret, &source, nonce),
             nonce,
             inner: self.general_query(alloc)?,

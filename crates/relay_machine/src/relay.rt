@@ -1,11 +1,14 @@
-ghost use Rattle.std.specs.Prelude.{◌≡◌, List, [], ◌∷◌, ◌++◌, IfOk, IsOk, OnErr};
+ghost use Rattle.std.specs.Prelude.{◌≡◌, List, [], ◌∷◌, ◌++◌, None, IfOk, IsOk, OnErr};
+ghost use Rattle.endpoint_membership.specs.Limits.{IsWithin, live_count};
+ghost use Rattle.endpoint_membership.specs.Table.{standing_now};
 ghost use Rattle.response_mac.specs.declared.secret.Secret.{Secret as SecretValue};
 ghost use Rattle.relay_machine.specs.declared.event.Event.{Event as EventValue};
 ghost use Rattle.relay_machine.specs.declared.settings.Settings.{Settings as SettingsValue};
-ghost use Rattle.relay_machine.specs.Answers.{RelayAt, outcome_of, sends_of};
+ghost use Rattle.relay_machine.specs.Accepted.{accepted, change_of};
+ghost use Rattle.relay_machine.specs.Answers.{RelayAt, outcome_of, rows_after, sends_of};
 ghost use Rattle.relay_machine.specs.Conditions.{IsDatagram, IsEvent};
 ghost use Rattle.relay_machine.specs.Events.{now_of};
-ghost use Rattle.relay_machine.specs.Settings.{IsLawful};
+ghost use Rattle.relay_machine.specs.Settings.{IsLawful, terms_of};
 
 use crate::datagram::answer;
 use crate::event::Event;
@@ -14,6 +17,7 @@ use crate::querier::Querier;
 use crate::sends::Step;
 use crate::settings::Settings;
 use amt_values::Moment;
+use endpoint_membership::{Change, Rows, Table};
 use response_mac::{Secret, Secrets};
 use std::alloc::{AllocError, Global};
 use std::marker::Model;
@@ -23,10 +27,11 @@ use std::marker::Model;
 pub struct Relay {
     querier: Querier,
     secrets: Secrets,
-    moment: Moment,
+    table: Table,
 }
 
 impl Model for Relay {
+    ghost use Rattle.endpoint_membership.specs.Table.{IsWithinLimits};
     ghost use Rattle.relay_machine.specs.State.{RelayState};
 
     ghost Value = { RelayState };
@@ -34,31 +39,53 @@ impl Model for Relay {
     ghost view = { λ r. record {
       settings = r.querier.settings;
       secrets = r.secrets;
-      moment = r.moment;
+      table = r.table;
     } };
+
+    ghost invariant = { λ r. IsWithinLimits r.table };
 }
 
 impl Relay {
-    /// A relay at moment 0, whose current secret is this one.
-    pub fn new(settings: Settings, secret: Secret) -> Self
+    /// A relay at moment 0, whose current secret is this one and at which nothing stands.
+    pub fn new(alloc: Global, settings: Settings, secret: Secret) -> Result<Relay, AllocError>
         requires { IsLawful settings }
-        ensures { RelayAt result settings secret [] }
+        ensures { IfOk result (λ relay. RelayAt relay settings secret []) }
     {
-        Relay {
+        let table = Table::new(alloc, settings.limits, settings.lifetime_ms())?;
+        Ok(Relay {
             querier: Querier::new(settings),
             secrets: Secrets::new(secret),
-            moment: Moment::new(0).unwrap(),
-        }
+            table,
+        })
     }
 
     /// The latest moment that the relay was told, or 0.
     pub fn now(&self) -> Moment
-        ensures value { result ≡ self.now.moment }
+        ensures value { result ≡ self.now.table.moment }
         ensures latest { (settings : SettingsValue) (first : SecretValue)
             (events : List EventValue) → RelayAt self.now settings first events
             → result ≡ now_of events }
     {
-        self.moment
+        self.table.now()
+    }
+
+    /// What stands, by tunnel endpoint and then by group.
+    pub fn rows(&self, alloc: Global) -> Result<Rows, AllocError>
+        ensures { IfOk result (λ rows. (settings : SettingsValue) (first : SecretValue)
+            (events : List EventValue) → RelayAt self.now settings first events
+            → rows ≡ rows_after settings first events) }
+    {
+        self.table.rows(alloc)
+    }
+
+    /// How many tunnel endpoints have some group that stands.
+    pub fn live_endpoints(&self) -> u32
+        ensures { (settings : SettingsValue) (first : SecretValue)
+            (events : List EventValue) → RelayAt self.now settings first events
+            → result ≡ live_count (standing_now (terms_of settings)
+            (accepted settings first events)) }
+    {
+        self.table.live_endpoints()
     }
 
     /// Takes one event. After want of memory the relay is as before, and the event may be given
@@ -71,13 +98,24 @@ impl Relay {
         ensures sends { (settings : SettingsValue) (first : SecretValue)
             (events : List EventValue) → RelayAt self.old settings first events
             → IfOk result (λ step. step.sends ≡ sends_of settings first events event.now) }
+        ensures change { (settings : SettingsValue) (first : SecretValue)
+            (events : List EventValue) → RelayAt self.old settings first events
+            → IfOk result (λ step. step.change ≡ change_of settings first events event.now) }
         ensures next { (settings : SettingsValue) (first : SecretValue)
             (events : List EventValue) → RelayAt self.old settings first events
             → IfOk result (λ _. RelayAt self.new settings first (events ++ event.now ∷ [])) }
+        ensures within { (settings : SettingsValue) (first : SecretValue)
+            (events : List EventValue) → RelayAt self.old settings first events
+            → IfOk result (λ _. IsWithin settings.limits (standing_now (terms_of settings)
+            (accepted settings first (events ++ event.now ∷ [])))) }
 
-        // No datagram changes the relay, not even a Request: what is kept for each, as its nonce,
-        // could be made to fill the relay's memory by whoever forges sources.
-        ensures same { IsDatagram event.now → self.new ≡ self.old }
+        // No datagram but an accepted Update changes the relay, not even a Request: what is kept
+        // for each, as its nonce, could be made to fill the relay's memory by whoever forges
+        // sources.
+        ensures same { (settings : SettingsValue) (first : SecretValue)
+            (events : List EventValue) → RelayAt self.old settings first events
+            → IsDatagram event.now
+            → IfOk result (λ step. step.change ≡ None → self.new ≡ self.old) }
         ensures err { OnErr result (self.new ≡ self.old) }
 
         // A moment and a secret take no memory, so time moves on and secrets age whatever is left.
@@ -85,12 +123,18 @@ impl Relay {
     {
         match event {
             Event::Moment(moment) => {
-                self.moment = self.moment.later(moment);
-                Ok(Step::quiet(alloc, Outcome::Moved(self.moment)))
+                let at = self.table.now().later(moment);
+                self.table.advance(&at);
+                Ok(Step::accepted(alloc, Outcome::Moved(at), Change::Mark { at }))
             }
-            Event::Datagram { from, bytes } => {
-                answer(alloc, &self.querier, &self.secrets.current, from, bytes)
-            }
+            Event::Datagram { from, bytes } => answer(
+                alloc,
+                &self.querier,
+                &self.secrets,
+                &mut self.table,
+                from,
+                bytes,
+            ),
             Event::Rotate(secret) => {
                 self.secrets.rotate(*secret);
                 Ok(Step::quiet(alloc, Outcome::Rotated))

@@ -1,7 +1,8 @@
-ghost use Rattle.std.specs.Prelude.{◌≡◌, [], ◌∷◌, ◌++◌, length, OnErr, OnOk};
+ghost use Rattle.std.specs.Prelude.{◌≡◌, [], ◌∷◌, ◌++◌, length, None, OnErr, OnOk, Some};
 
 use crate::outcome::Outcome;
 use amt_values::{Bytes, Endpoint};
+use endpoint_membership::Change;
 use std::alloc::{AllocError, Global};
 use std::marker::Model;
 
@@ -57,22 +58,38 @@ impl Sends {
     }
 }
 
-/// What one event came to, and what is to be sent.
+/// What one event came to, what is to be sent, and the entry that it adds to the accepted log.
 #[derive(Debug, Drop)]
 pub struct Step {
     pub outcome: Outcome,
     pub sends: Sends,
+    pub change: Option<Change>,
 }
 
 impl Step {
-    /// A step that sends nothing.
+    /// A step that sends nothing and accepts nothing.
     pub(crate) fn quiet(alloc: Global, outcome: Outcome) -> Step
         ensures outcome { result.outcome ≡ outcome }
         ensures sends { result.sends ≡ [] }
+        ensures change { result.change ≡ None }
     {
         Step {
             outcome,
             sends: Sends::new(alloc),
+            change: None,
+        }
+    }
+
+    /// A step that sends nothing and adds this entry to the accepted log.
+    pub(crate) fn accepted(alloc: Global, outcome: Outcome, change: Change) -> Step
+        ensures outcome { result.outcome ≡ outcome }
+        ensures sends { result.sends ≡ [] }
+        ensures change { result.change ≡ Some change }
+    {
+        Step {
+            outcome,
+            sends: Sends::new(alloc),
+            change: Some(change),
         }
     }
 }

@@ -1,7 +1,8 @@
 ghost use Rattle.std.specs.Prelude.{◌≡◌, ◌↔◌, IsTrue};
-ghost use Rattle.relay_machine.specs.Settings.{IsLawful, IsQueryTime, default_settings, membership_interval_ms};
+ghost use Rattle.relay_machine.specs.Settings.{AreLimits, HasQueryTimes, IsLawful, IsQueryTime, default_settings, membership_interval_ms};
 
 use amt_values::Ip;
+use endpoint_membership::Limits;
 use igmp_records::value_code4;
 
 /// What a relay is set up with.
@@ -19,6 +20,9 @@ pub struct Settings {
     /// The tenths of a second within which a listener answers a General Query, 1 to 31,744 (RFC 3376,
     /// section 8.3).
     pub response_tenths: u32,
+    /// How much the relay keeps: 1 to 65,536 live tunnel endpoints, 1 to 256 groups of one, 1 to 64
+    /// sources of one group, and at most 16,777,216 sources in all.
+    pub limits: Limits,
 }
 
 impl Settings {
@@ -34,6 +38,11 @@ impl Settings {
             robustness: 2,
             query_seconds: 125,
             response_tenths: 100,
+            limits: Limits {
+                endpoints: 1024,
+                groups: 64,
+                sources: 64,
+            },
         }
     }
 
@@ -43,9 +52,15 @@ impl Settings {
         ensures { IsTrue result ↔ IsLawful self.now }
     {
         match self.robustness {
-            1..=7 => is_query_time(self.query_seconds) && is_query_time(self.response_tenths),
+            1..=7 => self.has_query_times() && are_lawful(&self.limits),
             _ => false,
         }
+    }
+
+    fn has_query_times(&self) -> bool
+        ensures { IsTrue result ↔ HasQueryTimes self.now }
+    {
+        is_query_time(self.query_seconds) && is_query_time(self.response_tenths)
     }
 
     /// How long a membership report counts, in milliseconds (RFC 3376, section 8.4).
@@ -64,4 +79,16 @@ fn is_query_time(time: u32) -> bool
         return false;
     }
     value_code4(time).is_some()
+}
+
+fn are_lawful(limits: &Limits) -> bool
+    ensures { IsTrue result ↔ AreLimits limits.now }
+{
+    if !(1..=65536).contains(&limits.endpoints) {
+        return false;
+    }
+    if !(1..=256).contains(&limits.groups) || !(1..=64).contains(&limits.sources) {
+        return false;
+    }
+    limits.endpoints * limits.groups * limits.sources <= 16_777_216
 }

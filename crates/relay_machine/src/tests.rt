@@ -3,6 +3,8 @@ ghost use Rattle.std.specs.Prelude.{◌≤◌, length};
 use super::*;
 use amt_messages::Refused;
 use amt_values::{Bytes, Ip, Moment, Peer};
+use endpoint_membership::Limits;
+use inner_datagrams::InnerFault;
 use response_mac::Secret;
 use std::alloc::{AllocError, Global};
 use std::process::Abort;
@@ -17,11 +19,11 @@ const DISCOVERY: &[u8] = b"\x01\x00\x00\x00\x01\x02\x03\x04";
 
 const REQUEST: &[u8] = b"\x03\x00\x00\x00\x0a\x0b\x0c\x0d";
 
-fn relay(rt: &impl Abort, address: Ip) -> Relay {
+fn relay(rt: &impl Abort, alloc: Global, address: Ip) -> Result<Relay, AllocError> {
     let mut settings = Settings::of_relay(address);
     settings.query4 = RELAY;
     assert!(rt; settings.lawful());
-    Relay::new(settings, Secret([0; 32]))
+    Relay::new(alloc, settings, Secret([0; 32]))
 }
 
 fn datagram(alloc: Global, relay: &mut Relay, from: Ip, octets: &[u8]) -> Result<Step, AllocError>
@@ -63,7 +65,7 @@ fn query(alloc: Global, mac: &[u8; 6]) -> Result<Bytes, AllocError> {
 #[test]
 fn a_discovery_is_answered_with_the_relays_address(rt: HostRuntime) -> Result<(), Fail> {
     let address = Ip::V6(0x2001_0db8_0000_0000_0000_0000_0000_0001);
-    let mut relay = relay(&rt, address);
+    let mut relay = relay(&rt, rt.alloc(), address)?;
     let step = datagram(rt.alloc(), &mut relay, GATEWAY, DISCOVERY)?;
     assert_eq!(rt; step.outcome, Outcome::Advertised);
     let advertisement =
@@ -77,7 +79,7 @@ fn a_discovery_is_answered_with_the_relays_address(rt: HostRuntime) -> Result<()
 fn a_request_is_answered_with_a_query_under_the_current_secret(
     rt: HostRuntime,
 ) -> Result<(), Fail> {
-    let mut relay = relay(&rt, Ip::V4(RELAY));
+    let mut relay = relay(&rt, rt.alloc(), Ip::V4(RELAY))?;
     let rows: [(Option<Secret>, &[u8; 6]); 2] = [
         (None, b"\x4d\xb7\x58\xa1\x75\x55"),
         (Some(Secret([1; 32])), b"\xbf\x8a\xb1\xca\x09\xd1"),
@@ -101,7 +103,7 @@ fn a_request_is_answered_with_a_query_under_the_current_secret(
 
 #[test]
 fn every_other_datagram_is_not_answered(rt: HostRuntime) -> Result<(), Fail> {
-    let rows: [(Ip, &[u8], Outcome); 8] = [
+    let rows: [(Ip, &[u8], Outcome); 9] = [
         (Ip::V6(1), DISCOVERY, Outcome::BadSource),
         (Ip::V6(0xffff_c633_6407), b"", Outcome::BadSource),
         (GATEWAY, b"", Outcome::Undecoded(Refused::Empty)),
@@ -119,7 +121,12 @@ fn every_other_datagram_is_not_answered(rt: HostRuntime) -> Result<(), Fail> {
         (
             GATEWAY,
             b"\x05\x00\x4d\xb7\x58\xa1\x75\x55\x0a\x0b\x0c\x0d",
-            Outcome::WrongKind(5),
+            Outcome::Unlawful(Unlawful::Inner(InnerFault::ShortHeader(20, 0))),
+        ),
+        (
+            GATEWAY,
+            b"\x05\x00\x4d\xb7\x58\xa1\x75\x56\x0a\x0b\x0c\x0d",
+            Outcome::BadMac,
         ),
         (
             GATEWAY,
@@ -127,7 +134,7 @@ fn every_other_datagram_is_not_answered(rt: HostRuntime) -> Result<(), Fail> {
             Outcome::NoFamily,
         ),
     ];
-    let mut relay = relay(&rt, Ip::V4(RELAY));
+    let mut relay = relay(&rt, rt.alloc(), Ip::V4(RELAY))?;
     for (from, octets, outcome) in rows {
         assert!(rt; octets.len() <= 65535);
         let step = datagram(rt.alloc(), &mut relay, from, octets)?;
@@ -139,7 +146,7 @@ fn every_other_datagram_is_not_answered(rt: HostRuntime) -> Result<(), Fail> {
 
 #[test]
 fn time_never_goes_back(rt: HostRuntime) -> Result<(), Fail> {
-    let mut relay = relay(&rt, Ip::V4(RELAY));
+    let mut relay = relay(&rt, rt.alloc(), Ip::V4(RELAY))?;
     assert_eq!(rt; relay.now().ms(), 0);
     let last = Moment::new(1000).ok_or("a moment")?;
     for told in [1000, 500] {
@@ -183,4 +190,33 @@ fn lawful_settings_are_those_that_a_query_can_carry(rt: HostRuntime) {
 #[test]
 fn a_report_counts_for_260_seconds_by_default(rt: HostRuntime) {
     assert_eq!(rt; Settings::of_relay(GATEWAY).lifetime_ms(), 260_000);
+}
+
+#[test]
+fn lawful_limits_leave_room_for_16777216_sources(rt: HostRuntime) {
+    let rows = [
+        (1024, 64, 64, true),
+        (65536, 256, 1, true),
+        (65536, 4, 64, true),
+        (65536, 5, 64, false),
+        (0, 64, 64, false),
+        (65537, 1, 1, false),
+        (1, 0, 64, false),
+        (1, 257, 1, false),
+        (1, 1, 0, false),
+        (1, 1, 65, false),
+    ];
+    for (endpoints, groups, sources, lawful) in rows {
+        let mut settings = Settings::of_relay(GATEWAY);
+        settings.limits = Limits {
+            endpoints,
+            groups,
+            sources,
+        };
+        assert_eq!(rt;
+            settings.lawful(),
+            lawful,
+            "{endpoints}, {groups}, {sources}"
+        );
+    }
 }

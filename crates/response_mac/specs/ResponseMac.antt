@@ -1,5 +1,6 @@
 -- The response MAC (RFC 7450, section 5.3.5), and the secrets that give it.
-use Rattle.std.specs.Prelude.{◌≡◌, ℕ, ◌⊎◌, List, ◌∷◌, ◌++◌, take, reverse, slice_get, slice_index_or, IsSomeAnd}
+use Rattle.std.specs.Prelude.{◌≡◌, ℕ, ◌⊎◌, ◌||◌, Bool, false, Option, Some, None, List, ◌∷◌, ◌++◌, take, reverse, slice_get, slice_index_or, IsSomeAnd}
+use Rattle.std.specs.Str.{bytes_eq}
 use Rattle.byteorder.specs.Endian.{big_bytes}
 use Rattle.amt_values.specs.declared.mac.Mac48.{Mac48}
 use Rattle.amt_values.specs.Tunnel.{Tunnel}
@@ -26,6 +27,20 @@ abbrev pub IsGood : Secrets → Tunnel → ℕ → Mac48 → Type 0
 IsGood secrets endpoint nonce mac =
     (mac ≡ mac_of secrets.current endpoint nonce)
     ⊎ IsSomeAnd secrets.previous (λ previous. mac ≡ mac_of previous endpoint nonce)
+
+-- the same octets
+abbrev pub same_mac : Mac48 → Mac48 → Bool
+same_mac one other = bytes_eq one.0 other.0
+
+-- whether a secret gives the MAC, if there is one
+abbrev pub is_given : Option Secret → Tunnel → ℕ → Mac48 → Bool
+is_given None endpoint nonce mac = false
+is_given (Some secret) endpoint nonce mac = same_mac mac (mac_of secret endpoint nonce)
+
+-- the same as a test
+abbrev pub is_good : Secrets → Tunnel → ℕ → Mac48 → Bool
+is_good secrets endpoint nonce mac =
+    is_given (Some secrets.current) endpoint nonce mac || is_given secrets.previous endpoint nonce mac
 
 -- the newest secret is current; the one that it took over from, if any, is still good (RFC 7450,
 -- section 5.3.6)

@@ -1,6 +1,6 @@
 ghost use Rattle.std.specs.Prelude.{◌≡◌, ◌↔◌, Some, List, [], ◌∷◌, ◌++◌, IsTrue};
 ghost use Rattle.response_mac.specs.declared.secret.Secret.{Secret};
-ghost use Rattle.response_mac.specs.ResponseMac.{mac_of, IsGood, secrets_after};
+ghost use Rattle.response_mac.specs.ResponseMac.{IsGood, is_good, mac_of, same_mac, secrets_after};
 
 use crate::response;
 use crate::secret::Secret;
@@ -43,7 +43,8 @@ impl Secrets {
     ///
     /// A forged MAC that is right by chance matches too.
     pub fn matches(&self, endpoint: &Endpoint, nonce: u32, mac: &Mac48) -> bool
-        ensures { IsTrue result ↔ IsGood self.now endpoint.now nonce mac.now }
+        ensures good { IsTrue result ↔ IsGood self.now endpoint.now nonce mac.now }
+        ensures test { result ≡ is_good self.now endpoint.now nonce mac.now }
     {
         if is_given_by(&self.current, endpoint, nonce, mac) {
             return true;
@@ -56,7 +57,8 @@ impl Secrets {
 }
 
 fn is_given_by(secret: &Secret, endpoint: &Endpoint, nonce: u32, mac: &Mac48) -> bool
-    ensures { IsTrue result ↔ (mac.now ≡ mac_of secret.now endpoint.now nonce) }
+    ensures given { IsTrue result ↔ (mac.now ≡ mac_of secret.now endpoint.now nonce) }
+    ensures test { result ≡ same_mac mac.now (mac_of secret.now endpoint.now nonce) }
 {
     is_same(mac, &response::mac(secret, endpoint, nonce))
 }
@@ -64,7 +66,8 @@ fn is_given_by(secret: &Secret, endpoint: &Endpoint, nonce: u32, mac: &Mac48) ->
 // Each octet is looked at, whatever those before it were: otherwise a forger could tell by the time
 // how many octets of a guess are right. No clause speaks of time.
 fn is_same(mac: &Mac48, other: &Mac48) -> bool
-    ensures { IsTrue result ↔ (mac.now ≡ other.now) }
+    ensures same { IsTrue result ↔ (mac.now ≡ other.now) }
+    ensures test { result ≡ same_mac mac.now other.now }
 {
     let mut difference = 0;
     for i in 0..6 {

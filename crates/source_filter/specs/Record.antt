@@ -1,5 +1,5 @@
 -- What one group record says of a source (RFC 3376, section 4.2.12).
-use Rattle.std.specs.Prelude.{Bool, true, false, not, List, ◌||◌}
+use Rattle.std.specs.Prelude.{ℕ, ◌+◌, Bool, true, false, not, List, length, sum_by, ◌||◌}
 use Rattle.amt_values.specs.declared.address.Ip.{Ip}
 use Rattle.amt_values.specs.Order.{ip_order}
 use Rattle.source_filter.specs.Rising.{has}
@@ -35,3 +35,7 @@ says_by Block listed = false
 
 abbrev pub says : Record → Ip → Bool
 says group_record source = says_by group_record.kind (lists group_record.sources source)
+
+-- the number of records and of their sources
+abbrev pub item_count : List Record → ℕ
+item_count records = length records + sum_by (λ group_record. length group_record.sources) records

@@ -20,7 +20,7 @@ pub use ips::Ips;
 pub use mode::Mode;
 pub use query::QueryFields;
 pub use record::{Record, RecordKind};
-pub use records::{Records, copy_records};
+pub use records::{Records, copy_record, copy_records};
 
 #[cfg(test)]
 mod tests;

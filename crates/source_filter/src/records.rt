@@ -50,7 +50,8 @@ impl Records {
     }
 }
 
-fn copy_record(alloc: Global, group_record: &Record) -> Result<Record, AllocError>
+/// An equal record that owns its memory.
+pub fn copy_record(alloc: Global, group_record: &Record) -> Result<Record, AllocError>
     ensures { IfOk result (λ copy. copy ≡ group_record.now) }
 {
     Ok(Record {

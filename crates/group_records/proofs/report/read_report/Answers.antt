@@ -1,6 +1,7 @@
 use Rattle.std.proofs.Common.{rules}
 use Rattle.amt_values.specs.Octets.{AreOctets}
 use Rattle.group_records.proofs.Answered.{answer_fault, answer_found, answer_only, answer_refused, IsReport_once}
+use Rattle.group_records.proofs.Few.{answer_few}
 use Rattle.group_records.proofs.report.read_report.Goals as goal
 
 pub returns-clause-found : goal.returns-clause-found
@@ -19,3 +20,6 @@ returns-clause-refused c = answer_refused c.args.family c.args.pseudo_header.now
 
 pub returns-clause-fault : goal.returns-clause-fault
 returns-clause-fault c = answer_fault c.args.family c.args.pseudo_header.now c.args.payload.now c.read.result c.read.ensures.value
+
+pub returns-clause-few : goal.returns-clause-few
+returns-clause-few c = answer_few c.args.family c.args.pseudo_header.now c.args.payload.now c.read.result c.read.ensures.value

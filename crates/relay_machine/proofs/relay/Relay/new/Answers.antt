@@ -1,8 +1,10 @@
-use Rattle.std.proofs.Common.{◌≡◌, rules}
+use Rattle.std.proofs.Common.{ℕ, [], subst}
+use Rattle.endpoint_membership.specs.Table.{Holds}
 use Rattle.relay_machine.proofs.Onward.{RelayAt-new}
 use Rattle.relay_machine.proofs.relay.Relay.new.Goals as goal
 
 pub returns : goal.returns
 returns c =
-    let start : c.unwrap.result ≡ 0 = search rules in
-    RelayAt-new _ c.args.settings c.args.secret c.new.ensures c.new-2.ensures start
+    let settings = c.args.settings in
+    let holds = subst (λ (lifetime : ℕ). Holds (record { limits = settings.limits; lifetime = lifetime }) c.in_ok-table.table []) c.lifetime_ms.ensures c.in_ok-table.ensures.stands in
+    RelayAt-new _ settings c.args.secret c.new-2.ensures c.new-3.ensures holds

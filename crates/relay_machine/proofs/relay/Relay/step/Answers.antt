@@ -1,13 +1,37 @@
-use Rattle.std.proofs.Common.{◌∙◌}
-use Rattle.relay_machine.proofs.Onward.{RelayAt-moment, RelayAt-datagram, RelayAt-rotate, OnOk-always}
+use Rattle.std.proofs.Common.{ℕ, max, ◌++◌, ◌∷◌, [], sym, subst, ap, ◌∙◌}
+use Rattle.std.proofs.lemmas.Result.{IfOk-weaker}
+use Rattle.relay_machine.specs.Answers.{RelayAt}
+use Rattle.relay_machine.specs.State.{RelayState}
+use Rattle.relay_machine.proofs.Onward.{IsWithin-events, RelayAt-answered, RelayAt-moment, RelayAt-rotate}
 use Rattle.relay_machine.proofs.relay.Relay.step.Goals as goal
 
 pub returns-in-Moment-clause-next : goal.returns-in-Moment-clause-next
-returns-in-Moment-clause-next c settings first events at = rw c.in-Moment.is (RelayAt-moment _ settings first events _ _ (c.self.view_is ∙ at) c.later-self-inside.ensures)
+returns-in-Moment-clause-next c settings first events at =
+    let inside = subst (λ (relay : RelayState). RelayAt relay settings first events) (sym c.self.view_is) at in
+    rw c.in-Moment.is (RelayAt-moment _ settings first events _ _ _ inside
+    (c.later-at.ensures ∙ ap (λ (moment : ℕ). max moment c.in-Moment.moment) c.now.ensures.value) c.advance.ensures.stands)
+
+pub returns-in-Moment-clause-within : goal.returns-in-Moment-clause-within
+returns-in-Moment-clause-within c settings first events at =
+    IsWithin-events _ settings first (events ++ c.args.event.now ∷ []) (returns-in-Moment-clause-next c settings first events at)
+    (c.advance.ensures.within c.self.invariant)
 
 pub returns-in-Datagram-clause-next : goal.returns-in-Datagram-clause-next
 returns-in-Datagram-clause-next c settings first events at =
-    OnOk-always c.answer.result (rw c.in-Datagram.is (RelayAt-datagram _ settings first events _ _ at))
+    let inside = subst (λ (relay : RelayState). RelayAt relay settings first events) (sym c.self.view_is) at in
+    rw c.in-Datagram.is (RelayAt-answered _ settings first events _ _ _ c.answer.result inside c.answer.ensures.change c.answer.ensures.stands)
+
+pub returns-in-Datagram-clause-within : goal.returns-in-Datagram-clause-within
+returns-in-Datagram-clause-within c settings first events at =
+    IfOk-weaker c.answer.result _ _
+    (λ step next. IsWithin-events _ settings first (events ++ c.args.event.now ∷ []) next c.answer.ensures.within)
+    (returns-in-Datagram-clause-next c settings first events at)
 
 pub returns-in-Rotate-clause-next : goal.returns-in-Rotate-clause-next
-returns-in-Rotate-clause-next c settings first events at = rw c.in-Rotate.is (RelayAt-rotate _ settings first events _ _ (c.self.view_is ∙ at) c.rotate.ensures.appended)
+returns-in-Rotate-clause-next c settings first events at =
+    let inside = subst (λ (relay : RelayState). RelayAt relay settings first events) (sym c.self.view_is) at in
+    rw c.in-Rotate.is (RelayAt-rotate _ settings first events _ _ inside c.rotate.ensures.appended)
+
+pub returns-in-Rotate-clause-within : goal.returns-in-Rotate-clause-within
+returns-in-Rotate-clause-within c settings first events at =
+    IsWithin-events _ settings first (events ++ c.args.event.now ∷ []) (returns-in-Rotate-clause-next c settings first events at) c.self.invariant

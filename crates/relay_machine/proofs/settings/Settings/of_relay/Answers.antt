@@ -6,6 +6,17 @@ pub returns-clause-lawful : goal.returns-clause-lawful
 returns-clause-lawful c = record {
   least_robustness = omega arith;
   most_robustness = omega arith;
-  interval = IsQueryTime-from_code 125 (omega arith) (125, omega arith, refl);
-  response = IsQueryTime-from_code 100 (omega arith) (100, omega arith, refl);
+  times = record {
+    interval = IsQueryTime-from_code 125 (omega arith) (125, omega arith, refl);
+    response = IsQueryTime-from_code 100 (omega arith) (100, omega arith, refl);
+  };
+  limits = record {
+    least_endpoints = omega arith;
+    most_endpoints = omega arith;
+    least_groups = omega arith;
+    most_groups = omega arith;
+    least_sources = omega arith;
+    most_sources = omega arith;
+    product = omega arith;
+  };
 }

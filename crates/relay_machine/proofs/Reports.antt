@@ -1,0 +1,61 @@
+-- What the inner octets of an Update are read as.
+use Rattle.std.proofs.Common.{◌≡◌, ◌≤◌, ℕ, List, [], ◌∷◌, length, take, drop, length-drop, Bool, true, false, cond, Option, Some, None, Result, Ok, Err, refl, sym, ap, ◌∙◌, arith}
+use Rattle.std.proofs.Math.Seq.{take-length}
+use Rattle.std.proofs.lemmas.List.Sums.{sum_by-cons}
+use Rattle.source_filter.specs.declared.record.Record.{Record}
+use Rattle.source_filter.specs.declared.fault.ReportFault.{ReportFault}
+use Rattle.source_filter.specs.Record.{item_count}
+use Rattle.amt_values.specs.Group.{is_forwardable}
+use Rattle.amt_values.specs.Tunnel.{Tunnel}
+use Rattle.inner_datagrams.specs.Fault.{first_inner_fault}
+use Rattle.inner_datagrams.specs.Header.{header_octets}
+use Rattle.inner_datagrams.specs.Reading.{payload_of}
+use Rattle.inner_datagrams.specs.declared.inner.InnerFault.{InnerFault}
+use Rattle.igmp_records.specs.Report.{report4_of}
+use Rattle.endpoint_membership.specs.declared.change.Change.TheVariants.{Reported}
+use Rattle.endpoint_membership.specs.declared.limits.LimitFault.{LimitFault}
+use Rattle.relay_machine.specs.declared.outcome.Unlawful.{Unlawful}
+use Rattle.relay_machine.specs.declared.outcome.Unlawful.TheVariants.{Inner}
+use Rattle.relay_machine.specs.Updates.{forwarded, limit_change, limit_outcome, report_by, report_in, update_change, update_outcome}
+
+pub report_in-inner : (inner : List ℕ) (fault : InnerFault) → first_inner_fault inner ≡ Some fault → report_in inner ≡ Err (Inner fault)
+unfolding report_in
+report_in-inner inner fault first = rw first refl
+
+payload-behind : (start : ℕ) (inner : List ℕ) → payload_of start (length inner) inner ≡ drop start inner
+payload-behind start inner =
+    ap (λ (count : ℕ). take count (drop start inner)) (sym (length-drop start inner)) ∙ take-length (drop start inner)
+
+-- of a datagram without fault, what stands behind its header is judged
+pub report_in-payload : (inner payload : List ℕ) (start : ℕ) (reading : Result (List Record) ReportFault) → first_inner_fault inner ≡ None
+    → start ≡ header_octets inner → payload ≡ drop start inner → report4_of payload ≡ reading → report_in inner ≡ report_by None reading
+unfolding report_in
+report_in-payload inner payload start reading none behind same read =
+    let carried : payload_of (header_octets inner) (length inner) inner ≡ payload =
+    payload-behind (header_octets inner) inner ∙ (ap (λ (place : ℕ). drop place inner) (sym behind) ∙ sym same) in
+    rw (none, carried, read) refl
+
+forwarded-fewer : (test : Bool) (first : Record) (kept later : List Record) → item_count kept ≤ item_count later
+    → item_count (cond test (first ∷ kept) kept) ≤ item_count (first ∷ later)
+forwarded-fewer true first kept later few =
+    let size : Record → ℕ = λ (group_record : Record). length group_record.sources in
+    let here = sum_by-cons size first kept in
+    let there = sum_by-cons size first later in omega arith
+forwarded-fewer false first kept later few =
+    let size : Record → ℕ = λ (group_record : Record). length group_record.sources in
+    let there = sum_by-cons size first later in omega arith
+
+-- skipping records leaves no more of them
+pub item_count-forwarded : (records : List Record) → item_count (forwarded records) ≤ item_count records
+item_count-forwarded [] = omega arith
+item_count-forwarded (first ∷ later) = forwarded-fewer (is_forwardable first.group) first (forwarded later) later (item_count-forwarded later)
+
+-- where records were read, the limits are left to judge
+pub update_outcome-read : (reading : Result (List Record) Unlawful) (records kept : List Record) (passed : List Record → Option LimitFault)
+    → reading ≡ Ok records → kept ≡ forwarded records → limit_outcome (passed kept) ≡ update_outcome true reading passed
+update_outcome-read reading records kept passed read skipped = rw (read, skipped) refl
+
+pub update_change-read : (reading : Result (List Record) Unlawful) (records kept : List Record) (passed : List Record → Option LimitFault) (source : Tunnel) (moment : ℕ)
+    → reading ≡ Ok records → kept ≡ forwarded records
+    → limit_change (passed kept) (Reported source kept moment) ≡ update_change true reading passed source moment
+update_change-read reading records kept passed source moment read skipped = rw (read, skipped) refl

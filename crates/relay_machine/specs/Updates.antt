@@ -1,0 +1,55 @@
+-- What an Update carries, and what it comes to (RFC 7450, section 5.3.3.5).
+use Rattle.std.specs.Prelude.{ℕ, Bool, true, false, List, length, Option, Some, None, Result, Ok, Err}
+use Rattle.std.specs.List.{filter}
+use Rattle.amt_values.specs.Group.{is_forwardable}
+use Rattle.amt_values.specs.Tunnel.{Tunnel}
+use Rattle.source_filter.specs.declared.record.Record.{Record}
+use Rattle.source_filter.specs.declared.fault.ReportFault.{ReportFault}
+use Rattle.inner_datagrams.specs.Fault.{first_inner_fault}
+use Rattle.inner_datagrams.specs.Header.{header_octets}
+use Rattle.inner_datagrams.specs.Reading.{payload_of}
+use Rattle.inner_datagrams.specs.declared.inner.InnerFault.{InnerFault}
+use Rattle.igmp_records.specs.Report.{report4_of}
+use Rattle.endpoint_membership.specs.declared.change.Change.{Change}
+use Rattle.endpoint_membership.specs.declared.change.Change.TheVariants.{Reported}
+use Rattle.endpoint_membership.specs.declared.limits.LimitFault.{LimitFault}
+use Rattle.relay_machine.specs.declared.outcome.Outcome.{Outcome}
+use Rattle.relay_machine.specs.declared.outcome.Outcome.TheVariants.{BadMac, Unlawful, Over, Updated}
+use Rattle.relay_machine.specs.declared.outcome.Unlawful.{Unlawful as Fault}
+use Rattle.relay_machine.specs.declared.outcome.Unlawful.TheVariants.{Inner, Report}
+
+-- the records of the report in a datagram, unless the one or the other has a fault
+abbrev pub report_by : Option InnerFault → Result (List Record) ReportFault → Result (List Record) Fault
+report_by (Some fault) reading = Err (Inner fault)
+report_by None (Err fault) = Err (Report fault)
+report_by None (Ok records) = Ok records
+
+-- the records of the membership report that the inner octets of an Update carry
+unfoldable pub report_in : List ℕ → Result (List Record) Fault
+report_in inner = report_by (first_inner_fault inner) (report4_of (payload_of (header_octets inner) (length inner) inner))
+
+-- the records on groups that are forwarded; the others are skipped
+abbrev pub forwarded : List Record → List Record
+forwarded records = filter (λ group_record. is_forwardable group_record.group) records
+
+abbrev pub limit_outcome : Option LimitFault → Outcome
+limit_outcome None = Updated
+limit_outcome (Some fault) = Over fault
+
+-- the order in which an Update is judged: its MAC, the report in it, and the limits that what would
+-- stand with the report passes
+abbrev pub update_outcome : Bool → Result (List Record) Fault → (List Record → Option LimitFault) → Outcome
+update_outcome false reading passed = BadMac
+update_outcome true (Err fault) passed = Unlawful fault
+update_outcome true (Ok records) passed = limit_outcome (passed (forwarded records))
+
+abbrev pub limit_change : Option LimitFault → Change → Option Change
+limit_change None change = Some change
+limit_change (Some fault) change = None
+
+-- the entry that an accepted Update of the source makes at a moment
+abbrev pub update_change : Bool → Result (List Record) Fault → (List Record → Option LimitFault) → Tunnel → ℕ → Option Change
+update_change false reading passed source moment = None
+update_change true (Err fault) passed source moment = None
+update_change true (Ok records) passed source moment =
+    limit_change (passed (forwarded records)) (Reported source (forwarded records) moment)
