@@ -74,6 +74,36 @@ fn write_step<O: Sink>(
     write_text(out, &text)
 }
 
+// Runs a new relay over the events of its script.
+fn run_events<O: Sink>(
+    alloc: Global,
+    mut relay: Relay,
+    script: &RelayScript,
+    out: &mut O,
+) -> Result<(), RunFault>
+    requires runnable { IsRunnable script.now }
+    requires start { RelayAt relay script.now.settings script.now.secret [] }
+    ensures done { OnOk result (Appends (O.written out.old) (O.written out.new)
+        (text_of script.now)) }
+    ensures begun { OnErr result (WritesFront (O.written out.old) (O.written out.new)
+        (text_of script.now)) }
+
+    ensures later { O.faults out.old ≤ O.faults out.new }
+    ensures write { IsErrOf result RunFault.Write → Rose (O.faults out.old) (O.faults out.new) }
+{
+    let events = script.items.as_slice();
+    for (index, event) in events.iter().enumerate() {
+        match write_step(alloc, &mut relay, index as u64 + 1, event, out) {
+            Ok(()) => {}
+            Err(fault) => return Err(fault),
+        }
+    }
+    let Ok(text) = print_closing(alloc, events.len() as u64) else {
+        return Err(RunFault::Memory);
+    };
+    write_text(out, &text)
+}
+
 /// Runs a relay over a script, and writes the text of its steps.
 pub fn run_relay_script<O: Sink>(
     alloc: Global,
@@ -89,18 +119,8 @@ pub fn run_relay_script<O: Sink>(
     ensures later { O.faults out.old ≤ O.faults out.new }
     ensures write { IsErrOf result RunFault.Write → Rose (O.faults out.old) (O.faults out.new) }
 {
-    let Ok(mut relay) = Relay::new(alloc, script.settings, script.secret) else {
+    let Ok(relay) = Relay::new(alloc, script.settings, script.secret) else {
         return Err(RunFault::Memory);
     };
-    let events = script.items.as_slice();
-    for (index, event) in events.iter().enumerate() {
-        match write_step(alloc, &mut relay, index as u64 + 1, event, out) {
-            Ok(()) => {}
-            Err(fault) => return Err(fault),
-        }
-    }
-    let Ok(text) = print_closing(alloc, events.len() as u64) else {
-        return Err(RunFault::Memory);
-    };
-    write_text(out, &text)
+    run_events(alloc, relay, script, out)
 }

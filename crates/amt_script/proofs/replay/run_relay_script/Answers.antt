@@ -1,42 +1,5 @@
-use Rattle.std.proofs.Common.{length, take, arith}
-use Rattle.std.proofs.lemmas.Result.{on_err_weaker}
-use Rattle.amt_script.specs.Texts.{closing_text}
-use Rattle.amt_script.specs.Writing.{WritesFront}
-use Rattle.amt_script.proofs.Runs.{run_more, run_cut, run_closed}
+use Rattle.amt_script.proofs.Writes.{nothing_written}
 use Rattle.amt_script.proofs.replay.run_relay_script.Goals as goal
 
-pub returns-in-Err-clause-begun : goal.returns-in-Err-clause-begun
-returns-in-Err-clause-begun g c =
-    let events = c.as_slice-events.result.now in
-    let settings = c.args.script.now.settings in
-    let first = c.args.script.now.secret in
-    let i = c.loop-index.index in
-    let event = c.index-events-index.result in
-    let begun = c.in-Err.ensures.begun settings first (take i events) c.loop-index.invariant.run.at in
-    rw (← c.as_slice-events.ensures) (run_cut c.loop-index.relay settings first events i event (closing_text (length events)) _ _ _ c.loop-index-test.true c.index-events-index.is c.loop-index.invariant.run begun)
-
-pub loop-index-preserved : goal.loop-index-preserved
-loop-index-preserved g c =
-    let events = c.as_slice-events.result.now in
-    let settings = c.args.script.now.settings in
-    let first = c.args.script.now.secret in
-    let i = c.loop-index.index in
-    let event = c.index-events-index.result in
-    let at = c.loop-index.invariant.run.at in
-    record {
-      run = run_more c.loop-index.relay c.write_step.new.relay settings first events i event (closing_text (length events)) _ _ _ c.loop-index-test.true c.index-events-index.is
-          c.loop-index.invariant.run (c.in-Ok.ensures.done settings first (take i events) at) (c.in-Ok.ensures.next settings first (take i events) at);
-      later = omega (arith, c.loop-index.invariant.later, c.in-Ok.ensures.later);
-    }
-
-pub returns-clause-begun : goal.returns-clause-begun
-returns-clause-begun g c =
-    let events = c.as_slice-events.result.now in
-    let settings = c.args.script.now.settings in
-    let first = c.args.script.now.secret in
-    let begun = rw c.in-Ok-print_closing.ensures at c.write_text.ensures.begun in
-    rw (← c.as_slice-events.ensures)
-    (on_err_weaker c.write_text.result
-    (λ (front : WritesFront (g.O.Sink.written c.loop-index.out) (g.O.Sink.written c.write_text.new.out) (closing_text (length events))).
-    run_closed c.loop-index.relay settings first events c.loop-index.index (closing_text (length events)) _ _ _ c.loop-index-test.false c.loop-index.invariant.run front)
-    begun)
+pub returns-in_default-clause-begun : goal.returns-in_default-clause-begun
+returns-in_default-clause-begun g c = nothing_written _ _

@@ -1,7 +1,7 @@
 use Rattle.std.proofs.Common.{◌≤◌, length}
 use Rattle.amt_script.specs.Texts.{closing_text}
 use Rattle.amt_script.proofs.Runs.{IsRunning}
-use Rattle.amt_script.proofs.replay.run_relay_script.Given as goal
+use Rattle.amt_script.proofs.replay.run_events.Given as goal
 
 abbrev pub invariant-loop-index : goal.invariant-loop-index
 invariant-loop-index g l = record {
