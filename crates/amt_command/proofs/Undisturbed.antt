@@ -10,7 +10,7 @@ use Rattle.amt_script.specs.declared.reason.Reason.{Reason}
 use Rattle.amt_script.specs.Fault.{IsFaultAt}
 use Rattle.amt_script.specs.Script.{IsRelayScript}
 use Rattle.amt_command.specs.Ending.{status_of, line_of, TellsItsFault}
-use Rattle.amt_command.specs.Command.{IsInput, IsFaultText, fault_line, Replays, SpellsNothing, WritesFault, status_line}
+use Rattle.amt_command.specs.Command.{IsInput, IsFaultText, fault_line, Replays, status_line}
 
 -- an input that was read to its end, where it told its octets
 told_all : (left left' : Option (List ℕ)) (bytes read : List ℕ) → left ≡ Some bytes → TakesAll left left' read → read ≡ bytes

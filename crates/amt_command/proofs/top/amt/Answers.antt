@@ -1,5 +1,5 @@
 use Rattle.amt_script.proofs.Verdicts.{one_script, one_fault}
-use Rattle.amt_command.proofs.Undisturbed.{done_told, fault_told, nothing_told, more_told, only_done, only_no_script, script_told, other_line}
+use Rattle.amt_command.proofs.Undisturbed.{done_told, fault_told, nothing_told, more_told, only_done, only_no_script}
 use Rattle.amt_command.proofs.top.amt.Goals as goal
 
 pub returns-clause-complete : goal.returns-clause-complete
