@@ -1,6 +1,7 @@
 // What the tests share.
 ghost use Rattle.std.specs.Prelude.{◌≡◌, ◌≤◌, IfOk, true};
-ghost use Rattle.endpoint_membership.specs.Table.{IsWithinLimits, item_count};
+ghost use Rattle.source_filter.specs.Record.{item_count};
+ghost use Rattle.endpoint_membership.specs.Table.{IsWithinLimits};
 
 use crate::limits::{AcceptFault, Limits};
 use crate::row::{Row, Rows};
