@@ -1,7 +1,7 @@
 -- A bad line breaks each script that the lines before it begin.
 use Rattle.std.proofs.Common.{◌≡◌, ℕ, ◌⊎◌, false, List, [], ◌∷◌, ◌++◌, Option, None, Some, IsSome, inl, inr, refl, sym, ap, subst, ◌∙◌, append_assoc}
 use Rattle.std.specs.List.{AllByRecursion}
-use Rattle.relay_machine.specs.declared.event.Event.{Event}
+use Rattle.amt_script.specs.declared.script.RelayItem.{RelayItem}
 use Rattle.amt_script.specs.declared.kind.Kind.{Kind}
 use Rattle.amt_script.specs.declared.kind.Kind.TheVariants as kinds
 use Rattle.amt_script.specs.declared.reason.Reason.{Reason}
@@ -11,13 +11,13 @@ use Rattle.amt_script.specs.Each.{Each}
 use Rattle.amt_script.specs.Fault.{First, Holds, IsBadLine, order_of_reasons}
 use Rattle.amt_script.specs.Lines.{fields, says_nothing, statements, IsShort, IsPlain}
 use Rattle.amt_script.specs.Reading.{MaySet}
-use Rattle.amt_script.specs.Script.{Begins, IsSettingLine, IsEventLine}
+use Rattle.amt_script.specs.Script.{Begins, IsSettingLine, IsItemLine}
 use Rattle.amt_script.specs.Setting.{key_of, set_at, AreOnce}
 use Rattle.amt_script.proofs.Begun.{statements-append, stated}
-use Rattle.amt_script.proofs.Judging.{fails_as, no_set_alone, no_word, no_late, twice_at, IsEventKind}
+use Rattle.amt_script.proofs.Judging.{fails_as, no_set_alone, no_word, no_late, twice_at, IsItemKind}
 use Rattle.amt_script.proofs.Once.{once_before}
 use Rattle.amt_script.proofs.Rows.{same_kind}
-use Rattle.amt_script.proofs.Says.{IsFit, kind_of_event, setting_is_fit, event_is_fit, no_set_event}
+use Rattle.amt_script.proofs.Says.{IsFit, kind_of_item, setting_is_fit, item_is_fit, no_set_item}
 use Rattle.amt_script.proofs.Unique.{IsSettingLine-unique, no_line_is_both}
 
 pub First-holds : (P : Reason → Type 0) (order : List Reason) (reason : Reason) → First P order reason → P reason
@@ -25,53 +25,53 @@ First-holds P [] reason first = absurd first
 First-holds P (next ∷ more) reason (inl here) = subst P (sym here.1) here.0
 First-holds P (next ∷ more) reason (inr later) = First-holds P more reason later.1
 
-not_bad : (given : List Setting) (events : List Event) (line : List ℕ) (kind : Kind) → IsShort line → IsPlain line → IsFit kind (fields line)
-    → (Holds given events line reasons.Late → ⊥) → (Holds given events line reasons.Twice → ⊥) → (reason : Reason) → Holds given events line reason → ⊥
-not_bad given events line kind short plain fit late twice reasons.Long h = h short
-not_bad given events line kind short plain fit late twice reasons.Word h = no_word line kind fit.values plain fit.parts h
-not_bad given events line kind short plain fit late twice reasons.Late h = late h
-not_bad given events line kind short plain fit late twice reasons.Twice h = twice h
-not_bad given events line kind short plain fit late twice reasons.Count (inl alone) = no_set_alone kind fit.values (fields line) fit.parts alone
-not_bad given events line kind short plain fit late twice reasons.Count (inr fails) =
+not_bad : (given : List Setting) (items : List RelayItem) (line : List ℕ) (kind : Kind) → IsShort line → IsPlain line → IsFit kind (fields line)
+    → (Holds given items line reasons.Late → ⊥) → (Holds given items line reasons.Twice → ⊥) → (reason : Reason) → Holds given items line reason → ⊥
+not_bad given items line kind short plain fit late twice reasons.Long h = h short
+not_bad given items line kind short plain fit late twice reasons.Word h = no_word line kind fit.values plain fit.parts h
+not_bad given items line kind short plain fit late twice reasons.Late h = late h
+not_bad given items line kind short plain fit late twice reasons.Twice h = twice h
+not_bad given items line kind short plain fit late twice reasons.Count (inl alone) = no_set_alone kind fit.values (fields line) fit.parts alone
+not_bad given items line kind short plain fit late twice reasons.Count (inr fails) =
     fit.fits reasons.Count (fails_as kind fit.values (fields line) reasons.Count fit.parts fails)
-not_bad given events line kind short plain fit late twice reasons.Missing h = h
-not_bad given events line kind short plain fit late twice reason h = fit.fits reason (fails_as kind fit.values (fields line) reason fit.parts h)
+not_bad given items line kind short plain fit late twice reasons.Missing h = h
+not_bad given items line kind short plain fit late twice reason h = fit.fits reason (fails_as kind fit.values (fields line) reason fit.parts h)
 
-no_event_bad : (given : List Setting) (events : List Event) (line : List ℕ) (event : Event) (reason : Reason) → IsShort line → IsEventLine event line
-    → Holds given events line reason → ⊥
-no_event_bad given events line event reason short says holds =
-    let fit = event_is_fit event (fields line) says.1 in
-    let kind : IsEventKind (kind_of_event event) = λ key same. no_set_event event key (sym same) in
-    not_bad given events line (kind_of_event event) short says.0 fit
-    (λ late. no_late (kind_of_event event) fit.values (fields line) late.1 kind fit.parts late.2)
-    (λ twice. kind twice.0 (same_kind (kind_of_event event) (kinds.Set twice.0) fit.values twice.1 (sym fit.parts ∙ twice.2)))
+no_item_bad : (given : List Setting) (items : List RelayItem) (line : List ℕ) (item : RelayItem) (reason : Reason) → IsShort line → IsItemLine item line
+    → Holds given items line reason → ⊥
+no_item_bad given items line item reason short says holds =
+    let fit = item_is_fit item (fields line) says.1 in
+    let kind : IsItemKind (kind_of_item item) = λ key same. no_set_item item key (sym same) in
+    not_bad given items line (kind_of_item item) short says.0 fit
+    (λ late. no_late (kind_of_item item) fit.values (fields line) late.1 kind fit.parts late.2)
+    (λ twice. kind twice.0 (same_kind (kind_of_item item) (kinds.Set twice.0) fit.values twice.1 (sym fit.parts ∙ twice.2)))
     reason holds
 
 some_and_none : (o : Option Setting) → o ≡ None → IsSome o → ⊥
 some_and_none None none some = cc some
 some_and_none (Some x) none some = cc none
 
-no_setting_bad : (given : List Setting) (events : List Event) (line : List ℕ) (setting : Setting) (reason : Reason) → IsShort line → IsSettingLine setting line
-    → MaySet given events setting → Holds given events line reason → ⊥
-no_setting_bad given events line setting reason short says may holds =
+no_setting_bad : (given : List Setting) (items : List RelayItem) (line : List ℕ) (setting : Setting) (reason : Reason) → IsShort line → IsSettingLine setting line
+    → MaySet given items setting → Holds given items line reason → ⊥
+no_setting_bad given items line setting reason short says may holds =
     let fit = setting_is_fit setting (fields line) says.1 in
-    not_bad given events line (kinds.Set (key_of setting)) short says.0 fit
+    not_bad given items line (kinds.Set (key_of setting)) short says.0 fit
     (λ late. late.0 may.early)
     (λ twice. some_and_none (set_at given (key_of setting)) may.new
     (twice_at given (fields line) (key_of setting) fit.values fit.parts twice.0 twice.1 twice.2 twice.3))
     reason holds
 
--- the line says an event
-abbrev IsEventAt : List ℕ → Type 0
-IsEventAt line = (event : Event) × IsEventLine event line
+-- the line says an item
+abbrev IsItemAt : List ℕ → Type 0
+IsItemAt line = (item : RelayItem) × IsItemLine item line
 
 -- the line says the setting that comes next
-record IsSettingAt (given given0 : List Setting) (events0 : List Event) (line : List ℕ) : Type 0 where
+record IsSettingAt (given given0 : List Setting) (items0 : List RelayItem) (line : List ℕ) : Type 0 where
   setting : Setting
   more : List Setting
   says : IsSettingLine setting line
   parts : given ≡ given0 ++ setting ∷ more
-  none : events0 ≡ []
+  none : items0 ≡ []
 
 Each-inside : {X P : Type 0} (R : X → List ℕ → Type 0) (xs : List X) (front : List (List ℕ)) (y : List ℕ) (back : List (List ℕ)) → Each R xs (front ++ y ∷ back) → ((x : X) → R x y → P) → P
 Each-inside R [] [] y back all use_it = absurd all
@@ -79,12 +79,12 @@ Each-inside R (x ∷ xs) [] y back all use_it = use_it x all.0
 Each-inside R [] (b ∷ front) y back all use_it = absurd all
 Each-inside R (x ∷ xs) (b ∷ front) y back all use_it = Each-inside R xs front y back all.1 use_it
 
-no_events : (events : List Event) → Each IsEventLine events [] → events ≡ []
-no_events [] each = refl
-no_events (event ∷ events) each = absurd each
+no_items : (items : List RelayItem) → Each IsItemLine items [] → items ≡ []
+no_items [] each = refl
+no_items (item ∷ items) each = absurd each
 
-one_deeper : (x y : Setting) (xs ys : List Setting) (es0 : List Event) (line : List ℕ) → x ≡ y → IsEventAt line ⊎ IsSettingAt xs ys es0 line → IsEventAt line ⊎ IsSettingAt (x ∷ xs) (y ∷ ys) es0 line
-one_deeper x y xs ys es0 line same (inl event) = inl event
+one_deeper : (x y : Setting) (xs ys : List Setting) (es0 : List RelayItem) (line : List ℕ) → x ≡ y → IsItemAt line ⊎ IsSettingAt xs ys es0 line → IsItemAt line ⊎ IsSettingAt (x ∷ xs) (y ∷ ys) es0 line
+one_deeper x y xs ys es0 line same (inl item) = inl item
 one_deeper x y xs ys es0 line same (inr at) = inr (record {
   setting = at.setting;
   more = at.more;
@@ -94,15 +94,15 @@ one_deeper x y xs ys es0 line same (inr at) = inr (record {
 })
 
 -- what the first line after those of a script's beginning says
-placed : (given given0 : List Setting) (es es0 : List Event) (front front0 back back0 : List (List ℕ)) (line : List ℕ) (rest : List (List ℕ))
-    → front ++ back ≡ front0 ++ (back0 ++ line ∷ rest) → Each IsSettingLine given front → Each IsEventLine es back
-    → Each IsSettingLine given0 front0 → Each IsEventLine es0 back0 → IsEventAt line ⊎ IsSettingAt given given0 es0 line
+placed : (given given0 : List Setting) (es es0 : List RelayItem) (front front0 back back0 : List (List ℕ)) (line : List ℕ) (rest : List (List ℕ))
+    → front ++ back ≡ front0 ++ (back0 ++ line ∷ rest) → Each IsSettingLine given front → Each IsItemLine es back
+    → Each IsSettingLine given0 front0 → Each IsItemLine es0 back0 → IsItemAt line ⊎ IsSettingAt given given0 es0 line
 placed [] given0 es es0 [] front0 back back0 line rest same h k h0 k0 =
-    inl (Each-inside IsEventLine es (front0 ++ back0) line rest
-    (subst (Each IsEventLine es) (same ∙ sym (append_assoc front0 back0 (line ∷ rest))) k) (λ event says. (event, says)))
+    inl (Each-inside IsItemLine es (front0 ++ back0) line rest
+    (subst (Each IsItemLine es) (same ∙ sym (append_assoc front0 back0 (line ∷ rest))) k) (λ item says. (item, says)))
 placed (x ∷ xs) [] es es0 (l ∷ front) [] back [] line rest same h k h0 k0 =
     let here : l ≡ line = cc in
-    inr (record { setting = x; more = xs; says = subst (IsSettingLine x) here h.0; parts = refl; none = no_events es0 k0 })
+    inr (record { setting = x; more = xs; says = subst (IsSettingLine x) here h.0; parts = refl; none = no_items es0 k0 })
 placed (x ∷ xs) [] es (e ∷ es0) (l ∷ front) [] back (m ∷ back0) line rest same h k h0 k0 =
     let here : l ≡ m = cc in absurd (no_line_is_both x e m (subst (IsSettingLine x) here h.0) k0.0)
 placed (x ∷ xs) [] es [] (l ∷ front) [] back (m ∷ back0) line rest same h k h0 k0 = absurd k0
@@ -120,9 +120,9 @@ short_inside : (before : List (List ℕ)) (line : List ℕ) (after : List (List 
 short_inside [] line after all = all.0
 short_inside (l ∷ before) line after all = short_inside before line after all.1
 
-placed_bad : (given given0 : List Setting) (es es0 : List Event) (line : List ℕ) (reason : Reason) → AreOnce given → IsShort line → Holds given0 es0 line reason
-    → IsEventAt line ⊎ IsSettingAt given given0 es0 line → ⊥
-placed_bad given given0 es es0 line reason once short holds (inl event) = no_event_bad given0 es0 line event.0 reason short event.1 holds
+placed_bad : (given given0 : List Setting) (es es0 : List RelayItem) (line : List ℕ) (reason : Reason) → AreOnce given → IsShort line → Holds given0 es0 line reason
+    → IsItemAt line ⊎ IsSettingAt given given0 es0 line → ⊥
+placed_bad given given0 es es0 line reason once short holds (inl item) = no_item_bad given0 es0 line item.0 reason short item.1 holds
 placed_bad given given0 es es0 line reason once short holds (inr at) =
     no_setting_bad given0 es0 line at.setting reason short at.says
     (record { early = at.none; new = once_before given0 at.setting at.more (subst AreOnce at.parts once) }) holds
@@ -134,7 +134,7 @@ statement_parts before line after front0 back0 something parts =
     ∙ (ap (λ (ls : List (List ℕ)). statements before ++ ls) (stated line after something)
     ∙ (ap (λ (ls : List (List ℕ)). ls ++ line ∷ statements after) parts ∙ append_assoc front0 back0 (line ∷ statements after)))
 
-judged_bad : (given given0 : List Setting) (es es0 : List Event) (before : List (List ℕ)) (line : List ℕ) (after : List (List ℕ)) (reason : Reason)
+judged_bad : (given given0 : List Setting) (es es0 : List RelayItem) (before : List (List ℕ)) (line : List ℕ) (after : List (List ℕ)) (reason : Reason)
     → Begins given es (before ++ line ∷ after) → Begins given0 es0 before → Holds given0 es0 line reason → (reason ≡ reasons.Long) ⊎ (says_nothing (fields line) ≡ false) → ⊥
 judged_bad given given0 es es0 before line after reason h h0 holds (inl long) =
     subst (Holds given0 es0 line) long holds (short_inside before line after h.short)
@@ -143,7 +143,7 @@ judged_bad given given0 es es0 before line after reason h h0 holds (inr somethin
     (placed given given0 es es0 h.front h0.front h.back h0.back line (statements after)
     (sym h.parts ∙ statement_parts before line after h0.front h0.back something h0.parts) h.front_lines h.back_lines h0.front_lines h0.back_lines)
 
-pub bad_line_breaks : (given given0 : List Setting) (es es0 : List Event) (before : List (List ℕ)) (line : List ℕ) (after : List (List ℕ)) (reason : Reason)
+pub bad_line_breaks : (given given0 : List Setting) (es es0 : List RelayItem) (before : List (List ℕ)) (line : List ℕ) (after : List (List ℕ)) (reason : Reason)
     → Begins given es (before ++ line ∷ after) → Begins given0 es0 before → IsBadLine given0 es0 line reason → ⊥
 bad_line_breaks given given0 es es0 before line after reason h h0 bad =
     judged_bad given given0 es es0 before line after reason h h0 (First-holds (Holds given0 es0 line) order_of_reasons reason bad.first) bad.judged

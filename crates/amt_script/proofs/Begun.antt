@@ -2,12 +2,12 @@
 use Rattle.std.proofs.Common.{◌≡◌, ℕ, true, false, not, List, [], ◌∷◌, ◌++◌, refl, sym, ap, subst, ◌∙◌, append_assoc, append-nil}
 use Rattle.std.proofs.lemmas.List.Elements.{filter-append}
 use Rattle.std.specs.List.{AllByRecursion}
-use Rattle.relay_machine.specs.declared.event.Event.{Event}
+use Rattle.amt_script.specs.declared.script.RelayItem.{RelayItem}
 use Rattle.amt_script.specs.declared.setting.Setting.{Setting}
 use Rattle.amt_script.specs.Each.{Each}
 use Rattle.amt_script.specs.Lines.{fields, says_nothing, statements, IsShort}
 use Rattle.amt_script.specs.Reading.{MaySet, TakesLine}
-use Rattle.amt_script.specs.Script.{Begins, IsSettingLine, IsEventLine}
+use Rattle.amt_script.specs.Script.{Begins, IsSettingLine, IsItemLine}
 use Rattle.amt_script.proofs.Once.{once_more}
 
 pub Each-append : {X Y : Type 0} (R : X → Y → Type 0) (xs : List X) (ys : List Y) (x : X) (y : Y) → Each R xs ys → R x y → Each R (xs ++ x ∷ []) (ys ++ y ∷ [])
@@ -37,9 +37,9 @@ short_more (l ∷ ls) line all short = (all.0, short_more ls line all.1 short)
 pub begins_start : Begins [] [] []
 begins_start = record { short = tt; front = []; back = []; parts = refl; front_lines = tt; once = tt; back_lines = tt }
 
-pub begins_silent : (given : List Setting) (events : List Event) (ls : List (List ℕ)) (line : List ℕ) → Begins given events ls → IsShort line
-    → says_nothing (fields line) ≡ true → Begins given events (ls ++ line ∷ [])
-begins_silent given events ls line before short nothing = record {
+pub begins_silent : (given : List Setting) (items : List RelayItem) (ls : List (List ℕ)) (line : List ℕ) → Begins given items ls → IsShort line
+    → says_nothing (fields line) ≡ true → Begins given items (ls ++ line ∷ [])
+begins_silent given items ls line before short nothing = record {
   short = short_more ls line before.short short;
   front = before.front;
   back = before.back;
@@ -57,22 +57,22 @@ one_more ls front back line parts something =
     ∙ (ap (λ (more : List (List ℕ)). statements ls ++ more) (stated line [] something)
     ∙ (ap (λ (all : List (List ℕ)). all ++ line ∷ []) parts ∙ append_assoc front back (line ∷ [])))
 
-pub begins_event : (given : List Setting) (events : List Event) (ls : List (List ℕ)) (line : List ℕ) (event : Event) → Begins given events ls → IsShort line
-    → says_nothing (fields line) ≡ false → IsEventLine event line → Begins given (events ++ event ∷ []) (ls ++ line ∷ [])
-begins_event given events ls line event before short something says = record {
+pub begins_item : (given : List Setting) (items : List RelayItem) (ls : List (List ℕ)) (line : List ℕ) (item : RelayItem) → Begins given items ls → IsShort line
+    → says_nothing (fields line) ≡ false → IsItemLine item line → Begins given (items ++ item ∷ []) (ls ++ line ∷ [])
+begins_item given items ls line item before short something says = record {
   short = short_more ls line before.short short;
   front = before.front;
   back = before.back ++ line ∷ [];
   parts = one_more ls before.front before.back line before.parts something;
   front_lines = before.front_lines;
   once = before.once;
-  back_lines = Each-append IsEventLine events before.back event line before.back_lines says;
+  back_lines = Each-append IsItemLine items before.back item line before.back_lines says;
 }
 
-pub begins_setting : (given : List Setting) (events : List Event) (ls : List (List ℕ)) (line : List ℕ) (setting : Setting) → Begins given events ls → IsShort line
-    → says_nothing (fields line) ≡ false → MaySet given events setting → IsSettingLine setting line → Begins (given ++ setting ∷ []) events (ls ++ line ∷ [])
-begins_setting given events ls line setting before short something may says =
-    let none = Each-none IsEventLine events before.back may.early before.back_lines in
+pub begins_setting : (given : List Setting) (items : List RelayItem) (ls : List (List ℕ)) (line : List ℕ) (setting : Setting) → Begins given items ls → IsShort line
+    → says_nothing (fields line) ≡ false → MaySet given items setting → IsSettingLine setting line → Begins (given ++ setting ∷ []) items (ls ++ line ∷ [])
+begins_setting given items ls line setting before short something may says =
+    let none = Each-none IsItemLine items before.back may.early before.back_lines in
     record {
       short = short_more ls line before.short short;
       front = before.front ++ line ∷ [];
@@ -81,17 +81,17 @@ begins_setting given events ls line setting before short something may says =
           ∙ (ap (λ (rest : List (List ℕ)). before.front ++ (rest ++ line ∷ [])) none ∙ sym (append-nil (before.front ++ line ∷ [])));
       front_lines = Each-append IsSettingLine given before.front setting line before.front_lines says;
       once = once_more given setting before.once may.new;
-      back_lines = subst (Each IsEventLine events) none before.back_lines;
+      back_lines = subst (Each IsItemLine items) none before.back_lines;
     }
 
-pub takes_silent : (given : List Setting) (events : List Event) (line : List ℕ) → IsShort line → says_nothing (fields line) ≡ true → TakesLine given events given events line
-takes_silent given events line short nothing = λ before begun. begins_silent given events before line begun short nothing
+pub takes_silent : (given : List Setting) (items : List RelayItem) (line : List ℕ) → IsShort line → says_nothing (fields line) ≡ true → TakesLine given items given items line
+takes_silent given items line short nothing = λ before begun. begins_silent given items before line begun short nothing
 
-pub takes_setting : (given : List Setting) (events : List Event) (line : List ℕ) (setting : Setting) → IsShort line → says_nothing (fields line) ≡ false
-    → MaySet given events setting × IsSettingLine setting line → TakesLine given events (given ++ setting ∷ []) events line
-takes_setting given events line setting short something good =
-    λ before begun. begins_setting given events before line setting begun short something good.0 good.1
+pub takes_setting : (given : List Setting) (items : List RelayItem) (line : List ℕ) (setting : Setting) → IsShort line → says_nothing (fields line) ≡ false
+    → MaySet given items setting × IsSettingLine setting line → TakesLine given items (given ++ setting ∷ []) items line
+takes_setting given items line setting short something good =
+    λ before begun. begins_setting given items before line setting begun short something good.0 good.1
 
-pub takes_event : (given : List Setting) (events : List Event) (line : List ℕ) (event : Event) → IsShort line → says_nothing (fields line) ≡ false
-    → IsEventLine event line → TakesLine given events given (events ++ event ∷ []) line
-takes_event given events line event short something says = λ before begun. begins_event given events before line event begun short something says
+pub takes_item : (given : List Setting) (items : List RelayItem) (line : List ℕ) (item : RelayItem) → IsShort line → says_nothing (fields line) ≡ false
+    → IsItemLine item line → TakesLine given items given (items ++ item ∷ []) line
+takes_item given items line item short something says = λ before begun. begins_item given items before line item begun short something says

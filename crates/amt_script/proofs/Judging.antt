@@ -1,7 +1,7 @@
 -- The first reason why a line is bad, by its kind and its fields.
 use Rattle.std.proofs.Common.{◌≡◌, ◌≢◌, ℕ, ◌⊎◌, ◌↔◌, List, [], ◌∷◌, ◌++◌, codes, IsSome, inl, inr, refl, sym, subst, ◌∙◌}
 use Rattle.std.specs.List.{AllByRecursion}
-use Rattle.relay_machine.specs.declared.event.Event.{Event}
+use Rattle.amt_script.specs.declared.script.RelayItem.{RelayItem}
 use Rattle.amt_script.specs.declared.kind.Key.{Key}
 use Rattle.amt_script.specs.declared.kind.Kind.{Kind}
 use Rattle.amt_script.specs.declared.kind.Kind.TheVariants as kinds
@@ -36,15 +36,16 @@ no_set_alone (kinds.Set key) values line parts alone = cc (sym alone ∙ parts)
 no_set_alone kinds.Moment values line parts alone = cc (sym alone ∙ parts)
 no_set_alone kinds.Secret values line parts alone = cc (sym alone ∙ parts)
 no_set_alone kinds.Datagram values line parts alone = cc (sym alone ∙ parts)
+no_set_alone kinds.Show values line parts alone = cc (sym alone ∙ parts)
 
 counted : (kind : Kind) (values line : List (List ℕ)) → line ≡ words_of kind ++ values → (line ≡ codes "set" ∷ []) ⊎ FailsInKind line reasons.Count → FailsAs kind values reasons.Count
 counted kind values line parts (inl alone) = absurd (no_set_alone kind values line parts alone)
 counted kind values line parts (inr fails) = fails_as kind values line reasons.Count parts fails
 
-pub values_judged : (given : List Setting) (events : List Event) (line : List ℕ) (kind : Kind) (values : List (List ℕ)) (reason : Reason) → fields line ≡ words_of kind ++ values
-    → First (FailsAs kind values) order_of_values reason → First (Holds given events line) order_of_values reason
-values_judged given events line kind values reason parts first =
-    First-same (FailsAs kind values) (Holds given events line) order_of_values reason (
+pub values_judged : (given : List Setting) (items : List RelayItem) (line : List ℕ) (kind : Kind) (values : List (List ℕ)) (reason : Reason) → fields line ≡ words_of kind ++ values
+    → First (FailsAs kind values) order_of_values reason → First (Holds given items line) order_of_values reason
+values_judged given items line kind values reason parts first =
+    First-same (FailsAs kind values) (Holds given items line) order_of_values reason (
       (λ h. inr (kind, values, parts, h), counted kind values (fields line) parts),
       (
         in_kind kind values (fields line) reasons.Number parts,
@@ -68,29 +69,30 @@ pub no_word : (line : List ℕ) (kind : Kind) (values : List (List ℕ)) → IsP
 no_word line kind values plain parts (inl h) = h plain
 no_word line kind values plain parts (inr unknown) = unknown.no_kind kind values parts
 
--- the kind is that of an event
-abbrev pub IsEventKind : Kind → Type 0
-IsEventKind kind = (key : Key) → kind ≢ kinds.Set key
+-- the kind is that of an item
+abbrev pub IsItemKind : Kind → Type 0
+IsItemKind kind = (key : Key) → kind ≢ kinds.Set key
 
-pub no_late : (kind : Kind) (values line rest : List (List ℕ)) → IsEventKind kind → line ≡ words_of kind ++ values → line ≡ codes "set" ∷ rest → ⊥
-no_late (kinds.Set key) values line rest event parts set = event key refl
-no_late kinds.Moment values line rest event parts set = cc (sym set ∙ parts)
-no_late kinds.Secret values line rest event parts set = cc (sym set ∙ parts)
-no_late kinds.Datagram values line rest event parts set = cc (sym set ∙ parts)
+pub no_late : (kind : Kind) (values line rest : List (List ℕ)) → IsItemKind kind → line ≡ words_of kind ++ values → line ≡ codes "set" ∷ rest → ⊥
+no_late (kinds.Set key) values line rest item parts set = item key refl
+no_late kinds.Moment values line rest item parts set = cc (sym set ∙ parts)
+no_late kinds.Secret values line rest item parts set = cc (sym set ∙ parts)
+no_late kinds.Datagram values line rest item parts set = cc (sym set ∙ parts)
+no_late kinds.Show values line rest item parts set = cc (sym set ∙ parts)
 
-pub event_judged : (given : List Setting) (events : List Event) (line : List ℕ) (kind : Kind) (values : List (List ℕ)) (reason : Reason)
-    → IsEventKind kind → IsShort line → IsPlain line → fields line ≡ words_of kind ++ values
-    → First (FailsAs kind values) order_of_values reason → First (Holds given events line) order_of_reasons reason
-event_judged given events line kind values reason event short plain parts first =
+pub item_judged : (given : List Setting) (items : List RelayItem) (line : List ℕ) (kind : Kind) (values : List (List ℕ)) (reason : Reason)
+    → IsItemKind kind → IsShort line → IsPlain line → fields line ≡ words_of kind ++ values
+    → First (FailsAs kind values) order_of_values reason → First (Holds given items line) order_of_reasons reason
+item_judged given items line kind values reason item short plain parts first =
     inr (
       λ long. long short,
       inr (
         no_word line kind values plain parts,
         inr (
-          λ late. no_late kind values (fields line) late.1 event parts late.2,
+          λ late. no_late kind values (fields line) late.1 item parts late.2,
           inr (
-            λ twice. event twice.0 (same_kind kind (kinds.Set twice.0) values twice.1 (sym parts ∙ twice.2)),
-            values_judged given events line kind values reason parts first,
+            λ twice. item twice.0 (same_kind kind (kinds.Set twice.0) values twice.1 (sym parts ∙ twice.2)),
+            values_judged given items line kind values reason parts first,
           ),
         ),
       ),
@@ -104,16 +106,16 @@ pub twice_at : (given : List Setting) (line : List (List ℕ)) (key : Key) (valu
 twice_at given line key values parts other others twice set =
     subst (λ (k : Key). IsSome (set_at given k)) (set_key other key (same_kind (kinds.Set other) (kinds.Set key) others values (sym twice ∙ parts))) set
 
-pub setting_judged : (given : List Setting) (events : List Event) (line : List ℕ) (key : Key) (values : List (List ℕ)) (reason : Reason)
+pub setting_judged : (given : List Setting) (items : List RelayItem) (line : List ℕ) (key : Key) (values : List (List ℕ)) (reason : Reason)
     → IsShort line → IsPlain line → fields line ≡ words_of (kinds.Set key) ++ values
-    → First (FailsToSet given events key values) (reasons.Late ∷ reasons.Twice ∷ order_of_values) reason
-    → First (Holds given events line) order_of_reasons reason
-setting_judged given events line key values reason short plain parts first =
+    → First (FailsToSet given items key values) (reasons.Late ∷ reasons.Twice ∷ order_of_values) reason
+    → First (Holds given items line) order_of_reasons reason
+setting_judged given items line key values reason short plain parts first =
     inr (
       λ long. long short,
       inr (
         no_word line (kinds.Set key) values plain parts,
-        First-same (FailsToSet given events key values) (Holds given events line) (reasons.Late ∷ reasons.Twice ∷ order_of_values) reason (
+        First-same (FailsToSet given items key values) (Holds given items line) (reasons.Late ∷ reasons.Twice ∷ order_of_values) reason (
           (λ late. (late, _, parts), λ late. late.0),
           (
             (λ twice. (key, values, parts, twice), λ twice. twice_at given (fields line) key values parts twice.0 twice.1 twice.2 twice.3),

@@ -22,7 +22,8 @@ use Rattle.amt_script.specs.Form.{IsHexText}
 use Rattle.amt_script.proofs.Splitting.{lines-ended, fields-ended, fields-last}
 use Rattle.amt_script.specs.Lines.{fields, IsPlain}
 use Rattle.amt_script.specs.Printed.{IsLineThatSays}
-use Rattle.amt_script.specs.Script.{IsEventLine}
+use Rattle.amt_script.specs.declared.script.RelayItem.TheVariants as items
+use Rattle.amt_script.specs.Script.{IsItemLine}
 use Rattle.amt_script.specs.Texts.{hex_text}
 
 -- printable and no space
@@ -117,7 +118,7 @@ record IsWordOf (IsText : List ℕ → Type 0) (text : List ℕ) : Type 0 where
 glyphs_of_literal : (text : List ℕ) → AllByRecursion IsGlyph text → AreGlyphs text
 glyphs_of_literal text each = All-from_recursion IsGlyph text each
 
-moment_line : (ms : ℕ) → ms < 2 ^ 62 → IsEventLine (Moment ms) (codes "at " ++ decimal ms)
+moment_line : (ms : ℕ) → ms < 2 ^ 62 → IsItemLine (items.Event (Moment ms)) (codes "at " ++ decimal ms)
 moment_line ms small =
     let glyphs = glyphs_of_digits ms (omega (arith, small)) in
     let word = glyphs_of_literal (codes "at") (search rules) in
@@ -132,7 +133,7 @@ secret_text (b ∷ rest) small whole =
     let twice = length-encode_with lower_digits (b ∷ rest) in
     (omega (arith, twice, whole), decode_of-encode_lower (b ∷ rest) small, glyphs_of_hex (b ∷ rest) small)
 
-secret_line : (secret : Secret) → AreOctets secret.0 → length secret.0 ≡ 32 → IsEventLine (Rotate secret) (codes "secret " ++ hex_text secret.0)
+secret_line : (secret : Secret) → AreOctets secret.0 → length secret.0 ≡ 32 → IsItemLine (items.Event (Rotate secret)) (codes "secret " ++ hex_text secret.0)
 secret_line secret octets whole =
     let text = hex_text secret.0 in
     let named = secret_text secret.0 octets whole in
@@ -166,7 +167,7 @@ address_word (V4 number) port text named = record {
 address_word (V6 number) port text named = absurd named.names
 
 datagram_line : (from : Peer) (bytes text : List ℕ) → AreOctets bytes → length bytes ≤ 65535 → IsPeerText from text
-    → IsEventLine (Datagram from bytes) (codes "dg " ++ (peer_text from ++ (codes " " ++ hex_text bytes)))
+    → IsItemLine (items.Event (Datagram from bytes)) (codes "dg " ++ (peer_text from ++ (codes " " ++ hex_text bytes)))
 datagram_line from bytes text octets short named =
     let word = glyphs_of_literal (codes "dg") (search rules) in
     let peer = address_word from.ip from.port text named in

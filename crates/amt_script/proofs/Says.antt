@@ -14,12 +14,14 @@ use Rattle.amt_script.specs.declared.kind.Kind.{Kind}
 use Rattle.amt_script.specs.declared.kind.Kind.TheVariants as kinds
 use Rattle.amt_script.specs.declared.reason.Reason.{Reason}
 use Rattle.amt_script.specs.declared.reason.Reason.TheVariants as reasons
+use Rattle.amt_script.specs.declared.script.RelayItem.{RelayItem}
+use Rattle.amt_script.specs.declared.script.RelayItem.TheVariants as items
 use Rattle.amt_script.specs.declared.setting.Setting.{Setting}
 use Rattle.amt_script.specs.declared.setting.Setting.TheVariants as settings
 use Rattle.amt_script.specs.Fault.{FailsAs}
 use Rattle.amt_script.specs.Form.{Form, Fails, IsMomentText, IsNumberText, IsHexText, IsSecretText, a_moment, a_number, some_octets, a_secret, an_address, an_address4, a_peer}
 use Rattle.amt_script.specs.Row.{words_of, forms_of, SomeFails}
-use Rattle.amt_script.specs.Script.{SaysSetting, SaysEvent}
+use Rattle.amt_script.specs.Script.{SaysSetting, SaysEvent, SaysItem}
 use Rattle.amt_script.specs.Setting.{key_of}
 use Rattle.amt_script.proofs.Numbers.{value_of_number, numeral_of_number}
 use Rattle.amt_script.proofs.Rows.{same_kind}
@@ -113,13 +115,28 @@ setting_is_fit (settings.ResponseTenths number) line says = record {
   parts = says.parts;
   fits = values_fit (kinds.Set keys.ResponseTenths) (says.text ∷ []) refl (one_fits (a_number 1 31744) says.text (number_fits 1 31744 number says.text (omega arith) says.names));
 }
+setting_is_fit (settings.Endpoints number) line says = record {
+  values = says.text ∷ [];
+  parts = says.parts;
+  fits = values_fit (kinds.Set keys.Endpoints) (says.text ∷ []) refl (one_fits (a_number 1 65536) says.text (number_fits 1 65536 number says.text (omega arith) says.names));
+}
+setting_is_fit (settings.Groups number) line says = record {
+  values = says.text ∷ [];
+  parts = says.parts;
+  fits = values_fit (kinds.Set keys.Groups) (says.text ∷ []) refl (one_fits (a_number 1 256) says.text (number_fits 1 256 number says.text (omega arith) says.names));
+}
+setting_is_fit (settings.Sources number) line says = record {
+  values = says.text ∷ [];
+  parts = says.parts;
+  fits = values_fit (kinds.Set keys.Sources) (says.text ∷ []) refl (one_fits (a_number 1 64) says.text (number_fits 1 64 number says.text (omega arith) says.names));
+}
 setting_is_fit (settings.Secret secret) line says = record {
   values = says.text ∷ [];
   parts = says.parts;
   fits = values_fit (kinds.Set keys.Secret) (says.text ∷ []) refl (one_fits a_secret says.text (secret_fits secret says.text says.names));
 }
 
-pub event_is_fit : (event : Event) (line : List (List ℕ)) → SaysEvent event line → IsFit (kind_of_event event) line
+event_is_fit : (event : Event) (line : List (List ℕ)) → SaysEvent event line → IsFit (kind_of_event event) line
 event_is_fit (events.Moment ms) line says = record {
   values = says.text ∷ [];
   parts = says.parts;
@@ -137,14 +154,26 @@ event_is_fit (events.Rotate secret) line says = record {
   fits = values_fit kinds.Secret (says.text ∷ []) refl (one_fits a_secret says.text (secret_fits secret says.text says.names));
 }
 
-pub no_set_event : (event : Event) (key : Key) → kinds.Set key ≡ kind_of_event event → ⊥
-no_set_event (events.Moment ms) key same = cc same
-no_set_event (events.Datagram from bytes) key same = cc same
-no_set_event (events.Rotate secret) key same = cc same
+nothing_fits : (reason : Reason) → SomeFails [] [] reason → ⊥
+nothing_fits reason fails = fails
 
--- no line says a setting and an event
-pub setting_or_event : (setting : Setting) (event : Event) (line : List (List ℕ)) → SaysSetting setting line → SaysEvent event line → ⊥
-setting_or_event setting event line says says_event =
+abbrev pub kind_of_item : RelayItem → Kind
+kind_of_item (items.Event event) = kind_of_event event
+kind_of_item items.Show = kinds.Show
+
+pub item_is_fit : (item : RelayItem) (line : List (List ℕ)) → SaysItem item line → IsFit (kind_of_item item) line
+item_is_fit (items.Event event) line says = event_is_fit event line says
+item_is_fit items.Show line says = record { values = []; parts = says; fits = values_fit kinds.Show [] refl nothing_fits }
+
+pub no_set_item : (item : RelayItem) (key : Key) → kinds.Set key ≡ kind_of_item item → ⊥
+no_set_item (items.Event (events.Moment ms)) key same = cc same
+no_set_item (items.Event (events.Datagram from bytes)) key same = cc same
+no_set_item (items.Event (events.Rotate secret)) key same = cc same
+no_set_item items.Show key same = cc same
+
+-- no line says a setting and an item
+pub setting_or_item : (setting : Setting) (item : RelayItem) (line : List (List ℕ)) → SaysSetting setting line → SaysItem item line → ⊥
+setting_or_item setting item line says says_item =
     let one = setting_is_fit setting line says in
-    let other = event_is_fit event line says_event in
-    no_set_event event (key_of setting) (same_kind (kinds.Set (key_of setting)) (kind_of_event event) one.values other.values (sym one.parts ∙ other.parts))
+    let other = item_is_fit item line says_item in
+    no_set_item item (key_of setting) (same_kind (kinds.Set (key_of setting)) (kind_of_item item) one.values other.values (sym one.parts ∙ other.parts))

@@ -12,15 +12,17 @@ use Rattle.response_mac.specs.declared.secret.Secret.{Secret}
 use Rattle.relay_machine.specs.declared.event.Event.{Event}
 use Rattle.relay_machine.specs.declared.event.Event.TheVariants as events
 use Rattle.amt_script.specs.declared.kind.Kind.TheVariants as kinds
+use Rattle.amt_script.specs.declared.script.RelayItem.{RelayItem}
+use Rattle.amt_script.specs.declared.script.RelayItem.TheVariants as items
 use Rattle.amt_script.specs.declared.setting.Setting.{Setting}
 use Rattle.amt_script.specs.declared.setting.Setting.TheVariants as settings
 use Rattle.amt_script.specs.Each.{Each}
 use Rattle.amt_script.specs.Form.{IsMomentText, IsNumberText, IsHexText, IsSecretText}
 use Rattle.amt_script.specs.Lines.{fields}
-use Rattle.amt_script.specs.Script.{HasField, SaysSetting, SaysEvent, IsSettingLine, IsEventLine, Begins}
+use Rattle.amt_script.specs.Script.{HasField, SaysSetting, SaysEvent, SaysItem, IsSettingLine, IsItemLine, Begins}
 use Rattle.amt_script.specs.Setting.{key_of}
 use Rattle.amt_script.proofs.Rows.{same_kind}
-use Rattle.amt_script.proofs.Says.{kind_of_event, setting_is_fit, event_is_fit, setting_or_event}
+use Rattle.amt_script.proofs.Says.{kind_of_event, kind_of_item, setting_is_fit, item_is_fit, setting_or_item}
 
 -- the dash is no hexadecimal text
 dash_is_no_hex : (bytes text : List ℕ) → text ≡ codes "-" → decode_of text ≡ Ok bytes → ⊥
@@ -71,6 +73,12 @@ SaysSetting-same (settings.QuerySeconds x) (settings.QuerySeconds y) line same h
     ap (λ (v : ℕ). settings.QuerySeconds v) (one_field _ (IsNumberText 1 31744) (λ v w text p q. IsNumberText-unique 1 31744 v w text (omega arith) p q) x y line h k)
 SaysSetting-same (settings.ResponseTenths x) (settings.ResponseTenths y) line same h k =
     ap (λ (v : ℕ). settings.ResponseTenths v) (one_field _ (IsNumberText 1 31744) (λ v w text p q. IsNumberText-unique 1 31744 v w text (omega arith) p q) x y line h k)
+SaysSetting-same (settings.Endpoints x) (settings.Endpoints y) line same h k =
+    ap (λ (v : ℕ). settings.Endpoints v) (one_field _ (IsNumberText 1 65536) (λ v w text p q. IsNumberText-unique 1 65536 v w text (omega arith) p q) x y line h k)
+SaysSetting-same (settings.Groups x) (settings.Groups y) line same h k =
+    ap (λ (v : ℕ). settings.Groups v) (one_field _ (IsNumberText 1 256) (λ v w text p q. IsNumberText-unique 1 256 v w text (omega arith) p q) x y line h k)
+SaysSetting-same (settings.Sources x) (settings.Sources y) line same h k =
+    ap (λ (v : ℕ). settings.Sources v) (one_field _ (IsNumberText 1 64) (λ v w text p q. IsNumberText-unique 1 64 v w text (omega arith) p q) x y line h k)
 SaysSetting-same (settings.Secret x) (settings.Secret y) line same h k =
     ap (λ (v : Secret). settings.Secret v) (one_field _ IsSecretText IsSecretText-unique x y line h k)
 SaysSetting-same one other line same h k = cc same
@@ -99,14 +107,24 @@ SaysEvent-same (events.Datagram from bytes) (events.Datagram from' bytes') line 
 SaysEvent-same (events.Rotate x) (events.Rotate y) line same h k = ap (λ (v : Secret). events.Rotate v) (one_field _ IsSecretText IsSecretText-unique x y line h k)
 SaysEvent-same one other line same h k = cc same
 
-pub IsEventLine-unique : (one other : Event) (line : List ℕ) → IsEventLine one line → IsEventLine other line → one ≡ other
-IsEventLine-unique one other line h k =
-    let x = event_is_fit one (fields line) h.1 in
-    let y = event_is_fit other (fields line) k.1 in
-    SaysEvent-same one other (fields line) (same_kind (kind_of_event one) (kind_of_event other) x.values y.values (sym x.parts ∙ y.parts)) h.1 k.1
+SaysItem-same : (one other : RelayItem) (line : List (List ℕ)) → kind_of_item one ≡ kind_of_item other → SaysItem one line → SaysItem other line → one ≡ other
+SaysItem-same (items.Event one) (items.Event other) line same h k = ap (λ (event : Event). items.Event event) (SaysEvent-same one other line same h k)
+SaysItem-same items.Show items.Show line same h k = refl
+SaysItem-same (items.Event (events.Moment ms)) items.Show line same h k = cc same
+SaysItem-same (items.Event (events.Datagram from bytes)) items.Show line same h k = cc same
+SaysItem-same (items.Event (events.Rotate secret)) items.Show line same h k = cc same
+SaysItem-same items.Show (items.Event (events.Moment ms)) line same h k = cc same
+SaysItem-same items.Show (items.Event (events.Datagram from bytes)) line same h k = cc same
+SaysItem-same items.Show (items.Event (events.Rotate secret)) line same h k = cc same
 
-pub no_line_is_both : (setting : Setting) (event : Event) (line : List ℕ) → IsSettingLine setting line → IsEventLine event line → ⊥
-no_line_is_both setting event line h k = setting_or_event setting event (fields line) h.1 k.1
+pub IsItemLine-unique : (one other : RelayItem) (line : List ℕ) → IsItemLine one line → IsItemLine other line → one ≡ other
+IsItemLine-unique one other line h k =
+    let x = item_is_fit one (fields line) h.1 in
+    let y = item_is_fit other (fields line) k.1 in
+    SaysItem-same one other (fields line) (same_kind (kind_of_item one) (kind_of_item other) x.values y.values (sym x.parts ∙ y.parts)) h.1 k.1
+
+pub no_line_is_both : (setting : Setting) (item : RelayItem) (line : List ℕ) → IsSettingLine setting line → IsItemLine item line → ⊥
+no_line_is_both setting item line h k = setting_or_item setting item (fields line) h.1 k.1
 
 Each-unique : {X : Type 0} (R : X → List ℕ → Type 0) → ((x y : X) (line : List ℕ) → R x line → R y line → x ≡ y) → (one other : List X) (ls : List (List ℕ)) → Each R one ls → Each R other ls → one ≡ other
 Each-unique R unique [] [] [] h k = refl
@@ -116,22 +134,22 @@ Each-unique R unique [] other (l ∷ ls) h k = absurd h
 Each-unique R unique (x ∷ xs) [] (l ∷ ls) h k = absurd k
 Each-unique R unique (x ∷ xs) (y ∷ ys) (l ∷ ls) h k = rw (unique x y l h.0 k.0, Each-unique R unique xs ys ls h.1 k.1) refl
 
-pub record AreSame (given given' : List Setting) (es es' : List Event) : Type 0 where
+pub record AreSame (given given' : List Setting) (es es' : List RelayItem) : Type 0 where
   pub settings : given ≡ given'
-  pub events : es ≡ es'
+  pub items : es ≡ es'
 
-said_once : (given given' : List Setting) (es es' : List Event) (front front' back back' : List (List ℕ)) → front ++ back ≡ front' ++ back'
-    → Each IsSettingLine given front → Each IsEventLine es back → Each IsSettingLine given' front' → Each IsEventLine es' back' → AreSame given given' es es'
+said_once : (given given' : List Setting) (es es' : List RelayItem) (front front' back back' : List (List ℕ)) → front ++ back ≡ front' ++ back'
+    → Each IsSettingLine given front → Each IsItemLine es back → Each IsSettingLine given' front' → Each IsItemLine es' back' → AreSame given given' es es'
 said_once [] [] es es' [] [] back back' same h k h' k' = record {
   settings = refl;
-  events = Each-unique IsEventLine IsEventLine-unique es es' back' (subst (Each IsEventLine es) same k) k';
+  items = Each-unique IsItemLine IsItemLine-unique es es' back' (subst (Each IsItemLine es) same k) k';
 }
 said_once (x ∷ xs) (y ∷ ys) es es' (l ∷ front) (m ∷ front') back back' same h k h' k' =
     let line : l ≡ m = cc in
     let rest : front ++ back ≡ front' ++ back' = cc in
     let one = IsSettingLine-unique x y m (subst (IsSettingLine x) line h.0) h'.0 in
     let others = said_once xs ys es es' front front' back back' rest h.1 k h'.1 k' in
-    record { settings = rw (one, others.settings) refl; events = others.events }
+    record { settings = rw (one, others.settings) refl; items = others.items }
 said_once (x ∷ xs) [] es (e ∷ es') (l ∷ front) [] back (m ∷ back') same h k h' k' =
     let line : l ≡ m = cc in absurd (no_line_is_both x e m (subst (IsSettingLine x) line h.0) k'.0)
 said_once [] (y ∷ ys) (e ∷ es) es' [] (m ∷ front') (l ∷ back) back' same h k h' k' =
@@ -149,6 +167,6 @@ said_once given [] es es' (l ∷ front) (m ∷ front') back back' same h k h' k'
 said_once [] (y ∷ ys) es es' [] [] back back' same h k h' k' = absurd h'
 said_once given (y ∷ ys) es es' (l ∷ front) [] back back' same h k h' k' = absurd h'
 
-pub begun_once : (given given' : List Setting) (es es' : List Event) (ls : List (List ℕ)) → Begins given es ls → Begins given' es' ls → AreSame given given' es es'
+pub begun_once : (given given' : List Setting) (es es' : List RelayItem) (ls : List (List ℕ)) → Begins given es ls → Begins given' es' ls → AreSame given given' es es'
 begun_once given given' es es' ls h k =
     said_once given given' es es' h.front k.front h.back k.back (sym h.parts ∙ k.parts) h.front_lines h.back_lines k.front_lines k.back_lines

@@ -4,7 +4,7 @@ use Rattle.std.specs.Str.Lines.{lines}
 use Rattle.amt_values.specs.declared.address.Ip.{Ip}
 use Rattle.relay_machine.specs.Settings.{IsLawful}
 use Rattle.response_mac.specs.declared.secret.Secret.{Secret}
-use Rattle.relay_machine.specs.declared.event.Event.{Event}
+use Rattle.amt_script.specs.declared.script.RelayItem.{RelayItem}
 use Rattle.relay_machine.specs.declared.settings.Settings.{Settings}
 use Rattle.amt_script.specs.declared.reason.Reason.{Reason}
 use Rattle.amt_script.specs.declared.reason.Reason.TheVariants as reasons
@@ -34,14 +34,16 @@ settled_values given values values' secret secret' h k =
     let robustness = h.robustness ∙ sym k.robustness in
     let query_seconds = h.query_seconds ∙ sym k.query_seconds in
     let response_tenths = h.response_tenths ∙ sym k.response_tenths in
-    let limits = h.limits ∙ sym k.limits in
+    let endpoints = h.endpoints ∙ sym k.endpoints in
+    let groups = h.groups ∙ sym k.groups in
+    let sources = h.sources ∙ sym k.sources in
     λ i. record {
       relay = relay i;
       query4 = query4 i;
       robustness = robustness i;
       query_seconds = query_seconds i;
       response_tenths = response_tenths i;
-      limits = limits i;
+      limits = record { endpoints = endpoints i; groups = groups i; sources = sources i };
     }
 
 same_script : (one other : RelayScript) → one.settings ≡ other.settings → one.secret ≡ other.secret → one.items ≡ other.items → one ≡ other
@@ -53,7 +55,7 @@ one_script bytes one other h k =
     let same = begun_once h.given k.given one.items other.items (lines bytes) h.all_lines k.all_lines in
     let settled = subst (λ (given : List Setting). Settles given one.settings one.secret) same.settings h.settled in
     same_script one other (settled_values k.given one.settings other.settings one.secret other.secret settled k.settled)
-    (settled.first_secret ∙ sym k.settled.first_secret) same.events
+    (settled.first_secret ∙ sym k.settled.first_secret) same.items
 
 wrong_at_end : (given : List Setting) (values : Settings) (secret : Secret) (reason : Reason) → Settles given values secret → IsLawful values
     → First (HoldsAtEnd given) (reasons.Missing ∷ reasons.Range ∷ []) reason → ⊥
@@ -64,10 +66,10 @@ wrong_at_end given values secret reason settled codes (inr (none, inr more)) = m
 
 fault_rules_out : (bytes : List ℕ) (line : ℕ) (reason : Reason) (script : RelayScript) → IsFaultAt line reason bytes → IsRelayScript script bytes → ⊥
 fault_rules_out bytes line reason script (inl fault) spelled =
-    bad_line_breaks spelled.given fault.settings script.items fault.events fault.before fault.line fault.after reason
+    bad_line_breaks spelled.given fault.settings script.items fault.items fault.before fault.line fault.after reason
     (subst (Begins spelled.given script.items) fault.parts spelled.all_lines) fault.begun fault.bad
 fault_rules_out bytes line reason script (inr fault) spelled =
-    let same = begun_once spelled.given fault.settings script.items fault.events (lines bytes) spelled.all_lines fault.begun in
+    let same = begun_once spelled.given fault.settings script.items fault.items (lines bytes) spelled.all_lines fault.begun in
     wrong_at_end fault.settings script.settings script.secret reason
     (subst (λ (given : List Setting). Settles given script.settings script.secret) same.settings spelled.settled) spelled.lawful fault.first
 
@@ -100,11 +102,11 @@ meet (x ∷ before) (y ∷ before') line line' after after' same =
     let others : before ++ line ∷ after ≡ before' ++ line' ∷ after' = cc in
     deeper x y before before' line line' here (meet before before' line line' after after' others)
 
-first_at : (given given' : List Setting) (es es' : List Event) (line line' : List ℕ) (reason : Reason) → given ≡ given' → es ≡ es' → line ≡ line'
+first_at : (given given' : List Setting) (es es' : List RelayItem) (line line' : List ℕ) (reason : Reason) → given ≡ given' → es ≡ es' → line ≡ line'
     → First (Holds given es line) order_of_reasons reason → First (Holds given' es' line') order_of_reasons reason
 first_at given given' es es' line line' reason same same_events same_line first =
     subst (λ (l : List ℕ). First (Holds given' es' l) order_of_reasons reason) same_line
-    (subst (λ (e : List Event). First (Holds given' e line) order_of_reasons reason) same_events
+    (subst (λ (e : List RelayItem). First (Holds given' e line) order_of_reasons reason) same_events
     (subst (λ (g : List Setting). First (Holds g es line) order_of_reasons reason) same first))
 
 abbrev IsOne : ℕ → ℕ → Reason → Reason → Type 0
@@ -113,19 +115,19 @@ IsOne line line' reason reason' = (line ≡ line') × (reason ≡ reason')
 faults_meet : (ls : List (List ℕ)) (n n' : ℕ) (r r' : Reason) (f : IsFaultInLine n r ls) (g : IsFaultInLine n' r' ls)
     → AreEqual f.before g.before f.line g.line ⊎ (IsFront f.before f.line g.before ⊎ IsFront g.before g.line f.before) → IsOne n n' r r'
 faults_meet ls n n' r r' f g (inl equal) =
-    let same = begun_once f.settings g.settings f.events g.events g.before (subst (Begins f.settings f.events) equal.lists f.begun) g.begun in (
+    let same = begun_once f.settings g.settings f.items g.items g.before (subst (Begins f.settings f.items) equal.lists f.begun) g.begun in (
       f.counted ∙ (ap (λ (before : List (List ℕ)). length before + 1) equal.lists ∙ sym g.counted),
-      First-unique (Holds g.settings g.events g.line) order_of_reasons r r'
-          (first_at f.settings g.settings f.events g.events f.line g.line r same.settings same.events equal.last f.bad.first) g.bad.first,
+      First-unique (Holds g.settings g.items g.line) order_of_reasons r r'
+          (first_at f.settings g.settings f.items g.items f.line g.line r same.settings same.items equal.last f.bad.first) g.bad.first,
     )
 faults_meet ls n n' r r' f g (inr (inl front)) =
-    absurd (bad_line_breaks g.settings f.settings g.events f.events f.before f.line front.0 r (subst (Begins g.settings g.events) front.1 g.begun) f.begun f.bad)
+    absurd (bad_line_breaks g.settings f.settings g.items f.items f.before f.line front.0 r (subst (Begins g.settings g.items) front.1 g.begun) f.begun f.bad)
 faults_meet ls n n' r r' f g (inr (inr front)) =
-    absurd (bad_line_breaks f.settings g.settings f.events g.events g.before g.line front.0 r' (subst (Begins f.settings f.events) front.1 f.begun) g.begun g.bad)
+    absurd (bad_line_breaks f.settings g.settings f.items g.items g.before g.line front.0 r' (subst (Begins f.settings f.items) front.1 f.begun) g.begun g.bad)
 
 line_or_end : {P : Type 0} (ls : List (List ℕ)) (n n' : ℕ) (r r' : Reason) → IsFaultInLine n r ls → IsFaultAtEnd n' r' ls → P
 line_or_end ls n n' r r' f g =
-    absurd (bad_line_breaks g.settings f.settings g.events f.events f.before f.line f.after r (subst (Begins g.settings g.events) f.parts g.begun) f.begun f.bad)
+    absurd (bad_line_breaks g.settings f.settings g.items f.items f.before f.line f.after r (subst (Begins g.settings g.items) f.parts g.begun) f.begun f.bad)
 
 pub one_fault : HasOneFault
 one_fault bytes n n' r r' (inl f) (inl g) =
@@ -133,7 +135,7 @@ one_fault bytes n n' r r' (inl f) (inl g) =
 one_fault bytes n n' r r' (inl f) (inr g) = line_or_end (lines bytes) n n' r r' f g
 one_fault bytes n n' r r' (inr f) (inl g) = line_or_end (lines bytes) n' n r' r g f
 one_fault bytes n n' r r' (inr f) (inr g) =
-    let same = begun_once f.settings g.settings f.events g.events (lines bytes) f.begun g.begun in (
+    let same = begun_once f.settings g.settings f.items g.items (lines bytes) f.begun g.begun in (
       f.counted ∙ sym g.counted,
       First-unique (HoldsAtEnd g.settings) (reasons.Missing ∷ reasons.Range ∷ []) r r'
           (subst (λ (given : List Setting). First (HoldsAtEnd given) (reasons.Missing ∷ reasons.Range ∷ []) r) same.settings f.first) g.first,

@@ -3,7 +3,7 @@ use Rattle.std.specs.Prelude.{◌≡◌, ◌≢◌, ℕ, ◌+◌, ◌⊎◌, fal
 use Rattle.std.specs.Str.Lines.{lines}
 use Rattle.relay_machine.specs.Settings.{IsLawful}
 use Rattle.response_mac.specs.declared.secret.Secret.{Secret}
-use Rattle.relay_machine.specs.declared.event.Event.{Event}
+use Rattle.amt_script.specs.declared.script.RelayItem.{RelayItem}
 use Rattle.relay_machine.specs.declared.settings.Settings.{Settings}
 use Rattle.amt_script.specs.declared.kind.Key.{Key}
 use Rattle.amt_script.specs.declared.kind.Key.TheVariants as keys
@@ -42,22 +42,22 @@ abbrev pub FailsInKind : List (List ℕ) → Reason → Type 0
 FailsInKind line reason =
     (kind : Kind) × (values : List (List ℕ)) × (line ≡ words_of kind ++ values) × FailsAs kind values reason
 
--- what is wrong with a line, after lines that say these settings and events
-abbrev pub Holds : List Setting → List Event → List ℕ → Reason → Type 0
-Holds settings events line Long = IsShort line → ⊥
-Holds settings events line Word = (IsPlain line → ⊥) ⊎ IsUnknown (fields line)
-Holds settings events line Late = (events ≢ []) × (rest : List (List ℕ)) × (fields line ≡ codes "set" ∷ rest)
-Holds settings events line Twice =
+-- what is wrong with a line, after lines that say these settings and items
+abbrev pub Holds : List Setting → List RelayItem → List ℕ → Reason → Type 0
+Holds settings items line Long = IsShort line → ⊥
+Holds settings items line Word = (IsPlain line → ⊥) ⊎ IsUnknown (fields line)
+Holds settings items line Late = (items ≢ []) × (rest : List (List ℕ)) × (fields line ≡ codes "set" ∷ rest)
+Holds settings items line Twice =
     (key : Key) × (values : List (List ℕ)) × (fields line ≡ words_of (kinds.Set key) ++ values)
     × IsSome (set_at settings key)
-Holds settings events line Count = (fields line ≡ codes "set" ∷ []) ⊎ FailsInKind (fields line) Count
-Holds settings events line Missing = ⊥
-Holds settings events line reason = FailsInKind (fields line) reason
+Holds settings items line Count = (fields line ≡ codes "set" ∷ []) ⊎ FailsInKind (fields line) Count
+Holds settings items line Missing = ⊥
+Holds settings items line reason = FailsInKind (fields line) reason
 
 -- the line is too long, or it says something, and this is the first reason that holds
-pub record IsBadLine (settings : List Setting) (events : List Event) (line : List ℕ) (reason : Reason) : Type 0 where
+pub record IsBadLine (settings : List Setting) (items : List RelayItem) (line : List ℕ) (reason : Reason) : Type 0 where
   pub judged : (reason ≡ Long) ⊎ (says_nothing (fields line) ≡ false)
-  pub first : First (Holds settings events line) order_of_reasons reason
+  pub first : First (Holds settings items line) order_of_reasons reason
 
 -- what is wrong with a whole script of these settings: no relay's address, or a time without a code
 abbrev pub HoldsAtEnd : List Setting → Reason → Type 0
@@ -74,16 +74,16 @@ pub record IsFaultInLine (number : ℕ) (reason : Reason) (ls : List (List ℕ))
   pub parts : ls ≡ before ++ line ∷ after
   pub counted : number ≡ length before + 1
   pub settings : List Setting
-  pub events : List Event
-  pub begun : Begins settings events before
-  pub bad : IsBadLine settings events line reason
+  pub items : List RelayItem
+  pub begun : Begins settings items before
+  pub bad : IsBadLine settings items line reason
 
 -- no line is bad, but together they are no script; the fault is told behind them all
 pub record IsFaultAtEnd (number : ℕ) (reason : Reason) (ls : List (List ℕ)) : Type 0 where
   pub counted : number ≡ length ls + 1
   pub settings : List Setting
-  pub events : List Event
-  pub begun : Begins settings events ls
+  pub items : List RelayItem
+  pub begun : Begins settings items ls
   pub first : First (HoldsAtEnd settings) (Missing ∷ Range ∷ []) reason
 
 abbrev pub IsFaultAt : ℕ → Reason → List ℕ → Type 0

@@ -5,7 +5,8 @@ use Rattle.amt_values.specs.Text.{IsPeerText}
 use Rattle.relay_machine.specs.declared.event.Event.{Event}
 use Rattle.relay_machine.specs.declared.event.Event.TheVariants.{Moment, Datagram, Rotate}
 use Rattle.amt_script.specs.Lines.{IsShort}
-use Rattle.amt_script.specs.Script.{IsEventLine}
+use Rattle.amt_script.specs.Script.{IsItemLine}
+use Rattle.amt_script.specs.declared.script.RelayItem.TheVariants as items
 
 -- some text names the peer of a datagram, which none does yet for IPv6
 abbrev pub CanBeSaid : Event → Type 0
@@ -16,7 +17,7 @@ CanBeSaid (Rotate secret) = Unit {0}
 -- the line says the event, and isn't too long
 pub record IsLineThatSays (event : Event) (line : List ℕ) : Type 0 where
   pub short : IsShort line
-  pub says : IsEventLine event line
+  pub says : IsItemLine (items.Event event) line
 
 -- the text is one line, which says the event
 pub record IsLineOf (event : Event) (text : List ℕ) : Type 0 where

@@ -13,6 +13,9 @@ key_word keys.Query4 = codes "query4"
 key_word keys.Robustness = codes "robustness"
 key_word keys.QuerySeconds = codes "query_seconds"
 key_word keys.ResponseTenths = codes "response_tenths"
+key_word keys.Endpoints = codes "endpoints"
+key_word keys.Groups = codes "groups"
+key_word keys.Sources = codes "sources"
 key_word keys.Secret = codes "secret"
 
 abbrev pub words_of : Kind → List (List ℕ)
@@ -20,6 +23,7 @@ words_of (kinds.Set key) = codes "set" ∷ key_word key ∷ []
 words_of kinds.Moment = codes "at" ∷ []
 words_of kinds.Secret = codes "secret" ∷ []
 words_of kinds.Datagram = codes "dg" ∷ []
+words_of kinds.Show = codes "show" ∷ []
 
 abbrev pub form_of_key : Key → Form
 form_of_key keys.Relay = an_address
@@ -27,6 +31,9 @@ form_of_key keys.Query4 = an_address4
 form_of_key keys.Robustness = a_number 1 7
 form_of_key keys.QuerySeconds = a_number 1 31744
 form_of_key keys.ResponseTenths = a_number 1 31744
+form_of_key keys.Endpoints = a_number 1 65536
+form_of_key keys.Groups = a_number 1 256
+form_of_key keys.Sources = a_number 1 64
 form_of_key keys.Secret = a_secret
 
 abbrev pub forms_of : Kind → List Form
@@ -34,6 +41,7 @@ forms_of (kinds.Set key) = form_of_key key ∷ []
 forms_of kinds.Moment = a_moment ∷ []
 forms_of kinds.Secret = a_secret ∷ []
 forms_of kinds.Datagram = a_peer ∷ some_octets ∷ []
+forms_of kinds.Show = []
 
 -- the line is of no kind, and isn't a `set` alone either
 pub record IsUnknown (line : List (List ℕ)) : Type 0 where

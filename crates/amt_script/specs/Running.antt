@@ -2,9 +2,16 @@
 use Rattle.std.specs.List.{AllByRecursion}
 use Rattle.relay_machine.specs.Conditions.{IsEvent}
 use Rattle.relay_machine.specs.Settings.{IsLawful}
+use Rattle.amt_script.specs.declared.script.RelayItem.{RelayItem}
+use Rattle.amt_script.specs.declared.script.RelayItem.TheVariants.{Event, Show}
 use Rattle.amt_script.specs.declared.script.RelayScript.{RelayScript}
 
--- a relay may have its settings, and each datagram has at most the octets that UDP carries
+-- a datagram has at most the octets that UDP carries
+abbrev pub IsItem : RelayItem → Type 0
+IsItem (Event event) = IsEvent event
+IsItem Show = Unit {0}
+
+-- a relay may have its settings, and each item may be told to it
 pub record IsRunnable (script : RelayScript) : Type 0 where
   pub lawful : IsLawful script.settings
-  pub sized : AllByRecursion IsEvent script.items
+  pub sized : AllByRecursion IsItem script.items

@@ -5,13 +5,15 @@ use Rattle.std.specs.Str.Lines.{lines}
 use Rattle.amt_values.specs.declared.address.Ip.{Ip}
 use Rattle.amt_values.specs.declared.address.Ip.TheVariants.{V4}
 use Rattle.amt_values.specs.Text.{IsIpText, IsPeerText}
-use Rattle.relay_machine.specs.Settings.{IsLawful, default_settings}
+use Rattle.relay_machine.specs.Settings.{IsLawful}
 use Rattle.response_mac.specs.declared.secret.Secret.{Secret}
 use Rattle.relay_machine.specs.declared.event.Event.{Event}
 use Rattle.relay_machine.specs.declared.event.Event.TheVariants as events
 use Rattle.relay_machine.specs.declared.settings.Settings.{Settings}
 use Rattle.amt_script.specs.declared.kind.Key.TheVariants as keys
 use Rattle.amt_script.specs.declared.kind.Kind.TheVariants as kinds
+use Rattle.amt_script.specs.declared.script.RelayItem.{RelayItem}
+use Rattle.amt_script.specs.declared.script.RelayItem.TheVariants as items
 use Rattle.amt_script.specs.declared.script.RelayScript.{RelayScript}
 use Rattle.amt_script.specs.declared.setting.Setting.{Setting}
 use Rattle.amt_script.specs.declared.setting.Setting.TheVariants as settings
@@ -43,6 +45,9 @@ SaysSetting (settings.QuerySeconds number) =
     HasField (words_of (kinds.Set keys.QuerySeconds)) (IsNumberText 1 31744 number)
 SaysSetting (settings.ResponseTenths number) =
     HasField (words_of (kinds.Set keys.ResponseTenths)) (IsNumberText 1 31744 number)
+SaysSetting (settings.Endpoints number) = HasField (words_of (kinds.Set keys.Endpoints)) (IsNumberText 1 65536 number)
+SaysSetting (settings.Groups number) = HasField (words_of (kinds.Set keys.Groups)) (IsNumberText 1 256 number)
+SaysSetting (settings.Sources number) = HasField (words_of (kinds.Set keys.Sources)) (IsNumberText 1 64 number)
 SaysSetting (settings.Secret secret) = HasField (words_of (kinds.Set keys.Secret)) (IsSecretText secret)
 
 abbrev pub SaysEvent : Event → List (List ℕ) → Type 0
@@ -50,21 +55,26 @@ SaysEvent (events.Moment ms) = HasField (words_of kinds.Moment) (IsMomentText ms
 SaysEvent (events.Datagram from bytes) = HasTwoFields (words_of kinds.Datagram) (IsPeerText from) (IsHexText bytes)
 SaysEvent (events.Rotate secret) = HasField (words_of kinds.Secret) (IsSecretText secret)
 
+-- an event, or the word alone by which what stands is shown
+abbrev pub SaysItem : RelayItem → List (List ℕ) → Type 0
+SaysItem (items.Event event) line = SaysEvent event line
+SaysItem items.Show line = line ≡ words_of kinds.Show
+
 abbrev pub IsSettingLine : Setting → List ℕ → Type 0
 IsSettingLine setting line = IsPlain line × SaysSetting setting (fields line)
 
-abbrev pub IsEventLine : Event → List ℕ → Type 0
-IsEventLine event line = IsPlain line × SaysEvent event (fields line)
+abbrev pub IsItemLine : RelayItem → List ℕ → Type 0
+IsItemLine item line = IsPlain line × SaysItem item (fields line)
 
--- the lines that say something say these settings, each key once, and then these events
-pub record Begins (settings : List Setting) (events : List Event) (ls : List (List ℕ)) : Type 0 where
+-- the lines that say something say these settings, each key once, and then these items
+pub record Begins (settings : List Setting) (items : List RelayItem) (ls : List (List ℕ)) : Type 0 where
   pub short : AllByRecursion IsShort ls
   pub front : List (List ℕ)
   pub back : List (List ℕ)
   pub parts : statements ls ≡ front ++ back
   pub front_lines : Each IsSettingLine settings front
   pub once : AreOnce settings
-  pub back_lines : Each IsEventLine events back
+  pub back_lines : Each IsItemLine items back
 
 -- the address that was given; the other values as given, or their defaults
 abbrev pub relay_in : Option Setting → Option Ip
@@ -87,22 +97,37 @@ abbrev pub response_tenths_in : Option Setting → ℕ
 response_tenths_in (Some (settings.ResponseTenths number)) = number
 response_tenths_in other = 100
 
+abbrev pub endpoints_in : Option Setting → ℕ
+endpoints_in (Some (settings.Endpoints number)) = number
+endpoints_in other = 1024
+
+abbrev pub groups_in : Option Setting → ℕ
+groups_in (Some (settings.Groups number)) = number
+groups_in other = 64
+
+abbrev pub sources_in : Option Setting → ℕ
+sources_in (Some (settings.Sources number)) = number
+sources_in other = 64
+
 abbrev pub secret_in : Option Setting → Secret
 secret_in (Some (settings.Secret secret)) = secret
 secret_in other = record { 0 = replicate 32 0 }
 
--- a relay's address was given, and these are the settings with the defaults; no line sets a limit yet
+-- a relay's address was given, and these are the settings with the defaults
 pub record Settles (given : List Setting) (values : Settings) (secret : Secret) : Type 0 where
   pub relay : relay_in (set_at given keys.Relay) ≡ Some values.relay
   pub query4 : values.query4 ≡ query4_in (set_at given keys.Query4)
   pub robustness : values.robustness ≡ robustness_in (set_at given keys.Robustness)
   pub query_seconds : values.query_seconds ≡ query_seconds_in (set_at given keys.QuerySeconds)
   pub response_tenths : values.response_tenths ≡ response_tenths_in (set_at given keys.ResponseTenths)
-  pub limits : values.limits ≡ (default_settings values.relay).limits
+  pub endpoints : values.limits.endpoints ≡ endpoints_in (set_at given keys.Endpoints)
+  pub groups : values.limits.groups ≡ groups_in (set_at given keys.Groups)
+  pub sources : values.limits.sources ≡ sources_in (set_at given keys.Sources)
   pub first_secret : secret ≡ secret_in (set_at given keys.Secret)
 
--- the lines say events after settings with which a relay may be set up. Each number is in its range,
--- since its line says it; what is left to ask is that General Queries can carry the times.
+-- the lines say items after settings with which a relay may be set up. Each number is in its range,
+-- since its line says it; what is left to ask is that General Queries can carry the times, and that the
+-- limits allow no more sources in all than a relay may keep.
 pub record IsRelayScript (script : RelayScript) (bytes : List ℕ) : Type 0 where
   pub given : List Setting
   pub all_lines : Begins given script.items (lines bytes)

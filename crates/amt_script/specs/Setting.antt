@@ -3,7 +3,7 @@ use Rattle.std.specs.Prelude.{◌≡◌, ℕ, ◌==◌, Bool, List, [], ◌∷�
 use Rattle.amt_script.specs.declared.kind.Key.{Key}
 use Rattle.amt_script.specs.declared.kind.Key.TheVariants as keys
 use Rattle.amt_script.specs.declared.setting.Setting.{Setting}
-use Rattle.amt_script.specs.declared.setting.Setting.TheVariants.{Relay, Query4, Robustness, QuerySeconds, ResponseTenths, Secret}
+use Rattle.amt_script.specs.declared.setting.Setting.TheVariants.{Relay, Query4, Robustness, QuerySeconds, ResponseTenths, Endpoints, Groups, Sources, Secret}
 
 abbrev pub key_of : Setting → Key
 key_of (Relay ip) = keys.Relay
@@ -11,6 +11,9 @@ key_of (Query4 number) = keys.Query4
 key_of (Robustness number) = keys.Robustness
 key_of (QuerySeconds number) = keys.QuerySeconds
 key_of (ResponseTenths number) = keys.ResponseTenths
+key_of (Endpoints number) = keys.Endpoints
+key_of (Groups number) = keys.Groups
+key_of (Sources number) = keys.Sources
 key_of (Secret secret) = keys.Secret
 
 -- the place of a key among the keys
@@ -20,7 +23,10 @@ place_of keys.Query4 = 1
 place_of keys.Robustness = 2
 place_of keys.QuerySeconds = 3
 place_of keys.ResponseTenths = 4
-place_of keys.Secret = 5
+place_of keys.Endpoints = 5
+place_of keys.Groups = 6
+place_of keys.Sources = 7
+place_of keys.Secret = 8
 
 abbrev pub is_same_key : Key → Key → Bool
 is_same_key one other = place_of one == place_of other

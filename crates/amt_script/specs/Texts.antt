@@ -1,7 +1,9 @@
--- What is written of a relay's events, of its steps, and of a reason.
-use Rattle.std.specs.Prelude.{ℕ, ◌+◌, true, false, List, [], ◌∷◌, ◌++◌, length, codes, decimal, flat_map}
+-- What is written of a relay's events, of its steps, of what stands, and of a reason.
+use Rattle.std.specs.Prelude.{ℕ, ◌+◌, true, false, List, [], ◌∷◌, ◌++◌, length, codes, decimal, flat_map, Option, Some, None}
+use Rattle.std.specs.List.{filter_map}
 use Rattle.std.specs.Int.{w16, to_be_bytes}
 use Rattle.hex.specs.Hex.{encode_lower}
+use Rattle.amt_values.specs.declared.address.Ip.{Ip}
 use Rattle.amt_values.specs.Endpoint.{peer_of}
 use Rattle.amt_values.specs.Text.{ip_text, peer_text}
 use Rattle.amt_messages.specs.declared.refusal.Refused.{Refused}
@@ -10,8 +12,11 @@ use Rattle.inner_datagrams.specs.declared.inner.InnerFault.{InnerFault}
 use Rattle.inner_datagrams.specs.declared.inner.InnerFault.TheVariants as inner
 use Rattle.source_filter.specs.declared.fault.ReportFault.{ReportFault}
 use Rattle.source_filter.specs.declared.fault.ReportFault.TheVariants as report
+use Rattle.source_filter.specs.declared.mode.Mode.{Mode}
+use Rattle.source_filter.specs.declared.mode.Mode.TheVariants.{Include, Exclude}
 use Rattle.endpoint_membership.specs.declared.limits.LimitFault.{LimitFault}
 use Rattle.endpoint_membership.specs.declared.limits.LimitFault.TheVariants.{Sources, Groups, Endpoints}
+use Rattle.endpoint_membership.specs.declared.row.Row.{Row}
 use Rattle.response_mac.specs.declared.secret.Secret.{Secret}
 use Rattle.relay_machine.specs.declared.event.Event.{Event}
 use Rattle.relay_machine.specs.declared.event.Event.TheVariants as events
@@ -22,9 +27,11 @@ use Rattle.relay_machine.specs.declared.outcome.Unlawful.{Unlawful}
 use Rattle.relay_machine.specs.declared.outcome.Unlawful.TheVariants.{Inner, Report}
 use Rattle.relay_machine.specs.declared.sends.OneSend.{OneSend}
 use Rattle.relay_machine.specs.declared.settings.Settings.{Settings}
-use Rattle.relay_machine.specs.Answers.{outcome_of, sends_of}
+use Rattle.relay_machine.specs.Answers.{outcome_of, rows_after, sends_of}
 use Rattle.amt_script.specs.declared.reason.Reason.{Reason}
 use Rattle.amt_script.specs.declared.reason.Reason.TheVariants as reasons
+use Rattle.amt_script.specs.declared.script.RelayItem.{RelayItem}
+use Rattle.amt_script.specs.declared.script.RelayItem.TheVariants as items
 use Rattle.amt_script.specs.declared.script.RelayScript.{RelayScript}
 
 abbrev pub refusal_text : Refused → List ℕ
@@ -111,19 +118,55 @@ unfoldable pub step_text : ℕ → Outcome → List OneSend → List ℕ
 step_text number outcome sends =
     codes "= " ++ (decimal number ++ (codes " " ++ (outcome_text outcome ++ (10 ∷ flat_map send_text sends))))
 
--- `. N`, the number of events
+abbrev pub mode_text : Mode → List ℕ
+mode_text Include = codes "include"
+mode_text Exclude = codes "exclude"
+
+-- the listed sources with commas between them, or `-` for none
+abbrev pub sources_text : List Ip → List ℕ
+sources_text [] = codes "-"
+sources_text (first ∷ rest) = ip_text first ++ flat_map (λ source. codes "," ++ ip_text source) rest
+
+-- `* PEER GROUP MODE SOURCES`
+unfoldable pub row_text : Row → List ℕ
+row_text row =
+    codes "* "
+    ++ (peer_text (peer_of row.endpoint)
+    ++ (codes " "
+    ++ (ip_text row.group
+    ++ (codes " " ++ (mode_text row.filter.mode ++ (codes " " ++ (sources_text row.filter.sources ++ (10 ∷ []))))))))
+
+-- `= N rows R`, and a line for each of the R rows
+unfoldable pub rows_text : ℕ → List Row → List ℕ
+rows_text number rows =
+    codes "= " ++ (decimal number ++ (codes " rows " ++ (decimal (length rows) ++ (10 ∷ flat_map row_text rows))))
+
+-- `. N`, the number of items
 unfoldable pub closing_text : ℕ → List ℕ
 closing_text count = codes ". " ++ (decimal count ++ (10 ∷ []))
 
--- the steps of the events that follow those before, numbered from 1
-abbrev pub events_text : Settings → Secret → List Event → List Event → List ℕ
-events_text settings secret before [] = []
-events_text settings secret before (event ∷ rest) =
-    step_text (length before + 1) (outcome_of settings secret before event) (sends_of settings secret before event)
-    ++ events_text settings secret (before ++ event ∷ []) rest
+-- the events among items
+abbrev pub event_in : RelayItem → Option Event
+event_in (items.Event event) = Some event
+event_in items.Show = None
+
+abbrev pub events_in : List RelayItem → List Event
+events_in all = filter_map event_in all
+
+-- the step that an event is after these events, or what stands after them
+abbrev pub item_text : Settings → Secret → List Event → ℕ → RelayItem → List ℕ
+item_text settings secret events number (items.Event event) =
+    step_text number (outcome_of settings secret events event) (sends_of settings secret events event)
+item_text settings secret events number items.Show = rows_text number (rows_after settings secret events)
+
+-- the items that follow those before, numbered from 1
+abbrev pub items_text : Settings → Secret → List RelayItem → List RelayItem → List ℕ
+items_text settings secret before [] = []
+items_text settings secret before (item ∷ rest) =
+    item_text settings secret (events_in before) (length before + 1) item ++ items_text settings secret (before ++ item ∷ []) rest
 
 abbrev pub text_of : RelayScript → List ℕ
-text_of script = events_text script.settings script.secret [] script.items ++ closing_text (length script.items)
+text_of script = items_text script.settings script.secret [] script.items ++ closing_text (length script.items)
 
 abbrev pub reason_word : Reason → List ℕ
 reason_word reasons.Long = codes "long"

@@ -13,6 +13,9 @@ pub enum Key {
     Robustness,
     QuerySeconds,
     ResponseTenths,
+    Endpoints,
+    Groups,
+    Sources,
     Secret,
 }
 
@@ -30,7 +33,10 @@ impl Key {
             Key::Robustness => 2,
             Key::QuerySeconds => 3,
             Key::ResponseTenths => 4,
-            Key::Secret => 5,
+            Key::Endpoints => 5,
+            Key::Groups => 6,
+            Key::Sources => 7,
+            Key::Secret => 8,
         }
     }
 }
@@ -46,6 +52,8 @@ pub enum Kind {
     Secret,
     /// A datagram has come.
     Datagram,
+    /// What stands is asked for.
+    Show,
 }
 
 /// Why a line is of no kind.
@@ -74,6 +82,15 @@ fn key_of_word(word: &[u8]) -> Option<Key>
     }
     if word == b"response_tenths".as_slice() {
         return Some(Key::ResponseTenths);
+    }
+    if word == b"endpoints".as_slice() {
+        return Some(Key::Endpoints);
+    }
+    if word == b"groups".as_slice() {
+        return Some(Key::Groups);
+    }
+    if word == b"sources".as_slice() {
+        return Some(Key::Sources);
     }
     if word == b"secret".as_slice() {
         return Some(Key::Secret);
@@ -115,6 +132,9 @@ pub fn kind_of_line(line: &[u8]) -> Result<(Kind, &[u8]), NoKind>
     }
     if word == b"dg".as_slice() {
         return Ok((Kind::Datagram, rest));
+    }
+    if word == b"show".as_slice() {
+        return Ok((Kind::Show, rest));
     }
     Err(NoKind::Unknown)
 }

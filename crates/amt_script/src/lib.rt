@@ -14,6 +14,7 @@ mod lines;
 mod reading;
 mod reason;
 mod replay;
+mod row_text;
 mod script;
 mod setting;
 mod settling;
@@ -24,7 +25,7 @@ mod values;
 pub use reading::read_relay_script;
 pub use reason::Reason;
 pub use replay::{RunFault, run_relay_script};
-pub use script::{Events, RelayScript, ScriptError};
+pub use script::{RelayItem, RelayItems, RelayScript, ScriptError};
 pub use text::{print_relay_event, print_relay_step};
 
 #[cfg(test)]

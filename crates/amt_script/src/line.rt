@@ -8,16 +8,18 @@ ghost use Rattle.amt_script.specs.Script.{SaysSetting};
 
 use crate::kind::{Key, Kind, NoKind, kind_of_line};
 use crate::reason::Reason;
+use crate::script::RelayItem;
 use crate::setting::{Setting, is_given};
-use crate::statement::{LineError, read_datagram, read_moment_event, read_rotation, read_setting};
-use relay_machine::Event;
+use crate::statement::{
+    LineError, read_datagram, read_moment_item, read_rotation, read_setting, read_show,
+};
 use std::alloc::Global;
 
 /// What a line says.
 #[derive(Debug, Drop)]
 pub enum Statement {
     Setting(Setting),
-    Event(Event),
+    Item(RelayItem),
 }
 
 fn is_plain(line: &[u8]) -> bool
@@ -26,13 +28,18 @@ fn is_plain(line: &[u8]) -> bool
     line.iter().all(|octet| 32 <= *octet && *octet <= 126)
 }
 
-fn read_set(given: &[Setting], events: &[Event], key: Key, values: &[u8]) -> Result<Setting, Reason>
-    ensures may { IfOk result (MaySet given.now events.now) }
+fn read_set(
+    given: &[Setting],
+    items: &[RelayItem],
+    key: Key,
+    values: &[u8],
+) -> Result<Setting, Reason>
+    ensures may { IfOk result (MaySet given.now items.now) }
     ensures found { IfOk result (λ setting. SaysSetting setting (words_of (kinds.Set key) ++ fields values.now)) }
-    ensures reason { IfErr result (λ reason. First (FailsToSet given.now events.now key (fields values.now))
+    ensures reason { IfErr result (λ reason. First (FailsToSet given.now items.now key (fields values.now))
         (Reason.Late ∷ Reason.Twice ∷ order_of_values) reason) }
 {
-    if !events.is_empty() {
+    if !items.is_empty() {
         return Err(Reason::Late);
     }
     if is_given(given, key) {
@@ -44,16 +51,16 @@ fn read_set(given: &[Setting], events: &[Event], key: Key, values: &[u8]) -> Res
     }
 }
 
-/// Reads a line that says something, after lines that said these settings and events.
+/// Reads a line that says something, after lines that said these settings and items.
 pub fn read_statement(
     alloc: Global,
     given: &[Setting],
-    events: &[Event],
+    items: &[RelayItem],
     line: &[u8],
 ) -> Result<Statement, LineError>
     requires { IsShort line.now }
-    ensures found { IfOk result (λ statement. IsGoodLine given.now events.now statement line.now) }
-    ensures reason { IfErr result (FailsFirst (Holds given.now events.now line.now) order_of_reasons) }
+    ensures found { IfOk result (λ statement. IsGoodLine given.now items.now statement line.now) }
+    ensures reason { IfErr result (FailsFirst (Holds given.now items.now line.now) order_of_reasons) }
 {
     if !is_plain(line) {
         return Err(LineError::Bad(Reason::Word));
@@ -61,27 +68,19 @@ pub fn read_statement(
     match kind_of_line(line) {
         Err(NoKind::Unknown) => Err(LineError::Bad(Reason::Word)),
         Err(NoKind::SetAlone) => {
-            if events.is_empty() {
+            if items.is_empty() {
                 Err(LineError::Bad(Reason::Count))
             } else {
                 Err(LineError::Bad(Reason::Late))
             }
         }
-        Ok((Kind::Set(key), values)) => match read_set(given, events, key, values) {
+        Ok((Kind::Set(key), values)) => match read_set(given, items, key, values) {
             Ok(setting) => Ok(Statement::Setting(setting)),
             Err(reason) => Err(LineError::Bad(reason)),
         },
-        Ok((Kind::Moment, values)) => match read_moment_event(values) {
-            Ok(event) => Ok(Statement::Event(event)),
-            Err(reason) => Err(LineError::Bad(reason)),
-        },
-        Ok((Kind::Secret, values)) => match read_rotation(values) {
-            Ok(event) => Ok(Statement::Event(event)),
-            Err(reason) => Err(LineError::Bad(reason)),
-        },
-        Ok((Kind::Datagram, values)) => match read_datagram(alloc, values) {
-            Ok(event) => Ok(Statement::Event(event)),
-            Err(error) => Err(error),
-        },
+        Ok((Kind::Moment, values)) => Ok(Statement::Item(read_moment_item(values)?)),
+        Ok((Kind::Secret, values)) => Ok(Statement::Item(read_rotation(values)?)),
+        Ok((Kind::Datagram, values)) => Ok(Statement::Item(read_datagram(alloc, values)?)),
+        Ok((Kind::Show, values)) => Ok(Statement::Item(read_show(values)?)),
     }
 }

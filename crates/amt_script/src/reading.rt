@@ -10,7 +10,7 @@ use crate::fields::next_field;
 use crate::line::{Statement, read_statement};
 use crate::lines::next_line;
 use crate::reason::Reason;
-use crate::script::{Events, RelayScript, ScriptError};
+use crate::script::{RelayItems, RelayScript, ScriptError};
 use crate::setting::Setting;
 use crate::settling::settle;
 use crate::statement::LineError;
@@ -23,7 +23,7 @@ const MOST_OCTETS_OF_A_LINE: usize = 140_000;
 #[derive(Debug, Drop)]
 struct Said {
     given: Vec<Setting>,
-    events: Events,
+    items: RelayItems,
 }
 
 fn is_skipped(line: &[u8]) -> bool
@@ -39,8 +39,8 @@ fn is_skipped(line: &[u8]) -> bool
 }
 
 fn take_line(alloc: Global, said: &mut Said, line: &[u8]) -> Result<(), LineError>
-    ensures taken { OnOk result (TakesLine said.old.given.items said.old.events said.new.given.items said.new.events line.now) }
-    ensures bad { IfErr result (FailsOnLine said.old.given.items said.old.events line.now) }
+    ensures taken { OnOk result (TakesLine said.old.given.items said.old.items said.new.given.items said.new.items line.now) }
+    ensures bad { IfErr result (FailsOnLine said.old.given.items said.old.items line.now) }
 {
     if line.len() > MOST_OCTETS_OF_A_LINE {
         return Err(LineError::Bad(Reason::Long));
@@ -48,12 +48,12 @@ fn take_line(alloc: Global, said: &mut Said, line: &[u8]) -> Result<(), LineErro
     if is_skipped(line) {
         return Ok(());
     }
-    match read_statement(alloc, said.given.as_slice(), said.events.as_slice(), line) {
+    match read_statement(alloc, said.given.as_slice(), said.items.as_slice(), line) {
         Ok(Statement::Setting(setting)) => match said.given.push(setting) {
             Ok(()) => Ok(()),
             Err(_) => Err(LineError::Memory),
         },
-        Ok(Statement::Event(event)) => match said.events.push(event) {
+        Ok(Statement::Item(item)) => match said.items.push(item) {
             Ok(()) => Ok(()),
             Err(_) => Err(LineError::Memory),
         },
@@ -70,14 +70,14 @@ struct Whole {
 
 fn read_lines(alloc: Global, text: &[u8]) -> Result<Whole, ScriptError>
     requires { length text.now ≤ 16777216 }
-    ensures begun { IfOk result (λ whole. Begins whole.said.given.items whole.said.events (lines text.now)) }
+    ensures begun { IfOk result (λ whole. Begins whole.said.given.items whole.said.items (lines text.now)) }
     ensures counted { IfOk result (λ whole. whole.lines ≡ length (lines text.now)) }
     ensures few { IfOk result (λ whole. whole.lines ≤ 16777216) }
     ensures bad { IfErr result (FailsInLines (lines text.now)) }
 {
     let mut said = Said {
         given: Vec::new(alloc),
-        events: Events::new(alloc),
+        items: RelayItems::new(alloc),
     };
     let mut count = 0;
     let mut left = text;
@@ -124,7 +124,7 @@ fn read_whole(alloc: Global, bytes: &[u8]) -> Result<RelayScript, ScriptError>
     Ok(RelayScript {
         settings: settled.settings,
         secret: settled.secret,
-        items: whole.said.events,
+        items: whole.said.items,
     })
 }
 

@@ -4,13 +4,14 @@ ghost use Rattle.amt_ports.specs.Causes.{Rose};
 ghost use Rattle.response_mac.specs.declared.secret.Secret.{Secret as SecretValue};
 ghost use Rattle.relay_machine.specs.declared.event.Event.{Event as EventValue};
 ghost use Rattle.relay_machine.specs.declared.settings.Settings.{Settings as SettingsValue};
-ghost use Rattle.relay_machine.specs.Answers.{RelayAt, outcome_of, sends_of};
+ghost use Rattle.relay_machine.specs.Answers.{RelayAt, outcome_of, rows_after, sends_of};
 ghost use Rattle.relay_machine.specs.Conditions.{IsEvent};
-ghost use Rattle.amt_script.specs.Running.{IsRunnable};
-ghost use Rattle.amt_script.specs.Texts.{step_text, text_of};
+ghost use Rattle.amt_script.specs.Running.{IsItem, IsRunnable};
+ghost use Rattle.amt_script.specs.Texts.{events_in, item_text, rows_text, step_text, text_of};
 ghost use Rattle.amt_script.specs.Writing.{WritesFront};
 
-use crate::script::RelayScript;
+use crate::row_text::print_rows;
+use crate::script::{RelayItem, RelayScript};
 use crate::text::{print_closing, print_relay_step};
 use amt_ports::{Sink, write_all_own};
 use amt_values::Bytes;
@@ -22,7 +23,7 @@ use std::alloc::Global;
 pub enum RunFault {
     /// The sink failed.
     Write,
-    /// Want of memory for the relay, a step or its text.
+    /// Want of memory for the relay, a step, the rows that stand, or their text.
     Memory,
 }
 
@@ -74,8 +75,64 @@ fn write_step<O: Sink>(
     write_text(out, &text)
 }
 
-// Runs a new relay over the events of its script.
-fn run_events<O: Sink>(
+fn write_rows<O: Sink>(
+    alloc: Global,
+    relay: &Relay,
+    number: u64,
+    out: &mut O,
+) -> Result<(), RunFault>
+    ensures done { (settings : SettingsValue) (first : SecretValue)
+        (events : List EventValue) → RelayAt relay.now settings first events
+        → OnOk result (Appends (O.written out.old) (O.written out.new)
+        (rows_text number (rows_after settings first events))) }
+    ensures begun { (settings : SettingsValue) (first : SecretValue)
+        (events : List EventValue) → RelayAt relay.now settings first events
+        → OnErr result (WritesFront (O.written out.old) (O.written out.new)
+        (rows_text number (rows_after settings first events))) }
+
+    ensures later { O.faults out.old ≤ O.faults out.new }
+    ensures write { IsErrOf result RunFault.Write → Rose (O.faults out.old) (O.faults out.new) }
+{
+    let Ok(rows) = relay.rows(alloc) else {
+        return Err(RunFault::Memory);
+    };
+    let Ok(text) = print_rows(alloc, number, &rows) else {
+        return Err(RunFault::Memory);
+    };
+    write_text(out, &text)
+}
+
+fn write_item<O: Sink>(
+    alloc: Global,
+    relay: &mut Relay,
+    number: u64,
+    item: &RelayItem,
+    out: &mut O,
+) -> Result<(), RunFault>
+    requires { IsItem item.now }
+    ensures done { (settings : SettingsValue) (first : SecretValue)
+        (events : List EventValue) → RelayAt relay.old settings first events
+        → OnOk result (Appends (O.written out.old) (O.written out.new)
+        (item_text settings first events number item.now)) }
+    ensures begun { (settings : SettingsValue) (first : SecretValue)
+        (events : List EventValue) → RelayAt relay.old settings first events
+        → OnErr result (WritesFront (O.written out.old) (O.written out.new)
+        (item_text settings first events number item.now)) }
+    ensures next { (settings : SettingsValue) (first : SecretValue)
+        (events : List EventValue) → RelayAt relay.old settings first events
+        → OnOk result (RelayAt relay.new settings first (events ++ events_in (item.now ∷ []))) }
+
+    ensures later { O.faults out.old ≤ O.faults out.new }
+    ensures write { IsErrOf result RunFault.Write → Rose (O.faults out.old) (O.faults out.new) }
+{
+    match item {
+        RelayItem::Event(event) => write_step(alloc, relay, number, event, out),
+        RelayItem::Show => write_rows(alloc, relay, number, out),
+    }
+}
+
+// Takes a new relay through the items of its script.
+fn run_items<O: Sink>(
     alloc: Global,
     mut relay: Relay,
     script: &RelayScript,
@@ -91,20 +148,20 @@ fn run_events<O: Sink>(
     ensures later { O.faults out.old ≤ O.faults out.new }
     ensures write { IsErrOf result RunFault.Write → Rose (O.faults out.old) (O.faults out.new) }
 {
-    let events = script.items.as_slice();
-    for (index, event) in events.iter().enumerate() {
-        match write_step(alloc, &mut relay, index as u64 + 1, event, out) {
+    let items = script.items.as_slice();
+    for (index, item) in items.iter().enumerate() {
+        match write_item(alloc, &mut relay, index as u64 + 1, item, out) {
             Ok(()) => {}
             Err(fault) => return Err(fault),
         }
     }
-    let Ok(text) = print_closing(alloc, events.len() as u64) else {
+    let Ok(text) = print_closing(alloc, items.len() as u64) else {
         return Err(RunFault::Memory);
     };
     write_text(out, &text)
 }
 
-/// Runs a relay over a script, and writes the text of its steps.
+/// Runs a relay over a script, and writes the text of its steps and of what stands where it is shown.
 pub fn run_relay_script<O: Sink>(
     alloc: Global,
     script: &RelayScript,
@@ -122,5 +179,5 @@ pub fn run_relay_script<O: Sink>(
     let Ok(relay) = Relay::new(alloc, script.settings, script.secret) else {
         return Err(RunFault::Memory);
     };
-    run_events(alloc, relay, script, out)
+    run_items(alloc, relay, script, out)
 }

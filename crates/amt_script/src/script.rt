@@ -6,57 +6,66 @@ use response_mac::Secret;
 use std::alloc::{AllocError, Global};
 use std::marker::Model;
 
-/// Events, in order.
+/// What a script does with its relay.
 #[derive(Debug, Drop)]
-pub struct Events {
-    events: Vec<Event>,
+pub enum RelayItem {
+    /// The relay takes an event.
+    Event(Event),
+    /// What stands is shown.
+    Show,
 }
 
-impl Model for Events {
+/// Items, in order.
+#[derive(Debug, Drop)]
+pub struct RelayItems {
+    items: Vec<RelayItem>,
+}
+
+impl Model for RelayItems {
     ghost use Rattle.std.specs.Prelude.{List};
-    ghost use Rattle.relay_machine.specs.declared.event.Event.{Event};
+    ghost use Rattle.amt_script.specs.declared.script.RelayItem.{RelayItem};
 
-    ghost Value = { List Event };
+    ghost Value = { List RelayItem };
 
-    ghost view = { λ e. e.events.items };
+    ghost view = { λ i. i.items.items };
 }
 
-impl Events {
+impl RelayItems {
     pub fn new(alloc: Global) -> Self
         ensures { result ≡ [] }
     {
-        Events {
-            events: Vec::new(alloc),
+        RelayItems {
+            items: Vec::new(alloc),
         }
     }
 
-    pub fn as_slice(&self) -> &[Event]
+    pub fn as_slice(&self) -> &[RelayItem]
         ensures { result.now ≡ self.now }
     {
-        self.events.as_slice()
+        self.items.as_slice()
     }
 
     pub fn len(&self) -> usize
         ensures { result ≡ length self.now }
     {
-        self.events.len()
+        self.items.len()
     }
 
-    pub fn push(&mut self, event: Event) -> Result<(), AllocError>
-        ensures ok { IfOk result (λ _. self.new ≡ self.old ++ event ∷ []) }
+    pub fn push(&mut self, item: RelayItem) -> Result<(), AllocError>
+        ensures ok { IfOk result (λ _. self.new ≡ self.old ++ item ∷ []) }
         ensures err { OnErr result (self.new ≡ self.old) }
     {
-        self.events.push(event)?;
+        self.items.push(item)?;
         Ok(())
     }
 }
 
-/// A relay's settings, its first secret, and what happens to it.
+/// A relay's settings, its first secret, and what happens to it and is shown of it.
 #[derive(Debug, Drop)]
 pub struct RelayScript {
     pub settings: Settings,
     pub secret: Secret,
-    pub items: Events,
+    pub items: RelayItems,
 }
 
 /// Why octets were not read as a script.
@@ -64,6 +73,6 @@ pub struct RelayScript {
 pub enum ScriptError {
     /// The first bad line, counted from 1, and the first reason in it.
     Fault { line: u32, reason: Reason },
-    /// Want of memory for the settings, the events or their octets.
+    /// Want of memory for the settings, the items or their octets.
     Memory,
 }

@@ -15,6 +15,12 @@ pub enum Setting {
     Robustness(u8),
     QuerySeconds(u32),
     ResponseTenths(u32),
+    /// The most live tunnel endpoints.
+    Endpoints(u32),
+    /// The most groups of one endpoint.
+    Groups(u32),
+    /// The most sources of one group.
+    Sources(u32),
     /// The first private secret.
     Secret(Secret),
 }
@@ -28,6 +34,9 @@ fn key_of(setting: &Setting) -> Key
         Setting::Robustness(_) => Key::Robustness,
         Setting::QuerySeconds(_) => Key::QuerySeconds,
         Setting::ResponseTenths(_) => Key::ResponseTenths,
+        Setting::Endpoints(_) => Key::Endpoints,
+        Setting::Groups(_) => Key::Groups,
+        Setting::Sources(_) => Key::Sources,
         Setting::Secret(_) => Key::Secret,
     }
 }

@@ -1,10 +1,11 @@
 ghost use Rattle.std.specs.Prelude.{◌≡◌, IfSome, IfNone, None};
-ghost use Rattle.amt_script.specs.Script.{Settles, relay_in, query4_in, robustness_in, query_seconds_in, response_tenths_in, secret_in};
+ghost use Rattle.amt_script.specs.Script.{Settles, relay_in, query4_in, robustness_in, query_seconds_in, response_tenths_in, endpoints_in, groups_in, sources_in, secret_in};
 ghost use Rattle.amt_script.specs.Setting.{set_at};
 
 use crate::kind::Key;
 use crate::setting::{Setting, setting_at};
 use amt_values::Ip;
+use endpoint_membership::Limits;
 use relay_machine::Settings;
 use response_mac::Secret;
 
@@ -60,6 +61,33 @@ fn response_tenths_of(given: &[Setting]) -> u32
     }
 }
 
+fn endpoints_of(given: &[Setting]) -> u32
+    ensures { result ≡ endpoints_in (set_at given.now Key.Endpoints) }
+{
+    match setting_at(given, Key::Endpoints) {
+        Some(Setting::Endpoints(most)) => most,
+        _ => 1024,
+    }
+}
+
+fn groups_of(given: &[Setting]) -> u32
+    ensures { result ≡ groups_in (set_at given.now Key.Groups) }
+{
+    match setting_at(given, Key::Groups) {
+        Some(Setting::Groups(most)) => most,
+        _ => 64,
+    }
+}
+
+fn sources_of(given: &[Setting]) -> u32
+    ensures { result ≡ sources_in (set_at given.now Key.Sources) }
+{
+    match setting_at(given, Key::Sources) {
+        Some(Setting::Sources(most)) => most,
+        _ => 64,
+    }
+}
+
 fn secret_of(given: &[Setting]) -> Secret
     ensures { result ≡ secret_in (set_at given.now Key.Secret) }
 {
@@ -82,7 +110,11 @@ pub fn settle(given: &[Setting]) -> Option<Settled>
                 robustness: robustness_of(given),
                 query_seconds: query_seconds_of(given),
                 response_tenths: response_tenths_of(given),
-                limits: Settings::of_relay(relay).limits,
+                limits: Limits {
+                    endpoints: endpoints_of(given),
+                    groups: groups_of(given),
+                    sources: sources_of(given),
+                },
             },
             secret: secret_of(given),
         }),

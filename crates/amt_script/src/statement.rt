@@ -3,13 +3,14 @@ ghost use Rattle.amt_script.specs.declared.kind.Kind.TheVariants as kinds;
 ghost use Rattle.amt_script.specs.Fault.{First, FailsAs, order_of_values};
 ghost use Rattle.amt_script.specs.Lines.{fields};
 ghost use Rattle.amt_script.specs.Row.{words_of, form_of_key};
-ghost use Rattle.amt_script.specs.Script.{SaysSetting, SaysEvent};
+ghost use Rattle.amt_script.specs.Script.{SaysItem, SaysSetting};
 ghost use Rattle.amt_script.specs.Setting.{key_of};
 ghost use Rattle.amt_script.specs.Reading.{FailsFirst};
 
-use crate::fields::{only_field, two_fields};
+use crate::fields::{next_field, only_field, two_fields};
 use crate::kind::Key;
 use crate::reason::Reason;
+use crate::script::RelayItem;
 use crate::setting::Setting;
 use crate::values::{
     OctetsError, read_address4, read_moment, read_number, read_octets, read_secret,
@@ -51,6 +52,18 @@ fn setting_of_text(key: Key, text: &[u8]) -> Result<Setting, Reason>
             Ok(number) => Ok(Setting::ResponseTenths(number)),
             Err(reason) => Err(reason),
         },
+        Key::Endpoints => match read_number(text, 1, 65_536) {
+            Ok(number) => Ok(Setting::Endpoints(number)),
+            Err(reason) => Err(reason),
+        },
+        Key::Groups => match read_number(text, 1, 256) {
+            Ok(number) => Ok(Setting::Groups(number)),
+            Err(reason) => Err(reason),
+        },
+        Key::Sources => match read_number(text, 1, 64) {
+            Ok(number) => Ok(Setting::Sources(number)),
+            Err(reason) => Err(reason),
+        },
         Key::Secret => match read_secret(text) {
             Some(secret) => Ok(Setting::Secret(secret)),
             None => Err(Reason::Hex),
@@ -70,38 +83,38 @@ pub fn read_setting(key: Key, values: &[u8]) -> Result<Setting, Reason>
     }
 }
 
-/// The event of a line `at MS`, by what follows its first word.
-pub fn read_moment_event(values: &[u8]) -> Result<Event, Reason>
-    ensures found { IfOk result (λ event. SaysEvent event (words_of kinds.Moment ++ fields values.now)) }
-    ensures reason { IfErr result (λ reason. First (FailsAs kinds.Moment (fields values.now)) order_of_values reason) }
+/// The item of a line `at MS`, by what follows its first word.
+pub fn read_moment_item(values: &[u8]) -> Result<RelayItem, LineError>
+    ensures found { IfOk result (λ item. SaysItem item (words_of kinds.Moment ++ fields values.now)) }
+    ensures reason { IfErr result (FailsFirst (FailsAs kinds.Moment (fields values.now)) order_of_values) }
 {
     let Some(text) = only_field(values) else {
-        return Err(Reason::Count);
+        return Err(LineError::Bad(Reason::Count));
     };
     match read_moment(text) {
-        Some(moment) => Ok(Event::Moment(moment)),
-        None => Err(Reason::Number),
+        Some(moment) => Ok(RelayItem::Event(Event::Moment(moment))),
+        None => Err(LineError::Bad(Reason::Number)),
     }
 }
 
-/// The event of a line `secret HEX`, by what follows its first word.
-pub fn read_rotation(values: &[u8]) -> Result<Event, Reason>
-    ensures found { IfOk result (λ event. SaysEvent event (words_of kinds.Secret ++ fields values.now)) }
-    ensures reason { IfErr result (λ reason. First (FailsAs kinds.Secret (fields values.now)) order_of_values reason) }
+/// The item of a line `secret HEX`, by what follows its first word.
+pub fn read_rotation(values: &[u8]) -> Result<RelayItem, LineError>
+    ensures found { IfOk result (λ item. SaysItem item (words_of kinds.Secret ++ fields values.now)) }
+    ensures reason { IfErr result (FailsFirst (FailsAs kinds.Secret (fields values.now)) order_of_values) }
 {
     let Some(text) = only_field(values) else {
-        return Err(Reason::Count);
+        return Err(LineError::Bad(Reason::Count));
     };
     match read_secret(text) {
-        Some(secret) => Ok(Event::Rotate(secret)),
-        None => Err(Reason::Hex),
+        Some(secret) => Ok(RelayItem::Event(Event::Rotate(secret))),
+        None => Err(LineError::Bad(Reason::Hex)),
     }
 }
 
-/// The event of a line `dg PEER HEX`, by what follows its first word. The octets are read first,
+/// The item of a line `dg PEER HEX`, by what follows its first word. The octets are read first,
 /// since their reason comes before the peer's.
-pub fn read_datagram(alloc: Global, values: &[u8]) -> Result<Event, LineError>
-    ensures found { IfOk result (λ event. SaysEvent event (words_of kinds.Datagram ++ fields values.now)) }
+pub fn read_datagram(alloc: Global, values: &[u8]) -> Result<RelayItem, LineError>
+    ensures found { IfOk result (λ item. SaysItem item (words_of kinds.Datagram ++ fields values.now)) }
     ensures reason { IfErr result (FailsFirst (FailsAs kinds.Datagram (fields values.now)) order_of_values) }
 {
     let Some((peer, octets)) = two_fields(values) else {
@@ -113,7 +126,18 @@ pub fn read_datagram(alloc: Global, values: &[u8]) -> Result<Event, LineError>
         Err(OctetsError::Memory) => return Err(LineError::Memory),
     };
     match parse_peer(peer) {
-        Some(from) => Ok(Event::Datagram { from, bytes }),
+        Some(from) => Ok(RelayItem::Event(Event::Datagram { from, bytes })),
         None => Err(LineError::Bad(Reason::Peer)),
+    }
+}
+
+/// The item of a line `show`, by what follows the word, which is nothing.
+pub fn read_show(values: &[u8]) -> Result<RelayItem, LineError>
+    ensures found { IfOk result (λ item. SaysItem item (words_of kinds.Show ++ fields values.now)) }
+    ensures reason { IfErr result (FailsFirst (FailsAs kinds.Show (fields values.now)) order_of_values) }
+{
+    match next_field(values) {
+        None => Ok(RelayItem::Show),
+        Some(_) => Err(LineError::Bad(Reason::Count)),
     }
 }

@@ -168,7 +168,7 @@ pub fn print_relay_step(alloc: Global, number: u64, step: &Step) -> Result<Bytes
     Ok(text)
 }
 
-/// The last line: the number of events.
+/// The last line: the number of items.
 #[tactic(auto, unfolding(crate::specs::Texts::closing_text))]
 pub fn print_closing(alloc: Global, count: u64) -> Result<Bytes, AllocError>
     ensures { IfOk result (λ text. text ≡ closing_text count) }

@@ -1,5 +1,5 @@
 use Rattle.std.proofs.Common.{sym, ◌∙◌}
-use Rattle.amt_script.proofs.Begun.{takes_setting, takes_event}
+use Rattle.amt_script.proofs.Begun.{takes_setting, takes_item}
 use Rattle.amt_script.proofs.reading.take_line.Goals as goal
 
 pub returns-in-Ok-clause-taken : goal.returns-in-Ok-clause-taken
@@ -10,6 +10,6 @@ returns-in-Ok-clause-taken c =
 
 pub returns-in-Ok-push-clause-taken : goal.returns-in-Ok-push-clause-taken
 returns-in-Ok-push-clause-taken c =
-    let says = rw c.in-Ok-Event.field-0-is at c.in-Ok-Event.ensures.found in
+    let says = rw c.in-Ok-Item.field-0-is at c.in-Ok-Item.ensures.found in
     rw c.in-Ok-push.ensures.ok
-    (takes_event _ _ c.args.line.now c.in-Ok-Event.event c.if-line-gt-MOST_OCTETS_OF_A_LINE.false (sym c.is_skipped.ensures ∙ c.if-is_skipped.false) says)
+    (takes_item _ _ c.args.line.now c.in-Ok-Item.item c.if-line-gt-MOST_OCTETS_OF_A_LINE.false (sym c.is_skipped.ensures ∙ c.if-is_skipped.false) says)

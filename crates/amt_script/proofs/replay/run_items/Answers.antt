@@ -1,0 +1,46 @@
+use Rattle.std.proofs.Common.{length, take, arith}
+use Rattle.std.proofs.lemmas.Result.{on_err_weaker}
+use Rattle.amt_script.specs.Texts.{closing_text, events_in}
+use Rattle.amt_script.specs.Writing.{WritesFront}
+use Rattle.amt_script.proofs.Runs.{run_more, run_cut, run_closed}
+use Rattle.amt_script.proofs.Writes.{written_start}
+use Rattle.amt_script.proofs.replay.run_items.Goals as goal
+
+pub returns-in-Err-clause-begun : goal.returns-in-Err-clause-begun
+returns-in-Err-clause-begun g c =
+    let items = c.as_slice-items.result.now in
+    let settings = c.args.script.now.settings in
+    let first = c.args.script.now.secret in
+    let i = c.loop-index.index in
+    let item = c.index-items-index.result in
+    let begun = c.in-Err.ensures.begun settings first (events_in (take i items)) c.loop-index.invariant.run.at in
+    rw (← c.as_slice-items.ensures) (run_cut c.loop-index.relay settings first items i item (closing_text (length items)) _ _ _ c.loop-index-test.true c.index-items-index.is c.loop-index.invariant.run begun)
+
+pub loop-index-init : goal.loop-index-init
+loop-index-init g c = record { run = record { at = c.requires.start; text = written_start _ _ }; later = omega arith }
+
+pub loop-index-preserved : goal.loop-index-preserved
+loop-index-preserved g c =
+    let items = c.as_slice-items.result.now in
+    let settings = c.args.script.now.settings in
+    let first = c.args.script.now.secret in
+    let i = c.loop-index.index in
+    let item = c.index-items-index.result in
+    let at = c.loop-index.invariant.run.at in
+    record {
+      run = run_more c.loop-index.relay c.write_item.new.relay settings first items i item (closing_text (length items)) _ _ _ c.loop-index-test.true c.index-items-index.is
+          c.loop-index.invariant.run (c.in-Ok.ensures.done settings first (events_in (take i items)) at) (c.in-Ok.ensures.next settings first (events_in (take i items)) at);
+      later = omega (arith, c.loop-index.invariant.later, c.in-Ok.ensures.later);
+    }
+
+pub returns-clause-begun : goal.returns-clause-begun
+returns-clause-begun g c =
+    let items = c.as_slice-items.result.now in
+    let settings = c.args.script.now.settings in
+    let first = c.args.script.now.secret in
+    let begun = rw c.in-Ok-print_closing.ensures at c.write_text.ensures.begun in
+    rw (← c.as_slice-items.ensures)
+    (on_err_weaker c.write_text.result
+    (λ (front : WritesFront (g.O.Sink.written c.loop-index.out) (g.O.Sink.written c.write_text.new.out) (closing_text (length items))).
+    run_closed c.loop-index.relay settings first items c.loop-index.index (closing_text (length items)) _ _ _ c.loop-index-test.false c.loop-index.invariant.run front)
+    begun)

@@ -1,0 +1,8 @@
+use Rattle.amt_script.proofs.Writes.{nothing_written}
+use Rattle.amt_script.proofs.replay.write_rows.Goals as goal
+
+pub returns-in_default-clause-begun : goal.returns-in_default-clause-begun
+returns-in_default-clause-begun g c = λ settings first events at. nothing_written _ _
+
+pub returns-in_default-print_rows-clause-begun : goal.returns-in_default-print_rows-clause-begun
+returns-in_default-print_rows-clause-begun g c = λ settings first events at. nothing_written _ _
