@@ -1,3 +1,6 @@
+mod day;
+mod updates;
+
 use super::*;
 use amt_ports::{MemSink, MemSource};
 use amt_values::Bytes;

@@ -1,0 +1,59 @@
+use super::{NO_CALL, replay};
+use std::test::Fail;
+
+// Each row: what it shows, the lines behind the relay's settings, and the text. The response MACs are of
+// the peers and the nonce 0a0b0c0d under 32 zero octets, and were computed with another implementation,
+// Python's hmac module.
+const ROWS: [(&str, &str, &str); 8] = [
+    (
+        "a Request leaves nothing",
+        "show\ndg 198.51.100.7:5000 030000000a0b0c0d\nshow\n",
+        "= 1 rows 0\n= 2 queried v4\n> 198.51.100.7:5000 04014db758a175550a0b0c0d46c000240000000001028211c0000201e0000001940400001164ec1e00000000027d00001388000000000000000000000000c6336407\n= 3 rows 0\n. 3\n",
+    ),
+    (
+        "an Update needs no Request before it, and its MAC is for one port",
+        "dg 198.51.100.7:5000 05004db758a175550a0b0c0d46c0002800000000010239f80a000002e0000016940400002200ebfb0000000102000000ef010101\nshow\ndg 198.51.100.7:5001 05004db758a175550a0b0c0d46c0002800000000010239f80a000002e0000016940400002200ebfb0000000102000000ef010101\nshow\n",
+        "= 1 updated\n= 2 rows 1\n* 198.51.100.7:5000 239.1.1.1 exclude -\n= 3 badmac\n= 4 rows 1\n* 198.51.100.7:5000 239.1.1.1 exclude -\n. 4\n",
+    ),
+    (
+        "the MAC of the secret before is good",
+        "secret 0101010101010101010101010101010101010101010101010101010101010101\ndg 198.51.100.7:5000 05004db758a175550a0b0c0d46c0002800000000010239f80a000002e0000016940400002200ebfb0000000102000000ef010101\nshow\n",
+        "= 1 rotated\n= 2 updated\n= 3 rows 1\n* 198.51.100.7:5000 239.1.1.1 exclude -\n. 3\n",
+    ),
+    (
+        "the MAC of an older secret is bad",
+        "secret 0101010101010101010101010101010101010101010101010101010101010101\nsecret 0202020202020202020202020202020202020202020202020202020202020202\ndg 198.51.100.7:5000 05004db758a175550a0b0c0d46c0002800000000010239f80a000002e0000016940400002200ebfb0000000102000000ef010101\nshow\n",
+        "= 1 rotated\n= 2 rotated\n= 3 badmac\n= 4 rows 0\n. 4\n",
+    ),
+    (
+        "a record on the local network is skipped",
+        "dg 198.51.100.7:5000 05004db758a175550a0b0c0d46c0003000000000010239f00a000002e000001694040000220010ff0000000202000000e801010101000000e00000fb\nshow\n",
+        "= 1 updated\n= 2 rows 1\n* 198.51.100.7:5000 232.1.1.1 exclude -\n. 2\n",
+    ),
+    (
+        "records of one report act in order",
+        "dg 198.51.100.7:5000 05004db758a175550a0b0c0d46c0004400000000010239dc0a000002e000001694040000220082500000000302000001ef010101c633640105000001ef010101c633640106000001ef010101c6336402\nshow\n",
+        "= 1 updated\n= 2 rows 1\n* 198.51.100.7:5000 239.1.1.1 exclude 198.51.100.2\n. 2\n",
+    ),
+    (
+        "a limit of tunnel endpoints is met, and freed at an expiry",
+        "set endpoints 2\ndg 198.51.100.7:5000 05004db758a175550a0b0c0d46c0002800000000010239f80a000002e0000016940400002200ebfb0000000102000000ef010101\nat 1000\ndg 198.51.100.8:5000 05008b5e959d6a840a0b0c0d46c0002800000000010239f80a000002e0000016940400002200ebfb0000000102000000ef010101\nshow\ndg 198.51.100.9:5000 0500ba053fbe512b0a0b0c0d46c0002800000000010239f80a000002e0000016940400002200ebfb0000000102000000ef010101\nshow\ndg 198.51.100.9:5000 030000000a0b0c0d\nat 259999\ndg 198.51.100.9:5000 0500ba053fbe512b0a0b0c0d46c0002800000000010239f80a000002e0000016940400002200ebfb0000000102000000ef010101\nshow\nat 260000\ndg 198.51.100.9:5000 0500ba053fbe512b0a0b0c0d46c0002800000000010239f80a000002e0000016940400002200ebfb0000000102000000ef010101\nshow\n",
+        "= 1 updated\n= 2 moved 1000\n= 3 updated\n= 4 rows 2\n* 198.51.100.7:5000 239.1.1.1 exclude -\n* 198.51.100.8:5000 239.1.1.1 exclude -\n= 5 limit endpoints 3\n= 6 rows 2\n* 198.51.100.7:5000 239.1.1.1 exclude -\n* 198.51.100.8:5000 239.1.1.1 exclude -\n= 7 queried v4 limited\n> 198.51.100.9:5000 0403ba053fbe512b0a0b0c0d46c000240000000001028211c0000201e0000001940400001164ec1e00000000027d00001388000000000000000000000000c6336409\n= 8 moved 259999\n= 9 limit endpoints 3\n= 10 rows 2\n* 198.51.100.7:5000 239.1.1.1 exclude -\n* 198.51.100.8:5000 239.1.1.1 exclude -\n= 11 moved 260000\n= 12 updated\n= 13 rows 2\n* 198.51.100.8:5000 239.1.1.1 exclude -\n* 198.51.100.9:5000 239.1.1.1 exclude -\n. 13\n",
+    ),
+    (
+        "what stands after the whole report is judged",
+        "set groups 1\ndg 198.51.100.7:5000 05004db758a175550a0b0c0d46c0002800000000010239f80a000002e0000016940400002200ebfb0000000102000000ef010101\nshow\ndg 198.51.100.7:5000 05004db758a175550a0b0c0d46c0003000000000010239f00a000002e0000016940400002200f6f60000000203000000ef01010104000000ef010102\nshow\ndg 198.51.100.7:5000 05004db758a175550a0b0c0d46c0002800000000010239f80a000002e0000016940400002200e9f90000000104000000ef010103\nshow\n",
+        "= 1 updated\n= 2 rows 1\n* 198.51.100.7:5000 239.1.1.1 exclude -\n= 3 updated\n= 4 rows 1\n* 198.51.100.7:5000 239.1.1.2 exclude -\n= 5 limit groups 2\n= 6 rows 1\n* 198.51.100.7:5000 239.1.1.2 exclude -\n. 6\n",
+    ),
+];
+
+#[test]
+fn updates_change_what_is_shown(rt: HostRuntime) -> Result<(), Fail> {
+    for (what, lines, text) in ROWS {
+        let script = format!(in rt.alloc(); "set relay 192.0.2.1\nset query4 192.0.2.1\n{lines}")?;
+        let ended = replay(rt.alloc(), script.as_str(), NO_CALL)?;
+        assert_eq!(rt; ended.status, 0, "{what}");
+        assert_eq!(rt; ended.out.as_slice(), text.as_bytes(), "{what}");
+    }
+    Ok(())
+}
