@@ -97,7 +97,7 @@ fn parse_v6(text: &[u8]) -> Option<u128>
     ensures found { IfSome result (λ number. IsIpText (V6 number) text.now) }
     ensures only { (number : ℕ) → IsIpText (V6 number) text.now → result ≡ Some number }
 {
-    // std reads a dotted tail too
+    // std would read an IPv4 address as the last two groups
     if has_dot(text) {
         return None;
     }
@@ -110,9 +110,9 @@ fn parse_v6(text: &[u8]) -> Option<u128>
 /// Reads an address.
 ///
 /// IPv4 is four decimal numbers up to 255 without leading zeros, joined by dots. IPv6 is eight
-/// groups of one to four hexadecimal digits of either case joined by colons, or fewer with one `::`
-/// in the place of one zero group or more (RFC 4291, section 2.2). It is read without a dotted
-/// tail, a zone and brackets.
+/// groups of one to four hexadecimal digits of either case, joined by colons, or fewer with one
+/// `::` in the place of at least one zero group (RFC 4291, section 2.2). A dotted tail, a zone and
+/// brackets are not read.
 pub fn parse_ip(text: &[u8]) -> Option<Ip>
     ensures found { IfSome result (λ ip. IsIpText ip text.now) }
     ensures only { (ip : IpValue) → IsIpText ip text.now → result ≡ Some ip }
@@ -136,7 +136,7 @@ fn parse_port(text: &[u8]) -> Option<u16>
     }
 }
 
-// Reads `ADDRESS:PORT`. Where the address would begin with a bracket, no IPv4 address does.
+// Reads `ADDRESS:PORT`, which no bracket begins.
 fn parse_plain_peer(text: &[u8]) -> Option<Peer>
     requires { (rest : List ℕ) → text.now ≢ codes "[" ++ rest }
     ensures found { IfSome result (λ peer. IsPeerText peer text.now) }
@@ -160,7 +160,8 @@ fn parse_plain_peer(text: &[u8]) -> Option<Peer>
 // Reads what follows the bracket that opens `[ADDRESS]:PORT`.
 fn parse_bracketed_peer(text: &[u8]) -> Option<Peer>
     ensures found { IfSome result (λ peer. IsPeerText peer (codes "[" ++ text.now)) }
-    ensures only { (peer : PeerValue) → IsPeerText peer (codes "[" ++ text.now) → result ≡ Some peer }
+    ensures only { (peer : PeerValue) → IsPeerText peer (codes "[" ++ text.now)
+        → result ≡ Some peer }
 {
     let Some((address, rest)) = cut_at(text, b']') else {
         return None;
