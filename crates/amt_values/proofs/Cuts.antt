@@ -1,6 +1,6 @@
 -- A text is cut at the first octet of a kind in one way.
-use Rattle.std.proofs.Common.{◌≡◌, ◌≢◌, ℕ, List, [], ◌∷◌, ◌++◌, All, refl, subst}
-use Rattle.std.proofs.lemmas.List.Elements.{recursion_from_All}
+use Rattle.std.proofs.Common.{◌≡◌, ◌≢◌, ℕ, List, [], ◌∷◌, ◌++◌, All, refl, subst, rules}
+use Rattle.std.proofs.lemmas.List.Elements.{All-from_recursion, recursion_from_All}
 use Rattle.std.specs.List.{AllByRecursion}
 
 -- no octet of the text is `at`
@@ -35,3 +35,22 @@ holds_it at (x ∷ xs) ys lacks = holds_it at xs ys lacks.1
 pub not_lacking : (at : ℕ) (text xs ys : List ℕ) → Lacks at text → text ≡ xs ++ at ∷ ys → ⊥
 not_lacking at text xs ys lacks same =
     holds_it at xs ys (recursion_from_All (λ octet. octet ≢ at) (xs ++ at ∷ ys) (subst (Lacks at) same lacks))
+
+parts_lack : (at : ℕ) (xs ys : List ℕ) → LacksByRecursion at (xs ++ ys) → LacksByRecursion at xs × LacksByRecursion at ys
+parts_lack at [] ys lacks = (search rules, lacks)
+parts_lack at (x ∷ xs) ys lacks = let rest = parts_lack at xs ys lacks.1 in ((lacks.0, rest.0), rest.1)
+
+-- both parts of a text lack what it lacks
+pub Lacks-parts : (at : ℕ) (xs ys : List ℕ) → Lacks at (xs ++ ys) → Lacks at xs × Lacks at ys
+Lacks-parts at xs ys lacks =
+    let parts = parts_lack at xs ys (recursion_from_All (λ octet. octet ≢ at) (xs ++ ys) lacks) in
+    (All-from_recursion (λ octet. octet ≢ at) xs parts.0, All-from_recursion (λ octet. octet ≢ at) ys parts.1)
+
+begins_with : (at : ℕ) (xs ys zs : List ℕ) (b : ℕ) → LacksByRecursion at xs → b ≢ at → xs ++ b ∷ ys ≡ at ∷ zs → ⊥
+begins_with at [] ys zs b lacks other same = other cc
+begins_with at (x ∷ xs) ys zs b lacks other same = lacks.0 cc
+
+-- a text doesn't begin with an octet that it lacks up to another one
+pub not_first : (at : ℕ) (xs ys zs : List ℕ) (b : ℕ) → Lacks at xs → b ≢ at → xs ++ b ∷ ys ≡ at ∷ zs → ⊥
+not_first at xs ys zs b lacks other same =
+    begins_with at xs ys zs b (recursion_from_All (λ octet. octet ≢ at) xs lacks) other same

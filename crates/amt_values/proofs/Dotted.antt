@@ -1,5 +1,5 @@
 -- IPv4 addresses in dotted decimal, by std's grammar of them.
-use Rattle.std.proofs.Common.{◌≡◌, ◌≢◌, ℕ, zero, suc, ◌^◌, ◌<◌, List, [], ◌∷◌, inl, inr, refl, sym, subst, ap, ◌∙◌, arith}
+use Rattle.std.proofs.Common.{◌≡◌, ◌≢◌, ℕ, zero, suc, ◌^◌, ◌<◌, List, [], ◌∷◌, refl, sym, subst, ap, ◌∙◌, arith}
 use Rattle.std.proofs.lemmas.List.Elements.{All-weaker}
 use Rattle.std.proofs.lemmas.Nat.{be_bytes_4, from_be_bytes-to_be_bytes_4}
 use Rattle.std.proofs.NetLemmas.Alphabet.{IsDigitOrDot, All-ipv4_text}
@@ -12,6 +12,7 @@ use Rattle.std.specs.Net.Text.{ipv4_text}
 use Rattle.std.specs.declared.net.ipv4_addr.Ipv4Addr.{Ipv4Addr}
 use Rattle.amt_values.specs.Text.{v4_text}
 use Rattle.amt_values.proofs.Cuts.{Lacks}
+use Rattle.amt_values.proofs.Joined.{dotted_not_lacking}
 use Rattle.amt_values.proofs.NetworkOrder.{AreOctets-bytes_high_first}
 use Rattle.amt_values.specs.Octets.{AreOctets}
 
@@ -62,11 +63,12 @@ v4_none text number none same =
     let family : List ℕ → Type 0 = λ (t : List ℕ). IsIpv4Text t (v4_address number) in
     none (v4_address number) (subst family (sym same) (v4_spelled number))
 
-no_colon : (octet : ℕ) → IsDigitOrDot octet → octet ≢ 58
-no_colon octet (inl digit) = λ same. omega arith
-no_colon octet (inr dot) = λ same. omega arith
-
-pub Lacks-v4_text : (number : ℕ) → Lacks 58 (v4_text number)
-Lacks-v4_text number =
-    All-weaker IsDigitOrDot (λ octet. octet ≢ 58) no_colon (v4_text number)
+-- the text has no octet but digits and dots
+pub Lacks-v4_text : (at number : ℕ) → (IsDigitOrDot at → ⊥) → Lacks at (v4_text number)
+Lacks-v4_text at number other =
+    All-weaker IsDigitOrDot (λ octet. octet ≢ at) (λ octet shown same. other (subst IsDigitOrDot same shown)) (v4_text number)
     (All-ipv4_text (to_be_bytes w32 number) (λ k. AreOctets-bytes_high_first 4 number k))
+
+-- and it has a dot
+pub v4_not_lacking : (number : ℕ) → Lacks 46 (v4_text number) → ⊥
+v4_not_lacking number lacks = dotted_not_lacking [] (v4_text number) (v4_text number) _ refl (v4_spelled number) lacks

@@ -1,7 +1,13 @@
 pub mod Cuts
 pub mod Dotted
+pub mod Joined
 pub mod NetworkOrder
 pub mod Orders
 pub mod Numerals
 pub mod PeerTexts
+pub mod Printed
+pub mod PrintedTexts
+pub mod Segments
+pub mod ShortGroups
 pub mod Unique
+pub mod V6Texts

@@ -1,6 +1,8 @@
 pub mod Address
+pub mod Canonical
 pub mod Endpoint
 pub mod Group
+pub mod Groups
 pub mod Numeral
 pub mod Octets
 pub mod Order

@@ -1,4 +1,4 @@
-ghost use Rattle.std.specs.Prelude.{◌≡◌, ◌≢◌, ◌∷◌, ◌++◌, All, IfSome, IfNone};
+ghost use Rattle.std.specs.Prelude.{◌≡◌, ◌≢◌, ◌∷◌, ◌++◌, ℕ, List, All, IfSome, IfNone};
 
 /// The parts before and after the first octet `at`; none where there is no such octet.
 pub fn cut_at(text: &[u8], at: u8) -> Option<(&[u8], &[u8])>
@@ -10,4 +10,13 @@ pub fn cut_at(text: &[u8], at: u8) -> Option<(&[u8], &[u8])>
     let (front, rest) = text.split_at(place);
     let (_, back) = rest.split_at(1);
     Some((front, back))
+}
+
+/// What follows the octet `at` in a text that begins with it.
+pub fn after_octet(text: &[u8], at: u8) -> Option<&[u8]>
+    ensures found { IfSome result (λ rest. text.now ≡ at ∷ rest.now) }
+    ensures none { IfNone result ((rest : List ℕ) → text.now ≢ at ∷ rest) }
+{
+    let (first, rest) = text.split_first()?;
+    if *first == at { Some(rest) } else { None }
 }

@@ -5,11 +5,14 @@ use std::test::Fail;
 const GATEWAY: Ip = Ip::V4(0xc633_6407);
 
 #[test]
-fn addresses_print_in_their_families_form(rt: HostRuntime) -> Result<(), Fail> {
+fn an_address_is_printed_and_read_back(rt: HostRuntime) -> Result<(), Fail> {
     let rows = [
         (GATEWAY, "198.51.100.7"),
         (Ip::V4(0), "0.0.0.0"),
         (Ip::V6(0), "::"),
+        (Ip::V6(1), "::1"),
+        (Ip::V6(1 << 112), "1::"),
+        (Ip::V6(u128::MAX), "ffff:ffff:ffff:ffff:ffff:ffff:ffff:ffff"),
         (
             Ip::V6(0x2001_0db8_0000_0000_0001_0000_0000_0001),
             "2001:db8::1:0:0:1",
@@ -19,54 +22,107 @@ fn addresses_print_in_their_families_form(rt: HostRuntime) -> Result<(), Fail> {
     for (ip, want) in rows {
         let text = print_ip(rt.alloc(), &ip)?;
         assert_eq!(rt; text.as_slice(), want.as_bytes(), "{want}");
+        assert_eq!(rt; parse_ip(want.as_bytes()), Some(ip), "{want}");
     }
     Ok(())
 }
 
+// what is read, and what is printed of it: the cases of RFC 5952, sections 4.1 to 4.3, and others
 #[test]
-fn peers_print_with_their_port(rt: HostRuntime) -> Result<(), Fail> {
+fn any_spelling_of_an_ipv6_address_is_printed_in_one(rt: HostRuntime) -> Result<(), Fail> {
     let rows = [
-        (GATEWAY, "198.51.100.7:5000"),
+        ("2001:0db8::0001", "2001:db8::1"),
         (
-            Ip::V6(0xfe80_0000_0000_0000_0000_0000_0000_0001),
-            "[fe80::1]:5000",
+            "2001:db8:aaaa:bbbb:cccc:dddd:eeee:0001",
+            "2001:db8:aaaa:bbbb:cccc:dddd:eeee:1",
         ),
+        ("2001:db8:0:0:0:0:2:1", "2001:db8::2:1"),
+        ("2001:db8::0:1", "2001:db8::1"),
+        ("2001:db8::1:1:1:1:1", "2001:db8:0:1:1:1:1:1"),
+        ("2001:0:0:1:0:0:0:1", "2001:0:0:1::1"),
+        ("2001:0DB8:0:0:1:0:0:1", "2001:db8::1:0:0:1"),
+        ("2001:db8:0:0:1::1", "2001:db8::1:0:0:1"),
+        ("2001:DB8::ABCD", "2001:db8::abcd"),
+        ("0:0:0:0:0:0:0:0", "::"),
+        ("0:0:1:2:3:4:0:0", "::1:2:3:4:0:0"),
+        ("0:0:1:2:3:0:0:0", "0:0:1:2:3::"),
+        ("::2:3:4:5:6:7:8", "0:2:3:4:5:6:7:8"),
+        ("1:2:3:4:5:6:7::", "1:2:3:4:5:6:7:0"),
     ];
-    for (ip, want) in rows {
-        let text = print_peer(rt.alloc(), &Peer { ip, port: 5000 })?;
-        assert_eq!(rt; text.as_slice(), want.as_bytes(), "{want}");
+    for (text, want) in rows {
+        match parse_ip(text.as_bytes()) {
+            Some(ip) => {
+                let printed = print_ip(rt.alloc(), &ip)?;
+                assert_eq!(rt; printed.as_slice(), want.as_bytes(), "{text}");
+            }
+            None => panic!(rt; "{text}"),
+        }
     }
     Ok(())
 }
 
 #[test]
-fn only_the_one_form_of_an_address_is_read(rt: HostRuntime) {
-    assert_eq!(rt; parse_ip(b"198.51.100.7"), Some(GATEWAY));
+fn what_is_no_address_is_not_read(rt: HostRuntime) {
     for text in [
         "",
         "198.51.100",
         "198.51.100.07",
         "198.51.100.256",
         "198.51.100.7 ",
-        "::1",
+        "1::2::3",
+        "1:2:3:4:5:6:7",
+        "1:2:3:4:5:6:7:8:9",
+        "1:2:3:4::5:6:7:8",
+        "12345::",
+        "g::",
+        ":1:2:3:4:5:6:7:8",
+        "1:2:3:4:5:6:7:",
+        ":::",
+        "::ffff:198.51.100.7",
+        "fe80::1%1",
+        "[::1]",
     ] {
         assert_eq!(rt; parse_ip(text.as_bytes()), None, "{text}");
     }
 }
 
 #[test]
-fn only_the_one_form_of_a_peer_is_read(rt: HostRuntime) {
-    let peer = Peer {
-        ip: GATEWAY,
-        port: 65535,
-    };
-    assert_eq!(rt; parse_peer(b"198.51.100.7:65535"), Some(peer));
+fn a_peer_is_printed_and_read_back(rt: HostRuntime) -> Result<(), Fail> {
+    let rows = [
+        (GATEWAY, 5000, "198.51.100.7:5000"),
+        (GATEWAY, 65535, "198.51.100.7:65535"),
+        (Ip::V6(0xfe80 << 112 | 1), 5000, "[fe80::1]:5000"),
+        (Ip::V6(0), 0, "[::]:0"),
+    ];
+    for (ip, port, want) in rows {
+        let peer = Peer { ip, port };
+        let text = print_peer(rt.alloc(), &peer)?;
+        assert_eq!(rt; text.as_slice(), want.as_bytes(), "{want}");
+        assert_eq!(rt; parse_peer(want.as_bytes()), Some(peer), "{want}");
+    }
+    Ok(())
+}
+
+#[test]
+fn what_is_no_peer_is_not_read(rt: HostRuntime) {
     for text in [
         "198.51.100.7",
         "198.51.100.7:",
         "198.51.100.7:65536",
         "198.51.100.7:05",
         ":5",
+        "[192.0.2.1]:1",
+        "2001:db8::1:80",
+        "2001:db8:0:0:0:0:0:1:80",
+        "[2001:db8::1]",
+        "[2001:db8::1]:",
+        "[2001:db8::1]80",
+        "[2001:db8::1]:080",
+        "[2001:db8::1]:65536",
+        "[2001:db8::1:80",
+        "2001:db8::1]:80",
+        "[fe80::1%1]:80",
+        "[::ffff:198.51.100.7]:80",
     ] {
         assert_eq!(rt; parse_peer(text.as_bytes()), None, "{text}");
     }

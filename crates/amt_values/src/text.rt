@@ -1,11 +1,12 @@
-ghost use Rattle.std.specs.Prelude.{◌≡◌, ◌<◌, ◌^◌, ℕ, IfOk, IfSome, Some, decimal, string_bytes};
+ghost use Rattle.std.specs.Prelude.{◌≡◌, ◌<◌, ◌^◌, ◌↔◌, ◌≢◌, ◌++◌, ℕ, List, All, IsFalse, IfOk, IfSome, Some, codes, decimal, string_bytes};
 ghost use Rattle.amt_values.specs.declared.address.Ip.{Ip as IpValue};
+ghost use Rattle.amt_values.specs.declared.address.Ip.TheVariants.{V4, V6};
 ghost use Rattle.amt_values.specs.declared.peer.Peer.{Peer as PeerValue};
-ghost use Rattle.amt_values.specs.Text.{v4_text, v6_text, ip_text, peer_text, IsIpText, IsPeerText};
+ghost use Rattle.amt_values.specs.Text.{v4_text, v6_text, ip_text, peer_text, IsPrintedIp, IsPrintedPeer, IsIpText, IsPeerText};
 
 use crate::address::Ip;
 use crate::bytes::Bytes;
-use crate::cut::cut_at;
+use crate::cut::{after_octet, cut_at};
 use crate::numeral::parse_numeral;
 use crate::peer::Peer;
 use std::alloc::{AllocError, Global};
@@ -20,7 +21,7 @@ fn v4_string(alloc: Global, number: u32) -> Result<String, AllocError>
 }
 
 // The groups alone: the text of std's `Ipv6Addr` has a dotted tail for mapped addresses.
-#[tactic(auto, unfolding(std::specs::Net::Addr::IsIpv6OfBits))]
+#[tactic(auto, unfolding(std::specs::Net::Addr::IsIpv6OfBits, crate::specs::Groups::groups_of))]
 fn v6_string(alloc: Global, number: u128) -> Result<String, AllocError>
     ensures { IfOk result (λ text. string_bytes text ≡ v6_text number) }
 {
@@ -28,43 +29,100 @@ fn v6_string(alloc: Global, number: u128) -> Result<String, AllocError>
     format!(in alloc; "{groups}")
 }
 
-/// The text of an address: dotted decimal for IPv4, RFC 5952's form for IPv6 with no dotted tail.
+fn ip_string(alloc: Global, ip: &Ip) -> Result<String, AllocError>
+    ensures text { IfOk result (λ text. string_bytes text ≡ ip_text ip.now) }
+    ensures back { IfOk result (λ text. IsIpText ip.now (string_bytes text)) }
+{
+    match *ip {
+        Ip::V4(number) => v4_string(alloc, number),
+        Ip::V6(number) => v6_string(alloc, number),
+    }
+}
+
+/// The text of an address: four decimal numbers for IPv4, groups of hexadecimal digits for IPv6.
+///
+/// An IPv6 address is printed as RFC 5952, section 4, recommends, and without a dotted tail also in
+/// ::ffff:0:0/96. `parse_ip` reads the text as the address again.
+#[tactic(auto, using(crate::proofs::PrintedTexts::printed_ip))]
 pub fn print_ip(alloc: Global, ip: &Ip) -> Result<Bytes, AllocError>
-    ensures { IfOk result (λ text. text ≡ ip_text ip.now) }
+    ensures text { IfOk result (λ text. text ≡ ip_text ip.now) }
+    ensures rule { (text : List ℕ) → IsPrintedIp ip.now text ↔ (text ≡ ip_text ip.now) }
+    ensures back { IfOk result (IsIpText ip.now) }
 {
-    let text = match *ip {
-        Ip::V4(number) => v4_string(alloc, number)?,
-        Ip::V6(number) => v6_string(alloc, number)?,
-    };
+    let text = ip_string(alloc, ip)?;
     Bytes::copied(alloc, text.as_bytes())
 }
 
-/// The text of a peer: `ADDRESS:PORT`, or `[ADDRESS]:PORT` for IPv6.
-pub fn print_peer(alloc: Global, peer: &Peer) -> Result<Bytes, AllocError>
-    ensures { IfOk result (λ text. text ≡ peer_text peer.now) }
+fn peer_string(alloc: Global, peer: &Peer) -> Result<String, AllocError>
+    ensures text { IfOk result (λ text. string_bytes text ≡ peer_text peer.now) }
+    ensures back { IfOk result (λ text. IsPeerText peer.now (string_bytes text)) }
 {
+    let address = ip_string(alloc, &peer.ip)?;
     let port = peer.port;
-    let text = match peer.ip {
-        Ip::V4(number) => {
-            let address = v4_string(alloc, number)?;
-            format!(in alloc; "{address}:{port}")?
-        }
-        Ip::V6(number) => {
-            let address = v6_string(alloc, number)?;
-            format!(in alloc; "[{address}]:{port}")?
-        }
-    };
+    match peer.ip {
+        Ip::V4(_) => format!(in alloc; "{address}:{port}"),
+        Ip::V6(_) => format!(in alloc; "[{address}]:{port}"),
+    }
+}
+
+/// The text of a peer: `ADDRESS:PORT`, or `[ADDRESS]:PORT` for IPv6 (RFC 5952, section 6).
+///
+/// The address is as `print_ip` writes it. `parse_peer` reads the text as the peer again.
+pub fn print_peer(alloc: Global, peer: &Peer) -> Result<Bytes, AllocError>
+    ensures text { IfOk result (λ text. text ≡ peer_text peer.now) }
+    ensures rule { (text : List ℕ) → IsPrintedPeer peer.now text ↔ (text ≡ peer_text peer.now) }
+    ensures back { IfOk result (IsPeerText peer.now) }
+{
+    let text = peer_string(alloc, peer)?;
     Bytes::copied(alloc, text.as_bytes())
 }
 
-/// Reads an IPv4 address: four decimal numbers up to 255 without leading zeros, joined by dots.
+fn parse_v4(text: &[u8]) -> Option<u32>
+    ensures found { IfSome result (λ number. IsIpText (V4 number) text.now) }
+    ensures only { (number : ℕ) → IsIpText (V4 number) text.now → result ≡ Some number }
+{
+    match Ipv4Addr::parse_ascii(text) {
+        Ok(address) => Some(address.to_bits()),
+        Err(_) => None,
+    }
+}
+
+fn has_dot(text: &[u8]) -> bool
+    ensures { IsFalse result ↔ All (λ octet. octet ≢ 46) text.now }
+{
+    text.contains(&b'.')
+}
+
+fn parse_v6(text: &[u8]) -> Option<u128>
+    ensures found { IfSome result (λ number. IsIpText (V6 number) text.now) }
+    ensures only { (number : ℕ) → IsIpText (V6 number) text.now → result ≡ Some number }
+{
+    // std would read an IPv4 address as the last two groups
+    if has_dot(text) {
+        return None;
+    }
+    match Ipv6Addr::parse_ascii(text) {
+        Ok(address) => Some(address.to_bits()),
+        Err(_) => None,
+    }
+}
+
+/// Reads an address.
+///
+/// IPv4 is four decimal numbers up to 255 without leading zeros, joined by dots. IPv6 is eight
+/// groups of one to four hexadecimal digits of either case, joined by colons, or fewer with one
+/// `::` in the place of at least one zero group (RFC 4291, section 2.2). A dotted tail, a zone and
+/// brackets are not read.
 pub fn parse_ip(text: &[u8]) -> Option<Ip>
     ensures found { IfSome result (λ ip. IsIpText ip text.now) }
     ensures only { (ip : IpValue) → IsIpText ip text.now → result ≡ Some ip }
 {
-    match Ipv4Addr::parse_ascii(text) {
-        Ok(address) => Some(Ip::V4(address.to_bits())),
-        Err(_) => None,
+    if let Some(number) = parse_v4(text) {
+        return Some(Ip::V4(number));
+    }
+    match parse_v6(text) {
+        Some(number) => Some(Ip::V6(number)),
+        None => None,
     }
 }
 
@@ -78,19 +136,62 @@ fn parse_port(text: &[u8]) -> Option<u16>
     }
 }
 
-/// Reads a peer as `ADDRESS:PORT`, with an IPv4 address and a decimal port without leading zeros.
-pub fn parse_peer(text: &[u8]) -> Option<Peer>
+// Reads `ADDRESS:PORT`, which no bracket begins.
+fn parse_plain_peer(text: &[u8]) -> Option<Peer>
+    requires { (rest : List ℕ) → text.now ≢ codes "[" ++ rest }
     ensures found { IfSome result (λ peer. IsPeerText peer text.now) }
     ensures only { (peer : PeerValue) → IsPeerText peer text.now → result ≡ Some peer }
 {
     let Some((address, port)) = cut_at(text, b':') else {
         return None;
     };
-    let Some(ip) = parse_ip(address) else {
+    let Some(number) = parse_v4(address) else {
         return None;
     };
     let Some(port) = parse_port(port) else {
         return None;
     };
-    Some(Peer { ip, port })
+    Some(Peer {
+        ip: Ip::V4(number),
+        port,
+    })
+}
+
+// Reads what follows the bracket that opens `[ADDRESS]:PORT`.
+fn parse_bracketed_peer(text: &[u8]) -> Option<Peer>
+    ensures found { IfSome result (λ peer. IsPeerText peer (codes "[" ++ text.now)) }
+    ensures only { (peer : PeerValue) → IsPeerText peer (codes "[" ++ text.now)
+        → result ≡ Some peer }
+{
+    let Some((address, rest)) = cut_at(text, b']') else {
+        return None;
+    };
+    let Some(port) = after_octet(rest, b':') else {
+        return None;
+    };
+    let Some(number) = parse_v6(address) else {
+        return None;
+    };
+    let Some(port) = parse_port(port) else {
+        return None;
+    };
+    Some(Peer {
+        ip: Ip::V6(number),
+        port,
+    })
+}
+
+/// Reads a peer as `ADDRESS:PORT` with an IPv4 address, or as `[ADDRESS]:PORT` with an IPv6 address
+/// (RFC 5952, section 6).
+///
+/// The addresses are those that `parse_ip` reads, and the port is a decimal number up to 65535
+/// without leading zeros.
+pub fn parse_peer(text: &[u8]) -> Option<Peer>
+    ensures found { IfSome result (λ peer. IsPeerText peer text.now) }
+    ensures only { (peer : PeerValue) → IsPeerText peer text.now → result ≡ Some peer }
+{
+    match after_octet(text, b'[') {
+        Some(rest) => parse_bracketed_peer(rest),
+        None => parse_plain_peer(text),
+    }
 }
