@@ -39,8 +39,8 @@ header_faults bytes =
     ∷ (not (protocol_number bytes == 2), Protocol (protocol_number bytes))
     ∷ []
 
--- the same lengths of IPv6 (RFC 8200, section 3), then those of a hop-by-hop header, which has at
--- least 8 octets (section 4.3)
+-- lengths of the IPv6 header and of the whole that aren't those of the bytes (RFC 8200, section 3), and
+-- that of a hop-by-hop header, which has at least 8 octets (section 4.3)
 abbrev pub length_faults6 : List ℕ → Conditions
 length_faults6 bytes =
     (nat_lt (length bytes) 40, ShortHeader 40 (length bytes))

@@ -7,13 +7,14 @@ use crate::fields::{address_at, short_at};
 use crate::inner::{Inner, InnerFault};
 use amt_values::{INPUT_LIMIT, Ip};
 
-// Where the headers end, if the lengths that they state are those of the bytes.
-fn headers_end(bytes: &[u8]) -> Result<usize, InnerFault>
+// Where the headers end and what the last of them says to follow, if the lengths that they state
+// are those of the bytes.
+fn headers(bytes: &[u8]) -> Result<(usize, u8), InnerFault>
     requires { length bytes.now ≤ INPUT_LIMIT }
-    ensures value { result
-        ≡ unless (first_holding (length_faults6 bytes.now)) (headers_end6 bytes.now) }
-    ensures least { IfOk result (λ end. 40 ≤ end) }
-    ensures within { IfOk result (λ end. end ≤ length bytes.now) }
+    ensures value { result ≡ unless (first_holding (length_faults6 bytes.now))
+        (headers_end6 bytes.now, last_next_header bytes.now) }
+    ensures least { IfOk result (λ headers. 40 ≤ headers.0) }
+    ensures within { IfOk result (λ headers. headers.0 ≤ length bytes.now) }
 {
     let have = bytes.len() as u32;
     if have < 40 {
@@ -23,8 +24,9 @@ fn headers_end(bytes: &[u8]) -> Result<usize, InnerFault>
     if whole != have {
         return Err(InnerFault::TotalLength(whole, have));
     }
-    if bytes[6] != 0 {
-        return Ok(40);
+    let kind = bytes[6];
+    if kind != 0 {
+        return Ok((40, kind));
     }
     // The length of a hop-by-hop header is read only where its least 8 octets are there.
     if have < 48 {
@@ -34,20 +36,7 @@ fn headers_end(bytes: &[u8]) -> Result<usize, InnerFault>
     if have < need {
         return Err(InnerFault::ShortHeader(need, have));
     }
-    Ok(need as usize)
-}
-
-// The kind of what stands behind headers that end there: the last of them tells it.
-fn last_next_header(bytes: &[u8], end: usize) -> u8
-    requires least { 40 ≤ end }
-    requires within { end ≤ length bytes.now }
-    requires end { end ≡ headers_end6 bytes.now }
-    ensures { result ≡ last_next_header bytes.now }
-{
-    match bytes[6] {
-        0 => bytes[40],
-        kind => kind,
-    }
+    Ok((need as usize, bytes[40]))
 }
 
 fn next_header_fault(kind: u8) -> Option<InnerFault>
@@ -66,8 +55,8 @@ pub fn read_inner6(bytes: &[u8]) -> Result<Inner, InnerFault>
     requires { length bytes.now ≤ INPUT_LIMIT }
     ensures { result ≡ unless (first_holding (faults6 bytes.now)) (inner6_at bytes.now) }
 {
-    let start = headers_end(bytes)?;
-    match next_header_fault(last_next_header(bytes, start)) {
+    let (start, kind) = headers(bytes)?;
+    match next_header_fault(kind) {
         Some(fault) => Err(fault),
         None => Ok(Inner {
             source: Ip::V6(address_at(bytes, 8)),
