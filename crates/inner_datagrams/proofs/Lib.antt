@@ -1,7 +1,12 @@
+pub mod Conditions
 pub mod Faults
+pub mod Lawful4
+pub mod Lawful6
 pub mod Parts
+pub mod Payloads
 pub mod Octets
 pub mod OnesComplement
 pub mod Pairs
 pub mod RightSum
 pub mod ReadBack
+pub mod Readings

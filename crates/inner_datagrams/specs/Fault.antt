@@ -1,9 +1,10 @@
 -- The first fault of bytes that are no inner datagram.
-use Rattle.std.specs.Prelude.{ℕ, ◌==◌, nat_lt, not, Bool, List, [], ◌∷◌, ◌++◌, length, Option, Some, None, if◌then◌else◌}
+use Rattle.std.specs.Prelude.{ℕ, ◌==◌, ◌&&◌, ◌||◌, nat_lt, not, Bool, List, [], ◌∷◌, ◌++◌, length, Option, Some, None, if◌then◌else◌}
 use Rattle.inner_datagrams.specs.Checksum.{internet_sum_of, is_right}
 use Rattle.inner_datagrams.specs.Header.{ip_version, header_words, header_octets, header_of, total_length, fragment_bits, protocol_number, header_sum, with_zero_sum}
+use Rattle.inner_datagrams.specs.Header6.{whole_length6, has_hop_by_hop, hop_by_hop_end, last_next_header}
 use Rattle.inner_datagrams.specs.declared.inner.InnerFault.{InnerFault}
-use Rattle.inner_datagrams.specs.declared.inner.InnerFault.TheVariants.{Version, ShortHeader, HeaderLength, TotalLength, HeaderSum, Fragment, Protocol}
+use Rattle.inner_datagrams.specs.declared.inner.InnerFault.TheVariants.{Version, ShortHeader, HeaderLength, TotalLength, HeaderSum, Fragment, Protocol, Extension}
 
 -- conditions in the order in which they are tried, each with the fault that it tells
 abbrev pub Conditions : Type 0
@@ -14,11 +15,11 @@ abbrev pub first_holding : Conditions → Option InnerFault
 first_holding [] = None
 first_holding (condition ∷ rest) = if condition.0 then Some condition.1 else first_holding rest
 
--- no version, or one that isn't read (RFC 791, section 3.1)
+-- no version, or one that isn't read (RFC 791, section 3.1; RFC 8200, section 3)
 abbrev pub version_faults : List ℕ → Conditions
 version_faults bytes =
     (length bytes == 0, ShortHeader 20 0)
-    ∷ (not (ip_version bytes == 4), Version (ip_version bytes))
+    ∷ (not (ip_version bytes == 4 || ip_version bytes == 6), Version (ip_version bytes))
     ∷ []
 
 -- lengths of the header and of the whole that aren't those of the bytes (RFC 791, section 3.1)
@@ -38,6 +39,36 @@ header_faults bytes =
     ∷ (not (protocol_number bytes == 2), Protocol (protocol_number bytes))
     ∷ []
 
--- the first fault in this order: version, lengths, header (RFC 791, section 3.1)
+-- lengths of the IPv6 header and of the whole that aren't those of the bytes (RFC 8200, section 3), and
+-- that of a hop-by-hop header, which has at least 8 octets (section 4.3)
+abbrev pub length_faults6 : List ℕ → Conditions
+length_faults6 bytes =
+    (nat_lt (length bytes) 40, ShortHeader 40 (length bytes))
+    ∷ (not (whole_length6 bytes == length bytes), TotalLength (whole_length6 bytes) (length bytes))
+    ∷ (has_hop_by_hop bytes && nat_lt (length bytes) 48, ShortHeader 48 (length bytes))
+    ∷ (has_hop_by_hop bytes && nat_lt (length bytes) (hop_by_hop_end bytes), ShortHeader (hop_by_hop_end bytes) (length bytes))
+    ∷ []
+
+-- the kind of another extension header that may stand before a message: hop-by-hop options, routing,
+-- authentication (RFC 4302, section 2), destination options (RFC 8200, section 4.1)
+abbrev pub is_extension : ℕ → Bool
+is_extension kind = kind == 0 || (kind == 43 || (kind == 51 || kind == 60))
+
+-- of what follows the headers: a fragment header (RFC 8200, section 4.5), another extension header,
+-- another protocol than ICMPv6 (RFC 4443, section 1)
+abbrev pub next_header_faults : ℕ → Conditions
+next_header_faults kind =
+    (kind == 44, Fragment 0) ∷ (is_extension kind, Extension kind) ∷ (not (kind == 58), Protocol kind) ∷ []
+
+-- the faults of an IPv4 datagram in their order: lengths, header
+abbrev pub faults4 : List ℕ → Conditions
+faults4 bytes = length_faults bytes ++ header_faults bytes
+
+-- the faults of an IPv6 datagram in their order: lengths, what follows the headers
+abbrev pub faults6 : List ℕ → Conditions
+faults6 bytes = length_faults6 bytes ++ next_header_faults (last_next_header bytes)
+
+-- the first fault in this order: of the version, and then of a datagram of that version
 unfoldable pub first_inner_fault : List ℕ → Option InnerFault
-first_inner_fault bytes = first_holding (version_faults bytes ++ (length_faults bytes ++ header_faults bytes))
+first_inner_fault bytes =
+    first_holding (version_faults bytes ++ (if ip_version bytes == 6 then faults6 bytes else faults4 bytes))

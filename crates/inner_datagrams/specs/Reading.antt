@@ -1,8 +1,9 @@
 -- What is read of bytes: an inner datagram, or their first fault.
-use Rattle.std.specs.Prelude.{◌≡◌, ℕ, ◌-◌, List, length, take, drop, Option, Some, None, Result, Ok, Err}
+use Rattle.std.specs.Prelude.{◌≡◌, ℕ, ◌-◌, ◌==◌, List, length, take, drop, Option, Some, None, Result, Ok, Err, if◌then◌else◌}
 use Rattle.amt_values.specs.declared.address.Ip.{Ip}
-use Rattle.amt_values.specs.declared.address.Ip.TheVariants.{V4}
-use Rattle.inner_datagrams.specs.Header.{header_octets, source_number, destination_number}
+use Rattle.amt_values.specs.declared.address.Ip.TheVariants.{V4, V6}
+use Rattle.inner_datagrams.specs.Header.{ip_version, header_octets, source_number, destination_number}
+use Rattle.inner_datagrams.specs.Header6.{headers_end6, source_number6, destination_number6}
 use Rattle.inner_datagrams.specs.declared.inner.Inner.{Inner}
 use Rattle.inner_datagrams.specs.declared.inner.InnerFault.{InnerFault}
 
@@ -25,6 +26,28 @@ inner4_at bytes =
       start = header_octets bytes;
       end = length bytes;
     }
+
+-- the parts of an IPv6 datagram by their places (RFC 8200, sections 3 and 4.3)
+abbrev pub inner6_at : List ℕ → Inner
+inner6_at bytes =
+    record {
+      source = V6 (source_number6 bytes);
+      destination = V6 (destination_number6 bytes);
+      start = headers_end6 bytes;
+      end = length bytes;
+    }
+
+-- the parts of a datagram, by its version
+abbrev pub inner_at : List ℕ → Inner
+inner_at bytes = if ip_version bytes == 6 then inner6_at bytes else inner4_at bytes
+
+-- the place behind a datagram's headers, by its version
+abbrev pub payload_start : List ℕ → ℕ
+payload_start bytes = if ip_version bytes == 6 then headers_end6 bytes else header_octets bytes
+
+-- what a datagram carries, by its version
+abbrev pub payload_in : List ℕ → List ℕ
+payload_in bytes = drop (payload_start bytes) bytes
 
 -- the value, where there is no fault
 abbrev pub unless : {A : Type 0} → Option InnerFault → A → Result A InnerFault

@@ -20,3 +20,12 @@ pub fn number_at(bytes: &[u8], place: usize) -> u32
     let (_, field) = bytes.split_at(place);
     BigEndian::read_u32(field)
 }
+
+// The number in the sixteen octets from a place on.
+pub fn address_at(bytes: &[u8], place: usize) -> u128
+    requires { place + 16 ≤ length bytes.now }
+    ensures { result ≡ big_number 16 (drop place bytes.now) }
+{
+    let (_, field) = bytes.split_at(place);
+    BigEndian::read_u128(field)
+}

@@ -5,33 +5,39 @@ use amt_values::Ip;
 pub struct Inner {
     pub source: Ip,
     pub destination: Ip,
-    /// The place of the payload's first octet, behind the header and its options.
+    /// The place of the payload's first octet, behind the headers and their options.
     pub start: usize,
     /// The place behind the payload's last octet.
     pub end: usize,
 }
 
-/// Why octets are no inner datagram: the first of these that holds (RFC 791, section 3.1).
+/// Why octets are no inner datagram: the first of these that holds (RFC 791, section 3.1; RFC 8200,
+/// sections 3 and 4).
 ///
-/// `ShortHeader` is tried three times: where there is no octet, before `Version`; where there are
-/// fewer than 20, behind it; and where there are fewer than the header's own length, behind
-/// `HeaderLength`. The others are tried in this order. Of two numbers the first is wanted and the
-/// second is there.
+/// Where there is no octet, `ShortHeader` comes before `Version`; otherwise the version, 4 or 6,
+/// decides what is tried then. IPv4: `ShortHeader` below 20 octets, `HeaderLength`, `ShortHeader`
+/// below the header's own length, `TotalLength`, `HeaderSum`, `Fragment`, `Protocol`. IPv6:
+/// `ShortHeader` below 40 octets, `TotalLength`, `ShortHeader` below 48 octets and then below the
+/// end of a hop-by-hop header, where there is one, and what follows the headers: `Fragment`,
+/// `Extension`, `Protocol`. Of two numbers the first is wanted and the second is there.
 #[derive(Clone, Copy, Debug, PartialEq, Eq)]
 pub enum InnerFault {
     /// The version, the high half of the first octet, is none that is read.
     Version(u8),
-    /// The octets end before the header does. Both are lengths in octets.
+    /// The octets end before the headers do. Both are lengths in octets.
     ShortHeader(u32, u32),
-    /// The header's length in words of 32 bits is below the least, 5.
+    /// The IPv4 header's length in words of 32 bits is below the least, 5.
     HeaderLength(u8),
-    /// The total length that the header states isn't the number of octets.
+    /// The length of the whole that the header states isn't the number of octets.
     TotalLength(u32, u32),
     /// The header's words don't add up: its checksum, taken with a zero in the field, and the field.
     HeaderSum(u16, u16),
     /// The datagram is a fragment: the flag "more fragments" and the offset, as the low 14 bits of
-    /// their word.
+    /// their word; 0 of IPv6, where a fragment header follows.
     Fragment(u16),
-    /// The protocol isn't IGMP.
+    /// The protocol isn't IGMP, or what follows the headers of IPv6 isn't ICMPv6.
     Protocol(u8),
+    /// Another extension header of IPv6 follows: a second one of hop-by-hop options, or one of the
+    /// kinds 43, 51 and 60.
+    Extension(u8),
 }

@@ -4,13 +4,10 @@ ghost use Rattle.inner_datagrams.specs.Inner.{IsInner};
 ghost use Rattle.inner_datagrams.specs.Written.{header4, written_inner4};
 
 use crate::checksum::internet_sum;
+use crate::writing::{PAYLOAD_LIMIT, written_after};
 use amt_values::Bytes;
 use byteorder::{BigEndian, ByteOrder};
 use std::alloc::{AllocError, Global};
-
-/// The most bytes of payload that a datagram is written with; with its header they fit the total
-/// length's 16 bits.
-pub const PAYLOAD_LIMIT: usize = 60_000;
 
 // Version 4 and 6 words, type of service c0, no fragment, time to live 1, protocol 2 and Router
 // Alert. The total length, the checksum and the addresses are filled in.
@@ -45,8 +42,5 @@ pub fn write_inner4(
 {
     let total_length = HEADER.len() + payload.len();
     let header = header4(total_length as u16, source, destination);
-    let mut bytes = Vec::with_capacity(alloc, total_length)?;
-    bytes.extend_from_slice(&header)?;
-    bytes.extend_from_slice(payload)?;
-    Ok(Bytes::from(bytes))
+    written_after(alloc, &header, payload)
 }

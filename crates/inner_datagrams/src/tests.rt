@@ -70,8 +70,8 @@ fn the_first_fault_is_told(rt: HostRuntime) {
         ("no octet", b"", InnerFault::ShortHeader(20, 0)),
         (
             "another version, and no header",
-            b"\x65",
-            InnerFault::Version(6),
+            b"\x55",
+            InnerFault::Version(5),
         ),
         (
             "a front of the least header",
@@ -155,5 +155,161 @@ fn a_written_datagram_is_read_back(rt: HostRuntime) -> Result<(), Fail> {
     };
     assert!(rt; datagram.as_slice().len() <= INPUT_LIMIT);
     assert_eq!(rt; read_inner(datagram.as_slice()), Ok(inner));
+    Ok(())
+}
+
+#[test]
+fn the_first_fault_of_ipv6_is_told(rt: HostRuntime) {
+    let rows: [(&str, &[u8], InnerFault); 12] = [
+        (
+            "a front of the IPv6 header",
+            b"\x60",
+            InnerFault::ShortHeader(40, 1),
+        ),
+        (
+            "a payload length of one octet more",
+            b"\x60\0\0\0\0\x01\x3a\x01\0\0\0\0\0\0\0\0\0\0\0\0\0\0\0\0\0\0\0\0\0\0\0\0\0\0\0\0\0\0\0\0",
+            InnerFault::TotalLength(41, 40),
+        ),
+        (
+            "no octet of the hop-by-hop header that is announced",
+            b"\x60\0\0\0\0\x00\x00\x01\0\0\0\0\0\0\0\0\0\0\0\0\0\0\0\0\0\0\0\0\0\0\0\0\0\0\0\0\0\0\0\0",
+            InnerFault::ShortHeader(48, 40),
+        ),
+        (
+            "eight octets of a hop-by-hop header of sixteen",
+            b"\x60\0\0\0\0\x08\x00\x01\0\0\0\0\0\0\0\0\0\0\0\0\0\0\0\0\0\0\0\0\0\0\0\0\0\0\0\0\0\0\0\0\x3a\x01\x05\x02\0\0\x01\0",
+            InnerFault::ShortHeader(56, 48),
+        ),
+        (
+            "a fragment",
+            b"\x60\0\0\0\0\x00\x2c\x01\0\0\0\0\0\0\0\0\0\0\0\0\0\0\0\0\0\0\0\0\0\0\0\0\0\0\0\0\0\0\0\0",
+            InnerFault::Fragment(0),
+        ),
+        (
+            "a fragment behind a hop-by-hop header",
+            b"\x60\0\0\0\0\x08\x00\x01\0\0\0\0\0\0\0\0\0\0\0\0\0\0\0\0\0\0\0\0\0\0\0\0\0\0\0\0\0\0\0\0\x2c\x00\x05\x02\0\0\x01\0",
+            InnerFault::Fragment(0),
+        ),
+        (
+            "a second hop-by-hop header",
+            b"\x60\0\0\0\0\x08\x00\x01\0\0\0\0\0\0\0\0\0\0\0\0\0\0\0\0\0\0\0\0\0\0\0\0\0\0\0\0\0\0\0\0\x00\x00\x05\x02\0\0\x01\0",
+            InnerFault::Extension(0),
+        ),
+        (
+            "a routing header",
+            b"\x60\0\0\0\0\x00\x2b\x01\0\0\0\0\0\0\0\0\0\0\0\0\0\0\0\0\0\0\0\0\0\0\0\0\0\0\0\0\0\0\0\0",
+            InnerFault::Extension(43),
+        ),
+        (
+            "an authentication header",
+            b"\x60\0\0\0\0\x00\x33\x01\0\0\0\0\0\0\0\0\0\0\0\0\0\0\0\0\0\0\0\0\0\0\0\0\0\0\0\0\0\0\0\0",
+            InnerFault::Extension(51),
+        ),
+        (
+            "destination options behind a hop-by-hop header",
+            b"\x60\0\0\0\0\x08\x00\x01\0\0\0\0\0\0\0\0\0\0\0\0\0\0\0\0\0\0\0\0\0\0\0\0\0\0\0\0\0\0\0\0\x3c\x00\x05\x02\0\0\x01\0",
+            InnerFault::Extension(60),
+        ),
+        (
+            "a datagram of UDP",
+            b"\x60\0\0\0\0\x00\x11\x01\0\0\0\0\0\0\0\0\0\0\0\0\0\0\0\0\0\0\0\0\0\0\0\0\0\0\0\0\0\0\0\0",
+            InnerFault::Protocol(17),
+        ),
+        (
+            "a datagram of UDP behind a hop-by-hop header",
+            b"\x60\0\0\0\0\x08\x00\x01\0\0\0\0\0\0\0\0\0\0\0\0\0\0\0\0\0\0\0\0\0\0\0\0\0\0\0\0\0\0\0\0\x11\x00\x05\x02\0\0\x01\0",
+            InnerFault::Protocol(17),
+        ),
+    ];
+    for (what, bytes, fault) in rows {
+        assert!(rt; bytes.len() <= INPUT_LIMIT);
+        assert_eq!(rt; read_inner(bytes), Err(fault), "{what}");
+    }
+}
+
+#[test]
+fn a_hop_by_hop_header_that_is_cut_short_needs_eight_octets(rt: HostRuntime) {
+    for cut in 42..48usize {
+        let mut datagram = [0u8; 48];
+        datagram[0] = 0x60;
+        datagram[5] = (cut - 40) as u8;
+        datagram[40] = 58;
+        // Its length, of 16 octets, isn't asked.
+        datagram[41] = 1;
+        let (front, _) = datagram.split_at(cut);
+        assert_eq!(rt;
+            read_inner(front),
+            Err(InnerFault::ShortHeader(48, cut as u32))
+        );
+    }
+}
+
+#[test]
+fn an_ipv6_datagram_is_read_behind_its_headers(rt: HostRuntime) {
+    let rows: [(&str, &[u8], usize); 3] = [
+        (
+            "no hop-by-hop header",
+            b"\x6c\x12\x34\x56\0\x04\x3a\xff\xfe\x80\0\0\0\0\0\0\0\0\0\0\0\0\0\x01\xff\x02\0\0\0\0\0\0\0\0\0\0\0\0\0\x16\x8f\0\0\0",
+            40,
+        ),
+        (
+            "a hop-by-hop header of 8 octets",
+            b"\x6c\x12\x34\x56\0\x0c\x00\xff\xfe\x80\0\0\0\0\0\0\0\0\0\0\0\0\0\x01\xff\x02\0\0\0\0\0\0\0\0\0\0\0\0\0\x16\x3a\x00\x05\x02\0\0\x01\0\x8f\0\0\0",
+            48,
+        ),
+        (
+            "a hop-by-hop header of 16 octets",
+            b"\x6c\x12\x34\x56\0\x14\x00\xff\xfe\x80\0\0\0\0\0\0\0\0\0\0\0\0\0\x01\xff\x02\0\0\0\0\0\0\0\0\0\0\0\0\0\x16\x3a\x01\x01\x0c\0\0\0\0\0\0\0\0\0\0\0\0\x8f\0\0\0",
+            56,
+        ),
+    ];
+    for (what, bytes, start) in rows {
+        let inner = Inner {
+            source: Ip::V6(0xfe80_0000_0000_0000_0000_0000_0000_0001),
+            destination: Ip::V6(0xff02_0000_0000_0000_0000_0000_0000_0016),
+            start,
+            end: bytes.len(),
+        };
+        assert!(rt; bytes.len() <= INPUT_LIMIT);
+        assert_eq!(rt; read_inner(bytes), Ok(inner), "{what}");
+    }
+}
+
+#[test]
+fn an_ipv6_datagram_is_written_with_its_headers(rt: HostRuntime) -> Result<(), Fail> {
+    let query = [
+        0x82, 0x00, 0x56, 0x96, 0x27, 0x10, 0x00, 0x00, 0, 0, 0, 0, 0, 0, 0, 0, 0, 0, 0, 0, 0, 0,
+        0, 0, 0x02, 0x7d, 0x00, 0x00,
+    ];
+    let source = 0xfe80_0000_0000_0000_0000_0000_0000_0001;
+    let destination = 0xff02_0000_0000_0000_0000_0000_0000_0001;
+    let datagram = write_inner6(rt.alloc(), source, destination, &query)?;
+    let expected = [
+        0x60, 0x00, 0x00, 0x00, 0x00, 0x24, 0x00, 0x01, 0xfe, 0x80, 0, 0, 0, 0, 0, 0, 0, 0, 0, 0,
+        0, 0, 0, 0x01, 0xff, 0x02, 0, 0, 0, 0, 0, 0, 0, 0, 0, 0, 0, 0, 0, 0x01, 0x3a, 0x00, 0x05,
+        0x02, 0x00, 0x00, 0x01, 0x00, 0x82, 0x00, 0x56, 0x96, 0x27, 0x10, 0x00, 0x00, 0, 0, 0, 0,
+        0, 0, 0, 0, 0, 0, 0, 0, 0, 0, 0, 0, 0x02, 0x7d, 0x00, 0x00,
+    ];
+    let inner = Inner {
+        source: Ip::V6(source),
+        destination: Ip::V6(destination),
+        start: 48,
+        end: 76,
+    };
+    assert_eq!(rt; datagram.as_slice(), expected.as_slice());
+    assert!(rt; datagram.as_slice().len() <= INPUT_LIMIT);
+    assert_eq!(rt; read_inner(datagram.as_slice()), Ok(inner));
+    Ok(())
+}
+
+#[test]
+fn the_payload_length_counts_the_hop_by_hop_header(rt: HostRuntime) -> Result<(), Fail> {
+    let source = 0xfe80_0000_0000_0000_0000_0000_0000_0002;
+    let destination = 0xff02_0000_0000_0000_0000_0000_0000_0016;
+    let datagram = write_inner6(rt.alloc(), source, destination, &[0; 44])?;
+    let front = [0x60, 0x00, 0x00, 0x00, 0x00, 0x34, 0x00, 0x01];
+    assert_eq!(rt; datagram.as_slice().len(), 92);
+    assert!(rt; datagram.as_slice().starts_with(&front));
     Ok(())
 }

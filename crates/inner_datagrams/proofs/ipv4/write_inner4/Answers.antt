@@ -1,4 +1,5 @@
 use Rattle.std.proofs.Common.{rules, ℕ, List, sym, subst}
+use Rattle.std.proofs.lemmas.Result.{IfOk-weaker}
 use Rattle.inner_datagrams.specs.Inner.{IsInner4}
 use Rattle.inner_datagrams.specs.Written.{written_inner4}
 use Rattle.inner_datagrams.proofs.ReadBack.{IsInner4-written_inner4}
@@ -11,4 +12,5 @@ returns-clause-written c = search rules
 pub returns-clause-read_back : goal.returns-clause-read_back
 returns-clause-read_back c =
     let P : List ℕ → Type 0 = IsInner4 c.args.source c.args.destination c.args.payload.now in
-    subst P (sym (returns-clause-written c)) (IsInner4-written_inner4 c.args.source c.args.destination c.args.payload.now c.ranges.source.fits c.ranges.destination.fits c.requires)
+    let read = IsInner4-written_inner4 c.args.source c.args.destination c.args.payload.now c.ranges.source.fits c.ranges.destination.fits c.requires in
+    IfOk-weaker _ _ P (λ bytes same. subst P (sym same) read) (returns-clause-written c)

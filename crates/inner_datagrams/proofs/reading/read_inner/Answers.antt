@@ -1,4 +1,4 @@
-use Rattle.inner_datagrams.proofs.Faults.{answer_found, answer_only, answer_start, answer_end, answer_bounds, answer_refused, answer_read_back}
+use Rattle.inner_datagrams.proofs.Readings.{answer_found, answer_only, answer_start, answer_end, answer_bounds, answer_payload, answer_refused, answer_read_back}
 use Rattle.inner_datagrams.proofs.reading.read_inner.Goals as goal
 
 pub returns-clause-found : goal.returns-clause-found
@@ -15,6 +15,9 @@ returns-clause-end c = answer_end c.read.result c.args.bytes.now c.read.ensures
 
 pub returns-clause-bounds : goal.returns-clause-bounds
 returns-clause-bounds c = answer_bounds c.read.result c.args.bytes.now c.read.ensures
+
+pub returns-clause-payload : goal.returns-clause-payload
+returns-clause-payload c = answer_payload c.read.result c.args.bytes.now c.read.ensures
 
 pub returns-clause-refused : goal.returns-clause-refused
 returns-clause-refused c = answer_refused c.read.result c.args.bytes.now c.read.ensures
