@@ -8,10 +8,12 @@
 #![tactic(auto)]
 
 mod family;
+mod query;
 mod record;
 mod report;
 
 pub use family::Family;
+pub use query::read_query;
 pub use report::read_report;
 
 #[cfg(test)]

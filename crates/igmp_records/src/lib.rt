@@ -11,7 +11,7 @@ mod query;
 mod report;
 
 pub use code::{code_value4, value_code4};
-pub use query::write_query4;
+pub use query::{read_query4, write_query4};
 pub use report::read_report4;
 
 #[cfg(test)]
