@@ -3,3 +3,4 @@ pub mod Carried
 pub mod Report
 pub mod Reading
 pub mod Query
+pub mod Written
