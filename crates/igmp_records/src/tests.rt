@@ -1,6 +1,8 @@
 use super::*;
 use amt_values::Ip;
-use source_filter::{QueryFields, QueryRead, ReadFault, ReportFault};
+use source_filter::{
+    Ips, QueryFields, QueryRead, ReadFault, Record, RecordKind, Records, ReportFault,
+};
 use std::process::Abort;
 use std::test::Fail;
 
@@ -159,4 +161,18 @@ fn the_first_fault_of_a_query_is_told(rt: HostRuntime) {
             Err(fault) => assert_eq!(rt; fault, want, "{what}"),
         }
     }
+}
+
+#[test]
+fn a_report_is_written(rt: HostRuntime) -> Result<(), Fail> {
+    let mut records = Records::new(rt.alloc());
+    records.push(Record {
+        kind: RecordKind::IsEx,
+        group: Ip::V4(0xef01_0101),
+        sources: Ips::new(rt.alloc()),
+    })?;
+    let report = write_report4(rt.alloc(), &records)?;
+    let expected = b"\x22\x00\xeb\xfb\x00\x00\x00\x01\x02\x00\x00\x00\xef\x01\x01\x01";
+    assert_eq!(rt; report.as_slice(), expected.as_slice());
+    Ok(())
 }
