@@ -1,8 +1,12 @@
+ghost use Rattle.std.specs.Prelude.{◌≡◌, IfOk};
+ghost use Rattle.amt_values.specs.declared.address.Ip.TheVariants.{V4};
+
 use super::*;
 use amt_values::Ip;
 use source_filter::{
     Ips, QueryFields, QueryRead, ReadFault, Record, RecordKind, Records, ReportFault,
 };
+use std::alloc::{AllocError, Global};
 use std::process::Abort;
 use std::test::Fail;
 
@@ -163,16 +167,53 @@ fn the_first_fault_of_a_query_is_told(rt: HostRuntime) {
     }
 }
 
+fn group_record(
+    alloc: Global,
+    kind: RecordKind,
+    group: u32,
+    sources: &[Ip],
+) -> Result<Record, AllocError>
+    ensures { IfOk result (λ r. (r.group ≡ V4 group) × (r.sources ≡ sources.now)) }
+{
+    Ok(Record {
+        kind,
+        group: Ip::V4(group),
+        sources: Ips::copied(alloc, sources)?,
+    })
+}
+
 #[test]
 fn a_report_is_written(rt: HostRuntime) -> Result<(), Fail> {
-    let mut records = Records::new(rt.alloc());
-    records.push(Record {
-        kind: RecordKind::IsEx,
-        group: Ip::V4(0xef01_0101),
-        sources: Ips::new(rt.alloc()),
-    })?;
-    let report = write_report4(rt.alloc(), &records)?;
+    let alloc = rt.alloc();
+    let mut records = Records::new(alloc);
+    records.push(group_record(alloc, RecordKind::IsEx, 0xef01_0101, &[])?)?;
+    let report = write_report4(alloc, &records)?;
     let expected = b"\x22\x00\xeb\xfb\x00\x00\x00\x01\x02\x00\x00\x00\xef\x01\x01\x01";
     assert_eq!(rt; report.as_slice(), expected.as_slice());
+    Ok(())
+}
+
+#[test]
+fn records_are_written_in_their_order_and_read_back(rt: HostRuntime) -> Result<(), Fail> {
+    let alloc = rt.alloc();
+    let mut records = Records::new(alloc);
+    records.push(group_record(alloc, RecordKind::ToIn, 0xef01_0101, &[])?)?;
+    records.push(group_record(alloc, RecordKind::IsIn, 0xef01_0102, &[Ip::V4(0xc633_6409)])?)?;
+    records.push(group_record(alloc, RecordKind::IsEx, 0xef01_0103, &[])?)?;
+    let report = write_report4(alloc, &records)?;
+    let expected =
+        b"\x22\x00\xdd\xb2\x00\x00\x00\x03\x03\x00\x00\x00\xef\x01\x01\x01\x01\x00\x00\x01\xef\x01\x01\x02\xc6\x33\x64\x09\x02\x00\x00\x00\xef\x01\x01\x03";
+    assert_eq!(rt; report.as_slice(), expected.as_slice());
+    match read_report4(alloc, report.as_slice()) {
+        Ok(read) => {
+            assert_eq!(rt; read.len(), 3);
+            for (one, other) in read.as_slice().iter().zip(records.as_slice()) {
+                assert_eq!(rt; one.kind, other.kind);
+                assert_eq!(rt; one.group, other.group);
+                assert_eq!(rt; one.sources.as_slice(), other.sources.as_slice());
+            }
+        }
+        Err(fault) => assert!(rt; false, "{fault:?}"),
+    }
     Ok(())
 }
