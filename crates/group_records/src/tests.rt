@@ -1,8 +1,11 @@
 use super::*;
 use amt_values::Ip;
-use source_filter::{QueryFields, QueryRead, ReadFault, Record, RecordKind, ReportFault};
+use source_filter::{
+    Ips, QueryFields, QueryRead, ReadFault, Record, RecordKind, Records, ReportFault,
+};
 use std::alloc::Global;
 use std::process::Abort;
+use std::test::Fail;
 
 // 192.0.2.1 and 198.51.100.1.
 const FIRST: Ip = Ip::V4(0xc000_0201);
@@ -229,4 +232,24 @@ fn a_query_over_ipv6_is_summed_with_its_pseudo_header(rt: HostRuntime) {
         Ok(_) => assert!(rt; false, "a query of the other family was read"),
         Err(fault) => assert_eq!(rt; fault, ReportFault::Short(28, 12)),
     }
+}
+
+#[test]
+fn a_report_over_ipv6_is_written(rt: HostRuntime) -> Result<(), Fail> {
+    let alloc = rt.alloc();
+    // From fe80::2 to ff02::16: 44 octets of ICMPv6.
+    let pseudo_header =
+        b"\xfe\x80\x00\x00\x00\x00\x00\x00\x00\x00\x00\x00\x00\x00\x00\x02\xff\x02\x00\x00\x00\x00\x00\x00\x00\x00\x00\x00\x00\x00\x00\x16\x00\x00\x00\x2c\x00\x00\x00\x3a";
+    let source = Ip::V6(0x2001_0db8_0000_0000_0000_0000_0000_0009);
+    let mut records = Records::new(alloc);
+    records.push(Record {
+        kind: RecordKind::IsIn,
+        group: Ip::V6(0xff3e_0000_0000_0000_0000_0000_0000_0001),
+        sources: Ips::copied(alloc, &[source])?,
+    })?;
+    let report = write_report(alloc, Family::V6, pseudo_header, &records)?;
+    let expected =
+        b"\x8f\x00\x44\xf9\x00\x00\x00\x01\x01\x00\x00\x01\xff\x3e\x00\x00\x00\x00\x00\x00\x00\x00\x00\x00\x00\x00\x00\x01\x20\x01\x0d\xb8\x00\x00\x00\x00\x00\x00\x00\x00\x00\x00\x00\x09";
+    assert_eq!(rt; report.as_slice(), expected.as_slice());
+    Ok(())
 }
