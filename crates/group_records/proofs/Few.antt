@@ -27,7 +27,7 @@ known_by-few : (kind : Option RecordKind) (family : Family) (carried : Carried) 
 known_by-few None family carried = omega arith
 known_by-few (Some kind) family carried = let same = length-map carried.sources (address_in family) in omega arith
 
-width-some : (family : Family) (count : ℕ) → count ≤ count * width family
+pub width-some : (family : Family) (count : ℕ) → count ≤ count * width family
 width-some V4 count = omega arith
 width-some V6 count = omega arith
 

@@ -4,3 +4,4 @@ pub mod Walk
 pub mod Steps
 pub mod Answered
 pub mod Few
+pub mod Written

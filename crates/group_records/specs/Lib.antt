@@ -2,3 +2,5 @@ pub mod Family
 pub mod Carried
 pub mod Report
 pub mod Reading
+pub mod Query
+pub mod Written

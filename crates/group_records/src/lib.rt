@@ -8,11 +8,15 @@
 #![tactic(auto)]
 
 mod family;
+mod query;
 mod record;
 mod report;
+mod writing;
 
 pub use family::Family;
+pub use query::read_query;
 pub use report::read_report;
+pub use writing::{REPORT_LIMIT, write_report};
 
 #[cfg(test)]
 mod tests;

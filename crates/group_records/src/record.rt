@@ -22,8 +22,9 @@ fn kind_of(kind: u8) -> Option<RecordKind>
     }
 }
 
-// The number of sources that a record's head states.
-fn source_count(octets: &[u8]) -> u16
+// The number of sources that is stated behind two octets, as in a record's head and behind a
+// query's group.
+pub fn source_count(octets: &[u8]) -> u16
     requires { 4 ≤ length octets.now }
     ensures { result ≡ source_count octets.now }
 {

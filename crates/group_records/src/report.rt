@@ -26,7 +26,7 @@ fn kind_fault(family: Family, kind: u8) -> ReportFault
 
 // The checksum that is wanted is taken where the sum of all is wrong, and only there: 0000 and ffff
 // are one number to the sum, so a field may be right that isn't the one wanted.
-fn sum_fault(pseudo_header: &[u8], payload: &[u8]) -> Option<ReportFault>
+pub fn sum_fault(pseudo_header: &[u8], payload: &[u8]) -> Option<ReportFault>
     requires pseudo_header_even { length pseudo_header.now % 2 ≡ 0 }
     requires pseudo_header_most { length pseudo_header.now ≤ 65535 }
     requires payload_least { 8 ≤ length payload.now }

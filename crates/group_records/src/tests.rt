@@ -1,8 +1,11 @@
 use super::*;
 use amt_values::Ip;
-use source_filter::{ReadFault, Record, RecordKind, ReportFault};
+use source_filter::{
+    Ips, QueryFields, QueryRead, ReadFault, Record, RecordKind, Records, ReportFault,
+};
 use std::alloc::Global;
 use std::process::Abort;
+use std::test::Fail;
 
 // 192.0.2.1 and 198.51.100.1.
 const FIRST: Ip = Ip::V4(0xc000_0201);
@@ -202,4 +205,51 @@ fn a_report_over_ipv6_is_summed_with_its_pseudo_header(rt: HostRuntime) {
         Ok(_) => assert!(rt; false, "a record without its group was read"),
         Err(fault) => { assert_eq!(rt; fault, ReadFault::Report(ReportFault::RecordShort(0))) }
     }
+}
+
+#[test]
+fn a_query_over_ipv6_is_summed_with_its_pseudo_header(rt: HostRuntime) {
+    // Of 2001:db8::1 at ff3e::1, with the flag S and all reserved bits.
+    let payload =
+        b"\x82\x00\x30\x75\x27\x10\x00\x00\xff\x3e\x00\x00\x00\x00\x00\x00\x00\x00\x00\x00\x00\x00\x00\x01\xfb\x7d\x00\x01\x20\x01\x0d\xb8\x00\x00\x00\x00\x00\x00\x00\x00\x00\x00\x00\x01";
+    let expected = QueryRead {
+        fields: QueryFields {
+            max_code: 10_000,
+            robustness: 3,
+            interval_code: 125,
+        },
+        suppress: true,
+        group: Ip::V6(0xff3e_0000_0000_0000_0000_0000_0000_0001),
+        sources: 1,
+    };
+    match read_query(Family::V6, PSEUDO_HEADER, payload) {
+        Ok(query) => assert_eq!(rt; query, expected),
+        Err(fault) => assert!(rt; false, "{fault:?}"),
+    }
+    // An IGMP query has another type, and fewer octets than an MLD query.
+    let short = b"\x11\x64\xec\x1e\x00\x00\x00\x00\x02\x7d\x00\x00";
+    match read_query(Family::V6, PSEUDO_HEADER, short) {
+        Ok(_) => assert!(rt; false, "a query of the other family was read"),
+        Err(fault) => assert_eq!(rt; fault, ReportFault::Short(28, 12)),
+    }
+}
+
+#[test]
+fn a_report_over_ipv6_is_written(rt: HostRuntime) -> Result<(), Fail> {
+    let alloc = rt.alloc();
+    // From fe80::2 to ff02::16: 44 octets of ICMPv6.
+    let pseudo_header =
+        b"\xfe\x80\x00\x00\x00\x00\x00\x00\x00\x00\x00\x00\x00\x00\x00\x02\xff\x02\x00\x00\x00\x00\x00\x00\x00\x00\x00\x00\x00\x00\x00\x16\x00\x00\x00\x2c\x00\x00\x00\x3a";
+    let source = Ip::V6(0x2001_0db8_0000_0000_0000_0000_0000_0009);
+    let mut records = Records::new(alloc);
+    records.push(Record {
+        kind: RecordKind::IsIn,
+        group: Ip::V6(0xff3e_0000_0000_0000_0000_0000_0000_0001),
+        sources: Ips::copied(alloc, &[source])?,
+    })?;
+    let report = write_report(alloc, Family::V6, pseudo_header, &records)?;
+    let expected =
+        b"\x8f\x00\x44\xf9\x00\x00\x00\x01\x01\x00\x00\x01\xff\x3e\x00\x00\x00\x00\x00\x00\x00\x00\x00\x00\x00\x00\x00\x01\x20\x01\x0d\xb8\x00\x00\x00\x00\x00\x00\x00\x00\x00\x00\x00\x09";
+    assert_eq!(rt; report.as_slice(), expected.as_slice());
+    Ok(())
 }

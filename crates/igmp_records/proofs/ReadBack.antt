@@ -1,5 +1,6 @@
 -- A written query is read back.
-use Rattle.std.proofs.Common.{◌<◌, ◌≤◌, [], ◌∷◌, refl, arith, rules}
+use Rattle.std.proofs.Common.{◌/◌, ◌%◌, ◌<◌, ◌≤◌, [], ◌∷◌, refl, arith, rules}
+use Rattle.std.proofs.lemmas.Bool.{ne_eqb}
 use Rattle.amt_values.specs.Octets.{AreOctets}
 use Rattle.inner_datagrams.specs.Checksum.{IsRight}
 use Rattle.inner_datagrams.proofs.Octets.{AreOctets-from_each}
@@ -17,13 +18,14 @@ IsRight-written_query4 fields code_fits robustness_fits interval_fits =
 pub IsGeneralQuery-written_query4 : (fields : QueryFields) → AreOctets (written_query4 fields) → fields.robustness ≤ 7 → IsGeneralQuery fields (written_query4 fields)
 unfolding written_query4
 IsGeneralQuery-written_query4 fields octets robustness_fits = record {
-  whole = omega arith;
+  least = omega arith;
   kind = refl;
-  max_code = refl;
   right_sum = IsRight-written_query4 fields (octets 1) (octets 8) (octets 9);
-  every_group = refl;
-  suppresses_nothing = omega arith;
+  max_code = refl;
+  group = refl;
+  suppress = ne_eqb (fields.robustness / 8 % 2) 1 (λ set. omega arith);
   robustness = omega arith;
   interval_code = refl;
-  no_sources = refl;
+  sources = refl;
+  whole = omega arith;
 }

@@ -1,10 +1,11 @@
 -- Membership reports of IGMPv3, whose checksum has no pseudo-header (RFC 3376, section 4.2).
-use Rattle.std.specs.Prelude.{ℕ, List, [], Option, Result}
+use Rattle.std.specs.Prelude.{ℕ, List, [], All, Option, Result}
 use Rattle.source_filter.specs.declared.record.Record.{Record}
 use Rattle.source_filter.specs.declared.fault.ReportFault.{ReportFault}
 use Rattle.group_records.specs.declared.family.Family.TheVariants.{V4}
 use Rattle.group_records.specs.Report.{IsReport}
 use Rattle.group_records.specs.Reading.{AsksMemory, first_report_fault, report_of}
+use Rattle.group_records.specs.Written.{IsOfFamily, report_length, written_report}
 
 -- a report of these records
 abbrev pub IsReport4 : List Record → List ℕ → Type 0
@@ -21,3 +22,14 @@ report4_of payload = report_of V4 [] payload
 -- a record is kept before any fault, so memory is asked for it
 abbrev pub AsksMemory4 : List ℕ → Type 0
 AsksMemory4 payload = AsksMemory V4 [] payload
+
+-- all addresses of the records are IPv4 addresses
+abbrev pub AreRecords4 : List Record → Type 0
+AreRecords4 records = All (IsOfFamily V4) records
+
+-- the one spelling of their report, and its octets
+abbrev pub written_report4 : List Record → List ℕ
+written_report4 records = written_report V4 [] records
+
+abbrev pub report_length4 : List Record → ℕ
+report_length4 records = report_length V4 records

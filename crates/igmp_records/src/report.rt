@@ -4,12 +4,12 @@ ghost use Rattle.source_filter.specs.declared.record.Record.{Record as RecordVal
 ghost use Rattle.source_filter.specs.declared.fault.ReadFault.TheVariants.{Memory};
 ghost use Rattle.source_filter.specs.declared.fault.ReportFault.{ReportFault as ReportFaultValue};
 ghost use Rattle.group_records.specs.Reading.{Gives, Tells};
-ghost use Rattle.igmp_records.specs.Report.{AsksMemory4, IsReport4, first_report_fault4, report4_of};
+ghost use Rattle.igmp_records.specs.Report.{AreRecords4, AsksMemory4, IsReport4, first_report_fault4, report4_of, report_length4, written_report4};
 
-use amt_values::INPUT_LIMIT;
-use group_records::{Family, read_report};
+use amt_values::{Bytes, INPUT_LIMIT};
+use group_records::{Family, REPORT_LIMIT, read_report, write_report};
 use source_filter::{ReadFault, Records};
-use std::alloc::Global;
+use std::alloc::{AllocError, Global};
 
 /// Reads a whole payload of at most 16 MiB as one IGMPv3 membership report (RFC 3376, section 4.2).
 ///
@@ -35,4 +35,17 @@ pub fn read_report4(alloc: Global, payload: &[u8]) -> Result<Records, ReadFault>
     ensures few { IfOk result (λ records. item_count records ≤ length payload.now) }
 {
     read_report(alloc, Family::V4, &[], payload)
+}
+
+/// Writes one IGMPv3 membership report of at most 1,400 octets, with these records in their order
+/// and without auxiliary data (RFC 3376, section 4.2).
+pub fn write_report4(alloc: Global, records: &Records) -> Result<Bytes, AllocError>
+    requires family { AreRecords4 records.now }
+    requires most { report_length4 records.now ≤ REPORT_LIMIT }
+
+    ensures written { IfOk result (λ bytes. bytes ≡ written_report4 records.now) }
+    ensures length { IfOk result (λ bytes. length bytes ≡ report_length4 records.now) }
+    ensures read_back { IfOk result (IsReport4 records.now) }
+{
+    write_report(alloc, Family::V4, &[], records)
 }

@@ -18,7 +18,7 @@ pub use fault::{ReadFault, ReportFault};
 pub use filter::{Filter, copy_filter};
 pub use ips::Ips;
 pub use mode::Mode;
-pub use query::QueryFields;
+pub use query::{QueryFields, QueryRead};
 pub use record::{Record, RecordKind};
 pub use records::{Records, copy_record, copy_records};
 

@@ -1,0 +1,101 @@
+-- Which octets are a query, and the first fault of those that are none (RFC 3376, section 4.1;
+-- RFC 3810, section 5.1).
+use Rattle.std.specs.Prelude.{◌≡◌, ℕ, ◌+◌, ◌*◌, ◌/◌, ◌%◌, ◌≤◌, ◌==◌, nat_lt, ⊤, false, List, ◌++◌, length, drop, slice_index, Option, Some, None, if◌then◌else◌}
+use Rattle.byteorder.specs.Endian.{big_number}
+use Rattle.inner_datagrams.specs.Checksum.{IsRight}
+use Rattle.source_filter.specs.declared.fault.ReportFault.{ReportFault}
+use Rattle.source_filter.specs.declared.fault.ReportFault.TheVariants.{Short, Kind, OldReport, Sum, RecordShort, SourceShort}
+use Rattle.source_filter.specs.declared.query.QueryFields.{QueryFields}
+use Rattle.source_filter.specs.declared.query.QueryRead.{QueryRead}
+use Rattle.group_records.specs.declared.family.Family.{Family}
+use Rattle.group_records.specs.declared.family.Family.TheVariants.{V4, V6}
+use Rattle.group_records.specs.Family.{width, address_in}
+use Rattle.group_records.specs.Reading.{fault_or, sum_fault}
+
+-- the type of a membership query
+abbrev pub query_type : Family → ℕ
+query_type V4 = 0x11
+query_type V6 = 0x82
+
+-- the octets before the group
+abbrev pub group_place : Family → ℕ
+group_place V4 = 4
+group_place V6 = 8
+
+-- the time within which a listener answers, as its code
+abbrev pub max_code_of : Family → List ℕ → ℕ
+max_code_of V4 payload = slice_index payload 1
+max_code_of V6 payload = big_number 2 (drop 4 payload)
+
+abbrev pub group_number : Family → List ℕ → ℕ
+group_number family payload = big_number (width family) (drop (group_place family) payload)
+
+-- what follows the group: four reserved bits, the flag S and the robustness variable of three bits,
+-- the interval's code, the number of sources, and the sources
+abbrev pub behind_group : Family → List ℕ → List ℕ
+behind_group family payload = drop (group_place family + width family) payload
+
+abbrev pub query_flags : Family → List ℕ → ℕ
+query_flags family payload = slice_index (behind_group family payload) 0
+
+abbrev pub asked_sources : Family → List ℕ → ℕ
+asked_sources family payload = big_number 2 (drop 2 (behind_group family payload))
+
+-- the octets of a query without sources
+abbrev pub query_least : Family → ℕ
+query_least family = group_place family + width family + 4
+
+-- and with as many as the payload states
+abbrev pub query_length : Family → List ℕ → ℕ
+query_length family payload = query_least family + asked_sources family payload * width family
+
+-- a query of these values. Reserved octets and bits, the sources themselves, and what follows the
+-- last of them may be any.
+pub record IsQuery (family : Family) (pseudo_header : List ℕ) (query : QueryRead) (payload : List ℕ) : Type 0 where
+  pub least : query_least family ≤ length payload
+  pub kind : slice_index payload 0 ≡ query_type family
+  pub right_sum : IsRight (pseudo_header ++ payload)
+  pub max_code : max_code_of family payload ≡ query.fields.max_code
+  pub group : address_in family (group_number family payload) ≡ query.group
+  pub suppress : (query_flags family payload / 8 % 2 == 1) ≡ query.suppress
+  pub robustness : query_flags family payload % 8 ≡ query.fields.robustness
+  pub interval_code : slice_index (behind_group family payload) 1 ≡ query.fields.interval_code
+  pub sources : asked_sources family payload ≡ query.sources
+  pub whole : query_length family payload ≤ length payload
+
+-- that query
+abbrev pub query_at : Family → List ℕ → QueryRead
+query_at family payload = record {
+  fields = record {
+    max_code = max_code_of family payload;
+    robustness = query_flags family payload % 8;
+    interval_code = slice_index (behind_group family payload) 1;
+  };
+  suppress = query_flags family payload / 8 % 2 == 1;
+  group = address_in family (group_number family payload);
+  sources = asked_sources family payload;
+}
+
+-- a General Query: of every group and no source, and it suppresses nothing
+abbrev pub general_query : Family → QueryFields → QueryRead
+general_query family fields = record { fields = fields; suppress = false; group = address_in family 0; sources = 0 }
+
+-- the first condition that holds: too few octets, another type, a wrong sum, sources that aren't
+-- all there
+abbrev pub first_query_fault : Family → List ℕ → List ℕ → Option ReportFault
+first_query_fault family pseudo_header payload =
+    if nat_lt (length payload) (query_least family) then Some (Short (query_least family) (length payload))
+    else (if slice_index payload 0 == query_type family
+    then fault_or (sum_fault pseudo_header payload)
+    (if nat_lt (length payload) (query_length family payload) then Some (SourceShort 0) else None)
+    else Some (Kind (slice_index payload 0)))
+
+-- a fault that a query may have: no older version of it is told apart, and it has no records but
+-- one list of sources
+abbrev pub IsQueryFault : ReportFault → Type 0
+IsQueryFault (Short need have) = ⊤
+IsQueryFault (Kind kind) = ⊤
+IsQueryFault (OldReport kind) = ⊥
+IsQueryFault (Sum wanted given) = ⊤
+IsQueryFault (RecordShort index) = ⊥
+IsQueryFault (SourceShort index) = index ≡ 0

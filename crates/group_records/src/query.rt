@@ -1,0 +1,134 @@
+ghost use Rattle.std.specs.Prelude.{◌≡◌, ◌≤◌, ◌%◌, length, IfOk, IfErr, Ok, Err, MatchResult, None, Some};
+ghost use Rattle.source_filter.specs.declared.query.QueryRead.{QueryRead as QueryReadValue};
+ghost use Rattle.source_filter.specs.declared.fault.ReportFault.{ReportFault as ReportFaultValue};
+ghost use Rattle.group_records.specs.Query.{IsQuery, IsQueryFault, first_query_fault, group_place, max_code_of, query_at, query_least, query_length, query_type};
+
+use crate::family::{Family, address_at, width};
+use crate::record::source_count;
+use crate::report::sum_fault;
+use amt_values::INPUT_LIMIT;
+use byteorder::{BigEndian, ByteOrder};
+use source_filter::{QueryFields, QueryRead, ReportFault};
+
+fn query_type(family: Family) -> u8
+    ensures { result ≡ query_type family }
+{
+    match family {
+        Family::V4 => 0x11,
+        Family::V6 => 0x82,
+    }
+}
+
+fn group_place(family: Family) -> usize
+    ensures value { result ≡ group_place family }
+    ensures most { result ≤ 8 }
+{
+    match family {
+        Family::V4 => 4,
+        Family::V6 => 8,
+    }
+}
+
+fn query_least(family: Family) -> usize
+    ensures value { result ≡ query_least family }
+    ensures most { result ≤ 28 }
+{
+    group_place(family) + width(family) + 4
+}
+
+fn max_code_at(family: Family, payload: &[u8]) -> u16
+    requires { query_least family ≤ length payload.now }
+    ensures { result ≡ max_code_of family payload.now }
+{
+    match family {
+        Family::V4 => u16::from(payload[1]),
+        Family::V6 => {
+            let (_, field) = payload.split_at(4);
+            BigEndian::read_u16(field)
+        }
+    }
+}
+
+fn query_at(family: Family, payload: &[u8]) -> QueryRead
+    requires { query_least family ≤ length payload.now }
+    ensures { result ≡ query_at family payload.now }
+{
+    let (_, group) = payload.split_at(group_place(family));
+    let (_, behind_group) = payload.split_at(group_place(family) + width(family));
+    let flags = behind_group[0];
+    QueryRead {
+        fields: QueryFields {
+            max_code: max_code_at(family, payload),
+            robustness: flags & 7,
+            interval_code: behind_group[1],
+        },
+        suppress: flags >> 3 & 1 == 1,
+        group: address_at(family, group),
+        sources: source_count(behind_group),
+    }
+}
+
+// The octets that the query takes with its sources.
+fn query_length(family: Family, payload: &[u8]) -> usize
+    requires { query_least family ≤ length payload.now }
+    ensures { result ≡ query_length family payload.now }
+{
+    let (_, behind_group) = payload.split_at(group_place(family) + width(family));
+    query_least(family) + usize::from(source_count(behind_group)) * width(family)
+}
+
+fn query_fault(family: Family, pseudo_header: &[u8], payload: &[u8]) -> Option<ReportFault>
+    requires pseudo_header_even { length pseudo_header.now % 2 ≡ 0 }
+    requires pseudo_header_most { length pseudo_header.now ≤ 65535 }
+    requires payload_most { length payload.now ≤ INPUT_LIMIT }
+    ensures { result ≡ first_query_fault family pseudo_header.now payload.now }
+{
+    let least = query_least(family);
+    if payload.len() < least {
+        return Some(ReportFault::Short(least as u32, payload.len() as u32));
+    }
+    let kind = payload[0];
+    if kind != query_type(family) {
+        return Some(ReportFault::Kind(kind));
+    }
+    if let Some(fault) = sum_fault(pseudo_header, payload) {
+        return Some(fault);
+    }
+    if payload.len() < query_length(family, payload) {
+        return Some(ReportFault::SourceShort(0));
+    }
+    None
+}
+
+/// Reads a whole payload of at most 16 MiB as one membership query.
+///
+/// The pseudo-header is summed before the payload: it is empty in IGMP, and in MLD the 40 octets of
+/// RFC 8200, section 8.1. The faults are tried in the order of `ReportFault`. A query of an older
+/// version is shorter, and is refused as such. Reserved octets and bits, and what follows the
+/// sources, may be any.
+pub fn read_query(
+    family: Family,
+    pseudo_header: &[u8],
+    payload: &[u8],
+) -> Result<QueryRead, ReportFault>
+    requires pseudo_header_even { length pseudo_header.now % 2 ≡ 0 }
+    requires pseudo_header_most { length pseudo_header.now ≤ 65535 }
+    requires payload_most { length payload.now ≤ INPUT_LIMIT }
+
+    ensures found { IfOk result (λ query. IsQuery family pseudo_header.now query payload.now) }
+    ensures only { (query : QueryReadValue)
+        → IsQuery family pseudo_header.now query payload.now → result ≡ Ok query }
+
+    ensures refused { MatchResult result
+        (λ _. first_query_fault family pseudo_header.now payload.now ≡ None)
+        (λ fault. first_query_fault family pseudo_header.now payload.now ≡ Some fault) }
+    ensures fault { (fault : ReportFaultValue)
+        → first_query_fault family pseudo_header.now payload.now ≡ Some fault
+        → result ≡ Err fault }
+    ensures never { IfErr result IsQueryFault }
+{
+    match query_fault(family, pseudo_header, payload) {
+        Some(fault) => Err(fault),
+        None => Ok(query_at(family, payload)),
+    }
+}
