@@ -49,10 +49,10 @@ query_least family = group_place family + width family + 4
 abbrev pub query_length : Family → List ℕ → ℕ
 query_length family payload = query_least family + asked_sources family payload * width family
 
--- a query of these values. Reserved octets and bits, the sources themselves, and what follows the
--- last of them may be any.
+-- a query of these values, with all of its sources. These, reserved octets and bits, and what
+-- follows the last source may be any.
 pub record IsQuery (family : Family) (pseudo_header : List ℕ) (query : QueryRead) (payload : List ℕ) : Type 0 where
-  pub least : query_least family ≤ length payload
+  pub whole : query_length family payload ≤ length payload
   pub kind : slice_index payload 0 ≡ query_type family
   pub right_sum : IsRight (pseudo_header ++ payload)
   pub max_code : max_code_of family payload ≡ query.fields.max_code
@@ -61,7 +61,6 @@ pub record IsQuery (family : Family) (pseudo_header : List ℕ) (query : QueryRe
   pub robustness : query_flags family payload % 8 ≡ query.fields.robustness
   pub interval_code : slice_index (behind_group family payload) 1 ≡ query.fields.interval_code
   pub sources : asked_sources family payload ≡ query.sources
-  pub whole : query_length family payload ≤ length payload
 
 -- that query
 abbrev pub query_at : Family → List ℕ → QueryRead

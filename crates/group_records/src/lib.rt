@@ -1,10 +1,11 @@
-//! Membership reports and their group records, over the address width of both families.
+//! Membership reports with their group records, and queries, over the address width of both families.
 //!
-//! Contract: octets are a report of at most one list of records, which is what is read, and what is
-//! no report is refused by the first fault.
-//! It knows no datagram's layout, no tunnel or moment, and none of a family's own messages. The
-//! checksum it takes from inner_datagrams.
-//! Standard: RFC 3376, section 4.2; RFC 3810, section 5.2.
+//! Contract: octets are a report of at most one list of records, and a query of at most one set of
+//! values, which is what is read; others are refused by the first fault. A written report is the one
+//! spelling of its records and is read back to them.
+//! It knows no datagram's layout, no tunnel or moment, and no code of a time. The checksum it takes
+//! from inner_datagrams.
+//! Standard: RFC 3376, sections 4.1 and 4.2; RFC 3810, sections 5.1 and 5.2.
 #![tactic(auto)]
 
 mod family;

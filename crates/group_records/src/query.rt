@@ -103,8 +103,8 @@ fn query_fault(family: Family, pseudo_header: &[u8], payload: &[u8]) -> Option<R
 /// Reads a whole payload of at most 16 MiB as one membership query.
 ///
 /// The pseudo-header is summed before the payload: it is empty in IGMP, and in MLD the 40 octets of
-/// RFC 8200, section 8.1. The faults are tried in the order of `ReportFault`. A query of an older
-/// version is shorter, and is refused as such. Reserved octets and bits, and what follows the
+/// RFC 8200, section 8.1. The faults are tried in the order of `ReportFault`; a query of an older
+/// version of the protocol has too few octets. Reserved octets and bits, and what follows the
 /// sources, may be any.
 pub fn read_query(
     family: Family,

@@ -14,7 +14,8 @@ use inner_datagrams::internet_sum_around;
 use source_filter::{Record, RecordKind, Records};
 use std::alloc::{AllocError, Global};
 
-/// The most octets of a report that is written.
+/// The most octets of a report that is written. Further records go into further reports (RFC 3376,
+/// section 4.2.16).
 pub const REPORT_LIMIT: usize = 1_400;
 
 fn kind_number(kind: RecordKind) -> u8

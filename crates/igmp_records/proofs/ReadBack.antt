@@ -18,7 +18,7 @@ IsRight-written_query4 fields code_fits robustness_fits interval_fits =
 pub IsGeneralQuery-written_query4 : (fields : QueryFields) → AreOctets (written_query4 fields) → fields.robustness ≤ 7 → IsGeneralQuery fields (written_query4 fields)
 unfolding written_query4
 IsGeneralQuery-written_query4 fields octets robustness_fits = record {
-  least = omega arith;
+  whole = omega arith;
   kind = refl;
   right_sum = IsRight-written_query4 fields (octets 1) (octets 8) (octets 9);
   max_code = refl;
@@ -27,5 +27,4 @@ IsGeneralQuery-written_query4 fields octets robustness_fits = record {
   robustness = omega arith;
   interval_code = refl;
   sources = refl;
-  whole = omega arith;
 }

@@ -31,6 +31,13 @@ fn a_general_query_is_written(rt: HostRuntime) -> Result<(), Fail> {
     let query = write_query4(rt.alloc(), &fields)?;
     let expected = [0x11, 0x64, 0xec, 0x1e, 0, 0, 0, 0, 0x02, 0x7d, 0, 0];
     assert_eq!(rt; query.as_slice(), expected.as_slice());
+    let general = QueryRead {
+        fields,
+        suppress: false,
+        group: Ip::V4(0),
+        sources: 0,
+    };
+    assert_query_read(&rt, query.as_slice(), general);
     Ok(())
 }
 
