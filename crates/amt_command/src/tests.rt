@@ -107,13 +107,52 @@ fn every_other_datagram_is_refused_with_its_reason(rt: HostRuntime) -> Result<()
     Ok(())
 }
 
+#[test]
+fn relays_and_peers_have_addresses_of_both_families(rt: HostRuntime) -> Result<(), Fail> {
+    let rows = [
+        (
+            "2001:db8::1",
+            "198.51.100.7:5000",
+            "advertised\n> 198.51.100.7:5000 020000000102030420010db8000000000000000000000001",
+        ),
+        (
+            "192.0.2.1",
+            "[2001:DB8:0::7]:5000",
+            "advertised\n> [2001:db8::7]:5000 0200000001020304c0000201",
+        ),
+        ("192.0.2.1", "[::1]:5000", "badsource"),
+        ("192.0.2.1", "[::ffff:c633:6407]:5000", "badsource"),
+    ];
+    for (relay, peer, lines) in rows {
+        let script = format!(in rt.alloc(); "set relay {relay}\ndg {peer} 0100000001020304\n")?;
+        let text = format!(in rt.alloc(); "= 1 {lines}\n. 1\n")?;
+        let ended = replay(rt.alloc(), script.as_str(), NO_CALL)?;
+        assert_eq!(rt; ended.status, 0, "{peer}");
+        assert_eq!(rt; ended.out.as_slice(), text.as_bytes(), "{peer}");
+    }
+    Ok(())
+}
+
 // The Updates have the MAC of this peer and nonce under 32 zero octets, which was computed with
 // another implementation, Python's hmac module.
 #[test]
 fn an_update_is_judged_by_its_mac_and_its_report(rt: HostRuntime) -> Result<(), Fail> {
     let rows = [
         ("", "unlawful inner short 20 0"),
-        ("60", "unlawful inner version 6"),
+        ("50", "unlawful inner version 5"),
+        ("60", "unlawful inner short 40 1"),
+        (
+            "6000000000013a000000000000000000000000000000000000000000000000000000000000000000",
+            "unlawful inner length 41 40",
+        ),
+        (
+            "6000000000002b010000000000000000000000000000000000000000000000000000000000000000",
+            "unlawful inner extension 43",
+        ),
+        (
+            "6000000000240001fe800000000000000000000000000001ff0200000000000000000000000000013a00050200000100820056962710000000000000000000000000000000000000027d0000",
+            "unlawful inner version 6",
+        ),
         (
             "46c00028000000000102aaaa0a000002e0000016940400002200ebfb0000000102000000ef010101",
             "unlawful inner sum 39f8 aaaa",

@@ -1,9 +1,11 @@
 pub mod Bad
 pub mod Begun
 pub mod Failures
+pub mod Glyphs
 pub mod Judging
 pub mod Numbers
 pub mod Once
+pub mod Peers
 pub mod Printed
 pub mod Rows
 pub mod Running

@@ -19,34 +19,14 @@ use Rattle.amt_values.specs.declared.peer.Peer.{Peer}
 use Rattle.response_mac.specs.declared.secret.Secret.{Secret}
 use Rattle.relay_machine.specs.declared.event.Event.TheVariants.{Moment, Datagram, Rotate}
 use Rattle.amt_script.specs.Form.{IsHexText}
+use Rattle.amt_script.proofs.Glyphs.{IsGlyph, AreGlyphs, glyphs_of_digits}
+use Rattle.amt_script.proofs.Peers.{glyphs_of_peer, peer_length, peer_some}
 use Rattle.amt_script.proofs.Splitting.{lines-ended, fields-ended, fields-last}
 use Rattle.amt_script.specs.Lines.{fields, IsPlain}
 use Rattle.amt_script.specs.Printed.{IsLineThatSays}
 use Rattle.amt_script.specs.declared.script.RelayItem.TheVariants as items
 use Rattle.amt_script.specs.Script.{IsItemLine}
 use Rattle.amt_script.specs.Texts.{hex_text}
-
--- printable and no space
-abbrev IsGlyph : ℕ → Type 0
-IsGlyph octet = IsInRange 33 126 octet
-
-abbrev AreGlyphs : List ℕ → Type 0
-AreGlyphs text = All IsGlyph text
-
-glyphs_of_digits : (number : ℕ) → number < 2 ^ 64 → AreGlyphs (decimal number)
-glyphs_of_digits number small =
-    All-from_get_or IsGlyph (decimal number) 0 λ i within.
-    let digit = digit_at (decimal number) i (decimal_is_IsNumeral number small).0.1 within in
-    (omega (arith, digit.0), omega (arith, digit.1))
-
-glyph_of_dotted : (octet : ℕ) → IsDigitOrDot octet → IsGlyph octet
-glyph_of_dotted octet (inl digit) = (omega (arith, digit.0), omega (arith, digit.1))
-glyph_of_dotted octet (inr dot) = (omega arith, omega arith)
-
-glyphs_of_v4 : (number : ℕ) → AreGlyphs (v4_text number)
-glyphs_of_v4 number =
-    All-weaker IsDigitOrDot IsGlyph glyph_of_dotted (v4_text number)
-    (All-ipv4_text (to_be_bytes w32 number) (λ k. AreOctets-bytes_high_first 4 number k))
 
 glyphs_of_table : AreGlyphs lower_digits
 glyphs_of_table = All-from_recursion IsGlyph lower_digits (search rules)
@@ -155,22 +135,14 @@ hex_word (b ∷ rest) octets short =
       some = omega (arith, twice);
     }
 
-address_word : (ip : Ip) (port : ℕ) (text : List ℕ) → IsPeerText (record { ip = ip; port = port }) text
-    → IsWordOf (IsPeerText (record { ip = ip; port = port })) (address_and_port ip port)
-address_word (V4 number) port text named = record {
-  names = record { address = v4_text number; names = (named.names.0, refl); port = named.port; spelled = refl };
-  glyphs =
-      All-append IsGlyph (v4_text number) (58 ∷ decimal port) (glyphs_of_v4 number)
-      (All-cons IsGlyph 58 (decimal port) (omega arith, omega arith) (glyphs_of_digits port (omega (arith, named.port))));
-  some = omega (arith, length-append (v4_text number) (58 ∷ decimal port));
-}
-address_word (V6 number) port text named = absurd named.names
+peer_word : (from : Peer) → IsPeerText from (peer_text from) → IsWordOf (IsPeerText from) (peer_text from)
+peer_word from names = record { names = names; glyphs = glyphs_of_peer from.ip from.port names.port; some = peer_some from.ip from.port }
 
-datagram_line : (from : Peer) (bytes text : List ℕ) → AreOctets bytes → length bytes ≤ 65535 → IsPeerText from text
+datagram_line : (from : Peer) (bytes : List ℕ) → AreOctets bytes → length bytes ≤ 65535 → IsPeerText from (peer_text from)
     → IsItemLine (items.Event (Datagram from bytes)) (codes "dg " ++ (peer_text from ++ (codes " " ++ hex_text bytes)))
-datagram_line from bytes text octets short named =
+datagram_line from bytes octets short names =
     let word = glyphs_of_literal (codes "dg") (search rules) in
-    let peer = address_word from.ip from.port text named in
+    let peer = peer_word from names in
     let hex = hex_word bytes octets short in
     let rest = peer_text from ++ 32 ∷ hex_text bytes in (
       plain_two (codes "dg") rest word (plain_two (peer_text from) (hex_text bytes) peer.glyphs (plain_glyphs (hex_text bytes) hex.glyphs)),
@@ -187,32 +159,6 @@ datagram_line from bytes text octets short named =
 
 -- how long the texts are
 
-dotted_length : (a b c d : ℕ) → a < 256 → b < 256 → c < 256 → d < 256 → length (dotted_text a b c d) ≤ 15
-dotted_length a b c d small_a small_b small_c small_d =
-    let one = decimal a ++ 46 ∷ [] in
-    let two = one ++ decimal b ++ 46 ∷ [] in
-    let three = two ++ decimal c ++ 46 ∷ [] in
-    let after_one = length-append (decimal a) (46 ∷ []) in
-    let before_two = length-append one (decimal b) in
-    let after_two = length-append (one ++ decimal b) (46 ∷ []) in
-    let before_three = length-append two (decimal c) in
-    let after_three = length-append (two ++ decimal c) (46 ∷ []) in
-    let before_four = length-append three (decimal d) in
-    let first = length-decimal-le 3 a (omega arith) (omega (arith, small_a)) (omega (arith, small_a)) in
-    let second = length-decimal-le 3 b (omega arith) (omega (arith, small_b)) (omega (arith, small_b)) in
-    let third = length-decimal-le 3 c (omega arith) (omega (arith, small_c)) (omega (arith, small_c)) in
-    let fourth = length-decimal-le 3 d (omega arith) (omega (arith, small_d)) (omega (arith, small_d)) in
-    omega (arith, after_one, before_two, after_two, before_three, after_three, before_four, first, second, third, fourth)
-
-peer_length : (ip : Ip) (port : ℕ) (text : List ℕ) → IsPeerText (record { ip = ip; port = port }) text → length (address_and_port ip port) ≤ 21
-peer_length (V4 number) port text named =
-    let octet : (k : ℕ) → slice_index (to_be_bytes w32 number) k < 256 = AreOctets-bytes_high_first 4 number in
-    let address : length (v4_text number) ≤ 15 = dotted_length _ _ _ _ (octet 0) (octet 1) (octet 2) (octet 3) in
-    let digits = length-decimal-le 5 port (omega arith) (omega (arith, named.port)) (omega (arith, named.port)) in
-    let whole = length-append (v4_text number) (58 ∷ decimal port) in
-    omega (arith, address, digits, whole)
-peer_length (V6 number) port text named = absurd named.names
-
 hex_length : (bytes : List ℕ) → length bytes ≤ 65535 → length (hex_text bytes) ≤ 131070
 hex_length [] short = omega arith
 hex_length (b ∷ rest) short = let twice = length-encode_with lower_digits (b ∷ rest) in omega (arith, twice, short)
@@ -227,10 +173,10 @@ secret_said secret octets whole =
     let digits = hex_length secret.0 (omega (arith, whole)) in
     record { short = omega (arith, digits); says = secret_line secret octets whole }
 
-pub datagram_said : (from : Peer) (bytes text : List ℕ) → AreOctets bytes → length bytes ≤ 65535 → IsPeerText from text
+pub datagram_said : (from : Peer) (bytes : List ℕ) → AreOctets bytes → length bytes ≤ 65535 → IsPeerText from (peer_text from)
     → IsLineThatSays (Datagram from bytes) (codes "dg " ++ (peer_text from ++ (codes " " ++ hex_text bytes)))
-datagram_said from bytes text octets short named =
-    let peer = peer_length from.ip from.port text named in
+datagram_said from bytes octets short names =
+    let peer = peer_length from.ip from.port names.port in
     let digits = hex_length bytes short in
     let whole = length-append (peer_text from) (32 ∷ hex_text bytes) in
-    record { short = omega (arith, peer, digits, whole); says = datagram_line from bytes text octets short named }
+    record { short = omega (arith, peer, digits, whole); says = datagram_line from bytes octets short names }

@@ -8,12 +8,6 @@ use Rattle.amt_script.specs.Lines.{IsShort}
 use Rattle.amt_script.specs.Script.{IsItemLine}
 use Rattle.amt_script.specs.declared.script.RelayItem.TheVariants as items
 
--- some text names the peer of a datagram, which none does yet for IPv6
-abbrev pub CanBeSaid : Event → Type 0
-CanBeSaid (Moment moment) = Unit {0}
-CanBeSaid (Datagram from bytes) = (text : List ℕ) × IsPeerText from text
-CanBeSaid (Rotate secret) = Unit {0}
-
 -- the line says the event, and isn't too long
 pub record IsLineThatSays (event : Event) (line : List ℕ) : Type 0 where
   pub short : IsShort line

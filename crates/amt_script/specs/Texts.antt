@@ -47,7 +47,7 @@ refusal_text (Long need have) = codes "long " ++ (decimal need ++ (codes " " ++ 
 abbrev pub sum_text : ℕ → List ℕ
 sum_text sum = encode_lower (to_be_bytes w16 sum)
 
--- what is wrong with the datagram in an Update (RFC 791, section 3.1)
+-- what is wrong with the datagram in an Update (RFC 791, section 3.1; RFC 8200, sections 3 and 4)
 abbrev pub inner_text : InnerFault → List ℕ
 inner_text (inner.Version version) = codes "version " ++ decimal version
 inner_text (inner.ShortHeader need have) = codes "short " ++ (decimal need ++ (codes " " ++ decimal have))
@@ -56,6 +56,7 @@ inner_text (inner.TotalLength want have) = codes "length " ++ (decimal want ++ (
 inner_text (inner.HeaderSum want have) = codes "sum " ++ (sum_text want ++ (codes " " ++ sum_text have))
 inner_text (inner.Fragment bits) = codes "fragment " ++ decimal bits
 inner_text (inner.Protocol protocol) = codes "protocol " ++ decimal protocol
+inner_text (inner.Extension kind) = codes "extension " ++ decimal kind
 
 -- what is wrong with the membership report in it (RFC 3376, section 4.2)
 abbrev pub report_text : ReportFault → List ℕ

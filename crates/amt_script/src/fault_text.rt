@@ -30,6 +30,7 @@ fn print_inner(alloc: Global, fault: &InnerFault) -> Result<String, AllocError>
         }
         InnerFault::Fragment(bits) => format!(in alloc; "fragment {bits}"),
         InnerFault::Protocol(protocol) => format!(in alloc; "protocol {protocol}"),
+        InnerFault::Extension(kind) => format!(in alloc; "extension {kind}"),
     }
 }
 

@@ -16,9 +16,9 @@ pub enum Reason {
     /// A secret without its 64 hexadecimal digits, or octets that aren't pairs of at most 131,070
     /// digits, or a dash.
     Hex,
-    /// No text of an IPv4 address.
+    /// No text of an address, or one of the other family.
     Address,
-    /// No text of an IPv4 peer.
+    /// No text of a peer.
     Peer,
     /// A number outside its range; at the end of a script, one without a code.
     Range,

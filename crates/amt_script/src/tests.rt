@@ -41,6 +41,9 @@ fn the_first_bad_line_and_its_first_reason_are_told(rt: HostRuntime) -> Result<(
         ("", "set query4\n", 2, Reason::Count),
         ("", "set\n", 2, Reason::Count),
         ("", "at 1 2\n", 2, Reason::Count),
+        ("", "show all\n", 2, Reason::Count),
+        ("show\n", "set sources 1\n", 3, Reason::Late),
+        ("", "set endpoints 1\nset endpoints 1\n", 3, Reason::Twice),
         ("", "dg 192.0.2.1:5000\n", 2, Reason::Count),
         ("", "at 01\n", 2, Reason::Number),
         ("", "at 4611686018427387904\n", 2, Reason::Number),
@@ -52,6 +55,7 @@ fn the_first_bad_line_and_its_first_reason_are_told(rt: HostRuntime) -> Result<(
         ("", "set query4 2001:db8::1\n", 2, Reason::Address),
         ("", "dg 192.0.2.1 00\n", 2, Reason::Peer),
         ("", "dg 192.0.2.1:05000 -\n", 2, Reason::Peer),
+        ("", "dg 2001:db8::7:5000 -\n", 2, Reason::Peer),
         ("", "set robustness 8\n", 2, Reason::Range),
         ("", "set query_seconds 31745\n", 2, Reason::Range),
         (
@@ -60,7 +64,18 @@ fn the_first_bad_line_and_its_first_reason_are_told(rt: HostRuntime) -> Result<(
             2,
             Reason::Range,
         ),
+        ("", "set endpoints 0\n", 2, Reason::Range),
+        ("", "set endpoints 65537\n", 2, Reason::Range),
+        ("", "set groups 257\n", 2, Reason::Range),
+        ("", "set sources 65\n", 2, Reason::Range),
+        ("", "set groups x\n", 2, Reason::Number),
         ("", "set query_seconds 129\n", 3, Reason::Range),
+        (
+            "set endpoints 65536\nset groups 256\n",
+            "set sources 2\n",
+            5,
+            Reason::Range,
+        ),
         ("# one\n\n  # two\n \n", "dg nobody 012\n", 6, Reason::Hex),
         ("at 1\n", "set jump 1 2\n", 3, Reason::Word),
         ("at 1\n", "at 01 2\nat 2\nset jump\n", 3, Reason::Count),
@@ -144,9 +159,10 @@ fn settings_have_defaults_and_come_in_any_order(rt: HostRuntime) -> Result<(), F
             "set secret ",
             SECRET,
             "\r\n  set  response_tenths 1 \r\nset query_seconds 31744\n#\n",
-            "set robustness 7\nset query4 192.0.2.2\nset relay 192.0.2.1\nsecret ",
+            "set robustness 7\nset query4 192.0.2.2\nset relay 2001:DB8::1\nset endpoints 65536\n",
+            "set groups 256\nset sources 1\nsecret ",
             SECRET,
-            "\nat 4611686018427387903\ndg 198.51.100.7:5000 -",
+            "\nat 4611686018427387903\n show \ndg 198.51.100.7:5000 -",
         ],
     )?;
     assert!(rt; text.len() <= 16_777_216);
@@ -154,12 +170,17 @@ fn settings_have_defaults_and_come_in_any_order(rt: HostRuntime) -> Result<(), F
         assert!(rt; false, "a script is read");
         return Ok(());
     };
+    let relay = 0x2001_0db8_0000_0000_0000_0000_0000_0001;
+    assert_eq!(rt; script.settings.relay, Ip::V6(relay));
     assert_eq!(rt; script.settings.query4, 0xc000_0202);
     assert_eq!(rt; script.settings.robustness, 7);
     assert_eq!(rt; script.settings.query_seconds, 31_744);
     assert_eq!(rt; script.settings.response_tenths, 1);
+    assert_eq!(rt; script.settings.limits.endpoints, 65_536);
+    assert_eq!(rt; script.settings.limits.groups, 256);
+    assert_eq!(rt; script.settings.limits.sources, 1);
     assert_eq!(rt; script.secret.0[31], 0xff);
-    assert_eq!(rt; script.items.as_slice().len(), 3);
+    assert_eq!(rt; script.items.as_slice().len(), 4);
     Ok(())
 }
 
@@ -170,6 +191,7 @@ fn a_printed_event_is_read_back(rt: HostRuntime) -> Result<(), Fail> {
         "secret 00112233445566778899aabbccddeeff00112233445566778899aabbccddeeff\n",
         "dg 198.51.100.7:5000 0100000001020304\n",
         "dg 198.51.100.7:0 -\n",
+        "dg [2001:db8::1:0:0:1]:65535 00\n",
     ];
     for line in lines {
         let text = script_of(rt.alloc(), &["set relay 192.0.2.1\n", line])?;
@@ -179,9 +201,12 @@ fn a_printed_event_is_read_back(rt: HostRuntime) -> Result<(), Fail> {
             return Ok(());
         };
         assert_eq!(rt; script.items.len(), 1);
-        for event in script.items.as_slice() {
-            let printed = print_relay_event(rt.alloc(), event)?;
-            assert_eq!(rt; printed.as_slice(), line.as_bytes());
+        match script.items.as_slice().first() {
+            Some(RelayItem::Event(event)) => {
+                let printed = print_relay_event(rt.alloc(), event)?;
+                assert_eq!(rt; printed.as_slice(), line.as_bytes());
+            }
+            _ => assert!(rt; false, "{line}"),
         }
     }
     Ok(())

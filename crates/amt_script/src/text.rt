@@ -3,7 +3,7 @@ ghost use Rattle.amt_values.specs.Octets.{AreOctets};
 ghost use Rattle.relay_machine.specs.Conditions.{IsEvent};
 ghost use Rattle.relay_machine.specs.declared.event.Event.TheVariants as events;
 ghost use Rattle.relay_machine.specs.declared.outcome.Outcome.TheVariants.{Over, Queried};
-ghost use Rattle.amt_script.specs.Printed.{CanBeSaid, IsLineOf, IsLineThatSays};
+ghost use Rattle.amt_script.specs.Printed.{IsLineOf, IsLineThatSays};
 ghost use Rattle.amt_script.specs.Texts.{refusal_text, outcome_text, hex_text, event_line, event_text, send_text, step_text, closing_text};
 
 use crate::fault_text::{print_limit, print_unlawful};
@@ -94,8 +94,7 @@ fn print_hex(alloc: Global, octets: &[u8]) -> Result<String, AllocError>
 fn print_datagram_line(alloc: Global, from: &Peer, bytes: &Bytes) -> Result<Bytes, AllocError>
     requires { length bytes.now ≤ 65535 }
     ensures value { IfOk result (λ text. text ≡ event_line (events.Datagram from.now bytes.now)) }
-    ensures says { CanBeSaid (events.Datagram from.now bytes.now)
-        → IfOk result (IsLineThatSays (events.Datagram from.now bytes.now)) }
+    ensures says { IfOk result (IsLineThatSays (events.Datagram from.now bytes.now)) }
 {
     let peer = print_peer(alloc, from)?;
     let hex = print_hex(alloc, bytes.as_slice())?;
@@ -109,7 +108,7 @@ fn print_datagram_line(alloc: Global, from: &Peer, bytes: &Bytes) -> Result<Byte
 fn print_event_line(alloc: Global, event: &Event) -> Result<Bytes, AllocError>
     requires { IsEvent event.now }
     ensures value { IfOk result (λ text. text ≡ event_line event.now) }
-    ensures says { CanBeSaid event.now → IfOk result (IsLineThatSays event.now) }
+    ensures says { IfOk result (IsLineThatSays event.now) }
 {
     match event {
         Event::Moment(moment) => {
@@ -126,13 +125,12 @@ fn print_event_line(alloc: Global, event: &Event) -> Result<Bytes, AllocError>
     }
 }
 
-/// A script's line that says the event, with its line feed. It is read back as the event, but not yet
-/// where a datagram comes from an IPv6 peer.
+/// A script's line that says the event, with its line feed. It is read back as the event.
 #[tactic(auto, unfolding(crate::specs::Texts::event_text))]
 pub fn print_relay_event(alloc: Global, event: &Event) -> Result<Bytes, AllocError>
     requires { IsEvent event.now }
     ensures text { IfOk result (λ text. text ≡ event_text event.now) }
-    ensures back { CanBeSaid event.now → IfOk result (IsLineOf event.now) }
+    ensures back { IfOk result (IsLineOf event.now) }
 {
     let mut text = print_event_line(alloc, event)?;
     text.append(b"\n")?;

@@ -1,14 +1,15 @@
 -- What an Update carries, and what it comes to (RFC 7450, section 5.3.3.5).
-use Rattle.std.specs.Prelude.{ℕ, Bool, true, false, List, length, Option, Some, None, Result, Ok, Err}
+use Rattle.std.specs.Prelude.{ℕ, ◌==◌, Bool, true, false, List, Option, Some, None, Result, Ok, Err, if◌then◌else◌}
 use Rattle.std.specs.List.{filter}
 use Rattle.amt_values.specs.Group.{is_forwardable}
 use Rattle.amt_values.specs.Tunnel.{Tunnel}
 use Rattle.source_filter.specs.declared.record.Record.{Record}
 use Rattle.source_filter.specs.declared.fault.ReportFault.{ReportFault}
 use Rattle.inner_datagrams.specs.Fault.{first_inner_fault}
-use Rattle.inner_datagrams.specs.Header.{header_octets}
-use Rattle.inner_datagrams.specs.Reading.{payload_of}
+use Rattle.inner_datagrams.specs.Header.{ip_version}
+use Rattle.inner_datagrams.specs.Reading.{payload_in}
 use Rattle.inner_datagrams.specs.declared.inner.InnerFault.{InnerFault}
+use Rattle.inner_datagrams.specs.declared.inner.InnerFault.TheVariants.{Version}
 use Rattle.igmp_records.specs.Report.{report4_of}
 use Rattle.endpoint_membership.specs.declared.change.Change.{Change}
 use Rattle.endpoint_membership.specs.declared.change.Change.TheVariants.{Reported}
@@ -24,9 +25,15 @@ report_by (Some fault) reading = Err (Inner fault)
 report_by None (Err fault) = Err (Report fault)
 report_by None (Ok records) = Ok records
 
+-- of datagrams without fault those over IPv6 are refused by their version: MLD is not read yet
+abbrev pub fault_for_igmp : ℕ → Option InnerFault → Option InnerFault
+fault_for_igmp version (Some fault) = Some fault
+fault_for_igmp version None = if version == 6 then Some (Version 6) else None
+
 -- the records of the membership report that the inner octets of an Update carry
 unfoldable pub report_in : List ℕ → Result (List Record) Fault
-report_in inner = report_by (first_inner_fault inner) (report4_of (payload_of (header_octets inner) (length inner) inner))
+report_in inner =
+    report_by (fault_for_igmp (ip_version inner) (first_inner_fault inner)) (report4_of (payload_in inner))
 
 -- the records on groups that are forwarded; the others are skipped
 abbrev pub forwarded : List Record → List Record

@@ -7,8 +7,8 @@ use Rattle.amt_script.proofs.Printed.{datagram_said}
 use Rattle.amt_script.proofs.text.print_datagram_line.Goals as goal
 
 pub returns-clause-says : goal.returns-clause-says
-returns-clause-says c = λ said.
+returns-clause-says c =
     let bytes = c.args.bytes.now in
     let octets = rw c.as_slice.ensures at c.print_hex.ensures.octets in
     let same : c.append-3.new.self ≡ codes "dg " ++ (peer_text c.args.from.now ++ (codes " " ++ hex_text bytes)) = search (rules, append_assoc) in
-    subst (IsLineThatSays (Datagram c.args.from.now bytes)) (sym same) (datagram_said c.args.from.now bytes said.0 octets c.requires said.1)
+    subst (IsLineThatSays (Datagram c.args.from.now bytes)) (sym same) (datagram_said c.args.from.now bytes octets c.requires (rw c.in_ok-peer.ensures.text at c.in_ok-peer.ensures.back))

@@ -7,13 +7,13 @@ use Rattle.amt_script.proofs.Printed.{moment_said, secret_said}
 use Rattle.amt_script.proofs.text.print_event_line.Goals as goal
 
 pub returns-in_ok-line-in-Moment-clause-says : goal.returns-in_ok-line-in-Moment-clause-says
-returns-in_ok-line-in-Moment-clause-says c = λ said.
+returns-in_ok-line-in-Moment-clause-says c =
     let line = c.as_bytes.ensures.value ∙ c.in_ok-line-in-Moment.ensures.ok in
     let event_said : IsLineThatSays c.args.event.now c.as_bytes.result.now = rw (c.in-Moment.is, line, ← c.ms-ms.ensures.value) (moment_said c.ms-ms.result c.ms-ms.ensures.small) in
     IfOk-weaker c.copied.result _ _ (λ text same. subst (IsLineThatSays c.args.event.now) (sym same) event_said) c.copied.ensures
 
 pub returns-in_ok-line-in-Rotate-clause-says : goal.returns-in_ok-line-in-Rotate-clause-says
-returns-in_ok-line-in-Rotate-clause-says c = λ said.
+returns-in_ok-line-in-Rotate-clause-says c =
     let secret = c.in-Rotate.secret in
     let octets : AreOctets secret.0 = c.print_hex.ensures.octets in
     let whole : length secret.0 ≡ 32 = search rules in
