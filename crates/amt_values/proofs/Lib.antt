@@ -1,6 +1,7 @@
 pub mod Cuts
 pub mod Dotted
 pub mod Joined
+pub mod Lengths
 pub mod NetworkOrder
 pub mod Orders
 pub mod Numerals

@@ -8,7 +8,7 @@ use Rattle.amt_values.specs.Canonical.{IsShortGroup, IsShortGroupsText, AreZeros
 use Rattle.amt_values.proofs.Joined.{after_piece, join-cons}
 use Rattle.amt_values.proofs.ShortGroups.{short_only, IsShortGroup-hex}
 
-abbrev written_after : List ℕ → List ℕ
+abbrev pub written_after : List ℕ → List ℕ
 written_after groups = flat_map (λ (group : ℕ). codes ":" ++ hex group) groups
 
 after_only : (pieces : List (List ℕ)) (groups : List ℕ) → AllZip IsShortGroup pieces groups → after_piece pieces ≡ written_after groups
@@ -61,18 +61,18 @@ that_run groups start count h =
     let early = h.first (longest_zero_run groups).0 (subst family same longest) in
     record { same_start = omega (arith, early, theirs.1 (sym same)); same_count = sym same }
 
-abbrev shortened_text : List ℕ → ℕ → ℕ → List ℕ
+abbrev pub shortened_text : List ℕ → ℕ → ℕ → List ℕ
 shortened_text groups start count = groups_text (take start groups) ++ (codes "::" ++ groups_text (drop (start + count) groups))
 
 -- what std writes where a run is shortened, and where none is
-long_text : (groups : List ℕ) → 1 < (longest_zero_run groups).1
+pub long_text : (groups : List ℕ) → 1 < (longest_zero_run groups).1
     → hex_groups_text groups ≡ shortened_text groups (longest_zero_run groups).0 (longest_zero_run groups).1
 unfolding hex_groups_text
 long_text groups long =
     rw (lt-ltb 1 (longest_zero_run groups).1 long)
     (append_assoc (groups_text (take (longest_zero_run groups).0 groups)) (codes "::") (groups_text (drop ((longest_zero_run groups).0 + (longest_zero_run groups).1) groups)))
 
-plain_text : (groups : List ℕ) → (longest_zero_run groups).1 ≤ 1 → hex_groups_text groups ≡ groups_text groups
+pub plain_text : (groups : List ℕ) → (longest_zero_run groups).1 ≤ 1 → hex_groups_text groups ≡ groups_text groups
 unfolding hex_groups_text
 plain_text groups short = rw (le-ltb 1 (longest_zero_run groups).1 short) refl
 

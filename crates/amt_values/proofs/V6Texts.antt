@@ -1,5 +1,5 @@
 -- IPv6 addresses as numbers, by std's grammar of them.
-use Rattle.std.proofs.Common.{◌≡◌, ◌≢◌, ℕ, ◌^◌, ◌<◌, ◌⊎◌, List, length, inl, inr, sym, subst, ap, ◌∙◌, arith}
+use Rattle.std.proofs.Common.{◌≡◌, ◌≢◌, ℕ, ◌^◌, ◌<◌, ◌⊎◌, List, All, length, inl, inr, sym, subst, ap, ◌∙◌, arith}
 use Rattle.std.proofs.NetLemmas.Alphabet.{IsHexOrColon, All-hex_groups_text}
 use Rattle.std.proofs.NetLemmas.Texts.{AllSegments, IsColonHex-hex_groups_text}
 use Rattle.std.proofs.NetLemmas.Theorems.{IsIpv6Text_unique}
@@ -52,9 +52,13 @@ no_dot : (octet : ℕ) → IsHexOrColon octet → octet ≢ 46
 no_dot octet (inl digit) = λ same. omega arith
 no_dot octet (inr letter) = λ same. omega arith
 
--- the printed text of a number names it
+-- what is printed of a number has only colons and hexadecimal digits in lower case
+pub All-v6_text : (number : ℕ) → All IsHexOrColon (v6_text number)
+All-v6_text number = All-hex_groups_text (groups_of number) (AllSegments-groups_of number)
+
+-- and it names the number
 pub v6_printed : (number : ℕ) → IsV6Text number (v6_text number)
 v6_printed number =
-    let fits = AllSegments-groups_of number in
-    let lacks = All-weaker IsHexOrColon (λ octet. octet ≢ 46) no_dot (v6_text number) (All-hex_groups_text (groups_of number) fits) in
-    groups_from_IsColonHex (groups_of number) (v6_text number) lacks (IsColonHex-hex_groups_text (groups_of number) (length-groups_of number) fits)
+    let lacks = All-weaker IsHexOrColon (λ octet. octet ≢ 46) no_dot (v6_text number) (All-v6_text number) in
+    groups_from_IsColonHex (groups_of number) (v6_text number) lacks
+    (IsColonHex-hex_groups_text (groups_of number) (length-groups_of number) (AllSegments-groups_of number))

@@ -1,0 +1,57 @@
+-- How long a printed IPv6 address is.
+use Rattle.std.proofs.Common.{◌≡◌, ℕ, suc, ◌+◌, ◌*◌, ◌-◌, ◌^◌, ◌<◌, ◌≤◌, inl, inr, List, [], ◌∷◌, ◌++◌, length, take, drop, codes, ap, arith, length-append, length-take-le, length-drop}
+use Rattle.std.proofs.NetLemmas.Texts.{AllSegments, AllSegments-take, AllSegments-drop, IsZeroRun-longest_zero_run}
+use Rattle.std.proofs.lemmas.Bool.{cases_lt}
+use Rattle.std.specs.Net.Text.{hex, groups_text, longest_zero_run, hex_groups_text}
+use Rattle.amt_values.specs.Groups.{groups_of}
+use Rattle.amt_values.specs.Text.{v6_text}
+use Rattle.amt_values.proofs.Printed.{written_after, shortened_text, long_text, plain_text}
+use Rattle.amt_values.proofs.Segments.{AllSegments-groups_of, length-groups_of}
+use Rattle.amt_values.proofs.ShortGroups.{IsShortGroup-hex}
+
+length-hex : (group : ℕ) → group < 2 ^ 16 → length (hex group) ≤ 4
+length-hex group fits = (IsShortGroup-hex group fits).writes.1
+
+length-written_after : (groups : List ℕ) → AllSegments groups → length (written_after groups) ≤ 5 * length groups
+length-written_after [] fits = omega arith
+length-written_after (g ∷ groups) fits =
+    let rest = length-written_after groups (λ k. fits (suc k)) in
+    let whole = length-append (58 ∷ hex g) (written_after groups) in
+    omega (arith, whole, rest, length-hex g (fits 0))
+
+-- no colon stands before the first group
+length-groups_text : (groups : List ℕ) → AllSegments groups → length (groups_text groups) ≤ 5 * length groups - 1
+length-groups_text [] fits = omega arith
+length-groups_text (g ∷ groups) fits =
+    let rest = length-written_after groups (λ k. fits (suc k)) in
+    let whole = length-append (hex g) (written_after groups) in
+    omega (arith, whole, rest, length-hex g (fits 0))
+
+length-shortened : (groups : List ℕ) (start count : ℕ) → AllSegments groups → length groups ≡ 8 → start + count ≤ 8 → 2 ≤ count
+    → length (shortened_text groups start count) ≤ 39
+length-shortened groups start count fits eight within two =
+    let head = take start groups in
+    let tail = drop (start + count) groups in
+    let front = length-groups_text head (AllSegments-take start groups fits) in
+    let back = length-groups_text tail (AllSegments-drop (start + count) groups fits) in
+    let before : length head ≡ start = length-take-le start groups (omega arith) in
+    let after = length-drop (start + count) groups in
+    let whole = length-append (groups_text head) (codes "::" ++ groups_text tail) in
+    omega (arith, front, back, before, after, whole)
+
+length-hex_groups_text : (groups : List ℕ) → AllSegments groups → length groups ≡ 8 → length (hex_groups_text groups) ≤ 39
+length-hex_groups_text groups fits eight =
+    let start = (longest_zero_run groups).0 in
+    let count = (longest_zero_run groups).1 in
+    let run = IsZeroRun-longest_zero_run groups in
+    elim (cases_lt 1 count) [
+      | inl long ↦
+          let shortened = length-shortened groups start count fits eight (omega (arith, run.0, eight)) long in
+          omega (arith, ap (λ (text : List ℕ). length text) (long_text groups long), shortened)
+      | inr short ↦
+          let plain = length-groups_text groups fits in
+          omega (arith, ap (λ (text : List ℕ). length text) (plain_text groups short), plain, eight)
+    ]
+
+pub length-v6_text : (number : ℕ) → length (v6_text number) ≤ 39
+length-v6_text number = length-hex_groups_text (groups_of number) (AllSegments-groups_of number) (length-groups_of number)
