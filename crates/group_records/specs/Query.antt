@@ -1,6 +1,6 @@
 -- Which octets are a query, and the first fault of those that are none (RFC 3376, section 4.1;
 -- RFC 3810, section 5.1).
-use Rattle.std.specs.Prelude.{◌≡◌, ℕ, ◌+◌, ◌*◌, ◌/◌, ◌%◌, ◌≤◌, ◌==◌, nat_lt, ⊤, false, List, ◌++◌, length, drop, slice_index, Option, Some, None, if◌then◌else◌}
+use Rattle.std.specs.Prelude.{◌≡◌, ℕ, ◌+◌, ◌*◌, ◌/◌, ◌%◌, ◌≤◌, ◌==◌, nat_lt, ⊤, false, List, ◌++◌, length, drop, slice_index, Option, Some, None, Result, if◌then◌else◌}
 use Rattle.byteorder.specs.Endian.{big_number}
 use Rattle.inner_datagrams.specs.Checksum.{IsRight}
 use Rattle.source_filter.specs.declared.fault.ReportFault.{ReportFault}
@@ -10,7 +10,7 @@ use Rattle.source_filter.specs.declared.query.QueryRead.{QueryRead}
 use Rattle.group_records.specs.declared.family.Family.{Family}
 use Rattle.group_records.specs.declared.family.Family.TheVariants.{V4, V6}
 use Rattle.group_records.specs.Family.{width, address_in}
-use Rattle.group_records.specs.Reading.{fault_or, sum_fault}
+use Rattle.group_records.specs.Reading.{fault_or, reading_by, sum_fault}
 
 -- the type of a membership query
 abbrev pub query_type : Family → ℕ
@@ -88,6 +88,11 @@ first_query_fault family pseudo_header payload =
     then fault_or (sum_fault pseudo_header payload)
     (if nat_lt (length payload) (query_length family payload) then Some (SourceShort 0) else None)
     else Some (Kind (slice_index payload 0)))
+
+-- the values of the query that the payload is, or its first fault
+abbrev pub query_of : Family → List ℕ → List ℕ → Result QueryRead ReportFault
+query_of family pseudo_header payload =
+    reading_by (first_query_fault family pseudo_header payload) (query_at family payload)
 
 -- a fault that a query may have: no older version of it is told apart, and it has no records but
 -- one list of sources

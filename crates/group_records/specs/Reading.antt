@@ -97,9 +97,10 @@ pub record AsksMemory (family : Family) (pseudo_header payload : List ℕ) : Typ
   pub head : report_head_fault family pseudo_header payload ≡ None
   pub kept : asks_memory family (big_number 2 (drop 6 payload)) (drop 8 payload) ≡ true
 
-abbrev pub reading_by : Option ReportFault → List Record → Result (List Record) ReportFault
-reading_by None records = Ok records
-reading_by (Some fault) records = Err fault
+-- the value, where there is no fault
+abbrev pub reading_by : {A : Type 0} → Option ReportFault → A → Result A ReportFault
+reading_by None value = Ok value
+reading_by (Some fault) value = Err fault
 
 -- the known ones of so many records, or their first fault
 unfoldable pub records_reading : Family → ℕ → List ℕ → Result (List Record) ReportFault

@@ -1,7 +1,7 @@
 ghost use Rattle.std.specs.Prelude.{◌≡◌, ◌≤◌, ◌%◌, length, IfOk, IfErr, Ok, Err, MatchResult, None, Some};
 ghost use Rattle.source_filter.specs.declared.query.QueryRead.{QueryRead as QueryReadValue};
 ghost use Rattle.source_filter.specs.declared.fault.ReportFault.{ReportFault as ReportFaultValue};
-ghost use Rattle.group_records.specs.Query.{IsQuery, IsQueryFault, first_query_fault, group_place, max_code_of, query_at, query_least, query_length, query_type};
+ghost use Rattle.group_records.specs.Query.{IsQuery, IsQueryFault, first_query_fault, group_place, max_code_of, query_at, query_of, query_least, query_length, query_type};
 
 use crate::family::{Family, address_at, width};
 use crate::record::source_count;
@@ -125,6 +125,7 @@ pub fn read_query(
     ensures fault { (fault : ReportFaultValue)
         → first_query_fault family pseudo_header.now payload.now ≡ Some fault
         → result ≡ Err fault }
+    ensures value { result ≡ query_of family pseudo_header.now payload.now }
     ensures never { IfErr result IsQueryFault }
 {
     match query_fault(family, pseudo_header, payload) {

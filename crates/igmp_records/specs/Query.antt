@@ -1,12 +1,12 @@
 -- Membership queries of IGMPv3 (RFC 3376, section 4.1).
-use Rattle.std.specs.Prelude.{ℕ, List, [], ◌∷◌, ◌++◌, Option}
+use Rattle.std.specs.Prelude.{ℕ, List, [], ◌∷◌, ◌++◌, Option, Result}
 use Rattle.byteorder.specs.Endian.{big_bytes}
 use Rattle.inner_datagrams.specs.Checksum.{internet_sum_of}
 use Rattle.source_filter.specs.declared.fault.ReportFault.{ReportFault}
 use Rattle.source_filter.specs.declared.query.QueryFields.{QueryFields}
 use Rattle.source_filter.specs.declared.query.QueryRead.{QueryRead}
 use Rattle.group_records.specs.declared.family.Family.TheVariants.{V4}
-use Rattle.group_records.specs.Query.{IsQuery, first_query_fault, general_query}
+use Rattle.group_records.specs.Query.{IsQuery, first_query_fault, general_query, query_of}
 
 -- the General Query that is written, with this checksum: no group, no flag beside the robustness, no sources
 abbrev pub query4_with_sum : ℕ → QueryFields → List ℕ
@@ -31,3 +31,7 @@ IsGeneralQuery fields payload = IsQuery4 (general_query V4 fields) payload
 -- the first fault of a payload, if any
 abbrev pub first_query_fault4 : List ℕ → Option ReportFault
 first_query_fault4 payload = first_query_fault V4 [] payload
+
+-- the values of the query that the payload is, or its first fault
+abbrev pub query4_of : List ℕ → Result QueryRead ReportFault
+query4_of payload = query_of V4 [] payload

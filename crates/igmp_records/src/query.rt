@@ -2,7 +2,7 @@ ghost use Rattle.std.specs.Prelude.{◌≡◌, ◌≤◌, length, IfOk, IfErr, O
 ghost use Rattle.source_filter.specs.declared.query.QueryRead.{QueryRead as QueryReadValue};
 ghost use Rattle.source_filter.specs.declared.fault.ReportFault.{ReportFault as ReportFaultValue};
 ghost use Rattle.group_records.specs.Query.{IsQueryFault};
-ghost use Rattle.igmp_records.specs.Query.{first_query_fault4, written_query4, IsGeneralQuery, IsQuery4};
+ghost use Rattle.igmp_records.specs.Query.{first_query_fault4, query4_of, written_query4, IsGeneralQuery, IsQuery4};
 
 use amt_values::{Bytes, INPUT_LIMIT};
 use byteorder::{BigEndian, ByteOrder};
@@ -54,6 +54,7 @@ pub fn read_query4(payload: &[u8]) -> Result<QueryRead, ReportFault>
         (λ fault. first_query_fault4 payload.now ≡ Some fault) }
     ensures fault { (fault : ReportFaultValue) → first_query_fault4 payload.now ≡ Some fault
         → result ≡ Err fault }
+    ensures value { result ≡ query4_of payload.now }
     ensures never { IfErr result IsQueryFault }
 {
     read_query(Family::V4, &[], payload)
