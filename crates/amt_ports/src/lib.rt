@@ -1,7 +1,7 @@
 //! The outside as traits: sources and sinks of bytes, with devices in memory and over std's.
 //!
-//! Contract: a call fails only where its device's count of faults rose, and where a device tells
-//! its bytes, they are what was read or written.
+//! Contract: a call fails where its device's count of faults rose, and only there; where a device
+//! tells its bytes, they are what was read or written.
 //! It knows no message, endpoint or moment.
 //! No standard.
 #![tactic(auto)]

@@ -35,6 +35,8 @@ pub fn read_all<S: Source>(alloc: Global, source: &mut S) -> Result<Bytes, ReadA
     ensures later { S.faults source.old ≤ S.faults source.new }
     ensures read_fault { IsErrOf result ReadAllFault.ReadFault
         → Rose (S.faults source.old) (S.faults source.new) }
+    ensures quiet { ¬ IsErrOf result ReadAllFault.ReadFault
+        → S.faults source.new ≡ S.faults source.old }
 {
     let mut all = Bytes::new(alloc);
     let mut buffer = [0; READ_SIZE];

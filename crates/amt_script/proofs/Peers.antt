@@ -1,13 +1,13 @@
 -- What a printed peer is made of, and how long it is.
-use Rattle.std.proofs.Common.{ℕ, ◌+◌, ◌*◌, ◌/◌, ◌%◌, ◌^◌, ◌<◌, ◌≤◌, List, [], ◌∷◌, ◌++◌, length, take, drop, flat_map, slice_index, codes, decimal, length-append, length-take, length-drop, Bool, true, false, nat_lt, if◌then◌else◌, inl, inr, arith}
+use Rattle.std.proofs.Common.{ℕ, ◌^◌, ◌<◌, ◌≤◌, ◌∷◌, ◌++◌, length, slice_index, decimal, length-append, inl, inr, arith}
 use Rattle.std.proofs.lemmas.Fmt.{length-decimal-le}
 use Rattle.std.proofs.lemmas.List.Elements.{All-cons, All-append, All-weaker}
 use Rattle.std.proofs.NetLemmas.Alphabet.{IsDigitOrDot, IsHexOrColon, All-ipv4_text, All-hex_groups_text}
 use Rattle.std.specs.Int.{w32, to_be_bytes}
-use Rattle.std.specs.Char.{digit_char}
-use Rattle.std.specs.Net.Text.{dotted_text, leading_zero_digits, hex, groups_text, compressed_text, longest_zero_run, hex_groups_text}
+use Rattle.std.specs.Net.Text.{dotted_text}
 use Rattle.amt_values.proofs.NetworkOrder.{AreOctets-bytes_high_first}
-use Rattle.amt_values.proofs.Segments.{AllSegments-groups_of, length-groups_of}
+use Rattle.amt_values.proofs.Lengths.{length-v6_text}
+use Rattle.amt_values.proofs.Segments.{AllSegments-groups_of}
 use Rattle.amt_values.specs.declared.address.Ip.{Ip}
 use Rattle.amt_values.specs.declared.address.Ip.TheVariants.{V4, V6}
 use Rattle.amt_values.specs.Groups.{groups_of}
@@ -64,48 +64,7 @@ v4_length number =
     let octet : (k : ℕ) → slice_index (to_be_bytes w32 number) k < 256 = AreOctets-bytes_high_first 4 number in
     dotted_length _ _ _ _ (octet 0) (octet 1) (octet 2) (octet 3)
 
-hex_length : (group : ℕ) → length (hex group) ≤ 4
-unfolding hex
-hex_length group =
-    let digits = digit_char (group / 0x1000) ∷ digit_char (group / 0x100 % 16) ∷ digit_char (group / 0x10 % 16) ∷ digit_char (group % 16) ∷ [] in
-    omega (arith, length-drop (leading_zero_digits group) digits)
-
-more_length : (groups : List ℕ) → length (flat_map (λ group. codes ":" ++ hex group) groups) ≤ 5 * length groups
-more_length [] = omega arith
-more_length (group ∷ groups) =
-    let whole = length-append (58 ∷ hex group) (flat_map (λ g. codes ":" ++ hex g) groups) in
-    omega (arith, whole, hex_length group, more_length groups)
-
-groups_length : (groups : List ℕ) → length (groups_text groups) ≤ 5 * length groups
-groups_length [] = omega arith
-groups_length (group ∷ groups) =
-    let whole = length-append (hex group) (flat_map (λ g. codes ":" ++ hex g) groups) in
-    omega (arith, whole, hex_length group, more_length groups)
-
-shortened_length : (groups : List ℕ) (start end : ℕ) → length (groups_text (take start groups) ++ codes "::" ++ groups_text (drop end groups)) ≤ 10 * length groups + 2
-shortened_length groups start end =
-    let head = groups_length (take start groups) in
-    let tail = groups_length (drop end groups) in
-    let first = length-append (groups_text (take start groups)) (codes "::") in
-    let second = length-append (groups_text (take start groups) ++ codes "::") (groups_text (drop end groups)) in
-    omega (arith, head, tail, first, second, length-take start groups, length-drop end groups)
-
--- whether or not a run of zeros is written as `::`
-either_length : (test : Bool) (short whole : List ℕ) (most : ℕ) → length short ≤ most → length whole ≤ most → length (if test then short else whole) ≤ most
-either_length true short whole most one other = one
-either_length false short whole most one other = other
-
-compressed_length : (groups : List ℕ) (run : ℕ × ℕ) → length (compressed_text groups run) ≤ 10 * length groups + 2
-compressed_length groups run =
-    either_length (nat_lt 1 run.1) _ _ (10 * length groups + 2) (shortened_length groups run.0 (run.0 + run.1)) (omega (arith, groups_length groups))
-
--- far less than a line may have
-v6_length : (number : ℕ) → length (v6_text number) ≤ 82
-unfolding hex_groups_text
-v6_length number =
-    omega (arith, compressed_length (groups_of number) (longest_zero_run (groups_of number)), length-groups_of number)
-
-pub peer_length : (ip : Ip) (port : ℕ) → port < 2 ^ 16 → length (address_and_port ip port) ≤ 90
+pub peer_length : (ip : Ip) (port : ℕ) → port < 2 ^ 16 → length (address_and_port ip port) ≤ 47
 peer_length (V4 number) port small =
     let digits = length-decimal-le 5 port (omega arith) (omega arith) (omega arith) in
     let whole = length-append (v4_text number) (58 ∷ decimal port) in
@@ -113,7 +72,7 @@ peer_length (V4 number) port small =
 peer_length (V6 number) port small =
     let digits = length-decimal-le 5 port (omega arith) (omega arith) (omega arith) in
     let whole = length-append (v6_text number) (93 ∷ 58 ∷ decimal port) in
-    omega (arith, v6_length number, digits, whole)
+    omega (arith, length-v6_text number, digits, whole)
 
 pub peer_some : (ip : Ip) (port : ℕ) → 0 < length (address_and_port ip port)
 peer_some (V4 number) port = omega (arith, length-append (v4_text number) (58 ∷ decimal port))

@@ -1,5 +1,5 @@
 -- Each write goes on where the one before it ended, and a write that failed has written nothing.
-use Rattle.std.proofs.Common.{arith}
+use Rattle.std.proofs.Common.{◌∙◌}
 use Rattle.amt_ports.proofs.Written.{Appends-front, Appends-step}
 use Rattle.amt_ports.proofs.writing.write_all_own.Goals as goal
 
@@ -12,4 +12,4 @@ pub loop-rest-preserved : goal.loop-rest-preserved
 loop-rest-preserved g c =
     let (done, parts, appended) = c.loop-rest.invariant.0 in
     let more = Appends-step _ _ _ c.args.bytes.now done c.loop-rest.rest.now c.in-Ok.count parts appended c.in-Ok.ensures.bytes in
-    (rw c.split_at.ensures.back more, omega (arith, c.loop-rest.invariant.1, c.in-Ok.ensures.cause.later))
+    (rw c.split_at.ensures.back more, c.in-Ok.ensures.cause.quiet ∙ c.loop-rest.invariant.1)
