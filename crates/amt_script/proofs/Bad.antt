@@ -1,13 +1,12 @@
 -- A bad line breaks each script that the lines before it begin.
 use Rattle.std.proofs.Common.{◌≡◌, ℕ, ◌⊎◌, false, List, [], ◌∷◌, ◌++◌, Option, None, Some, IsSome, inl, inr, refl, sym, ap, subst, ◌∙◌, append_assoc}
-use Rattle.std.specs.List.{AllByRecursion}
+use Rattle.std.specs.List.{AllByRecursion, AllZip}
 use Rattle.amt_script.specs.declared.script.RelayItem.{RelayItem}
 use Rattle.amt_script.specs.declared.kind.Kind.{Kind}
 use Rattle.amt_script.specs.declared.kind.Kind.TheVariants as kinds
 use Rattle.amt_script.specs.declared.reason.Reason.{Reason}
 use Rattle.amt_script.specs.declared.reason.Reason.TheVariants as reasons
 use Rattle.amt_script.specs.declared.setting.Setting.{Setting}
-use Rattle.amt_script.specs.Each.{Each}
 use Rattle.amt_script.specs.Fault.{First, Holds, IsBadLine, order_of_reasons}
 use Rattle.amt_script.specs.Lines.{fields, says_nothing, statements, IsShort, IsPlain}
 use Rattle.amt_script.specs.Reading.{MaySet}
@@ -73,13 +72,13 @@ record IsSettingAt (given given0 : List Setting) (items0 : List RelayItem) (line
   parts : given ≡ given0 ++ setting ∷ more
   none : items0 ≡ []
 
-Each-inside : {X P : Type 0} (R : X → List ℕ → Type 0) (xs : List X) (front : List (List ℕ)) (y : List ℕ) (back : List (List ℕ)) → Each R xs (front ++ y ∷ back) → ((x : X) → R x y → P) → P
-Each-inside R [] [] y back all use_it = absurd all
-Each-inside R (x ∷ xs) [] y back all use_it = use_it x all.0
-Each-inside R [] (b ∷ front) y back all use_it = absurd all
-Each-inside R (x ∷ xs) (b ∷ front) y back all use_it = Each-inside R xs front y back all.1 use_it
+AllZip-inside : {X P : Type 0} (R : X → List ℕ → Type 0) (xs : List X) (front : List (List ℕ)) (y : List ℕ) (back : List (List ℕ)) → AllZip R xs (front ++ y ∷ back) → ((x : X) → R x y → P) → P
+AllZip-inside R [] [] y back all use_it = absurd all
+AllZip-inside R (x ∷ xs) [] y back all use_it = use_it x all.0
+AllZip-inside R [] (b ∷ front) y back all use_it = absurd all
+AllZip-inside R (x ∷ xs) (b ∷ front) y back all use_it = AllZip-inside R xs front y back all.1 use_it
 
-no_items : (items : List RelayItem) → Each IsItemLine items [] → items ≡ []
+no_items : (items : List RelayItem) → AllZip IsItemLine items [] → items ≡ []
 no_items [] each = refl
 no_items (item ∷ items) each = absurd each
 
@@ -95,11 +94,11 @@ one_deeper x y xs ys es0 line same (inr at) = inr (record {
 
 -- what the first line after those of a script's beginning says
 placed : (given given0 : List Setting) (es es0 : List RelayItem) (front front0 back back0 : List (List ℕ)) (line : List ℕ) (rest : List (List ℕ))
-    → front ++ back ≡ front0 ++ (back0 ++ line ∷ rest) → Each IsSettingLine given front → Each IsItemLine es back
-    → Each IsSettingLine given0 front0 → Each IsItemLine es0 back0 → IsItemAt line ⊎ IsSettingAt given given0 es0 line
+    → front ++ back ≡ front0 ++ (back0 ++ line ∷ rest) → AllZip IsSettingLine given front → AllZip IsItemLine es back
+    → AllZip IsSettingLine given0 front0 → AllZip IsItemLine es0 back0 → IsItemAt line ⊎ IsSettingAt given given0 es0 line
 placed [] given0 es es0 [] front0 back back0 line rest same h k h0 k0 =
-    inl (Each-inside IsItemLine es (front0 ++ back0) line rest
-    (subst (Each IsItemLine es) (same ∙ sym (append_assoc front0 back0 (line ∷ rest))) k) (λ item says. (item, says)))
+    inl (AllZip-inside IsItemLine es (front0 ++ back0) line rest
+    (subst (AllZip IsItemLine es) (same ∙ sym (append_assoc front0 back0 (line ∷ rest))) k) (λ item says. (item, says)))
 placed (x ∷ xs) [] es es0 (l ∷ front) [] back [] line rest same h k h0 k0 =
     let here : l ≡ line = cc in
     inr (record { setting = x; more = xs; says = subst (IsSettingLine x) here h.0; parts = refl; none = no_items es0 k0 })

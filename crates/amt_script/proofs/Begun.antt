@@ -1,25 +1,24 @@
 -- Lines that begin a script, line by line.
 use Rattle.std.proofs.Common.{◌≡◌, ℕ, true, false, not, List, [], ◌∷◌, ◌++◌, refl, sym, ap, subst, ◌∙◌, append_assoc, append-nil}
 use Rattle.std.proofs.lemmas.List.Elements.{filter-append}
-use Rattle.std.specs.List.{AllByRecursion}
+use Rattle.std.specs.List.{AllByRecursion, AllZip}
 use Rattle.amt_script.specs.declared.script.RelayItem.{RelayItem}
 use Rattle.amt_script.specs.declared.setting.Setting.{Setting}
-use Rattle.amt_script.specs.Each.{Each}
 use Rattle.amt_script.specs.Lines.{fields, says_nothing, statements, IsShort}
 use Rattle.amt_script.specs.Reading.{MaySet, TakesLine}
 use Rattle.amt_script.specs.Script.{Begins, IsSettingLine, IsItemLine}
 use Rattle.amt_script.proofs.Once.{once_more}
 
-pub Each-append : {X Y : Type 0} (R : X → Y → Type 0) (xs : List X) (ys : List Y) (x : X) (y : Y) → Each R xs ys → R x y → Each R (xs ++ x ∷ []) (ys ++ y ∷ [])
-Each-append R [] [] x y before one = (one, tt)
-Each-append R [] (b ∷ ys) x y before one = absurd before
-Each-append R (a ∷ xs) [] x y before one = absurd before
-Each-append R (a ∷ xs) (b ∷ ys) x y before one = (before.0, Each-append R xs ys x y before.1 one)
+pub AllZip-append : {X Y : Type 0} (R : X → Y → Type 0) (xs : List X) (ys : List Y) (x : X) (y : Y) → AllZip R xs ys → R x y → AllZip R (xs ++ x ∷ []) (ys ++ y ∷ [])
+AllZip-append R [] [] x y before one = (one, tt)
+AllZip-append R [] (b ∷ ys) x y before one = absurd before
+AllZip-append R (a ∷ xs) [] x y before one = absurd before
+AllZip-append R (a ∷ xs) (b ∷ ys) x y before one = (before.0, AllZip-append R xs ys x y before.1 one)
 
-pub Each-none : {X Y : Type 0} (R : X → Y → Type 0) (xs : List X) (ys : List Y) → xs ≡ [] → Each R xs ys → ys ≡ []
-Each-none R [] [] none each = refl
-Each-none R [] (y ∷ ys) none each = absurd each
-Each-none R (x ∷ xs) ys none each = cc none
+pub AllZip-none : {X Y : Type 0} (R : X → Y → Type 0) (xs : List X) (ys : List Y) → xs ≡ [] → AllZip R xs ys → ys ≡ []
+AllZip-none R [] [] none each = refl
+AllZip-none R [] (y ∷ ys) none each = absurd each
+AllZip-none R (x ∷ xs) ys none each = cc none
 
 pub statements-append : (ls others : List (List ℕ)) → statements (ls ++ others) ≡ statements ls ++ statements others
 statements-append ls others = filter-append (λ line. not (says_nothing (fields line))) ls others
@@ -66,22 +65,22 @@ begins_item given items ls line item before short something says = record {
   parts = one_more ls before.front before.back line before.parts something;
   front_lines = before.front_lines;
   once = before.once;
-  back_lines = Each-append IsItemLine items before.back item line before.back_lines says;
+  back_lines = AllZip-append IsItemLine items before.back item line before.back_lines says;
 }
 
 pub begins_setting : (given : List Setting) (items : List RelayItem) (ls : List (List ℕ)) (line : List ℕ) (setting : Setting) → Begins given items ls → IsShort line
     → says_nothing (fields line) ≡ false → MaySet given items setting → IsSettingLine setting line → Begins (given ++ setting ∷ []) items (ls ++ line ∷ [])
 begins_setting given items ls line setting before short something may says =
-    let none = Each-none IsItemLine items before.back may.early before.back_lines in
+    let none = AllZip-none IsItemLine items before.back may.early before.back_lines in
     record {
       short = short_more ls line before.short short;
       front = before.front ++ line ∷ [];
       back = [];
       parts = one_more ls before.front before.back line before.parts something
           ∙ (ap (λ (rest : List (List ℕ)). before.front ++ (rest ++ line ∷ [])) none ∙ sym (append-nil (before.front ++ line ∷ [])));
-      front_lines = Each-append IsSettingLine given before.front setting line before.front_lines says;
+      front_lines = AllZip-append IsSettingLine given before.front setting line before.front_lines says;
       once = once_more given setting before.once may.new;
-      back_lines = subst (Each IsItemLine items) none before.back_lines;
+      back_lines = subst (AllZip IsItemLine items) none before.back_lines;
     }
 
 pub takes_silent : (given : List Setting) (items : List RelayItem) (line : List ℕ) → IsShort line → says_nothing (fields line) ≡ true → TakesLine given items given items line

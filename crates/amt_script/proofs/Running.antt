@@ -1,6 +1,6 @@
 -- A script that some octets spell can be run.
 use Rattle.std.proofs.Common.{ℕ, ◌≤◌, List, [], ◌∷◌, length, inl, inr, ap, arith}
-use Rattle.std.specs.List.{AllByRecursion}
+use Rattle.std.specs.List.{AllByRecursion, AllZip}
 use Rattle.hex.proofs.HexLemmas.{decode_of-ok}
 use Rattle.relay_machine.specs.Conditions.{IsEvent}
 use Rattle.relay_machine.specs.declared.event.Event.{Event}
@@ -8,7 +8,6 @@ use Rattle.relay_machine.specs.declared.event.Event.TheVariants.{Moment, Datagra
 use Rattle.amt_script.specs.declared.script.RelayItem.{RelayItem}
 use Rattle.amt_script.specs.declared.script.RelayItem.TheVariants as items
 use Rattle.amt_script.specs.declared.script.RelayScript.{RelayScript}
-use Rattle.amt_script.specs.Each.{Each}
 use Rattle.amt_script.specs.Form.{IsHexText}
 use Rattle.amt_script.specs.Lines.{fields}
 use Rattle.amt_script.specs.Running.{IsItem, IsRunnable}
@@ -29,7 +28,7 @@ item_sized : (item : RelayItem) (line : List ℕ) → IsItemLine item line → I
 item_sized (items.Event event) line says = event_sized event (fields line) says.1
 item_sized items.Show line says = tt
 
-items_sized : (all : List RelayItem) (ls : List (List ℕ)) → Each IsItemLine all ls → AllByRecursion IsItem all
+items_sized : (all : List RelayItem) (ls : List (List ℕ)) → AllZip IsItemLine all ls → AllByRecursion IsItem all
 items_sized [] [] each = tt
 items_sized [] (line ∷ ls) each = absurd each
 items_sized (item ∷ all) [] each = absurd each

@@ -1,5 +1,6 @@
 -- A line says one thing, and lines say one list of settings and events.
 use Rattle.std.proofs.Common.{◌≡◌, ℕ, ◌^◌, ◌<◌, List, [], ◌∷◌, ◌++◌, codes, Ok, inl, inr, refl, sym, subst, ap, ◌∙◌, arith}
+use Rattle.std.specs.List.{AllZip}
 use Rattle.std.proofs.lemmas.Fmt.{decimal_injective}
 use Rattle.hex.specs.Hex.{decode_of}
 use Rattle.hex.proofs.HexLemmas.{decode_of-odd, decode_of-same}
@@ -16,7 +17,6 @@ use Rattle.amt_script.specs.declared.script.RelayItem.{RelayItem}
 use Rattle.amt_script.specs.declared.script.RelayItem.TheVariants as items
 use Rattle.amt_script.specs.declared.setting.Setting.{Setting}
 use Rattle.amt_script.specs.declared.setting.Setting.TheVariants as settings
-use Rattle.amt_script.specs.Each.{Each}
 use Rattle.amt_script.specs.Form.{IsMomentText, IsNumberText, IsHexText, IsSecretText}
 use Rattle.amt_script.specs.Lines.{fields}
 use Rattle.amt_script.specs.Script.{HasField, SaysSetting, SaysEvent, SaysItem, IsSettingLine, IsItemLine, Begins}
@@ -126,23 +126,23 @@ IsItemLine-unique one other line h k =
 pub no_line_is_both : (setting : Setting) (item : RelayItem) (line : List ℕ) → IsSettingLine setting line → IsItemLine item line → ⊥
 no_line_is_both setting item line h k = setting_or_item setting item (fields line) h.1 k.1
 
-Each-unique : {X : Type 0} (R : X → List ℕ → Type 0) → ((x y : X) (line : List ℕ) → R x line → R y line → x ≡ y) → (one other : List X) (ls : List (List ℕ)) → Each R one ls → Each R other ls → one ≡ other
-Each-unique R unique [] [] [] h k = refl
-Each-unique R unique [] (y ∷ ys) [] h k = absurd k
-Each-unique R unique (x ∷ xs) other [] h k = absurd h
-Each-unique R unique [] other (l ∷ ls) h k = absurd h
-Each-unique R unique (x ∷ xs) [] (l ∷ ls) h k = absurd k
-Each-unique R unique (x ∷ xs) (y ∷ ys) (l ∷ ls) h k = rw (unique x y l h.0 k.0, Each-unique R unique xs ys ls h.1 k.1) refl
+AllZip-unique : {X : Type 0} (R : X → List ℕ → Type 0) → ((x y : X) (line : List ℕ) → R x line → R y line → x ≡ y) → (one other : List X) (ls : List (List ℕ)) → AllZip R one ls → AllZip R other ls → one ≡ other
+AllZip-unique R unique [] [] [] h k = refl
+AllZip-unique R unique [] (y ∷ ys) [] h k = absurd k
+AllZip-unique R unique (x ∷ xs) other [] h k = absurd h
+AllZip-unique R unique [] other (l ∷ ls) h k = absurd h
+AllZip-unique R unique (x ∷ xs) [] (l ∷ ls) h k = absurd k
+AllZip-unique R unique (x ∷ xs) (y ∷ ys) (l ∷ ls) h k = rw (unique x y l h.0 k.0, AllZip-unique R unique xs ys ls h.1 k.1) refl
 
 pub record AreSame (given given' : List Setting) (es es' : List RelayItem) : Type 0 where
   pub settings : given ≡ given'
   pub items : es ≡ es'
 
 said_once : (given given' : List Setting) (es es' : List RelayItem) (front front' back back' : List (List ℕ)) → front ++ back ≡ front' ++ back'
-    → Each IsSettingLine given front → Each IsItemLine es back → Each IsSettingLine given' front' → Each IsItemLine es' back' → AreSame given given' es es'
+    → AllZip IsSettingLine given front → AllZip IsItemLine es back → AllZip IsSettingLine given' front' → AllZip IsItemLine es' back' → AreSame given given' es es'
 said_once [] [] es es' [] [] back back' same h k h' k' = record {
   settings = refl;
-  items = Each-unique IsItemLine IsItemLine-unique es es' back' (subst (Each IsItemLine es) same k) k';
+  items = AllZip-unique IsItemLine IsItemLine-unique es es' back' (subst (AllZip IsItemLine es) same k) k';
 }
 said_once (x ∷ xs) (y ∷ ys) es es' (l ∷ front) (m ∷ front') back back' same h k h' k' =
     let line : l ≡ m = cc in

@@ -1,4 +1,3 @@
-pub mod Each
 pub mod Fault
 pub mod Form
 pub mod Lines

@@ -1,6 +1,6 @@
 -- Which octets spell which script of a relay.
 use Rattle.std.specs.Prelude.{◌≡◌, ℕ, List, [], ◌∷◌, ◌++◌, replicate, Option, Some, None}
-use Rattle.std.specs.List.{AllByRecursion}
+use Rattle.std.specs.List.{AllByRecursion, AllZip}
 use Rattle.std.specs.Str.Lines.{lines}
 use Rattle.amt_values.specs.declared.address.Ip.{Ip}
 use Rattle.amt_values.specs.declared.address.Ip.TheVariants.{V4}
@@ -17,7 +17,6 @@ use Rattle.amt_script.specs.declared.script.RelayItem.TheVariants as items
 use Rattle.amt_script.specs.declared.script.RelayScript.{RelayScript}
 use Rattle.amt_script.specs.declared.setting.Setting.{Setting}
 use Rattle.amt_script.specs.declared.setting.Setting.TheVariants as settings
-use Rattle.amt_script.specs.Each.{Each}
 use Rattle.amt_script.specs.Form.{IsMomentText, IsNumberText, IsHexText, IsSecretText}
 use Rattle.amt_script.specs.Lines.{fields, statements, IsShort, IsPlain}
 use Rattle.amt_script.specs.Row.{words_of}
@@ -72,9 +71,9 @@ pub record Begins (settings : List Setting) (items : List RelayItem) (ls : List 
   pub front : List (List ℕ)
   pub back : List (List ℕ)
   pub parts : statements ls ≡ front ++ back
-  pub front_lines : Each IsSettingLine settings front
+  pub front_lines : AllZip IsSettingLine settings front
   pub once : AreOnce settings
-  pub back_lines : Each IsItemLine items back
+  pub back_lines : AllZip IsItemLine items back
 
 -- the address that was given; the other values as given, or their defaults
 abbrev pub relay_in : Option Setting → Option Ip
@@ -125,7 +124,7 @@ pub record Settles (given : List Setting) (values : Settings) (secret : Secret) 
   pub sources : values.limits.sources ≡ sources_in (set_at given keys.Sources)
   pub first_secret : secret ≡ secret_in (set_at given keys.Secret)
 
--- the lines say items after settings with which a relay may be set up. Each number is in its range,
+-- the lines say items after settings with which a relay may be set up. AllZip number is in its range,
 -- since its line says it; what is left to ask is that General Queries can carry the times, and that the
 -- limits allow no more sources in all than a relay may keep.
 pub record IsRelayScript (script : RelayScript) (bytes : List ℕ) : Type 0 where
