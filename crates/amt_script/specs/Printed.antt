@@ -1,9 +1,7 @@
 -- That a printed event is read back.
 use Rattle.std.specs.Prelude.{◌≡◌, List, [], ◌∷◌, ℕ}
 use Rattle.std.specs.Str.Lines.{lines}
-use Rattle.amt_values.specs.Text.{IsPeerText}
 use Rattle.relay_machine.specs.declared.event.Event.{Event}
-use Rattle.relay_machine.specs.declared.event.Event.TheVariants.{Moment, Datagram, Rotate}
 use Rattle.amt_script.specs.Lines.{IsShort}
 use Rattle.amt_script.specs.Script.{IsItemLine}
 use Rattle.amt_script.specs.declared.script.RelayItem.TheVariants as items
