@@ -1,4 +1,4 @@
--- The accepted log of a list of events. It keeps every entry for good, and asks no table.
+-- The accepted log of a list of events. Nothing is ever taken off it, and no table is read for it.
 use Rattle.std.specs.Prelude.{ℕ, max, List, [], ◌∷◌, ◌++◌, reverse, Option, Some, None, Result, Ok, Err}
 use Rattle.amt_values.specs.Endpoint.{endpoint_of}
 use Rattle.amt_values.specs.Tunnel.{Tunnel}

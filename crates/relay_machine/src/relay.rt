@@ -47,9 +47,13 @@ impl Model for Relay {
 
 impl Relay {
     /// A relay at moment 0, whose current secret is this one and at which nothing stands.
+    ///
+    /// Whatever events may come, what stands by their accepted log is within the settings' limits.
     pub fn new(alloc: Global, settings: Settings, secret: Secret) -> Result<Relay, AllocError>
         requires { IsLawful settings }
-        ensures { IfOk result (λ relay. RelayAt relay settings secret []) }
+        ensures stands { IfOk result (λ relay. RelayAt relay settings secret []) }
+        ensures within { (events : List EventValue) → IsWithin settings.limits
+            (standing_now (terms_of settings) (accepted settings secret events)) }
     {
         let table = Table::new(alloc, settings.limits, settings.lifetime_ms())?;
         Ok(Relay {

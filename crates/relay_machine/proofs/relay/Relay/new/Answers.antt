@@ -1,10 +1,17 @@
 use Rattle.std.proofs.Common.{ℕ, [], subst}
 use Rattle.endpoint_membership.specs.Table.{Holds}
+use Rattle.relay_machine.proofs.Limits.{always_within}
 use Rattle.relay_machine.proofs.Onward.{RelayAt-new}
 use Rattle.relay_machine.proofs.relay.Relay.new.Goals as goal
 
-pub returns : goal.returns
-returns c =
+pub returns-clause-stands : goal.returns-clause-stands
+returns-clause-stands c =
     let settings = c.args.settings in
     let holds = subst (λ (lifetime : ℕ). Holds (record { limits = settings.limits; lifetime = lifetime }) c.in_ok-table.table []) c.lifetime_ms.ensures c.in_ok-table.ensures.stands in
     RelayAt-new _ settings c.args.secret c.new-2.ensures c.new-3.ensures holds
+
+pub returns-clause-within : goal.returns-clause-within
+returns-clause-within c events = always_within c.args.settings c.args.secret events
+
+pub returns-in_err-table-clause-within : goal.returns-in_err-table-clause-within
+returns-in_err-table-clause-within c events = always_within c.args.settings c.args.secret events

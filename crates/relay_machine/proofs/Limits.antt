@@ -1,0 +1,120 @@
+-- What stands by the accepted log is within the limits, whatever the events.
+use Rattle.std.proofs.Common.{◌≡◌, ℕ, max, Bool, true, false, List, [], ◌∷◌, ◌++◌, reverse, filter, Option, Some, None, Result, Ok, Err, if◌then◌else◌, refl, sym, ap, subst, ◌∙◌, arith}
+use Rattle.std.proofs.lemmas.List.{reverse-append}
+use Rattle.amt_values.specs.Endpoint.{endpoint_of}
+use Rattle.amt_values.specs.Tunnel.{Tunnel}
+use Rattle.amt_messages.specs.declared.message.Message.{Message}
+use Rattle.amt_messages.specs.declared.message.Message.TheVariants.{Discovery, Advertisement, Request, Query, Update}
+use Rattle.amt_messages.specs.declared.refusal.Refused.{Refused}
+use Rattle.amt_messages.specs.Refusal.{message_of}
+use Rattle.response_mac.specs.declared.secret.Secret.{Secret}
+use Rattle.response_mac.specs.declared.secrets.Secrets.{Secrets}
+use Rattle.response_mac.specs.ResponseMac.{is_good}
+use Rattle.source_filter.specs.declared.record.Record.{Record}
+use Rattle.endpoint_membership.specs.Kept.{is_fresh}
+use Rattle.endpoint_membership.specs.Limits.{IsWithin}
+use Rattle.endpoint_membership.specs.Log.{latest, records_at}
+use Rattle.endpoint_membership.specs.Own.{on_group}
+use Rattle.endpoint_membership.specs.Place.{Place, same_endpoint}
+use Rattle.endpoint_membership.specs.Rows.{row_at}
+use Rattle.endpoint_membership.specs.Table.{AreRows, Holds, TableValue, Terms, limit_passed, standing_now}
+use Rattle.endpoint_membership.specs.declared.change.Change.{Change}
+use Rattle.endpoint_membership.specs.declared.change.Change.TheVariants.{Mark, Reported}
+use Rattle.endpoint_membership.specs.declared.kept.Kept.{Kept}
+use Rattle.endpoint_membership.specs.declared.limits.LimitFault.{LimitFault}
+use Rattle.endpoint_membership.proofs.ByLog.{AreRows-standing_rows}
+use Rattle.endpoint_membership.proofs.Held.{Holds-mark, IsWithin-log, latest-push}
+use Rattle.endpoint_membership.proofs.Standing.{standing-other}
+use Rattle.endpoint_membership.proofs.Steps.{AreRows-later}
+use Rattle.endpoint_membership.proofs.Within.{IsWithin-filter, IsWithin-report}
+use Rattle.relay_machine.specs.declared.event.Event.{Event}
+use Rattle.relay_machine.specs.declared.event.Event.TheVariants.{Moment, Datagram, Rotate}
+use Rattle.relay_machine.specs.declared.outcome.Unlawful.{Unlawful}
+use Rattle.relay_machine.specs.declared.settings.Settings.{Settings}
+use Rattle.relay_machine.specs.Accepted.{accepted, accepted_back, datagram_change, with_change}
+use Rattle.relay_machine.specs.Events.{now_of, secrets_of}
+use Rattle.relay_machine.specs.Settings.{terms_of}
+use Rattle.relay_machine.specs.Updates.{forwarded, limit_change, report_in, update_change}
+
+-- what stands by the log is within the limits
+abbrev IsLogWithin : Terms → List Change → Type 0
+IsLogWithin terms log = IsWithin terms.limits (standing_now terms log)
+
+-- a table that stands for the log
+abbrev table_for : Terms → List Change → TableValue
+table_for terms log = record { moment = latest log; limits = terms.limits; lifetime = terms.lifetime; rows = standing_now terms log }
+
+stands_for : (terms : Terms) (log : List Change) → Holds terms (table_for terms log) log
+stands_for terms log = record { limits = refl; lifetime = refl; moment = refl; rows = AreRows-standing_rows terms.lifetime (latest log) log }
+
+-- as time passes
+within-mark : (terms : Terms) (log : List Change) (at : ℕ) → IsLogWithin terms log → IsLogWithin terms (log ++ Mark at ∷ [])
+within-mark terms log at within =
+    let table = table_for terms log in
+    let fresh = is_fresh terms.lifetime (max (latest log) at) in
+    IsWithin-log terms _ (log ++ Mark at ∷ []) (Holds-mark terms table log at (max (latest log) at) (filter fresh table.rows) refl refl (stands_for terms log))
+    (IsWithin-filter terms.limits fresh table.rows within)
+
+silent_by : (here : Bool) (records : List Record) → records ≡ [] → (if here then reverse records else []) ≡ []
+silent_by true records none = ap (λ (all : List Record). reverse all) none
+silent_by false records none = refl
+
+-- where an entry makes no record, the row stays as time leaves it
+row_unconcerned : (lifetime moment : ℕ) (entry : Change) (log : List Change) (rows after : List Kept) (place : Place) → AreRows lifetime moment (reverse log) rows
+    → AreRows lifetime moment (reverse (log ++ entry ∷ [])) after → records_at place entry ≡ [] → row_at after place ≡ row_at rows place
+row_unconcerned lifetime moment entry log rows after place before behind none =
+    (subst (λ (past : List Change). AreRows lifetime moment past after) (reverse-append log (entry ∷ [])) behind).each place
+    ∙ (standing-other lifetime moment entry (reverse log) place none ∙ sym (before.each place))
+
+-- by a report that passes no limit
+within-report : (terms : Terms) (log : List Change) (source : Tunnel) (records : List Record) (at : ℕ) → limit_passed terms log source records at ≡ None
+    → IsLogWithin terms log → IsLogWithin terms (log ++ Reported source records at ∷ [])
+within-report terms log source records at none within =
+    let entry = Reported source records at in
+    let moment = latest (log ++ entry ∷ []) in
+    let rows = filter (is_fresh terms.lifetime moment) (standing_now terms log) in
+    let after = standing_now terms (log ++ entry ∷ []) in
+    let before = AreRows-later terms.lifetime (latest log) moment (reverse log) (standing_now terms log) (omega (arith, latest-push log entry))
+    (AreRows-standing_rows terms.lifetime (latest log) log) in
+    let behind = AreRows-standing_rows terms.lifetime moment (log ++ entry ∷ []) in
+    IsWithin-report terms.limits source records rows after before.rise behind.rise (IsWithin-filter terms.limits (is_fresh terms.lifetime moment) (standing_now terms log) within) none
+    (λ place apart. row_unconcerned terms.lifetime moment entry log rows after place before behind (rw apart refl))
+    (λ group kept silent found.
+    sym (row_unconcerned terms.lifetime moment entry log rows after (record { endpoint = source; group = group }) before behind
+    (silent_by (same_endpoint source source) (on_group group records) silent)) ∙ found)
+
+within-limit : (terms : Terms) (log : List Change) (source : Tunnel) (records : List Record) (at : ℕ) (passed : Option LimitFault) → limit_passed terms log source records at ≡ passed
+    → IsLogWithin terms log → IsLogWithin terms (with_change log (limit_change passed (Reported source records at)))
+within-limit terms log source records at None none within = within-report terms log source records at none within
+within-limit terms log source records at (Some fault) passed within = within
+
+within-update : (terms : Terms) (log : List Change) (source : Tunnel) (at : ℕ) (good : Bool) (reading : Result (List Record) Unlawful) → IsLogWithin terms log
+    → IsLogWithin terms (with_change log (update_change good reading (λ records. limit_passed terms log source records at) source at))
+within-update terms log source at false reading within = within
+within-update terms log source at true (Err fault) within = within
+within-update terms log source at true (Ok records) within = within-limit terms log source (forwarded records) at _ refl within
+
+within-datagram : (terms : Terms) (secrets : Secrets) (at : ℕ) (log : List Change) (source : Option Tunnel) (reading : Result Message Refused) → IsLogWithin terms log
+    → IsLogWithin terms (with_change log (datagram_change terms secrets at log source reading))
+within-datagram terms secrets at log None reading within = within
+within-datagram terms secrets at log (Some source) (Err refusal) within = within
+within-datagram terms secrets at log (Some source) (Ok (Discovery nonce)) within = within
+within-datagram terms secrets at log (Some source) (Ok (Advertisement nonce relay)) within = within
+within-datagram terms secrets at log (Some source) (Ok (Request v6 nonce)) within = within
+within-datagram terms secrets at log (Some source) (Ok (Query limited mac nonce inner seen)) within = within
+within-datagram terms secrets at log (Some source) (Ok (Update mac nonce inner)) within =
+    within-update terms log source at (is_good secrets source nonce mac) (report_in inner) within
+
+within-back : (settings : Settings) (first : Secret) (back : List Event) → IsLogWithin (terms_of settings) (accepted_back settings first back)
+unfolding accepted_back
+within-back settings first [] = record { endpoints = omega arith; groups = λ endpoint. omega arith; sources = tt }
+within-back settings first (Moment moment ∷ earlier) =
+    within-mark (terms_of settings) (accepted_back settings first earlier) (max (now_of (reverse earlier)) moment) (within-back settings first earlier)
+within-back settings first (Rotate secret ∷ earlier) = within-back settings first earlier
+within-back settings first (Datagram from bytes ∷ earlier) =
+    within-datagram (terms_of settings) (secrets_of first (reverse earlier)) (now_of (reverse earlier)) (accepted_back settings first earlier) (endpoint_of from) (message_of bytes)
+    (within-back settings first earlier)
+
+pub always_within : (settings : Settings) (first : Secret) (events : List Event)
+    → IsWithin settings.limits (standing_now (terms_of settings) (accepted settings first events))
+always_within settings first events = within-back settings first (reverse events)
