@@ -20,7 +20,7 @@ pub enum ReadAllFault {
     Memory,
 }
 
-/// Reads to the end of input. After a refusal the bytes that were taken are gone from the source.
+/// Reads to the end of input. What was taken before a refusal is lost: the source gives it no more.
 pub fn read_all<S: Source>(alloc: Global, source: &mut S) -> Result<Bytes, ReadAllFault>
     ensures all { IfOk result (λ bytes. TakesAll (S.left source.old) (S.left source.new) bytes) }
     ensures short { IfOk result (λ bytes. length bytes ≤ INPUT_LIMIT) }

@@ -6,8 +6,8 @@ use std::marker::Model;
 
 /// A tunnel endpoint (RFC 7450): the gateway's address and port as the relay sees them.
 ///
-/// Each endpoint has one form: an IPv4 address stands behind 96 zero bits, and never in
-/// ::ffff:0:0/96. Endpoints are ordered by address, then port.
+/// Each endpoint has one form: of the two that an IPv4 address has in 16 octets, the one behind 96
+/// zero bits. The order is that of the addresses, and for one address that of the ports.
 #[derive(Clone, Copy, Debug, PartialEq, Eq, PartialOrd, Ord)]
 pub struct Endpoint {
     address: u128,

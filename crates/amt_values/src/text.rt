@@ -111,8 +111,8 @@ fn parse_v6(text: &[u8]) -> Option<u128>
 ///
 /// IPv4 is four decimal numbers up to 255 without leading zeros, joined by dots. IPv6 is eight
 /// groups of one to four hexadecimal digits of either case, joined by colons, or fewer with one
-/// `::` in the place of at least one zero group (RFC 4291, section 2.2). A dotted tail, a zone and
-/// brackets are not read.
+/// `::` in the place of at least one zero group (RFC 4291, section 2.2). No part of it is dotted
+/// decimal, and no zone or bracket stands in it.
 pub fn parse_ip(text: &[u8]) -> Option<Ip>
     ensures found { IfSome result (λ ip. IsIpText ip text.now) }
     ensures only { (ip : IpValue) → IsIpText ip text.now → result ≡ Some ip }

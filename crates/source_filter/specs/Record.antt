@@ -11,7 +11,7 @@ use Rattle.source_filter.specs.declared.record.Record.{Record}
 abbrev pub lists : List Ip → Ip → Bool
 lists sources source = has ip_order sources source
 
--- IS and TO records are full: they speak of every source
+-- these name a whole filter, and so decide every source
 abbrev pub is_full : RecordKind → Bool
 is_full IsIn = true
 is_full IsEx = true
@@ -20,7 +20,7 @@ is_full ToEx = true
 is_full Allow = false
 is_full Block = false
 
--- ALLOW and BLOCK speak of the sources that they list
+-- the record decides the source; a change of sources decides only those that it names
 abbrev pub speaks : Record → Ip → Bool
 speaks group_record source = is_full group_record.kind || lists group_record.sources source
 
