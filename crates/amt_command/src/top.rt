@@ -54,6 +54,10 @@ fn replay_relay<S: Source, O: Sink>(alloc: Global, input: &mut S, out: &mut O) -
     ensures read { IsErrOf result Ending.ReadFault
         → Rose (S.faults input.old) (S.faults input.new) }
     ensures write { IsErrOf result Ending.WriteFault → Rose (O.faults out.old) (O.faults out.new) }
+    ensures calm_input { ¬ IsErrOf result Ending.ReadFault
+        → S.faults input.new ≡ S.faults input.old }
+    ensures calm_output { ¬ IsErrOf result Ending.WriteFault
+        → O.faults out.new ≡ O.faults out.old }
     ensures too_long { IsErrOf result Ending.TooLong
         → TakesMore INPUT_LIMIT (S.left input.old) (S.left input.new) }
     ensures within { (IsErrOf result Ending.TooLong → ⊥)
@@ -104,6 +108,10 @@ fn run<S: Source, O: Sink>(
     ensures read { IsErrOf result Ending.ReadFault
         → Rose (S.faults input.old) (S.faults input.new) }
     ensures write { IsErrOf result Ending.WriteFault → Rose (O.faults out.old) (O.faults out.new) }
+    ensures calm_input { ¬ IsErrOf result Ending.ReadFault
+        → S.faults input.new ≡ S.faults input.old }
+    ensures calm_output { ¬ IsErrOf result Ending.WriteFault
+        → O.faults out.new ≡ O.faults out.old }
     ensures too_long { IsErrOf result Ending.TooLong
         → TakesMore INPUT_LIMIT (S.left input.old) (S.left input.new) }
     ensures within { (IsErrOf result Ending.TooLong → ⊥)
@@ -154,6 +162,8 @@ pub fn amt<S: Source, O: Sink, E: Sink>(
     ensures script { result ≡ 3 → SpellsNothing (S.left input.old) (S.left input.new) }
     ensures read { result ≡ 4 → Rose (S.faults input.old) (S.faults input.new) }
     ensures write { result ≡ 5 → Rose (O.faults out.old) (O.faults out.new) }
+    ensures calm_input { result ≢ 4 → S.faults input.new ≡ S.faults input.old }
+    ensures calm_output { result ≢ 5 → O.faults out.new ≡ O.faults out.old }
     ensures too_long { result ≡ 8 → TakesMore INPUT_LIMIT (S.left input.old) (S.left input.new) }
     ensures within { (result ≡ 8 → ⊥)
         → TakesAtMost INPUT_LIMIT (S.left input.old) (S.left input.new) }

@@ -124,7 +124,7 @@ pub record Settles (given : List Setting) (values : Settings) (secret : Secret) 
   pub sources : values.limits.sources ≡ sources_in (set_at given keys.Sources)
   pub first_secret : secret ≡ secret_in (set_at given keys.Secret)
 
--- the lines say items after settings with which a relay may be set up. AllZip number is in its range,
+-- the lines say items after settings with which a relay may be set up. Each number is in its range,
 -- since its line says it; what is left to ask is that General Queries can carry the times, and that the
 -- limits allow no more sources in all than a relay may keep.
 pub record IsRelayScript (script : RelayScript) (bytes : List ℕ) : Type 0 where

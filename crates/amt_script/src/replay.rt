@@ -33,6 +33,7 @@ fn write_text<O: Sink>(out: &mut O, text: &Bytes) -> Result<(), RunFault>
 
     ensures later { O.faults out.old ≤ O.faults out.new }
     ensures write { OnErr result (Rose (O.faults out.old) (O.faults out.new)) }
+    ensures quiet { OnOk result (O.faults out.new ≡ O.faults out.old) }
     ensures fault { IfErr result (λ fault. fault ≡ RunFault.Write) }
 {
     match write_all_own(out, text.as_slice()) {
@@ -65,6 +66,7 @@ fn write_step<O: Sink>(
 
     ensures later { O.faults out.old ≤ O.faults out.new }
     ensures write { IsErrOf result RunFault.Write → Rose (O.faults out.old) (O.faults out.new) }
+    ensures quiet { ¬ IsErrOf result RunFault.Write → O.faults out.new ≡ O.faults out.old }
 {
     let Ok(step) = relay.step(alloc, event) else {
         return Err(RunFault::Memory);
@@ -92,6 +94,7 @@ fn write_rows<O: Sink>(
 
     ensures later { O.faults out.old ≤ O.faults out.new }
     ensures write { IsErrOf result RunFault.Write → Rose (O.faults out.old) (O.faults out.new) }
+    ensures quiet { ¬ IsErrOf result RunFault.Write → O.faults out.new ≡ O.faults out.old }
 {
     let Ok(rows) = relay.rows(alloc) else {
         return Err(RunFault::Memory);
@@ -124,6 +127,7 @@ fn write_item<O: Sink>(
 
     ensures later { O.faults out.old ≤ O.faults out.new }
     ensures write { IsErrOf result RunFault.Write → Rose (O.faults out.old) (O.faults out.new) }
+    ensures quiet { ¬ IsErrOf result RunFault.Write → O.faults out.new ≡ O.faults out.old }
 {
     match item {
         RelayItem::Event(event) => write_step(alloc, relay, number, event, out),
@@ -147,6 +151,7 @@ fn run_items<O: Sink>(
 
     ensures later { O.faults out.old ≤ O.faults out.new }
     ensures write { IsErrOf result RunFault.Write → Rose (O.faults out.old) (O.faults out.new) }
+    ensures quiet { ¬ IsErrOf result RunFault.Write → O.faults out.new ≡ O.faults out.old }
 {
     let items = script.items.as_slice();
     for (index, item) in items.iter().enumerate() {
@@ -175,6 +180,7 @@ pub fn run_relay_script<O: Sink>(
 
     ensures later { O.faults out.old ≤ O.faults out.new }
     ensures write { IsErrOf result RunFault.Write → Rose (O.faults out.old) (O.faults out.new) }
+    ensures quiet { ¬ IsErrOf result RunFault.Write → O.faults out.new ≡ O.faults out.old }
 {
     let Ok(relay) = Relay::new(alloc, script.settings, script.secret) else {
         return Err(RunFault::Memory);

@@ -1,4 +1,4 @@
-use Rattle.std.proofs.Common.{length, take, arith}
+use Rattle.std.proofs.Common.{length, take, refl, ◌∙◌}
 use Rattle.std.proofs.lemmas.Result.{on_err_weaker}
 use Rattle.amt_script.specs.Texts.{closing_text, events_in}
 use Rattle.amt_script.specs.Writing.{WritesFront}
@@ -17,7 +17,7 @@ returns-in-Err-clause-begun g c =
     rw (← c.as_slice-items.ensures) (run_cut c.loop-index.relay settings first items i item (closing_text (length items)) _ _ _ c.loop-index-test.true c.index-items-index.is c.loop-index.invariant.run begun)
 
 pub loop-index-init : goal.loop-index-init
-loop-index-init g c = record { run = record { at = c.requires.start; text = written_start _ _ }; later = omega arith }
+loop-index-init g c = record { run = record { at = c.requires.start; text = written_start _ _ }; calm = refl }
 
 pub loop-index-preserved : goal.loop-index-preserved
 loop-index-preserved g c =
@@ -30,7 +30,7 @@ loop-index-preserved g c =
     record {
       run = run_more c.loop-index.relay c.write_item.new.relay settings first items i item (closing_text (length items)) _ _ _ c.loop-index-test.true c.index-items-index.is
           c.loop-index.invariant.run (c.in-Ok.ensures.done settings first (events_in (take i items)) at) (c.in-Ok.ensures.next settings first (events_in (take i items)) at);
-      later = omega (arith, c.loop-index.invariant.later, c.in-Ok.ensures.later);
+      calm = c.in-Ok.ensures.quiet (λ fault. cc fault) ∙ c.loop-index.invariant.calm;
     }
 
 pub returns-clause-begun : goal.returns-clause-begun

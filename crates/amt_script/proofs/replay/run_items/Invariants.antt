@@ -1,4 +1,4 @@
-use Rattle.std.proofs.Common.{◌≤◌, length}
+use Rattle.std.proofs.Common.{◌≡◌, length}
 use Rattle.amt_script.specs.Texts.{closing_text}
 use Rattle.amt_script.proofs.Runs.{IsRunning}
 use Rattle.amt_script.proofs.replay.run_items.Given as goal
@@ -6,5 +6,5 @@ use Rattle.amt_script.proofs.replay.run_items.Given as goal
 abbrev pub invariant-loop-index : goal.invariant-loop-index
 invariant-loop-index g l = record {
   run : IsRunning l.relay l.script.settings l.script.secret l.items l.index (closing_text (length l.items)) (g.O.Sink.written l.initial.out) (g.O.Sink.written l.out);
-  later : g.O.Sink.faults l.initial.out ≤ g.O.Sink.faults l.out;
+  calm : g.O.Sink.faults l.out ≡ g.O.Sink.faults l.initial.out;
 }
