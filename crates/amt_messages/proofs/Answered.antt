@@ -1,13 +1,16 @@
 -- From what was answered by the reading of octets to what it says of their spelling.
-use Rattle.std.proofs.Common.{◌≡◌, ◌≤◌, ℕ, List, length, arith, Option, Some, None, Result, Ok, Err, refl, sym, subst, ◌∙◌}
+use Rattle.std.proofs.Common.{◌≡◌, ◌≤◌, ℕ, List, length, arith, Option, Some, None, Result, Ok, Err, refl, sym, subst, ap, ◌∙◌, false}
 use Rattle.std.specs.Result.{IfOk, MatchResult}
+use Rattle.amt_values.specs.Address.{is_mapped}
+use Rattle.amt_values.specs.Endpoint.{endpoint_named}
+use Rattle.amt_values.specs.Tunnel.{Tunnel}
 use Rattle.amt_messages.specs.declared.message.Message.{Message}
-use Rattle.amt_messages.specs.declared.message.Message.TheVariants.{Discovery, Advertisement, Request, Query, Update}
+use Rattle.amt_messages.specs.declared.message.Message.TheVariants.{Discovery, Advertisement, Request, Query, Update, Multicast, Teardown}
 use Rattle.amt_messages.specs.declared.refusal.DecodeFault.{DecodeFault}
 use Rattle.amt_messages.specs.declared.refusal.DecodeFault.TheVariants.{Refused as RefusedBy, Memory}
 use Rattle.amt_messages.specs.declared.refusal.Refused.{Refused}
 use Rattle.amt_messages.specs.Conditions.{IsMessage, IsSendable}
-use Rattle.amt_messages.specs.Layout.{Spells, spelling_of}
+use Rattle.amt_messages.specs.Layout.{Spells, gateway_address, gateway_port, spelling_of}
 use Rattle.amt_messages.specs.Refusal.{Gives, TakesMemory, first_refusal, message_at, message_of, reading_by, refusal_in}
 use Rattle.amt_messages.proofs.Spelled.{spelled_is_read}
 use Rattle.amt_messages.proofs.Unrefused.{read_is_spelled, read_is_unrefused}
@@ -27,6 +30,10 @@ answer_back answer bytes gives message fits sendable same =
     let spells = subst (Spells message) (sym same) (spelling_is_canonical message fits sendable).spelled in
     answer_only answer bytes gives message spells
 
+-- an endpoint that octets name is in its one form
+endpoint_named-form : (address port : ℕ) → is_mapped (endpoint_named address port).address ≡ false
+endpoint_named-form address port = grind arith
+
 -- what a datagram spells may be written
 spelled_is_sendable : (message : Message) (bytes : List ℕ) → length bytes ≤ 65535 → Spells message bytes → IsSendable message
 spelled_is_sendable (Discovery nonce) bytes most spells = tt
@@ -41,6 +48,11 @@ spelled_is_sendable (Query limited mac nonce inner (Some endpoint)) bytes most s
 spelled_is_sendable (Update mac nonce inner) bytes most spells =
     let octets = spells.kind.octets in
     omega arith
+spelled_is_sendable (Multicast packet) bytes most spells =
+    let octets = spells.kind.octets in
+    omega arith
+spelled_is_sendable (Teardown mac nonce gateway) bytes most spells =
+    ap (λ (t : Tunnel). is_mapped t.address) spells.gateway_field ∙ endpoint_named-form (gateway_address 0 bytes) (gateway_port 0 bytes)
 
 pub answer_sendable : (answer : Result Message DecodeFault) (bytes : List ℕ) → length bytes ≤ 65535 → Gives answer (message_of bytes)
     → IfOk answer (λ message. IsSendable message)

@@ -13,7 +13,7 @@ use Rattle.amt_values.specs.Tunnel.{Tunnel}
 use Rattle.amt_values.specs.declared.address.Ip.TheVariants.{V4, V6}
 use Rattle.amt_values.specs.declared.mac.Mac48.{Mac48}
 use Rattle.amt_messages.specs.declared.message.Message.{Message}
-use Rattle.amt_messages.specs.declared.message.Message.TheVariants.{Discovery, Advertisement, Request, Query, Update}
+use Rattle.amt_messages.specs.declared.message.Message.TheVariants.{Discovery, Advertisement, Request, Query, Update, Multicast, Teardown}
 use Rattle.amt_messages.specs.Layout.{IsCanonical, IsAdvertisement, IsQuery, gateway_address, gateway_port, gateway_at, query_flags, request_flags, seen_octets, spelling_of}
 
 -- the first octet, three more, and the rest
@@ -114,7 +114,7 @@ seen_behind endpoint inner bytes small octets names form =
     ∙ ap (λ (xs : List ℕ). big_bytes 2 endpoint.port ++ xs)
     (ap (λ (n : ℕ). drop n bytes) place ∙ (sym address ∙ ap (λ (n : ℕ). big_bytes 16 n) (sym one_form))))
 
--- the parts of a Query or an Update behind the first two octets
+-- the parts of a Query, an Update or a Teardown behind the first two octets
 query_parts : (mac : Mac48) (nonce : ℕ) (inner tail bytes : List ℕ) → AreOctets bytes → 12 ≤ length bytes
     → mac.0 ≡ take 6 (drop 2 bytes) → nonce ≡ big_number 4 (drop 8 bytes) → inner ≡ take (length inner) (drop 12 bytes)
     → drop (12 + length inner) bytes ≡ tail → drop 2 bytes ≡ mac.0 ++ big_bytes 4 nonce ++ inner ++ tail
@@ -181,3 +181,13 @@ canonical_once (Update mac nonce inner) bytes small h =
     (drop_all (12 + length inner) bytes (omega arith)) in
     first_two 5 0 bytes (omega arith) h.spelled.kind.first h.reserved
     ∙ ap (λ (rest : List ℕ). 5 ∷ 0 ∷ rest) (parts ∙ append-nil (mac.0 ++ big_bytes 4 nonce ++ inner))
+canonical_once (Multicast packet) bytes small h =
+    let size = h.spelled.kind.octets in
+    first_two 6 0 bytes (omega arith) h.spelled.kind.first h.reserved ∙ ap (λ (rest : List ℕ). 6 ∷ 0 ∷ rest) (sym h.spelled.packet_field)
+canonical_once (Teardown mac nonce gateway) bytes small h =
+    let size = h.spelled.kind.octets in
+    let tail = seen_octets (Some gateway) in
+    let behind = seen_behind gateway 0 bytes small size h.spelled.gateway_field h.address_form in
+    let parts = query_parts mac nonce [] tail bytes small (omega arith) h.spelled.mac_field h.spelled.nonce_field refl behind in
+    first_two 7 0 bytes (omega arith) h.spelled.kind.first h.reserved
+    ∙ ap (λ (rest : List ℕ). 7 ∷ 0 ∷ rest) (parts ∙ ap (λ (front : List ℕ). front ++ tail) (append-nil (mac.0 ++ big_bytes 4 nonce)))

@@ -1,27 +1,15 @@
 -- Reading by the refusals and the places of fields is the relation between octets and messages.
-use Rattle.std.proofs.Common.{◌≡◌, ℕ, ◌+◌, ◌/◌, ◌%◌, ◌<◌, ◌≤◌, List, [], ◌∷◌, length, take, drop, slice_index, Bool, true, false, Option, Some, None, Ok, Err, refl, sym, ap, ◌∙◌, arith, length-drop, cond}
-use Rattle.std.proofs.lemmas.Bool.{le-ltb, ne_eqb}
+use Rattle.std.proofs.Common.{◌≡◌, ℕ, ◌+◌, ◌/◌, ◌%◌, ◌<◌, ◌≤◌, List, [], ◌∷◌, length, take, drop, slice_index, Bool, true, false, Option, Some, None, Ok, refl, sym, ap, ◌∙◌, arith, length-drop, cond}
+use Rattle.std.proofs.lemmas.Bool.{le-ltb}
 use Rattle.amt_values.specs.Tunnel.{Tunnel}
 use Rattle.amt_values.specs.declared.address.Ip.TheVariants.{V4, V6}
 use Rattle.amt_values.specs.declared.mac.Mac48.{Mac48}
 use Rattle.amt_messages.specs.declared.message.Message.{Message}
-use Rattle.amt_messages.specs.declared.message.Message.TheVariants.{Discovery, Advertisement, Request, Query, Update}
-use Rattle.amt_messages.specs.declared.refusal.Refused.TheVariants.{NotYet}
+use Rattle.amt_messages.specs.declared.message.Message.TheVariants.{Discovery, Advertisement, Request, Query, Update, Multicast, Teardown}
 use Rattle.amt_messages.specs.Inner.{inner_length_of}
 use Rattle.amt_messages.specs.Layout.{Spells, IsQuery, has_flag, query_length, gateway_at}
 use Rattle.amt_messages.specs.Refusal.{first_refusal, kind_refusal, query_refusal, length_refusal, message_at, message_of}
 use Rattle.amt_messages.proofs.InnerLength.{inner_length_of-least, inner_length_of-take}
-
--- the types of the standard that aren't read yet
-kind_refusal-not_yet : (kind : ℕ) (bytes : List ℕ) → 6 ≤ kind → kind ≤ 7 → kind_refusal kind bytes ≡ Some (NotYet kind)
-kind_refusal-not_yet kind bytes low high =
-    let zero_no = ne_eqb kind 0 (λ e. omega arith) in
-    let one_no = ne_eqb kind 1 (λ e. omega arith) in
-    let two_no = ne_eqb kind 2 (λ e. omega arith) in
-    let three_no = ne_eqb kind 3 (λ e. omega arith) in
-    let four_no = ne_eqb kind 4 (λ e. omega arith) in
-    let five_no = ne_eqb kind 5 (λ e. omega arith) in
-    rw (zero_no, le-ltb 7 kind high, one_no, two_no, three_no, four_no, five_no) refl
 
 -- octets of version 0 are refused by their type
 first_refusal-kind : (kind : ℕ) (bytes : List ℕ) → kind < 16 → 0 < length bytes → slice_index bytes 0 ≡ kind → first_refusal bytes ≡ kind_refusal kind bytes
@@ -34,13 +22,6 @@ first_refusal-kind kind (x ∷ rest) small some first =
 
 length_refusal-same : (need : ℕ) → length_refusal need need ≡ None
 length_refusal-same need = rw (le-ltb need need (omega arith)) refl
-
--- octets are refused as another type where their type isn't read yet
-pub read_as_not_yet : (kind : ℕ) (bytes : List ℕ) → 6 ≤ kind → kind ≤ 7 → 0 < length bytes → slice_index bytes 0 ≡ kind
-    → message_of bytes ≡ Err (NotYet kind)
-unfolding message_of
-read_as_not_yet kind bytes low high some first =
-    rw (first_refusal-kind kind bytes (omega arith) some first ∙ kind_refusal-not_yet kind bytes low high) refl
 
 -- the message is read where nothing is refused and the fields are its
 reading_unrefused : (bytes : List ℕ) (message : Message) → first_refusal bytes ≡ None → message_at bytes ≡ message → message_of bytes ≡ Ok message
@@ -104,3 +85,13 @@ spelled_is_read (Update mac nonce inner) bytes h =
     let first = first_refusal-kind 5 bytes (omega arith) (omega arith) h.kind.first in
     reading_unrefused bytes (Update mac nonce inner) (first ∙ rw (le-ltb (length bytes) 12 (omega arith)) refl)
     (rw (h.kind.first, sym h.mac_field, sym h.nonce_field, sym h.inner_field) refl)
+spelled_is_read (Multicast packet) bytes h =
+    let octets = h.kind.octets in
+    let first = first_refusal-kind 6 bytes (omega arith) (omega arith) h.kind.first in
+    reading_unrefused bytes (Multicast packet) (first ∙ rw (le-ltb (length bytes) 2 (omega arith)) refl)
+    (rw h.kind.first (ap (λ (p : List ℕ). Multicast p) (sym h.packet_field)))
+spelled_is_read (Teardown mac nonce gateway) bytes h =
+    let octets = h.kind.octets in
+    let first = first_refusal-kind 7 bytes (omega arith) (omega arith) h.kind.first in
+    reading_unrefused bytes (Teardown mac nonce gateway) (first ∙ rw octets refl)
+    (rw (h.kind.first, sym h.mac_field, sym h.nonce_field, sym h.gateway_field) refl)

@@ -7,7 +7,7 @@ use Rattle.amt_messages.specs.declared.message.Message.{Message}
 use Rattle.amt_messages.specs.declared.refusal.Refused.{Refused}
 use Rattle.amt_messages.specs.Inner.{inner_length_of}
 use Rattle.amt_messages.specs.Layout.{Spells, IsQuery, has_flag, query_length, gateway_at}
-use Rattle.amt_messages.specs.Refusal.{first_refusal, kind_refusal, query_refusal, update_refusal, inner_refusal, length_refusal, advertisement_length, is_unknown, message_at, message_of, query_with, reading_by}
+use Rattle.amt_messages.specs.Refusal.{first_refusal, kind_refusal, query_refusal, update_refusal, multicast_refusal, inner_refusal, length_refusal, advertisement_length, is_unknown, message_at, message_of, query_with, reading_by}
 use Rattle.amt_messages.proofs.InnerLength.{inner_length_of-least, inner_length_of-take}
 
 -- which way a choice went
@@ -28,6 +28,9 @@ advertisement_length-none have unrefused = grind arith
 update_refusal-none : (bytes : List ℕ) → update_refusal bytes ≡ None → 12 ≤ length bytes
 update_refusal-none bytes unrefused = grind arith
 
+multicast_refusal-none : (bytes : List ℕ) → multicast_refusal bytes ≡ None → 2 ≤ length bytes
+multicast_refusal-none bytes unrefused = grind arith
+
 -- the types that are read, each with the length that it may have
 data IsKnown (kind : ℕ) (bytes : List ℕ) : Type 0 where
   discovery : kind ≡ 1 → length bytes ≡ 8 → IsKnown kind bytes
@@ -35,6 +38,13 @@ data IsKnown (kind : ℕ) (bytes : List ℕ) : Type 0 where
   request : kind ≡ 3 → length bytes ≡ 8 → IsKnown kind bytes
   query : kind ≡ 4 → query_refusal bytes ≡ None → IsKnown kind bytes
   update : kind ≡ 5 → 12 ≤ length bytes → IsKnown kind bytes
+  multicast : kind ≡ 6 → 2 ≤ length bytes → IsKnown kind bytes
+  teardown : kind ≡ 7 → length bytes ≡ 30 → IsKnown kind bytes
+
+-- what is none of the first six types is the seventh
+seventh : (kind : ℕ) → is_unknown kind ≡ false → eqb kind 1 ≡ false → eqb kind 2 ≡ false → eqb kind 3 ≡ false → eqb kind 4 ≡ false
+    → eqb kind 5 ≡ false → eqb kind 6 ≡ false → kind ≡ 7
+seventh kind known no_one no_two no_three no_four no_five no_six = grind arith
 
 kind_refusal-none : (kind : ℕ) (bytes : List ℕ) → kind_refusal kind bytes ≡ None → IsKnown kind bytes
 kind_refusal-none kind bytes unrefused =
@@ -50,7 +60,13 @@ kind_refusal-none kind bytes unrefused =
               | inl four ↦ query (eqb-true kind 4 four.0) four.1
               | inr past_four ↦ elim (chosen (eqb kind 5) _ _ None past_four.1) [
                 | inl five ↦ update (eqb-true kind 5 five.0) (update_refusal-none bytes five.1)
-                | inr past_five ↦ cc past_five.1
+                | inr past_five ↦ elim (chosen (eqb kind 6) _ _ None past_five.1) [
+                  | inl six ↦ multicast (eqb-true kind 6 six.0) (multicast_refusal-none bytes six.1)
+                  | inr past_six ↦
+                      teardown
+                      (seventh kind past_unknown.0 past_one.0 past_two.0 past_three.0 past_four.0 past_five.0 past_six.0)
+                      (length_refusal-none 30 (length bytes) past_six.1)
+                ]
               ]
             ]
           ]
@@ -135,6 +151,11 @@ message_spelled bytes (query first unrefused) =
 message_spelled bytes (update first enough) =
     let octets : length bytes ≡ 12 + length (drop 12 bytes) = omega (arith, length-drop 12 bytes) in
     rw first record { kind = record { octets = octets; first = first }; mac_field = refl; nonce_field = refl; inner_field = refl }
+message_spelled bytes (multicast first enough) =
+    let octets : length bytes ≡ 2 + length (drop 2 bytes) = omega (arith, length-drop 2 bytes) in
+    rw first record { kind = record { octets = octets; first = first }; packet_field = refl }
+message_spelled bytes (teardown first octets) =
+    rw first record { kind = record { octets = octets; first = first }; mac_field = refl; nonce_field = refl; gateway_field = refl }
 
 -- what is read of octets, they spell
 pub read_is_spelled : (bytes : List ℕ) (message : Message) → message_of bytes ≡ Ok message → Spells message bytes

@@ -11,7 +11,7 @@ use Rattle.amt_values.specs.Tunnel.{Tunnel}
 use Rattle.amt_values.specs.declared.address.Ip.TheVariants.{V4, V6}
 use Rattle.amt_values.specs.declared.mac.Mac48.{Mac48}
 use Rattle.amt_messages.specs.declared.message.Message.{Message}
-use Rattle.amt_messages.specs.declared.message.Message.TheVariants.{Discovery, Advertisement, Request, Query, Update}
+use Rattle.amt_messages.specs.declared.message.Message.TheVariants.{Discovery, Advertisement, Request, Query, Update, Multicast, Teardown}
 use Rattle.amt_messages.specs.Conditions.{IsMessage, IsSendable, IsSeen}
 use Rattle.amt_messages.specs.Inner.{inner_length_of}
 use Rattle.amt_messages.specs.Layout.{IsCanonical, IsQuery, IsUpdate, query_flags, query_length, request_flags, seen_octets, spelling_of}
@@ -46,7 +46,7 @@ query_reserved true false = refl
 query_reserved false true = refl
 query_reserved false false = refl
 
--- the parts of a Query or an Update by their places, behind an octet of type and one of flags
+-- the parts of a Query, an Update or a Teardown by their places, behind an octet of type and one of flags
 module _ (kind flags : ℕ) (mac nonce inner tail : List ℕ) (six : length mac ≡ 6) (four : length nonce ≡ 4) where
   whole_length : length (kind ∷ flags ∷ (mac ++ nonce ++ inner ++ tail)) ≡ 12 + length inner + length tail
   whole_length = omega (arith, length-append (mac ++ nonce ++ inner) tail, length-append (mac ++ nonce) inner, length-append mac nonce)
@@ -147,6 +147,42 @@ query_is_canonical limited mac nonce inner (Some endpoint) six small form whole 
       address_form = ap is_mapped address_is ∙ form.2;
     }
 
+-- the spelling of Multicast Data is canonical
+multicast_is_canonical : (packet : List ℕ) → IsCanonical (Multicast packet) (spelling_of (Multicast packet))
+multicast_is_canonical packet = record {
+  spelled = record { kind = record { octets = omega arith; first = refl }; packet_field = refl };
+  reserved = refl;
+  address_form = tt;
+}
+
+-- what is written of a Teardown, with no inner datagram before its endpoint
+teardown_written : (mac : Mac48) (nonce : ℕ) (gateway : Tunnel) → length mac.0 ≡ 6 → nonce < 2 ^ 32 → IsSeen (Some gateway)
+    → IsCanonical (Teardown mac nonce gateway) (7 ∷ 0 ∷ (mac.0 ++ big_bytes 4 nonce ++ [] ++ seen_octets (Some gateway)))
+teardown_written mac nonce gateway six small form =
+    let tail = seen_octets (Some gateway) in
+    let port_place = tail_there 7 0 mac.0 (big_bytes 4 nonce) [] tail six refl in
+    let address_place = address_there 7 0 mac.0 (big_bytes 4 nonce) [] tail six refl in
+    let port_is = ap (big_number 2) port_place ∙ port_again gateway.port (big_bytes 16 gateway.address) form.1 in
+    let address_is = ap (big_number 16) address_place ∙ address_again gateway.address form.0 in
+    record {
+      spelled = record {
+        kind = record { octets = whole_length 7 0 mac.0 (big_bytes 4 nonce) [] tail six refl; first = refl };
+        mac_field = mac_there 7 0 mac.0 (big_bytes 4 nonce) [] tail six refl;
+        nonce_field = nonce_again nonce ([] ++ tail) small ∙ sym (ap (big_number 4) (nonce_there 7 0 mac.0 (big_bytes 4 nonce) [] tail six refl));
+        gateway_field = endpoint_named-again gateway _ _ address_is port_is form.2;
+      };
+      reserved = refl;
+      address_form = ap is_mapped address_is ∙ form.2;
+    }
+
+-- the spelling of a Teardown is canonical
+pub teardown_is_canonical : (mac : Mac48) (nonce : ℕ) (gateway : Tunnel) → length mac.0 ≡ 6 → nonce < 2 ^ 32 → IsSeen (Some gateway)
+    → IsCanonical (Teardown mac nonce gateway) (spelling_of (Teardown mac nonce gateway))
+teardown_is_canonical mac nonce gateway six small form =
+    let no_inner = append-nil (mac.0 ++ big_bytes 4 nonce) in
+    subst (λ (front : List ℕ). IsCanonical (Teardown mac nonce gateway) (7 ∷ 0 ∷ (front ++ seen_octets (Some gateway)))) no_inner
+    (teardown_written mac nonce gateway six small form)
+
 -- the message's spelling is canonical
 pub spelling_is_canonical : (message : Message) → IsMessage message → IsSendable message → IsCanonical message (spelling_of message)
 spelling_is_canonical (Discovery nonce) fits sendable =
@@ -182,3 +218,5 @@ spelling_is_canonical (Request v6 nonce) fits sendable =
 spelling_is_canonical (Query limited mac nonce inner seen) fits sendable =
     query_is_canonical limited mac nonce inner seen fits.0.0 fits.1 fits.3 sendable.0
 spelling_is_canonical (Update mac nonce inner) fits sendable = update_is_canonical mac nonce inner fits.0.0 fits.1
+spelling_is_canonical (Multicast packet) fits sendable = multicast_is_canonical packet
+spelling_is_canonical (Teardown mac nonce gateway) fits sendable = teardown_is_canonical mac nonce gateway fits.0.0 fits.1 fits.2

@@ -9,7 +9,7 @@ use Rattle.amt_values.specs.declared.mac.Mac48.{Mac48}
 use Rattle.amt_messages.specs.Inner.{inner_length_of}
 use Rattle.amt_messages.specs.Layout.{seen_octets}
 use Rattle.amt_messages.specs.declared.message.Message.{Message}
-use Rattle.amt_messages.specs.declared.message.Message.TheVariants.{Discovery, Advertisement, Request, Query, Update}
+use Rattle.amt_messages.specs.declared.message.Message.TheVariants.{Discovery, Advertisement, Request, Query, Update, Multicast, Teardown}
 
 -- the address has 32 or 128 bits
 abbrev pub IsAddress : Ip → Type 0
@@ -32,9 +32,12 @@ IsMessage (Advertisement nonce relay) = (nonce < 2 ^ 32) × IsAddress relay
 IsMessage (Request v6 nonce) = nonce < 2 ^ 32
 IsMessage (Query limited mac nonce inner seen) = IsMac mac × (nonce < 2 ^ 32) × AreOctets inner × IsSeen seen
 IsMessage (Update mac nonce inner) = IsMac mac × (nonce < 2 ^ 32) × AreOctets inner
+IsMessage (Multicast packet) = AreOctets packet
+IsMessage (Teardown mac nonce gateway) = IsMac mac × (nonce < 2 ^ 32) × IsSeen (Some gateway)
 
--- a Query's inner datagram is as long as its own header says, and a Query or an Update is no longer
--- than what UDP carries; every other message may be written
+-- a Query's inner datagram is as long as its own header says; a Query, an Update and Multicast Data are
+-- no longer than what UDP carries; a Teardown's endpoint is in its one form; every other message may be
+-- written
 abbrev pub IsSendable : Message → Type 0
 IsSendable (Discovery nonce) = Unit {0}
 IsSendable (Advertisement nonce relay) = Unit {0}
@@ -42,3 +45,5 @@ IsSendable (Request v6 nonce) = Unit {0}
 IsSendable (Query limited mac nonce inner seen) =
     (inner_length_of inner ≡ Some (length inner)) × (12 + length inner + length (seen_octets seen) ≤ 65535)
 IsSendable (Update mac nonce inner) = 12 + length inner ≤ 65535
+IsSendable (Multicast packet) = 2 + length packet ≤ 65535
+IsSendable (Teardown mac nonce gateway) = is_mapped gateway.address ≡ false

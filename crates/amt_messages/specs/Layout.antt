@@ -10,7 +10,7 @@ use Rattle.amt_values.specs.declared.mac.Mac48.{Mac48}
 use Rattle.byteorder.specs.Endian.{big_number, big_bytes}
 use Rattle.amt_messages.specs.Inner.{inner_length_of}
 use Rattle.amt_messages.specs.declared.message.Message.{Message}
-use Rattle.amt_messages.specs.declared.message.Message.TheVariants.{Discovery, Advertisement, Request, Query, Update}
+use Rattle.amt_messages.specs.declared.message.Message.TheVariants.{Discovery, Advertisement, Request, Query, Update, Multicast, Teardown}
 
 -- so many octets, of which the first has this type and version 0 (RFC 7450, section 5.1)
 pub record IsOfKind (kind size : ℕ) (bytes : List ℕ) : Type 0 where
@@ -55,7 +55,8 @@ pub record IsQuery (limited named : Bool) (mac : Mac48) (nonce : ℕ) (inner byt
   pub inner_field : inner ≡ take (length inner) (drop 12 bytes)
   pub inner_whole : inner_length_of inner ≡ Some (length inner)
 
--- the gateway's port and address, behind an inner datagram of so many octets (RFC 7450, section 5.1.4)
+-- the gateway's port and address, behind an inner datagram of so many octets (RFC 7450, section 5.1.4); a
+-- Teardown has them in the same place, with no inner datagram (section 5.1.7)
 abbrev pub gateway_port : ℕ → List ℕ → ℕ
 gateway_port inner bytes = big_number 2 (drop (12 + inner) bytes)
 
@@ -74,6 +75,18 @@ pub record IsUpdate (mac : Mac48) (nonce : ℕ) (inner bytes : List ℕ) : Type 
   pub nonce_field : nonce ≡ big_number 4 (drop 8 bytes)
   pub inner_field : inner ≡ drop 12 bytes
 
+-- one reserved octet, and the IP packet, which is all the rest (RFC 7450, section 5.1.6)
+pub record IsMulticast (packet bytes : List ℕ) : Type 0 where
+  pub kind : IsOfKind 6 (2 + length packet) bytes
+  pub packet_field : packet ≡ drop 2 bytes
+
+-- one reserved octet, the MAC, the nonce, and the gateway's port and address (RFC 7450, section 5.1.7)
+pub record IsTeardown (mac : Mac48) (nonce : ℕ) (gateway : Tunnel) (bytes : List ℕ) : Type 0 where
+  pub kind : IsOfKind 7 30 bytes
+  pub mac_field : mac.0 ≡ take 6 (drop 2 bytes)
+  pub nonce_field : nonce ≡ big_number 4 (drop 8 bytes)
+  pub gateway_field : gateway ≡ gateway_at 0 bytes
+
 -- the octets spell the message; the G flag of a Query is set exactly where it says what was seen
 abbrev pub Spells : Message → List ℕ → Type 0
 Spells (Discovery nonce) bytes = IsDiscovery nonce bytes
@@ -84,6 +97,8 @@ Spells (Query limited mac nonce inner None) bytes = IsQuery limited false mac no
 Spells (Query limited mac nonce inner (Some endpoint)) bytes =
     IsQuery limited true mac nonce inner bytes × (endpoint ≡ gateway_at (length inner) bytes)
 Spells (Update mac nonce inner) bytes = IsUpdate mac nonce inner bytes
+Spells (Multicast packet) bytes = IsMulticast packet bytes
+Spells (Teardown mac nonce gateway) bytes = IsTeardown mac nonce gateway bytes
 
 -- reserved bits are zero: of a Request all but P, of a Query's second octet all but L and G
 abbrev pub HasZeroReserved : Message → List ℕ → Type 0
@@ -92,6 +107,8 @@ HasZeroReserved (Advertisement nonce relay) bytes = take 3 (drop 1 bytes) ≡ 0 
 HasZeroReserved (Request v6 nonce) bytes = (slice_index bytes 1 / 2 ≡ 0) × (take 2 (drop 2 bytes) ≡ 0 ∷ 0 ∷ [])
 HasZeroReserved (Query limited mac nonce inner seen) bytes = slice_index bytes 1 / 4 ≡ 0
 HasZeroReserved (Update mac nonce inner) bytes = slice_index bytes 1 ≡ 0
+HasZeroReserved (Multicast packet) bytes = slice_index bytes 1 ≡ 0
+HasZeroReserved (Teardown mac nonce gateway) bytes = slice_index bytes 1 ≡ 0
 
 -- an IPv4 address of a gateway stands behind 96 zero bits
 abbrev pub HasZeroForm : Message → List ℕ → Type 0
@@ -101,6 +118,8 @@ HasZeroForm (Request v6 nonce) bytes = Unit {0}
 HasZeroForm (Query limited mac nonce inner None) bytes = Unit {0}
 HasZeroForm (Query limited mac nonce inner (Some endpoint)) bytes = is_mapped (gateway_address (length inner) bytes) ≡ false
 HasZeroForm (Update mac nonce inner) bytes = Unit {0}
+HasZeroForm (Multicast packet) bytes = Unit {0}
+HasZeroForm (Teardown mac nonce gateway) bytes = is_mapped (gateway_address 0 bytes) ≡ false
 
 -- the octets spell the message, with reserved bits zero and the gateway's address in its one form
 pub record IsCanonical (message : Message) (bytes : List ℕ) : Type 0 where
@@ -121,7 +140,7 @@ request_flags v6 = if v6 then 1 else 0
 abbrev pub query_flags : Bool → Bool → ℕ
 query_flags limited named = (if limited then 2 else 0) + (if named then 1 else 0)
 
--- the octets behind the inner datagram
+-- the octets of a gateway's port and address, where they stand in a Query or a Teardown
 abbrev pub seen_octets : Option Tunnel → List ℕ
 seen_octets None = []
 seen_octets (Some endpoint) = big_bytes 2 endpoint.port ++ big_bytes 16 endpoint.address
@@ -134,3 +153,5 @@ spelling_of (Request v6 nonce) = 3 ∷ request_flags v6 ∷ 0 ∷ 0 ∷ big_byte
 spelling_of (Query limited mac nonce inner seen) =
     4 ∷ query_flags limited (is_some seen) ∷ (mac.0 ++ big_bytes 4 nonce ++ inner ++ seen_octets seen)
 spelling_of (Update mac nonce inner) = 5 ∷ 0 ∷ (mac.0 ++ big_bytes 4 nonce ++ inner)
+spelling_of (Multicast packet) = 6 ∷ 0 ∷ packet
+spelling_of (Teardown mac nonce gateway) = 7 ∷ 0 ∷ (mac.0 ++ big_bytes 4 nonce ++ seen_octets (Some gateway))

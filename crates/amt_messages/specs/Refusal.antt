@@ -6,11 +6,11 @@ use Rattle.amt_values.specs.declared.address.Ip.TheVariants.{V4, V6}
 use Rattle.amt_messages.specs.Inner.{inner_length_of}
 use Rattle.amt_messages.specs.Layout.{has_flag, query_length, gateway_at}
 use Rattle.amt_messages.specs.declared.message.Message.{Message}
-use Rattle.amt_messages.specs.declared.message.Message.TheVariants.{Discovery, Advertisement, Request, Query, Update}
+use Rattle.amt_messages.specs.declared.message.Message.TheVariants.{Discovery, Advertisement, Request, Query, Update, Multicast, Teardown}
 use Rattle.amt_messages.specs.declared.refusal.DecodeFault.{DecodeFault}
 use Rattle.amt_messages.specs.declared.refusal.DecodeFault.TheVariants.{Refused as RefusedBy, Memory}
 use Rattle.amt_messages.specs.declared.refusal.Refused.{Refused}
-use Rattle.amt_messages.specs.declared.refusal.Refused.TheVariants.{Empty, Version, Kind, NotYet, NoInner, Short, Long}
+use Rattle.amt_messages.specs.declared.refusal.Refused.TheVariants.{Empty, Version, Kind, NoInner, Short, Long}
 
 -- a type that the standard doesn't define (RFC 7450, section 5.1)
 abbrev pub is_unknown : ℕ → Bool
@@ -48,6 +48,13 @@ request_refusal bytes = length_refusal 8 (length bytes)
 abbrev pub update_refusal : List ℕ → Option Refused
 update_refusal bytes = if nat_lt (length bytes) 12 then Some (Short 12 (length bytes)) else None
 
+-- Multicast Data has a head of two octets, and any packet behind it
+abbrev pub multicast_refusal : List ℕ → Option Refused
+multicast_refusal bytes = if nat_lt (length bytes) 2 then Some (Short 2 (length bytes)) else None
+
+abbrev pub teardown_refusal : List ℕ → Option Refused
+teardown_refusal bytes = length_refusal 30 (length bytes)
+
 -- the type is tried before the length, which goes by it
 abbrev pub kind_refusal : ℕ → List ℕ → Option Refused
 kind_refusal kind bytes =
@@ -56,10 +63,11 @@ kind_refusal kind bytes =
     else (if kind == 2 then advertisement_refusal bytes
     else (if kind == 3 then request_refusal bytes
     else (if kind == 4 then query_refusal bytes
-    else (if kind == 5 then update_refusal bytes else Some (NotYet kind))))))
+    else (if kind == 5 then update_refusal bytes
+    else (if kind == 6 then multicast_refusal bytes else teardown_refusal bytes))))))
 
--- the first condition that holds: no octet, another version, an unknown type, a type that isn't
--- read yet, no inner datagram, too few or too many octets
+-- the first condition that holds: no octet, another version, an unknown type, no inner datagram,
+-- too few or too many octets
 unfoldable pub first_refusal : List ℕ → Option Refused
 first_refusal [] = Some Empty
 first_refusal (first ∷ rest) =
@@ -90,13 +98,21 @@ query_at bytes = query_with (unwrap_or (inner_length_of (drop 12 bytes)) 0) byte
 abbrev pub update_at : List ℕ → Message
 update_at bytes = Update (record { 0 = take 6 (drop 2 bytes) }) (big_number 4 (drop 8 bytes)) (drop 12 bytes)
 
+abbrev pub multicast_at : List ℕ → Message
+multicast_at bytes = Multicast (drop 2 bytes)
+
+abbrev pub teardown_at : List ℕ → Message
+teardown_at bytes = Teardown (record { 0 = take 6 (drop 2 bytes) }) (big_number 4 (drop 8 bytes)) (gateway_at 0 bytes)
+
 -- the fields by their places, where nothing is refused
 abbrev pub message_at : List ℕ → Message
 message_at bytes =
     if slice_index bytes 0 == 1 then discovery_at bytes
     else (if slice_index bytes 0 == 2 then advertisement_at bytes
     else (if slice_index bytes 0 == 3 then request_at bytes
-    else (if slice_index bytes 0 == 4 then query_at bytes else update_at bytes)))
+    else (if slice_index bytes 0 == 4 then query_at bytes
+    else (if slice_index bytes 0 == 5 then update_at bytes
+    else (if slice_index bytes 0 == 6 then multicast_at bytes else teardown_at bytes)))))
 
 abbrev pub reading_by : Option Refused → Message → Result Message Refused
 reading_by None message = Ok message
@@ -118,17 +134,25 @@ query_reading bytes = reading_by (query_refusal bytes) (query_at bytes)
 abbrev pub update_reading : List ℕ → Result Message Refused
 update_reading bytes = reading_by (update_refusal bytes) (update_at bytes)
 
+abbrev pub multicast_reading : List ℕ → Result Message Refused
+multicast_reading bytes = reading_by (multicast_refusal bytes) (multicast_at bytes)
+
+abbrev pub teardown_reading : List ℕ → Result Message Refused
+teardown_reading bytes = reading_by (teardown_refusal bytes) (teardown_at bytes)
+
 -- the message that the octets spell, or their first refusal
 unfoldable pub message_of : List ℕ → Result Message Refused
 message_of bytes = reading_by (first_refusal bytes) (message_at bytes)
 
--- memory is asked for the inner datagram of a Query or an Update alone
+-- memory is asked for the inner datagram of a Query or an Update, and for the packet of Multicast Data
 abbrev pub TakesMemory : Result Message Refused → Type 0
 TakesMemory (Ok (Query limited mac nonce inner seen)) = Unit {0}
 TakesMemory (Ok (Update mac nonce inner)) = Unit {0}
+TakesMemory (Ok (Multicast packet)) = Unit {0}
 TakesMemory (Ok (Discovery nonce)) = ⊥
 TakesMemory (Ok (Advertisement nonce relay)) = ⊥
 TakesMemory (Ok (Request v6 nonce)) = ⊥
+TakesMemory (Ok (Teardown mac nonce gateway)) = ⊥
 TakesMemory (Err refusal) = ⊥
 
 abbrev pub FaultGives : DecodeFault → Result Message Refused → Type 0

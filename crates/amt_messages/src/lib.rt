@@ -9,9 +9,11 @@
 mod fields;
 mod inner;
 mod message;
+mod multicast;
 mod query;
 mod reading;
 mod refusal;
+mod teardown;
 mod update;
 mod writing;
 

@@ -37,4 +37,18 @@ pub enum Message {
         /// The IP datagram that carries the membership report; a codec takes any octets for it.
         inner: Bytes,
     },
+    /// A relay forwards a packet of a group (section 5.1.6).
+    Multicast {
+        /// The whole IP packet; a codec takes any octets for it, and none.
+        packet: Bytes,
+    },
+    /// A gateway ends the tunnel of an earlier endpoint of its own (section 5.1.7).
+    Teardown {
+        /// The response MAC that the relay gave for that endpoint.
+        mac: Mac48,
+        /// The nonce that the MAC was given with.
+        nonce: u32,
+        /// The endpoint whose tunnel ends, as a Query named it.
+        gateway: Endpoint,
+    },
 }

@@ -6,8 +6,10 @@ ghost use Rattle.amt_messages.specs.Refusal.{Gives, advertisement_length, advert
 
 use crate::fields::{has_flag, number_at, relay_at};
 use crate::message::Message;
+use crate::multicast::read_multicast;
 use crate::query::read_query;
 use crate::refusal::{DecodeFault, Refused, length_refusal};
+use crate::teardown::read_teardown;
 use crate::update::read_update;
 use std::alloc::Global;
 
@@ -59,7 +61,7 @@ fn read_request(bytes: &[u8]) -> Result<Message, DecodeFault>
     }
 }
 
-#[tactic(auto, using(crate::proofs::Spelled::read_as_not_yet), unfolding(crate::specs::Refusal::first_refusal, crate::specs::Refusal::message_of))]
+#[tactic(auto, unfolding(crate::specs::Refusal::first_refusal, crate::specs::Refusal::message_of))]
 fn read(alloc: Global, bytes: &[u8]) -> Result<Message, DecodeFault>
     requires { length bytes.now ≤ 65535 }
     ensures { Gives result (message_of bytes.now) }
@@ -77,7 +79,8 @@ fn read(alloc: Global, bytes: &[u8]) -> Result<Message, DecodeFault>
         3 => read_request(bytes),
         4 => read_query(alloc, bytes),
         5 => read_update(alloc, bytes),
-        kind @ 6..=7 => Err(DecodeFault::Refused(Refused::NotYet(kind))),
+        6 => read_multicast(alloc, bytes),
+        7 => read_teardown(bytes),
         kind => Err(DecodeFault::Refused(Refused::Kind(kind))),
     }
 }
@@ -85,7 +88,7 @@ fn read(alloc: Global, bytes: &[u8]) -> Result<Message, DecodeFault>
 /// Reads a whole datagram of at most 65,535 octets as one message.
 ///
 /// Reserved bits are ignored. The refusals are tried in the order of `Refused`. Memory is asked for
-/// the inner datagram of a Query or an Update alone.
+/// the inner datagram of a Query or an Update, and for the packet of Multicast Data; for nothing else.
 pub fn decode(alloc: Global, bytes: &[u8]) -> Result<Message, DecodeFault>
     requires { length bytes.now ≤ 65535 }
     ensures found { IfOk result (λ message. Spells message bytes.now) }

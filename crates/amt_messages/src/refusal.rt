@@ -12,8 +12,6 @@ pub enum Refused {
     Version(u8),
     /// The type, the low half of the first octet, is none of the standard's.
     Kind(u8),
-    /// The type is one of the standard's that isn't read yet.
-    NotYet(u8),
     /// Behind the 12 octets of a Query's head no IP datagram states its length. A shorter head is
     /// `Short`, before this is tried.
     NoInner,
@@ -25,7 +23,7 @@ pub enum Refused {
 #[derive(Clone, Copy, Debug, PartialEq, Eq)]
 pub enum DecodeFault {
     Refused(Refused),
-    /// Nothing is refused, and there is no memory for the inner datagram.
+    /// Nothing is refused, and there is no memory for the inner datagram or the packet.
     Memory,
 }
 

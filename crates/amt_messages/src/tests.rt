@@ -8,7 +8,8 @@ use std::test::*;
 const INNER: &[u8; 36] =
     b"\x46\xc0\x00\x24\x00\x00\x00\x00\x01\x02\x82\x11\xc0\x00\x02\x01\xe0\x00\x00\x01\x94\x04\x00\x00\x11\x64\xec\x1e\x00\x00\x00\x00\x02\x7d\x00\x00";
 
-// The head of a Query whose gateway was seen, and of one that is limited and says no gateway.
+// The head of a Query whose gateway was seen, of one that is limited and says no gateway, and of a
+// Teardown.
 const NAMED: &[u8; 12] = b"\x04\x01\xa1\xa2\xa3\xa4\xa5\xa6\x0a\x0b\x0c\x0d";
 
 const LIMITED: &[u8; 12] = b"\x04\x02\xa1\xa2\xa3\xa4\xa5\xa6\x0a\x0b\x0c\x0d";
@@ -18,6 +19,15 @@ const SEEN: &[u8; 18] = b"\x13\x88\x00\x00\x00\x00\x00\x00\x00\x00\x00\x00\x00\x
 
 const MAPPED: &[u8; 18] =
     b"\x13\x88\x00\x00\x00\x00\x00\x00\x00\x00\x00\x00\xff\xff\xc6\x33\x64\x07";
+
+const FAREWELL: &[u8; 12] = b"\x07\x00\xa1\xa2\xa3\xa4\xa5\xa6\x0a\x0b\x0c\x0d";
+
+// A Teardown ends with its gateway, as a Query does, and has no inner datagram before it.
+fn teardown_of(alloc: Global, head: &[u8; 12], tail: &[u8]) -> Result<Bytes, AllocError> {
+    let mut bytes = Bytes::copied(alloc, head)?;
+    bytes.append(tail)?;
+    Ok(bytes)
+}
 
 fn query_of(alloc: Global, head: &[u8; 12], tail: &[u8]) -> Result<Bytes, AllocError> {
     let mut bytes = Bytes::copied(alloc, head)?;
@@ -37,12 +47,12 @@ fn assert_refused(rt: &impl Abort, alloc: Global, bytes: &[u8], want: Refused) {
 #[test]
 fn the_first_refusal_is_answered(rt: HostRuntime) -> Result<(), Fail> {
     let rows: [(&[u8], Refused); 13] = [
+        (b"\x06", Refused::Short(2, 1)),
         (b"", Refused::Empty),
         (b"\x13\x00", Refused::Version(1)),
         (b"\x00", Refused::Kind(0)),
         (b"\x0f", Refused::Kind(15)),
-        (b"\x06", Refused::NotYet(6)),
-        (b"\x07", Refused::NotYet(7)),
+        (b"\x08", Refused::Kind(8)),
         (b"\x03\x00\x00\x00\x00\x00\x00", Refused::Short(8, 7)),
         (b"\x03\x00\x00\x00\x00\x00\x00\x00\x00", Refused::Long(8, 9)),
         (b"\x01\x00\x00\x00\x00\x00\x00\x00\x00", Refused::Long(8, 9)),
@@ -67,6 +77,11 @@ fn the_first_refusal_is_answered(rt: HostRuntime) -> Result<(), Fail> {
         assert_refused(&rt, rt.alloc(), bytes, want);
     }
     let (shorter, _) = SEEN.split_at(17);
+    let teardown = teardown_of(rt.alloc(), FAREWELL, shorter)?;
+    assert_refused(&rt, rt.alloc(), teardown.as_slice(), Refused::Short(30, 29));
+    let mut teardown = teardown_of(rt.alloc(), FAREWELL, SEEN)?;
+    teardown.push(0)?;
+    assert_refused(&rt, rt.alloc(), teardown.as_slice(), Refused::Long(30, 31));
     let shorter = query_of(rt.alloc(), NAMED, shorter)?;
     assert_refused(&rt, rt.alloc(), shorter.as_slice(), Refused::Short(66, 65));
     let mut longer = query_of(rt.alloc(), NAMED, SEEN)?;
@@ -94,7 +109,7 @@ fn assert_written(
 
 #[test]
 fn what_is_read_is_written_in_its_one_form(rt: HostRuntime) -> Result<(), Fail> {
-    let rows: [(&[u8], &[u8]); 8] = [
+    let rows: [(&[u8], &[u8]); 11] = [
         (
             b"\x01\x00\x00\xff\x01\x02\x03\x04",
             b"\x01\x00\x00\x00\x01\x02\x03\x04",
@@ -127,6 +142,9 @@ fn what_is_read_is_written_in_its_one_form(rt: HostRuntime) -> Result<(), Fail> 
             b"\x05\x80\xa1\xa2\xa3\xa4\xa5\xa6\x0a\x0b\x0c\x0d\x45\x00\x00",
             b"\x05\x00\xa1\xa2\xa3\xa4\xa5\xa6\x0a\x0b\x0c\x0d\x45\x00\x00",
         ),
+        (b"\x06\x00", b"\x06\x00"),
+        (b"\x06\x00\x45\x00\x00\x14", b"\x06\x00\x45\x00\x00\x14"),
+        (b"\x06\xff\x45\x00\x00\x14", b"\x06\x00\x45\x00\x00\x14"),
     ];
     for (bytes, canonical) in rows {
         assert_written(&rt, rt.alloc(), bytes, canonical)?;
@@ -135,6 +153,16 @@ fn what_is_read_is_written_in_its_one_form(rt: HostRuntime) -> Result<(), Fail> 
     assert_written(&rt, rt.alloc(), seen.as_slice(), seen.as_slice())?;
     let mapped = query_of(rt.alloc(), NAMED, MAPPED)?;
     assert_written(&rt, rt.alloc(), mapped.as_slice(), seen.as_slice())?;
+    let teardown = teardown_of(rt.alloc(), FAREWELL, SEEN)?;
+    assert_written(&rt, rt.alloc(), teardown.as_slice(), teardown.as_slice())?;
+    let mapped = teardown_of(rt.alloc(), FAREWELL, MAPPED)?;
+    assert_written(&rt, rt.alloc(), mapped.as_slice(), teardown.as_slice())?;
+    let reserved = teardown_of(
+        rt.alloc(),
+        b"\x07\xff\xa1\xa2\xa3\xa4\xa5\xa6\x0a\x0b\x0c\x0d",
+        SEEN,
+    )?;
+    assert_written(&rt, rt.alloc(), reserved.as_slice(), teardown.as_slice())?;
     let unseen = query_of(rt.alloc(), LIMITED, &[])?;
     assert_written(&rt, rt.alloc(), unseen.as_slice(), unseen.as_slice())?;
     let reserved = query_of(
@@ -210,6 +238,60 @@ fn an_update_is_read_and_written_by_its_fields(rt: HostRuntime) -> Result<(), Fa
         canonical.append(want)?;
         assert_eq!(rt; written.as_slice(), canonical.as_slice());
     }
+    Ok(())
+}
+
+#[test]
+fn multicast_data_is_read_and_written_by_its_packet(rt: HostRuntime) -> Result<(), Fail> {
+    // A packet that is shorter than it states is the gateway's matter, and not the message's.
+    let rows: [&[u8]; 3] = [b"", b"\x46", INNER];
+    for want in rows {
+        let mut bytes = Bytes::copied(rt.alloc(), b"\x06\x01")?;
+        bytes.append(want)?;
+        assert!(rt; bytes.len() <= 38);
+        let Ok(Message::Multicast { packet }) = decode(rt.alloc(), bytes.as_slice()) else {
+            return Err("the octets are Multicast Data")?;
+        };
+        assert_eq!(rt; packet.as_slice(), want);
+
+        assert!(rt; packet.len() <= 36);
+        let written = encode(rt.alloc(), &Message::Multicast { packet })?;
+        let mut canonical = Bytes::copied(rt.alloc(), b"\x06\x00")?;
+        canonical.append(want)?;
+        assert_eq!(rt; written.as_slice(), canonical.as_slice());
+    }
+    Ok(())
+}
+
+#[test]
+fn a_teardown_is_read_and_written_by_its_fields(rt: HostRuntime) -> Result<(), Fail> {
+    let rows = [SEEN, MAPPED];
+    for form in rows {
+        let bytes = teardown_of(rt.alloc(), FAREWELL, form)?;
+        assert_eq!(rt; bytes.len(), 30);
+        let Ok(
+            Message::Teardown {
+                mac,
+                nonce,
+                gateway,
+            },
+        ) = decode(rt.alloc(), bytes.as_slice())
+        else {
+            return Err("the octets are a Teardown")?;
+        };
+        assert_eq!(rt; mac, Mac48([0xa1, 0xa2, 0xa3, 0xa4, 0xa5, 0xa6]));
+        assert_eq!(rt; nonce, 0x0a0b0c0d);
+        assert_eq!(rt; gateway, Endpoint::named(0xc6336407, 5000));
+    }
+
+    let farewell = Message::Teardown {
+        mac: Mac48([0xa1, 0xa2, 0xa3, 0xa4, 0xa5, 0xa6]),
+        nonce: 0x0a0b0c0d,
+        gateway: Endpoint::named(0xffff_c633_6407, 5000),
+    };
+    let written = encode(rt.alloc(), &farewell)?;
+    let want = teardown_of(rt.alloc(), FAREWELL, SEEN)?;
+    assert_eq!(rt; written.as_slice(), want.as_slice());
     Ok(())
 }
 

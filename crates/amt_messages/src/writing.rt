@@ -6,6 +6,8 @@ ghost use Rattle.amt_messages.specs.Inner.{inner_length_of};
 ghost use Rattle.amt_messages.specs.Layout.{IsCanonical, query_flags, request_flags, seen_octets, spelling_of};
 
 use crate::message::Message;
+use crate::multicast::write_multicast;
+use crate::teardown::{append_gateway, write_teardown};
 use crate::update::write_update;
 use amt_values::{Bytes, Endpoint, Ip, Mac48, octets_of_address};
 use std::alloc::{AllocError, Global};
@@ -27,18 +29,13 @@ fn query_flags(limited: bool, named: bool) -> u8
     }
 }
 
-#[tactic(auto, using(std::proofs::Common::append_assoc))]
 fn append_seen(bytes: &mut Bytes, seen: &Option<Endpoint>) -> Result<(), AllocError>
     ensures appended { OnOk result (bytes.new ≡ bytes.old ++ seen_octets seen.now) }
     ensures form { OnOk result (IsSeen seen.now) }
 {
     match seen {
         None => Ok(()),
-        Some(endpoint) => {
-            bytes.append(&endpoint.port().to_be_bytes())?;
-            bytes.append(&octets_of_address(endpoint.address()))?;
-            Ok(())
-        }
+        Some(endpoint) => append_gateway(bytes, endpoint),
     }
 }
 
@@ -121,5 +118,11 @@ pub fn encode(alloc: Global, message: &Message) -> Result<Bytes, AllocError>
             seen,
         } => write_query(alloc, *limited, mac, *nonce, inner, seen),
         Message::Update { mac, nonce, inner } => write_update(alloc, mac, *nonce, inner),
+        Message::Multicast { packet } => write_multicast(alloc, packet),
+        Message::Teardown {
+            mac,
+            nonce,
+            gateway,
+        } => write_teardown(alloc, mac, *nonce, gateway),
     }
 }
