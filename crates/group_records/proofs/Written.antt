@@ -187,7 +187,7 @@ records-lawful family (first ∷ others) of_family fitting few =
     (records-lawful family others (All-tail (IsOfFamily family) first others of_family) (All-tail HasFittingAddresses first others fitting)
     (All-tail HasFewSources first others few))
 
-abbrev octets_in : Family → Record → ℕ
+abbrev pub octets_in : Family → Record → ℕ
 octets_in family group_record = head_length family + length group_record.sources * width family
 
 length-written_records : (family : Family) (records : List Record) → All (IsOfFamily family) records

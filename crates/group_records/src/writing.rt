@@ -7,7 +7,7 @@ ghost use Rattle.group_records.specs.Family.{report_type};
 ghost use Rattle.group_records.specs.Report.{IsReport};
 ghost use Rattle.group_records.specs.Written.{address_octets, kind_number, report_length, report_with_sum, written_record, written_report, FitsOctets, HasFittingAddresses, IsOfFamily};
 
-use crate::family::{Family, report_type};
+use crate::family::{Family, report_type, width};
 use amt_values::{Bytes, INPUT_LIMIT, Ip};
 use byteorder::{BigEndian, ByteOrder};
 use inner_datagrams::internet_sum_around;
@@ -114,6 +114,18 @@ pub fn fill_sum(pseudo_header: &[u8], message: &mut [u8])
 {
     let checksum = internet_sum_around(pseudo_header, &[], message);
     BigEndian::write_u16(&mut message[2..], checksum);
+}
+
+/// The octets of the report that is written of these records.
+pub fn report_length(family: Family, records: &Records) -> usize
+    requires { report_length family records.now ≤ REPORT_LIMIT }
+    ensures { result ≡ report_length family records.now }
+{
+    let mut octets = 8;
+    for group_record in records.as_slice() {
+        octets += 4 + width(family) + group_record.sources.len() * width(family);
+    }
+    octets
 }
 
 /// Writes one report of these records, in their order, without auxiliary data.
