@@ -1,0 +1,3 @@
+pub mod PseudoHeader
+pub mod Query
+pub mod Report
