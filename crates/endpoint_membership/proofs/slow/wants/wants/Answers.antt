@@ -1,5 +1,4 @@
-use Rattle.std.proofs.Common.{ℕ, List, ◌≡◌, ◌++◌, max, reverse, rules, ap, ◌∙◌}
-use Rattle.source_filter.specs.declared.record.Record.{Record}
+use Rattle.std.proofs.Common.{ℕ, ◌≡◌, max, reverse, rules, ap, ◌∙◌}
 use Rattle.endpoint_membership.specs.Log.{latest, live_chain}
 use Rattle.endpoint_membership.specs.Wishes.{admitted}
 use Rattle.endpoint_membership.proofs.Held.{latest-reverse}
