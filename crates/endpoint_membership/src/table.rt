@@ -135,7 +135,7 @@ impl Table {
     }
 
     /// Who gets a copy of a packet from the source to the group, at the later of the table's moment
-    /// and this one (RFC 7450, section 5.3.3.5). What was in `out` before is replaced. Room for as
+    /// and this one (RFC 7450, section 5.3.3). What was in `out` before is replaced. Room for as
     /// many endpoints as the limits allow is always enough.
     pub fn admitting_into(&self, group: &Ip, source: &Ip, at: &Moment, out: &mut Targets)
         requires room { live_count self.now.rows ≤ out.old.room }

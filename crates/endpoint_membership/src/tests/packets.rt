@@ -13,8 +13,8 @@ use std::alloc::{AllocError, Global};
 use std::process::Abort;
 use std::test::Fail;
 
-// A packet by group and source, the moment at which it comes, the hosts that get a copy, and what it
-// shows.
+// A packet by group and source, the moment at which it comes, the hosts that get a copy, and what
+// it shows.
 type Packet<'a> = (Ip, Ip, u64, &'a [u8], &'a str);
 
 // After three reports: 198.51.100.9 of all sources at 0, 198.51.100.8 of one source at 1, and
