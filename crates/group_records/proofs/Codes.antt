@@ -8,7 +8,7 @@ use Rattle.group_records.specs.declared.family.Family.{Family}
 use Rattle.group_records.specs.declared.family.Family.TheVariants.{V4, V6}
 use Rattle.group_records.specs.Code.{code_count, mantissa_bits, mantissa_of, exponent_of, code_value, code_with, code_of}
 
--- a number with a bit set above it is at least that bit, and is less than another that is shifted more
+-- a mantissa with a bit set above it, shifted, is at least that bit shifted by 3, and less than another that is shifted more
 shift_least : (above mantissa exponent : ℕ) → above * 8 ≤ (above + mantissa) * 2 ^ (exponent + 3)
 shift_least above mantissa exponent = mul-le-mul (omega arith) (pow-le-pow_right {n = 2} (omega arith) {i = 3} {j = exponent + 3} (omega arith))
 
@@ -119,6 +119,7 @@ code_value-most family code small =
 pub lower_code : (family : Family) (value code : ℕ) → value < code_count family / 2 → code < code_count family → code_value family code ≡ value → value ≡ code
 lower_code family value code lower small stands = same_code family value code (omega arith) small (lower_value family value lower ∙ sym stands)
 
+-- the exponent and the mantissa of a code of the upper half
 record Parts (family : Family) (shift code : ℕ) : Type 0 where
   pub upper : code_count family / 2 ≤ code
   pub exponent : exponent_of family code ≡ shift
@@ -136,7 +137,7 @@ mantissa_of-above V4 code = omega arith
 mantissa_of-above V6 code = omega arith
 
 -- a code is the one of its exponent and of the mantissa that its value has when it is shifted back
-pub code_with-shifted : (family : Family) (exponent code : ℕ) → code_with family exponent 0 ≤ code → code < code_with family (exponent + 1) 0 → exponent < 8
+code_with-shifted : (family : Family) (exponent code : ℕ) → code_with family exponent 0 ≤ code → code < code_with family (exponent + 1) 0 → exponent < 8
     → code_with family exponent (mantissa_of family (code_value family code / 2 ^ (exponent + 3))) ≡ code
 code_with-shifted family exponent code from to small =
     let parts = parts_between family exponent code from to small in

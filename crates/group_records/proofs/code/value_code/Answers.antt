@@ -1,4 +1,4 @@
-use Rattle.std.proofs.Common.{Some, sym, ap, ◌∙◌, arith}
+use Rattle.std.proofs.Common.{◌<◌, Some, sym, ap, ◌∙◌, arith}
 use Rattle.group_records.specs.Code.{code_with}
 use Rattle.group_records.proofs.Codes.{lower_code, same_code, next_exponent}
 use Rattle.group_records.proofs.code.value_code.Goals as goal
@@ -15,5 +15,6 @@ returns-then-code_value-value-clause-only c code small stands =
 pub loop-exponent-preserved : goal.loop-exponent-preserved
 loop-exponent-preserved c code small stands =
     let tried = c.code_with-code.ensures.value ∙ ap (code_with c.args.family c.loop-exponent.exponent) c.mantissa_of.ensures in
-    next_exponent c.args.family c.loop-exponent.exponent c.args.value c.code_with-code.result code c.loop-exponent-test.true tried
+    let small_exponent : c.loop-exponent.exponent < 8 = omega (arith, c.loop-exponent-test.true) in
+    next_exponent c.args.family c.loop-exponent.exponent c.args.value c.code_with-code.result code small_exponent tried
     (λ same. c.if-code_value-value.false (c.code_value.ensures ∙ same)) stands (c.loop-exponent.invariant code small stands)
