@@ -13,3 +13,6 @@ mod report;
 
 pub use query::{read_query6, write_query6};
 pub use report::{read_report6, write_report6};
+
+#[cfg(test)]
+mod tests;
