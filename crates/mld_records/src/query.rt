@@ -14,7 +14,7 @@ use std::alloc::{AllocError, Global};
 const QUERY_LENGTH: u32 = 28;
 
 /// Writes a General Query for a datagram between these two addresses: every group, no suppression
-/// and no sources (RFC 3810, section 5.1). Its length is that of a query without sources, 28 octets.
+/// and no sources (RFC 3810, section 5.1).
 pub fn write_query6(
     alloc: Global,
     source: u128,
