@@ -8,6 +8,7 @@ use Rattle.inner_datagrams.specs.Inner.{IsInner, IsInner4, IsInner6}
 use Rattle.inner_datagrams.specs.Fault.{Conditions, first_holding, first_inner_fault, version_faults, faults4, faults6}
 use Rattle.inner_datagrams.specs.Reading.{HasParts, inner_at, inner4_at, inner6_at, payload_of, payload_start}
 use Rattle.inner_datagrams.specs.declared.inner.Inner.{Inner}
+use Rattle.inner_datagrams.specs.declared.inner.InnerFault.{InnerFault}
 use Rattle.inner_datagrams.specs.declared.inner.InnerFault.TheVariants.{Version, ShortHeader}
 use Rattle.inner_datagrams.proofs.Conditions.{skipped}
 use Rattle.inner_datagrams.proofs.Lawful4.{inner4_of_no_fault, no_fault_of_inner4}
@@ -18,11 +19,11 @@ use Rattle.inner_datagrams.proofs.Payloads.{payload_whole}
 abbrev pub IsInnerAt : Inner → List ℕ → Type 0
 IsInnerAt inner bytes = IsInner inner.source inner.destination (payload_of inner.start inner.end bytes) bytes
 
-version4 : (version : ℕ) → not (eqb version 4 || eqb version 6) ≡ false → eqb version 6 ≡ false → version ≡ 4
+pub version4 : (version : ℕ) → not (eqb version 4 || eqb version 6) ≡ false → eqb version 6 ≡ false → version ≡ 4
 version4 version one not_six = eqb-true version 4 (grind arith)
 
 -- where no condition on the version holds, the first fault is that of the conditions behind it
-behind_version : (bytes : List ℕ) (rest : Conditions) → first_holding (version_faults bytes ++ rest) ≡ None
+behind_version : (bytes : List ℕ) (rest : Conditions InnerFault) → first_holding (version_faults bytes ++ rest) ≡ None
     → (not (eqb (ip_version bytes) 4 || eqb (ip_version bytes) 6) ≡ false) × (first_holding rest ≡ None)
 behind_version bytes rest none =
     let other = not (eqb (ip_version bytes) 4 || eqb (ip_version bytes) 6) in

@@ -1,5 +1,6 @@
 pub mod Conditions
 pub mod Faults
+pub mod Heads
 pub mod Lawful4
 pub mod Lawful6
 pub mod Parts

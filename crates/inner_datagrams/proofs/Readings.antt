@@ -9,6 +9,7 @@ use Rattle.inner_datagrams.specs.Reading.{HasParts, inner_at, inner4_at, inner6_
 use Rattle.inner_datagrams.specs.Written.{IsWrittenInner, written_headers}
 use Rattle.inner_datagrams.specs.declared.inner.Inner.{Inner}
 use Rattle.inner_datagrams.specs.declared.inner.InnerFault.{InnerFault}
+use Rattle.inner_datagrams.proofs.Conditions.{unless-ok, unless-err}
 use Rattle.inner_datagrams.proofs.Faults.{IsInnerAt, inner_of_no_fault, IsLawful-inner}
 use Rattle.inner_datagrams.proofs.Payloads.{payload_whole}
 use Rattle.inner_datagrams.proofs.ReadBack.{IsInner-written, payload_start-written}
@@ -16,14 +17,6 @@ use Rattle.inner_datagrams.proofs.ReadBack.{IsInner-written, payload_start-writt
 -- what is answered is by the first fault
 abbrev pub IsReading : Result Inner InnerFault → List ℕ → Type 0
 IsReading answer bytes = answer ≡ unless (first_inner_fault bytes) (inner_at bytes)
-
-unless-ok : (fault : Option InnerFault) (at inner : Inner) → Ok inner ≡ unless fault at → (fault ≡ None) × (inner ≡ at)
-unless-ok None at inner same = (refl, cc)
-unless-ok (Some fault) at inner same = cc
-
-unless-err : (first : Option InnerFault) (at : Inner) (fault : InnerFault) → Err fault ≡ unless first at → first ≡ Some fault
-unless-err None at fault same = cc
-unless-err (Some other) at fault same = cc
 
 -- what was read is at its places, and there was no fault
 read-ok : (bytes : List ℕ) (inner : Inner) → IsReading (Ok inner) bytes → (first_inner_fault bytes ≡ None) × (inner ≡ inner_at bytes)

@@ -7,23 +7,23 @@ use Rattle.inner_datagrams.specs.declared.inner.InnerFault.{InnerFault}
 use Rattle.inner_datagrams.specs.declared.inner.InnerFault.TheVariants.{Version, ShortHeader, HeaderLength, TotalLength, HeaderSum, Fragment, Protocol, Extension}
 
 -- conditions in the order in which they are tried, each with the fault that it tells
-abbrev pub Conditions : Type 0
-Conditions = List (Bool × InnerFault)
+abbrev pub Conditions : Type 0 → Type 0
+Conditions Fault = List (Bool × Fault)
 
 -- the fault of the first condition that holds
-abbrev pub first_holding : Conditions → Option InnerFault
+abbrev pub first_holding : {Fault : Type 0} → Conditions Fault → Option Fault
 first_holding [] = None
 first_holding (condition ∷ rest) = if condition.0 then Some condition.1 else first_holding rest
 
 -- no version, or one that isn't read (RFC 791, section 3.1; RFC 8200, section 3)
-abbrev pub version_faults : List ℕ → Conditions
+abbrev pub version_faults : List ℕ → Conditions InnerFault
 version_faults bytes =
     (length bytes == 0, ShortHeader 20 0)
     ∷ (not (ip_version bytes == 4 || ip_version bytes == 6), Version (ip_version bytes))
     ∷ []
 
 -- lengths of the header and of the whole that aren't those of the bytes (RFC 791, section 3.1)
-abbrev pub length_faults : List ℕ → Conditions
+abbrev pub length_faults : List ℕ → Conditions InnerFault
 length_faults bytes =
     (nat_lt (length bytes) 20, ShortHeader 20 (length bytes))
     ∷ (nat_lt (header_words bytes) 5, HeaderLength (header_words bytes))
@@ -32,7 +32,7 @@ length_faults bytes =
     ∷ []
 
 -- a wrong checksum, a fragment, another protocol than IGMP (RFC 791, section 3.1)
-abbrev pub header_faults : List ℕ → Conditions
+abbrev pub header_faults : List ℕ → Conditions InnerFault
 header_faults bytes =
     (not (is_right (header_of bytes)), HeaderSum (internet_sum_of (with_zero_sum (header_of bytes))) (header_sum bytes))
     ∷ (not (fragment_bits bytes == 0), Fragment (fragment_bits bytes))
@@ -41,7 +41,7 @@ header_faults bytes =
 
 -- lengths of the IPv6 header and of the whole that aren't those of the bytes (RFC 8200, section 3), and
 -- that of a hop-by-hop header, which has at least 8 octets (section 4.3)
-abbrev pub length_faults6 : List ℕ → Conditions
+abbrev pub length_faults6 : List ℕ → Conditions InnerFault
 length_faults6 bytes =
     (nat_lt (length bytes) 40, ShortHeader 40 (length bytes))
     ∷ (not (whole_length6 bytes == length bytes), TotalLength (whole_length6 bytes) (length bytes))
@@ -56,16 +56,16 @@ is_extension kind = kind == 0 || (kind == 43 || (kind == 51 || kind == 60))
 
 -- of what follows the headers: a fragment header (RFC 8200, section 4.5), another extension header,
 -- another protocol than ICMPv6 (RFC 4443, section 1)
-abbrev pub next_header_faults : ℕ → Conditions
+abbrev pub next_header_faults : ℕ → Conditions InnerFault
 next_header_faults kind =
     (kind == 44, Fragment 0) ∷ (is_extension kind, Extension kind) ∷ (not (kind == 58), Protocol kind) ∷ []
 
 -- the faults of an IPv4 datagram in their order: lengths, header
-abbrev pub faults4 : List ℕ → Conditions
+abbrev pub faults4 : List ℕ → Conditions InnerFault
 faults4 bytes = length_faults bytes ++ header_faults bytes
 
 -- the faults of an IPv6 datagram in their order: lengths, what follows the headers
-abbrev pub faults6 : List ℕ → Conditions
+abbrev pub faults6 : List ℕ → Conditions InnerFault
 faults6 bytes = length_faults6 bytes ++ next_header_faults (last_next_header bytes)
 
 -- the first fault in this order: of the version, and then of a datagram of that version

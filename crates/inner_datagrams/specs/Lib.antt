@@ -1,5 +1,6 @@
 pub mod Checksum
 pub mod Fault
+pub mod Head
 pub mod Header
 pub mod Header6
 pub mod Inner

@@ -5,7 +5,6 @@ use Rattle.amt_values.specs.declared.address.Ip.TheVariants.{V4, V6}
 use Rattle.inner_datagrams.specs.Header.{ip_version, header_octets, source_number, destination_number}
 use Rattle.inner_datagrams.specs.Header6.{headers_end6, source_number6, destination_number6}
 use Rattle.inner_datagrams.specs.declared.inner.Inner.{Inner}
-use Rattle.inner_datagrams.specs.declared.inner.InnerFault.{InnerFault}
 
 -- the bytes between two places
 abbrev pub payload_of : ℕ → ℕ → List ℕ → List ℕ
@@ -50,6 +49,6 @@ abbrev pub payload_in : List ℕ → List ℕ
 payload_in bytes = drop (payload_start bytes) bytes
 
 -- the value, where there is no fault
-abbrev pub unless : {A : Type 0} → Option InnerFault → A → Result A InnerFault
+abbrev pub unless : {Fault A : Type 0} → Option Fault → A → Result A Fault
 unless None value = Ok value
 unless (Some fault) value = Err fault

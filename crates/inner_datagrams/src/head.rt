@@ -1,0 +1,96 @@
+ghost use Rattle.std.specs.Prelude.{◌≡◌, ◌≤◌, ◌∷◌, [], length, Err, IfOk, MatchResult, None, Ok, Some};
+ghost use Rattle.inner_datagrams.specs.Fault.{first_holding};
+ghost use Rattle.inner_datagrams.specs.Head.{IsHead, first_head_fault, head4_at, head6_at, head_of, short_header};
+ghost use Rattle.inner_datagrams.specs.Reading.{unless};
+ghost use Rattle.inner_datagrams.specs.declared.head.Head.{Head as HeadValue};
+ghost use Rattle.inner_datagrams.specs.declared.head.HeadFault.{HeadFault as HeadFaultValue};
+
+use crate::fields::{address_at, number_at};
+use amt_values::{INPUT_LIMIT, Ip};
+
+/// The addresses of a native multicast packet, both of one family.
+#[derive(Clone, Copy, Debug, PartialEq, Eq)]
+pub struct Head {
+    pub source: Ip,
+    /// The destination of the packet.
+    pub group: Ip,
+}
+
+/// Why octets have no head of a packet: the first of these that holds (RFC 791, section 3.1; RFC
+/// 8200, section 3).
+///
+/// Where there is no octet, `ShortHeader` comes before `Version`; otherwise `Version`, and then
+/// `ShortHeader` below 20 octets of IPv4 or 40 octets of IPv6.
+#[derive(Clone, Copy, Debug, PartialEq, Eq)]
+pub enum HeadFault {
+    /// The version, the high half of the first octet, is none that is read.
+    Version(u8),
+    /// The octets end before the least header does. Both are lengths in octets: what is needed,
+    /// and what is there.
+    ShortHeader(u32, u32),
+}
+
+fn head4(bytes: &[u8]) -> Result<Head, HeadFault>
+    requires { length bytes.now ≤ INPUT_LIMIT }
+    ensures { result
+        ≡ unless (first_holding (short_header 20 bytes.now ∷ [])) (head4_at bytes.now) }
+{
+    let have = bytes.len() as u32;
+    if have < 20 {
+        return Err(HeadFault::ShortHeader(20, have));
+    }
+    Ok(Head {
+        source: Ip::V4(number_at(bytes, 12)),
+        group: Ip::V4(number_at(bytes, 16)),
+    })
+}
+
+fn head6(bytes: &[u8]) -> Result<Head, HeadFault>
+    requires { length bytes.now ≤ INPUT_LIMIT }
+    ensures { result
+        ≡ unless (first_holding (short_header 40 bytes.now ∷ [])) (head6_at bytes.now) }
+{
+    let have = bytes.len() as u32;
+    if have < 40 {
+        return Err(HeadFault::ShortHeader(40, have));
+    }
+    Ok(Head {
+        source: Ip::V6(address_at(bytes, 8)),
+        group: Ip::V6(address_at(bytes, 24)),
+    })
+}
+
+#[tactic(auto, unfolding(crate::specs::Head::first_head_fault))]
+fn read_head(bytes: &[u8]) -> Result<Head, HeadFault>
+    requires { length bytes.now ≤ INPUT_LIMIT }
+    ensures { result ≡ head_of bytes.now }
+{
+    let Some(first) = bytes.first() else {
+        return Err(HeadFault::ShortHeader(20, 0));
+    };
+    match *first >> 4 {
+        4 => head4(bytes),
+        6 => head6(bytes),
+        version => Err(HeadFault::Version(version)),
+    }
+}
+
+/// Reads the source and the group of a native multicast packet.
+///
+/// Nothing else of it is checked: it is copied as it stands, so that a fragment's addresses are
+/// read as those of any other packet, and a wrong length or checksum is left to its receiver (RFC
+/// 791, section 3.1; RFC 8200, section 3). The faults are tried in the order of `HeadFault`.
+pub fn packet_head(bytes: &[u8]) -> Result<Head, HeadFault>
+    requires { length bytes.now ≤ INPUT_LIMIT }
+    ensures found { IfOk result (λ head. IsHead head bytes.now) }
+    ensures only { (head : HeadValue) → IsHead head bytes.now → result ≡ Ok head }
+
+    ensures refused { MatchResult result (λ _. first_head_fault bytes.now ≡ None)
+        (λ fault. first_head_fault bytes.now ≡ Some fault) }
+    ensures fault { (fault : HeadFaultValue)
+        → first_head_fault bytes.now ≡ Some fault → result ≡ Err fault }
+
+    ensures value { result ≡ head_of bytes.now }
+{
+    read_head(bytes)
+}
