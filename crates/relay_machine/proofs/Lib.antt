@@ -1,3 +1,4 @@
+pub mod Copies
 pub mod Limits
 pub mod Onward
 pub mod QuerySizes

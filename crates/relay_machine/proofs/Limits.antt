@@ -4,7 +4,7 @@ use Rattle.std.proofs.lemmas.List.{reverse-append}
 use Rattle.amt_values.specs.Endpoint.{endpoint_of}
 use Rattle.amt_values.specs.Tunnel.{Tunnel}
 use Rattle.amt_messages.specs.declared.message.Message.{Message}
-use Rattle.amt_messages.specs.declared.message.Message.TheVariants.{Discovery, Advertisement, Request, Query, Update}
+use Rattle.amt_messages.specs.declared.message.Message.TheVariants.{Discovery, Advertisement, Request, Query, Update, Multicast, Teardown}
 use Rattle.amt_messages.specs.declared.refusal.Refused.{Refused}
 use Rattle.amt_messages.specs.Refusal.{message_of}
 use Rattle.response_mac.specs.declared.secret.Secret.{Secret}
@@ -28,7 +28,7 @@ use Rattle.endpoint_membership.proofs.Standing.{standing-other}
 use Rattle.endpoint_membership.proofs.Steps.{AreRows-later}
 use Rattle.endpoint_membership.proofs.Within.{IsWithin-filter, IsWithin-report}
 use Rattle.relay_machine.specs.declared.event.Event.{Event}
-use Rattle.relay_machine.specs.declared.event.Event.TheVariants.{Moment, Datagram, Rotate}
+use Rattle.relay_machine.specs.declared.event.Event.TheVariants.{Moment, Datagram, Packet, Rotate}
 use Rattle.relay_machine.specs.declared.outcome.Unlawful.{Unlawful}
 use Rattle.relay_machine.specs.declared.settings.Settings.{Settings}
 use Rattle.relay_machine.specs.Accepted.{accepted, accepted_back, datagram_change, with_change}
@@ -102,6 +102,8 @@ within-datagram terms secrets at log (Some source) (Ok (Discovery nonce)) within
 within-datagram terms secrets at log (Some source) (Ok (Advertisement nonce relay)) within = within
 within-datagram terms secrets at log (Some source) (Ok (Request v6 nonce)) within = within
 within-datagram terms secrets at log (Some source) (Ok (Query limited mac nonce inner seen)) within = within
+within-datagram terms secrets at log (Some source) (Ok (Multicast packet)) within = within
+within-datagram terms secrets at log (Some source) (Ok (Teardown mac nonce gateway)) within = within
 within-datagram terms secrets at log (Some source) (Ok (Update mac nonce inner)) within =
     within-update terms log source at (is_good secrets source nonce mac) (report_in inner) within
 
@@ -111,6 +113,7 @@ within-back settings first [] = record { endpoints = omega arith; groups = λ en
 within-back settings first (Moment moment ∷ earlier) =
     within-mark (terms_of settings) (accepted_back settings first earlier) (max (now_of (reverse earlier)) moment) (within-back settings first earlier)
 within-back settings first (Rotate secret ∷ earlier) = within-back settings first earlier
+within-back settings first (Packet bytes ∷ earlier) = within-back settings first earlier
 within-back settings first (Datagram from bytes ∷ earlier) =
     within-datagram (terms_of settings) (secrets_of first (reverse earlier)) (now_of (reverse earlier)) (accepted_back settings first earlier) (endpoint_of from) (message_of bytes)
     (within-back settings first earlier)

@@ -4,12 +4,12 @@ use Rattle.std.proofs.lemmas.List.{append-nil, reverse-append, reverse-reverse}
 use Rattle.std.proofs.lemmas.List.Elements.{filter_map-append}
 use Rattle.std.proofs.lemmas.List.Sums.{fold-append}
 use Rattle.std.specs.List.{fold, filter_map}
-use Rattle.std.specs.Result.{IfOk}
+use Rattle.std.specs.Result.{IfOk, OnErr}
 use Rattle.amt_values.specs.Endpoint.{endpoint_of}
 use Rattle.amt_values.specs.Tunnel.{Tunnel}
 use Rattle.amt_values.specs.declared.peer.Peer.{Peer}
 use Rattle.amt_messages.specs.declared.message.Message.{Message}
-use Rattle.amt_messages.specs.declared.message.Message.TheVariants.{Discovery, Advertisement, Request, Query, Update}
+use Rattle.amt_messages.specs.declared.message.Message.TheVariants.{Discovery, Advertisement, Request, Query, Update, Multicast, Teardown}
 use Rattle.amt_messages.specs.declared.refusal.Refused.{Refused}
 use Rattle.amt_messages.specs.Refusal.{message_of}
 use Rattle.response_mac.specs.declared.secret.Secret.{Secret}
@@ -24,7 +24,7 @@ use Rattle.endpoint_membership.specs.declared.change.Change.TheVariants.{Mark, R
 use Rattle.endpoint_membership.specs.declared.limits.LimitFault.{LimitFault}
 use Rattle.endpoint_membership.proofs.Held.{IsWithin-log, latest-push}
 use Rattle.relay_machine.specs.declared.event.Event.{Event}
-use Rattle.relay_machine.specs.declared.event.Event.TheVariants.{Moment, Datagram, Rotate}
+use Rattle.relay_machine.specs.declared.event.Event.TheVariants.{Moment, Datagram, Packet, Rotate}
 use Rattle.relay_machine.specs.declared.outcome.Unlawful.{Unlawful}
 use Rattle.relay_machine.specs.declared.sends.Step.{Step}
 use Rattle.relay_machine.specs.declared.settings.Settings.{Settings}
@@ -32,7 +32,7 @@ use Rattle.relay_machine.specs.Accepted.{accepted, accepted_back, change_after, 
 use Rattle.relay_machine.specs.Answers.{RelayAt}
 use Rattle.relay_machine.specs.Events.{moment_in, now_of, secret_in, secrets_of}
 use Rattle.relay_machine.specs.Settings.{terms_of}
-use Rattle.relay_machine.specs.State.{RelayState}
+use Rattle.relay_machine.specs.State.{HasLog, IsSound, RelayState}
 use Rattle.relay_machine.specs.Updates.{forwarded, limit_change, report_in, update_change}
 
 now_of-moment : (events : List Event) (moment : ℕ) → now_of (events ++ Moment moment ∷ []) ≡ max (now_of events) moment
@@ -126,6 +126,8 @@ datagram_change-unmoved terms secrets log (Some source) (Ok (Discovery nonce)) =
 datagram_change-unmoved terms secrets log (Some source) (Ok (Advertisement nonce relay)) = refl
 datagram_change-unmoved terms secrets log (Some source) (Ok (Request v6 nonce)) = refl
 datagram_change-unmoved terms secrets log (Some source) (Ok (Query limited mac nonce inner seen)) = refl
+datagram_change-unmoved terms secrets log (Some source) (Ok (Multicast packet)) = refl
+datagram_change-unmoved terms secrets log (Some source) (Ok (Teardown mac nonce gateway)) = refl
 datagram_change-unmoved terms secrets log (Some source) (Ok (Update mac nonce inner)) =
     update_change-unmoved (is_good secrets source nonce mac) (report_in inner) (λ (records : List Record). limit_passed terms log source records (latest log)) log source
 
@@ -169,6 +171,16 @@ RelayAt-answered relay settings first events from bytes table (Ok step) at chang
     RelayAt-datagram relay settings first events from bytes table step.change at same
     (subst (λ (known : Settings). Holds (terms_of known) table (with_change log step.change)) at.settings_kept (stands log holds))
 
+-- a packet changes nothing
+pub RelayAt-packet : (relay : RelayState) (settings : Settings) (first : Secret) (events : List Event) (bytes : List ℕ) → RelayAt relay settings first events
+    → RelayAt relay settings first (events ++ Packet bytes ∷ [])
+RelayAt-packet relay settings first events bytes at = record {
+  settings_kept = at.settings_kept;
+  secrets = at.secrets ∙ sym (secrets_of-other first events (Packet bytes) refl);
+  table = Holds-push settings first events (Packet bytes) relay.table None refl at.table;
+  moment = at.moment ∙ sym (now_of-other events (Packet bytes) refl);
+}
+
 -- a secret is the last of the secrets, and nothing else changes
 pub RelayAt-rotate : (relay : RelayState) (settings : Settings) (first : Secret) (events : List Event) (secret : Secret) (rotated : Secrets)
     → RelayAt relay settings first events
@@ -186,3 +198,12 @@ RelayAt-rotate relay settings first events secret rotated at appended = record {
 pub IsWithin-events : (relay : RelayState) (settings : Settings) (first : Secret) (events : List Event) → RelayAt relay settings first events → IsWithinLimits relay.table
     → IsWithin settings.limits (standing_now (terms_of settings) (accepted settings first events))
 IsWithin-events relay settings first events at within = IsWithin-log (terms_of settings) relay.table (accepted settings first events) at.table within
+
+-- a table that an answer left is sound again
+pub IsSound-answered : {E : Type 0} (settings : Settings) (before after : TableValue) (answer : Result Step E) → IsSound settings before
+    → ((log : List Change) → Holds (terms_of settings) before log → IfOk answer (λ step. Holds (terms_of settings) after (with_change log step.change)))
+    → OnErr answer (after ≡ before) → IsWithinLimits after → IsSound settings after
+IsSound-answered settings before after (Ok step) sound stands same within =
+    record { within = within; has_log = (with_change sound.has_log.0 step.change, stands sound.has_log.0 sound.has_log.1) }
+IsSound-answered settings before after (Err fault) sound stands same within =
+    record { within = within; has_log = subst (HasLog (terms_of settings)) (sym same) sound.has_log }

@@ -3,7 +3,7 @@ use Rattle.std.specs.Prelude.{ℕ, max, List, [], ◌∷◌, ◌++◌, reverse, 
 use Rattle.amt_values.specs.Endpoint.{endpoint_of}
 use Rattle.amt_values.specs.Tunnel.{Tunnel}
 use Rattle.amt_messages.specs.declared.message.Message.{Message}
-use Rattle.amt_messages.specs.declared.message.Message.TheVariants.{Discovery, Advertisement, Request, Query, Update}
+use Rattle.amt_messages.specs.declared.message.Message.TheVariants.{Discovery, Advertisement, Request, Query, Update, Multicast, Teardown}
 use Rattle.amt_messages.specs.declared.refusal.Refused.{Refused}
 use Rattle.amt_messages.specs.Refusal.{message_of}
 use Rattle.response_mac.specs.declared.secret.Secret.{Secret}
@@ -13,7 +13,7 @@ use Rattle.endpoint_membership.specs.Table.{Terms, limit_passed}
 use Rattle.endpoint_membership.specs.declared.change.Change.{Change}
 use Rattle.endpoint_membership.specs.declared.change.Change.TheVariants.{Mark}
 use Rattle.relay_machine.specs.declared.event.Event.{Event}
-use Rattle.relay_machine.specs.declared.event.Event.TheVariants.{Moment, Datagram, Rotate}
+use Rattle.relay_machine.specs.declared.event.Event.TheVariants.{Moment, Datagram, Packet, Rotate}
 use Rattle.relay_machine.specs.declared.settings.Settings.{Settings}
 use Rattle.relay_machine.specs.Events.{now_of, secrets_of}
 use Rattle.relay_machine.specs.Settings.{terms_of}
@@ -27,6 +27,8 @@ datagram_change terms secrets moment log (Some source) (Ok (Discovery nonce)) = 
 datagram_change terms secrets moment log (Some source) (Ok (Advertisement nonce relay)) = None
 datagram_change terms secrets moment log (Some source) (Ok (Request v6 nonce)) = None
 datagram_change terms secrets moment log (Some source) (Ok (Query limited mac nonce inner seen)) = None
+datagram_change terms secrets moment log (Some source) (Ok (Multicast packet)) = None
+datagram_change terms secrets moment log (Some source) (Ok (Teardown mac nonce gateway)) = None
 datagram_change terms secrets moment log (Some source) (Ok (Update mac nonce inner)) =
     update_change (is_good secrets source nonce mac) (report_in inner) (λ records. limit_passed terms log source records moment) source moment
 
@@ -34,6 +36,7 @@ datagram_change terms secrets moment log (Some source) (Ok (Update mac nonce inn
 abbrev pub change_after : Settings → Secret → List Event → List Change → Event → Option Change
 change_after settings first events log (Moment moment) = Some (Mark (max (now_of events) moment))
 change_after settings first events log (Rotate secret) = None
+change_after settings first events log (Packet bytes) = None
 change_after settings first events log (Datagram from bytes) =
     datagram_change (terms_of settings) (secrets_of first events) (now_of events) log (endpoint_of from) (message_of bytes)
 

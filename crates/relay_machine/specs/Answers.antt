@@ -3,7 +3,7 @@ use Rattle.std.specs.Prelude.{◌≡◌, ℕ, max, nat_le, Bool, true, false, Li
 use Rattle.amt_values.specs.Endpoint.{endpoint_of}
 use Rattle.amt_values.specs.Tunnel.{Tunnel}
 use Rattle.amt_messages.specs.declared.message.Message.{Message}
-use Rattle.amt_messages.specs.declared.message.Message.TheVariants.{Discovery, Advertisement, Request, Query, Update}
+use Rattle.amt_messages.specs.declared.message.Message.TheVariants.{Discovery, Advertisement, Request, Query, Update, Multicast, Teardown}
 use Rattle.amt_messages.specs.declared.refusal.Refused.{Refused}
 use Rattle.amt_messages.specs.Layout.{spelling_of}
 use Rattle.amt_messages.specs.Refusal.{message_of}
@@ -16,13 +16,14 @@ use Rattle.endpoint_membership.specs.Table.{Holds, Terms, limit_passed, standing
 use Rattle.endpoint_membership.specs.declared.change.Change.{Change}
 use Rattle.endpoint_membership.specs.declared.row.Row.{Row}
 use Rattle.relay_machine.specs.declared.event.Event.{Event}
-use Rattle.relay_machine.specs.declared.event.Event.TheVariants.{Moment, Datagram, Rotate}
+use Rattle.relay_machine.specs.declared.event.Event.TheVariants.{Moment, Datagram, Packet, Rotate}
 use Rattle.relay_machine.specs.declared.outcome.Outcome.{Outcome}
 use Rattle.relay_machine.specs.declared.outcome.Outcome.TheVariants.{Moved, Rotated, Advertised, Queried, NoFamily, BadSource, Undecoded, WrongKind}
 use Rattle.relay_machine.specs.declared.sends.OneSend.{OneSend}
 use Rattle.relay_machine.specs.declared.settings.Settings.{Settings}
 use Rattle.relay_machine.specs.Accepted.{accepted}
 use Rattle.relay_machine.specs.Events.{now_of, secrets_of}
+use Rattle.relay_machine.specs.Packets.{head_to_copy, packet_outcome, packet_sends, targets_after}
 use Rattle.relay_machine.specs.Queries.{query_for}
 use Rattle.relay_machine.specs.Settings.{membership_interval_ms, terms_of}
 use Rattle.relay_machine.specs.State.{RelayState}
@@ -38,6 +39,8 @@ judged terms secrets moment log None reading = BadSource
 judged terms secrets moment log (Some source) (Err refusal) = Undecoded refusal
 judged terms secrets moment log (Some source) (Ok (Advertisement nonce relay)) = WrongKind 2
 judged terms secrets moment log (Some source) (Ok (Query limited mac nonce inner seen)) = WrongKind 4
+judged terms secrets moment log (Some source) (Ok (Multicast packet)) = WrongKind 6
+judged terms secrets moment log (Some source) (Ok (Teardown mac nonce gateway)) = WrongKind 7
 judged terms secrets moment log (Some source) (Ok (Discovery nonce)) = Advertised
 judged terms secrets moment log (Some source) (Ok (Request true nonce)) = NoFamily
 judged terms secrets moment log (Some source) (Ok (Request false nonce)) = Queried false (is_limited terms log)
@@ -53,6 +56,8 @@ replies settings secret limited (Some source) (Err refusal) = []
 replies settings secret limited (Some source) (Ok (Advertisement nonce relay)) = []
 replies settings secret limited (Some source) (Ok (Query said mac nonce inner seen)) = []
 replies settings secret limited (Some source) (Ok (Update mac nonce inner)) = []
+replies settings secret limited (Some source) (Ok (Multicast packet)) = []
+replies settings secret limited (Some source) (Ok (Teardown mac nonce gateway)) = []
 replies settings secret limited (Some source) (Ok (Discovery nonce)) =
     record { to = source; bytes = spelling_of (Advertisement nonce settings.relay) } ∷ []
 replies settings secret limited (Some source) (Ok (Request true nonce)) = []
@@ -63,6 +68,7 @@ replies settings secret limited (Some source) (Ok (Request false nonce)) =
 abbrev pub outcome_of : Settings → Secret → List Event → Event → Outcome
 outcome_of settings first events (Moment moment) = Moved (max (now_of events) moment)
 outcome_of settings first events (Rotate secret) = Rotated
+outcome_of settings first events (Packet bytes) = packet_outcome (targets_after settings first events) (head_to_copy settings.packet_limit bytes)
 outcome_of settings first events (Datagram from bytes) =
     judged (terms_of settings) (secrets_of first events) (now_of events) (accepted settings first events) (endpoint_of from) (message_of bytes)
 
@@ -70,6 +76,7 @@ outcome_of settings first events (Datagram from bytes) =
 abbrev pub sends_of : Settings → Secret → List Event → Event → List OneSend
 sends_of settings first events (Moment moment) = []
 sends_of settings first events (Rotate secret) = []
+sends_of settings first events (Packet bytes) = packet_sends (targets_after settings first events) bytes (head_to_copy settings.packet_limit bytes)
 sends_of settings first events (Datagram from bytes) =
     replies settings (secrets_of first events).current (is_limited (terms_of settings) (accepted settings first events)) (endpoint_of from) (message_of bytes)
 

@@ -2,6 +2,7 @@ pub mod Accepted
 pub mod Answers
 pub mod Conditions
 pub mod Events
+pub mod Packets
 pub mod Queries
 pub mod Reading
 pub mod Settings

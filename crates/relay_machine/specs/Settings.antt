@@ -32,6 +32,11 @@ pub record AreLimits (limits : Limits) : Type 0 where
   pub most_sources : limits.sources ≤ 64
   pub product : limits.endpoints * limits.groups * limits.sources ≤ 16777216
 
+-- a length between the least header of an IP packet and what a UDP payload has room for
+pub record IsPacketLimit (octets : ℕ) : Type 0 where
+  pub least : 20 ≤ octets
+  pub most : octets ≤ 65000
+
 -- a robustness that is not zero (RFC 3376, section 8.1) and that three bits carry (section 4.1.6),
 -- times that queries carry, and limits
 pub record IsLawful (settings : Settings) : Type 0 where
@@ -39,6 +44,7 @@ pub record IsLawful (settings : Settings) : Type 0 where
   pub most_robustness : settings.robustness ≤ 7
   pub times : HasQueryTimes settings
   pub limits : AreLimits settings.limits
+  pub packets : IsPacketLimit settings.packet_limit
 
 -- the defaults of RFC 3376, sections 8.1 to 8.3, and 0.0.0.0 as the source of queries
 abbrev pub default_settings : Ip → Settings
@@ -49,6 +55,7 @@ default_settings relay = record {
   query_seconds = 125;
   response_tenths = 100;
   limits = record { endpoints = 1024; groups = 64; sources = 64 };
+  packet_limit = 1450;
 }
 
 -- the Group Membership Interval (RFC 3376, section 8.4), in milliseconds

@@ -80,6 +80,8 @@ fn answer_message(
     match message {
         Message::Advertisement { .. } => Ok(Step::quiet(alloc, Outcome::WrongKind(2))),
         Message::Query { .. } => Ok(Step::quiet(alloc, Outcome::WrongKind(4))),
+        Message::Multicast { .. } => Ok(Step::quiet(alloc, Outcome::WrongKind(6))),
+        Message::Teardown { .. } => Ok(Step::quiet(alloc, Outcome::WrongKind(7))),
         Message::Discovery { nonce } => {
             let relay = querier.settings.relay;
             let advertisement = Message::Advertisement { nonce, relay };

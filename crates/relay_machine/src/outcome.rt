@@ -1,7 +1,7 @@
 use amt_messages::Refused;
-use amt_values::Moment;
+use amt_values::{Ip, Moment};
 use endpoint_membership::LimitFault;
-use inner_datagrams::InnerFault;
+use inner_datagrams::{HeadFault, InnerFault};
 use source_filter::ReportFault;
 
 /// Why an Update carries no membership report: the datagram is judged before what it carries.
@@ -13,8 +13,19 @@ pub enum Unlawful {
     Report(ReportFault),
 }
 
+/// Why a packet is copied to nobody, whoever wants its group: its head is read before its scope is
+/// judged.
+#[derive(Clone, Copy, Debug, PartialEq, Eq)]
+pub enum NotForwarded {
+    /// The octets begin with no header that names a source and a group.
+    Head(HeadFault),
+    /// The destination is no multicast group, or one whose packets stay on their link.
+    Scope(Ip),
+}
+
 /// What an event came to. A datagram is judged by its source, then by its octets, then by its type;
-/// an Update by its MAC, then by the report in it, then by the relay's limits.
+/// an Update by its MAC, then by the report in it, then by the relay's limits. A packet is judged by
+/// its length, then by its head, then by its group's scope.
 #[derive(Clone, Copy, Debug, PartialEq, Eq)]
 pub enum Outcome {
     /// The relay's moment, from now on.
@@ -45,4 +56,11 @@ pub enum Outcome {
     Over(LimitFault),
     /// The report of an Update was accepted.
     Updated,
+    /// A packet went to so many endpoints: those that want its source in its group (RFC 7450, section
+    /// 5.3.4).
+    Copied(u32),
+    /// A packet of so many octets is longer than the relay copies.
+    TooBig(u32),
+    /// A packet that no relay forwards.
+    NotForwarded(NotForwarded),
 }

@@ -24,6 +24,7 @@ pub struct Querier {
     ghost of_settings: { fields ≡ query_fields settings },
     ghost code_fits: { fields.max_code ≤ 255 },
     ghost robustness_fits: { fields.robustness ≤ 7 },
+    ghost packets_fit: { settings.packet_limit ≤ 65000 },
 }
 
 impl Querier {

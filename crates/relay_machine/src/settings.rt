@@ -1,5 +1,5 @@
 ghost use Rattle.std.specs.Prelude.{◌≡◌, ◌↔◌, IsTrue};
-ghost use Rattle.relay_machine.specs.Settings.{AreLimits, HasQueryTimes, IsLawful, IsQueryTime, default_settings, membership_interval_ms};
+ghost use Rattle.relay_machine.specs.Settings.{AreLimits, HasQueryTimes, IsLawful, IsPacketLimit, IsQueryTime, default_settings, membership_interval_ms};
 
 use amt_values::Ip;
 use endpoint_membership::Limits;
@@ -23,6 +23,9 @@ pub struct Settings {
     /// How much the relay keeps: 1 to 65,536 live tunnel endpoints, 1 to 256 groups of one, 1 to 64
     /// sources of one group, and at most 16,777,216 sources in all.
     pub limits: Limits,
+    /// The longest packet that is copied, in octets: 20 to 65,000. A packet of more is dropped, since
+    /// the tunnel's datagrams aren't fragmented here.
+    pub packet_limit: u32,
 }
 
 impl Settings {
@@ -43,6 +46,7 @@ impl Settings {
                 groups: 64,
                 sources: 64,
             },
+            packet_limit: 1450,
         }
     }
 
@@ -52,7 +56,7 @@ impl Settings {
         ensures { IsTrue result ↔ IsLawful self.now }
     {
         match self.robustness {
-            1..=7 => self.has_query_times() && are_lawful(&self.limits),
+            1..=7 => self.has_query_times() && are_lawful(&self.limits) && self.has_packet_limit(),
             _ => false,
         }
     }
@@ -61,6 +65,12 @@ impl Settings {
         ensures { IsTrue result ↔ HasQueryTimes self.now }
     {
         is_query_time(self.query_seconds) && is_query_time(self.response_tenths)
+    }
+
+    fn has_packet_limit(&self) -> bool
+        ensures { IsTrue result ↔ IsPacketLimit self.now.packet_limit }
+    {
+        (20..=65000).contains(&self.packet_limit)
     }
 
     /// How long a membership report counts, in milliseconds (RFC 3376, section 8.4).

@@ -19,4 +19,5 @@ returns-clause-lawful c = record {
     most_sources = omega arith;
     product = omega arith;
   };
+  packets = record { least = omega arith; most = omega arith };
 }
