@@ -130,7 +130,8 @@ unnamed lifetime moment (Clear endpoint at ∷ older) place none =
     (live_chain lifetime place (latest (Clear endpoint at ∷ older)) older) (live_chain lifetime place moment older) (unnamed lifetime moment older place none)
 unnamed lifetime moment (Mark at ∷ older) place none = unnamed lifetime moment older place none
 
-bare : (lifetime moment : ℕ) (past : List Change) (place : Place) → has place_order (places_in past) place ≡ false → standing lifetime moment past place ≡ None
+-- nothing stands where no report names the place
+pub bare : (lifetime moment : ℕ) (past : List Change) (place : Place) → has place_order (places_in past) place ≡ false → standing lifetime moment past place ≡ None
 bare lifetime moment past place none =
     standing-is lifetime moment past place ∙ ap (λ (filter : FilterValue). kept_if_standing place filter (renewed_at place past)) (unnamed lifetime moment past place none)
 

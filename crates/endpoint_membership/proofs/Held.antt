@@ -81,16 +81,15 @@ Holds-mark terms table log at moment rows is fresh holds =
     (subst (AreRows terms.lifetime (latest (Mark at ∷ reverse log)) (reverse log)) (sym fresh) (fresh_rows terms table log (Mark at) moment holds is)))
 
 -- an endpoint leaves every group
-pub Holds-clear : (terms : Terms) (table : TableValue) (log : List Change) (endpoint : Tunnel) (at moment : ℕ) (fresh rows : List Kept) → 0 < table.lifetime → moment ≡ max table.moment at
+pub Holds-clear : (terms : Terms) (table : TableValue) (log : List Change) (endpoint : Tunnel) (at moment : ℕ) (fresh rows : List Kept) → moment ≡ max table.moment at
     → fresh ≡ filter (is_fresh table.lifetime moment) table.rows → rows ≡ filter (is_besides endpoint) fresh
     → Holds terms table log → Holds terms (table_of moment table.limits table.lifetime rows) (log ++ Clear endpoint at ∷ [])
-Holds-clear terms table log endpoint at moment fresh rows some is left gone holds =
+Holds-clear terms table log endpoint at moment fresh rows is left gone holds =
     let entry = Clear endpoint at in
     let now = latest (entry ∷ reverse log) in
-    let same = holds.lifetime in
     let here = subst (AreRows terms.lifetime now (reverse log)) (sym left) (fresh_rows terms table log entry moment holds is) in
     held terms table log entry moment rows holds is
-    (subst (AreRows terms.lifetime now (entry ∷ reverse log)) (sym gone) (AreRows-clear terms.lifetime at endpoint (reverse log) fresh (omega arith) here))
+    (subst (AreRows terms.lifetime now (entry ∷ reverse log)) (sym gone) (AreRows-clear terms.lifetime at endpoint (reverse log) fresh here))
 
 -- the rows that are left at a later moment are the rows by the log then
 pub fresh_are : (terms : Terms) (table : TableValue) (log : List Change) (at moment : ℕ) → moment ≡ max table.moment at → Holds terms table log

@@ -18,5 +18,6 @@ pub mod Reported
 pub mod Speaking
 pub mod Standing
 pub mod Steps
+pub mod Wanting
 pub mod Wishing
 pub mod Within

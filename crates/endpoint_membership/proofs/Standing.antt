@@ -91,11 +91,20 @@ standing-entry lifetime entry past place records some makes concerned =
     ∙ ap (λ (filter : FilterValue). kept_if_standing place (applied_all filter records) moment)
     (sym (ap filter_in (standing-is lifetime moment past place) ∙ filter_in-kept place (filter_of older) (renewed_at place past)))
 
+left_by : (fresh : Bool) (group : Ip) (older : List Record) → filter_of (cond fresh (leaving group ∷ older) []) ≡ nothing
+left_by true group older = refl
+left_by false group older = refl
+
 -- nothing stands at a cleared endpoint
-pub standing-clear : (lifetime at : ℕ) (endpoint : Tunnel) (past : List Change) (place : Place) → 0 < lifetime → same_endpoint place.endpoint endpoint ≡ true
+pub standing-clear : (lifetime at : ℕ) (endpoint : Tunnel) (past : List Change) (place : Place) → same_endpoint place.endpoint endpoint ≡ true
     → standing lifetime (latest (Clear endpoint at ∷ past)) (Clear endpoint at ∷ past) place ≡ None
-standing-clear lifetime at endpoint past place some same =
-    standing-entry lifetime (Clear endpoint at) past place (leaving place.group ∷ []) some (rw same refl) (rw same refl)
+standing-clear lifetime at endpoint past place same =
+    let moment = latest (Clear endpoint at ∷ past) in
+    let older = live_chain lifetime place moment past in
+    let chain : live_chain lifetime place moment (Clear endpoint at ∷ past) ≡ cond (ltb moment (moment + lifetime)) (leaving place.group ∷ older) [] = rw same refl in
+    standing-is lifetime moment (Clear endpoint at ∷ past) place
+    ∙ ap (λ (records : List Record). kept_if_standing place (filter_of records) (renewed_at place (Clear endpoint at ∷ past))) chain
+    ∙ ap (λ (filter : FilterValue). kept_if_standing place filter (renewed_at place (Clear endpoint at ∷ past))) (left_by (ltb moment (moment + lifetime)) place.group older)
 
 nonempty_end : (records : List Record) (last : Record) → is_empty (records ++ last ∷ []) ≡ false
 nonempty_end [] last = refl

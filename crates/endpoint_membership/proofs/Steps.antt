@@ -1,5 +1,5 @@
 -- What entries do to rows that stand for a log.
-use Rattle.std.proofs.Common.{◌≡◌, ℕ, ◌≤◌, ◌<◌, Bool, true, false, cond, not, ◌&&◌, List, [], ◌∷◌, ◌++◌, filter, Option, Some, None, refl, sym, ap, ◌∙◌, arith, inl, inr}
+use Rattle.std.proofs.Common.{◌≡◌, ℕ, ◌≤◌, Bool, true, false, cond, not, ◌&&◌, List, [], ◌∷◌, ◌++◌, filter, Option, Some, None, refl, sym, ap, ◌∙◌, arith, inl, inr}
 use Rattle.std.specs.List.{AllByRecursion}
 use Rattle.std.specs.List.Sorted.{IsStrictlySortedBy}
 use Rattle.std.specs.Option.{option_or}
@@ -65,17 +65,17 @@ cleared_by true before after none same = sym (none refl)
 cleared_by false before after none same = sym (same refl)
 
 -- a clearing takes away the endpoint's rows
-pub AreRows-clear : (lifetime at : ℕ) (endpoint : Tunnel) (past : List Change) (rows : List Kept) → 0 < lifetime
+pub AreRows-clear : (lifetime at : ℕ) (endpoint : Tunnel) (past : List Change) (rows : List Kept)
     → AreRows lifetime (latest (Clear endpoint at ∷ past)) past rows
     → AreRows lifetime (latest (Clear endpoint at ∷ past)) (Clear endpoint at ∷ past) (filter (is_besides endpoint) rows)
-AreRows-clear lifetime at endpoint past rows some are =
+AreRows-clear lifetime at endpoint past rows are =
     let moment = latest (Clear endpoint at ∷ past) in record {
       rise = IsRising-filter kept_order (is_besides endpoint) rows are.rise;
       each = λ place. row_at-filter (is_besides endpoint) rows place are.rise
           ∙ ap (only (is_besides endpoint)) (are.each place)
           ∙ only_besides (standing lifetime moment past place) endpoint place (GivesItsPlace-standing lifetime moment past place)
           ∙ cleared_by (same_endpoint place.endpoint endpoint) (standing lifetime moment past place) (standing lifetime moment (Clear endpoint at ∷ past) place)
-          (standing-clear lifetime at endpoint past place some)
+          (standing-clear lifetime at endpoint past place)
           (λ apart. standing-other lifetime moment (Clear endpoint at) past place (rw apart refl));
     }
 

@@ -1,11 +1,13 @@
 -- Rows as the body of a table handles them. No public contract says these words.
-use Rattle.std.specs.Prelude.{ℕ, ◌+◌, nat_lt, not, Bool, true, false, ◌&&◌, List, [], ◌∷◌, take, drop, Option, Some, None, if◌then◌else◌}
-use Rattle.std.specs.List.{prefix_len}
+use Rattle.std.specs.Prelude.{ℕ, ◌+◌, nat_lt, not, Bool, true, false, ◌&&◌, List, [], ◌∷◌, map, take, drop, Option, Some, None, if◌then◌else◌}
+use Rattle.std.specs.List.{filter, prefix_len}
 use Rattle.std.specs.Option.{option_or}
 use Rattle.std.specs.Ordering.{is_lt}
+use Rattle.amt_values.specs.declared.address.Ip.{Ip}
 use Rattle.amt_values.specs.Order.{tunnel_order}
 use Rattle.amt_values.specs.Tunnel.{Tunnel}
-use Rattle.endpoint_membership.specs.Place.{same_endpoint}
+use Rattle.source_filter.specs.Filter.{admits}
+use Rattle.endpoint_membership.specs.Place.{same_endpoint, same_group}
 use Rattle.endpoint_membership.specs.declared.kept.Kept.{Kept}
 
 -- less than a lifetime has passed since the last renewal
@@ -59,3 +61,11 @@ last_of (kept ∷ rest) = option_or (last_of rest) (Some kept.endpoint)
 abbrev pub ends_with : Option Tunnel → Tunnel → Bool
 ends_with None endpoint = false
 ends_with (Some last) endpoint = same_endpoint last endpoint
+
+-- a row of the group that counts at the moment and lets the source in
+abbrev pub is_target : ℕ → ℕ → Ip → Ip → Kept → Bool
+is_target lifetime moment group source kept = (same_group kept.group group && is_fresh lifetime moment kept) && admits kept.filter source
+
+-- the endpoints of such rows
+abbrev pub targets_in : ℕ → ℕ → Ip → Ip → List Kept → List Tunnel
+targets_in lifetime moment group source rows = map (λ kept. kept.endpoint) (filter (is_target lifetime moment group source) rows)

@@ -7,4 +7,5 @@ pub mod Own
 pub mod Place
 pub mod Rows
 pub mod Table
+pub mod Targets
 pub mod Wishes

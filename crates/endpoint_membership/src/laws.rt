@@ -1,13 +1,16 @@
 //! What the definitions of a membership table mean in the words of the field.
-ghost use Rattle.std.specs.Prelude.{ℕ, ◌≡◌, ◌≤◌, ◌<◌, max, false, List, [], ◌∷◌, ◌++◌, reverse, Some, None};
+ghost use Rattle.std.specs.Prelude.{ℕ, ◌≡◌, ◌≤◌, ◌<◌, ◌↔◌, max, true, false, List, [], ◌∷◌, ◌++◌, reverse, Some, None, Contains};
 ghost use Rattle.amt_values.specs.declared.address.Ip.{Ip};
+ghost use Rattle.amt_values.specs.Order.{tunnel_order};
 ghost use Rattle.amt_values.specs.Tunnel.{Tunnel};
 ghost use Rattle.source_filter.specs.Filter.{admits};
+ghost use Rattle.source_filter.specs.Rising.{IsRising};
 ghost use Rattle.endpoint_membership.specs.Admission.{NothingStands, is_admitted};
 ghost use Rattle.endpoint_membership.specs.Chain.{IsLongestChain};
 ghost use Rattle.endpoint_membership.specs.Log.{latest, live_chain};
 ghost use Rattle.endpoint_membership.specs.Place.{Place};
 ghost use Rattle.endpoint_membership.specs.Rows.{is_live, rows_of, standing, standing_rows};
+ghost use Rattle.endpoint_membership.specs.Targets.{targets_of};
 ghost use Rattle.endpoint_membership.specs.declared.change.Change.{Change};
 ghost use Rattle.endpoint_membership.specs.declared.change.Change.TheVariants.{Clear, Mark};
 ghost use Rattle.endpoint_membership.specs.declared.kept.Kept.{Kept};
@@ -34,6 +37,19 @@ pub fn rows_admit_by_the_newest_record()
         → latest log ≤ moment
         → standing lifetime moment (reverse log) place ≡ None
         → is_admitted lifetime log place source moment ≡ false }
+{}
+
+/// A packet is copied to an endpoint exactly where the newest record that speaks of its source
+/// wants it (RFC 3376, section 4.2.12), and once to each: the targets are in their order, with no
+/// repeats.
+pub fn targets_are_those_that_want()
+    ensures wanted { (lifetime : ℕ) (log : List Change) (group source : Ip) (moment : ℕ)
+        (endpoint : Tunnel)
+        → Contains (targets_of lifetime log group source moment) endpoint
+        ↔ (is_admitted lifetime log (record { endpoint = endpoint; group = group }) source moment
+        ≡ true) }
+    ensures rising { (lifetime : ℕ) (log : List Change) (group source : Ip) (moment : ℕ)
+        → IsRising tunnel_order (targets_of lifetime log group source moment) }
 {}
 
 /// A clearing of an endpoint at which nothing stands needs no place in the log: with no more than

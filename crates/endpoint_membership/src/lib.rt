@@ -16,16 +16,18 @@ mod own;
 mod row;
 mod sweep;
 mod table;
+mod targets;
 mod wish;
 
 pub use change::Change;
 pub use laws::{
     clearings_change_nothing_where_none_is_live, live_chains_are_longest,
-    rows_admit_by_the_newest_record,
+    rows_admit_by_the_newest_record, targets_are_those_that_want,
 };
 pub use limits::{AcceptFault, LimitFault, Limits};
 pub use row::{Row, Rows};
 pub use table::Table;
+pub use targets::Targets;
 
 #[cfg(test)]
 mod slow;

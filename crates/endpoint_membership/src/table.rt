@@ -1,12 +1,17 @@
-ghost use Rattle.std.specs.Prelude.{◌≡◌, ◌<◌, ◌≤◌, ◌+◌, ◌^◌, [], ◌∷◌, ◌++◌, List, max, length, Some, None, IfOk, OnOk, if◌then◌else◌};
+ghost use Rattle.std.specs.Prelude.{◌≡◌, ◌<◌, ◌≤◌, ◌↔◌, ◌+◌, ◌^◌, [], ◌∷◌, ◌++◌, List, max, true, false, length, Some, None, Contains, IfOk, OnOk, if◌then◌else◌};
 ghost use Rattle.std.specs.List.{AllByRecursion, filter, find};
+ghost use Rattle.amt_values.specs.Order.{tunnel_order};
+ghost use Rattle.amt_values.specs.Tunnel.{Tunnel};
 ghost use Rattle.source_filter.specs.Record.{item_count};
+ghost use Rattle.source_filter.specs.Rising.{IsRising};
+ghost use Rattle.endpoint_membership.specs.Admission.{is_admitted};
 ghost use Rattle.endpoint_membership.specs.Kept.{is_counted};
 ghost use Rattle.endpoint_membership.specs.Limits.{IsWithin, fault_by, live_count, size};
 ghost use Rattle.endpoint_membership.specs.Log.{is_empty, latest};
 ghost use Rattle.endpoint_membership.specs.Own.{is_over};
 ghost use Rattle.endpoint_membership.specs.Rows.{is_live, rows_of, standing_rows};
 ghost use Rattle.endpoint_membership.specs.Table.{Holds, IsWithinLimits, OnLimit, OnMemory, Terms, limit_passed, standing_now};
+ghost use Rattle.endpoint_membership.specs.Targets.{targets_of};
 ghost use Rattle.endpoint_membership.specs.declared.change.Change.{Change as Entry};
 ghost use Rattle.endpoint_membership.specs.declared.change.Change.TheVariants.{Clear, Mark, Reported};
 
@@ -17,7 +22,8 @@ use crate::live::{count_live, one_unless};
 use crate::own::own_rows;
 use crate::row::{Rows, show};
 use crate::sweep::{drop_endpoint, is_live, purge, replace};
-use amt_values::{Endpoint, Moment};
+use crate::targets::{Targets, collect_targets};
+use amt_values::{Endpoint, Ip, Moment};
 use source_filter::Records;
 use std::alloc::{AllocError, Global};
 use std::marker::Model;
@@ -92,6 +98,8 @@ impl Table {
             → result ≡ is_live endpoint.now (standing_rows terms.lifetime (max at.now (latest log)) log) }
         ensures stands { (terms : Terms) (log : List Entry) → Holds terms self.old log
             → Holds terms self.new (log ++ Clear endpoint.now at.now ∷ []) }
+        ensures same { (terms : Terms) (log : List Entry) → Holds terms self.old log
+            → at.now ≤ latest log → result ≡ false → self.new ≡ self.old }
         ensures within { IsWithinLimits self.old → IsWithinLimits self.new }
     {
         self.moment = self.moment.later(at);
@@ -117,6 +125,26 @@ impl Table {
     {
         let rows = show(alloc, &self.rows)?;
         Ok(rows)
+    }
+
+    /// Who gets a copy of a packet from the source to the group, at the later of the table's moment
+    /// and this one (RFC 7450, section 5.3.3.5). What was in `out` before is replaced. Room for
+    /// `live_endpoints` is always enough.
+    pub fn admitting_into(&self, group: &Ip, source: &Ip, at: &Moment, out: &mut Targets)
+        requires room { live_count self.now.rows ≤ out.old.room }
+        ensures targets { (terms : Terms) (log : List Entry) → Holds terms self.now log
+            → out.new.endpoints ≡ targets_of terms.lifetime log group.now source.now at.now }
+        ensures exactly { (terms : Terms) (log : List Entry) → Holds terms self.now log
+            → (endpoint : Tunnel) → Contains out.new.endpoints endpoint
+            ↔ (is_admitted terms.lifetime log (record { endpoint = endpoint; group = group.now })
+            source.now at.now ≡ true) }
+        ensures rising { IsRising tunnel_order out.new.endpoints }
+
+        ensures room { out.new.room ≡ out.old.room }
+        ensures few { length out.new.endpoints ≤ live_count self.now.rows }
+    {
+        let later = self.moment.later(at);
+        collect_targets(&self.rows, group, source, later, self.lifetime_ms, out);
     }
 
     // The first limit that a report passes, if these are its endpoint's rows afterwards.

@@ -5,6 +5,7 @@ use Rattle.endpoint_membership.specs.Kept.{is_besides, is_fresh}
 use Rattle.endpoint_membership.specs.Limits.{IsWithin}
 use Rattle.endpoint_membership.specs.Rows.{is_live, kept_order}
 use Rattle.endpoint_membership.specs.Table.{Holds, IsWithinLimits, TableValue}
+use Rattle.endpoint_membership.proofs.Clearings.{none_cleared}
 use Rattle.endpoint_membership.proofs.Held.{Holds-clear, fresh_are}
 use Rattle.endpoint_membership.proofs.Within.{IsWithin-filter}
 use Rattle.endpoint_membership.proofs.table.Table.clear.Goals as goal
@@ -24,7 +25,7 @@ returns-clause-live c terms log holds =
 pub returns-clause-stands : goal.returns-clause-stands
 returns-clause-stands c terms log holds =
     let inside = subst (λ (table : TableValue). Holds terms table log) (sym c.self.view_is) holds in
-    Holds-clear terms _ log c.args.endpoint.now c.args.at.now c.later-self-inside.result c.purge.new.rows.items c.drop_endpoint.new.rows.items c.self.invariant.0.some_time
+    Holds-clear terms _ log c.args.endpoint.now c.args.at.now c.later-self-inside.result c.purge.new.rows.items c.drop_endpoint.new.rows.items
     c.later-self-inside.ensures c.purge.ensures c.drop_endpoint.ensures inside
 
 pub returns-clause-within : goal.returns-clause-within
@@ -33,3 +34,10 @@ returns-clause-within c within =
     let limits = c.self.inside.limits in
     let fresh = subst (IsWithin limits) (sym c.purge.ensures) (IsWithin-filter limits (is_fresh c.self.inside.lifetime_ms c.later-self-inside.result) c.self.inside.rows.items inside) in
     subst (IsWithin limits) (sym c.drop_endpoint.ensures) (IsWithin-filter limits (is_besides c.args.endpoint.now) c.purge.new.rows.items fresh)
+
+pub returns-clause-same : goal.returns-clause-same
+returns-clause-same c terms log holds before none =
+    let inside = subst (λ (table : TableValue). Holds terms table log) (sym c.self.view_is) holds in
+    let fresh = sym (ap (is_live c.args.endpoint.now) c.deref.ensures.value) ∙ sym c.is_live-live.ensures ∙ none in
+    none_cleared terms _ log c.args.endpoint.now c.args.at.now c.later-self-inside.result c.purge.new.rows.items c.drop_endpoint.new.rows.items
+    c.later-self-inside.ensures c.purge.ensures c.drop_endpoint.ensures inside before fresh ∙ c.self.view_is

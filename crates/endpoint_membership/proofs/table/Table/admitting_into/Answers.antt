@@ -1,0 +1,48 @@
+use Rattle.std.proofs.Common.{List, length, sym, ap, subst, ◌∙◌, arith}
+use Rattle.amt_values.specs.Order.{tunnel_order}
+use Rattle.amt_values.specs.Tunnel.{Tunnel}
+use Rattle.source_filter.specs.Rising.{IsRising, has}
+use Rattle.endpoint_membership.specs.declared.kept.Kept.{Kept}
+use Rattle.endpoint_membership.specs.Admission.{is_admitted}
+use Rattle.endpoint_membership.specs.Kept.{targets_in}
+use Rattle.endpoint_membership.specs.Limits.{live_count}
+use Rattle.endpoint_membership.specs.Table.{Holds, TableValue}
+use Rattle.endpoint_membership.proofs.Wanting.{Contains-has, IsRising-targets, has-targets_of, length-targets, targets_are}
+use Rattle.endpoint_membership.proofs.table.Table.admitting_into.Goals as goal
+
+pub collect_targets-requires-clause-room : goal.collect_targets-requires-clause-room
+collect_targets-requires-clause-room c =
+    let lifetime = c.self.inside.lifetime_ms in
+    let few = length-targets lifetime c.later-later.result c.args.group.now c.args.source.now c.self.inside.rows.items c.self.invariant.1 in
+    let same = ap (λ (rows : List Kept). length (targets_in lifetime c.later-later.result c.args.group.now c.args.source.now rows)) c.deref.ensures.value in
+    let live = ap (λ (table : TableValue). live_count table.rows) c.self.view_is in
+    let room = c.requires.room in
+    omega arith
+
+pub returns-clause-targets : goal.returns-clause-targets
+returns-clause-targets c terms log holds =
+    let inside = subst (λ (table : TableValue). Holds terms table log) (sym c.self.view_is) holds in
+    c.collect_targets.ensures.endpoints
+    ∙ ap (targets_in c.self.inside.lifetime_ms c.later-later.result c.args.group.now c.args.source.now) c.deref.ensures.value
+    ∙ targets_are terms _ log c.args.group.now c.args.source.now c.args.at.now c.later-later.result c.later-later.ensures inside
+
+pub returns-clause-exactly : goal.returns-clause-exactly
+returns-clause-exactly c terms log holds endpoint =
+    Contains-has c.collect_targets.new.out.endpoints endpoint (is_admitted terms.lifetime log (record { endpoint = endpoint; group = c.args.group.now }) c.args.source.now c.args.at.now)
+    (ap (λ (endpoints : List Tunnel). has tunnel_order endpoints endpoint) (returns-clause-targets c terms log holds)
+    ∙ has-targets_of terms.lifetime log c.args.group.now c.args.source.now c.args.at.now endpoint)
+
+pub returns-clause-rising : goal.returns-clause-rising
+returns-clause-rising c =
+    subst (IsRising tunnel_order) (sym (c.collect_targets.ensures.endpoints
+    ∙ ap (targets_in c.self.inside.lifetime_ms c.later-later.result c.args.group.now c.args.source.now) c.deref.ensures.value))
+    (IsRising-targets c.self.inside.lifetime_ms c.later-later.result c.args.group.now c.args.source.now c.self.inside.rows.items c.self.invariant.1)
+
+pub returns-clause-few : goal.returns-clause-few
+returns-clause-few c =
+    let lifetime = c.self.inside.lifetime_ms in
+    let few = length-targets lifetime c.later-later.result c.args.group.now c.args.source.now c.self.inside.rows.items c.self.invariant.1 in
+    let all = ap (λ (endpoints : List Tunnel). length endpoints) (c.collect_targets.ensures.endpoints
+    ∙ ap (targets_in lifetime c.later-later.result c.args.group.now c.args.source.now) c.deref.ensures.value) in
+    let live = ap (λ (table : TableValue). live_count table.rows) c.self.view_is in
+    omega arith
