@@ -1,3 +1,4 @@
+pub mod HandedOut
 pub mod Limits
 pub mod Onward
 pub mod QuerySizes
