@@ -11,7 +11,7 @@ use Rattle.response_mac.specs.declared.secret.Secret.{Secret}
 use Rattle.response_mac.specs.declared.secrets.Secrets.{Secrets}
 use Rattle.response_mac.specs.ResponseMac.{is_good}
 use Rattle.endpoint_membership.specs.Limits.{live_count}
-use Rattle.endpoint_membership.specs.Rows.{rows_of}
+use Rattle.endpoint_membership.specs.Rows.{is_live, rows_of}
 use Rattle.endpoint_membership.specs.Table.{Holds, Terms, limit_passed, standing_now}
 use Rattle.endpoint_membership.specs.declared.change.Change.{Change}
 use Rattle.endpoint_membership.specs.declared.row.Row.{Row}
@@ -27,6 +27,7 @@ use Rattle.relay_machine.specs.Packets.{head_to_copy, packet_outcome, packet_sen
 use Rattle.relay_machine.specs.Queries.{query_for}
 use Rattle.relay_machine.specs.Settings.{membership_interval_ms, terms_of}
 use Rattle.relay_machine.specs.State.{RelayState}
+use Rattle.relay_machine.specs.Teardowns.{teardown_outcome}
 use Rattle.relay_machine.specs.Updates.{report_in, update_outcome}
 
 -- no more tunnel endpoints find room (RFC 7450, section 5.1.4)
@@ -40,12 +41,13 @@ judged terms secrets moment log (Some source) (Err refusal) = Undecoded refusal
 judged terms secrets moment log (Some source) (Ok (Advertisement nonce relay)) = WrongKind 2
 judged terms secrets moment log (Some source) (Ok (Query limited mac nonce inner seen)) = WrongKind 4
 judged terms secrets moment log (Some source) (Ok (Multicast packet)) = WrongKind 6
-judged terms secrets moment log (Some source) (Ok (Teardown mac nonce gateway)) = WrongKind 7
 judged terms secrets moment log (Some source) (Ok (Discovery nonce)) = Advertised
 judged terms secrets moment log (Some source) (Ok (Request true nonce)) = NoFamily
 judged terms secrets moment log (Some source) (Ok (Request false nonce)) = Queried false (is_limited terms log)
 judged terms secrets moment log (Some source) (Ok (Update mac nonce inner)) =
     update_outcome (is_good secrets source nonce mac) (report_in inner) (λ records. limit_passed terms log source records moment)
+judged terms secrets moment log (Some source) (Ok (Teardown mac nonce gateway)) =
+    teardown_outcome (is_good secrets gateway nonce mac) (is_live gateway (standing_now terms log))
 
 -- a Discovery is answered by an Advertisement of its nonce and the relay's address, and a Request
 -- for IGMP by a Query under this secret, each to its source (RFC 7450, section 5.3.3); nothing else

@@ -7,4 +7,5 @@ pub mod Queries
 pub mod Reading
 pub mod Settings
 pub mod State
+pub mod Teardowns
 pub mod Updates

@@ -19,6 +19,7 @@ mod relay;
 mod report;
 mod sends;
 mod settings;
+mod teardown;
 mod update;
 
 pub use event::Event;

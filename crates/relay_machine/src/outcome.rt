@@ -24,8 +24,9 @@ pub enum NotForwarded {
 }
 
 /// What an event came to. A datagram is judged by its source, then by its octets, then by its type;
-/// an Update by its MAC, then by the report in it, then by the relay's limits. A packet is judged by
-/// its length, then by its head, then by its group's scope.
+/// an Update by its MAC, then by the report in it, then by the relay's limits; a Teardown by its MAC
+/// for the tunnel endpoint that it names, whatever its source. A packet is judged by its length, then
+/// by its head, then by its group's scope.
 #[derive(Clone, Copy, Debug, PartialEq, Eq)]
 pub enum Outcome {
     /// The relay's moment, from now on.
@@ -47,8 +48,9 @@ pub enum Outcome {
     /// A Request was answered, for MLD where `v6` is true. Where `limited` is true, the Query says by
     /// its L flag that new tunnel endpoints find no room (RFC 7450, section 5.1.4).
     Queried { v6: bool, limited: bool },
-    /// An Update's response MAC is not one that the relay gave its source and nonce lately
-    /// (RFC 7450, section 5.3.3.5).
+    /// The response MAC of an Update or a Teardown is not one that the relay gave the source of the
+    /// Update, or the endpoint that the Teardown names, for its nonce lately (RFC 7450, sections
+    /// 5.3.3.5 and 5.3.3.6).
     BadMac,
     /// An Update with a good MAC carries no membership report.
     Unlawful(Unlawful),
@@ -56,6 +58,10 @@ pub enum Outcome {
     Over(LimitFault),
     /// The report of an Update was accepted.
     Updated,
+    /// Every group of the endpoint that a Teardown names was taken away.
+    TornDown,
+    /// A Teardown names an endpoint at which no group stands.
+    NoTunnel,
     /// A packet went to so many endpoints: those that want its source in its group (RFC 7450, section
     /// 5.3.4).
     Copied(u32),

@@ -116,9 +116,9 @@ impl Relay {
             → IfOk result (λ _. IsWithin settings.limits (standing_now (terms_of settings)
             (accepted settings first (events ++ event.now ∷ [])))) }
 
-        // No datagram but an accepted Update changes the relay, not even a Request: what is kept
-        // for each, as its nonce, could be made to fill the relay's memory by whoever forges
-        // sources. No packet does, as often as a source may send.
+        // No datagram but an accepted Update and the Teardown of a live endpoint changes the relay,
+        // not even a Request: what is kept for each, as its nonce, could be made to fill the
+        // relay's memory by whoever forges sources. No packet changes it.
         ensures same { (settings : SettingsValue) (first : SecretValue)
             (events : List EventValue) → RelayAt self.old settings first events
             → IsPayload event.now

@@ -103,11 +103,12 @@ fn a_request_is_answered_with_a_query_under_the_current_secret(
 
 #[test]
 fn every_other_datagram_is_not_answered(rt: HostRuntime) -> Result<(), Fail> {
-    let rows: [(Ip, &[u8], Outcome); 9] = [
+    let rows: [(Ip, &[u8], Outcome); 10] = [
         (Ip::V6(1), DISCOVERY, Outcome::BadSource),
         (Ip::V6(0xffff_c633_6407), b"", Outcome::BadSource),
         (GATEWAY, b"", Outcome::Undecoded(Refused::Empty)),
         (GATEWAY, b"\x06", Outcome::Undecoded(Refused::Short(2, 1))),
+        (GATEWAY, b"\x06\x00", Outcome::WrongKind(6)),
         (
             GATEWAY,
             b"\x02\x00\x00\x00\x01\x02\x03\x04\xc0\x00\x02\x01",

@@ -69,6 +69,26 @@ fn update(
     step_with(rt, alloc, relay, port, bytes)
 }
 
+// A Teardown from 203.0.113.9:6000 that names an endpoint, its port before its address, with this
+// MAC for the nonce 0a0b0c0d.
+fn teardown(
+    alloc: Global,
+    relay: &mut Relay,
+    mac: Mac48,
+    endpoint: &[u8; 18],
+) -> Result<Step, AllocError> {
+    let mut bytes = Bytes::new(alloc);
+    bytes.append(b"\x07\x00")?;
+    bytes.append(&mac.0)?;
+    bytes.append(b"\x0a\x0b\x0c\x0d")?;
+    bytes.append(endpoint)?;
+    let from = Peer {
+        ip: Ip::V4(0xcb00_7109),
+        port: 6000,
+    };
+    relay.step(alloc, &Event::Datagram { from, bytes })
+}
+
 fn good_mac(port: u16) -> Mac48 {
     mac(&FIRST, &Endpoint::named(0xc633_6407, port), NONCE)
 }
@@ -202,6 +222,71 @@ fn an_update_that_passes_a_limit_is_over(rt: HostRuntime) -> Result<(), Fail> {
     for (port, inner, outcome) in rows {
         let step = update(&rt, rt.alloc(), &mut relay, port, good_mac(port), inner)?;
         assert_eq!(rt; step.outcome, outcome);
+        assert_one_row(&rt, rt.alloc(), &relay, 5000, 0xef01_0101)?;
+    }
+    Ok(())
+}
+
+// The gateway at port 5000 (1388), its address behind 96 zero bits, and in the mapped form.
+const NAMED: &[u8; 18] =
+    b"\x13\x88\x00\x00\x00\x00\x00\x00\x00\x00\x00\x00\x00\x00\xc6\x33\x64\x07";
+
+const MAPPED: &[u8; 18] =
+    b"\x13\x88\x00\x00\x00\x00\x00\x00\x00\x00\x00\x00\xff\xff\xc6\x33\x64\x07";
+
+#[test]
+fn a_teardown_ends_the_tunnel_of_the_endpoint_that_it_names(rt: HostRuntime) -> Result<(), Fail> {
+    let mut relay = relay(&rt, rt.alloc())?;
+    for named in [NAMED, MAPPED] {
+        update(&rt, rt.alloc(), &mut relay, 5001, good_mac(5001), ONE_GROUP)?;
+        update(&rt, rt.alloc(), &mut relay, 5000, good_mac(5000), ONE_GROUP)?;
+        update(
+            &rt,
+            rt.alloc(),
+            &mut relay,
+            5000,
+            good_mac(5000),
+            TWO_GROUPS,
+        )?;
+        assert_eq!(rt; relay.rows(rt.alloc())?.len(), 3);
+        let step = teardown(rt.alloc(), &mut relay, good_mac(5000), named)?;
+        assert_eq!(rt; step.outcome, Outcome::TornDown);
+        assert_eq!(rt; step.sends.len(), 0);
+        match step.change {
+            Some(Change::Clear { endpoint, at }) => {
+                assert_eq!(rt; endpoint, Endpoint::named(0xc633_6407, 5000));
+                assert_eq!(rt; at.ms(), 0);
+            }
+            _ => assert!(rt; false, "another entry"),
+        }
+        assert_one_row(&rt, rt.alloc(), &relay, 5001, 0xef01_0101)?;
+    }
+    Ok(())
+}
+
+#[test]
+fn a_teardown_of_an_endpoint_that_is_not_live_changes_nothing(rt: HostRuntime) -> Result<(), Fail> {
+    let mut relay = relay(&rt, rt.alloc())?;
+    update(&rt, rt.alloc(), &mut relay, 5001, good_mac(5001), ONE_GROUP)?;
+    update(&rt, rt.alloc(), &mut relay, 5000, good_mac(5000), ONE_GROUP)?;
+    for outcome in [Outcome::TornDown, Outcome::NoTunnel, Outcome::NoTunnel] {
+        let step = teardown(rt.alloc(), &mut relay, good_mac(5000), NAMED)?;
+        assert_eq!(rt; step.outcome, outcome);
+        assert_eq!(rt; step.sends.len(), 0);
+        assert_eq!(rt; step.change.is_some(), outcome == Outcome::TornDown);
+        assert_one_row(&rt, rt.alloc(), &relay, 5001, 0xef01_0101)?;
+    }
+    Ok(())
+}
+
+#[test]
+fn a_teardown_by_the_mac_of_another_endpoint_is_badmac(rt: HostRuntime) -> Result<(), Fail> {
+    let mut relay = relay(&rt, rt.alloc())?;
+    update(&rt, rt.alloc(), &mut relay, 5000, good_mac(5000), ONE_GROUP)?;
+    let of_its_source = mac(&FIRST, &Endpoint::named(0xcb00_7109, 6000), NONCE);
+    for mac in [of_its_source, good_mac(5001)] {
+        let step = teardown(rt.alloc(), &mut relay, mac, NAMED)?;
+        assert_eq!(rt; step.outcome, Outcome::BadMac);
         assert_one_row(&rt, rt.alloc(), &relay, 5000, 0xef01_0101)?;
     }
     Ok(())

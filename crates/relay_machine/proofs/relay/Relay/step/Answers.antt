@@ -18,7 +18,7 @@ invariant_of-self c =
 
 pub invariant_of-self-in-Datagram : goal.invariant_of-self-in-Datagram
 invariant_of-self-in-Datagram c =
-    IsSound-answered _ _ _ c.answer.result c.self.invariant c.answer.ensures.stands c.answer.ensures.err c.answer.ensures.within
+    IsSound-answered _ _ _ _ c.answer.result c.self.invariant c.answer.ensures.stands c.answer.ensures.err c.answer.ensures.within
 
 pub returns-in-Moment-clause-next : goal.returns-in-Moment-clause-next
 returns-in-Moment-clause-next c settings first events at =
@@ -34,12 +34,12 @@ returns-in-Moment-clause-within c settings first events at =
 pub returns-in-Datagram-clause-next : goal.returns-in-Datagram-clause-next
 returns-in-Datagram-clause-next c settings first events at =
     let inside = subst (λ (relay : RelayState). RelayAt relay settings first events) (sym c.self.view_is) at in
-    rw c.in-Datagram.is (RelayAt-answered _ settings first events _ _ _ c.answer.result inside c.answer.ensures.change c.answer.ensures.stands)
+    rw c.in-Datagram.is (RelayAt-answered _ settings first events _ _ _ c.answer.result inside c.answer.ensures.stands)
 
 pub returns-in-Datagram-clause-within : goal.returns-in-Datagram-clause-within
 returns-in-Datagram-clause-within c settings first events at =
     IfOk-weaker c.answer.result _ _
-    (λ step next. IsWithin-events _ settings first (events ++ c.args.event.now ∷ []) next c.answer.ensures.within)
+    (λ _ next. IsWithin-events _ settings first (events ++ c.args.event.now ∷ []) next c.answer.ensures.within)
     (returns-in-Datagram-clause-next c settings first events at)
 
 pub returns-in-Packet-clause-next : goal.returns-in-Packet-clause-next
