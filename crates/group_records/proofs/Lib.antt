@@ -5,4 +5,6 @@ pub mod Walk
 pub mod Steps
 pub mod Answered
 pub mod Few
+pub mod Summed
 pub mod Written
+pub mod WrittenQuery
