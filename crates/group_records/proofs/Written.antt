@@ -1,5 +1,5 @@
 -- A written report is read back, and its length.
-use Rattle.std.proofs.Common.{◌≡◌, ℕ, ◌+◌, ◌*◌, ◌/◌, ◌%◌, ◌^◌, ◌<◌, ◌≤◌, List, [], ◌∷◌, ◌++◌, length, length-append, map, true, Option, Some, refl, sym, subst, ap, ◌∙◌, arith, append_assoc}
+use Rattle.std.proofs.Common.{◌≡◌, ℕ, ◌+◌, ◌*◌, ◌%◌, ◌^◌, ◌<◌, ◌≤◌, List, [], ◌∷◌, ◌++◌, length, length-append, map, true, Option, Some, refl, sym, subst, ap, ◌∙◌, arith}
 use Rattle.std.proofs.Math.Nat.{suc-mul}
 use Rattle.std.proofs.lemmas.List.{append-nil, length-map}
 use Rattle.std.proofs.lemmas.List.Elements.{All-cons, All-head, All-nil, All-tail}
@@ -12,7 +12,6 @@ use Rattle.amt_values.specs.Address.{number_of}
 use Rattle.amt_values.specs.declared.address.Ip.{Ip}
 use Rattle.amt_values.specs.declared.address.Ip.TheVariants.{V4 as Address4, V6 as Address6}
 use Rattle.inner_datagrams.specs.Checksum.{internet_sum_of, IsRight}
-use Rattle.inner_datagrams.proofs.RightSum.{IsRight-filled}
 use Rattle.source_filter.specs.declared.record.Record.{Record}
 use Rattle.source_filter.specs.declared.record.RecordKind.{RecordKind}
 use Rattle.source_filter.specs.declared.record.RecordKind.TheVariants.{IsIn, IsEx, ToIn, ToEx, Allow, Block}
@@ -24,6 +23,7 @@ use Rattle.group_records.specs.Reading.{head_length}
 use Rattle.group_records.specs.Report.{AreRecords, IsReport}
 use Rattle.group_records.specs.Written.{FitsOctets, HasFittingAddresses, IsOfFamily, address_octets, is_of_family, kind_number, report_length, report_with_sum, written_record, written_report}
 use Rattle.group_records.proofs.Few.{width-some}
+use Rattle.group_records.proofs.Summed.{IsRight-summed}
 
 abbrev IsOf : Family → Ip → Type 0
 IsOf family address = is_of_family family address ≡ true
@@ -187,7 +187,7 @@ records-lawful family (first ∷ others) of_family fitting few =
     (records-lawful family others (All-tail (IsOfFamily family) first others of_family) (All-tail HasFittingAddresses first others fitting)
     (All-tail HasFewSources first others few))
 
-abbrev octets_in : Family → Record → ℕ
+abbrev pub octets_in : Family → Record → ℕ
 octets_in family group_record = head_length family + length group_record.sources * width family
 
 length-written_records : (family : Family) (records : List Record) → All (IsOfFamily family) records
@@ -243,16 +243,7 @@ IsRight-written_report : (family : Family) (pseudo_header : List ℕ) (records :
     → AreOctets (pseudo_header ++ report_with_sum 0 family records) → IsRight (pseudo_header ++ written_report family pseudo_header records)
 unfolding written_report
 IsRight-written_report family pseudo_header records even small =
-    let back = 0 ∷ 0 ∷ big_bytes 2 (length records) ++ flat_map written_record records in
-    let front = pseudo_header ++ report_type family ∷ 0 ∷ [] in
-    let blank : front ++ 0 ∷ 0 ∷ back ≡ pseudo_header ++ report_with_sum 0 family records = append_assoc pseudo_header (report_type family ∷ 0 ∷ []) (0 ∷ 0 ∷ back) in
-    let field = big_bytes 2 (internet_sum_of (pseudo_header ++ report_with_sum 0 family records)) in
-    let filled : front ++ (field ++ back) ≡ pseudo_header ++ (report_type family ∷ 0 ∷ (field ++ back)) =
-    append_assoc pseudo_header (report_type family ∷ 0 ∷ []) (field ++ back) in
-    let pairs : length front ≡ (length pseudo_header / 2 + 1) * 2 = omega (arith, length-append pseudo_header (report_type family ∷ 0 ∷ [])) in
-    let right = IsRight-filled front back (length pseudo_header / 2 + 1) pairs (rw blank small) in
-    let right_here : IsRight (front ++ (field ++ back)) = rw blank at right in
-    subst (λ (xs : List ℕ). IsRight xs) filled right_here
+    IsRight-summed pseudo_header (report_type family) 0 (0 ∷ 0 ∷ big_bytes 2 (length records) ++ flat_map written_record records) even small
 
 -- each field of a written report stands at its place
 pub IsReport-written_report : (family : Family) (pseudo_header : List ℕ) (records : List Record) → length pseudo_header % 2 ≡ 0

@@ -1,4 +1,5 @@
 pub mod Family
+pub mod Code
 pub mod Carried
 pub mod Report
 pub mod Reading

@@ -1,8 +1,8 @@
 -- Which octets are a query, and the first fault of those that are none (RFC 3376, section 4.1;
 -- RFC 3810, section 5.1).
-use Rattle.std.specs.Prelude.{◌≡◌, ℕ, ◌+◌, ◌*◌, ◌/◌, ◌%◌, ◌≤◌, ◌==◌, nat_lt, ⊤, false, List, ◌++◌, length, drop, slice_index, Option, Some, None, Result, if◌then◌else◌}
-use Rattle.byteorder.specs.Endian.{big_number}
-use Rattle.inner_datagrams.specs.Checksum.{IsRight}
+use Rattle.std.specs.Prelude.{◌≡◌, ℕ, ◌+◌, ◌*◌, ◌/◌, ◌%◌, ◌≤◌, ◌==◌, nat_lt, ⊤, false, List, [], ◌∷◌, ◌++◌, length, drop, slice_index, Option, Some, None, Result, if◌then◌else◌}
+use Rattle.byteorder.specs.Endian.{big_bytes, big_number}
+use Rattle.inner_datagrams.specs.Checksum.{internet_sum_of, IsRight}
 use Rattle.source_filter.specs.declared.fault.ReportFault.{ReportFault}
 use Rattle.source_filter.specs.declared.fault.ReportFault.TheVariants.{Short, Kind, OldReport, Sum, RecordShort, SourceShort}
 use Rattle.source_filter.specs.declared.query.QueryFields.{QueryFields}
@@ -78,6 +78,30 @@ query_at family payload = record {
 -- a General Query: of every group and no source, and it suppresses nothing
 abbrev pub general_query : Family → QueryFields → QueryRead
 general_query family fields = record { fields = fields; suppress = false; group = address_in family 0; sources = 0 }
+
+abbrev pub IsGeneralQuery : Family → List ℕ → QueryFields → List ℕ → Type 0
+IsGeneralQuery family pseudo_header fields payload = IsQuery family pseudo_header (general_query family fields) payload
+
+-- the greatest code of the time within which a listener answers: it has 8 bits in IGMP, and 16 in MLD
+abbrev pub most_code : Family → ℕ
+most_code V4 = 255
+most_code V6 = 65535
+
+-- the end of the General Query that is written: every group, no flag beside the robustness, and no sources
+abbrev pub every_group : Family → QueryFields → List ℕ
+every_group family fields = big_bytes (width family) 0 ++ fields.robustness ∷ fields.interval_code ∷ 0 ∷ 0 ∷ []
+
+-- that query with this checksum; its reserved octets are zero
+abbrev pub query_with_sum : ℕ → Family → QueryFields → List ℕ
+query_with_sum checksum V4 fields =
+    query_type V4 ∷ fields.max_code ∷ big_bytes 2 checksum ++ every_group V4 fields
+query_with_sum checksum V6 fields =
+    query_type V6 ∷ 0 ∷ big_bytes 2 checksum ++ big_bytes 2 fields.max_code ++ 0 ∷ 0 ∷ every_group V6 fields
+
+-- the query with its own checksum, which is taken with a zero in its place
+unfoldable pub written_query : Family → List ℕ → QueryFields → List ℕ
+written_query family pseudo_header fields =
+    query_with_sum (internet_sum_of (pseudo_header ++ query_with_sum 0 family fields)) family fields
 
 -- the first condition that holds: too few octets, another type, a wrong sum, sources that aren't
 -- all there

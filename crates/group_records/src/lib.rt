@@ -2,22 +2,26 @@
 //!
 //! Contract: octets are a report of at most one list of records, and a query of at most one set of
 //! values, which is what is read; others are refused by the first fault. A written report is the one
-//! spelling of its records and is read back to them.
-//! It knows no datagram's layout, no tunnel or moment, and no code of a time. The checksum it takes
-//! from inner_datagrams.
+//! spelling of its records and is read back to them, and so is a written General Query of its fields.
+//! A time has at most one code.
+//! It knows no datagram's layout, no tunnel or moment. The checksum it takes from inner_datagrams.
 //! Standard: RFC 3376, sections 4.1 and 4.2; RFC 3810, sections 5.1 and 5.2.
 #![tactic(auto)]
 
+mod code;
 mod family;
+mod general;
 mod query;
 mod record;
 mod report;
 mod writing;
 
+pub use code::{code_value, value_code};
 pub use family::Family;
+pub use general::write_query;
 pub use query::read_query;
 pub use report::read_report;
-pub use writing::{REPORT_LIMIT, write_report};
+pub use writing::{REPORT_LIMIT, report_length, write_report};
 
 #[cfg(test)]
 mod tests;

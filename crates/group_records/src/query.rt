@@ -10,7 +10,7 @@ use amt_values::INPUT_LIMIT;
 use byteorder::{BigEndian, ByteOrder};
 use source_filter::{QueryFields, QueryRead, ReportFault};
 
-fn query_type(family: Family) -> u8
+pub fn query_type(family: Family) -> u8
     ensures { result ≡ query_type family }
 {
     match family {

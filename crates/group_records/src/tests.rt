@@ -253,3 +253,27 @@ fn a_report_over_ipv6_is_written(rt: HostRuntime) -> Result<(), Fail> {
     assert_eq!(rt; report.as_slice(), expected.as_slice());
     Ok(())
 }
+
+#[test]
+fn a_general_query_is_written(rt: HostRuntime) -> Result<(), Fail> {
+    // From fe80::1 to ff02::1: 28 octets of ICMPv6.
+    let pseudo_header =
+        b"\xfe\x80\x00\x00\x00\x00\x00\x00\x00\x00\x00\x00\x00\x00\x00\x01\xff\x02\x00\x00\x00\x00\x00\x00\x00\x00\x00\x00\x00\x00\x00\x01\x00\x00\x00\x1c\x00\x00\x00\x3a";
+    let seconds = QueryFields {
+        max_code: 100,
+        robustness: 2,
+        interval_code: 125,
+    };
+    let query = write_query(rt.alloc(), Family::V4, &[], &seconds)?;
+    let expected = b"\x11\x64\xec\x1e\x00\x00\x00\x00\x02\x7d\x00\x00";
+    assert_eq!(rt; query.as_slice(), expected.as_slice());
+    let milliseconds = QueryFields {
+        max_code: 10_000,
+        ..seconds
+    };
+    let query = write_query(rt.alloc(), Family::V6, pseudo_header, &milliseconds)?;
+    let expected =
+        b"\x82\x00\x56\x96\x27\x10\x00\x00\x00\x00\x00\x00\x00\x00\x00\x00\x00\x00\x00\x00\x00\x00\x00\x00\x02\x7d\x00\x00";
+    assert_eq!(rt; query.as_slice(), expected.as_slice());
+    Ok(())
+}

@@ -7,7 +7,7 @@ ghost use Rattle.group_records.specs.Family.{report_type};
 ghost use Rattle.group_records.specs.Report.{IsReport};
 ghost use Rattle.group_records.specs.Written.{address_octets, kind_number, report_length, report_with_sum, written_record, written_report, FitsOctets, HasFittingAddresses, IsOfFamily};
 
-use crate::family::{Family, report_type};
+use crate::family::{Family, report_type, width};
 use amt_values::{Bytes, INPUT_LIMIT, Ip};
 use byteorder::{BigEndian, ByteOrder};
 use inner_datagrams::internet_sum_around;
@@ -31,7 +31,7 @@ fn kind_number(kind: RecordKind) -> u8
     }
 }
 
-fn append_address(address: Ip, octets: &mut Vec<u8>) -> Result<(), AllocError>
+pub fn append_address(address: Ip, octets: &mut Vec<u8>) -> Result<(), AllocError>
     ensures fits { FitsOctets address }
     ensures ok { OnOk result (octets.new.items ≡ octets.old.items ++ address_octets address) }
 {
@@ -101,19 +101,31 @@ fn unsummed_report(alloc: Global, family: Family, records: &Records) -> Result<V
     Ok(octets)
 }
 
-// Fills the checksum in, whose place is still zero while it is taken.
-fn fill_sum(pseudo_header: &[u8], report: &mut [u8])
+// Fills the checksum of a message in, whose place is still zero while it is taken.
+pub fn fill_sum(pseudo_header: &[u8], message: &mut [u8])
     requires pseudo_header_even { length pseudo_header.now % 2 ≡ 0 }
     requires pseudo_header_most { length pseudo_header.now ≤ 65535 }
-    requires least { 4 ≤ length report.old }
-    requires most { length report.old ≤ INPUT_LIMIT }
-    ensures octets { AreOctets report.old }
-    ensures filled { report.new ≡ take 2 report.old
-        ++ big_bytes 2 (internet_sum_of (pseudo_header.now ++ report.old))
-        ++ drop 4 report.old }
+    requires least { 4 ≤ length message.old }
+    requires most { length message.old ≤ INPUT_LIMIT }
+    ensures octets { AreOctets message.old }
+    ensures filled { message.new ≡ take 2 message.old
+        ++ big_bytes 2 (internet_sum_of (pseudo_header.now ++ message.old))
+        ++ drop 4 message.old }
 {
-    let checksum = internet_sum_around(pseudo_header, &[], report);
-    BigEndian::write_u16(&mut report[2..], checksum);
+    let checksum = internet_sum_around(pseudo_header, &[], message);
+    BigEndian::write_u16(&mut message[2..], checksum);
+}
+
+/// The octets of the report that is written of these records.
+pub fn report_length(family: Family, records: &Records) -> usize
+    requires { report_length family records.now ≤ REPORT_LIMIT }
+    ensures { result ≡ report_length family records.now }
+{
+    let mut octets = 8;
+    for group_record in records.as_slice() {
+        octets += 4 + width(family) + group_record.sources.len() * width(family);
+    }
+    octets
 }
 
 /// Writes one report of these records, in their order, without auxiliary data.

@@ -1,0 +1,4 @@
+pub mod Code
+pub mod PseudoHeader
+pub mod Query
+pub mod Report

@@ -1,0 +1,71 @@
+ghost use Rattle.std.specs.Prelude.{◌≡◌, ◌≤◌, List, length, IfOk, Ok, Err, MatchResult, None, Some};
+ghost use Rattle.source_filter.specs.Record.{item_count};
+ghost use Rattle.source_filter.specs.declared.record.Record.{Record as RecordValue};
+ghost use Rattle.source_filter.specs.declared.fault.ReadFault.TheVariants.{Memory};
+ghost use Rattle.source_filter.specs.declared.fault.ReportFault.{ReportFault as ReportFaultValue};
+ghost use Rattle.group_records.specs.Reading.{Gives, Tells};
+ghost use Rattle.mld_records.specs.Report.{AreRecords6, AsksMemory6, IsReport6, first_report_fault6, report6_of, report_length6, written_report6};
+
+use crate::header::pseudo_header;
+use amt_values::{Bytes, INPUT_LIMIT};
+use group_records::{Family, REPORT_LIMIT, read_report, report_length, write_report};
+use source_filter::{ReadFault, Records};
+use std::alloc::{AllocError, Global};
+
+/// Reads a whole payload of at most 16 MiB, of a datagram between these two addresses, as one MLDv2
+/// membership report (RFC 3810, section 5.2).
+///
+/// The addresses and the payload's length are summed with it (RFC 8200, section 8.1). The faults are
+/// tried in the order of `ReportFault`; the report and the done of MLDv1 are old reports. Memory is
+/// asked for the records that are kept; want of it may come before a later record's fault.
+pub fn read_report6(
+    alloc: Global,
+    source: u128,
+    destination: u128,
+    payload: &[u8],
+) -> Result<Records, ReadFault>
+    requires { length payload.now ≤ INPUT_LIMIT }
+
+    ensures found { IfOk result (λ records. IsReport6 source destination records payload.now) }
+    ensures only { (records : List RecordValue)
+        → IsReport6 source destination records payload.now
+        → Gives result (Ok records) }
+    ensures one { (records others : List RecordValue)
+        → IsReport6 source destination records payload.now
+        → IsReport6 source destination others payload.now
+        → records ≡ others }
+
+    ensures refused { MatchResult result
+        (λ _. first_report_fault6 source destination payload.now ≡ None)
+        (Tells (first_report_fault6 source destination payload.now)) }
+    ensures fault { (fault : ReportFaultValue)
+        → first_report_fault6 source destination payload.now ≡ Some fault
+        → Gives result (Err fault) }
+    ensures memory { result ≡ Err Memory → AsksMemory6 source destination payload.now }
+    ensures value { Gives result (report6_of source destination payload.now) }
+    ensures few { IfOk result (λ records. item_count records ≤ length payload.now) }
+{
+    let header = pseudo_header(source, destination, payload.len() as u32);
+    read_report(alloc, Family::V6, &header, payload)
+}
+
+/// Writes one MLDv2 membership report of at most 1,400 octets, with these records in their order and
+/// without auxiliary data, for a datagram between these two addresses (RFC 3810, section 5.2).
+pub fn write_report6(
+    alloc: Global,
+    source: u128,
+    destination: u128,
+    records: &Records,
+) -> Result<Bytes, AllocError>
+    requires family { AreRecords6 records.now }
+    requires most { report_length6 records.now ≤ REPORT_LIMIT }
+
+    ensures written { IfOk result (λ bytes.
+        bytes ≡ written_report6 source destination records.now) }
+    ensures length { IfOk result (λ bytes. length bytes ≡ report_length6 records.now) }
+    ensures read_back { IfOk result (IsReport6 source destination records.now) }
+{
+    let message_length = report_length(Family::V6, records);
+    let header = pseudo_header(source, destination, message_length as u32);
+    write_report(alloc, Family::V6, &header, records)
+}
