@@ -1,4 +1,4 @@
-ghost use Rattle.std.specs.Prelude.{◌≡◌, ◌++◌, ◌≤◌, length, OnOk, IfOk, string_bytes};
+ghost use Rattle.std.specs.Prelude.{◌≡◌, ◌++◌, ◌≤◌, codes, decimal, length, OnOk, IfOk, string_bytes};
 ghost use Rattle.amt_values.specs.Octets.{AreOctets};
 ghost use Rattle.relay_machine.specs.Conditions.{IsEvent};
 ghost use Rattle.relay_machine.specs.declared.event.Event.TheVariants as events;
@@ -46,15 +46,19 @@ fn print_over(alloc: Global, fault: &LimitFault) -> Result<Bytes, AllocError>
     Ok(text)
 }
 
+// A word, and the number behind it.
+fn print_numbered(alloc: Global, word: &str, number: u64) -> Result<Bytes, AllocError>
+    ensures { IfOk result (λ text. text ≡ string_bytes word.now ++ (codes " " ++ decimal number)) }
+{
+    let text = format!(in alloc; "{word} {number}")?;
+    Bytes::copied(alloc, text.as_bytes())
+}
+
 fn print_outcome(alloc: Global, outcome: &Outcome) -> Result<Bytes, AllocError>
     ensures { IfOk result (λ text. text ≡ outcome_text outcome.now) }
 {
     match *outcome {
-        Outcome::Moved(moment) => {
-            let ms = moment.ms();
-            let text = format!(in alloc; "moved {ms}")?;
-            Bytes::copied(alloc, text.as_bytes())
-        }
+        Outcome::Moved(moment) => print_numbered(alloc, "moved", moment.ms()),
         Outcome::Rotated => Bytes::copied(alloc, b"rotated"),
         Outcome::BadSource => Bytes::copied(alloc, b"badsource"),
         Outcome::Undecoded(refusal) => {
@@ -62,10 +66,7 @@ fn print_outcome(alloc: Global, outcome: &Outcome) -> Result<Bytes, AllocError>
             let text = format!(in alloc; "refused {refusal}")?;
             Bytes::copied(alloc, text.as_bytes())
         }
-        Outcome::WrongKind(kind) => {
-            let text = format!(in alloc; "wrongkind {kind}")?;
-            Bytes::copied(alloc, text.as_bytes())
-        }
+        Outcome::WrongKind(kind) => print_numbered(alloc, "wrongkind", u64::from(kind)),
         Outcome::Advertised => Bytes::copied(alloc, b"advertised"),
         Outcome::Queried { v6, limited } => print_queried(alloc, v6, limited),
         Outcome::BadMac => Bytes::copied(alloc, b"badmac"),
@@ -78,15 +79,9 @@ fn print_outcome(alloc: Global, outcome: &Outcome) -> Result<Bytes, AllocError>
         Outcome::Updated => Bytes::copied(alloc, b"updated"),
         Outcome::NoTunnel => Bytes::copied(alloc, b"notunnel"),
         Outcome::TornDown => Bytes::copied(alloc, b"torndown"),
-        Outcome::TooBig(size) => {
-            let text = format!(in alloc; "toobig {size}")?;
-            Bytes::copied(alloc, text.as_bytes())
-        }
+        Outcome::TooBig(size) => print_numbered(alloc, "toobig", u64::from(size)),
         Outcome::NotForwarded(cause) => print_not_forwarded(alloc, &cause),
-        Outcome::Copied(count) => {
-            let text = format!(in alloc; "copied {count}")?;
-            Bytes::copied(alloc, text.as_bytes())
-        }
+        Outcome::Copied(count) => print_numbered(alloc, "copied", u64::from(count)),
     }
 }
 
