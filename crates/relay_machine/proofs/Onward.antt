@@ -175,7 +175,7 @@ pub RelayAt-packet : (relay : RelayState) (settings : Settings) (first : Secret)
 RelayAt-packet relay settings first events bytes at = record {
   settings_kept = at.settings_kept;
   secrets = at.secrets ∙ sym (secrets_of-other first events (Packet bytes) refl);
-  table = Holds-push settings first events (Packet bytes) relay.table None refl at.table;
+  table = Holds-push settings first events (Packet bytes) relay.table at.table;
   moment = at.moment ∙ sym (now_of-other events (Packet bytes) refl);
 }
 

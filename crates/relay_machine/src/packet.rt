@@ -63,8 +63,8 @@ fn copies(alloc: Global, targets: &[Endpoint], packet: &[u8]) -> Result<Sends, A
     Ok(sends)
 }
 
-// What a packet comes to: a copy for each endpoint that wants it. The packet is copied as it came,
-// a fragment as any other: its TTL was lowered by whoever forwarded it to the relay's link.
+// What a packet comes to: a copy for each endpoint that wants it. The packet goes as it came: its TTL
+// isn't lowered, and a fragment is copied as any other packet.
 pub fn forward(
     alloc: Global,
     querier: &Querier,
