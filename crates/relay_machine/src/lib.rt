@@ -5,7 +5,7 @@
 //! What stands in its table is what the accepted log of the events wishes.
 //! It knows no socket, clock or thread: datagrams, moments and secrets come in as events, and
 //! datagrams and entries of the log go out as steps.
-//! Standard: RFC 7450, section 5.3; RFC 3376, sections 4.1 and 8.
+//! Standard: RFC 7450, section 5.3; RFC 3376, sections 4.1 and 8; RFC 3810, section 5.
 #![tactic(auto)]
 
 mod datagram;
