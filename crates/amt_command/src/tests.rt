@@ -1,4 +1,8 @@
 mod day;
+mod mld;
+mod packets;
+mod settings;
+mod teardowns;
 mod updates;
 
 use super::*;
@@ -61,6 +65,12 @@ fn replay(alloc: Global, script: &str, failing: Failing) -> Result<Ended, AllocE
     run(alloc, "replay relay", script, failing)
 }
 
+// These lines behind the address of a relay, from which its IGMPv3 queries come too.
+fn replay_lines(alloc: Global, lines: &str) -> Result<Ended, AllocError> {
+    let script = format!(in alloc; "set relay 192.0.2.1\nset query4 192.0.2.1\n{lines}")?;
+    replay(alloc, script.as_str(), NO_CALL)
+}
+
 // A script of one datagram from 198.51.100.7:5000, behind the relay's address.
 fn script_of(alloc: Global, hex: &str) -> Result<String, AllocError> {
     format!(in alloc; "set relay 192.0.2.1\ndg 198.51.100.7:5000 {hex}\n")
@@ -82,8 +92,9 @@ fn a_discovery_is_answered_and_its_reserved_bits_are_ignored(rt: HostRuntime) ->
 fn every_other_datagram_is_refused_with_its_reason(rt: HostRuntime) -> Result<(), Fail> {
     let rows = [
         ("030000000a0b0c", "refused short 8 7"),
-        ("030100000a0b0c0d", "nofamily"),
-        ("06", "refused notyet 6"),
+        ("06", "refused short 2 1"),
+        ("0600", "wrongkind 6"),
+        ("07", "refused short 30 1"),
         ("0500a1a2a3a4a5a60a0b0c", "refused short 12 11"),
         ("0500a1a2a3a4a5a60a0b0c0d", "badmac"),
         ("0400", "refused short 12 2"),
@@ -151,7 +162,7 @@ fn an_update_is_judged_by_its_mac_and_its_report(rt: HostRuntime) -> Result<(), 
         ),
         (
             "6000000000240001fe800000000000000000000000000001ff0200000000000000000000000000013a00050200000100820056962710000000000000000000000000000000000000027d0000",
-            "unlawful inner version 6",
+            "unlawful report kind 130",
         ),
         (
             "46c00028000000000102aaaa0a000002e0000016940400002200ebfb0000000102000000ef010101",

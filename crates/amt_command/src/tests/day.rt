@@ -2,7 +2,8 @@ use super::{NO_CALL, replay};
 use std::test::Fail;
 
 // examples/a_day_at_the_relay/script, to the octet.
-const SCRIPT: &str = "# A day at the relay 192.0.2.1. Moments are milliseconds since midnight: 6:00 is 21600000. Weather
+const SCRIPT: &str =
+    "# A day at the relay 192.0.2.1. Moments are milliseconds since midnight: 6:00 is 21600000. Weather
 # stations send readings by multicast, and subscribers whose network is unicast only get them
 # through this relay. Many live on batteries, so it queries seldom, every 7168 s, and gives 20 s to
 # answer; one lost report does no harm. So a membership stands for less than 2 x 7168 s + 20 s =
