@@ -1,4 +1,4 @@
-use super::{NO_CALL, replay};
+use super::is_text;
 use std::test::Fail;
 
 // examples/a_day_at_the_relay/script, to the octet.
@@ -504,8 +504,5 @@ const EXPECTED: &str = "= 1 moved 21600000
 
 #[test]
 fn a_day_at_the_relay_goes_as_its_story_says(rt: HostRuntime) -> Result<(), Fail> {
-    let ended = replay(rt.alloc(), SCRIPT, NO_CALL)?;
-    assert_eq!(rt; ended.status, 0);
-    assert_eq!(rt; ended.out.as_slice(), EXPECTED.as_bytes());
-    Ok(())
+    is_text(&rt, rt.alloc(), "the day", SCRIPT, EXPECTED)
 }

@@ -1,4 +1,4 @@
-use super::{NO_CALL, replay, replay_lines, script_of};
+use super::{are_texts, is_outcome};
 use std::test::Fail;
 
 // Each row: what it shows, the lines behind the relay's settings, and the text. The texts were worked out
@@ -199,23 +199,14 @@ const INNER: [(&str, &str, &str); 28] = [
 
 #[test]
 fn mld_is_queried_and_its_reports_are_taken(rt: HostRuntime) -> Result<(), Fail> {
-    for (what, lines, text) in ROWS {
-        let ended = replay_lines(rt.alloc(), lines)?;
-        assert_eq!(rt; ended.status, 0, "{what}");
-        assert_eq!(rt; ended.out.as_slice(), text.as_bytes(), "{what}");
-    }
-    Ok(())
+    are_texts(&rt, rt.alloc(), &ROWS)
 }
 
 #[test]
 fn the_first_fault_of_an_mld_report_is_told(rt: HostRuntime) -> Result<(), Fail> {
     for (what, inner, outcome) in INNER {
         let hex = format!(in rt.alloc(); "05004db758a175550a0b0c0d{inner}")?;
-        let script = script_of(rt.alloc(), hex.as_str())?;
-        let text = format!(in rt.alloc(); "= 1 {outcome}\n. 1\n")?;
-        let ended = replay(rt.alloc(), script.as_str(), NO_CALL)?;
-        assert_eq!(rt; ended.status, 0, "{what}");
-        assert_eq!(rt; ended.out.as_slice(), text.as_bytes(), "{what}");
+        is_outcome(&rt, rt.alloc(), what, hex.as_str(), outcome)?;
     }
     Ok(())
 }

@@ -1,4 +1,4 @@
-use super::{NO_CALL, replay, replay_lines};
+use super::{are_texts, is_text};
 use std::alloc::{AllocError, Global};
 use std::test::Fail;
 
@@ -69,12 +69,7 @@ const ROWS: [(&str, &str, &str); 12] = [
 
 #[test]
 fn a_packet_is_copied_to_those_who_want_it(rt: HostRuntime) -> Result<(), Fail> {
-    for (what, lines, text) in ROWS {
-        let ended = replay_lines(rt.alloc(), lines)?;
-        assert_eq!(rt; ended.status, 0, "{what}");
-        assert_eq!(rt; ended.out.as_slice(), text.as_bytes(), "{what}");
-    }
-    Ok(())
+    are_texts(&rt, rt.alloc(), &ROWS)
 }
 
 // A packet of so many octets, at least 20, from 198.51.100.9 to 239.1.1.1.
@@ -100,8 +95,11 @@ fn a_packet_of_1450_octets_is_copied_and_a_longer_one_is_too_big(
     let text = format!(in rt.alloc();
         "= 1 updated\n= 2 copied 1\n> 198.51.100.7:5000 0600{longest}\n= 3 toobig 1451\n. 3\n"
     )?;
-    let ended = replay(rt.alloc(), script.as_str(), NO_CALL)?;
-    assert_eq!(rt; ended.status, 0);
-    assert_eq!(rt; ended.out.as_slice(), text.as_bytes());
-    Ok(())
+    is_text(
+        &rt,
+        rt.alloc(),
+        "both limits",
+        script.as_str(),
+        text.as_str(),
+    )
 }

@@ -1,4 +1,4 @@
-use super::{NO_CALL, replay, replay_lines};
+use super::{are_faults, are_texts};
 use std::test::Fail;
 
 // Each row: what it shows, the lines behind the relay's settings, and the text. The texts were worked out
@@ -83,21 +83,10 @@ const FAULTS: [(&str, &str); 26] = [
 
 #[test]
 fn settings_of_queries_and_packets_are_in_force(rt: HostRuntime) -> Result<(), Fail> {
-    for (what, lines, text) in ROWS {
-        let ended = replay_lines(rt.alloc(), lines)?;
-        assert_eq!(rt; ended.status, 0, "{what}");
-        assert_eq!(rt; ended.out.as_slice(), text.as_bytes(), "{what}");
-    }
-    Ok(())
+    are_texts(&rt, rt.alloc(), &ROWS)
 }
 
 #[test]
 fn the_first_fault_of_query6_packet_limit_and_mc_is_told(rt: HostRuntime) -> Result<(), Fail> {
-    for (script, line) in FAULTS {
-        let ended = replay(rt.alloc(), script, NO_CALL)?;
-        assert_eq!(rt; ended.status, 3, "{script}");
-        assert_eq!(rt; ended.out.as_slice(), b"".as_slice(), "{script}");
-        assert_eq!(rt; ended.err.as_slice(), line.as_bytes(), "{script}");
-    }
-    Ok(())
+    are_faults(&rt, rt.alloc(), &FAULTS)
 }

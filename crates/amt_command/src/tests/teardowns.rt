@@ -1,4 +1,4 @@
-use super::replay_lines;
+use super::are_texts;
 use std::test::Fail;
 
 // Each row: what it shows, the lines behind the relay's settings, and the text. The texts were worked out
@@ -73,10 +73,5 @@ const ROWS: [(&str, &str, &str); 13] = [
 
 #[test]
 fn a_teardown_ends_the_live_tunnel_that_it_names(rt: HostRuntime) -> Result<(), Fail> {
-    for (what, lines, text) in ROWS {
-        let ended = replay_lines(rt.alloc(), lines)?;
-        assert_eq!(rt; ended.status, 0, "{what}");
-        assert_eq!(rt; ended.out.as_slice(), text.as_bytes(), "{what}");
-    }
-    Ok(())
+    are_texts(&rt, rt.alloc(), &ROWS)
 }
