@@ -48,7 +48,7 @@ fn print_over(alloc: Global, fault: &LimitFault) -> Result<Bytes, AllocError>
 
 // A word, and the number behind it.
 fn print_numbered(alloc: Global, word: &str, number: u64) -> Result<Bytes, AllocError>
-    ensures { IfOk result (λ text. text ≡ string_bytes word.now ++ (codes " " ++ decimal number)) }
+    ensures { IfOk result (λ text. text ≡ word.now ++ (codes " " ++ decimal number)) }
 {
     let text = format!(in alloc; "{word} {number}")?;
     Bytes::copied(alloc, text.as_bytes())
