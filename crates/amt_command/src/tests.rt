@@ -1,10 +1,15 @@
 mod day;
+mod mld;
+mod packets;
+mod settings;
+mod teardowns;
 mod updates;
 
 use super::*;
 use amt_ports::{MemSink, MemSource};
 use amt_values::Bytes;
 use std::alloc::{AllocError, Global};
+use std::process::Abort;
 use std::test::Fail;
 
 const SCRIPT: &str = "set relay 192.0.2.1\ndg 198.51.100.7:5000 0100000001020304\n";
@@ -61,19 +66,64 @@ fn replay(alloc: Global, script: &str, failing: Failing) -> Result<Ended, AllocE
     run(alloc, "replay relay", script, failing)
 }
 
+// What is done for a script, with nothing on standard error.
+fn is_text(
+    rt: &impl Abort,
+    alloc: Global,
+    what: &str,
+    script: &str,
+    text: &str,
+) -> Result<(), Fail> {
+    let ended = replay(alloc, script, NO_CALL)?;
+    assert_eq!(rt; ended.status, 0, "{what}");
+    assert_eq!(rt; ended.out.as_slice(), text.as_bytes(), "{what}");
+    assert_eq!(rt; ended.err.as_slice(), b"".as_slice(), "{what}");
+    Ok(())
+}
+
+// Each row: what it shows, the lines behind a relay's addresses, and the text.
+fn are_texts(rt: &impl Abort, alloc: Global, rows: &[(&str, &str, &str)]) -> Result<(), Fail> {
+    for (what, lines, text) in rows {
+        let script = format!(in alloc; "set relay 192.0.2.1\nset query4 192.0.2.1\n{lines}")?;
+        is_text(rt, alloc, what, script.as_str(), text)?;
+    }
+    Ok(())
+}
+
+// Each row: a script that is none, and the line on standard error.
+fn are_faults(rt: &impl Abort, alloc: Global, rows: &[(&str, &str)]) -> Result<(), Fail> {
+    for (script, line) in rows {
+        let ended = replay(alloc, script, NO_CALL)?;
+        assert_eq!(rt; ended.status, 3, "{script}");
+        assert_eq!(rt; ended.out.as_slice(), b"".as_slice(), "{script}");
+        assert_eq!(rt; ended.err.as_slice(), line.as_bytes(), "{script}");
+    }
+    Ok(())
+}
+
 // A script of one datagram from 198.51.100.7:5000, behind the relay's address.
 fn script_of(alloc: Global, hex: &str) -> Result<String, AllocError> {
     format!(in alloc; "set relay 192.0.2.1\ndg 198.51.100.7:5000 {hex}\n")
+}
+
+// The outcome of one datagram that is answered by nothing.
+fn is_outcome(
+    rt: &impl Abort,
+    alloc: Global,
+    what: &str,
+    hex: &str,
+    outcome: &str,
+) -> Result<(), Fail> {
+    let script = script_of(alloc, hex)?;
+    let text = format!(in alloc; "= 1 {outcome}\n. 1\n")?;
+    is_text(rt, alloc, what, script.as_str(), text.as_str())
 }
 
 #[test]
 fn a_discovery_is_answered_and_its_reserved_bits_are_ignored(rt: HostRuntime) -> Result<(), Fail> {
     for hex in ["0100000001020304", "010000ff01020304"] {
         let script = script_of(rt.alloc(), hex)?;
-        let ended = replay(rt.alloc(), script.as_str(), NO_CALL)?;
-        assert_eq!(rt; ended.status, 0, "{hex}");
-        assert_eq!(rt; ended.out.as_slice(), TEXT.as_bytes(), "{hex}");
-        assert_eq!(rt; ended.err.as_slice(), b"".as_slice(), "{hex}");
+        is_text(&rt, rt.alloc(), hex, script.as_str(), TEXT)?;
     }
     Ok(())
 }
@@ -82,8 +132,9 @@ fn a_discovery_is_answered_and_its_reserved_bits_are_ignored(rt: HostRuntime) ->
 fn every_other_datagram_is_refused_with_its_reason(rt: HostRuntime) -> Result<(), Fail> {
     let rows = [
         ("030000000a0b0c", "refused short 8 7"),
-        ("030100000a0b0c0d", "nofamily"),
-        ("06", "refused notyet 6"),
+        ("06", "refused short 2 1"),
+        ("0600", "wrongkind 6"),
+        ("07", "refused short 30 1"),
         ("0500a1a2a3a4a5a60a0b0c", "refused short 12 11"),
         ("0500a1a2a3a4a5a60a0b0c0d", "badmac"),
         ("0400", "refused short 12 2"),
@@ -98,11 +149,7 @@ fn every_other_datagram_is_refused_with_its_reason(rt: HostRuntime) -> Result<()
         ("0200000001020304c00002010a", "refused short 24 13"),
     ];
     for (hex, outcome) in rows {
-        let script = script_of(rt.alloc(), hex)?;
-        let text = format!(in rt.alloc(); "= 1 {outcome}\n. 1\n")?;
-        let ended = replay(rt.alloc(), script.as_str(), NO_CALL)?;
-        assert_eq!(rt; ended.status, 0, "{hex}");
-        assert_eq!(rt; ended.out.as_slice(), text.as_bytes(), "{hex}");
+        is_outcome(&rt, rt.alloc(), hex, hex, outcome)?;
     }
     Ok(())
 }
@@ -126,9 +173,7 @@ fn relays_and_peers_have_addresses_of_both_families(rt: HostRuntime) -> Result<(
     for (relay, peer, lines) in rows {
         let script = format!(in rt.alloc(); "set relay {relay}\ndg {peer} 0100000001020304\n")?;
         let text = format!(in rt.alloc(); "= 1 {lines}\n. 1\n")?;
-        let ended = replay(rt.alloc(), script.as_str(), NO_CALL)?;
-        assert_eq!(rt; ended.status, 0, "{peer}");
-        assert_eq!(rt; ended.out.as_slice(), text.as_bytes(), "{peer}");
+        is_text(&rt, rt.alloc(), peer, script.as_str(), text.as_str())?;
     }
     Ok(())
 }
@@ -151,7 +196,7 @@ fn an_update_is_judged_by_its_mac_and_its_report(rt: HostRuntime) -> Result<(), 
         ),
         (
             "6000000000240001fe800000000000000000000000000001ff0200000000000000000000000000013a00050200000100820056962710000000000000000000000000000000000000027d0000",
-            "unlawful inner version 6",
+            "unlawful report kind 130",
         ),
         (
             "46c00028000000000102aaaa0a000002e0000016940400002200ebfb0000000102000000ef010101",
@@ -172,11 +217,7 @@ fn an_update_is_judged_by_its_mac_and_its_report(rt: HostRuntime) -> Result<(), 
     ];
     for (inner, outcome) in rows {
         let hex = format!(in rt.alloc(); "05004db758a175550a0b0c0d{inner}")?;
-        let script = script_of(rt.alloc(), hex.as_str())?;
-        let text = format!(in rt.alloc(); "= 1 {outcome}\n. 1\n")?;
-        let ended = replay(rt.alloc(), script.as_str(), NO_CALL)?;
-        assert_eq!(rt; ended.status, 0, "{inner}");
-        assert_eq!(rt; ended.out.as_slice(), text.as_bytes(), "{inner}");
+        is_outcome(&rt, rt.alloc(), inner, hex.as_str(), outcome)?;
     }
     Ok(())
 }
@@ -206,10 +247,7 @@ fn a_request_is_answered_with_a_query(rt: HostRuntime) -> Result<(), Fail> {
         "set relay 192.0.2.1\nset query4 192.0.2.1\nat 7\ndg 198.51.100.7:5000 030000000a0b0c0d\nat 5\n";
     let text =
         "= 1 moved 7\n= 2 queried v4\n> 198.51.100.7:5000 04014db758a175550a0b0c0d46c000240000000001028211c0000201e0000001940400001164ec1e00000000027d00001388000000000000000000000000c6336407\n= 3 moved 7\n. 3\n";
-    let ended = replay(rt.alloc(), script, NO_CALL)?;
-    assert_eq!(rt; ended.status, 0);
-    assert_eq!(rt; ended.out.as_slice(), text.as_bytes());
-    Ok(())
+    is_text(&rt, rt.alloc(), "a Request", script, text)
 }
 
 #[test]
@@ -239,23 +277,14 @@ fn a_script_with_a_fault_takes_no_step(rt: HostRuntime) -> Result<(), Fail> {
         ("dg 198.51.100.7 -\n", "amt: line 1: peer\n"),
         ("set robustness 0\n", "amt: line 1: range\n"),
     ];
-    for (script, line) in scripts {
-        let ended = replay(rt.alloc(), script, NO_CALL)?;
-        assert_eq!(rt; ended.status, 3, "{script}");
-        assert_eq!(rt; ended.out.as_slice(), b"".as_slice(), "{script}");
-        assert_eq!(rt; ended.err.as_slice(), line.as_bytes(), "{script}");
-    }
-    Ok(())
+    are_faults(&rt, rt.alloc(), &scripts)
 }
 
 #[test]
 fn blank_lines_comments_and_spaces_say_nothing(rt: HostRuntime) -> Result<(), Fail> {
     let script =
         "# a relay\n\n  set  relay 192.0.2.1 \r\n   \n  # \u{e9}\ndg 198.51.100.7:5000  0100000001020304";
-    let ended = replay(rt.alloc(), script, NO_CALL)?;
-    assert_eq!(rt; ended.status, 0);
-    assert_eq!(rt; ended.out.as_slice(), TEXT.as_bytes());
-    Ok(())
+    is_text(&rt, rt.alloc(), "blank lines", script, TEXT)
 }
 
 #[test]

@@ -8,8 +8,7 @@ use std::test::*;
 const INNER: &[u8; 36] =
     b"\x46\xc0\x00\x24\x00\x00\x00\x00\x01\x02\x82\x11\xc0\x00\x02\x01\xe0\x00\x00\x01\x94\x04\x00\x00\x11\x64\xec\x1e\x00\x00\x00\x00\x02\x7d\x00\x00";
 
-// The head of a Query whose gateway was seen, of one that is limited and says no gateway, and of a
-// Teardown.
+// The head of a Query whose gateway was seen, and of one that is limited and says no gateway.
 const NAMED: &[u8; 12] = b"\x04\x01\xa1\xa2\xa3\xa4\xa5\xa6\x0a\x0b\x0c\x0d";
 
 const LIMITED: &[u8; 12] = b"\x04\x02\xa1\xa2\xa3\xa4\xa5\xa6\x0a\x0b\x0c\x0d";
@@ -20,9 +19,9 @@ const SEEN: &[u8; 18] = b"\x13\x88\x00\x00\x00\x00\x00\x00\x00\x00\x00\x00\x00\x
 const MAPPED: &[u8; 18] =
     b"\x13\x88\x00\x00\x00\x00\x00\x00\x00\x00\x00\x00\xff\xff\xc6\x33\x64\x07";
 
+// The head of a Teardown.
 const FAREWELL: &[u8; 12] = b"\x07\x00\xa1\xa2\xa3\xa4\xa5\xa6\x0a\x0b\x0c\x0d";
 
-// A Teardown ends with its gateway, as a Query does, and has no inner datagram before it.
 fn teardown_of(alloc: Global, head: &[u8; 12], tail: &[u8]) -> Result<Bytes, AllocError> {
     let mut bytes = Bytes::copied(alloc, head)?;
     bytes.append(tail)?;
@@ -47,7 +46,6 @@ fn assert_refused(rt: &impl Abort, alloc: Global, bytes: &[u8], want: Refused) {
 #[test]
 fn the_first_refusal_is_answered(rt: HostRuntime) -> Result<(), Fail> {
     let rows: [(&[u8], Refused); 13] = [
-        (b"\x06", Refused::Short(2, 1)),
         (b"", Refused::Empty),
         (b"\x13\x00", Refused::Version(1)),
         (b"\x00", Refused::Kind(0)),
@@ -72,6 +70,7 @@ fn the_first_refusal_is_answered(rt: HostRuntime) -> Result<(), Fail> {
             b"\x05\x00\xa1\xa2\xa3\xa4\xa5\xa6\x0a\x0b\x0c",
             Refused::Short(12, 11),
         ),
+        (b"\x06", Refused::Short(2, 1)),
     ];
     for (bytes, want) in rows {
         assert_refused(&rt, rt.alloc(), bytes, want);
@@ -263,27 +262,35 @@ fn multicast_data_is_read_and_written_by_its_packet(rt: HostRuntime) -> Result<(
     Ok(())
 }
 
-#[test]
-fn a_teardown_is_read_and_written_by_its_fields(rt: HostRuntime) -> Result<(), Fail> {
-    let rows = [SEEN, MAPPED];
-    for form in rows {
-        let bytes = teardown_of(rt.alloc(), FAREWELL, form)?;
-        assert_eq!(rt; bytes.len(), 30);
-        let Ok(
+fn assert_farewell(rt: &impl Abort, alloc: Global, bytes: &[u8]) {
+    assert!(rt; bytes.len() == 30);
+    match &decode(alloc, bytes) {
+        Ok(
             Message::Teardown {
                 mac,
                 nonce,
                 gateway,
             },
-        ) = decode(rt.alloc(), bytes.as_slice())
-        else {
-            return Err("the octets are a Teardown")?;
-        };
-        assert_eq!(rt; mac, Mac48([0xa1, 0xa2, 0xa3, 0xa4, 0xa5, 0xa6]));
-        assert_eq!(rt; nonce, 0x0a0b0c0d);
-        assert_eq!(rt; gateway, Endpoint::named(0xc6336407, 5000));
+        ) => {
+            assert_eq!(rt; *mac, Mac48([0xa1, 0xa2, 0xa3, 0xa4, 0xa5, 0xa6]));
+            assert_eq!(rt; *nonce, 0x0a0b0c0d);
+            assert_eq!(rt; *gateway, Endpoint::named(0xc6336407, 5000));
+        }
+        other => assert!(rt; false, "{other:?} in place of a Teardown"),
     }
+}
 
+#[test]
+fn a_teardown_is_read_by_its_fields_in_both_forms(rt: HostRuntime) -> Result<(), Fail> {
+    let canonical = teardown_of(rt.alloc(), FAREWELL, SEEN)?;
+    assert_farewell(&rt, rt.alloc(), canonical.as_slice());
+    let mapped = teardown_of(rt.alloc(), FAREWELL, MAPPED)?;
+    assert_farewell(&rt, rt.alloc(), mapped.as_slice());
+    Ok(())
+}
+
+#[test]
+fn a_teardown_is_written_by_its_fields(rt: HostRuntime) -> Result<(), Fail> {
     let farewell = Message::Teardown {
         mac: Mac48([0xa1, 0xa2, 0xa3, 0xa4, 0xa5, 0xa6]),
         nonce: 0x0a0b0c0d,

@@ -1,8 +1,8 @@
--- The first reason why the fields of a datagram fail.
+-- The first reason why the fields of a datagram or a packet fail.
 use Rattle.std.proofs.Common.{◌≡◌, ℕ, ◌⊎◌, List, [], ◌∷◌, inl, inr, refl, sym, subst}
 use Rattle.amt_values.specs.declared.peer.Peer.{Peer}
 use Rattle.amt_values.specs.Text.{IsPeerText}
-use Rattle.amt_script.specs.declared.kind.Kind.TheVariants.{Datagram}
+use Rattle.amt_script.specs.declared.kind.Kind.TheVariants.{Datagram, Packet}
 use Rattle.amt_script.specs.declared.reason.Reason.TheVariants as reasons
 use Rattle.amt_script.specs.Fault.{First, FailsAs, order_of_values}
 use Rattle.amt_script.specs.Form.{IsHexText}
@@ -35,3 +35,15 @@ pub bad_peer : (values : List (List ℕ)) (peer hex bytes : List ℕ) → values
     → ((from : Peer) → IsPeerText from peer → ⊥) → First (FailsAs Datagram values) order_of_values reasons.Peer
 bad_peer values peer hex bytes parts spelled none =
     subst (λ (vs : List (List ℕ)). First (FailsAs Datagram vs) order_of_values reasons.Peer) (sym parts) (peer_first peer hex bytes spelled none)
+
+neither_one : ⊥ ⊎ ⊥ → ⊥
+neither_one (inl h) = h
+neither_one (inr h) = h
+
+octets_first : (hex : List ℕ) → ((bytes : List ℕ) → IsHexText bytes hex → ⊥) → First (FailsAs Packet (hex ∷ [])) order_of_values reasons.Hex
+octets_first hex none = inr (λ other. other refl, inr (neither_one, inl (inl none, refl)))
+
+pub bad_octets : (values : List (List ℕ)) (hex : List ℕ) → values ≡ hex ∷ [] → ((bytes : List ℕ) → IsHexText bytes hex → ⊥)
+    → First (FailsAs Packet values) order_of_values reasons.Hex
+bad_octets values hex parts none =
+    subst (λ (vs : List (List ℕ)). First (FailsAs Packet vs) order_of_values reasons.Hex) (sym parts) (octets_first hex none)

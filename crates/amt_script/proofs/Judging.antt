@@ -36,6 +36,7 @@ no_set_alone (kinds.Set key) values line parts alone = cc (sym alone ∙ parts)
 no_set_alone kinds.Moment values line parts alone = cc (sym alone ∙ parts)
 no_set_alone kinds.Secret values line parts alone = cc (sym alone ∙ parts)
 no_set_alone kinds.Datagram values line parts alone = cc (sym alone ∙ parts)
+no_set_alone kinds.Packet values line parts alone = cc (sym alone ∙ parts)
 no_set_alone kinds.Show values line parts alone = cc (sym alone ∙ parts)
 
 counted : (kind : Kind) (values line : List (List ℕ)) → line ≡ words_of kind ++ values → (line ≡ codes "set" ∷ []) ⊎ FailsInKind line reasons.Count → FailsAs kind values reasons.Count
@@ -78,6 +79,7 @@ no_late (kinds.Set key) values line rest item parts set = item key refl
 no_late kinds.Moment values line rest item parts set = cc (sym set ∙ parts)
 no_late kinds.Secret values line rest item parts set = cc (sym set ∙ parts)
 no_late kinds.Datagram values line rest item parts set = cc (sym set ∙ parts)
+no_late kinds.Packet values line rest item parts set = cc (sym set ∙ parts)
 no_late kinds.Show values line rest item parts set = cc (sym set ∙ parts)
 
 pub item_judged : (given : List Setting) (items : List RelayItem) (line : List ℕ) (kind : Kind) (values : List (List ℕ)) (reason : Reason)

@@ -11,7 +11,7 @@ use Rattle.amt_values.specs.Octets.{AreOctets}
 use Rattle.amt_values.specs.Text.{peer_text, IsPeerText}
 use Rattle.amt_values.specs.declared.peer.Peer.{Peer}
 use Rattle.response_mac.specs.declared.secret.Secret.{Secret}
-use Rattle.relay_machine.specs.declared.event.Event.TheVariants.{Moment, Datagram, Rotate}
+use Rattle.relay_machine.specs.declared.event.Event.TheVariants.{Moment, Datagram, Packet, Rotate}
 use Rattle.amt_script.specs.Form.{IsHexText}
 use Rattle.amt_script.proofs.Glyphs.{IsGlyph, AreGlyphs, glyphs_of_digits}
 use Rattle.amt_script.proofs.Peers.{glyphs_of_peer, peer_length, peer_some}
@@ -151,6 +151,18 @@ datagram_line from bytes octets short names =
       },
     )
 
+packet_line : (bytes : List ℕ) → AreOctets bytes → length bytes ≤ 65535 → IsItemLine (items.Event (Packet bytes)) (codes "mc " ++ hex_text bytes)
+packet_line bytes octets short =
+    let word = glyphs_of_literal (codes "mc") (search rules) in
+    let hex = hex_word bytes octets short in (
+      plain_two (codes "mc") (hex_text bytes) word (plain_glyphs (hex_text bytes) hex.glyphs),
+      record {
+        text = hex_text bytes;
+        parts = fields-two (codes "mc") (hex_text bytes) (omega arith) word hex.some hex.glyphs;
+        names = hex.names;
+      },
+    )
+
 -- how long the texts are
 
 hex_length : (bytes : List ℕ) → length bytes ≤ 65535 → length (hex_text bytes) ≤ 131070
@@ -174,3 +186,8 @@ datagram_said from bytes octets short names =
     let digits = hex_length bytes short in
     let whole = length-append (peer_text from) (32 ∷ hex_text bytes) in
     record { short = omega (arith, peer, digits, whole); says = datagram_line from bytes octets short names }
+
+pub packet_said : (bytes : List ℕ) → AreOctets bytes → length bytes ≤ 65535 → IsLineThatSays (Packet bytes) (codes "mc " ++ hex_text bytes)
+packet_said bytes octets short =
+    let digits = hex_length bytes short in
+    record { short = omega (arith, digits); says = packet_line bytes octets short }

@@ -6,30 +6,34 @@ use Rattle.amt_script.specs.declared.kind.Kind.{Kind}
 use Rattle.amt_script.specs.declared.kind.Kind.TheVariants as kinds
 use Rattle.amt_script.specs.Row.{key_word, words_of}
 
--- a number that tells the words of the format apart: the first octet, and the length
+-- a number that tells the words of the format apart: the first octet, the sixth one, and the length
 abbrev mark : List ℕ → ℕ
-mark word = 100 * get_or word 0 0 + length word
+mark word = 100 * get_or word 0 0 + get_or word 5 0 + length word
 
 abbrev marked_key : ℕ → Key
 marked_key n =
     if n == 11405 then keys.Relay
-    else (if n == 11306 then keys.Query4
-    else (if n == 11410 then keys.Robustness
-    else (if n == 11313 then keys.QuerySeconds
-    else (if n == 11415 then keys.ResponseTenths
-    else (if n == 10109 then keys.Endpoints
-    else (if n == 10306 then keys.Groups
-    else (if n == 11507 then keys.Sources else keys.Secret)))))))
+    else (if n == 11358 then keys.Query4
+    else (if n == 11360 then keys.Query6
+    else (if n == 11526 then keys.Robustness
+    else (if n == 11408 then keys.QuerySeconds
+    else (if n == 11525 then keys.ResponseTenths
+    else (if n == 10214 then keys.Endpoints
+    else (if n == 10421 then keys.Groups
+    else (if n == 11608 then keys.Sources
+    else (if n == 11328 then keys.PacketLimit else keys.Secret)))))))))
 
 key_marked : (key : Key) → marked_key (mark (key_word key)) ≡ key
 key_marked keys.Relay = refl
 key_marked keys.Query4 = refl
+key_marked keys.Query6 = refl
 key_marked keys.Robustness = refl
 key_marked keys.QuerySeconds = refl
 key_marked keys.ResponseTenths = refl
 key_marked keys.Endpoints = refl
 key_marked keys.Groups = refl
 key_marked keys.Sources = refl
+key_marked keys.PacketLimit = refl
 key_marked keys.Secret = refl
 
 pub same_key : (one other : Key) → key_word one ≡ key_word other → one ≡ other
@@ -52,14 +56,16 @@ row_of [] = row kinds.Moment []
 row_of (word ∷ rest) =
     if mark word == 11503 then row_after_set rest
     else (if mark word == 9702 then row kinds.Moment rest
-    else (if mark word == 11506 then row kinds.Secret rest
-    else (if mark word == 11504 then row kinds.Show rest else row kinds.Datagram rest)))
+    else (if mark word == 11622 then row kinds.Secret rest
+    else (if mark word == 11504 then row kinds.Show rest
+    else (if mark word == 10902 then row kinds.Packet rest else row kinds.Datagram rest))))
 
 row_marked : (kind : Kind) (values : List (List ℕ)) → row_of (words_of kind ++ values) ≡ row kind values
 row_marked (kinds.Set key) values = ap (λ (k : Key). row (kinds.Set k) values) (key_marked key)
 row_marked kinds.Moment values = refl
 row_marked kinds.Secret values = refl
 row_marked kinds.Datagram values = refl
+row_marked kinds.Packet values = refl
 row_marked kinds.Show values = refl
 
 same_row : (kind kind' : Kind) (values values' : List (List ℕ)) → words_of kind ++ values ≡ words_of kind' ++ values'

@@ -4,7 +4,7 @@ use Rattle.std.specs.List.{AllByRecursion, AllZip}
 use Rattle.hex.proofs.HexLemmas.{decode_of-ok}
 use Rattle.relay_machine.specs.Conditions.{IsEvent}
 use Rattle.relay_machine.specs.declared.event.Event.{Event}
-use Rattle.relay_machine.specs.declared.event.Event.TheVariants.{Moment, Datagram, Rotate}
+use Rattle.relay_machine.specs.declared.event.Event.TheVariants.{Moment, Datagram, Packet, Rotate}
 use Rattle.amt_script.specs.declared.script.RelayItem.{RelayItem}
 use Rattle.amt_script.specs.declared.script.RelayItem.TheVariants as items
 use Rattle.amt_script.specs.declared.script.RelayScript.{RelayScript}
@@ -22,6 +22,7 @@ hex_sized bytes text (inr some) =
 event_sized : (event : Event) (line : List (List ℕ)) → SaysEvent event line → IsEvent event
 event_sized (Moment moment) line says = tt
 event_sized (Datagram from bytes) line says = hex_sized bytes says.next says.names_next
+event_sized (Packet bytes) line says = hex_sized bytes says.text says.names
 event_sized (Rotate secret) line says = tt
 
 item_sized : (item : RelayItem) (line : List ℕ) → IsItemLine item line → IsItem item

@@ -2,7 +2,7 @@
 use Rattle.std.proofs.Common.{◌≡◌, ℕ, ◌^◌, ◌<◌, List, [], ◌∷◌, ◌++◌, length, inl, inr, refl, sym, subst, ◌∙◌, arith}
 use Rattle.std.specs.Int.{IsInRange}
 use Rattle.amt_values.specs.declared.address.Ip.{Ip}
-use Rattle.amt_values.specs.declared.address.Ip.TheVariants.{V4}
+use Rattle.amt_values.specs.declared.address.Ip.TheVariants.{V4, V6}
 use Rattle.amt_values.specs.declared.peer.Peer.{Peer}
 use Rattle.amt_values.specs.Text.{IsIpText, IsPeerText}
 use Rattle.response_mac.specs.declared.secret.Secret.{Secret}
@@ -19,7 +19,7 @@ use Rattle.amt_script.specs.declared.script.RelayItem.TheVariants as items
 use Rattle.amt_script.specs.declared.setting.Setting.{Setting}
 use Rattle.amt_script.specs.declared.setting.Setting.TheVariants as settings
 use Rattle.amt_script.specs.Fault.{FailsAs}
-use Rattle.amt_script.specs.Form.{Form, Fails, IsMomentText, IsNumberText, IsHexText, IsSecretText, a_moment, a_number, some_octets, a_secret, an_address, an_address4, a_peer}
+use Rattle.amt_script.specs.Form.{Form, Fails, IsMomentText, IsNumberText, IsHexText, IsSecretText, a_moment, a_number, some_octets, a_secret, an_address, an_address4, an_address6, a_peer}
 use Rattle.amt_script.specs.Row.{words_of, forms_of, SomeFails}
 use Rattle.amt_script.specs.Script.{SaysSetting, SaysEvent, SaysItem}
 use Rattle.amt_script.specs.Setting.{key_of}
@@ -58,6 +58,10 @@ address4_fits : (number : ℕ) (text : List ℕ) → IsIpText (V4 number) text �
 address4_fits number text names reasons.Address fails = fails number names
 address4_fits number text names reason fails = fails
 
+address6_fits : (number : ℕ) (text : List ℕ) → IsIpText (V6 number) text → (reason : Reason) → Fails an_address6 text reason → ⊥
+address6_fits number text names reasons.Address fails = fails number names
+address6_fits number text names reason fails = fails
+
 peer_fits : (peer : Peer) (text : List ℕ) → IsPeerText peer text → (reason : Reason) → Fails a_peer text reason → ⊥
 peer_fits peer text names reasons.Peer fails = fails peer names
 peer_fits peer text names reason fails = fails
@@ -87,6 +91,7 @@ pub record IsFit (kind : Kind) (line : List (List ℕ)) : Type 0 where
 abbrev pub kind_of_event : Event → Kind
 kind_of_event (events.Moment ms) = kinds.Moment
 kind_of_event (events.Datagram from bytes) = kinds.Datagram
+kind_of_event (events.Packet bytes) = kinds.Packet
 kind_of_event (events.Rotate secret) = kinds.Secret
 
 pub setting_is_fit : (setting : Setting) (line : List (List ℕ)) → SaysSetting setting line → IsFit (kinds.Set (key_of setting)) line
@@ -99,6 +104,11 @@ setting_is_fit (settings.Query4 number) line says = record {
   values = says.text ∷ [];
   parts = says.parts;
   fits = values_fit (kinds.Set keys.Query4) (says.text ∷ []) refl (one_fits an_address4 says.text (address4_fits number says.text says.names));
+}
+setting_is_fit (settings.Query6 number) line says = record {
+  values = says.text ∷ [];
+  parts = says.parts;
+  fits = values_fit (kinds.Set keys.Query6) (says.text ∷ []) refl (one_fits an_address6 says.text (address6_fits number says.text says.names));
 }
 setting_is_fit (settings.Robustness number) line says = record {
   values = says.text ∷ [];
@@ -130,6 +140,11 @@ setting_is_fit (settings.Sources number) line says = record {
   parts = says.parts;
   fits = values_fit (kinds.Set keys.Sources) (says.text ∷ []) refl (one_fits (a_number 1 64) says.text (number_fits 1 64 number says.text (omega arith) says.names));
 }
+setting_is_fit (settings.PacketLimit number) line says = record {
+  values = says.text ∷ [];
+  parts = says.parts;
+  fits = values_fit (kinds.Set keys.PacketLimit) (says.text ∷ []) refl (one_fits (a_number 20 65000) says.text (number_fits 20 65000 number says.text (omega arith) says.names));
+}
 setting_is_fit (settings.Secret secret) line says = record {
   values = says.text ∷ [];
   parts = says.parts;
@@ -147,6 +162,11 @@ event_is_fit (events.Datagram from bytes) line says = record {
   parts = says.parts;
   fits = values_fit kinds.Datagram (says.text ∷ says.next ∷ []) refl
       (two_fit a_peer some_octets says.text says.next (peer_fits from says.text says.names) (octets_fit bytes says.next says.names_next));
+}
+event_is_fit (events.Packet bytes) line says = record {
+  values = says.text ∷ [];
+  parts = says.parts;
+  fits = values_fit kinds.Packet (says.text ∷ []) refl (one_fits some_octets says.text (octets_fit bytes says.text says.names));
 }
 event_is_fit (events.Rotate secret) line says = record {
   values = says.text ∷ [];
@@ -168,6 +188,7 @@ item_is_fit items.Show line says = record { values = []; parts = says; fits = va
 pub no_set_item : (item : RelayItem) (key : Key) → kinds.Set key ≡ kind_of_item item → ⊥
 no_set_item (items.Event (events.Moment ms)) key same = cc same
 no_set_item (items.Event (events.Datagram from bytes)) key same = cc same
+no_set_item (items.Event (events.Packet bytes)) key same = cc same
 no_set_item (items.Event (events.Rotate secret)) key same = cc same
 no_set_item items.Show key same = cc same
 

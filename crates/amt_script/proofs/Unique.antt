@@ -5,7 +5,7 @@ use Rattle.std.proofs.lemmas.Fmt.{decimal_injective}
 use Rattle.hex.specs.Hex.{decode_of}
 use Rattle.hex.proofs.HexLemmas.{decode_of-odd, decode_of-same}
 use Rattle.amt_values.specs.declared.address.Ip.{Ip}
-use Rattle.amt_values.specs.declared.address.Ip.TheVariants.{V4}
+use Rattle.amt_values.specs.declared.address.Ip.TheVariants.{V4, V6}
 use Rattle.amt_values.specs.declared.peer.Peer.{Peer}
 use Rattle.amt_values.specs.Text.{IsIpText, IsPeerText}
 use Rattle.amt_values.proofs.Unique.{IsIpText-unique, IsPeerText-unique}
@@ -50,6 +50,9 @@ IsNumberText-unique least most one other text small h k =
 address4 : (one other : ℕ) → V4 one ≡ V4 other → one ≡ other
 address4 one other same = cc
 
+address6 : (one other : ℕ) → V6 one ≡ V6 other → one ≡ other
+address6 one other same = cc
+
 tail_of : (xs ys : List (List ℕ)) (x : List ℕ) → x ∷ xs ≡ x ∷ ys → xs ≡ ys
 tail_of xs ys x same = cc
 
@@ -67,6 +70,8 @@ SaysSetting-same : (one other : Setting) (line : List (List ℕ)) → key_of one
 SaysSetting-same (settings.Relay x) (settings.Relay y) line same h k = ap (λ (v : Ip). settings.Relay v) (one_field _ IsIpText IsIpText-unique x y line h k)
 SaysSetting-same (settings.Query4 x) (settings.Query4 y) line same h k =
     ap (λ (v : ℕ). settings.Query4 v) (one_field _ (λ (v : ℕ). IsIpText (V4 v)) (λ v w text p q. address4 v w (IsIpText-unique (V4 v) (V4 w) text p q)) x y line h k)
+SaysSetting-same (settings.Query6 x) (settings.Query6 y) line same h k =
+    ap (λ (v : ℕ). settings.Query6 v) (one_field _ (λ (v : ℕ). IsIpText (V6 v)) (λ v w text p q. address6 v w (IsIpText-unique (V6 v) (V6 w) text p q)) x y line h k)
 SaysSetting-same (settings.Robustness x) (settings.Robustness y) line same h k =
     ap (λ (v : ℕ). settings.Robustness v) (one_field _ (IsNumberText 1 7) (λ v w text p q. IsNumberText-unique 1 7 v w text (omega arith) p q) x y line h k)
 SaysSetting-same (settings.QuerySeconds x) (settings.QuerySeconds y) line same h k =
@@ -79,6 +84,8 @@ SaysSetting-same (settings.Groups x) (settings.Groups y) line same h k =
     ap (λ (v : ℕ). settings.Groups v) (one_field _ (IsNumberText 1 256) (λ v w text p q. IsNumberText-unique 1 256 v w text (omega arith) p q) x y line h k)
 SaysSetting-same (settings.Sources x) (settings.Sources y) line same h k =
     ap (λ (v : ℕ). settings.Sources v) (one_field _ (IsNumberText 1 64) (λ v w text p q. IsNumberText-unique 1 64 v w text (omega arith) p q) x y line h k)
+SaysSetting-same (settings.PacketLimit x) (settings.PacketLimit y) line same h k =
+    ap (λ (v : ℕ). settings.PacketLimit v) (one_field _ (IsNumberText 20 65000) (λ v w text p q. IsNumberText-unique 20 65000 v w text (omega arith) p q) x y line h k)
 SaysSetting-same (settings.Secret x) (settings.Secret y) line same h k =
     ap (λ (v : Secret). settings.Secret v) (one_field _ IsSecretText IsSecretText-unique x y line h k)
 SaysSetting-same one other line same h k = cc same
@@ -104,6 +111,7 @@ SaysEvent-same (events.Datagram from bytes) (events.Datagram from' bytes') line 
     let same_hex : h.next ≡ k.next = cc in
     same_datagram from from' bytes bytes' (IsPeerText-unique from from' k.text (subst (IsPeerText from) same_peer h.names) k.names)
     (IsHexText-unique bytes bytes' k.next (subst (IsHexText bytes) same_hex h.names_next) k.names_next)
+SaysEvent-same (events.Packet x) (events.Packet y) line same h k = ap (λ (v : List ℕ). events.Packet v) (one_field _ IsHexText IsHexText-unique x y line h k)
 SaysEvent-same (events.Rotate x) (events.Rotate y) line same h k = ap (λ (v : Secret). events.Rotate v) (one_field _ IsSecretText IsSecretText-unique x y line h k)
 SaysEvent-same one other line same h k = cc same
 
@@ -112,9 +120,11 @@ SaysItem-same (items.Event one) (items.Event other) line same h k = ap (λ (even
 SaysItem-same items.Show items.Show line same h k = refl
 SaysItem-same (items.Event (events.Moment ms)) items.Show line same h k = cc same
 SaysItem-same (items.Event (events.Datagram from bytes)) items.Show line same h k = cc same
+SaysItem-same (items.Event (events.Packet bytes)) items.Show line same h k = cc same
 SaysItem-same (items.Event (events.Rotate secret)) items.Show line same h k = cc same
 SaysItem-same items.Show (items.Event (events.Moment ms)) line same h k = cc same
 SaysItem-same items.Show (items.Event (events.Datagram from bytes)) line same h k = cc same
+SaysItem-same items.Show (items.Event (events.Packet bytes)) line same h k = cc same
 SaysItem-same items.Show (items.Event (events.Rotate secret)) line same h k = cc same
 
 pub IsItemLine-unique : (one other : RelayItem) (line : List ℕ) → IsItemLine one line → IsItemLine other line → one ≡ other

@@ -31,19 +31,23 @@ settled_values : (given : List Setting) (values values' : Settings) (secret secr
 settled_values given values values' secret secret' h k =
     let relay = same_ip values.relay values'.relay (sym h.relay ∙ k.relay) in
     let query4 = h.query4 ∙ sym k.query4 in
+    let query6 = h.query6 ∙ sym k.query6 in
     let robustness = h.robustness ∙ sym k.robustness in
     let query_seconds = h.query_seconds ∙ sym k.query_seconds in
     let response_tenths = h.response_tenths ∙ sym k.response_tenths in
     let endpoints = h.endpoints ∙ sym k.endpoints in
     let groups = h.groups ∙ sym k.groups in
     let sources = h.sources ∙ sym k.sources in
+    let packet_limit = h.packet_limit ∙ sym k.packet_limit in
     λ i. record {
       relay = relay i;
       query4 = query4 i;
+      query6 = query6 i;
       robustness = robustness i;
       query_seconds = query_seconds i;
       response_tenths = response_tenths i;
       limits = record { endpoints = endpoints i; groups = groups i; sources = sources i };
+      packet_limit = packet_limit i;
     }
 
 same_script : (one other : RelayScript) → one.settings ≡ other.settings → one.secret ≡ other.secret → one.items ≡ other.items → one ≡ other

@@ -3,7 +3,7 @@ use Rattle.std.specs.Prelude.{◌≡◌, ℕ, ◌<◌, ◌≤◌, ◌^◌, ◌�
 use Rattle.std.specs.Int.{IsInRange}
 use Rattle.hex.specs.Hex.{decode_of}
 use Rattle.amt_values.specs.declared.address.Ip.{Ip}
-use Rattle.amt_values.specs.declared.address.Ip.TheVariants.{V4}
+use Rattle.amt_values.specs.declared.address.Ip.TheVariants.{V4, V6}
 use Rattle.amt_values.specs.declared.peer.Peer.{Peer}
 use Rattle.amt_values.specs.Numeral.{IsNumeral, numeral_value}
 use Rattle.amt_values.specs.Text.{IsIpText, IsPeerText}
@@ -12,7 +12,7 @@ use Rattle.amt_script.specs.declared.reason.Reason.{Reason}
 use Rattle.amt_script.specs.declared.reason.Reason.TheVariants as reasons
 
 -- what a field may be: a moment, a number from a least to a most one, octets, a secret, an address of
--- either family, an IPv4 address, a peer
+-- either family, an IPv4 address, an IPv6 address, a peer
 pub data Form : Type 0 where
   a_moment : Form
   a_number : ℕ → ℕ → Form
@@ -20,6 +20,7 @@ pub data Form : Type 0 where
   a_secret : Form
   an_address : Form
   an_address4 : Form
+  an_address6 : Form
   a_peer : Form
 
 -- the decimal digits of a moment
@@ -49,5 +50,6 @@ Fails some_octets text reasons.Hex = (bytes : List ℕ) → IsHexText bytes text
 Fails a_secret text reasons.Hex = (secret : Secret) → IsSecretText secret text → ⊥
 Fails an_address text reasons.Address = (ip : Ip) → IsIpText ip text → ⊥
 Fails an_address4 text reasons.Address = (number : ℕ) → IsIpText (V4 number) text → ⊥
+Fails an_address6 text reasons.Address = (number : ℕ) → IsIpText (V6 number) text → ⊥
 Fails a_peer text reasons.Peer = (peer : Peer) → IsPeerText peer text → ⊥
 Fails form text reason = ⊥

@@ -3,7 +3,7 @@ use Rattle.std.specs.Prelude.{◌≡◌, ℕ, List, [], ◌∷◌, ◌++◌, rep
 use Rattle.std.specs.List.{AllByRecursion, AllZip}
 use Rattle.std.specs.Str.Lines.{lines}
 use Rattle.amt_values.specs.declared.address.Ip.{Ip}
-use Rattle.amt_values.specs.declared.address.Ip.TheVariants.{V4}
+use Rattle.amt_values.specs.declared.address.Ip.TheVariants.{V4, V6}
 use Rattle.amt_values.specs.Text.{IsIpText, IsPeerText}
 use Rattle.relay_machine.specs.Settings.{IsLawful}
 use Rattle.response_mac.specs.declared.secret.Secret.{Secret}
@@ -39,6 +39,7 @@ pub record HasTwoFields (words : List (List ℕ)) (IsText IsNext : List ℕ → 
 abbrev pub SaysSetting : Setting → List (List ℕ) → Type 0
 SaysSetting (settings.Relay ip) = HasField (words_of (kinds.Set keys.Relay)) (IsIpText ip)
 SaysSetting (settings.Query4 number) = HasField (words_of (kinds.Set keys.Query4)) (IsIpText (V4 number))
+SaysSetting (settings.Query6 number) = HasField (words_of (kinds.Set keys.Query6)) (IsIpText (V6 number))
 SaysSetting (settings.Robustness number) = HasField (words_of (kinds.Set keys.Robustness)) (IsNumberText 1 7 number)
 SaysSetting (settings.QuerySeconds number) =
     HasField (words_of (kinds.Set keys.QuerySeconds)) (IsNumberText 1 31744 number)
@@ -47,11 +48,13 @@ SaysSetting (settings.ResponseTenths number) =
 SaysSetting (settings.Endpoints number) = HasField (words_of (kinds.Set keys.Endpoints)) (IsNumberText 1 65536 number)
 SaysSetting (settings.Groups number) = HasField (words_of (kinds.Set keys.Groups)) (IsNumberText 1 256 number)
 SaysSetting (settings.Sources number) = HasField (words_of (kinds.Set keys.Sources)) (IsNumberText 1 64 number)
+SaysSetting (settings.PacketLimit number) = HasField (words_of (kinds.Set keys.PacketLimit)) (IsNumberText 20 65000 number)
 SaysSetting (settings.Secret secret) = HasField (words_of (kinds.Set keys.Secret)) (IsSecretText secret)
 
 abbrev pub SaysEvent : Event → List (List ℕ) → Type 0
 SaysEvent (events.Moment ms) = HasField (words_of kinds.Moment) (IsMomentText ms)
 SaysEvent (events.Datagram from bytes) = HasTwoFields (words_of kinds.Datagram) (IsPeerText from) (IsHexText bytes)
+SaysEvent (events.Packet bytes) = HasField (words_of kinds.Packet) (IsHexText bytes)
 SaysEvent (events.Rotate secret) = HasField (words_of kinds.Secret) (IsSecretText secret)
 
 -- an event, or the word alone by which what stands is shown
@@ -84,6 +87,11 @@ abbrev pub query4_in : Option Setting → ℕ
 query4_in (Some (settings.Query4 number)) = number
 query4_in other = 0
 
+-- fe80::1 where it isn't given
+abbrev pub query6_in : Option Setting → ℕ
+query6_in (Some (settings.Query6 number)) = number
+query6_in other = 0xfe800000000000000000000000000001
+
 abbrev pub robustness_in : Option Setting → ℕ
 robustness_in (Some (settings.Robustness number)) = number
 robustness_in other = 2
@@ -108,6 +116,10 @@ abbrev pub sources_in : Option Setting → ℕ
 sources_in (Some (settings.Sources number)) = number
 sources_in other = 64
 
+abbrev pub packet_limit_in : Option Setting → ℕ
+packet_limit_in (Some (settings.PacketLimit number)) = number
+packet_limit_in other = 1450
+
 abbrev pub secret_in : Option Setting → Secret
 secret_in (Some (settings.Secret secret)) = secret
 secret_in other = record { 0 = replicate 32 0 }
@@ -116,12 +128,14 @@ secret_in other = record { 0 = replicate 32 0 }
 pub record Settles (given : List Setting) (values : Settings) (secret : Secret) : Type 0 where
   pub relay : relay_in (set_at given keys.Relay) ≡ Some values.relay
   pub query4 : values.query4 ≡ query4_in (set_at given keys.Query4)
+  pub query6 : values.query6 ≡ query6_in (set_at given keys.Query6)
   pub robustness : values.robustness ≡ robustness_in (set_at given keys.Robustness)
   pub query_seconds : values.query_seconds ≡ query_seconds_in (set_at given keys.QuerySeconds)
   pub response_tenths : values.response_tenths ≡ response_tenths_in (set_at given keys.ResponseTenths)
   pub endpoints : values.limits.endpoints ≡ endpoints_in (set_at given keys.Endpoints)
   pub groups : values.limits.groups ≡ groups_in (set_at given keys.Groups)
   pub sources : values.limits.sources ≡ sources_in (set_at given keys.Sources)
+  pub packet_limit : values.packet_limit ≡ packet_limit_in (set_at given keys.PacketLimit)
   pub first_secret : secret ≡ secret_in (set_at given keys.Secret)
 
 -- the lines say items after settings with which a relay may be set up. Each number is in its range,

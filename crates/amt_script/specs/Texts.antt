@@ -7,7 +7,9 @@ use Rattle.amt_values.specs.declared.address.Ip.{Ip}
 use Rattle.amt_values.specs.Endpoint.{peer_of}
 use Rattle.amt_values.specs.Text.{ip_text, peer_text}
 use Rattle.amt_messages.specs.declared.refusal.Refused.{Refused}
-use Rattle.amt_messages.specs.declared.refusal.Refused.TheVariants.{Empty, Version, Kind, NotYet, NoInner, Short, Long}
+use Rattle.amt_messages.specs.declared.refusal.Refused.TheVariants.{Empty, Version, Kind, NoInner, Short, Long}
+use Rattle.inner_datagrams.specs.declared.head.HeadFault.{HeadFault}
+use Rattle.inner_datagrams.specs.declared.head.HeadFault.TheVariants as head
 use Rattle.inner_datagrams.specs.declared.inner.InnerFault.{InnerFault}
 use Rattle.inner_datagrams.specs.declared.inner.InnerFault.TheVariants as inner
 use Rattle.source_filter.specs.declared.fault.ReportFault.{ReportFault}
@@ -20,9 +22,11 @@ use Rattle.endpoint_membership.specs.declared.row.Row.{Row}
 use Rattle.response_mac.specs.declared.secret.Secret.{Secret}
 use Rattle.relay_machine.specs.declared.event.Event.{Event}
 use Rattle.relay_machine.specs.declared.event.Event.TheVariants as events
+use Rattle.relay_machine.specs.declared.outcome.NotForwarded.{NotForwarded}
+use Rattle.relay_machine.specs.declared.outcome.NotForwarded.TheVariants.{Head, Scope}
 use Rattle.relay_machine.specs.declared.outcome.Outcome.{Outcome}
 use Rattle.relay_machine.specs.declared.outcome.Outcome.TheVariants as outcomes
-use Rattle.relay_machine.specs.declared.outcome.Outcome.TheVariants.{Moved, Rotated, BadSource, Undecoded, WrongKind, NoFamily, Advertised, Queried, BadMac, Over, Updated}
+use Rattle.relay_machine.specs.declared.outcome.Outcome.TheVariants.{Moved, Rotated, BadSource, Undecoded, WrongKind, Advertised, Queried, BadMac, Over, Updated, NoTunnel, TornDown, TooBig, Copied}
 use Rattle.relay_machine.specs.declared.outcome.Unlawful.{Unlawful}
 use Rattle.relay_machine.specs.declared.outcome.Unlawful.TheVariants.{Inner, Report}
 use Rattle.relay_machine.specs.declared.sends.OneSend.{OneSend}
@@ -38,7 +42,6 @@ abbrev pub refusal_text : Refused → List ℕ
 refusal_text Empty = codes "empty"
 refusal_text (Version version) = codes "version " ++ decimal version
 refusal_text (Kind kind) = codes "kind " ++ decimal kind
-refusal_text (NotYet kind) = codes "notyet " ++ decimal kind
 refusal_text NoInner = codes "noinner"
 refusal_text (Short need have) = codes "short " ++ (decimal need ++ (codes " " ++ decimal have))
 refusal_text (Long need have) = codes "long " ++ (decimal need ++ (codes " " ++ decimal have))
@@ -77,13 +80,22 @@ limit_text (Sources group count) = codes "sources " ++ (ip_text group ++ (codes 
 limit_text (Groups count) = codes "groups " ++ decimal count
 limit_text (Endpoints count) = codes "endpoints " ++ decimal count
 
+-- what is wrong with the head of a packet (RFC 791, section 3.1; RFC 8200, section 3)
+abbrev pub head_text : HeadFault → List ℕ
+head_text (head.Version version) = codes "version " ++ decimal version
+head_text (head.ShortHeader need have) = codes "short " ++ (decimal need ++ (codes " " ++ decimal have))
+
+-- why a packet is copied to nobody
+abbrev pub not_forwarded_text : NotForwarded → List ℕ
+not_forwarded_text (Head fault) = codes "head " ++ head_text fault
+not_forwarded_text (Scope group) = codes "scope " ++ ip_text group
+
 abbrev pub outcome_text : Outcome → List ℕ
 outcome_text (Moved moment) = codes "moved " ++ decimal moment
 outcome_text Rotated = codes "rotated"
 outcome_text BadSource = codes "badsource"
 outcome_text (Undecoded refusal) = codes "refused " ++ refusal_text refusal
 outcome_text (WrongKind kind) = codes "wrongkind " ++ decimal kind
-outcome_text NoFamily = codes "nofamily"
 outcome_text Advertised = codes "advertised"
 outcome_text (Queried false false) = codes "queried v4"
 outcome_text (Queried false true) = codes "queried v4 limited"
@@ -93,16 +105,22 @@ outcome_text BadMac = codes "badmac"
 outcome_text (outcomes.Unlawful fault) = codes "unlawful " ++ unlawful_text fault
 outcome_text (Over fault) = codes "limit " ++ limit_text fault
 outcome_text Updated = codes "updated"
+outcome_text NoTunnel = codes "notunnel"
+outcome_text TornDown = codes "torndown"
+outcome_text (TooBig size) = codes "toobig " ++ decimal size
+outcome_text (outcomes.NotForwarded cause) = codes "notforwarded " ++ not_forwarded_text cause
+outcome_text (Copied count) = codes "copied " ++ decimal count
 
 -- pairs of hexadecimal digits, or `-` for no octet
 abbrev pub hex_text : List ℕ → List ℕ
 hex_text [] = codes "-"
 hex_text (octet ∷ rest) = encode_lower (octet ∷ rest)
 
--- `at MS`, `dg PEER HEX` or `secret HEX`
+-- `at MS`, `dg PEER HEX`, `mc HEX` or `secret HEX`
 abbrev pub event_line : Event → List ℕ
 event_line (events.Moment moment) = codes "at " ++ decimal moment
 event_line (events.Datagram from bytes) = codes "dg " ++ (peer_text from ++ (codes " " ++ hex_text bytes))
+event_line (events.Packet bytes) = codes "mc " ++ hex_text bytes
 event_line (events.Rotate secret) = codes "secret " ++ hex_text secret.0
 
 -- its line, with a line feed

@@ -1,11 +1,12 @@
 ghost use Rattle.std.specs.Prelude.{◌≡◌, IfOk, string_bytes};
 ghost use Rattle.endpoint_membership.specs.declared.limits.LimitFault.TheVariants.{Sources};
-ghost use Rattle.amt_script.specs.Texts.{inner_text, limit_text, report_text, sum_text, unlawful_text};
+ghost use Rattle.relay_machine.specs.declared.outcome.Outcome.TheVariants.{NotForwarded as NotForwardedFor};
+ghost use Rattle.amt_script.specs.Texts.{head_text, inner_text, limit_text, outcome_text, report_text, sum_text, unlawful_text};
 
 use amt_values::{Bytes, Ip, print_ip};
 use endpoint_membership::LimitFault;
-use inner_datagrams::InnerFault;
-use relay_machine::Unlawful;
+use inner_datagrams::{HeadFault, InnerFault};
+use relay_machine::{NotForwarded, Unlawful};
 use source_filter::ReportFault;
 use std::alloc::{AllocError, Global};
 
@@ -89,6 +90,34 @@ pub fn print_limit(alloc: Global, fault: &LimitFault) -> Result<Bytes, AllocErro
         LimitFault::Endpoints(count) => {
             let text = format!(in alloc; "endpoints {count}")?;
             Bytes::copied(alloc, text.as_bytes())
+        }
+    }
+}
+
+fn print_head(alloc: Global, fault: &HeadFault) -> Result<String, AllocError>
+    ensures { IfOk result (λ text. string_bytes text ≡ head_text fault.now) }
+{
+    match *fault {
+        HeadFault::Version(version) => format!(in alloc; "version {version}"),
+        HeadFault::ShortHeader(need, have) => format!(in alloc; "short {need} {have}"),
+    }
+}
+
+/// Why a packet was not copied to anyone.
+pub fn print_not_forwarded(alloc: Global, cause: &NotForwarded) -> Result<Bytes, AllocError>
+    ensures { IfOk result (λ text. text ≡ outcome_text (NotForwardedFor cause.now)) }
+{
+    match *cause {
+        NotForwarded::Head(fault) => {
+            let fault = print_head(alloc, &fault)?;
+            let text = format!(in alloc; "notforwarded head {fault}")?;
+            Bytes::copied(alloc, text.as_bytes())
+        }
+        NotForwarded::Scope(group) => {
+            let group = print_ip(alloc, &group)?;
+            let mut text = Bytes::copied(alloc, b"notforwarded scope ")?;
+            text.append(group.as_slice())?;
+            Ok(text)
         }
     }
 }

@@ -10,12 +10,14 @@ use crate::fields::next_field;
 pub enum Key {
     Relay,
     Query4,
+    Query6,
     Robustness,
     QuerySeconds,
     ResponseTenths,
     Endpoints,
     Groups,
     Sources,
+    PacketLimit,
     Secret,
 }
 
@@ -30,13 +32,15 @@ impl Key {
         match self {
             Key::Relay => 0,
             Key::Query4 => 1,
-            Key::Robustness => 2,
-            Key::QuerySeconds => 3,
-            Key::ResponseTenths => 4,
-            Key::Endpoints => 5,
-            Key::Groups => 6,
-            Key::Sources => 7,
-            Key::Secret => 8,
+            Key::Query6 => 2,
+            Key::Robustness => 3,
+            Key::QuerySeconds => 4,
+            Key::ResponseTenths => 5,
+            Key::Endpoints => 6,
+            Key::Groups => 7,
+            Key::Sources => 8,
+            Key::PacketLimit => 9,
+            Key::Secret => 10,
         }
     }
 }
@@ -52,6 +56,8 @@ pub enum Kind {
     Secret,
     /// A datagram has come.
     Datagram,
+    /// A multicast packet has come.
+    Packet,
     /// What stands is asked for.
     Show,
 }
@@ -74,6 +80,9 @@ fn key_of_word(word: &[u8]) -> Option<Key>
     if word == b"query4".as_slice() {
         return Some(Key::Query4);
     }
+    if word == b"query6".as_slice() {
+        return Some(Key::Query6);
+    }
     if word == b"robustness".as_slice() {
         return Some(Key::Robustness);
     }
@@ -91,6 +100,9 @@ fn key_of_word(word: &[u8]) -> Option<Key>
     }
     if word == b"sources".as_slice() {
         return Some(Key::Sources);
+    }
+    if word == b"packet_limit".as_slice() {
+        return Some(Key::PacketLimit);
     }
     if word == b"secret".as_slice() {
         return Some(Key::Secret);
@@ -132,6 +144,9 @@ pub fn kind_of_line(line: &[u8]) -> Result<(Kind, &[u8]), NoKind>
     }
     if word == b"dg".as_slice() {
         return Ok((Kind::Datagram, rest));
+    }
+    if word == b"mc".as_slice() {
+        return Ok((Kind::Packet, rest));
     }
     if word == b"show".as_slice() {
         return Ok((Kind::Show, rest));

@@ -11,7 +11,7 @@ use crate::reason::Reason;
 use crate::script::RelayItem;
 use crate::setting::{Setting, is_given};
 use crate::statement::{
-    LineError, read_datagram, read_moment_item, read_rotation, read_setting, read_show,
+    LineError, read_datagram, read_moment_item, read_packet, read_rotation, read_setting, read_show,
 };
 use std::alloc::Global;
 
@@ -81,6 +81,7 @@ pub fn read_statement(
         Ok((Kind::Moment, values)) => Ok(Statement::Item(read_moment_item(values)?)),
         Ok((Kind::Secret, values)) => Ok(Statement::Item(read_rotation(values)?)),
         Ok((Kind::Datagram, values)) => Ok(Statement::Item(read_datagram(alloc, values)?)),
+        Ok((Kind::Packet, values)) => Ok(Statement::Item(read_packet(alloc, values)?)),
         Ok((Kind::Show, values)) => Ok(Statement::Item(read_show(values)?)),
     }
 }

@@ -12,6 +12,8 @@ pub enum Setting {
     Relay(Ip),
     /// The IPv4 source of General Queries.
     Query4(u32),
+    /// The IPv6 source of General Queries.
+    Query6(u128),
     Robustness(u8),
     QuerySeconds(u32),
     ResponseTenths(u32),
@@ -21,6 +23,8 @@ pub enum Setting {
     Groups(u32),
     /// The most sources of one group.
     Sources(u32),
+    /// The most octets of a packet that is copied.
+    PacketLimit(u32),
     /// The first private secret.
     Secret(Secret),
 }
@@ -31,12 +35,14 @@ fn key_of(setting: &Setting) -> Key
     match setting {
         Setting::Relay(_) => Key::Relay,
         Setting::Query4(_) => Key::Query4,
+        Setting::Query6(_) => Key::Query6,
         Setting::Robustness(_) => Key::Robustness,
         Setting::QuerySeconds(_) => Key::QuerySeconds,
         Setting::ResponseTenths(_) => Key::ResponseTenths,
         Setting::Endpoints(_) => Key::Endpoints,
         Setting::Groups(_) => Key::Groups,
         Setting::Sources(_) => Key::Sources,
+        Setting::PacketLimit(_) => Key::PacketLimit,
         Setting::Secret(_) => Key::Secret,
     }
 }

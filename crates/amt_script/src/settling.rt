@@ -1,5 +1,5 @@
 ghost use Rattle.std.specs.Prelude.{◌≡◌, IfSome, IfNone, None};
-ghost use Rattle.amt_script.specs.Script.{Settles, relay_in, query4_in, robustness_in, query_seconds_in, response_tenths_in, endpoints_in, groups_in, sources_in, secret_in};
+ghost use Rattle.amt_script.specs.Script.{Settles, relay_in, query4_in, query6_in, robustness_in, query_seconds_in, response_tenths_in, endpoints_in, groups_in, sources_in, packet_limit_in, secret_in};
 ghost use Rattle.amt_script.specs.Setting.{set_at};
 
 use crate::kind::Key;
@@ -31,6 +31,15 @@ fn query4_of(given: &[Setting]) -> u32
     match setting_at(given, Key::Query4) {
         Some(Setting::Query4(address)) => address,
         _ => 0,
+    }
+}
+
+fn query6_of(given: &[Setting]) -> u128
+    ensures { result ≡ query6_in (set_at given.now Key.Query6) }
+{
+    match setting_at(given, Key::Query6) {
+        Some(Setting::Query6(address)) => address,
+        _ => 0xfe80_0000_0000_0000_0000_0000_0000_0001,
     }
 }
 
@@ -88,6 +97,15 @@ fn sources_of(given: &[Setting]) -> u32
     }
 }
 
+fn packet_limit_of(given: &[Setting]) -> u32
+    ensures { result ≡ packet_limit_in (set_at given.now Key.PacketLimit) }
+{
+    match setting_at(given, Key::PacketLimit) {
+        Some(Setting::PacketLimit(most)) => most,
+        _ => 1450,
+    }
+}
+
 fn secret_of(given: &[Setting]) -> Secret
     ensures { result ≡ secret_in (set_at given.now Key.Secret) }
 {
@@ -107,6 +125,7 @@ pub fn settle(given: &[Setting]) -> Option<Settled>
             settings: Settings {
                 relay,
                 query4: query4_of(given),
+                query6: query6_of(given),
                 robustness: robustness_of(given),
                 query_seconds: query_seconds_of(given),
                 response_tenths: response_tenths_of(given),
@@ -115,6 +134,7 @@ pub fn settle(given: &[Setting]) -> Option<Settled>
                     groups: groups_of(given),
                     sources: sources_of(given),
                 },
+                packet_limit: packet_limit_of(given),
             },
             secret: secret_of(given),
         }),

@@ -13,7 +13,7 @@ use crate::reason::Reason;
 use crate::script::RelayItem;
 use crate::setting::Setting;
 use crate::values::{
-    OctetsError, read_address4, read_moment, read_number, read_octets, read_secret,
+    OctetsError, read_address4, read_address6, read_moment, read_number, read_octets, read_secret,
 };
 use amt_values::{parse_ip, parse_peer};
 use relay_machine::Event;
@@ -40,6 +40,10 @@ fn setting_of_text(key: Key, text: &[u8]) -> Result<Setting, Reason>
             Some(address) => Ok(Setting::Query4(address)),
             None => Err(Reason::Address),
         },
+        Key::Query6 => match read_address6(text) {
+            Some(address) => Ok(Setting::Query6(address)),
+            None => Err(Reason::Address),
+        },
         Key::Robustness => match read_number(text, 1, 7) {
             Ok(number) => Ok(Setting::Robustness(number as u8)),
             Err(reason) => Err(reason),
@@ -62,6 +66,10 @@ fn setting_of_text(key: Key, text: &[u8]) -> Result<Setting, Reason>
         },
         Key::Sources => match read_number(text, 1, 64) {
             Ok(number) => Ok(Setting::Sources(number)),
+            Err(reason) => Err(reason),
+        },
+        Key::PacketLimit => match read_number(text, 20, 65_000) {
+            Ok(number) => Ok(Setting::PacketLimit(number)),
             Err(reason) => Err(reason),
         },
         Key::Secret => match read_secret(text) {
@@ -128,6 +136,21 @@ pub fn read_datagram(alloc: Global, values: &[u8]) -> Result<RelayItem, LineErro
     match parse_peer(peer) {
         Some(from) => Ok(RelayItem::Event(Event::Datagram { from, bytes })),
         None => Err(LineError::Bad(Reason::Peer)),
+    }
+}
+
+/// The item of a line `mc HEX`, by what follows its first word.
+pub fn read_packet(alloc: Global, values: &[u8]) -> Result<RelayItem, LineError>
+    ensures found { IfOk result (λ item. SaysItem item (words_of kinds.Packet ++ fields values.now)) }
+    ensures reason { IfErr result (FailsFirst (FailsAs kinds.Packet (fields values.now)) order_of_values) }
+{
+    let Some(octets) = only_field(values) else {
+        return Err(LineError::Bad(Reason::Count));
+    };
+    match read_octets(alloc, octets) {
+        Ok(bytes) => Ok(RelayItem::Event(Event::Packet { bytes })),
+        Err(OctetsError::NotHex) => Err(LineError::Bad(Reason::Hex)),
+        Err(OctetsError::Memory) => Err(LineError::Memory),
     }
 }
 

@@ -1,4 +1,4 @@
-ghost use Rattle.std.specs.Prelude.{◌≡◌, ◌++◌, ◌≤◌, length, OnOk, IfOk, string_bytes};
+ghost use Rattle.std.specs.Prelude.{◌≡◌, ◌++◌, ◌≤◌, codes, decimal, length, OnOk, IfOk, string_bytes};
 ghost use Rattle.amt_values.specs.Octets.{AreOctets};
 ghost use Rattle.relay_machine.specs.Conditions.{IsEvent};
 ghost use Rattle.relay_machine.specs.declared.event.Event.TheVariants as events;
@@ -6,7 +6,7 @@ ghost use Rattle.relay_machine.specs.declared.outcome.Outcome.TheVariants.{Over,
 ghost use Rattle.amt_script.specs.Printed.{IsLineOf, IsLineThatSays};
 ghost use Rattle.amt_script.specs.Texts.{refusal_text, outcome_text, hex_text, event_line, event_text, send_text, step_text, closing_text};
 
-use crate::fault_text::{print_limit, print_unlawful};
+use crate::fault_text::{print_limit, print_not_forwarded, print_unlawful};
 use amt_messages::Refused;
 use amt_values::{Bytes, Peer, print_peer};
 use endpoint_membership::LimitFault;
@@ -20,7 +20,6 @@ fn print_refusal(alloc: Global, refusal: &Refused) -> Result<String, AllocError>
         Refused::Empty => String::from_str(alloc, "empty"),
         Refused::Version(version) => format!(in alloc; "version {version}"),
         Refused::Kind(kind) => format!(in alloc; "kind {kind}"),
-        Refused::NotYet(kind) => format!(in alloc; "notyet {kind}"),
         Refused::NoInner => String::from_str(alloc, "noinner"),
         Refused::Short(need, have) => format!(in alloc; "short {need} {have}"),
         Refused::Long(need, have) => format!(in alloc; "long {need} {have}"),
@@ -47,15 +46,19 @@ fn print_over(alloc: Global, fault: &LimitFault) -> Result<Bytes, AllocError>
     Ok(text)
 }
 
+// A word, and the number behind it.
+fn print_numbered(alloc: Global, word: &str, number: u64) -> Result<Bytes, AllocError>
+    ensures { IfOk result (λ text. text ≡ word.now ++ (codes " " ++ decimal number)) }
+{
+    let text = format!(in alloc; "{word} {number}")?;
+    Bytes::copied(alloc, text.as_bytes())
+}
+
 fn print_outcome(alloc: Global, outcome: &Outcome) -> Result<Bytes, AllocError>
     ensures { IfOk result (λ text. text ≡ outcome_text outcome.now) }
 {
     match *outcome {
-        Outcome::Moved(moment) => {
-            let ms = moment.ms();
-            let text = format!(in alloc; "moved {ms}")?;
-            Bytes::copied(alloc, text.as_bytes())
-        }
+        Outcome::Moved(moment) => print_numbered(alloc, "moved", moment.ms()),
         Outcome::Rotated => Bytes::copied(alloc, b"rotated"),
         Outcome::BadSource => Bytes::copied(alloc, b"badsource"),
         Outcome::Undecoded(refusal) => {
@@ -63,11 +66,7 @@ fn print_outcome(alloc: Global, outcome: &Outcome) -> Result<Bytes, AllocError>
             let text = format!(in alloc; "refused {refusal}")?;
             Bytes::copied(alloc, text.as_bytes())
         }
-        Outcome::WrongKind(kind) => {
-            let text = format!(in alloc; "wrongkind {kind}")?;
-            Bytes::copied(alloc, text.as_bytes())
-        }
-        Outcome::NoFamily => Bytes::copied(alloc, b"nofamily"),
+        Outcome::WrongKind(kind) => print_numbered(alloc, "wrongkind", u64::from(kind)),
         Outcome::Advertised => Bytes::copied(alloc, b"advertised"),
         Outcome::Queried { v6, limited } => print_queried(alloc, v6, limited),
         Outcome::BadMac => Bytes::copied(alloc, b"badmac"),
@@ -78,6 +77,11 @@ fn print_outcome(alloc: Global, outcome: &Outcome) -> Result<Bytes, AllocError>
         }
         Outcome::Over(fault) => print_over(alloc, &fault),
         Outcome::Updated => Bytes::copied(alloc, b"updated"),
+        Outcome::NoTunnel => Bytes::copied(alloc, b"notunnel"),
+        Outcome::TornDown => Bytes::copied(alloc, b"torndown"),
+        Outcome::TooBig(size) => print_numbered(alloc, "toobig", u64::from(size)),
+        Outcome::NotForwarded(cause) => print_not_forwarded(alloc, &cause),
+        Outcome::Copied(count) => print_numbered(alloc, "copied", u64::from(count)),
     }
 }
 
@@ -105,6 +109,17 @@ fn print_datagram_line(alloc: Global, from: &Peer, bytes: &Bytes) -> Result<Byte
     Ok(text)
 }
 
+fn print_packet_line(alloc: Global, bytes: &Bytes) -> Result<Bytes, AllocError>
+    requires { length bytes.now ≤ 65535 }
+    ensures value { IfOk result (λ text. text ≡ event_line (events.Packet bytes.now)) }
+    ensures says { IfOk result (IsLineThatSays (events.Packet bytes.now)) }
+{
+    let hex = print_hex(alloc, bytes.as_slice())?;
+    let mut text = Bytes::copied(alloc, b"mc ")?;
+    text.append(hex.as_bytes())?;
+    Ok(text)
+}
+
 fn print_event_line(alloc: Global, event: &Event) -> Result<Bytes, AllocError>
     requires { IsEvent event.now }
     ensures value { IfOk result (λ text. text ≡ event_line event.now) }
@@ -117,6 +132,7 @@ fn print_event_line(alloc: Global, event: &Event) -> Result<Bytes, AllocError>
             Bytes::copied(alloc, line.as_bytes())
         }
         Event::Datagram { from, bytes } => print_datagram_line(alloc, from, bytes),
+        Event::Packet { bytes } => print_packet_line(alloc, bytes),
         Event::Rotate(secret) => {
             let hex = print_hex(alloc, &secret.0)?;
             let line = format!(in alloc; "secret {hex}")?;

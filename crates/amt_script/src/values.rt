@@ -1,7 +1,7 @@
 ghost use Rattle.std.specs.Prelude.{◌≡◌, ◌≤◌, ◌<◌, ◌^◌, ◌⊎◌, ℕ, List, IfOk, IfErr, IfSome, IfNone, IsErrOf};
-ghost use Rattle.amt_values.specs.declared.address.Ip.TheVariants.{V4};
+ghost use Rattle.amt_values.specs.declared.address.Ip.TheVariants.{V4, V6};
 ghost use Rattle.amt_values.specs.Text.{IsIpText};
-ghost use Rattle.amt_script.specs.Form.{IsMomentText, IsNumberText, IsHexText, IsSecretText, Fails, a_moment, a_number, some_octets, a_secret, an_address4};
+ghost use Rattle.amt_script.specs.Form.{IsMomentText, IsNumberText, IsHexText, IsSecretText, Fails, a_moment, a_number, some_octets, a_secret, an_address4, an_address6};
 
 use crate::reason::Reason;
 use amt_values::{Bytes, Ip, Moment, NumeralFault, parse_ip, parse_numeral};
@@ -89,6 +89,17 @@ pub fn read_address4(text: &[u8]) -> Option<u32>
     match parse_ip(text) {
         Some(Ip::V4(number)) => Some(number),
         Some(Ip::V6(_)) => None,
+        None => None,
+    }
+}
+
+pub fn read_address6(text: &[u8]) -> Option<u128>
+    ensures found { IfSome result (λ number. IsIpText (V6 number) text.now) }
+    ensures none { IfNone result (Fails an_address6 text.now Reason.Address) }
+{
+    match parse_ip(text) {
+        Some(Ip::V6(number)) => Some(number),
+        Some(Ip::V4(_)) => None,
         None => None,
     }
 }

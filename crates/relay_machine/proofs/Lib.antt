@@ -1,3 +1,5 @@
+pub mod Copies
+pub mod HandedOut
 pub mod Limits
 pub mod Onward
 pub mod QuerySizes

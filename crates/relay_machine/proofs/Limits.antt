@@ -4,7 +4,7 @@ use Rattle.std.proofs.lemmas.List.{reverse-append}
 use Rattle.amt_values.specs.Endpoint.{endpoint_of}
 use Rattle.amt_values.specs.Tunnel.{Tunnel}
 use Rattle.amt_messages.specs.declared.message.Message.{Message}
-use Rattle.amt_messages.specs.declared.message.Message.TheVariants.{Discovery, Advertisement, Request, Query, Update}
+use Rattle.amt_messages.specs.declared.message.Message.TheVariants.{Discovery, Advertisement, Request, Query, Update, Multicast, Teardown}
 use Rattle.amt_messages.specs.declared.refusal.Refused.{Refused}
 use Rattle.amt_messages.specs.Refusal.{message_of}
 use Rattle.response_mac.specs.declared.secret.Secret.{Secret}
@@ -23,17 +23,19 @@ use Rattle.endpoint_membership.specs.declared.change.Change.TheVariants.{Mark, R
 use Rattle.endpoint_membership.specs.declared.kept.Kept.{Kept}
 use Rattle.endpoint_membership.specs.declared.limits.LimitFault.{LimitFault}
 use Rattle.endpoint_membership.proofs.ByLog.{AreRows-standing_rows}
+use Rattle.endpoint_membership.proofs.Clearings.{IsWithin-cleared}
 use Rattle.endpoint_membership.proofs.Held.{Holds-mark, IsWithin-log, latest-push}
 use Rattle.endpoint_membership.proofs.Standing.{standing-other}
 use Rattle.endpoint_membership.proofs.Steps.{AreRows-later}
 use Rattle.endpoint_membership.proofs.Within.{IsWithin-filter, IsWithin-report}
 use Rattle.relay_machine.specs.declared.event.Event.{Event}
-use Rattle.relay_machine.specs.declared.event.Event.TheVariants.{Moment, Datagram, Rotate}
+use Rattle.relay_machine.specs.declared.event.Event.TheVariants.{Moment, Datagram, Packet, Rotate}
 use Rattle.relay_machine.specs.declared.outcome.Unlawful.{Unlawful}
 use Rattle.relay_machine.specs.declared.settings.Settings.{Settings}
-use Rattle.relay_machine.specs.Accepted.{accepted, accepted_back, datagram_change, with_change}
+use Rattle.relay_machine.specs.Accepted.{accepted, accepted_back, datagram_entry, with_change}
 use Rattle.relay_machine.specs.Events.{now_of, secrets_of}
 use Rattle.relay_machine.specs.Settings.{terms_of}
+use Rattle.relay_machine.specs.Teardowns.{teardown_entry}
 use Rattle.relay_machine.specs.Updates.{forwarded, limit_change, report_in, update_change}
 
 -- what stands by the log is within the limits
@@ -94,8 +96,13 @@ within-update terms log source at false reading within = within
 within-update terms log source at true (Err fault) within = within
 within-update terms log source at true (Ok records) within = within-limit terms log source (forwarded records) at _ refl within
 
+within-teardown : (terms : Terms) (log : List Change) (endpoint : Tunnel) (at : ℕ) (good : Bool) → IsLogWithin terms log
+    → IsLogWithin terms (with_change log (teardown_entry good endpoint at))
+within-teardown terms log endpoint at false within = within
+within-teardown terms log endpoint at true within = IsWithin-cleared terms.limits terms log endpoint at within
+
 within-datagram : (terms : Terms) (secrets : Secrets) (at : ℕ) (log : List Change) (source : Option Tunnel) (reading : Result Message Refused) → IsLogWithin terms log
-    → IsLogWithin terms (with_change log (datagram_change terms secrets at log source reading))
+    → IsLogWithin terms (with_change log (datagram_entry terms secrets at log source reading))
 within-datagram terms secrets at log None reading within = within
 within-datagram terms secrets at log (Some source) (Err refusal) within = within
 within-datagram terms secrets at log (Some source) (Ok (Discovery nonce)) within = within
@@ -104,6 +111,9 @@ within-datagram terms secrets at log (Some source) (Ok (Request v6 nonce)) withi
 within-datagram terms secrets at log (Some source) (Ok (Query limited mac nonce inner seen)) within = within
 within-datagram terms secrets at log (Some source) (Ok (Update mac nonce inner)) within =
     within-update terms log source at (is_good secrets source nonce mac) (report_in inner) within
+within-datagram terms secrets at log (Some source) (Ok (Multicast packet)) within = within
+within-datagram terms secrets at log (Some source) (Ok (Teardown mac nonce gateway)) within =
+    within-teardown terms log gateway at (is_good secrets gateway nonce mac) within
 
 within-back : (settings : Settings) (first : Secret) (back : List Event) → IsLogWithin (terms_of settings) (accepted_back settings first back)
 unfolding accepted_back
@@ -111,6 +121,7 @@ within-back settings first [] = record { endpoints = omega arith; groups = λ en
 within-back settings first (Moment moment ∷ earlier) =
     within-mark (terms_of settings) (accepted_back settings first earlier) (max (now_of (reverse earlier)) moment) (within-back settings first earlier)
 within-back settings first (Rotate secret ∷ earlier) = within-back settings first earlier
+within-back settings first (Packet bytes ∷ earlier) = within-back settings first earlier
 within-back settings first (Datagram from bytes ∷ earlier) =
     within-datagram (terms_of settings) (secrets_of first (reverse earlier)) (now_of (reverse earlier)) (accepted_back settings first earlier) (endpoint_of from) (message_of bytes)
     (within-back settings first earlier)

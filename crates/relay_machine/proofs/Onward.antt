@@ -4,12 +4,12 @@ use Rattle.std.proofs.lemmas.List.{append-nil, reverse-append, reverse-reverse}
 use Rattle.std.proofs.lemmas.List.Elements.{filter_map-append}
 use Rattle.std.proofs.lemmas.List.Sums.{fold-append}
 use Rattle.std.specs.List.{fold, filter_map}
-use Rattle.std.specs.Result.{IfOk}
+use Rattle.std.specs.Result.{IfOk, OnErr}
 use Rattle.amt_values.specs.Endpoint.{endpoint_of}
 use Rattle.amt_values.specs.Tunnel.{Tunnel}
 use Rattle.amt_values.specs.declared.peer.Peer.{Peer}
 use Rattle.amt_messages.specs.declared.message.Message.{Message}
-use Rattle.amt_messages.specs.declared.message.Message.TheVariants.{Discovery, Advertisement, Request, Query, Update}
+use Rattle.amt_messages.specs.declared.message.Message.TheVariants.{Discovery, Advertisement, Request, Query, Update, Multicast, Teardown}
 use Rattle.amt_messages.specs.declared.refusal.Refused.{Refused}
 use Rattle.amt_messages.specs.Refusal.{message_of}
 use Rattle.response_mac.specs.declared.secret.Secret.{Secret}
@@ -20,19 +20,20 @@ use Rattle.endpoint_membership.specs.Limits.{IsWithin}
 use Rattle.endpoint_membership.specs.Log.{latest}
 use Rattle.endpoint_membership.specs.Table.{Holds, IsWithinLimits, TableValue, Terms, limit_passed, standing_now}
 use Rattle.endpoint_membership.specs.declared.change.Change.{Change}
-use Rattle.endpoint_membership.specs.declared.change.Change.TheVariants.{Mark, Reported}
+use Rattle.endpoint_membership.specs.declared.change.Change.TheVariants.{Mark, Clear, Reported}
 use Rattle.endpoint_membership.specs.declared.limits.LimitFault.{LimitFault}
 use Rattle.endpoint_membership.proofs.Held.{IsWithin-log, latest-push}
 use Rattle.relay_machine.specs.declared.event.Event.{Event}
-use Rattle.relay_machine.specs.declared.event.Event.TheVariants.{Moment, Datagram, Rotate}
+use Rattle.relay_machine.specs.declared.event.Event.TheVariants.{Moment, Datagram, Packet, Rotate}
 use Rattle.relay_machine.specs.declared.outcome.Unlawful.{Unlawful}
 use Rattle.relay_machine.specs.declared.sends.Step.{Step}
 use Rattle.relay_machine.specs.declared.settings.Settings.{Settings}
-use Rattle.relay_machine.specs.Accepted.{accepted, accepted_back, change_after, change_of, datagram_change, with_change}
+use Rattle.relay_machine.specs.Accepted.{accepted, accepted_back, datagram_entry, entry_after, entry_of, with_change}
 use Rattle.relay_machine.specs.Answers.{RelayAt}
 use Rattle.relay_machine.specs.Events.{moment_in, now_of, secret_in, secrets_of}
 use Rattle.relay_machine.specs.Settings.{terms_of}
-use Rattle.relay_machine.specs.State.{RelayState}
+use Rattle.relay_machine.specs.State.{HasLog, IsSound, RelayState}
+use Rattle.relay_machine.specs.Teardowns.{teardown_entry}
 use Rattle.relay_machine.specs.Updates.{forwarded, limit_change, report_in, update_change}
 
 now_of-moment : (events : List Event) (moment : ℕ) → now_of (events ++ Moment moment ∷ []) ≡ max (now_of events) moment
@@ -61,12 +62,12 @@ secrets_of-other first events event none =
 
 -- one event more adds its entry, or none, to the log
 pub accepted-push : (settings : Settings) (first : Secret) (events : List Event) (event : Event)
-    → accepted settings first (events ++ event ∷ []) ≡ with_change (accepted settings first events) (change_of settings first events event)
+    → accepted settings first (events ++ event ∷ []) ≡ with_change (accepted settings first events) (entry_of settings first events event)
 unfolding accepted_back
 accepted-push settings first events event =
     let log = accepted settings first events in
     ap (accepted_back settings first) (reverse-append events (event ∷ []))
-    ∙ ap (λ (earlier : List Event). with_change log (change_after settings first earlier log event)) (reverse-reverse events)
+    ∙ ap (λ (earlier : List Event). with_change log (entry_after settings first earlier log event)) (reverse-reverse events)
 
 -- the log's latest moment is the events'
 pub latest-accepted : (relay : RelayState) (settings : Settings) (first : Secret) (events : List Event) → RelayAt relay settings first events
@@ -81,11 +82,10 @@ RelayAt-new relay settings first same_settings same_secrets holds =
     record { settings_kept = same_settings; secrets = same_secrets; table = holds; moment = holds.moment }
 
 -- the table after an event, with the entry that the event adds
-Holds-push : (settings : Settings) (first : Secret) (events : List Event) (event : Event) (table : TableValue) (change : Option Change)
-    → change ≡ change_of settings first events event → Holds (terms_of settings) table (with_change (accepted settings first events) change)
+Holds-push : (settings : Settings) (first : Secret) (events : List Event) (event : Event) (table : TableValue)
+    → Holds (terms_of settings) table (with_change (accepted settings first events) (entry_of settings first events event))
     → Holds (terms_of settings) table (accepted settings first (events ++ event ∷ []))
-Holds-push settings first events event table change same holds =
-    subst (Holds (terms_of settings) table) (ap (with_change (accepted settings first events)) same ∙ sym (accepted-push settings first events event)) holds
+Holds-push settings first events event table holds = subst (Holds (terms_of settings) table) (sym (accepted-push settings first events event)) holds
 
 -- a moment moves the table on, and changes nothing else
 pub RelayAt-moment : (relay : RelayState) (settings : Settings) (first : Secret) (events : List Event) (moment later : ℕ) (table : TableValue)
@@ -102,7 +102,7 @@ RelayAt-moment relay settings first events moment later table at later_is marked
     let before = latest-accepted relay settings first events at in record {
       settings_kept = at.settings_kept;
       secrets = at.secrets ∙ sym (secrets_of-other first events (Moment moment) refl);
-      table = Holds-push settings first events (Moment moment) table (Some (Mark later)) (ap (λ (m : ℕ). Some (Mark m)) by_events) held;
+      table = Holds-push settings first events (Moment moment) table (subst (λ (m : ℕ). Holds (terms_of settings) table (log ++ Mark m ∷ [])) by_events held);
       moment = omega arith;
     }
 
@@ -117,57 +117,67 @@ update_change-unmoved false reading passed log source = refl
 update_change-unmoved true (Err fault) passed log source = refl
 update_change-unmoved true (Ok records) passed log source = limit_change-unmoved (passed (forwarded records)) log source (forwarded records)
 
+teardown_entry-unmoved : (good : Bool) (log : List Change) (endpoint : Tunnel) → latest (with_change log (teardown_entry good endpoint (latest log))) ≡ latest log
+teardown_entry-unmoved false log endpoint = refl
+teardown_entry-unmoved true log endpoint = let pushed = latest-push log (Clear endpoint (latest log)) in omega arith
+
 -- what a datagram adds to the log is made at the log's latest moment
-datagram_change-unmoved : (terms : Terms) (secrets : Secrets) (log : List Change) (source : Option Tunnel) (reading : Result Message Refused)
-    → latest (with_change log (datagram_change terms secrets (latest log) log source reading)) ≡ latest log
-datagram_change-unmoved terms secrets log None reading = refl
-datagram_change-unmoved terms secrets log (Some source) (Err refusal) = refl
-datagram_change-unmoved terms secrets log (Some source) (Ok (Discovery nonce)) = refl
-datagram_change-unmoved terms secrets log (Some source) (Ok (Advertisement nonce relay)) = refl
-datagram_change-unmoved terms secrets log (Some source) (Ok (Request v6 nonce)) = refl
-datagram_change-unmoved terms secrets log (Some source) (Ok (Query limited mac nonce inner seen)) = refl
-datagram_change-unmoved terms secrets log (Some source) (Ok (Update mac nonce inner)) =
+datagram_entry-unmoved : (terms : Terms) (secrets : Secrets) (log : List Change) (source : Option Tunnel) (reading : Result Message Refused)
+    → latest (with_change log (datagram_entry terms secrets (latest log) log source reading)) ≡ latest log
+datagram_entry-unmoved terms secrets log None reading = refl
+datagram_entry-unmoved terms secrets log (Some source) (Err refusal) = refl
+datagram_entry-unmoved terms secrets log (Some source) (Ok (Discovery nonce)) = refl
+datagram_entry-unmoved terms secrets log (Some source) (Ok (Advertisement nonce relay)) = refl
+datagram_entry-unmoved terms secrets log (Some source) (Ok (Request v6 nonce)) = refl
+datagram_entry-unmoved terms secrets log (Some source) (Ok (Query limited mac nonce inner seen)) = refl
+datagram_entry-unmoved terms secrets log (Some source) (Ok (Update mac nonce inner)) =
     update_change-unmoved (is_good secrets source nonce mac) (report_in inner) (λ (records : List Record). limit_passed terms log source records (latest log)) log source
+datagram_entry-unmoved terms secrets log (Some source) (Ok (Multicast packet)) = refl
+datagram_entry-unmoved terms secrets log (Some source) (Ok (Teardown mac nonce gateway)) = teardown_entry-unmoved (is_good secrets gateway nonce mac) log gateway
 
 -- a datagram changes the table by the entry that it adds, and nothing else
 pub RelayAt-datagram : (relay : RelayState) (settings : Settings) (first : Secret) (events : List Event) (from : Peer) (bytes : List ℕ)
-    (table : TableValue) (change : Option Change) → RelayAt relay settings first events → change ≡ change_of settings first events (Datagram from bytes)
-    → Holds (terms_of settings) table (with_change (accepted settings first events) change)
+    (table : TableValue) → RelayAt relay settings first events
+    → (let log = accepted settings first events in
+    Holds (terms_of settings) table (with_change log (datagram_entry (terms_of settings) (secrets_of first events) (latest log) log (endpoint_of from) (message_of bytes))))
     → RelayAt (record relay { table = table }) settings first (events ++ Datagram from bytes ∷ [])
-RelayAt-datagram relay settings first events from bytes table change at same holds =
+RelayAt-datagram relay settings first events from bytes table at holds =
     let log = accepted settings first events in
     let before = latest-accepted relay settings first events at in
-    let by_log : change ≡ datagram_change (terms_of settings) (secrets_of first events) (latest log) log (endpoint_of from) (message_of bytes) =
-    same ∙ ap (λ (m : ℕ). datagram_change (terms_of settings) (secrets_of first events) m log (endpoint_of from) (message_of bytes)) (sym before) in
-    let unmoved = ap (λ (c : Option Change). latest (with_change log c)) by_log
-    ∙ datagram_change-unmoved (terms_of settings) (secrets_of first events) log (endpoint_of from) (message_of bytes) in record {
+    let made : ℕ → Option Change = λ (m : ℕ). datagram_entry (terms_of settings) (secrets_of first events) m log (endpoint_of from) (message_of bytes) in record {
       settings_kept = at.settings_kept;
       secrets = at.secrets ∙ sym (secrets_of-other first events (Datagram from bytes) refl);
-      table = Holds-push settings first events (Datagram from bytes) table change same holds;
-      moment = holds.moment ∙ (unmoved ∙ (before ∙ sym (now_of-other events (Datagram from bytes) refl)));
+      table = Holds-push settings first events (Datagram from bytes) table (subst (λ (m : ℕ). Holds (terms_of settings) table (with_change log (made m))) before holds);
+      moment = holds.moment
+          ∙ (datagram_entry-unmoved (terms_of settings) (secrets_of first events) log (endpoint_of from) (message_of bytes)
+          ∙ (before ∙ sym (now_of-other events (Datagram from bytes) refl)));
     }
 
--- by what is answered to a datagram: its entry, and the table that it leaves
+-- by what is answered to a datagram: the table that it leaves
 pub RelayAt-answered : {E : Type 0} (relay : RelayState) (settings : Settings) (first : Secret) (events : List Event) (from : Peer) (bytes : List ℕ)
     (table : TableValue) (answer : Result Step E) → RelayAt relay settings first events
     → ((log : List Change) → Holds (terms_of relay.settings) relay.table log
-    → IfOk answer (λ step. step.change ≡ datagram_change (terms_of relay.settings) relay.secrets (latest log) log (endpoint_of from) (message_of bytes)))
-    → ((log : List Change) → Holds (terms_of relay.settings) relay.table log
-    → IfOk answer (λ step. Holds (terms_of relay.settings) table (with_change log step.change)))
-    → IfOk answer (λ step. RelayAt (record relay { table = table }) settings first (events ++ Datagram from bytes ∷ []))
-RelayAt-answered relay settings first events from bytes table (Err fault) at changes stands = tt
-RelayAt-answered relay settings first events from bytes table (Ok step) at changes stands =
+    → IfOk answer (λ _. Holds (terms_of relay.settings) table
+    (with_change log (datagram_entry (terms_of relay.settings) relay.secrets (latest log) log (endpoint_of from) (message_of bytes)))))
+    → IfOk answer (λ _. RelayAt (record relay { table = table }) settings first (events ++ Datagram from bytes ∷ []))
+RelayAt-answered relay settings first events from bytes table (Err fault) at stands = tt
+RelayAt-answered relay settings first events from bytes table (Ok step) at stands =
     let log = accepted settings first events in
-    let source = endpoint_of from in
-    let reading = message_of bytes in
+    let held : Settings → Secrets → Type 0 = λ (known : Settings) (secrets : Secrets). Holds (terms_of known) table
+    (with_change log (datagram_entry (terms_of known) secrets (latest log) log (endpoint_of from) (message_of bytes))) in
     let holds = subst (λ (known : Settings). Holds (terms_of known) relay.table log) (sym at.settings_kept) at.table in
-    let same = changes log holds
-    ∙ (ap (λ (known : Settings). datagram_change (terms_of known) relay.secrets (latest log) log source reading) at.settings_kept
-    ∙ (ap (λ (secrets : Secrets). datagram_change (terms_of settings) secrets (latest log) log source reading) at.secrets
-    ∙ ap (λ (moment : ℕ). datagram_change (terms_of settings) (secrets_of first events) moment log source reading)
-    (latest-accepted relay settings first events at))) in
-    RelayAt-datagram relay settings first events from bytes table step.change at same
-    (subst (λ (known : Settings). Holds (terms_of known) table (with_change log step.change)) at.settings_kept (stands log holds))
+    RelayAt-datagram relay settings first events from bytes table at
+    (subst (held settings) at.secrets (subst (λ (known : Settings). held known relay.secrets) at.settings_kept (stands log holds)))
+
+-- a packet changes nothing
+pub RelayAt-packet : (relay : RelayState) (settings : Settings) (first : Secret) (events : List Event) (bytes : List ℕ) → RelayAt relay settings first events
+    → RelayAt relay settings first (events ++ Packet bytes ∷ [])
+RelayAt-packet relay settings first events bytes at = record {
+  settings_kept = at.settings_kept;
+  secrets = at.secrets ∙ sym (secrets_of-other first events (Packet bytes) refl);
+  table = Holds-push settings first events (Packet bytes) relay.table at.table;
+  moment = at.moment ∙ sym (now_of-other events (Packet bytes) refl);
+}
 
 -- a secret is the last of the secrets, and nothing else changes
 pub RelayAt-rotate : (relay : RelayState) (settings : Settings) (first : Secret) (events : List Event) (secret : Secret) (rotated : Secrets)
@@ -178,7 +188,7 @@ unfolding secrets_of
 RelayAt-rotate relay settings first events secret rotated at appended = record {
   settings_kept = at.settings_kept;
   secrets = appended first (filter_map secret_in events) at.secrets ∙ sym (secrets_of-rotate first events secret);
-  table = Holds-push settings first events (Rotate secret) relay.table None refl at.table;
+  table = Holds-push settings first events (Rotate secret) relay.table at.table;
   moment = at.moment ∙ sym (now_of-other events (Rotate secret) refl);
 }
 
@@ -186,3 +196,12 @@ RelayAt-rotate relay settings first events secret rotated at appended = record {
 pub IsWithin-events : (relay : RelayState) (settings : Settings) (first : Secret) (events : List Event) → RelayAt relay settings first events → IsWithinLimits relay.table
     → IsWithin settings.limits (standing_now (terms_of settings) (accepted settings first events))
 IsWithin-events relay settings first events at within = IsWithin-log (terms_of settings) relay.table (accepted settings first events) at.table within
+
+-- a table that an answer left is sound again
+pub IsSound-answered : {E : Type 0} (settings : Settings) (before after : TableValue) (behind : List Change → List Change) (answer : Result Step E) → IsSound settings before
+    → ((log : List Change) → Holds (terms_of settings) before log → IfOk answer (λ _. Holds (terms_of settings) after (behind log)))
+    → OnErr answer (after ≡ before) → IsWithinLimits after → IsSound settings after
+IsSound-answered settings before after behind (Ok step) sound stands same within =
+    record { within = within; has_log = (behind sound.has_log.0, stands sound.has_log.0 sound.has_log.1) }
+IsSound-answered settings before after behind (Err fault) sound stands same within =
+    record { within = within; has_log = subst (HasLog (terms_of settings)) (sym same) sound.has_log }

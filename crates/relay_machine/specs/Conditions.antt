@@ -1,15 +1,18 @@
--- Which events there are, and which of them are datagrams.
+-- Which events there are, and which of them carry a payload.
 use Rattle.std.specs.Prelude.{◌≤◌, length}
 use Rattle.relay_machine.specs.declared.event.Event.{Event}
-use Rattle.relay_machine.specs.declared.event.Event.TheVariants.{Moment, Datagram, Rotate}
+use Rattle.relay_machine.specs.declared.event.Event.TheVariants.{Moment, Datagram, Packet, Rotate}
 
--- a datagram has at most the octets that UDP carries
+-- a datagram has at most the octets that UDP carries, and a packet those that IPv4 carries
 abbrev pub IsEvent : Event → Type 0
 IsEvent (Moment moment) = Unit {0}
 IsEvent (Datagram from bytes) = length bytes ≤ 65535
+IsEvent (Packet bytes) = length bytes ≤ 65535
 IsEvent (Rotate secret) = Unit {0}
 
-abbrev pub IsDatagram : Event → Type 0
-IsDatagram (Moment moment) = ⊥
-IsDatagram (Datagram from bytes) = Unit {0}
-IsDatagram (Rotate secret) = ⊥
+-- the event is a datagram or a packet
+abbrev pub IsPayload : Event → Type 0
+IsPayload (Moment moment) = ⊥
+IsPayload (Datagram from bytes) = Unit {0}
+IsPayload (Packet bytes) = Unit {0}
+IsPayload (Rotate secret) = ⊥

@@ -5,12 +5,13 @@ use Rattle.response_mac.specs.declared.secret.Secret.{Secret}
 use Rattle.response_mac.specs.declared.secrets.Secrets.{Secrets}
 use Rattle.response_mac.specs.ResponseMac.{secrets_after}
 use Rattle.relay_machine.specs.declared.event.Event.{Event}
-use Rattle.relay_machine.specs.declared.event.Event.TheVariants.{Moment, Datagram, Rotate}
+use Rattle.relay_machine.specs.declared.event.Event.TheVariants.{Moment, Datagram, Packet, Rotate}
 
 -- the moment that an event tells, if it tells one
 abbrev pub moment_in : Event → Option ℕ
 moment_in (Moment moment) = Some moment
 moment_in (Datagram from bytes) = None
+moment_in (Packet bytes) = None
 moment_in (Rotate secret) = None
 
 -- how late the events have told that it is; 0 before they tell
@@ -21,6 +22,7 @@ now_of events = fold max 0 (filter_map moment_in events)
 abbrev pub secret_in : Event → Option Secret
 secret_in (Moment moment) = None
 secret_in (Datagram from bytes) = None
+secret_in (Packet bytes) = None
 secret_in (Rotate secret) = Some secret
 
 -- the secrets after the first one and those of the events, in order (RFC 7450, section 5.3.6)

@@ -2,8 +2,10 @@ pub mod Accepted
 pub mod Answers
 pub mod Conditions
 pub mod Events
+pub mod Packets
 pub mod Queries
 pub mod Reading
 pub mod Settings
 pub mod State
+pub mod Teardowns
 pub mod Updates

@@ -6,7 +6,7 @@ ghost use Rattle.amt_values.specs.Endpoint.{endpoint_of};
 ghost use Rattle.endpoint_membership.specs.Log.{latest};
 ghost use Rattle.endpoint_membership.specs.Table.{Holds, IsWithinLimits};
 ghost use Rattle.endpoint_membership.specs.declared.change.Change.{Change as Entry};
-ghost use Rattle.relay_machine.specs.Accepted.{datagram_change, with_change};
+ghost use Rattle.relay_machine.specs.Accepted.{datagram_entry, handed_out, with_change};
 ghost use Rattle.relay_machine.specs.Answers.{is_limited, judged, replies};
 ghost use Rattle.relay_machine.specs.Settings.{terms_of};
 
@@ -14,6 +14,7 @@ use crate::outcome::Outcome;
 use crate::querier::Querier;
 use crate::report::take_report;
 use crate::sends::{OneSend, Sends, Step};
+use crate::teardown::tear_down;
 use amt_messages::{DecodeFault, Message, decode, encode};
 use amt_values::{Bytes, Endpoint, Peer};
 use endpoint_membership::Table;
@@ -56,22 +57,24 @@ fn answer_message(
     secrets: &Secrets,
     table: &mut Table,
     source: Endpoint,
-    message: Message,
+    message: &Message,
 ) -> Result<Step, AllocError>
-    requires sendable { IsSendable message }
+    requires sendable { IsSendable message.now }
     requires within { IsWithinLimits table.old }
     ensures outcome { (log : List Entry) → Holds (terms_of querier.now.settings) table.old log
         → IfOk result (λ step. step.outcome ≡ judged (terms_of querier.now.settings) secrets.now
-        (latest log) log (Some source) (Ok message)) }
+        (latest log) log (Some source) (Ok message.now)) }
     ensures sends { (log : List Entry) → Holds (terms_of querier.now.settings) table.old log
         → IfOk result (λ step. step.sends ≡ replies querier.now.settings secrets.now.current
-        (is_limited (terms_of querier.now.settings) log) (Some source) (Ok message)) }
+        (is_limited (terms_of querier.now.settings) log) (Some source) (Ok message.now)) }
     ensures change { (log : List Entry) → Holds (terms_of querier.now.settings) table.old log
-        → IfOk result (λ step. step.change ≡ datagram_change (terms_of querier.now.settings)
-        secrets.now (latest log) log (Some source) (Ok message)) }
+        → IfOk result (λ step. step.change ≡ handed_out (terms_of querier.now.settings) log
+        (datagram_entry (terms_of querier.now.settings) secrets.now (latest log) log
+        (Some source) (Ok message.now))) }
     ensures stands { (log : List Entry) → Holds (terms_of querier.now.settings) table.old log
-        → IfOk result (λ step. Holds (terms_of querier.now.settings) table.new
-        (with_change log step.change)) }
+        → IfOk result (λ _. Holds (terms_of querier.now.settings) table.new (with_change log
+        (datagram_entry (terms_of querier.now.settings) secrets.now (latest log) log
+        (Some source) (Ok message.now)))) }
     ensures same { (log : List Entry) → Holds (terms_of querier.now.settings) table.old log
         → IfOk result (λ step. step.change ≡ None → table.new ≡ table.old) }
     ensures err { OnErr result (table.new ≡ table.old) }
@@ -80,23 +83,35 @@ fn answer_message(
     match message {
         Message::Advertisement { .. } => Ok(Step::quiet(alloc, Outcome::WrongKind(2))),
         Message::Query { .. } => Ok(Step::quiet(alloc, Outcome::WrongKind(4))),
+        Message::Multicast { .. } => Ok(Step::quiet(alloc, Outcome::WrongKind(6))),
         Message::Discovery { nonce } => {
+            let nonce = *nonce;
             let relay = querier.settings.relay;
             let advertisement = Message::Advertisement { nonce, relay };
             answered(alloc, Outcome::Advertised, source, &advertisement)
         }
-        Message::Request { v6: true, .. } => Ok(Step::quiet(alloc, Outcome::NoFamily)),
-        Message::Request { v6: false, nonce } => {
+        Message::Request { v6, nonce } => {
+            let v6 = *v6;
             let limited = is_limited(querier, table);
-            let queried = Outcome::Queried { v6: false, limited };
-            let query = querier.query_for(alloc, &secrets.current, limited, source, nonce)?;
+            let queried = Outcome::Queried { v6, limited };
+            let query = querier.query_for(alloc, &secrets.current, v6, limited, source, *nonce)?;
             answered(alloc, queried, source, &query)
         }
         Message::Update { mac, nonce, inner } => {
-            if !secrets.matches(&source, nonce, &mac) {
+            if !secrets.matches(&source, *nonce, mac) {
                 return Ok(Step::quiet(alloc, Outcome::BadMac));
             }
-            take_report(alloc, table, source, &inner)
+            take_report(alloc, table, source, inner)
+        }
+        Message::Teardown {
+            mac,
+            nonce,
+            gateway,
+        } => {
+            if !secrets.matches(gateway, *nonce, mac) {
+                return Ok(Step::quiet(alloc, Outcome::BadMac));
+            }
+            Ok(tear_down(alloc, table, gateway))
         }
     }
 }
@@ -119,11 +134,13 @@ pub fn answer(
         → IfOk result (λ step. step.sends ≡ replies querier.now.settings secrets.now.current
         (is_limited (terms_of querier.now.settings) log) (endpoint_of from.now) (message_of bytes.now)) }
     ensures change { (log : List Entry) → Holds (terms_of querier.now.settings) table.old log
-        → IfOk result (λ step. step.change ≡ datagram_change (terms_of querier.now.settings)
-        secrets.now (latest log) log (endpoint_of from.now) (message_of bytes.now)) }
+        → IfOk result (λ step. step.change ≡ handed_out (terms_of querier.now.settings) log
+        (datagram_entry (terms_of querier.now.settings) secrets.now (latest log) log
+        (endpoint_of from.now) (message_of bytes.now))) }
     ensures stands { (log : List Entry) → Holds (terms_of querier.now.settings) table.old log
-        → IfOk result (λ step. Holds (terms_of querier.now.settings) table.new
-        (with_change log step.change)) }
+        → IfOk result (λ _. Holds (terms_of querier.now.settings) table.new (with_change log
+        (datagram_entry (terms_of querier.now.settings) secrets.now (latest log) log
+        (endpoint_of from.now) (message_of bytes.now)))) }
     ensures same { (log : List Entry) → Holds (terms_of querier.now.settings) table.old log
         → IfOk result (λ step. step.change ≡ None → table.new ≡ table.old) }
     ensures err { OnErr result (table.new ≡ table.old) }
@@ -135,6 +152,6 @@ pub fn answer(
     match decode(alloc, bytes.as_slice()) {
         Err(DecodeFault::Memory) => Err(AllocError),
         Err(DecodeFault::Refused(refusal)) => Ok(Step::quiet(alloc, Outcome::Undecoded(refusal))),
-        Ok(message) => answer_message(alloc, querier, secrets, table, source, message),
+        Ok(message) => answer_message(alloc, querier, secrets, table, source, &message),
     }
 }

@@ -8,6 +8,8 @@ pub enum Event {
     Moment(Moment),
     /// A UDP payload has come from a peer: at most 65,535 octets.
     Datagram { from: Peer, bytes: Bytes },
+    /// A native multicast packet has come: at most 65,535 octets.
+    Packet { bytes: Bytes },
     /// A new private secret was drawn (RFC 7450, section 5.3.6).
     Rotate(Secret),
 }

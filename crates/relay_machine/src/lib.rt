@@ -3,28 +3,33 @@
 //! Contract: what the relay answers to an event is a function of its settings, its first secret,
 //! the events before and the event.
 //! What stands in its table is what the accepted log of the events wishes.
-//! It knows no socket, clock or thread: datagrams, moments and secrets come in as events, and
-//! datagrams and entries of the log go out as steps.
-//! Standard: RFC 7450, section 5.3; RFC 3376, sections 4.1 and 8.
+//! Each packet that may be forwarded goes once, to exactly the endpoints that want it.
+//! It knows no socket, clock or thread: datagrams, packets, moments and secrets come in as events,
+//! and datagrams and entries of the log go out as steps.
+//! Standard: RFC 7450, section 5.3; RFC 3376, sections 4.1 and 8; RFC 3810, section 5.
 #![tactic(auto)]
 
 mod datagram;
 mod event;
 mod forward;
 mod outcome;
+mod packet;
 mod querier;
 mod relay;
 mod report;
 mod sends;
 mod settings;
+mod teardown;
 mod update;
 
 pub use event::Event;
-pub use outcome::{Outcome, Unlawful};
+pub use outcome::{NotForwarded, Outcome, Unlawful};
 pub use relay::Relay;
 pub use sends::{OneSend, Sends, Step};
 pub use settings::Settings;
 
+#[cfg(test)]
+mod packet_tests;
 #[cfg(test)]
 mod tests;
 #[cfg(test)]

@@ -1,18 +1,22 @@
-ghost use Rattle.std.specs.Prelude.{◌≡◌, List, [], ◌∷◌, ◌++◌, None, IfOk, IsOk, OnErr};
+ghost use Rattle.std.specs.Prelude.{◌≡◌, ℕ, List, [], ◌∷◌, ◌++◌, None, IfOk, IsOk, OnErr};
+ghost use Rattle.inner_datagrams.specs.declared.head.Head.{Head};
 ghost use Rattle.endpoint_membership.specs.Limits.{IsWithin, live_count};
 ghost use Rattle.endpoint_membership.specs.Table.{standing_now};
 ghost use Rattle.response_mac.specs.declared.secret.Secret.{Secret as SecretValue};
 ghost use Rattle.relay_machine.specs.declared.event.Event.{Event as EventValue};
+ghost use Rattle.relay_machine.specs.declared.event.Event.TheVariants.{Packet};
 ghost use Rattle.relay_machine.specs.declared.settings.Settings.{Settings as SettingsValue};
 ghost use Rattle.relay_machine.specs.Accepted.{accepted, change_of};
 ghost use Rattle.relay_machine.specs.Answers.{RelayAt, outcome_of, rows_after, sends_of};
-ghost use Rattle.relay_machine.specs.Conditions.{IsDatagram, IsEvent};
+ghost use Rattle.relay_machine.specs.Conditions.{IsEvent, IsPayload};
 ghost use Rattle.relay_machine.specs.Events.{now_of};
+ghost use Rattle.relay_machine.specs.Packets.{AreCopies, IsToCopy, wants_after};
 ghost use Rattle.relay_machine.specs.Settings.{IsLawful, terms_of};
 
 use crate::datagram::answer;
 use crate::event::Event;
 use crate::outcome::Outcome;
+use crate::packet::forward;
 use crate::querier::Querier;
 use crate::sends::Step;
 use crate::settings::Settings;
@@ -31,8 +35,7 @@ pub struct Relay {
 }
 
 impl Model for Relay {
-    ghost use Rattle.endpoint_membership.specs.Table.{IsWithinLimits};
-    ghost use Rattle.relay_machine.specs.State.{RelayState};
+    ghost use Rattle.relay_machine.specs.State.{IsSound, RelayState};
 
     ghost Value = { RelayState };
 
@@ -42,7 +45,7 @@ impl Model for Relay {
       table = r.table;
     } };
 
-    ghost invariant = { λ r. IsWithinLimits r.table };
+    ghost invariant = { λ r. IsSound r.querier.settings r.table };
 }
 
 impl Relay {
@@ -113,17 +116,25 @@ impl Relay {
             → IfOk result (λ _. IsWithin settings.limits (standing_now (terms_of settings)
             (accepted settings first (events ++ event.now ∷ [])))) }
 
-        // No datagram but an accepted Update changes the relay, not even a Request: what is kept
-        // for each, as its nonce, could be made to fill the relay's memory by whoever forges
-        // sources.
+        // No datagram but an accepted Update and the Teardown of a live endpoint changes the relay,
+        // not even a Request: what is kept for each, as its nonce, could be made to fill the
+        // relay's memory by whoever forges sources. No packet changes it.
         ensures same { (settings : SettingsValue) (first : SecretValue)
             (events : List EventValue) → RelayAt self.old settings first events
-            → IsDatagram event.now
+            → IsPayload event.now
             → IfOk result (λ step. step.change ≡ None → self.new ≡ self.old) }
         ensures err { OnErr result (self.new ≡ self.old) }
 
+        // A packet with no fault goes once, as it is, to each endpoint whose newest record that
+        // speaks of the packet's source wants it (RFC 7450, section 5.3.4), and to no other.
+        ensures copies { (settings : SettingsValue) (first : SecretValue)
+            (events : List EventValue) (packet : List ℕ) (head : Head)
+            → RelayAt self.old settings first events
+            → event.now ≡ Packet packet → IsToCopy settings.packet_limit head packet
+            → IfOk result (λ step. AreCopies (wants_after settings first events head) packet step.sends) }
+
         // A moment and a secret take no memory, so time moves on and secrets age whatever is left.
-        ensures sure { ¬ IsDatagram event.now → IsOk result }
+        ensures sure { ¬ IsPayload event.now → IsOk result }
     {
         match event {
             Event::Moment(moment) => {
@@ -139,6 +150,7 @@ impl Relay {
                 from,
                 bytes,
             ),
+            Event::Packet { bytes } => forward(alloc, &self.querier, &self.table, bytes),
             Event::Rotate(secret) => {
                 self.secrets.rotate(*secret);
                 Ok(Step::quiet(alloc, Outcome::Rotated))

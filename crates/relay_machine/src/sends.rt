@@ -58,7 +58,8 @@ impl Sends {
     }
 }
 
-/// What one event came to, what is to be sent, and the entry that it adds to the accepted log.
+/// What one event came to, what is to be sent, and the entry of the accepted log that is handed out:
+/// the one that the event added, but for a clearing of an endpoint at which no group stood.
 #[derive(Debug, Drop)]
 pub struct Step {
     pub outcome: Outcome,
@@ -67,7 +68,7 @@ pub struct Step {
 }
 
 impl Step {
-    /// A step that sends nothing and accepts nothing.
+    /// A step that sends nothing and hands out no entry.
     pub(crate) fn quiet(alloc: Global, outcome: Outcome) -> Step
         ensures outcome { result.outcome ≡ outcome }
         ensures sends { result.sends ≡ [] }
@@ -80,7 +81,7 @@ impl Step {
         }
     }
 
-    /// A step that sends nothing and adds this entry to the accepted log.
+    /// A step that sends nothing and hands out this entry of the accepted log.
     pub(crate) fn accepted(alloc: Global, outcome: Outcome, change: Change) -> Step
         ensures outcome { result.outcome ≡ outcome }
         ensures sends { result.sends ≡ [] }

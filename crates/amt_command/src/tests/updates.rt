@@ -1,4 +1,4 @@
-use super::{NO_CALL, replay};
+use super::are_texts;
 use std::test::Fail;
 
 // Each row: what it shows, the lines behind the relay's settings, and the text. The response MACs are of
@@ -49,11 +49,5 @@ const ROWS: [(&str, &str, &str); 8] = [
 
 #[test]
 fn updates_change_what_is_shown(rt: HostRuntime) -> Result<(), Fail> {
-    for (what, lines, text) in ROWS {
-        let script = format!(in rt.alloc(); "set relay 192.0.2.1\nset query4 192.0.2.1\n{lines}")?;
-        let ended = replay(rt.alloc(), script.as_str(), NO_CALL)?;
-        assert_eq!(rt; ended.status, 0, "{what}");
-        assert_eq!(rt; ended.out.as_slice(), text.as_bytes(), "{what}");
-    }
-    Ok(())
+    are_texts(&rt, rt.alloc(), &ROWS)
 }

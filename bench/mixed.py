@@ -1,0 +1,96 @@
+"""Scripts of many live tunnel endpoints for replay.sh, to standard output.
+
+usage: python3 bench/mixed.py joins ENDPOINTS             settings, and a join of each endpoint
+       python3 bench/mixed.py updates ENDPOINTS COUNT     the same, and so many renewals
+       python3 bench/mixed.py packets ENDPOINTS COUNT     the same, and so many packets, each copied once
+       python3 bench/mixed.py mixed ENDPOINTS OCTETS      the same, and Requests, renewals and packets in
+                                                          turn, up to so many octets of script
+
+There are at most 16,384 endpoints. Each has a group of its own; every other one is joined in MLDv2.
+The response MACs are of a secret of 32 zero octets.
+"""
+import hashlib
+import hmac
+import itertools
+import sys
+
+SETTINGS = ["set relay 192.0.2.1", "set endpoints 16384", "set groups 16", "set sources 64"]
+NONCE = bytes.fromhex("0a0b0c0d")
+LINK = bytes.fromhex("fe800000000000000000000000000002")
+ROUTERS = bytes.fromhex("ff020000000000000000000000000016")
+
+
+def checksum(octets):
+    """The Internet checksum (RFC 1071) of an even number of octets."""
+    total = int.from_bytes(octets, "big") % 65535
+    return (65535 - total).to_bytes(2, "big")
+
+
+def peer(index):
+    return f"10.0.{index >> 8}.{index & 255}:5000"
+
+
+def group4(index):
+    return (0xef010000 + index).to_bytes(4, "big")
+
+
+def group6(index):
+    return bytes.fromhex("ff3e") + index.to_bytes(14, "big")
+
+
+def report4(index):
+    body = bytes.fromhex("000000000001" "04000000") + group4(index)
+    body = b"\x22\0" + checksum(b"\x22\0" + body) + body[2:]
+    front = bytes.fromhex("46c0%04x000000000102" % (24 + len(body)))
+    back = bytes.fromhex("0a000002" "e0000016" "94040000")
+    return front + checksum(front + back) + back + body
+
+
+def report6(index):
+    body = bytes.fromhex("000000000001" "04000000") + group6(index)
+    pseudo = LINK + ROUTERS + bytes.fromhex("%08x" "0000003a" % (2 + len(body)))
+    body = b"\x8f\0" + checksum(pseudo + b"\x8f\0" + body) + body[2:]
+    front = bytes.fromhex("60000000%04x0001" % (8 + len(body)))
+    return front + LINK + ROUTERS + bytes.fromhex("3a00050200000100") + body
+
+
+def update(index):
+    address = bytes(12) + (0x0a000000 + index).to_bytes(4, "big")
+    mac = hmac.new(bytes(32), address + (5000).to_bytes(2, "big") + NONCE, hashlib.sha256).digest()[:6]
+    inner = report6(index) if index % 2 else report4(index)
+    return f"dg {peer(index)} {(bytes([5, 0]) + mac + NONCE + inner).hex()}"
+
+
+def request(index):
+    return f"dg {peer(index)} 03{index % 2:02x}0000{NONCE.hex()}"
+
+
+def packet(index):
+    if index % 2:
+        head = bytes.fromhex("60000000001c1104" "20010db8000000000000000000000009") + group6(index)
+        return "mc " + (head + bytes(28)).hex()
+    front = bytes.fromhex("45000030000000000411")
+    back = bytes.fromhex("c6336409") + group4(index)
+    return "mc " + (front + checksum(front + back) + back + bytes(28)).hex()
+
+
+def main():
+    kind, endpoints = sys.argv[1], int(sys.argv[2])
+    # A stride by which the endpoints come in no order.
+    drawn = (step * 7919 % endpoints for step in itertools.count())
+    lines = SETTINGS + [update(index) for index in range(endpoints)]
+    if kind in ("updates", "packets"):
+        line = update if kind == "updates" else packet
+        lines += [line(next(drawn)) for _ in range(int(sys.argv[3]))]
+    elif kind == "mixed":
+        left = int(sys.argv[3]) - sum(len(line) + 1 for line in lines)
+        for line in itertools.cycle([request, update, packet]):
+            lines.append(line(next(drawn)))
+            left -= len(lines[-1]) + 1
+            if left < 0:
+                lines.pop()
+                break
+    print("\n".join(lines))
+
+
+main()

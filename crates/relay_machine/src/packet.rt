@@ -1,0 +1,98 @@
+ghost use Rattle.std.specs.Prelude.{◌≡◌, ◌≤◌, [], List, length, None, IfOk};
+ghost use Rattle.endpoint_membership.specs.Log.{latest};
+ghost use Rattle.endpoint_membership.specs.Table.{Holds, IsWithinLimits, Terms};
+ghost use Rattle.endpoint_membership.specs.declared.change.Change.{Change as Entry};
+ghost use Rattle.relay_machine.specs.Packets.{copies, head_to_copy, packet_outcome, packet_sends, targets_at};
+ghost use Rattle.relay_machine.specs.Settings.{terms_of};
+ghost use Rattle.relay_machine.specs.State.{HasLog, IsSound};
+
+use crate::outcome::{NotForwarded, Outcome};
+use crate::querier::Querier;
+use crate::sends::{OneSend, Sends, Step};
+use amt_messages::{Message, encode};
+use amt_values::{Bytes, Endpoint, forwardable};
+use endpoint_membership::{Table, Targets};
+use inner_datagrams::{Head, packet_head};
+use std::alloc::{AllocError, Global};
+
+// The source and the group of a packet that is copied.
+fn head_to_copy(limit: u32, packet: &[u8]) -> Result<Head, Outcome>
+    requires { length packet.now ≤ 65535 }
+    ensures { result ≡ head_to_copy limit packet.now }
+{
+    if packet.len() > limit as usize {
+        return Err(Outcome::TooBig(packet.len() as u32));
+    }
+    match packet_head(packet) {
+        Err(fault) => Err(Outcome::NotForwarded(NotForwarded::Head(fault))),
+        Ok(head) => {
+            if forwardable(&head.group) {
+                Ok(head)
+            } else {
+                Err(Outcome::NotForwarded(NotForwarded::Scope(head.group)))
+            }
+        }
+    }
+}
+
+// The endpoints that want the source in the group at the table's moment.
+fn targets(alloc: Global, table: &Table, head: &Head) -> Result<Targets, AllocError>
+    requires within { IsWithinLimits table.now }
+    requires has_log { (terms : Terms) × HasLog terms table.now }
+    ensures wanted { (terms : Terms) (log : List Entry) → Holds terms table.now log
+        → IfOk result (λ targets. targets.endpoints ≡ targets_at terms log (latest log) head.now) }
+    ensures few { IfOk result (λ targets. length targets.endpoints ≤ 4294967295) }
+{
+    let mut targets = Targets::new(alloc, table.live_endpoints())?;
+    table.admitting_into(&head.group, &head.source, &table.now(), &mut targets);
+    Ok(targets)
+}
+
+// The packet to each of these endpoints. What carries it is the same for all, and is written once.
+fn copies(alloc: Global, targets: &[Endpoint], packet: &[u8]) -> Result<Sends, AllocError>
+    requires { length packet.now ≤ 65000 }
+    ensures { IfOk result (λ sends. sends ≡ copies targets.now packet.now) }
+{
+    let packet = Bytes::copied(alloc, packet)?;
+    let data = encode(alloc, &Message::Multicast { packet })?;
+    let mut sends = Sends::new(alloc);
+    for to in targets {
+        let bytes = Bytes::copied(alloc, data.as_slice())?;
+        sends.push(OneSend { to: *to, bytes })?;
+    }
+    Ok(sends)
+}
+
+// What a packet comes to: a copy for each endpoint that wants it. The packet goes as it came: its TTL
+// isn't lowered, and a fragment is copied as any other packet.
+pub fn forward(
+    alloc: Global,
+    querier: &Querier,
+    table: &Table,
+    packet: &Bytes,
+) -> Result<Step, AllocError>
+    requires sound { IsSound querier.now.settings table.now }
+    requires size { length packet.now ≤ 65535 }
+    ensures outcome { (log : List Entry) → Holds (terms_of querier.now.settings) table.now log
+        → IfOk result (λ step. step.outcome ≡ packet_outcome
+        (targets_at (terms_of querier.now.settings) log (latest log))
+        (head_to_copy querier.now.settings.packet_limit packet.now)) }
+    ensures sends { (log : List Entry) → Holds (terms_of querier.now.settings) table.now log
+        → IfOk result (λ step. step.sends ≡ packet_sends
+        (targets_at (terms_of querier.now.settings) log (latest log)) packet.now
+        (head_to_copy querier.now.settings.packet_limit packet.now)) }
+    ensures change { IfOk result (λ step. step.change ≡ None) }
+{
+    let packet = packet.as_slice();
+    let head = match head_to_copy(querier.settings.packet_limit, packet) {
+        Ok(head) => head,
+        Err(outcome) => return Ok(Step::quiet(alloc, outcome)),
+    };
+    let targets = targets(alloc, table, &head)?;
+    let sends = copies(alloc, targets.as_slice(), packet)?;
+    Ok(Step {
+        outcome: Outcome::Copied(targets.len() as u32),
+        sends,
+        change: None,
+    })
+}
