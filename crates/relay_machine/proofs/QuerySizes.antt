@@ -1,30 +1,35 @@
--- How long a General Query and its datagram are.
-use Rattle.std.proofs.Common.{◌≡◌, ℕ, ◌+◌, ◌≤◌, List, [], length, Some, refl, arith}
+-- How long the datagrams of General Queries are.
+use Rattle.std.proofs.Common.{◌≡◌, ℕ, ◌+◌, ◌≤◌, Bool, true, false, List, [], length, Some, if◌then◌else◌, refl, arith}
 use Rattle.amt_messages.specs.Inner.{inner_length_of}
 use Rattle.group_records.specs.declared.family.Family.TheVariants.{V4}
 use Rattle.group_records.specs.Query.{written_query}
 use Rattle.group_records.proofs.WrittenQuery.{length-written_query}
 use Rattle.igmp_records.specs.Query.{written_query4}
-use Rattle.inner_datagrams.specs.Written.{written_inner4}
 use Rattle.source_filter.specs.declared.query.QueryFields.{QueryFields}
+use Rattle.inner_datagrams.specs.Written.{written_inner4, written_inner6}
 use Rattle.relay_machine.specs.declared.settings.Settings.{Settings}
 use Rattle.relay_machine.specs.Queries.{general_query}
 
 pub length-written_query4 : (fields : QueryFields) → length (written_query4 fields) ≡ 12
 length-written_query4 fields = length-written_query V4 [] fields
 
-pub length-general_query : (settings : Settings) → length (general_query settings) ≡ 36
-unfolding general_query written_inner4 written_query
-length-general_query settings = refl
+length-general_query : (settings : Settings) (v6 : Bool) → length (general_query settings v6) ≡ (if v6 then 76 else 36)
+unfolding general_query written_inner4 written_inner6 written_query
+length-general_query settings false = refl
+length-general_query settings true = refl
 
--- the datagram is as long as its own header says
-pub inner_length_of-general_query : (settings : Settings) → inner_length_of (general_query settings) ≡ Some 36
-unfolding general_query written_inner4 written_query inner_length_of
-inner_length_of-general_query settings = refl
+-- each is as long as its own header says
+inner_length_of-general_query : (settings : Settings) (v6 : Bool) → inner_length_of (general_query settings v6) ≡ Some (if v6 then 76 else 36)
+unfolding general_query written_inner4 written_inner6 written_query inner_length_of
+inner_length_of-general_query settings false = refl
+inner_length_of-general_query settings true = refl
 
 -- so a Query may carry it, with as many octets behind it as an endpoint takes
-pub query_may_carry : (inner : List ℕ) (settings : Settings) (behind : ℕ) → behind ≤ 18 → inner ≡ general_query settings
+pub query_may_carry : (inner : List ℕ) (settings : Settings) (v6 : Bool) (behind : ℕ) → behind ≤ 18 → inner ≡ general_query settings v6
     → (inner_length_of inner ≡ Some (length inner)) × (12 + length inner + behind ≤ 65535)
-query_may_carry inner settings behind few same =
-    let size = length-general_query settings in
-    rw same (rw size (inner_length_of-general_query settings), rw size (omega arith))
+query_may_carry inner settings false behind few same =
+    let size = length-general_query settings false in
+    rw same (rw size (inner_length_of-general_query settings false), rw size (omega arith))
+query_may_carry inner settings true behind few same =
+    let size = length-general_query settings true in
+    rw same (rw size (inner_length_of-general_query settings true), rw size (omega arith))

@@ -1,56 +1,41 @@
 -- What the inner octets of an Update are read as.
-use Rattle.std.proofs.Common.{◌≡◌, ◌≤◌, ℕ, List, [], ◌∷◌, length, drop, ◌==◌, Bool, true, false, cond, if◌then◌else◌, Option, Some, None, Result, Ok, Err, refl, sym, ap, ◌∙◌, arith}
+use Rattle.std.proofs.Common.{◌≡◌, ◌≤◌, ℕ, List, [], ◌∷◌, length, drop, Bool, true, false, cond, Option, Some, None, Result, Ok, Err, refl, sym, ap, ◌∙◌, arith}
 use Rattle.std.proofs.lemmas.List.Sums.{sum_by-cons}
 use Rattle.source_filter.specs.declared.record.Record.{Record}
 use Rattle.source_filter.specs.Record.{item_count}
+use Rattle.source_filter.specs.declared.fault.ReportFault.{ReportFault}
 use Rattle.amt_values.specs.Group.{is_forwardable}
 use Rattle.amt_values.specs.Tunnel.{Tunnel}
 use Rattle.inner_datagrams.specs.Fault.{first_inner_fault}
-use Rattle.inner_datagrams.specs.Header.{ip_version}
-use Rattle.inner_datagrams.specs.Reading.{inner4_at, inner6_at, inner_at, payload_in, payload_start, unless}
+use Rattle.inner_datagrams.specs.Reading.{inner_at, payload_in, payload_start, unless}
 use Rattle.inner_datagrams.specs.declared.inner.Inner.{Inner as InnerPlace}
 use Rattle.inner_datagrams.specs.declared.inner.InnerFault.{InnerFault}
-use Rattle.inner_datagrams.specs.declared.inner.InnerFault.TheVariants.{Version}
-use Rattle.amt_values.specs.declared.address.Ip.TheVariants.{V4, V6}
-use Rattle.igmp_records.specs.Report.{report4_of}
 use Rattle.endpoint_membership.specs.declared.change.Change.TheVariants.{Reported}
 use Rattle.endpoint_membership.specs.declared.limits.LimitFault.{LimitFault}
 use Rattle.relay_machine.specs.declared.outcome.Unlawful.{Unlawful}
-use Rattle.relay_machine.specs.declared.outcome.Unlawful.TheVariants.{Inner}
-use Rattle.relay_machine.specs.Updates.{forwarded, limit_change, limit_outcome, report_by, report_in, update_change, update_outcome}
+use Rattle.relay_machine.specs.declared.outcome.Unlawful.TheVariants.{Inner, Report}
+use Rattle.relay_machine.specs.Updates.{carried_report, forwarded, limit_change, limit_outcome, report_by, report_in, update_change, update_outcome}
 
 pub report_in-inner : (inner : List ℕ) (fault : InnerFault) → first_inner_fault inner ≡ Some fault → report_in inner ≡ Err (Inner fault)
 unfolding report_in
 report_in-inner inner fault first = rw first refl
 
-six_by : (test : Bool) (inner : List ℕ) (number : ℕ) → (if test then inner6_at inner else inner4_at inner).source ≡ V6 number → test ≡ true
-six_by true inner number source = refl
-six_by false inner number source = cc source
-
-four_by : (test : Bool) (inner : List ℕ) (number : ℕ) → (if test then inner6_at inner else inner4_at inner).source ≡ V4 number → test ≡ false
-four_by true inner number source = cc source
-four_by false inner number source = refl
-
--- of a datagram without fault, the source tells the version
-source_of : (inner : List ℕ) (place : InnerPlace) → first_inner_fault inner ≡ None → Ok place ≡ unless (first_inner_fault inner) (inner_at inner) → place.source ≡ (inner_at inner).source
-source_of inner place none read = let same = rw none at read in cc same
-
-pub report_in-ipv6 : (inner : List ℕ) (place : InnerPlace) (number : ℕ) → first_inner_fault inner ≡ None → Ok place ≡ unless (first_inner_fault inner) (inner_at inner)
-    → place.source ≡ V6 number → report_in inner ≡ Err (Inner (Version 6))
+-- of a datagram without fault, what it carries is judged
+pub report_in-carried : (inner payload : List ℕ) (place : InnerPlace) → first_inner_fault inner ≡ None
+    → Ok place ≡ unless (first_inner_fault inner) (inner_at inner) → place.start ≡ payload_start inner → payload ≡ drop place.start inner
+    → report_in inner ≡ report_by None (carried_report place.source place.destination payload)
 unfolding report_in
-report_in-ipv6 inner place number none read source =
-    let six = six_by (ip_version inner == 6) inner number (sym (source_of inner place none read) ∙ source) in
-    rw (none, six) refl
-
--- of an IPv4 datagram without fault, what stands behind its header is judged
-pub report_in-ipv4 : (inner payload : List ℕ) (place : InnerPlace) (number : ℕ) → first_inner_fault inner ≡ None
-    → Ok place ≡ unless (first_inner_fault inner) (inner_at inner) → place.source ≡ V4 number
-    → place.start ≡ payload_start inner → payload ≡ drop place.start inner → report_in inner ≡ report_by None (report4_of payload)
-unfolding report_in
-report_in-ipv4 inner payload place number none whole source behind same =
-    let four = four_by (ip_version inner == 6) inner number (sym (source_of inner place none whole) ∙ source) in
+report_in-carried inner payload place none whole behind same =
+    let at : place ≡ inner_at inner = let read = rw none at whole in cc read in
     let carried : payload_in inner ≡ payload = sym (same ∙ ap (λ (start : ℕ). drop start inner) behind) in
-    rw (none, carried, four) refl
+    rw (none, carried) (ap (λ (found : InnerPlace). report_by None (carried_report found.source found.destination payload)) (sym at))
+
+-- what a reader answers of what is carried, as the Update's
+pub records-carried : (reading : Result (List Record) ReportFault) (records : List Record) → reading ≡ Ok records → report_by None reading ≡ Ok records
+records-carried reading records read = rw read refl
+
+pub fault-carried : (reading : Result (List Record) ReportFault) (fault : ReportFault) → reading ≡ Err fault → report_by None reading ≡ Err (Report fault)
+fault-carried reading fault read = rw read refl
 
 forwarded-fewer : (test : Bool) (first : Record) (kept later : List Record) → item_count kept ≤ item_count later
     → item_count (cond test (first ∷ kept) kept) ≤ item_count (first ∷ later)

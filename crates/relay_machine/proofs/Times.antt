@@ -3,7 +3,9 @@ use Rattle.std.proofs.Common.{◌≡◌, ℕ, ◌<◌, ◌≤◌, ◌↔◌, Opt
 use Rattle.std.specs.Option.{IfSome}
 use Rattle.igmp_records.specs.Code.{code_value, code_of}
 use Rattle.igmp_records.proofs.Codes.{code_of-code_value, code_value-most}
-use Rattle.relay_machine.specs.Settings.{HasCode, IsQueryTime}
+use Rattle.mld_records.specs.Code.{code_value as mld_code_value, code_of as mld_code_of}
+use Rattle.mld_records.proofs.Codes.{code_of-code_value as mld_code_of-mld_code_value}
+use Rattle.relay_machine.specs.Settings.{HasCode, HasMldCode, IsQueryTime}
 
 -- the code that was found for a time is its code
 pub found_code : (time code : ℕ) → code < 256 → code_value code ≡ time → code ≡ code_of time
@@ -21,3 +23,14 @@ IsQueryTime-from_answer time None least small stands only =
     (λ found. cc, λ query_time. let has_code = query_time.has_code in let found = only has_code.0 has_code.1 has_code.2 in cc)
 IsQueryTime-from_answer time (Some code) least small stands only =
     (λ found. IsQueryTime-from_code time least (code, small, stands), λ query_time. refl)
+
+-- the same of the codes of MLD
+pub found_mld_code : (time code : ℕ) → code < 65536 → mld_code_value code ≡ time → code ≡ mld_code_of time
+found_mld_code time code small stands = sym (mld_code_of-mld_code_value code small) ∙ ap mld_code_of stands
+
+pub HasMldCode-from_answer : (time : ℕ) (answer : Option ℕ) → IfSome answer (λ code. code < 65536) → IfSome answer (λ code. mld_code_value code ≡ time)
+    → ((code : ℕ) → code < 65536 → mld_code_value code ≡ time → answer ≡ Some code) → IsTrue (is_some answer) ↔ HasMldCode time
+HasMldCode-from_answer time None small stands only =
+    (λ found. cc, λ has_code. let found = only has_code.0 has_code.1 has_code.2 in cc)
+HasMldCode-from_answer time (Some code) small stands only =
+    (λ found. (code, small, stands), λ has_code. refl)

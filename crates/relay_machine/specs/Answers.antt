@@ -1,5 +1,5 @@
 -- What the relay answers to an event, by the events before it (RFC 7450, section 5.3).
-use Rattle.std.specs.Prelude.{◌≡◌, ℕ, max, nat_le, Bool, true, false, List, [], ◌∷◌, Option, Some, None, Result, Ok, Err}
+use Rattle.std.specs.Prelude.{◌≡◌, ℕ, max, nat_le, Bool, List, [], ◌∷◌, Option, Some, None, Result, Ok, Err}
 use Rattle.amt_values.specs.Endpoint.{endpoint_of}
 use Rattle.amt_values.specs.Tunnel.{Tunnel}
 use Rattle.amt_messages.specs.declared.message.Message.{Message}
@@ -18,7 +18,7 @@ use Rattle.endpoint_membership.specs.declared.row.Row.{Row}
 use Rattle.relay_machine.specs.declared.event.Event.{Event}
 use Rattle.relay_machine.specs.declared.event.Event.TheVariants.{Moment, Datagram, Packet, Rotate}
 use Rattle.relay_machine.specs.declared.outcome.Outcome.{Outcome}
-use Rattle.relay_machine.specs.declared.outcome.Outcome.TheVariants.{Moved, Rotated, Advertised, Queried, NoFamily, BadSource, Undecoded, WrongKind}
+use Rattle.relay_machine.specs.declared.outcome.Outcome.TheVariants.{Moved, Rotated, Advertised, Queried, BadSource, Undecoded, WrongKind}
 use Rattle.relay_machine.specs.declared.sends.OneSend.{OneSend}
 use Rattle.relay_machine.specs.declared.settings.Settings.{Settings}
 use Rattle.relay_machine.specs.Accepted.{accepted}
@@ -42,16 +42,15 @@ judged terms secrets moment log (Some source) (Ok (Advertisement nonce relay)) =
 judged terms secrets moment log (Some source) (Ok (Query limited mac nonce inner seen)) = WrongKind 4
 judged terms secrets moment log (Some source) (Ok (Multicast packet)) = WrongKind 6
 judged terms secrets moment log (Some source) (Ok (Discovery nonce)) = Advertised
-judged terms secrets moment log (Some source) (Ok (Request true nonce)) = NoFamily
-judged terms secrets moment log (Some source) (Ok (Request false nonce)) = Queried false (is_limited terms log)
+judged terms secrets moment log (Some source) (Ok (Request v6 nonce)) = Queried v6 (is_limited terms log)
 judged terms secrets moment log (Some source) (Ok (Update mac nonce inner)) =
     update_outcome (is_good secrets source nonce mac) (report_in inner) (λ records. limit_passed terms log source records moment)
 judged terms secrets moment log (Some source) (Ok (Teardown mac nonce gateway)) =
     teardown_outcome (is_good secrets gateway nonce mac) (is_live gateway (standing_now terms log))
 
 -- a Discovery is answered by an Advertisement of its nonce and the relay's address, and a Request
--- for IGMP by a Query under this secret, each to its source (RFC 7450, section 5.3.3); nothing else
--- is answered
+-- by a Query of its family under this secret, each to its source (RFC 7450, section 5.3.3); nothing
+-- else is answered
 abbrev pub replies : Settings → Secret → Bool → Option Tunnel → Result Message Refused → List OneSend
 replies settings secret limited None reading = []
 replies settings secret limited (Some source) (Err refusal) = []
@@ -62,9 +61,8 @@ replies settings secret limited (Some source) (Ok (Multicast packet)) = []
 replies settings secret limited (Some source) (Ok (Teardown mac nonce gateway)) = []
 replies settings secret limited (Some source) (Ok (Discovery nonce)) =
     record { to = source; bytes = spelling_of (Advertisement nonce settings.relay) } ∷ []
-replies settings secret limited (Some source) (Ok (Request true nonce)) = []
-replies settings secret limited (Some source) (Ok (Request false nonce)) =
-    record { to = source; bytes = spelling_of (query_for settings secret limited source nonce) } ∷ []
+replies settings secret limited (Some source) (Ok (Request v6 nonce)) =
+    record { to = source; bytes = spelling_of (query_for settings secret v6 limited source nonce) } ∷ []
 
 -- what an event comes to after these events
 abbrev pub outcome_of : Settings → Secret → List Event → Event → Outcome

@@ -1,20 +1,29 @@
 -- The Membership Query that answers a Request.
-use Rattle.std.specs.Prelude.{ℕ, Bool, List, Some}
+use Rattle.std.specs.Prelude.{ℕ, ◌*◌, Bool, true, false, List, Some, if◌then◌else◌}
 use Rattle.amt_values.specs.Tunnel.{Tunnel}
 use Rattle.amt_messages.specs.declared.message.Message.{Message}
 use Rattle.amt_messages.specs.declared.message.Message.TheVariants.{Query}
 use Rattle.igmp_records.specs.Code.{code_of}
 use Rattle.igmp_records.specs.Query.{written_query4}
-use Rattle.inner_datagrams.specs.Written.{written_inner4}
+use Rattle.mld_records.specs.Code.{code_of as mld_code_of}
+use Rattle.mld_records.specs.Query.{written_query6}
+use Rattle.inner_datagrams.specs.Written.{written_inner4, written_inner6}
 use Rattle.response_mac.specs.declared.secret.Secret.{Secret}
 use Rattle.response_mac.specs.ResponseMac.{mac_of}
 use Rattle.source_filter.specs.declared.query.QueryFields.{QueryFields}
 use Rattle.relay_machine.specs.declared.settings.Settings.{Settings}
 
--- the robustness, and the two times as codes (RFC 3376, sections 4.1.1, 4.1.6 and 4.1.7)
-abbrev pub query_fields : Settings → QueryFields
-query_fields settings = record {
-  max_code = code_of settings.response_tenths;
+-- the code of the response time: of MLD in milliseconds (RFC 3810, section 5.1.3), of IGMP in tenths
+-- of a second (RFC 3376, section 4.1.1)
+abbrev pub response_code : Settings → Bool → ℕ
+response_code settings v6 =
+    if v6 then mld_code_of (settings.response_tenths * 100) else code_of settings.response_tenths
+
+-- that code, the robustness, and the interval's code, which both families have in seconds and by
+-- IGMP's table (RFC 3376, sections 4.1.6 and 4.1.7; RFC 3810, sections 5.1.8 and 5.1.9)
+abbrev pub query_fields : Settings → Bool → QueryFields
+query_fields settings v6 = record {
+  max_code = response_code settings v6;
   robustness = settings.robustness;
   interval_code = code_of settings.query_seconds;
 }
@@ -23,14 +32,20 @@ query_fields settings = record {
 abbrev pub all_systems : ℕ
 all_systems = 0xe0000001
 
--- the IPv4 datagram of the relay's General Query
-unfoldable pub general_query : Settings → List ℕ
-general_query settings =
-    written_inner4 settings.query4 all_systems (written_query4 (query_fields settings))
+-- ff02::1, to which those of MLD go (RFC 3810, section 5.1.15)
+abbrev pub all_nodes : ℕ
+all_nodes = 0xff020000000000000000000000000001
 
--- the answer to a source's Request: the MAC of the source and the nonce, the nonce, the General
--- Query, and the source as it was seen; the L flag says whether the relay is limited (RFC 7450,
--- section 5.1.4)
-abbrev pub query_for : Settings → Secret → Bool → Tunnel → ℕ → Message
-query_for settings secret limited source nonce =
-    Query limited (mac_of secret source nonce) nonce (general_query settings) (Some source)
+-- the datagram of the relay's General Query, of MLDv2 over IPv6 or of IGMPv3 over IPv4
+unfoldable pub general_query : Settings → Bool → List ℕ
+general_query settings false =
+    written_inner4 settings.query4 all_systems (written_query4 (query_fields settings false))
+general_query settings true =
+    written_inner6 settings.query6 all_nodes (written_query6 settings.query6 all_nodes (query_fields settings true))
+
+-- the answer to a source's Request for MLD or IGMP: the MAC of the source and the nonce, the nonce,
+-- the General Query, and the source as it was seen; the L flag says whether the relay is limited
+-- (RFC 7450, section 5.1.4)
+abbrev pub query_for : Settings → Secret → Bool → Bool → Tunnel → ℕ → Message
+query_for settings secret v6 limited source nonce =
+    Query limited (mac_of secret source nonce) nonce (general_query settings v6) (Some source)

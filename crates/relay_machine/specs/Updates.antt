@@ -1,16 +1,18 @@
 -- What an Update carries, and what it comes to (RFC 7450, section 5.3.3.5).
-use Rattle.std.specs.Prelude.{ℕ, ◌==◌, Bool, true, false, List, Option, Some, None, Result, Ok, Err, if◌then◌else◌}
+use Rattle.std.specs.Prelude.{ℕ, Bool, true, false, List, Option, Some, None, Result, Ok, Err}
 use Rattle.std.specs.List.{filter}
+use Rattle.amt_values.specs.Address.{number_of}
 use Rattle.amt_values.specs.Group.{is_forwardable}
 use Rattle.amt_values.specs.Tunnel.{Tunnel}
+use Rattle.amt_values.specs.declared.address.Ip.{Ip}
+use Rattle.amt_values.specs.declared.address.Ip.TheVariants.{V4, V6}
 use Rattle.source_filter.specs.declared.record.Record.{Record}
 use Rattle.source_filter.specs.declared.fault.ReportFault.{ReportFault}
 use Rattle.inner_datagrams.specs.Fault.{first_inner_fault}
-use Rattle.inner_datagrams.specs.Header.{ip_version}
-use Rattle.inner_datagrams.specs.Reading.{payload_in}
+use Rattle.inner_datagrams.specs.Reading.{inner_at, payload_in}
 use Rattle.inner_datagrams.specs.declared.inner.InnerFault.{InnerFault}
-use Rattle.inner_datagrams.specs.declared.inner.InnerFault.TheVariants.{Version}
 use Rattle.igmp_records.specs.Report.{report4_of}
+use Rattle.mld_records.specs.Report.{report6_of}
 use Rattle.endpoint_membership.specs.declared.change.Change.{Change}
 use Rattle.endpoint_membership.specs.declared.change.Change.TheVariants.{Reported}
 use Rattle.endpoint_membership.specs.declared.limits.LimitFault.{LimitFault}
@@ -25,15 +27,17 @@ report_by (Some fault) reading = Err (Inner fault)
 report_by None (Err fault) = Err (Report fault)
 report_by None (Ok records) = Ok records
 
--- of datagrams without fault those over IPv6 are refused by their version: MLD is not read yet
-abbrev pub fault_for_igmp : ℕ → Option InnerFault → Option InnerFault
-fault_for_igmp version (Some fault) = Some fault
-fault_for_igmp version None = if version == 6 then Some (Version 6) else None
+-- what a datagram between these addresses carries: over IPv6 a report of MLDv2, which is summed with
+-- them (RFC 3810, section 5.2), and over IPv4 one of IGMPv3
+abbrev pub carried_report : Ip → Ip → List ℕ → Result (List Record) ReportFault
+carried_report (V4 source) destination payload = report4_of payload
+carried_report (V6 source) destination payload = report6_of source (number_of destination) payload
 
 -- the records of the membership report that the inner octets of an Update carry
 unfoldable pub report_in : List ℕ → Result (List Record) Fault
 report_in inner =
-    report_by (fault_for_igmp (ip_version inner) (first_inner_fault inner)) (report4_of (payload_in inner))
+    report_by (first_inner_fault inner)
+    (carried_report (inner_at inner).source (inner_at inner).destination (payload_in inner))
 
 -- the records on groups that are forwarded; the others are skipped
 abbrev pub forwarded : List Record → List Record

@@ -90,11 +90,11 @@ fn answer_message(
             let advertisement = Message::Advertisement { nonce, relay };
             answered(alloc, Outcome::Advertised, source, &advertisement)
         }
-        Message::Request { v6: true, .. } => Ok(Step::quiet(alloc, Outcome::NoFamily)),
-        Message::Request { v6: false, nonce } => {
+        Message::Request { v6, nonce } => {
+            let v6 = *v6;
             let limited = is_limited(querier, table);
-            let queried = Outcome::Queried { v6: false, limited };
-            let query = querier.query_for(alloc, &secrets.current, limited, source, *nonce)?;
+            let queried = Outcome::Queried { v6, limited };
+            let query = querier.query_for(alloc, &secrets.current, v6, limited, source, *nonce)?;
             answered(alloc, queried, source, &query)
         }
         Message::Update { mac, nonce, inner } => {

@@ -6,7 +6,7 @@
 //! Each packet that may be forwarded goes once, to exactly the endpoints that want it.
 //! It knows no socket, clock or thread: datagrams, packets, moments and secrets come in as events,
 //! and datagrams and entries of the log go out as steps.
-//! Standard: RFC 7450, section 5.3; RFC 3376, sections 4.1 and 8.
+//! Standard: RFC 7450, section 5.3; RFC 3376, sections 4.1 and 8; RFC 3810, section 5.
 #![tactic(auto)]
 
 mod datagram;

@@ -40,13 +40,11 @@ pub enum Outcome {
     Undecoded(Refused),
     /// A message of this type is for gateways.
     WrongKind(u8),
-    /// A Request asks for MLD by its P flag (RFC 7450, section 5.1.3), in which nothing is answered
-    /// yet.
-    NoFamily,
     /// A Discovery was answered.
     Advertised,
-    /// A Request was answered, for MLD where `v6` is true. Where `limited` is true, the Query says by
-    /// its L flag that new tunnel endpoints find no room (RFC 7450, section 5.1.4).
+    /// A Request was answered, for MLD where `v6` is true, its P flag (RFC 7450, section 5.1.3).
+    /// Where `limited` is true, the Query says by its L flag that new tunnel endpoints find no room
+    /// (section 5.1.4).
     Queried { v6: bool, limited: bool },
     /// The response MAC of an Update or a Teardown is not one that the relay gave the source of the
     /// Update, or the endpoint that the Teardown names, for its nonce lately (RFC 7450, sections
@@ -63,7 +61,7 @@ pub enum Outcome {
     /// A Teardown names an endpoint at which no group stands.
     NoTunnel,
     /// A packet went to so many endpoints: those that want its source in its group (RFC 7450, section
-    /// 5.3.4).
+    /// 5.3.3).
     Copied(u32),
     /// A packet of so many octets is longer than the relay copies.
     TooBig(u32),

@@ -1,9 +1,10 @@
 ghost use Rattle.std.specs.Prelude.{◌≡◌, ◌↔◌, IsTrue};
-ghost use Rattle.relay_machine.specs.Settings.{AreLimits, HasQueryTimes, IsLawful, IsPacketLimit, IsQueryTime, default_settings, membership_interval_ms};
+ghost use Rattle.relay_machine.specs.Settings.{AreLimits, HasMldCode, HasQueryTimes, IsLawful, IsPacketLimit, IsQueryTime, default_settings, membership_interval_ms};
 
 use amt_values::Ip;
 use endpoint_membership::Limits;
 use igmp_records::value_code4;
+use mld_records::value_code6;
 
 /// What a relay is set up with.
 #[derive(Clone, Copy, Debug, PartialEq, Eq)]
@@ -12,6 +13,9 @@ pub struct Settings {
     pub relay: Ip,
     /// The IPv4 source of General Queries.
     pub query4: u32,
+    /// The IPv6 source of General Queries: a link-local address, where hosts are to take them
+    /// (RFC 3810, section 5.1.14).
+    pub query6: u128,
     /// The Robustness Variable, 1 to 7: one more than the reports in a row that may be lost without
     /// harm (RFC 3376, section 8.1).
     pub robustness: u8,
@@ -30,7 +34,7 @@ pub struct Settings {
 
 impl Settings {
     /// The settings of a relay with this address: the defaults of RFC 3376, sections 8.1 to 8.3,
-    /// and queries that come from 0.0.0.0.
+    /// and queries that come from 0.0.0.0 and fe80::1.
     pub fn of_relay(relay: Ip) -> Settings
         ensures value { result ≡ default_settings relay }
         ensures lawful { IsLawful result }
@@ -38,6 +42,7 @@ impl Settings {
         Settings {
             relay,
             query4: 0,
+            query6: 0xfe80_0000_0000_0000_0000_0000_0000_0001,
             robustness: 2,
             query_seconds: 125,
             response_tenths: 100,
@@ -51,7 +56,9 @@ impl Settings {
     }
 
     /// Whether a relay may have these settings. General Queries carry the robustness in three bits,
-    /// and each time as a code, which not every number has (RFC 3376, sections 4.1.1, 4.1.6, 4.1.7).
+    /// and each time as a code, which not every number has (RFC 3376, sections 4.1.1, 4.1.6, 4.1.7);
+    /// those of MLD carry the response time in milliseconds, by a code of their own (RFC 3810, section
+    /// 5.1.3).
     pub fn lawful(&self) -> bool
         ensures { IsTrue result ↔ IsLawful self.now }
     {
@@ -64,7 +71,10 @@ impl Settings {
     fn has_query_times(&self) -> bool
         ensures { IsTrue result ↔ HasQueryTimes self.now }
     {
-        is_query_time(self.query_seconds) && is_query_time(self.response_tenths)
+        if !is_query_time(self.query_seconds) || !is_query_time(self.response_tenths) {
+            return false;
+        }
+        has_mld_code(self.response_tenths * 100)
     }
 
     fn has_packet_limit(&self) -> bool
@@ -89,6 +99,12 @@ fn is_query_time(time: u32) -> bool
         return false;
     }
     value_code4(time).is_some()
+}
+
+fn has_mld_code(time: u32) -> bool
+    ensures { IsTrue result ↔ HasMldCode time }
+{
+    value_code6(time).is_some()
 }
 
 fn are_lawful(limits: &Limits) -> bool

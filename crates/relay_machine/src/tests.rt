@@ -4,6 +4,7 @@ use super::*;
 use amt_messages::Refused;
 use amt_values::{Bytes, Ip, Moment, Peer};
 use endpoint_membership::Limits;
+use igmp_records::code_value4;
 use inner_datagrams::InnerFault;
 use response_mac::Secret;
 use std::alloc::{AllocError, Global};
@@ -17,7 +18,17 @@ const GATEWAY: Ip = Ip::V4(0xc633_6407);
 
 const DISCOVERY: &[u8] = b"\x01\x00\x00\x00\x01\x02\x03\x04";
 
+// For IGMP, and by the P flag for MLD.
 const REQUEST: &[u8] = b"\x03\x00\x00\x00\x0a\x0b\x0c\x0d";
+
+const REQUEST6: &[u8] = b"\x03\x01\x00\x00\x0a\x0b\x0c\x0d";
+
+// The datagrams of the General Queries, from 192.0.2.1 and from fe80::1.
+const GENERAL_QUERY: &[u8] =
+    b"\x46\xc0\x00\x24\x00\x00\x00\x00\x01\x02\x82\x11\xc0\x00\x02\x01\xe0\x00\x00\x01\x94\x04\x00\x00\x11\x64\xec\x1e\x00\x00\x00\x00\x02\x7d\x00\x00";
+
+const GENERAL_QUERY6: &[u8] =
+    b"\x60\x00\x00\x00\x00\x24\x00\x01\xfe\x80\x00\x00\x00\x00\x00\x00\x00\x00\x00\x00\x00\x00\x00\x01\xff\x02\x00\x00\x00\x00\x00\x00\x00\x00\x00\x00\x00\x00\x00\x01\x3a\x00\x05\x02\x00\x00\x01\x00\x82\x00\x56\x96\x27\x10\x00\x00\x00\x00\x00\x00\x00\x00\x00\x00\x00\x00\x00\x00\x00\x00\x00\x00\x02\x7d\x00\x00";
 
 fn relay(rt: &impl Abort, alloc: Global, address: Ip) -> Result<Relay, AllocError> {
     let mut settings = Settings::of_relay(address);
@@ -49,14 +60,12 @@ fn assert_sent(rt: &impl Abort, step: &Step, octets: &[u8]) {
     }
 }
 
-// The Query to 198.51.100.7:5000 with this MAC, for the nonce 0a0b0c0d.
-fn query(alloc: Global, mac: &[u8; 6]) -> Result<Bytes, AllocError> {
+// The Query to 198.51.100.7:5000 with this MAC and this datagram, for the nonce 0a0b0c0d.
+fn query(alloc: Global, mac: &[u8; 6], inner: &[u8]) -> Result<Bytes, AllocError> {
     let mut bytes = Bytes::copied(alloc, b"\x04\x01")?;
     bytes.append(mac)?;
     bytes.append(b"\x0a\x0b\x0c\x0d")?;
-    bytes.append(b"\x46\xc0\x00\x24\x00\x00\x00\x00\x01\x02\x82\x11")?;
-    bytes.append(b"\xc0\x00\x02\x01\xe0\x00\x00\x01\x94\x04\x00\x00")?;
-    bytes.append(b"\x11\x64\xec\x1e\x00\x00\x00\x00\x02\x7d\x00\x00")?;
+    bytes.append(inner)?;
     bytes.append(b"\x13\x88")?;
     bytes.append(b"\x00\x00\x00\x00\x00\x00\x00\x00\x00\x00\x00\x00\xc6\x33\x64\x07")?;
     Ok(bytes)
@@ -90,20 +99,22 @@ fn a_request_is_answered_with_a_query_under_the_current_secret(
             assert_eq!(rt; step.outcome, Outcome::Rotated);
             assert_eq!(rt; step.sends.len(), 0);
         }
-        let step = datagram(rt.alloc(), &mut relay, GATEWAY, REQUEST)?;
-        let queried = Outcome::Queried {
-            v6: false,
-            limited: false,
-        };
-        assert_eq!(rt; step.outcome, queried);
-        assert_sent(&rt, &step, query(rt.alloc(), mac)?.as_slice());
+        for (request, v6, inner) in [
+            (REQUEST, false, GENERAL_QUERY),
+            (REQUEST6, true, GENERAL_QUERY6),
+        ] {
+            let step = datagram(rt.alloc(), &mut relay, GATEWAY, request)?;
+            let limited = false;
+            assert_eq!(rt; step.outcome, Outcome::Queried { v6, limited });
+            assert_sent(&rt, &step, query(rt.alloc(), mac, inner)?.as_slice());
+        }
     }
     Ok(())
 }
 
 #[test]
 fn every_other_datagram_is_not_answered(rt: HostRuntime) -> Result<(), Fail> {
-    let rows: [(Ip, &[u8], Outcome); 10] = [
+    let rows: [(Ip, &[u8], Outcome); 9] = [
         (Ip::V6(1), DISCOVERY, Outcome::BadSource),
         (Ip::V6(0xffff_c633_6407), b"", Outcome::BadSource),
         (GATEWAY, b"", Outcome::Undecoded(Refused::Empty)),
@@ -128,11 +139,6 @@ fn every_other_datagram_is_not_answered(rt: HostRuntime) -> Result<(), Fail> {
             GATEWAY,
             b"\x05\x00\x4d\xb7\x58\xa1\x75\x56\x0a\x0b\x0c\x0d",
             Outcome::BadMac,
-        ),
-        (
-            GATEWAY,
-            b"\x03\x01\x00\x00\x0a\x0b\x0c\x0d",
-            Outcome::NoFamily,
         ),
     ];
     let mut relay = relay(&rt, rt.alloc(), Ip::V4(RELAY))?;
@@ -185,6 +191,16 @@ fn lawful_settings_are_those_that_a_query_can_carry(rt: HostRuntime) {
             lawful,
             "{robustness}, {query_seconds} s, {response_tenths}"
         );
+    }
+}
+
+// So the code of MLD, which is asked for too, refuses no response time.
+#[test]
+fn each_response_time_of_igmp_has_a_code_in_mld(rt: HostRuntime) {
+    for code in 1..=255 {
+        let mut settings = Settings::of_relay(GATEWAY);
+        settings.response_tenths = code_value4(code);
+        assert!(rt; settings.lawful(), "the code {code}");
     }
 }
 

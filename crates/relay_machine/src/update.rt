@@ -1,13 +1,14 @@
-ghost use Rattle.std.specs.Prelude.{◌≡◌, ◌≤◌, length, IfOk, None};
+ghost use Rattle.std.specs.Prelude.{◌≡◌, ◌≤◌, length, IfOk};
 ghost use Rattle.source_filter.specs.Record.{item_count};
-ghost use Rattle.igmp_records.specs.Report.{report4_of};
+ghost use Rattle.group_records.specs.Reading.{Gives as Reads};
 ghost use Rattle.relay_machine.specs.Reading.{Gives};
-ghost use Rattle.relay_machine.specs.Updates.{report_by, report_in};
+ghost use Rattle.relay_machine.specs.Updates.{carried_report, report_in};
 
 use crate::outcome::Unlawful;
-use amt_values::Ip;
+use amt_values::{Ip, wire16};
 use igmp_records::read_report4;
-use inner_datagrams::{InnerFault, read_inner};
+use inner_datagrams::{Inner, read_inner};
+use mld_records::read_report6;
 use source_filter::{ReadFault, Records};
 use std::alloc::Global;
 
@@ -18,16 +19,17 @@ pub enum Unread {
     Memory,
 }
 
-// The records of an IGMPv3 membership report.
-fn read_igmp(alloc: Global, payload: &[u8]) -> Result<Records, Unread>
+// The records of the membership report that a datagram carries: of MLDv2 over IPv6, whose checksum
+// counts the datagram's addresses, and else of IGMPv3.
+fn read_carried(alloc: Global, place: &Inner, payload: &[u8]) -> Result<Records, ReadFault>
     requires { length payload.now ≤ 65535 }
-    ensures value { Gives result (report_by None (report4_of payload.now)) }
+    ensures value { Reads result
+        (carried_report place.now.source place.now.destination payload.now) }
     ensures few { IfOk result (λ records. item_count records ≤ 65535) }
 {
-    match read_report4(alloc, payload) {
-        Ok(records) => Ok(records),
-        Err(ReadFault::Report(fault)) => Err(Unread::Unlawful(Unlawful::Report(fault))),
-        Err(ReadFault::Memory) => Err(Unread::Memory),
+    match place.source {
+        Ip::V4(_) => read_report4(alloc, payload),
+        Ip::V6(source) => read_report6(alloc, source, wire16(&place.destination), payload),
     }
 }
 
@@ -41,12 +43,10 @@ pub fn read_update(alloc: Global, inner: &[u8]) -> Result<Records, Unread>
         Ok(place) => place,
         Err(fault) => return Err(Unread::Unlawful(Unlawful::Inner(fault))),
     };
-    match place.source {
-        Ip::V4(_) => {
-            let (_, payload) = inner.split_at(place.start);
-            read_igmp(alloc, payload)
-        }
-        // MLD, which IPv6 carries, is not read yet.
-        Ip::V6(_) => Err(Unread::Unlawful(Unlawful::Inner(InnerFault::Version(6)))),
+    let (_, payload) = inner.split_at(place.start);
+    match read_carried(alloc, &place, payload) {
+        Ok(records) => Ok(records),
+        Err(ReadFault::Report(fault)) => Err(Unread::Unlawful(Unlawful::Report(fault))),
+        Err(ReadFault::Memory) => Err(Unread::Memory),
     }
 }

@@ -25,6 +25,26 @@ const ONE_GROUP: &[u8] =
 const TWO_GROUPS: &[u8] =
     b"\x46\xc0\x00\x30\x00\x00\x00\x00\x01\x02\x39\xf0\x0a\x00\x00\x02\xe0\x00\x00\x16\x94\x04\x00\x00\x22\x00\x10\xff\x00\x00\x00\x02\x02\x00\x00\x00\xe8\x01\x01\x01\x01\x00\x00\x00\xe0\x00\x00\xfb";
 
+// By MLD from fe80::2, 2001:db8::9 is wanted of ff3e::1.
+const ONE_SOURCE6: &[u8] =
+    b"\x60\x00\x00\x00\x00\x34\x00\x01\xfe\x80\x00\x00\x00\x00\x00\x00\x00\x00\x00\x00\x00\x00\x00\x02\xff\x02\x00\x00\x00\x00\x00\x00\x00\x00\x00\x00\x00\x00\x00\x16\x3a\x00\x05\x02\x00\x00\x01\x00\x8f\x00\x44\xf9\x00\x00\x00\x01\x01\x00\x00\x01\xff\x3e\x00\x00\x00\x00\x00\x00\x00\x00\x00\x00\x00\x00\x00\x01\x20\x01\x0d\xb8\x00\x00\x00\x00\x00\x00\x00\x00\x00\x00\x00\x09";
+
+// By MLD from fe80::2, ff3e::1 is wanted from every source.
+const ONE_GROUP6: &[u8] =
+    b"\x60\x00\x00\x00\x00\x24\x00\x01\xfe\x80\x00\x00\x00\x00\x00\x00\x00\x00\x00\x00\x00\x00\x00\x02\xff\x02\x00\x00\x00\x00\x00\x00\x00\x00\x00\x00\x00\x00\x00\x16\x3a\x00\x05\x02\x00\x00\x01\x00\x8f\x00\x71\xcc\x00\x00\x00\x01\x02\x00\x00\x00\xff\x3e\x00\x00\x00\x00\x00\x00\x00\x00\x00\x00\x00\x00\x00\x01";
+
+// ff3e::1 and 2001:db8::9.
+const GROUP6: u128 = 0xff3e_0000_0000_0000_0000_0000_0000_0001;
+
+const SOURCE6: u128 = 0x2001_0db8_0000_0000_0000_0000_0000_0009;
+
+// The gateway at port 5000 (1388), its address behind 96 zero bits, and in the mapped form.
+const NAMED: &[u8; 18] =
+    b"\x13\x88\x00\x00\x00\x00\x00\x00\x00\x00\x00\x00\x00\x00\xc6\x33\x64\x07";
+
+const MAPPED: &[u8; 18] =
+    b"\x13\x88\x00\x00\x00\x00\x00\x00\x00\x00\x00\x00\xff\xff\xc6\x33\x64\x07";
+
 fn relay_within(rt: &impl Abort, alloc: Global, limits: Limits) -> Result<Relay, AllocError> {
     let mut settings = Settings::of_relay(Ip::V4(0xc000_0201));
     settings.limits = limits;
@@ -138,6 +158,43 @@ fn an_update_with_a_good_mac_is_updated(rt: HostRuntime) -> Result<(), Fail> {
 }
 
 #[test]
+fn an_update_over_ipv6_is_a_report_of_mld(rt: HostRuntime) -> Result<(), Fail> {
+    let mut relay = relay(&rt, rt.alloc())?;
+    let step = update(
+        &rt,
+        rt.alloc(),
+        &mut relay,
+        5000,
+        good_mac(5000),
+        ONE_SOURCE6,
+    )?;
+    assert_eq!(rt; step.outcome, Outcome::Updated);
+    let rows = relay.rows(rt.alloc())?;
+    assert_eq!(rt; rows.len(), 1);
+    for row in rows.as_slice() {
+        assert_eq!(rt; row.endpoint, Endpoint::named(0xc633_6407, 5000));
+        assert_eq!(rt; row.group, Ip::V6(GROUP6));
+        assert_eq!(rt; row.filter.mode(), Mode::Include);
+        assert_eq!(rt; row.filter.sources(), [Ip::V6(SOURCE6)].as_slice());
+    }
+    Ok(())
+}
+
+#[test]
+fn groups_of_both_families_stand_at_one_endpoint(rt: HostRuntime) -> Result<(), Fail> {
+    let mut relay = relay(&rt, rt.alloc())?;
+    for (inner, rows) in [(ONE_GROUP, 1), (ONE_GROUP6, 2)] {
+        update(&rt, rt.alloc(), &mut relay, 5000, good_mac(5000), inner)?;
+        assert_eq!(rt; relay.rows(rt.alloc())?.len(), rows);
+        assert_eq!(rt; relay.live_endpoints(), 1);
+    }
+    let step = teardown(rt.alloc(), &mut relay, good_mac(5000), NAMED)?;
+    assert_eq!(rt; step.outcome, Outcome::TornDown);
+    assert_eq!(rt; relay.rows(rt.alloc())?.len(), 0);
+    Ok(())
+}
+
+#[test]
 fn an_update_from_another_port_is_badmac(rt: HostRuntime) -> Result<(), Fail> {
     let mut relay = relay(&rt, rt.alloc())?;
     let step = update(&rt, rt.alloc(), &mut relay, 5001, good_mac(5000), ONE_GROUP)?;
@@ -185,12 +242,18 @@ fn an_update_without_a_report_is_unlawful(rt: HostRuntime) -> Result<(), Fail> {
     // The report's sum is wrong by one.
     let wrong_sum =
         b"\x46\xc0\x00\x28\x00\x00\x00\x00\x01\x02\x39\xf8\x0a\x00\x00\x02\xe0\x00\x00\x16\x94\x04\x00\x00\x22\x00\xeb\xfc\x00\x00\x00\x01\x02\x00\x00\x00\xef\x01\x01\x01";
+    let wrong_sum6 =
+        b"\x60\x00\x00\x00\x00\x34\x00\x01\xfe\x80\x00\x00\x00\x00\x00\x00\x00\x00\x00\x00\x00\x00\x00\x02\xff\x02\x00\x00\x00\x00\x00\x00\x00\x00\x00\x00\x00\x00\x00\x16\x3a\x00\x05\x02\x00\x00\x01\x00\x8f\x00\x44\xf8\x00\x00\x00\x01\x01\x00\x00\x01\xff\x3e\x00\x00\x00\x00\x00\x00\x00\x00\x00\x00\x00\x00\x00\x01\x20\x01\x0d\xb8\x00\x00\x00\x00\x00\x00\x00\x00\x00\x00\x00\x09";
     // Nothing but the header of IPv6, which says that ICMPv6 follows.
     let over_ipv6 =
         b"\x60\x00\x00\x00\x00\x00\x3a\x01\x00\x00\x00\x00\x00\x00\x00\x00\x00\x00\x00\x00\x00\x00\x00\x00\x00\x00\x00\x00\x00\x00\x00\x00\x00\x00\x00\x00\x00\x00\x00\x00";
-    let rows: [(&[u8], Unlawful); 3] = [
+    let rows: [(&[u8], Unlawful); 4] = [
         (b"\x60", Unlawful::Inner(InnerFault::ShortHeader(40, 1))),
-        (over_ipv6, Unlawful::Inner(InnerFault::Version(6))),
+        (over_ipv6, Unlawful::Report(ReportFault::Short(8, 0))),
+        (
+            wrong_sum6,
+            Unlawful::Report(ReportFault::Sum(0x44f9, 0x44f8)),
+        ),
         (
             wrong_sum,
             Unlawful::Report(ReportFault::Sum(0xebfb, 0xebfc)),
@@ -226,13 +289,6 @@ fn an_update_that_passes_a_limit_is_over(rt: HostRuntime) -> Result<(), Fail> {
     }
     Ok(())
 }
-
-// The gateway at port 5000 (1388), its address behind 96 zero bits, and in the mapped form.
-const NAMED: &[u8; 18] =
-    b"\x13\x88\x00\x00\x00\x00\x00\x00\x00\x00\x00\x00\x00\x00\xc6\x33\x64\x07";
-
-const MAPPED: &[u8; 18] =
-    b"\x13\x88\x00\x00\x00\x00\x00\x00\x00\x00\x00\x00\xff\xff\xc6\x33\x64\x07";
 
 #[test]
 fn a_teardown_ends_the_tunnel_of_the_endpoint_that_it_names(rt: HostRuntime) -> Result<(), Fail> {

@@ -9,6 +9,7 @@ returns-clause-lawful c = record {
   times = record {
     interval = IsQueryTime-from_code 125 (omega arith) (125, omega arith, refl);
     response = IsQueryTime-from_code 100 (omega arith) (100, omega arith, refl);
+    mld_response = (10000, omega arith, refl);
   };
   limits = record {
     least_endpoints = omega arith;

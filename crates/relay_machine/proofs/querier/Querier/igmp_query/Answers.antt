@@ -5,7 +5,7 @@ use Rattle.igmp_records.specs.Query.{written_query4}
 use Rattle.source_filter.specs.declared.query.QueryFields.{QueryFields}
 use Rattle.relay_machine.specs.Queries.{all_systems, general_query}
 use Rattle.relay_machine.proofs.QuerySizes.{length-written_query4}
-use Rattle.relay_machine.proofs.querier.Querier.general_query.Goals as goal
+use Rattle.relay_machine.proofs.querier.Querier.igmp_query.Goals as goal
 
 pub write_inner4-requires : goal.write_inner4-requires
 write_inner4-requires c =
@@ -15,7 +15,7 @@ pub returns : goal.returns
 unfolding general_query
 returns c =
     let querier = c.args.self.now in
-    let carried : c.as_slice.result.now ≡ written_query4 querier.fields = c.as_slice.ensures ∙ c.in_ok-query.ensures.written in
+    let carried : c.as_slice.result.now ≡ written_query4 querier.igmp = c.as_slice.ensures ∙ c.in_ok-query.ensures.written in
     let datagram : List ℕ → List ℕ = λ query. written_inner4 querier.settings.query4 all_systems query in
     IfOk-weaker c.write_inner4.result _ _
-    (λ inner written. written ∙ (ap datagram carried ∙ ap (λ (fields : QueryFields). datagram (written_query4 fields)) querier.of_settings)) c.write_inner4.ensures.written
+    (λ inner written. written ∙ (ap datagram carried ∙ ap (λ (fields : QueryFields). datagram (written_query4 fields)) querier.igmp_of_settings)) c.write_inner4.ensures.written
