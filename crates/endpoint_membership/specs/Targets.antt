@@ -1,4 +1,4 @@
--- Which tunnel endpoints get a copy of a packet, by the log alone (RFC 7450, section 5.3.3.5).
+-- Which tunnel endpoints get a copy of a packet, by the log alone (RFC 7450, section 5.3.3).
 use Rattle.std.specs.Prelude.{ℕ, List, [], ◌∷◌}
 use Rattle.std.specs.List.{filter}
 use Rattle.amt_values.specs.declared.address.Ip.{Ip}
@@ -16,8 +16,8 @@ endpoints_in (Reported endpoint records at ∷ rest) = endpoint ∷ endpoints_in
 endpoints_in (Clear endpoint at ∷ rest) = endpoints_in rest
 endpoints_in (Mark at ∷ rest) = endpoints_in rest
 
--- the different endpoints that want the source of the group at a moment, rising; no moment is before
--- the latest one of the log
+-- the different endpoints that want the source of the group at a moment, rising; no moment is
+-- before the latest one of the log
 unfoldable pub targets_of : ℕ → List Change → Ip → Ip → ℕ → List Tunnel
 targets_of lifetime log group source moment =
     filter (λ endpoint. is_admitted lifetime log (record { endpoint = endpoint; group = group }) source moment) (rising tunnel_order (endpoints_in log))

@@ -8,6 +8,7 @@ ghost use Rattle.endpoint_membership.specs.Log.{brought, latest, leaving, live_c
 ghost use Rattle.endpoint_membership.specs.Place.{place_order, same_group};
 ghost use Rattle.endpoint_membership.specs.Rows.{places_in, places_of, rows_of, shown, standing};
 
+mod wants;
 mod wishes;
 
 use crate::change::Change;
@@ -16,6 +17,7 @@ use amt_values::{Endpoint, Ip, Moment};
 use source_filter::{Ips, Record, RecordKind, Records};
 use std::alloc::{AllocError, Global};
 use std::marker::Model;
+pub use wants::slow_targets;
 use wishes::{is_standing, wish_of};
 
 /// Where a group may stand, by endpoint and then by group.

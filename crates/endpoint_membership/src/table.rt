@@ -80,6 +80,13 @@ impl Table {
         self.moment
     }
 
+    /// How much it keeps.
+    pub fn limits(&self) -> Limits
+        ensures { result ≡ self.now.limits }
+    {
+        self.limits
+    }
+
     /// Lets time pass: what was not renewed in time ends.
     pub fn advance(&mut self, at: &Moment)
         ensures stands { (terms : Terms) (log : List Entry) → Holds terms self.old log
@@ -128,8 +135,8 @@ impl Table {
     }
 
     /// Who gets a copy of a packet from the source to the group, at the later of the table's moment
-    /// and this one (RFC 7450, section 5.3.3.5). What was in `out` before is replaced. Room for
-    /// `live_endpoints` is always enough.
+    /// and this one (RFC 7450, section 5.3.3). What was in `out` before is replaced. Room for as
+    /// many endpoints as the limits allow is always enough.
     pub fn admitting_into(&self, group: &Ip, source: &Ip, at: &Moment, out: &mut Targets)
         requires room { live_count self.now.rows ≤ out.old.room }
         ensures targets { (terms : Terms) (log : List Entry) → Holds terms self.now log

@@ -82,7 +82,8 @@ pub fn collect_targets(
     out: &mut Targets,
 )
     requires lifetime { lifetime_ms ≤ 1000000000 }
-    requires room { length (targets_in lifetime_ms moment group.now source.now rows.now) ≤ out.old.room }
+    requires room { length (targets_in lifetime_ms moment group.now source.now rows.now)
+        ≤ out.old.room }
     ensures endpoints { out.new.endpoints
         ≡ targets_in lifetime_ms moment group.now source.now rows.now }
     ensures room { out.new.room ≡ out.old.room }

@@ -1,5 +1,6 @@
 mod fixtures;
 mod long;
+mod packets;
 mod random;
 
 use super::*;

@@ -44,7 +44,7 @@ fn word_on(group_record: &Record, source: &Ip) -> Option<bool>
     }
 }
 
-fn is_admitted(records: &[Record], source: &Ip) -> bool
+pub fn is_admitted(records: &[Record], source: &Ip) -> bool
     ensures { result ≡ admitted records.now source.now }
 {
     match records.split_first() {

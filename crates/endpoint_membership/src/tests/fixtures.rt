@@ -29,6 +29,8 @@ pub const ONE: Ip = Ip::V4(0xc633_6401);
 
 pub const TWO: Ip = Ip::V4(0xc633_6402);
 
+pub const THREE: Ip = Ip::V4(0xc633_6403);
+
 // A record as tests write it: kind, group and sources.
 pub type Told<'a> = (RecordKind, Ip, &'a [Ip]);
 

@@ -1,16 +1,19 @@
-// Small logs of random calls: after each call the table has the rows that the definitions give.
+// Small logs of random calls: after each call the table has the rows that the definitions give, and
+// packets go where the definitions send them.
 ghost use Rattle.std.specs.Prelude.{◌<◌, ◌≤◌};
 ghost use Rattle.endpoint_membership.specs.Table.{IsWithinLimits};
 
 use super::fixtures::{
-    CHANNEL, GROUP, LIFETIME_MS, ONE, TWO, WIDE, are_few, are_same_rows, moment, record_of, table,
+    CHANNEL, GROUP, LIFETIME_MS, ONE, OTHER, THREE, TWO, WIDE, are_few, are_same_rows, moment,
+    record_of, table,
 };
 use crate::change::Change;
 use crate::limits::{AcceptFault, LimitFault, Limits};
 use crate::row::{Row, Rows};
-use crate::slow::slow_rows;
+use crate::slow::{slow_rows, slow_targets};
 use crate::table::Table;
-use amt_values::{Endpoint, Moment};
+use crate::targets::Targets;
+use amt_values::{Endpoint, Ip, Moment};
 use source_filter::{RecordKind, Records, copy_records};
 use std::alloc::{AllocError, Global};
 use std::process::Abort;
@@ -23,6 +26,17 @@ const KINDS: [RecordKind; 6] = [
     RecordKind::ToEx,
     RecordKind::Allow,
     RecordKind::Block,
+];
+
+// Group and source of packets: those of the logs, and one more of each.
+const PACKETS: [(Ip, Ip); 7] = [
+    (GROUP, ONE),
+    (GROUP, TWO),
+    (GROUP, THREE),
+    (CHANNEL, ONE),
+    (CHANNEL, TWO),
+    (CHANNEL, THREE),
+    (OTHER, ONE),
 ];
 
 // Random words: a fixed sequence, so that a failure comes again.
@@ -207,6 +221,28 @@ fn call(
     }
 }
 
+// Compares who gets the packets at the moment.
+fn compare_targets(
+    rt: &impl Abort,
+    alloc: Global,
+    table: &Table,
+    log: &[Change],
+    at: &Moment,
+) -> Result<(), AllocError>
+    requires { IsWithinLimits table.now }
+{
+    let mut targets = Targets::new(alloc, table.limits().endpoints)?;
+    for (group, source) in PACKETS {
+        table.admitting_into(&group, &source, at, &mut targets);
+        let wanted = slow_targets(alloc, LIFETIME_MS, at, log, &group, &source)?;
+        assert!(rt;
+            targets.as_slice() == wanted.as_slice(),
+            "{log:?} {group:?} {source:?} {at:?} {targets:?} {wanted:?}"
+        );
+    }
+    Ok(())
+}
+
 // A log of random calls, with the table compared after each of them. Some moments go backwards.
 fn compare(
     rt: &impl Abort,
@@ -234,6 +270,9 @@ fn compare(
             are_same_rows(&rows, &wanted),
             "{log:?} {rows:?} {wanted:?}"
         );
+        compare_targets(rt, alloc, &table, log.as_slice(), &latest)?;
+        let later = Moment::new(latest.ms() + random_pause(words)).expect(rt, "the logs are short");
+        compare_targets(rt, alloc, &table, log.as_slice(), &later)?;
     }
     Ok(())
 }
