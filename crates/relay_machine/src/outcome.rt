@@ -61,7 +61,7 @@ pub enum Outcome {
     /// A Teardown names an endpoint at which no group stands.
     NoTunnel,
     /// A packet went to so many endpoints: those that want its source in its group (RFC 7450, section
-    /// 5.3.4).
+    /// 5.3.3).
     Copied(u32),
     /// A packet of so many octets is longer than the relay copies.
     TooBig(u32),

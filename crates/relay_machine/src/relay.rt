@@ -126,7 +126,7 @@ impl Relay {
         ensures err { OnErr result (self.new ≡ self.old) }
 
         // A packet with no fault goes once, as it is, to each endpoint whose newest record that
-        // speaks of the packet's source wants it (RFC 7450, section 5.3.4), and to no other.
+        // speaks of the packet's source wants it (RFC 7450, section 5.3.3), and to no other.
         ensures copies { (settings : SettingsValue) (first : SecretValue)
             (events : List EventValue) (packet : List ℕ) (head : Head)
             → RelayAt self.old settings first events
