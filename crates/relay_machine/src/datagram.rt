@@ -75,6 +75,9 @@ fn answer_message(
         → IfOk result (λ _. Holds (terms_of querier.now.settings) table.new (with_change log
         (datagram_entry (terms_of querier.now.settings) secrets.now (latest log) log
         (Some source) (Ok message.now)))) }
+    ensures published { (log : List Entry) → Holds (terms_of querier.now.settings) table.old log
+        → IfOk result (λ step. Holds (terms_of querier.now.settings) table.new
+        (with_change log step.change)) }
     ensures same { (log : List Entry) → Holds (terms_of querier.now.settings) table.old log
         → IfOk result (λ step. step.change ≡ None → table.new ≡ table.old) }
     ensures err { OnErr result (table.new ≡ table.old) }
@@ -141,6 +144,9 @@ pub fn answer(
         → IfOk result (λ _. Holds (terms_of querier.now.settings) table.new (with_change log
         (datagram_entry (terms_of querier.now.settings) secrets.now (latest log) log
         (endpoint_of from.now) (message_of bytes.now)))) }
+    ensures published { (log : List Entry) → Holds (terms_of querier.now.settings) table.old log
+        → IfOk result (λ step. Holds (terms_of querier.now.settings) table.new
+        (with_change log step.change)) }
     ensures same { (log : List Entry) → Holds (terms_of querier.now.settings) table.old log
         → IfOk result (λ step. step.change ≡ None → table.new ≡ table.old) }
     ensures err { OnErr result (table.new ≡ table.old) }

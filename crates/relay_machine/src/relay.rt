@@ -1,17 +1,20 @@
 ghost use Rattle.std.specs.Prelude.{◌≡◌, ℕ, List, [], ◌∷◌, ◌++◌, None, IfOk, IsOk, OnErr};
 ghost use Rattle.inner_datagrams.specs.declared.head.Head.{Head};
 ghost use Rattle.endpoint_membership.specs.Limits.{IsWithin, live_count};
-ghost use Rattle.endpoint_membership.specs.Table.{standing_now};
+ghost use Rattle.endpoint_membership.specs.Log.{latest};
+ghost use Rattle.endpoint_membership.specs.Rows.{rows_of};
+ghost use Rattle.endpoint_membership.specs.Table.{Holds, standing_now};
+ghost use Rattle.endpoint_membership.specs.declared.change.Change.{Change as Entry};
 ghost use Rattle.response_mac.specs.declared.secret.Secret.{Secret as SecretValue};
 ghost use Rattle.relay_machine.specs.declared.event.Event.{Event as EventValue};
 ghost use Rattle.relay_machine.specs.declared.event.Event.TheVariants.{Packet};
 ghost use Rattle.relay_machine.specs.declared.settings.Settings.{Settings as SettingsValue};
-ghost use Rattle.relay_machine.specs.Accepted.{accepted, change_of};
+ghost use Rattle.relay_machine.specs.Accepted.{accepted, change_of, with_change};
 ghost use Rattle.relay_machine.specs.Answers.{RelayAt, outcome_of, rows_after, sends_of};
 ghost use Rattle.relay_machine.specs.Conditions.{IsEvent, IsPayload};
 ghost use Rattle.relay_machine.specs.Events.{now_of};
 ghost use Rattle.relay_machine.specs.Packets.{AreCopies, IsToCopy, wants_after};
-ghost use Rattle.relay_machine.specs.Settings.{IsLawful, terms_of};
+ghost use Rattle.relay_machine.specs.Settings.{IsLawful, membership_interval_ms, terms_of};
 
 use crate::datagram::answer;
 use crate::event::Event;
@@ -78,9 +81,12 @@ impl Relay {
 
     /// What stands, by tunnel endpoint and then by group.
     pub fn rows(&self, alloc: Global) -> Result<Rows, AllocError>
-        ensures { IfOk result (λ rows. (settings : SettingsValue) (first : SecretValue)
+        ensures stands { IfOk result (λ rows. (settings : SettingsValue) (first : SecretValue)
             (events : List EventValue) → RelayAt self.now settings first events
             → rows ≡ rows_after settings first events) }
+        ensures published { IfOk result (λ rows. (log : List Entry)
+            → Holds (terms_of self.now.settings) self.now.table log
+            → rows ≡ rows_of (membership_interval_ms self.now.settings) (latest log) log) }
     {
         self.table.rows(alloc)
     }
@@ -115,6 +121,12 @@ impl Relay {
             (events : List EventValue) → RelayAt self.old settings first events
             → IfOk result (λ _. IsWithin settings.limits (standing_now (terms_of settings)
             (accepted settings first (events ++ event.now ∷ [])))) }
+
+        // Whoever appends each entry that is handed out to a log has one for which the table stands,
+        // as it does for the accepted log: no clearing that isn't handed out is missed.
+        ensures published { (log : List Entry) → Holds (terms_of self.old.settings) self.old.table log
+            → IfOk result (λ step. Holds (terms_of self.old.settings) self.new.table
+            (with_change log step.change)) }
 
         // No datagram but an accepted Update and the Teardown of a live endpoint changes the relay,
         // not even a Request: what is kept for each, as its nonce, could be made to fill the

@@ -22,6 +22,8 @@ pub fn tear_down(alloc: Global, table: &mut Table, endpoint: &Endpoint) -> Step
         → result.change ≡ handed_out terms log (teardown_entry true endpoint.now (latest log)) }
     ensures stands { (terms : Terms) (log : List Entry) → Holds terms table.old log
         → Holds terms table.new (with_change log (teardown_entry true endpoint.now (latest log))) }
+    ensures published { (terms : Terms) (log : List Entry) → Holds terms table.old log
+        → Holds terms table.new (with_change log result.change) }
     ensures same { (terms : Terms) (log : List Entry) → Holds terms table.old log
         → result.change ≡ None → table.new ≡ table.old }
     ensures within { IsWithinLimits table.old → IsWithinLimits table.new }

@@ -32,6 +32,9 @@ returns-else-not-matches-clause-stands c log holds =
     let taken = stands_with c.take_report.result terms c.take_report.new.table log _ (c.take_report.ensures.change terms log holds) (c.take_report.ensures.stands terms log holds) in
     rw (c.in-Update.is, good) taken
 
+pub returns-else-not-matches-clause-published : goal.returns-else-not-matches-clause-published
+returns-else-not-matches-clause-published c log holds = c.take_report.ensures.stands (terms_of c.args.querier.now.settings) log holds
+
 pub returns-else-not-matches-clause-same : goal.returns-else-not-matches-clause-same
 returns-else-not-matches-clause-same c log holds = c.take_report.ensures.same (terms_of c.args.querier.now.settings) log holds
 
@@ -52,6 +55,9 @@ returns-else-not-matches-2-clause-stands c log holds =
     let good : is_good c.args.secrets.now c.in-Teardown.gateway c.in-Teardown.nonce c.in-Teardown.mac ≡ true = cc in
     let taken = c.tear_down.ensures.stands (terms_of c.args.querier.now.settings) log holds in
     rw (c.in-Teardown.is, good) taken
+
+pub returns-else-not-matches-2-clause-published : goal.returns-else-not-matches-2-clause-published
+returns-else-not-matches-2-clause-published c log holds = c.tear_down.ensures.published (terms_of c.args.querier.now.settings) log holds
 
 pub returns-else-not-matches-2-clause-same : goal.returns-else-not-matches-2-clause-same
 returns-else-not-matches-2-clause-same c log holds = c.tear_down.ensures.same (terms_of c.args.querier.now.settings) log holds

@@ -1,7 +1,9 @@
-use Rattle.std.proofs.Common.{◌≡◌, ◌++◌, ◌∷◌, [], ℕ, true, false, Some, sym, ap, subst, ◌∙◌, arith}
+use Rattle.std.proofs.Common.{Option, ◌≡◌, ◌++◌, ◌∷◌, [], ℕ, true, false, Some, sym, ap, subst, ◌∙◌, arith}
 use Rattle.endpoint_membership.specs.Rows.{is_live}
-use Rattle.endpoint_membership.specs.Table.{Holds, standing_now}
+use Rattle.endpoint_membership.specs.Table.{Holds, TableValue, standing_now}
+use Rattle.endpoint_membership.specs.declared.change.Change.{Change}
 use Rattle.endpoint_membership.specs.declared.change.Change.TheVariants.{Clear}
+use Rattle.relay_machine.specs.Accepted.{with_change}
 use Rattle.relay_machine.specs.Teardowns.{teardown_outcome}
 use Rattle.relay_machine.proofs.HandedOut.{live_now}
 use Rattle.relay_machine.proofs.teardown.tear_down.Goals as goal
@@ -42,3 +44,13 @@ pub returns-clause-same : goal.returns-clause-same
 returns-clause-same c terms log holds none =
     let now = c.now-at.ensures.latest terms log holds in
     c.clear.ensures.same terms log holds (omega (arith, now)) c.if-clear.false
+
+pub returns-then-clear-clause-published : goal.returns-then-clear-clause-published
+returns-then-clear-clause-published c terms log holds =
+    subst (λ (change : Option Change). Holds terms c.clear.new.self (with_change log change)) (sym c.accepted.ensures.change) (c.clear.ensures.stands terms log holds)
+
+pub returns-clause-published : goal.returns-clause-published
+returns-clause-published c terms log holds =
+    let same = returns-clause-same c terms log holds c.quiet.ensures.change in
+    subst (λ (change : Option Change). Holds terms c.clear.new.self (with_change log change)) (sym c.quiet.ensures.change)
+    (subst (λ (table : TableValue). Holds terms table log) (sym same) holds)

@@ -1,8 +1,11 @@
-use Rattle.std.proofs.Common.{◌≡◌, ℕ, max, ◌++◌, ◌∷◌, [], sym, subst, ap, ◌∙◌}
+use Rattle.std.proofs.Common.{◌≡◌, ℕ, max, ◌++◌, ◌∷◌, [], Option, sym, subst, ap, ◌∙◌}
 use Rattle.std.proofs.lemmas.Result.{IfOk-weaker}
-use Rattle.endpoint_membership.specs.Table.{IsWithinLimits}
+use Rattle.endpoint_membership.specs.Table.{Holds, IsWithinLimits}
+use Rattle.endpoint_membership.specs.declared.change.Change.{Change}
+use Rattle.relay_machine.specs.Accepted.{with_change}
 use Rattle.relay_machine.specs.Answers.{RelayAt}
 use Rattle.relay_machine.specs.Packets.{IsToCopy}
+use Rattle.relay_machine.specs.Settings.{terms_of}
 use Rattle.relay_machine.specs.State.{RelayState}
 use Rattle.relay_machine.proofs.Copies.{AreCopies-answered}
 use Rattle.relay_machine.proofs.Onward.{IsSound-answered, IsWithin-events, RelayAt-answered, RelayAt-moment, RelayAt-packet, RelayAt-rotate}
@@ -30,6 +33,12 @@ pub returns-in-Moment-clause-within : goal.returns-in-Moment-clause-within
 returns-in-Moment-clause-within c settings first events at =
     IsWithin-events _ settings first (events ++ c.args.event.now ∷ []) (returns-in-Moment-clause-next c settings first events at)
     (c.advance.ensures.within c.self.invariant.within)
+
+pub returns-in-Moment-clause-published : goal.returns-in-Moment-clause-published
+returns-in-Moment-clause-published c log holds =
+    let terms = terms_of c.args.self.now.settings in
+    let inside = subst (λ (relay : RelayState). Holds terms relay.table log) (sym c.self.view_is) holds in
+    subst (λ (change : Option Change). Holds terms c.advance.new.self (with_change log change)) (sym c.accepted.ensures.change) (c.advance.ensures.stands terms log inside)
 
 pub returns-in-Datagram-clause-next : goal.returns-in-Datagram-clause-next
 returns-in-Datagram-clause-next c settings first events at =
