@@ -30,10 +30,6 @@ answer_back answer bytes gives message fits sendable same =
     let spells = subst (Spells message) (sym same) (spelling_is_canonical message fits sendable).spelled in
     answer_only answer bytes gives message spells
 
--- an endpoint that octets name is in its one form
-endpoint_named-form : (address port : ℕ) → is_mapped (endpoint_named address port).address ≡ false
-endpoint_named-form address port = grind arith
-
 -- what a datagram spells may be written
 spelled_is_sendable : (message : Message) (bytes : List ℕ) → length bytes ≤ 65535 → Spells message bytes → IsSendable message
 spelled_is_sendable (Discovery nonce) bytes most spells = tt
@@ -51,8 +47,7 @@ spelled_is_sendable (Update mac nonce inner) bytes most spells =
 spelled_is_sendable (Multicast packet) bytes most spells =
     let octets = spells.kind.octets in
     omega arith
-spelled_is_sendable (Teardown mac nonce gateway) bytes most spells =
-    ap (λ (t : Tunnel). is_mapped t.address) spells.gateway_field ∙ endpoint_named-form (gateway_address 0 bytes) (gateway_port 0 bytes)
+spelled_is_sendable (Teardown mac nonce gateway) bytes most spells = tt
 
 pub answer_sendable : (answer : Result Message DecodeFault) (bytes : List ℕ) → length bytes ≤ 65535 → Gives answer (message_of bytes)
     → IfOk answer (λ message. IsSendable message)

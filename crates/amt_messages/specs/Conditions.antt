@@ -36,8 +36,7 @@ IsMessage (Multicast packet) = AreOctets packet
 IsMessage (Teardown mac nonce gateway) = IsMac mac × (nonce < 2 ^ 32) × IsSeen (Some gateway)
 
 -- a Query's inner datagram is as long as its own header says; a Query, an Update and Multicast Data are
--- no longer than what UDP carries; a Teardown's endpoint is in its one form; every other message may be
--- written
+-- no longer than what UDP carries; every other message may be written
 abbrev pub IsSendable : Message → Type 0
 IsSendable (Discovery nonce) = Unit {0}
 IsSendable (Advertisement nonce relay) = Unit {0}
@@ -46,4 +45,4 @@ IsSendable (Query limited mac nonce inner seen) =
     (inner_length_of inner ≡ Some (length inner)) × (12 + length inner + length (seen_octets seen) ≤ 65535)
 IsSendable (Update mac nonce inner) = 12 + length inner ≤ 65535
 IsSendable (Multicast packet) = 2 + length packet ≤ 65535
-IsSendable (Teardown mac nonce gateway) = is_mapped gateway.address ≡ false
+IsSendable (Teardown mac nonce gateway) = Unit {0}

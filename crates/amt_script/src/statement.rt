@@ -26,6 +26,50 @@ pub enum LineError {
     Memory,
 }
 
+fn endpoints_of_text(text: &[u8]) -> Result<Setting, Reason>
+    ensures key { IfOk result (λ setting. key_of setting ≡ Key.Endpoints) }
+    ensures found { IfOk result (λ setting. SaysSetting setting (words_of (kinds.Set Key.Endpoints) ++ text.now ∷ [])) }
+    ensures reason { IfErr result (λ reason. First (FailsAs (kinds.Set Key.Endpoints) (text.now ∷ [])) order_of_values reason) }
+{
+    match read_number(text, 1, 65_536) {
+        Ok(number) => Ok(Setting::Endpoints(number)),
+        Err(reason) => Err(reason),
+    }
+}
+
+fn groups_of_text(text: &[u8]) -> Result<Setting, Reason>
+    ensures key { IfOk result (λ setting. key_of setting ≡ Key.Groups) }
+    ensures found { IfOk result (λ setting. SaysSetting setting (words_of (kinds.Set Key.Groups) ++ text.now ∷ [])) }
+    ensures reason { IfErr result (λ reason. First (FailsAs (kinds.Set Key.Groups) (text.now ∷ [])) order_of_values reason) }
+{
+    match read_number(text, 1, 256) {
+        Ok(number) => Ok(Setting::Groups(number)),
+        Err(reason) => Err(reason),
+    }
+}
+
+fn sources_of_text(text: &[u8]) -> Result<Setting, Reason>
+    ensures key { IfOk result (λ setting. key_of setting ≡ Key.Sources) }
+    ensures found { IfOk result (λ setting. SaysSetting setting (words_of (kinds.Set Key.Sources) ++ text.now ∷ [])) }
+    ensures reason { IfErr result (λ reason. First (FailsAs (kinds.Set Key.Sources) (text.now ∷ [])) order_of_values reason) }
+{
+    match read_number(text, 1, 64) {
+        Ok(number) => Ok(Setting::Sources(number)),
+        Err(reason) => Err(reason),
+    }
+}
+
+fn packet_limit_of_text(text: &[u8]) -> Result<Setting, Reason>
+    ensures key { IfOk result (λ setting. key_of setting ≡ Key.PacketLimit) }
+    ensures found { IfOk result (λ setting. SaysSetting setting (words_of (kinds.Set Key.PacketLimit) ++ text.now ∷ [])) }
+    ensures reason { IfErr result (λ reason. First (FailsAs (kinds.Set Key.PacketLimit) (text.now ∷ [])) order_of_values reason) }
+{
+    match read_number(text, 20, 65_000) {
+        Ok(number) => Ok(Setting::PacketLimit(number)),
+        Err(reason) => Err(reason),
+    }
+}
+
 fn setting_of_text(key: Key, text: &[u8]) -> Result<Setting, Reason>
     ensures key { IfOk result (λ setting. key_of setting ≡ key) }
     ensures found { IfOk result (λ setting. SaysSetting setting (words_of (kinds.Set key) ++ text.now ∷ [])) }
@@ -56,22 +100,10 @@ fn setting_of_text(key: Key, text: &[u8]) -> Result<Setting, Reason>
             Ok(number) => Ok(Setting::ResponseTenths(number)),
             Err(reason) => Err(reason),
         },
-        Key::Endpoints => match read_number(text, 1, 65_536) {
-            Ok(number) => Ok(Setting::Endpoints(number)),
-            Err(reason) => Err(reason),
-        },
-        Key::Groups => match read_number(text, 1, 256) {
-            Ok(number) => Ok(Setting::Groups(number)),
-            Err(reason) => Err(reason),
-        },
-        Key::Sources => match read_number(text, 1, 64) {
-            Ok(number) => Ok(Setting::Sources(number)),
-            Err(reason) => Err(reason),
-        },
-        Key::PacketLimit => match read_number(text, 20, 65_000) {
-            Ok(number) => Ok(Setting::PacketLimit(number)),
-            Err(reason) => Err(reason),
-        },
+        Key::Endpoints => endpoints_of_text(text),
+        Key::Groups => groups_of_text(text),
+        Key::Sources => sources_of_text(text),
+        Key::PacketLimit => packet_limit_of_text(text),
         Key::Secret => match read_secret(text) {
             Some(secret) => Ok(Setting::Secret(secret)),
             None => Err(Reason::Hex),

@@ -27,7 +27,7 @@ pub fn write_query6(
     ensures length { IfOk result (λ bytes. length bytes ≡ 28) }
     ensures read_back { IfOk result (IsGeneralQuery6 source destination fields.now) }
 {
-    // The code is read here so that it is known to have 16 bits, which is all that MLD asks of it.
+    // For the proof alone: a field that is read is known to fit its 16 bits.
     let _code = fields.max_code;
     let header = pseudo_header(source, destination, QUERY_LENGTH);
     write_query(alloc, Family::V6, &header, fields)

@@ -194,6 +194,18 @@ const FIELDS: QueryFields = QueryFields {
 };
 
 #[test]
+fn a_report_of_one_source_is_written(rt: HostRuntime) -> Result<(), Fail> {
+    let alloc = rt.alloc();
+    let mut records = Records::new(alloc);
+    records.push(record_of(alloc, RecordKind::IsIn, GROUP, &[NINTH])?)?;
+    let report = write_report6(alloc, HOST, ALL_ROUTERS, &records)?;
+    let expected =
+        b"\x8f\x00\x44\xf9\x00\x00\x00\x01\x01\x00\x00\x01\xff\x3e\x00\x00\x00\x00\x00\x00\x00\x00\x00\x00\x00\x00\x00\x01\x20\x01\x0d\xb8\x00\x00\x00\x00\x00\x00\x00\x00\x00\x00\x00\x09";
+    assert_eq!(rt; report.as_slice(), expected.as_slice());
+    Ok(())
+}
+
+#[test]
 fn a_general_query_is_written_and_read_back(rt: HostRuntime) -> Result<(), Fail> {
     let query = write_query6(rt.alloc(), ROUTER, ALL_NODES, &FIELDS)?;
     let expected =
@@ -320,10 +332,10 @@ fn codes_and_values_are_those_of_the_standard(rt: HostRuntime) {
 
 #[test]
 fn a_value_between_two_codes_has_none(rt: HostRuntime) {
-    for value in 32769..=32775 {
-        assert_eq!(rt; value_code6(value), None, "the code of {value}");
-    }
-    for value in [65535, 65537, 3174401, 8387583, 8387585, 8388608, u32::MAX] {
+    let values = [
+        32769, 32770, 32775, 65535, 65537, 3174401, 8387583, 8387585, 8388608, u32::MAX,
+    ];
+    for value in values {
         assert_eq!(rt; value_code6(value), None, "the code of {value}");
     }
 }

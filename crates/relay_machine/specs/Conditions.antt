@@ -3,7 +3,7 @@ use Rattle.std.specs.Prelude.{◌≤◌, length}
 use Rattle.relay_machine.specs.declared.event.Event.{Event}
 use Rattle.relay_machine.specs.declared.event.Event.TheVariants.{Moment, Datagram, Packet, Rotate}
 
--- a datagram has at most the octets that UDP carries, and a packet those that IPv4 carries
+-- at most 65,535 octets: no UDP payload has more, and no IPv4 packet
 abbrev pub IsEvent : Event → Type 0
 IsEvent (Moment moment) = Unit {0}
 IsEvent (Datagram from bytes) = length bytes ≤ 65535

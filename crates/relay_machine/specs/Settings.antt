@@ -38,7 +38,7 @@ pub record AreLimits (limits : Limits) : Type 0 where
   pub most_sources : limits.sources ≤ 64
   pub product : limits.endpoints * limits.groups * limits.sources ≤ 16777216
 
--- a length between the least header of an IP packet and what a UDP payload has room for
+-- no less than the least header of an IP packet; with two octets before it, it fits a UDP payload
 pub record IsPacketLimit (octets : ℕ) : Type 0 where
   pub least : 20 ≤ octets
   pub most : octets ≤ 65000

@@ -1,4 +1,4 @@
--- What a Teardown comes to (RFC 7450, section 5.3.3.6).
+-- What a Teardown comes to (RFC 7450, section 5.3.3).
 use Rattle.std.specs.Prelude.{ℕ, Bool, true, false, Option, Some, None}
 use Rattle.amt_values.specs.Tunnel.{Tunnel}
 use Rattle.endpoint_membership.specs.declared.change.Change.{Change}

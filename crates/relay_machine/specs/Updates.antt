@@ -1,4 +1,4 @@
--- What an Update carries, and what it comes to (RFC 7450, section 5.3.3.5).
+-- What an Update carries, and what it comes to (RFC 7450, section 5.3.3).
 use Rattle.std.specs.Prelude.{ℕ, Bool, true, false, List, Option, Some, None, Result, Ok, Err}
 use Rattle.std.specs.List.{filter}
 use Rattle.amt_values.specs.Address.{number_of}

@@ -47,8 +47,8 @@ pub enum Outcome {
     /// (section 5.1.4).
     Queried { v6: bool, limited: bool },
     /// The response MAC of an Update or a Teardown is not one that the relay gave the source of the
-    /// Update, or the endpoint that the Teardown names, for its nonce lately (RFC 7450, sections
-    /// 5.3.3.5 and 5.3.3.6).
+    /// Update, or the endpoint that the Teardown names, for its nonce lately (RFC 7450, section
+    /// 5.3.3).
     BadMac,
     /// An Update with a good MAC carries no membership report.
     Unlawful(Unlawful),

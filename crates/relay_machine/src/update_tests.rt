@@ -308,9 +308,9 @@ fn a_teardown_ends_the_tunnel_of_the_endpoint_that_it_names(rt: HostRuntime) -> 
         let step = teardown(rt.alloc(), &mut relay, good_mac(5000), named)?;
         assert_eq!(rt; step.outcome, Outcome::TornDown);
         assert_eq!(rt; step.sends.len(), 0);
-        match step.change {
+        match &step.change {
             Some(Change::Clear { endpoint, at }) => {
-                assert_eq!(rt; endpoint, Endpoint::named(0xc633_6407, 5000));
+                assert_eq!(rt; *endpoint, Endpoint::named(0xc633_6407, 5000));
                 assert_eq!(rt; at.ms(), 0);
             }
             _ => assert!(rt; false, "another entry"),
