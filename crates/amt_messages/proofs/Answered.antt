@@ -1,16 +1,13 @@
 -- From what was answered by the reading of octets to what it says of their spelling.
-use Rattle.std.proofs.Common.{◌≡◌, ◌≤◌, ℕ, List, length, arith, Option, Some, None, Result, Ok, Err, refl, sym, subst, ap, ◌∙◌, false}
+use Rattle.std.proofs.Common.{◌≡◌, ◌≤◌, ℕ, List, length, arith, Option, Some, None, Result, Ok, Err, refl, sym, subst, ◌∙◌}
 use Rattle.std.specs.Result.{IfOk, MatchResult}
-use Rattle.amt_values.specs.Address.{is_mapped}
-use Rattle.amt_values.specs.Endpoint.{endpoint_named}
-use Rattle.amt_values.specs.Tunnel.{Tunnel}
 use Rattle.amt_messages.specs.declared.message.Message.{Message}
 use Rattle.amt_messages.specs.declared.message.Message.TheVariants.{Discovery, Advertisement, Request, Query, Update, Multicast, Teardown}
 use Rattle.amt_messages.specs.declared.refusal.DecodeFault.{DecodeFault}
 use Rattle.amt_messages.specs.declared.refusal.DecodeFault.TheVariants.{Refused as RefusedBy, Memory}
 use Rattle.amt_messages.specs.declared.refusal.Refused.{Refused}
 use Rattle.amt_messages.specs.Conditions.{IsMessage, IsSendable}
-use Rattle.amt_messages.specs.Layout.{Spells, gateway_address, gateway_port, spelling_of}
+use Rattle.amt_messages.specs.Layout.{Spells, spelling_of}
 use Rattle.amt_messages.specs.Refusal.{Gives, TakesMemory, first_refusal, message_at, message_of, reading_by, refusal_in}
 use Rattle.amt_messages.proofs.Spelled.{spelled_is_read}
 use Rattle.amt_messages.proofs.Unrefused.{read_is_spelled, read_is_unrefused}

@@ -333,7 +333,16 @@ fn codes_and_values_are_those_of_the_standard(rt: HostRuntime) {
 #[test]
 fn a_value_between_two_codes_has_none(rt: HostRuntime) {
     let values = [
-        32769, 32770, 32775, 65535, 65537, 3174401, 8387583, 8387585, 8388608, u32::MAX,
+        32769,
+        32770,
+        32775,
+        65535,
+        65537,
+        3174401,
+        8387583,
+        8387585,
+        8388608,
+        u32::MAX,
     ];
     for value in values {
         assert_eq!(rt; value_code6(value), None, "the code of {value}");
