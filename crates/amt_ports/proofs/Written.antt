@@ -1,15 +1,15 @@
 -- What several writes appended together.
-use Rattle.std.proofs.Common.{◌≡◌, ℕ, ◌≤◌, Option, List, ◌++◌, length, take, drop, arith, length-append, subst, sym, ◌∙◌, ap, append_assoc}
+use Rattle.std.proofs.Common.{◌≡◌, ℕ, ◌<◌, Option, List, ◌++◌, length, take, drop, arith, length-append, subst, sym, ◌∙◌, ap, append_assoc}
 use Rattle.std.proofs.Math.Seq.{take-append_seam}
 use Rattle.std.proofs.lemmas.List.{take-append-drop}
 use Rattle.std.specs.Io.KnownBytes.{Appends, Keeps}
 use Rattle.std.proofs.KnownBytes.{Appends-kept, Appends-trans}
 
--- what was appended before a call that kept all is a front of the whole
-pub Appends-front : (a b c : Option (List ℕ)) (all done rest : List ℕ) → all ≡ done ++ rest → Appends a b done → Keeps b c → (n : ℕ) × (n ≤ length all) × Appends a c (take n all)
-Appends-front a b c all done rest parts before kept =
+-- what was appended before a call that kept all is a front of the whole, and not all of it
+pub Appends-front : (a b c : Option (List ℕ)) (all done rest : List ℕ) → all ≡ done ++ rest → 0 < length rest → Appends a b done → Keeps b c → (n : ℕ) × (n < length all) × Appends a c (take n all)
+Appends-front a b c all done rest parts left before kept =
     let front : take (length done) all ≡ done = ap (take (length done)) parts ∙ take-append_seam done rest in
-    (length done, omega (arith, ap length parts, length-append done rest), subst (Appends a c) (sym front) (Appends-kept a b c done before kept))
+    (length done, omega (arith, left, ap length parts, length-append done rest), subst (Appends a c) (sym front) (Appends-kept a b c done before kept))
 
 -- n bytes more of what is left
 pub Appends-step : (a b c : Option (List ℕ)) (all done rest : List ℕ) (n : ℕ) → all ≡ done ++ rest → Appends a b done → Appends b c (take n rest) → (more : List ℕ) × (all ≡ more ++ drop n rest) × Appends a c more

@@ -5,11 +5,11 @@ use Rattle.std.specs.Prelude.{◌≡◌, ℕ, ◌+◌, ◌-◌, ◌^◌, ◌≤�
 abbrev pub next_count : ℕ → ℕ
 next_count n = min (n + 1) (2 ^ 64 - 1)
 
--- the count rose, or stands at the last value of a counter
+-- one more fault was counted
 abbrev pub Rose : ℕ → ℕ → Type 0
-Rose before after = next_count before ≤ after
+Rose before after = after ≡ next_count before
 
--- the count never falls: it rose where the call failed, and stood still where it didn't
+-- the count never falls: it rose by one where the call failed, and stood still where it didn't
 pub record HasCause {T E : Type 0} (before after : ℕ) (result : Result T E) : Type 0 where
   pub later : before ≤ after
   pub failed : OnErr result (Rose before after)

@@ -1,4 +1,4 @@
-ghost use Rattle.std.specs.Prelude.{◌≡◌, ◌↔◌, ◌∷◌, ◌++◌, IsTrue, IfOk, IfErr};
+ghost use Rattle.std.specs.Prelude.{◌≡◌, ◌↔◌, ◌∷◌, ◌++◌, IsTrue, Ok, Err, IfOk, IfErr, MatchResult};
 ghost use Rattle.amt_script.specs.declared.kind.Kind.TheVariants as kinds;
 ghost use Rattle.amt_script.specs.Fault.{First, Holds, order_of_values, order_of_reasons};
 ghost use Rattle.amt_script.specs.Lines.{fields, IsShort, IsPlain};
@@ -51,6 +51,17 @@ fn read_set(
     }
 }
 
+// What a line says whose reading takes no memory.
+fn item_of(read: Result<RelayItem, Reason>) -> Result<Statement, LineError>
+    ensures { MatchResult read (λ item. result ≡ Ok (Statement.Item item))
+        (λ reason. result ≡ Err (LineError.Bad reason)) }
+{
+    match read {
+        Ok(item) => Ok(Statement::Item(item)),
+        Err(reason) => Err(LineError::Bad(reason)),
+    }
+}
+
 /// Reads a line that says something, after lines that said these settings and items.
 pub fn read_statement(
     alloc: Global,
@@ -78,10 +89,10 @@ pub fn read_statement(
             Ok(setting) => Ok(Statement::Setting(setting)),
             Err(reason) => Err(LineError::Bad(reason)),
         },
-        Ok((Kind::Moment, values)) => Ok(Statement::Item(read_moment_item(values)?)),
-        Ok((Kind::Secret, values)) => Ok(Statement::Item(read_rotation(values)?)),
+        Ok((Kind::Moment, values)) => item_of(read_moment_item(values)),
+        Ok((Kind::Secret, values)) => item_of(read_rotation(values)),
         Ok((Kind::Datagram, values)) => Ok(Statement::Item(read_datagram(alloc, values)?)),
         Ok((Kind::Packet, values)) => Ok(Statement::Item(read_packet(alloc, values)?)),
-        Ok((Kind::Show, values)) => Ok(Statement::Item(read_show(values)?)),
+        Ok((Kind::Show, values)) => item_of(read_show(values)),
     }
 }

@@ -124,30 +124,30 @@ pub fn read_setting(key: Key, values: &[u8]) -> Result<Setting, Reason>
 }
 
 /// The item of a line `at MS`, by what follows its first word.
-pub fn read_moment_item(values: &[u8]) -> Result<RelayItem, LineError>
+pub fn read_moment_item(values: &[u8]) -> Result<RelayItem, Reason>
     ensures found { IfOk result (λ item. SaysItem item (words_of kinds.Moment ++ fields values.now)) }
-    ensures reason { IfErr result (FailsFirst (FailsAs kinds.Moment (fields values.now)) order_of_values) }
+    ensures reason { IfErr result (λ reason. First (FailsAs kinds.Moment (fields values.now)) order_of_values reason) }
 {
     let Some(text) = only_field(values) else {
-        return Err(LineError::Bad(Reason::Count));
+        return Err(Reason::Count);
     };
     match read_moment(text) {
         Some(moment) => Ok(RelayItem::Event(Event::Moment(moment))),
-        None => Err(LineError::Bad(Reason::Number)),
+        None => Err(Reason::Number),
     }
 }
 
 /// The item of a line `secret HEX`, by what follows its first word.
-pub fn read_rotation(values: &[u8]) -> Result<RelayItem, LineError>
+pub fn read_rotation(values: &[u8]) -> Result<RelayItem, Reason>
     ensures found { IfOk result (λ item. SaysItem item (words_of kinds.Secret ++ fields values.now)) }
-    ensures reason { IfErr result (FailsFirst (FailsAs kinds.Secret (fields values.now)) order_of_values) }
+    ensures reason { IfErr result (λ reason. First (FailsAs kinds.Secret (fields values.now)) order_of_values reason) }
 {
     let Some(text) = only_field(values) else {
-        return Err(LineError::Bad(Reason::Count));
+        return Err(Reason::Count);
     };
     match read_secret(text) {
         Some(secret) => Ok(RelayItem::Event(Event::Rotate(secret))),
-        None => Err(LineError::Bad(Reason::Hex)),
+        None => Err(Reason::Hex),
     }
 }
 
@@ -187,12 +187,12 @@ pub fn read_packet(alloc: Global, values: &[u8]) -> Result<RelayItem, LineError>
 }
 
 /// The item of a line `show`, by what follows the word, which is nothing.
-pub fn read_show(values: &[u8]) -> Result<RelayItem, LineError>
+pub fn read_show(values: &[u8]) -> Result<RelayItem, Reason>
     ensures found { IfOk result (λ item. SaysItem item (words_of kinds.Show ++ fields values.now)) }
-    ensures reason { IfErr result (FailsFirst (FailsAs kinds.Show (fields values.now)) order_of_values) }
+    ensures reason { IfErr result (λ reason. First (FailsAs kinds.Show (fields values.now)) order_of_values reason) }
 {
     match next_field(values) {
         None => Ok(RelayItem::Show),
-        Some(_) => Err(LineError::Bad(Reason::Count)),
+        Some(_) => Err(Reason::Count),
     }
 }

@@ -46,7 +46,9 @@ impl Source for FaultlessSource {
         ensures bound { ReadsAtMost result buf.new }
         ensures bytes { ReadConsumes (Some self.old) (Some self.new) result buf.new }
         ensures cause { HasCause 0 0 result }
+
         ensures most { result ≡ Ok (min (length self.old) (length buf.old)) }
+        ensures behind { IfOk result (λ n. drop n buf.new ≡ drop n buf.old) }
     {
         let (_, left) = self.bytes.as_slice().split_at(self.at);
         let count = fill(buf, left);
@@ -59,6 +61,7 @@ impl Source for FaultlessSource {
 fn fill(buf: &mut [u8], bytes: &[u8]) -> usize
     ensures count { result ≡ min (length bytes.now) (length buf.old) }
     ensures copied { take result buf.new ≡ take result bytes.now }
+    ensures behind { drop result buf.new ≡ drop result buf.old }
 {
     let count = bytes.len().min(buf.len());
     let (front, _) = buf.split_at_mut(count);
@@ -120,6 +123,8 @@ impl Source for MemSource {
         ensures cause { HasCause self.old.tally.faults self.new.tally.faults result }
 
         ensures most { IfOk result (λ n. n ≡ min (length self.old.left) (length buf.old)) }
+        ensures behind { IfOk result (λ n. drop n buf.new ≡ drop n buf.old) }
+        ensures untouched { OnErr result (buf.new ≡ buf.old) }
         ensures listed { IsErr result
             ↔ Contains self.old.tally.failing (next_count self.old.tally.made) }
         ensures ok { OnOk result (self.new.tally ≡ with_call self.old.tally) }

@@ -1,6 +1,11 @@
+use Rattle.std.proofs.Common.{ap, ◌∙◌}
 use Rattle.amt_script.proofs.Verdicts.{one_script, one_fault}
+use Rattle.amt_command.specs.Ending.{status_of}
 use Rattle.amt_command.proofs.Undisturbed.{done_told, fault_told, nothing_told, more_told, only_done, only_no_script}
 use Rattle.amt_command.proofs.top.amt.Goals as goal
+
+pub returns-clause-within : goal.returns-clause-within
+returns-clause-within g c = λ other. c.run-ending.ensures.within (λ long. other (c.status_of.ensures ∙ ap status_of long))
 
 pub returns-clause-complete : goal.returns-clause-complete
 returns-clause-complete g c = λ bytes script h short spelled.
