@@ -1,11 +1,12 @@
-ghost use Rattle.std.specs.Prelude.{◌≡◌, OnOk, OnErr};
+ghost use Rattle.std.specs.Prelude.{◌≡◌, ◌≢◌, IfErr, OnOk, OnErr};
 ghost use Rattle.std.specs.Io.{ReadsAtMost};
+ghost use Rattle.std.specs.IoError.{error_kind};
 ghost use Rattle.std.specs.Io.KnownBytes.{ReadConsumes};
 ghost use Rattle.amt_ports.specs.Causes.{HasCause, next_count};
 
 use crate::fault::count_fault;
 use crate::{Failed, Source};
-use std::io::{ErrorKind, Read};
+use std::io::{self, ErrorKind, Read};
 use std::marker::Model;
 
 /// A std reader as a source. It tells what the reader tells, so standard input tells nothing.
@@ -60,19 +61,21 @@ impl<R: Read + Drop> Source for ReaderSource<R> {
 }
 
 // A signal that interrupts a read says nothing about the reader, so the read is asked again.
-fn read_uninterrupted<R: Read>(reader: &mut R, buf: &mut [u8]) -> Result<usize, Failed>
+fn read_uninterrupted<R: Read>(reader: &mut R, buf: &mut [u8]) -> io::Result<usize>
     ensures bound { ReadsAtMost result buf.new }
     ensures bytes { ReadConsumes (R.remaining reader.old) (R.remaining reader.new) result buf.new }
+    ensures retried { IfErr result (λ error. error_kind error ≢ ErrorKind.Interrupted) }
 {
     for _ in 0..u64::MAX {
         match reader.read(buf) {
             Ok(count) => return Ok(count),
             Err(error) => {
                 if error.kind() != ErrorKind::Interrupted {
-                    return Err(Failed);
+                    return Err(error);
                 }
             }
         }
     }
-    Err(Failed)
+    // No process lives so long.
+    Err(io::Error::from(ErrorKind::TimedOut))
 }
