@@ -5,23 +5,20 @@ use amt_values::{Bytes, INPUT_LIMIT};
 use std::alloc::{AllocError, Global};
 use std::io;
 use std::io::{ErrorKind, Read, Write};
-use std::process::Abort;
-use std::test::Fail;
 
 // More than one buffer, and less than two.
 const LONG: usize = 5000;
 
-// An input's length and the calls that fail, and the length that is read or why none is, with the
-// count of faults.
-const READINGS: [(usize, &[u64], Result<usize, ReadAllFault>, u64); 8] = [
-    (0, &[], Ok(0), 0),
-    (LONG, &[], Ok(LONG), 0),
-    (LONG, &[1], Err(ReadAllFault::ReadFault), 1),
-    (LONG, &[2], Err(ReadAllFault::ReadFault), 1),
-    (LONG, &[3], Err(ReadAllFault::ReadFault), 1),
-    (LONG, &[4], Ok(LONG), 0),
-    (INPUT_LIMIT, &[], Ok(INPUT_LIMIT), 0),
-    (INPUT_LIMIT + 1, &[], Err(ReadAllFault::TooLong), 0),
+// An input's length, the calls that fail, and the length that is read, or why none is.
+const READINGS: [(usize, &[u64], Result<usize, ReadAllFault>); 8] = [
+    (0, &[], Ok(0)),
+    (LONG, &[], Ok(LONG)),
+    (LONG, &[1], Err(ReadAllFault::ReadFault)),
+    (LONG, &[2], Err(ReadAllFault::ReadFault)),
+    (LONG, &[3], Err(ReadAllFault::ReadFault)),
+    (LONG, &[4], Ok(LONG)),
+    (INPUT_LIMIT, &[], Ok(INPUT_LIMIT)),
+    (INPUT_LIMIT + 1, &[], Err(ReadAllFault::TooLong)),
 ];
 
 fn source_of(alloc: Global, count: usize, failing: &[u64]) -> Result<MemSource, AllocError> {
@@ -29,57 +26,58 @@ fn source_of(alloc: Global, count: usize, failing: &[u64]) -> Result<MemSource, 
     Ok(MemSource::failing(octets, Vec::from_slice(alloc, failing)?))
 }
 
-fn length_read(alloc: Global, source: &mut MemSource) -> Result<usize, ReadAllFault> {
-    let read = read_all(alloc, source)?;
-    Ok(read.len())
-}
-
-fn reading(
-    alloc: Global,
-    count: usize,
-    failing: &[u64],
-) -> Result<(Result<usize, ReadAllFault>, u64), AllocError> {
-    let mut source = source_of(alloc, count, failing)?;
-    let read = length_read(alloc, &mut source);
-    Ok((read, source.faults()))
-}
-
-#[test]
-fn an_input_is_read_up_to_the_limit_and_a_listed_call_is_a_fault(
-    rt: HostRuntime,
-) -> Result<(), Fail> {
-    for (count, failing, want, faults) in READINGS.as_slice() {
-        let found = reading(rt.alloc(), *count, failing)?;
-        assert_eq!(rt; found, (*want, *faults), "{count} but for {failing:?}");
-    }
-    Ok(())
-}
-
-fn assert_read<S: Source + Drop>(
-    rt: &impl Abort,
-    alloc: Global,
-    source: S,
-    want: &[u8],
-) -> Result<(), Fail> {
+fn all_of<S: Source + Drop>(alloc: Global, source: S) -> Result<Bytes, ReadAllFault> {
     let mut source = source;
-    let read = read_all(alloc, &mut source)?;
-    assert_eq!(rt; read.as_slice(), want);
-    Ok(())
+    read_all(alloc, &mut source)
+}
+
+fn length_read(alloc: Global, count: usize, failing: &[u64]) -> Result<usize, ReadAllFault> {
+    let Ok(source) = source_of(alloc, count, failing) else {
+        return Err(ReadAllFault::Memory);
+    };
+    match all_of(alloc, source) {
+        Ok(bytes) => Ok(bytes.len()),
+        Err(fault) => Err(fault),
+    }
 }
 
 #[test]
-fn the_bytes_of_each_source_are_read(rt: HostRuntime) -> Result<(), Fail> {
+fn an_input_is_read_up_to_the_limit_and_a_listed_call_is_a_fault(rt: HostRuntime) {
+    for (count, failing, want) in READINGS.as_slice() {
+        assert_eq!(rt; length_read(rt.alloc(), *count, failing), *want);
+    }
+}
+
+fn faultless(alloc: Global, bytes: &[u8]) -> Result<FaultlessSource, AllocError> {
+    Ok(FaultlessSource::new(Bytes::copied(alloc, bytes)?))
+}
+
+fn faulting(alloc: Global, bytes: &[u8]) -> Result<MemSource, AllocError> {
+    Ok(MemSource::new(alloc, Bytes::copied(alloc, bytes)?))
+}
+
+fn holds_all<S: Source + Drop>(alloc: Global, source: Result<S, AllocError>, want: &[u8]) -> bool {
+    let Ok(source) = source else {
+        return false;
+    };
+    match all_of(alloc, source) {
+        Ok(bytes) => bytes.as_slice() == want,
+        Err(_) => false,
+    }
+}
+
+#[test]
+fn the_bytes_of_a_source_are_read(rt: HostRuntime) {
     let alloc = rt.alloc();
-    let bytes = Bytes::copied(alloc, b"amt")?;
-    assert_read(&rt, alloc, FaultlessSource::new(bytes), b"amt")?;
-    let bytes = Bytes::copied(alloc, b"relay")?;
-    assert_read(&rt, alloc, MemSource::new(alloc, bytes), b"relay")?;
-    assert_read(
-        &rt,
-        alloc,
-        ReaderSource::new(b"gateway".as_slice()),
-        b"gateway",
-    )
+    assert!(rt; holds_all(alloc, faultless(alloc, b"amt"), b"amt"));
+    assert!(rt; holds_all(alloc, faulting(alloc, b"relay"), b"relay"));
+    assert!(rt;
+        holds_all(
+            alloc,
+            Ok(ReaderSource::new(b"gateway".as_slice())),
+            b"gateway"
+        )
+    );
 }
 
 // The calls that fail, the bytes that three writes leave, and the count of faults.
@@ -89,43 +87,40 @@ const WRITINGS: [(&[u64], &[u8], u64); 3] = [
     (&[1, 2, 3], b"", 3),
 ];
 
-fn writes(sink: &mut MemSink) -> [Result<(), WriteFault>; 3] {
-    let one = write_all_own(sink, b"one");
-    let two = write_all_own(sink, b"two");
-    [one, two, write_all_own(sink, b"three")]
+fn write_three(sink: &mut MemSink) -> u64 {
+    let one = write_all_own(sink, b"one").is_err();
+    let two = write_all_own(sink, b"two").is_err();
+    let three = write_all_own(sink, b"three").is_err();
+    one as u64 + two as u64 + three as u64
 }
 
-fn assert_writing(
-    rt: &impl Abort,
-    alloc: Global,
-    failing: &[u64],
-    want: &[u8],
-) -> Result<u64, Fail> {
-    let mut sink = MemSink::failing(alloc, Vec::from_slice(alloc, failing)?);
-    let answers = writes(&mut sink);
-    assert_eq!(rt; sink.as_slice(), want, "{answers:?} but for {failing:?}");
-    Ok(sink.faults())
+fn leaves(alloc: Global, failing: &[u64], want: &[u8], faults: u64) -> bool {
+    let Ok(calls) = Vec::from_slice(alloc, failing) else {
+        return false;
+    };
+    let mut sink = MemSink::failing(alloc, calls);
+    write_three(&mut sink) == faults && sink.faults() == faults && sink.as_slice() == want
 }
 
 #[test]
-fn what_was_written_before_a_fault_stays(rt: HostRuntime) -> Result<(), Fail> {
+fn what_was_written_before_a_fault_stays(rt: HostRuntime) {
     for (failing, want, faults) in WRITINGS.as_slice() {
-        let found = assert_writing(&rt, rt.alloc(), failing, want)?;
-        assert_eq!(rt; found, *faults, "but for {failing:?}");
+        assert!(rt;
+            leaves(rt.alloc(), failing, want, *faults),
+            "{faults} faults"
+        );
     }
-    Ok(())
 }
 
-fn assert_given(rt: &impl Abort, alloc: Global, bytes: &[u8]) {
+fn gives_all(alloc: Global, bytes: &[u8]) -> bool {
     let mut written = Vec::new(alloc);
     let mut sink = WriterSink::new(&mut written);
-    let answer = write_all_own(&mut sink, bytes);
-    assert_eq!(rt; (answer, written.as_slice()), (Ok(()), bytes));
+    write_all_own(&mut sink, bytes).is_ok() && written.as_slice() == bytes
 }
 
 #[test]
 fn a_std_writer_is_given_all(rt: HostRuntime) {
-    assert_given(&rt, rt.alloc(), b"gateway");
+    assert!(rt; gives_all(rt.alloc(), b"gateway"));
 }
 
 #[test]
@@ -138,7 +133,7 @@ fn a_std_writer_that_takes_no_more_is_a_write_fault(rt: HostRuntime) {
 }
 
 // What one call of a device of std comes to.
-#[derive(Clone, Copy, Debug)]
+#[derive(Clone, Copy)]
 enum Call {
     Moves(usize),
     Fails(ErrorKind),
@@ -182,11 +177,14 @@ impl Write for Listed {
     }
 }
 
-// The calls of a device, the octets of the buffer or the piece, and what two calls of its adapter
-// answer: an interruption is asked again, an error of another kind is a fault that is told and not
-// asked again, also where there is nothing to move, and a device that failed once goes on.
-const FALTERING: [(&[Call], usize, [Result<usize, Failed>; 2]); 5] = [
+// What two calls of an adapter answer.
+type Answers = [Result<usize, Failed>; 2];
+
+// The calls of a device, the octets of the buffer or the piece, and what two reads answer, and what
+// two writes do.
+const FALTERING: [(&str, &[Call], usize, Answers, Answers); 5] = [
     (
+        "an interruption is asked again",
         &[
             Call::Fails(ErrorKind::Interrupted),
             Call::Moves(1),
@@ -194,56 +192,55 @@ const FALTERING: [(&[Call], usize, [Result<usize, Failed>; 2]); 5] = [
         ],
         8,
         [Ok(1), Err(Failed)],
+        [Ok(1), Err(Failed)],
     ),
     (
+        "another fault is told and not asked again, and the device goes on",
         &[Call::Fails(ErrorKind::WouldBlock), Call::Moves(3)],
         8,
         [Err(Failed), Ok(3)],
+        [Err(Failed), Ok(3)],
     ),
     (
-        &[Call::Fails(ErrorKind::TimedOut), Call::Moves(8)],
-        8,
-        [Err(Failed), Ok(8)],
-    ),
-    (
+        "a fault is told where there is nothing to move",
         &[Call::Fails(ErrorKind::BrokenPipe), Call::Moves(0)],
         0,
         [Err(Failed), Ok(0)],
+        [Err(Failed), Ok(0)],
     ),
-    (&[Call::Moves(2), Call::Moves(3)], 8, [Ok(2), Ok(3)]),
+    (
+        "each call is made once",
+        &[Call::Moves(2), Call::Moves(3)],
+        8,
+        [Ok(2), Ok(3)],
+        [Ok(2), Ok(3)],
+    ),
+    (
+        "the end of input is no fault, and a write of nothing is one",
+        &[],
+        8,
+        [Ok(0), Ok(0)],
+        [Err(Failed), Err(Failed)],
+    ),
 ];
 
-fn reads(calls: &'static [Call], room: usize) -> ([Result<usize, Failed>; 2], u64) {
+fn reads(calls: &'static [Call], room: usize, want: &Answers) -> bool {
     let mut source = ReaderSource::new(Listed { calls });
     let mut buffer = [0; 8];
     let (buffer, _) = buffer.split_at_mut(room.min(8));
-    let answers = [source.read(buffer), source.read(buffer)];
-    (answers, source.faults())
+    source.read(buffer) == want[0] && source.read(buffer) == want[1]
 }
 
-fn writes_of(calls: &'static [Call], room: usize) -> ([Result<usize, Failed>; 2], u64) {
+fn writes(calls: &'static [Call], room: usize, want: &Answers) -> bool {
     let mut sink = WriterSink::new(Listed { calls });
     let (piece, _) = b"12345678".split_at(room.min(8));
-    let answers = [sink.write(piece), sink.write(piece)];
-    (answers, sink.faults())
-}
-
-fn count_of(answers: &[Result<usize, Failed>; 2]) -> u64 {
-    answers[0].is_err() as u64 + answers[1].is_err() as u64
+    sink.write(piece) == want[0] && sink.write(piece) == want[1]
 }
 
 #[test]
-fn a_fault_is_told_once_and_an_interruption_never(rt: HostRuntime) {
-    for (calls, room, want) in FALTERING.as_slice() {
-        let want = (*want, count_of(want));
-        assert_eq!(rt; reads(calls, *room), want, "reads of {calls:?}");
-        assert_eq!(rt; writes_of(calls, *room), want, "writes of {calls:?}");
+fn a_fault_of_a_device_is_told_once_and_an_interruption_never(rt: HostRuntime) {
+    for (name, calls, room, read, written) in FALTERING.as_slice() {
+        assert!(rt; reads(calls, *room, read), "{name}");
+        assert!(rt; writes(calls, *room, written), "{name}");
     }
-}
-
-// The end of input is no fault, however often it is asked for, and a write of nothing is one.
-#[test]
-fn an_end_is_no_fault_of_a_reader(rt: HostRuntime) {
-    assert_eq!(rt; reads(&[], 8), ([Ok(0), Ok(0)], 0));
-    assert_eq!(rt; writes_of(&[], 8), ([Err(Failed), Err(Failed)], 2));
 }
