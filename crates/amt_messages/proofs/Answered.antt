@@ -1,5 +1,5 @@
 -- From what was answered by the reading of octets to what it says of their spelling.
-use Rattle.std.proofs.Common.{◌≡◌, ◌≤◌, ℕ, List, length, arith, Option, Some, None, Result, Ok, Err, refl, sym, subst, ◌∙◌}
+use Rattle.std.proofs.Common.{◌≡◌, ◌≤◌, ◌↔◌, ℕ, List, length, arith, Option, Some, None, Result, Ok, Err, refl, sym, subst, ◌∙◌}
 use Rattle.std.specs.Result.{IfOk, MatchResult}
 use Rattle.amt_messages.specs.declared.message.Message.{Message}
 use Rattle.amt_messages.specs.declared.message.Message.TheVariants.{Discovery, Advertisement, Request, Query, Update, Multicast, Teardown}
@@ -10,7 +10,7 @@ use Rattle.amt_messages.specs.Conditions.{IsMessage, IsSendable}
 use Rattle.amt_messages.specs.Layout.{Spells, spelling_of}
 use Rattle.amt_messages.specs.Refusal.{Gives, TakesMemory, first_refusal, message_at, message_of, reading_by, refusal_in}
 use Rattle.amt_messages.proofs.Spelled.{spelled_is_read}
-use Rattle.amt_messages.proofs.Unrefused.{read_is_spelled, read_is_unrefused}
+use Rattle.amt_messages.proofs.Unrefused.{read_is_spelled, read_is_unrefused, unrefused_is_spelled}
 use Rattle.amt_messages.proofs.Written.{spelling_is_canonical}
 
 pub answer_found : (answer : Result Message DecodeFault) (bytes : List ℕ) → Gives answer (message_of bytes) → IfOk answer (λ message. Spells message bytes)
@@ -76,3 +76,14 @@ answer_refused (Err (RefusedBy refusal)) bytes gives = read_is_refused bytes ref
 answer_refused (Err Memory) bytes gives =
     let found = takes_memory-ok (message_of bytes) gives in
     read_is_unrefused bytes found.0 found.1
+
+-- nothing refuses the octets exactly where some message spells them
+pub unrefused-spelled : (bytes : List ℕ) → (first_refusal bytes ≡ None) ↔ ((message : Message) × Spells message bytes)
+unrefused-spelled bytes = (
+  unrefused_is_spelled bytes,
+  λ (message, spells). read_is_unrefused bytes message (spelled_is_read message bytes spells),
+)
+
+-- a message spells the octets exactly where it is what is read of them
+pub Spells-read : (bytes : List ℕ) (message : Message) → Spells message bytes ↔ (message_of bytes ≡ Ok message)
+Spells-read bytes message = (spelled_is_read message bytes, read_is_spelled bytes message)

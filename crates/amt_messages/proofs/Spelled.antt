@@ -6,9 +6,10 @@ use Rattle.amt_values.specs.declared.address.Ip.TheVariants.{V4, V6}
 use Rattle.amt_values.specs.declared.mac.Mac48.{Mac48}
 use Rattle.amt_messages.specs.declared.message.Message.{Message}
 use Rattle.amt_messages.specs.declared.message.Message.TheVariants.{Discovery, Advertisement, Request, Query, Update, Multicast, Teardown}
+use Rattle.amt_messages.specs.declared.refusal.Refused.{Refused}
 use Rattle.amt_messages.specs.Inner.{inner_length_of}
 use Rattle.amt_messages.specs.Layout.{Spells, IsQuery, has_flag, query_length, gateway_at}
-use Rattle.amt_messages.specs.Refusal.{first_refusal, kind_refusal, query_refusal, length_refusal, message_at, message_of}
+use Rattle.amt_messages.specs.Refusal.{first_refusal, kind_refusal, query_refusal, length_refusal, kind_reading, message_at, message_of, reading_by}
 use Rattle.amt_messages.proofs.InnerLength.{inner_length_of-least, inner_length_of-take}
 
 -- octets of version 0 are refused by their type
@@ -19,6 +20,12 @@ first_refusal-kind kind (x ∷ rest) small some first =
     let version : kind / 16 ≡ 0 = omega arith in
     let low : kind % 16 ≡ kind = omega arith in
     rw (first, version, low) refl
+
+-- so what is read of them is what is read by their type
+pub kind_reading-message : (kind : ℕ) (bytes : List ℕ) → kind < 16 → 0 < length bytes → slice_index bytes 0 ≡ kind → kind_reading kind bytes ≡ message_of bytes
+unfolding kind_reading message_of
+kind_reading-message kind bytes small some first =
+    ap (λ (refusal : Option Refused). reading_by refusal (message_at bytes)) (sym (first_refusal-kind kind bytes small some first))
 
 length_refusal-same : (need : ℕ) → length_refusal need need ≡ None
 length_refusal-same need = rw (le-ltb need need (omega arith)) refl

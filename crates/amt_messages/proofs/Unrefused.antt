@@ -168,3 +168,7 @@ read_is_spelled bytes message same =
 pub read_is_unrefused : (bytes : List ℕ) (message : Message) → message_of bytes ≡ Ok message → first_refusal bytes ≡ None
 unfolding message_of
 read_is_unrefused bytes message same = (reading_by-ok (first_refusal bytes) (message_at bytes) message same).0
+
+-- octets that nothing refuses spell the message at the places of its fields
+pub unrefused_is_spelled : (bytes : List ℕ) → first_refusal bytes ≡ None → (message : Message) × Spells message bytes
+unrefused_is_spelled bytes unrefused = (message_at bytes, message_spelled bytes (first_refusal-none bytes unrefused))

@@ -1,6 +1,7 @@
 -- The first refusal of octets, the message where there is none, and what may be answered.
 use Rattle.std.specs.Prelude.{◌≡◌, ℕ, ◌/◌, ◌%◌, ◌==◌, nat_lt, nat_le, not, ◌||◌, Bool, List, [], ◌∷◌, length, drop, take, slice_index, Option, Some, None, unwrap_or, Result, Ok, Err, if◌then◌else◌}
 use Rattle.byteorder.specs.Endian.{big_number}
+use Rattle.amt_values.specs.Tunnel.{Tunnel}
 use Rattle.amt_values.specs.declared.address.Ip.{Ip}
 use Rattle.amt_values.specs.declared.address.Ip.TheVariants.{V4, V6}
 use Rattle.amt_messages.specs.Inner.{inner_length_of}
@@ -86,11 +87,15 @@ advertisement_at bytes = Advertisement (big_number 4 (drop 4 bytes)) (relay_at b
 abbrev pub request_at : List ℕ → Message
 request_at bytes = Request (has_flag 0 bytes) (big_number 4 (drop 4 bytes))
 
+-- what a Query says of the gateway, behind an inner datagram of so many octets
+abbrev pub seen_at : ℕ → List ℕ → Option Tunnel
+seen_at inner bytes = if has_flag 0 bytes then Some (gateway_at inner bytes) else None
+
 -- with an inner datagram of so many octets
 abbrev pub query_with : ℕ → List ℕ → Message
 query_with inner bytes =
     Query (has_flag 1 bytes) (record { 0 = take 6 (drop 2 bytes) }) (big_number 4 (drop 8 bytes)) (take inner (drop 12 bytes))
-    (if has_flag 0 bytes then Some (gateway_at inner bytes) else None)
+    (seen_at inner bytes)
 
 abbrev pub query_at : List ℕ → Message
 query_at bytes = query_with (unwrap_or (inner_length_of (drop 12 bytes)) 0) bytes
@@ -139,6 +144,10 @@ multicast_reading bytes = reading_by (multicast_refusal bytes) (multicast_at byt
 
 abbrev pub teardown_reading : List ℕ → Result Message Refused
 teardown_reading bytes = reading_by (teardown_refusal bytes) (teardown_at bytes)
+
+-- what is read of octets of version 0 and this type
+unfoldable pub kind_reading : ℕ → List ℕ → Result Message Refused
+kind_reading kind bytes = reading_by (kind_refusal kind bytes) (message_at bytes)
 
 -- the message that the octets spell, or their first refusal
 unfoldable pub message_of : List ℕ → Result Message Refused

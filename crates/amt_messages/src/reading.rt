@@ -1,8 +1,8 @@
-ghost use Rattle.std.specs.Prelude.{◌≡◌, ◌≤◌, length, IfOk, Ok, MatchResult, None};
+ghost use Rattle.std.specs.Prelude.{◌≡◌, ◌≤◌, ◌↔◌, length, slice_index, IfOk, Ok, MatchResult, None};
 ghost use Rattle.amt_messages.specs.declared.message.Message.{Message as MessageValue};
 ghost use Rattle.amt_messages.specs.Conditions.{IsMessage, IsSendable};
 ghost use Rattle.amt_messages.specs.Layout.{Spells, spelling_of};
-ghost use Rattle.amt_messages.specs.Refusal.{Gives, advertisement_length, advertisement_reading, discovery_reading, first_refusal, message_of, refusal_in, request_reading};
+ghost use Rattle.amt_messages.specs.Refusal.{Gives, advertisement_length, advertisement_reading, discovery_reading, first_refusal, kind_reading, message_of, refusal_in, request_reading};
 
 use crate::fields::{has_flag, number_at, relay_at};
 use crate::message::Message;
@@ -61,6 +61,25 @@ fn read_request(bytes: &[u8]) -> Result<Message, DecodeFault>
     }
 }
 
+// Reads octets of version 0 by their type.
+#[tactic(auto, unfolding(crate::specs::Refusal::kind_reading))]
+fn read_kind(alloc: Global, kind: u8, bytes: &[u8]) -> Result<Message, DecodeFault>
+    requires most { length bytes.now ≤ 65535 }
+    requires first { slice_index bytes.now 0 ≡ kind }
+    ensures { Gives result (kind_reading kind bytes.now) }
+{
+    match kind {
+        1 => read_discovery(bytes),
+        2 => read_advertisement(bytes),
+        3 => read_request(bytes),
+        4 => read_query(alloc, bytes),
+        5 => read_update(alloc, bytes),
+        6 => read_multicast(alloc, bytes),
+        7 => read_teardown(bytes),
+        _ => Err(DecodeFault::Refused(Refused::Kind(kind))),
+    }
+}
+
 #[tactic(auto, unfolding(crate::specs::Refusal::first_refusal, crate::specs::Refusal::message_of))]
 fn read(alloc: Global, bytes: &[u8]) -> Result<Message, DecodeFault>
     requires { length bytes.now ≤ 65535 }
@@ -73,16 +92,7 @@ fn read(alloc: Global, bytes: &[u8]) -> Result<Message, DecodeFault>
     if version != 0 {
         return Err(DecodeFault::Refused(Refused::Version(version)));
     }
-    match *first {
-        1 => read_discovery(bytes),
-        2 => read_advertisement(bytes),
-        3 => read_request(bytes),
-        4 => read_query(alloc, bytes),
-        5 => read_update(alloc, bytes),
-        6 => read_multicast(alloc, bytes),
-        7 => read_teardown(bytes),
-        kind => Err(DecodeFault::Refused(Refused::Kind(kind))),
-    }
+    read_kind(alloc, *first, bytes)
 }
 
 /// Reads a whole datagram of at most 65,535 octets as one message.
@@ -103,6 +113,13 @@ pub fn decode(alloc: Global, bytes: &[u8]) -> Result<Message, DecodeFault>
     ensures refused { MatchResult result (λ _. first_refusal bytes.now ≡ None)
         (λ fault. first_refusal bytes.now ≡ refusal_in fault) }
     ensures value { Gives result (message_of bytes.now) }
+
+    // Of the octets alone, whatever is answered, also where there is no memory: nothing refuses them
+    // exactly where some message spells them, and that message is the one that is read.
+    ensures spelled { (first_refusal bytes.now ≡ None)
+        ↔ ((message : MessageValue) × Spells message bytes.now) }
+    ensures exact { (message : MessageValue)
+        → (Spells message bytes.now ↔ (message_of bytes.now ≡ Ok message)) }
 {
     read(alloc, bytes)
 }

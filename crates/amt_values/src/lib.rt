@@ -1,7 +1,7 @@
 //! Addresses, peers and tunnel endpoints, and their texts.
 //!
 //! Contract: a tunnel endpoint has one form, and each text names one value and is printed one way.
-//! It knows no message, socket or moment.
+//! It knows no message, socket or clock: a moment is a number that the caller gives.
 //! Standard: RFC 4291, sections 2.2 and 2.5.5; RFC 5952, section 4.
 #![tactic(auto)]
 

@@ -63,57 +63,58 @@ mod tests {
     use super::*;
     use byteorder::{BigEndian, ByteOrder};
 
-    // RFC 4231, sections 4.2, 4.3, 4.7 and 4.8. A digest is written in two halves.
+    // RFC 4231, sections 4.2, 4.3, 4.7 and 4.8: the test case, key and text, and the digest in two
+    // halves.
+    const DIGESTS: [(u8, &[u8], &[u8], (u128, u128)); 4] = [
+        (
+            1,
+            &[0x0b; 20],
+            b"Hi There",
+            (
+                0xb0344c61d8db38535ca8afceaf0bf12b,
+                0x881dc200c9833da726e9376c2e32cff7,
+            ),
+        ),
+        (
+            2,
+            b"Jefe",
+            b"what do ya want for nothing?",
+            (
+                0x5bdcc146bf60754e6a042426089575c7,
+                0x5a003f089d2739839dec58b964ec3843,
+            ),
+        ),
+        (
+            6,
+            &[0xaa; 131],
+            b"Test Using Larger Than Block-Size Key - Hash Key First",
+            (
+                0x60e431591ee0b67f0d8a26aacbf5b77f,
+                0x8e0bc6213728c5140546040f0ee37f54,
+            ),
+        ),
+        (
+            7,
+            &[0xaa; 131],
+            b"This is a test using a larger than block-size key and a larger than \
+                block-size data. The key needs to be hashed before being used by the HMAC algorithm.",
+            (
+                0x9b09ffa71b942fcb27635fbcd5b0e944,
+                0xbfdc63644f0713938a7f51535c3a35e2,
+            ),
+        ),
+    ];
+
+    fn halves(digest: &[u8; 32]) -> (u128, u128) {
+        let (high, low) = digest.split_at(16);
+        (BigEndian::read_u128(high), BigEndian::read_u128(low))
+    }
+
     #[test]
     fn the_digests_are_those_of_rfc_4231(rt: HostRuntime) {
-        let long_key = [0xaa; 131];
-        let long_text = b"This is a test using a larger than block-size key and a larger than \
-            block-size data. The key needs to be hashed before being used by the HMAC algorithm.";
-        let table: [(u8, &[u8], &[u8], (u128, u128)); 4] = [
-            (
-                1,
-                &[0x0b; 20],
-                b"Hi There",
-                (
-                    0xb0344c61d8db38535ca8afceaf0bf12b,
-                    0x881dc200c9833da726e9376c2e32cff7,
-                ),
-            ),
-            (
-                2,
-                b"Jefe",
-                b"what do ya want for nothing?",
-                (
-                    0x5bdcc146bf60754e6a042426089575c7,
-                    0x5a003f089d2739839dec58b964ec3843,
-                ),
-            ),
-            (
-                6,
-                &long_key,
-                b"Test Using Larger Than Block-Size Key - Hash Key First",
-                (
-                    0x60e431591ee0b67f0d8a26aacbf5b77f,
-                    0x8e0bc6213728c5140546040f0ee37f54,
-                ),
-            ),
-            (
-                7,
-                &long_key,
-                long_text,
-                (
-                    0x9b09ffa71b942fcb27635fbcd5b0e944,
-                    0xbfdc63644f0713938a7f51535c3a35e2,
-                ),
-            ),
-        ];
-        for (case, key, text, want) in table {
-            let digest = hmac_sha256(key, text);
-            let found = (
-                BigEndian::read_u128(&digest),
-                BigEndian::read_u128(&digest[16..]),
-            );
-            assert_eq!(rt; found, want, "test case {case}");
+        for (case, key, text, want) in DIGESTS.as_slice() {
+            let found = halves(&hmac_sha256(key, text));
+            assert_eq!(rt; found, *want, "test case {case}");
         }
     }
 }

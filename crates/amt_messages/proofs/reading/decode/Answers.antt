@@ -1,4 +1,4 @@
-use Rattle.amt_messages.proofs.Answered.{answer_found, answer_only, answer_back, answer_refused, answer_sendable, Spells_unique}
+use Rattle.amt_messages.proofs.Answered.{answer_found, answer_only, answer_back, answer_refused, answer_sendable, Spells_unique, Spells-read, unrefused-spelled}
 use Rattle.amt_messages.proofs.reading.decode.Goals as goal
 
 pub returns-clause-found : goal.returns-clause-found
@@ -18,3 +18,9 @@ returns-clause-one c = Spells_unique c.args.bytes.now
 
 pub returns-clause-refused : goal.returns-clause-refused
 returns-clause-refused c = answer_refused c.read.result c.args.bytes.now c.read.ensures
+
+pub returns-clause-spelled : goal.returns-clause-spelled
+returns-clause-spelled c = unrefused-spelled c.args.bytes.now
+
+pub returns-clause-exact : goal.returns-clause-exact
+returns-clause-exact c = Spells-read c.args.bytes.now
