@@ -6,7 +6,7 @@ ghost use Rattle.source_filter.specs.Record.{item_count};
 ghost use Rattle.source_filter.specs.Rising.{IsRising};
 ghost use Rattle.endpoint_membership.specs.Admission.{is_admitted};
 ghost use Rattle.endpoint_membership.specs.Kept.{is_counted};
-ghost use Rattle.endpoint_membership.specs.Limits.{IsWithin, fault_by, live_count, size};
+ghost use Rattle.endpoint_membership.specs.Limits.{AreFew, IsWithin, fault_by, live_count, size};
 ghost use Rattle.endpoint_membership.specs.Log.{is_empty, latest};
 ghost use Rattle.endpoint_membership.specs.Own.{is_over};
 ghost use Rattle.endpoint_membership.specs.Rows.{is_live, rows_of, standing_rows};
@@ -127,8 +127,9 @@ impl Table {
 
     /// What stands, by endpoint and then by group.
     pub fn rows(&self, alloc: Global) -> Result<Rows, AllocError>
-        ensures { IfOk result (λ rows. (terms : Terms) (log : List Entry) → Holds terms self.now log
-            → rows ≡ rows_of terms.lifetime (latest log) log) }
+        ensures stands { IfOk result (λ rows. (terms : Terms) (log : List Entry)
+            → Holds terms self.now log → rows ≡ rows_of terms.lifetime (latest log) log) }
+        ensures bounded { IsWithinLimits self.now → IfOk result (AreFew self.now.limits) }
     {
         let rows = show(alloc, &self.rows)?;
         Ok(rows)
