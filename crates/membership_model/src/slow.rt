@@ -11,9 +11,8 @@ ghost use Rattle.endpoint_membership.specs.Rows.{places_in, places_of, rows_of, 
 mod wants;
 mod wishes;
 
-use crate::change::Change;
-use crate::row::{Row, Rows};
 use amt_values::{Endpoint, Ip, Moment};
+use endpoint_membership::{Change, Row, Rows};
 use source_filter::{Ips, Record, RecordKind, Records};
 use std::alloc::{AllocError, Global};
 use std::marker::Model;

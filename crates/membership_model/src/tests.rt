@@ -2,158 +2,169 @@ mod fixtures;
 mod long;
 mod packets;
 mod random;
+mod steps;
 
-use super::*;
-use fixtures::{
-    CHANNEL, GROUP, LIFETIME_MS, ONE, OTHER, TWO, WIDE, assert_rows, endpoint, moment, report,
-    table,
-};
+use endpoint_membership::AcceptFault::Limit;
+use endpoint_membership::LimitFault::{Endpoints, Groups, Sources};
+use endpoint_membership::Limits;
+use fixtures::{CHANNEL, GROUP, LIFETIME_MS, ONE, ONE_GROUP, ONE_SOURCE, OTHER, TWO, WIDE};
 use source_filter::Mode::{Exclude, Include};
 use source_filter::RecordKind::{Allow, Block, IsEx, ToEx, ToIn};
 use std::test::Fail;
+use steps::Step::{Advance, Clear, Live, Now, Report, Rows};
+use steps::{Step, run};
+
+const ALL_SOURCES: [Step<'static>; 3] = [
+    Report(7, &[(IsEx, GROUP, &[])], 0, Ok(())),
+    Rows(&[(7, GROUP, Exclude, &[])]),
+    Live(1),
+];
+
+const ALL_SOURCES_OF_A_CHANNEL: [Step<'static>; 3] = [
+    Report(7, &[(IsEx, CHANNEL, &[])], 0, Ok(())),
+    Rows(&[(7, CHANNEL, Exclude, &[])]),
+    Live(1),
+];
 
 #[test]
 fn a_report_of_all_sources_leaves_one_row(rt: HostRuntime) -> Result<(), Fail> {
-    for group in [GROUP, CHANNEL] {
-        let mut table = table(rt.alloc(), &WIDE)?;
-        report(&rt, rt.alloc(), &mut table, 7, &[(IsEx, group, &[])], 0)?;
-        assert_rows(&rt, rt.alloc(), &table, &[(7, group, Exclude, &[])])?;
-        assert_eq!(rt; table.live_endpoints(), 1);
-    }
+    run(&rt, rt.alloc(), &WIDE, &ALL_SOURCES)?;
+    run(&rt, rt.alloc(), &WIDE, &ALL_SOURCES_OF_A_CHANNEL)?;
     Ok(())
 }
+
+const RECORDS_IN_ORDER: [Step<'static>; 2] = [
+    Report(
+        7,
+        &[
+            (IsEx, GROUP, &[ONE]),
+            (Allow, GROUP, &[ONE]),
+            (Block, GROUP, &[TWO]),
+        ],
+        0,
+        Ok(()),
+    ),
+    Rows(&[(7, GROUP, Exclude, &[TWO])]),
+];
 
 #[test]
 fn records_of_one_report_count_in_their_order(rt: HostRuntime) -> Result<(), Fail> {
-    let mut table = table(rt.alloc(), &WIDE)?;
-    let told = [
-        (IsEx, GROUP, [ONE].as_slice()),
-        (Allow, GROUP, [ONE].as_slice()),
-        (Block, GROUP, [TWO].as_slice()),
-    ];
-    report(&rt, rt.alloc(), &mut table, 7, &told, 0)?;
-    assert_rows(&rt, rt.alloc(), &table, &[(7, GROUP, Exclude, &[TWO])])?;
+    run(&rt, rt.alloc(), &WIDE, &RECORDS_IN_ORDER)?;
     Ok(())
 }
+
+const NOT_RENEWED: [Step<'static>; 5] = [
+    Report(7, &[(IsEx, GROUP, &[])], 0, Ok(())),
+    Advance(259_999),
+    Rows(&[(7, GROUP, Exclude, &[])]),
+    Advance(260_000),
+    Rows(&[]),
+];
+
+const RENEWED: [Step<'static>; 6] = [
+    Report(7, &[(IsEx, GROUP, &[])], 0, Ok(())),
+    Report(7, &[(IsEx, GROUP, &[])], 259_999, Ok(())),
+    Advance(519_998),
+    Rows(&[(7, GROUP, Exclude, &[])]),
+    Advance(519_999),
+    Rows(&[]),
+];
 
 #[test]
 fn a_group_ends_a_lifetime_after_its_last_renewal(rt: HostRuntime) -> Result<(), Fail> {
-    let row = [(7, GROUP, Exclude, [].as_slice())];
-    for renewed in [false, true] {
-        let mut table = table(rt.alloc(), &WIDE)?;
-        report(&rt, rt.alloc(), &mut table, 7, &[(IsEx, GROUP, &[])], 0)?;
-        table.advance(&moment(&rt, 259_999));
-        assert_rows(&rt, rt.alloc(), &table, &row)?;
-        if renewed {
-            report(
-                &rt,
-                rt.alloc(),
-                &mut table,
-                7,
-                &[(IsEx, GROUP, &[])],
-                259_999,
-            )?;
-            table.advance(&moment(&rt, 519_998));
-            assert_rows(&rt, rt.alloc(), &table, &row)?;
-        }
-        table.advance(&moment(&rt, if renewed { 519_999 } else { 260_000 }));
-        assert_rows(&rt, rt.alloc(), &table, &[])?;
-    }
+    run(&rt, rt.alloc(), &WIDE, &NOT_RENEWED)?;
+    run(&rt, rt.alloc(), &WIDE, &RENEWED)?;
     Ok(())
 }
+
+const TWO_ENDPOINTS: Limits = Limits {
+    endpoints: 2,
+    groups: 1000,
+    sources: 1000,
+};
+
+const THREE_ENDPOINTS: [Step<'static>; 7] = [
+    Report(1, &[(IsEx, GROUP, &[])], 0, Ok(())),
+    Report(2, &[(IsEx, GROUP, &[])], 1, Ok(())),
+    Report(3, &[(IsEx, GROUP, &[])], 2, Err(Limit(Endpoints(3)))),
+    Rows(&[(1, GROUP, Exclude, &[]), (2, GROUP, Exclude, &[])]),
+    Report(3, &[(IsEx, GROUP, &[])], LIFETIME_MS, Ok(())),
+    Live(2),
+    Rows(&[(2, GROUP, Exclude, &[]), (3, GROUP, Exclude, &[])]),
+];
 
 #[test]
 fn a_third_endpoint_waits_until_one_has_expired(rt: HostRuntime) -> Result<(), Fail> {
-    let limits = Limits {
-        endpoints: 2,
-        ..WIDE
-    };
-    let told = [(IsEx, GROUP, [].as_slice())];
-    let mut table = table(rt.alloc(), &limits)?;
-    report(&rt, rt.alloc(), &mut table, 1, &told, 0)?;
-    report(&rt, rt.alloc(), &mut table, 2, &told, 1)?;
-    let refused = report(&rt, rt.alloc(), &mut table, 3, &told, 2);
-    assert_eq!(rt; refused, Err(AcceptFault::Limit(LimitFault::Endpoints(3))));
-    let two = [
-        (1, GROUP, Exclude, [].as_slice()),
-        (2, GROUP, Exclude, [].as_slice()),
-    ];
-    assert_rows(&rt, rt.alloc(), &table, &two)?;
-    let accepted = report(&rt, rt.alloc(), &mut table, 3, &told, LIFETIME_MS);
-    assert_eq!(rt; accepted, Ok(()));
-    assert_eq!(rt; table.live_endpoints(), 2);
-    let later = [
-        (2, GROUP, Exclude, [].as_slice()),
-        (3, GROUP, Exclude, [].as_slice()),
-    ];
-    assert_rows(&rt, rt.alloc(), &table, &later)?;
+    run(&rt, rt.alloc(), &TWO_ENDPOINTS, &THREE_ENDPOINTS)?;
     Ok(())
 }
+
+const TWO_GROUPS: [Step<'static>; 5] = [
+    Report(7, &[(IsEx, GROUP, &[])], 0, Ok(())),
+    Report(7, &[(ToEx, OTHER, &[]), (ToIn, GROUP, &[])], 1, Ok(())),
+    Rows(&[(7, OTHER, Exclude, &[])]),
+    Report(7, &[(IsEx, GROUP, &[])], 2, Err(Limit(Groups(2)))),
+    Rows(&[(7, OTHER, Exclude, &[])]),
+];
 
 #[test]
 fn groups_are_counted_after_the_whole_report(rt: HostRuntime) -> Result<(), Fail> {
-    let limits = Limits { groups: 1, ..WIDE };
-    let mut table = table(rt.alloc(), &limits)?;
-    report(&rt, rt.alloc(), &mut table, 7, &[(IsEx, GROUP, &[])], 0)?;
-    let moved = [(ToEx, OTHER, [].as_slice()), (ToIn, GROUP, [].as_slice())];
-    let accepted = report(&rt, rt.alloc(), &mut table, 7, &moved, 1);
-    assert_eq!(rt; accepted, Ok(()));
-    let row = [(7, OTHER, Exclude, [].as_slice())];
-    assert_rows(&rt, rt.alloc(), &table, &row)?;
-    let refused = report(&rt, rt.alloc(), &mut table, 7, &[(IsEx, GROUP, &[])], 2);
-    assert_eq!(rt; refused, Err(AcceptFault::Limit(LimitFault::Groups(2))));
-    assert_rows(&rt, rt.alloc(), &table, &row)?;
+    run(&rt, rt.alloc(), &ONE_GROUP, &TWO_GROUPS)?;
     Ok(())
 }
+
+const TWO_WIDE_GROUPS: [Step<'static>; 3] = [
+    Report(
+        7,
+        &[
+            (Allow, OTHER, &[ONE, TWO]),
+            (IsEx, GROUP, &[ONE]),
+            (Block, GROUP, &[TWO]),
+        ],
+        0,
+        Err(Limit(Sources(GROUP, 2))),
+    ),
+    Report(
+        7,
+        &[(Allow, OTHER, &[ONE, TWO])],
+        0,
+        Err(Limit(Sources(OTHER, 2))),
+    ),
+    Rows(&[]),
+];
 
 #[test]
 fn the_least_group_with_too_many_sources_is_named(rt: HostRuntime) -> Result<(), Fail> {
-    let limits = Limits { sources: 1, ..WIDE };
-    let told = [
-        (Allow, OTHER, [ONE, TWO].as_slice()),
-        (IsEx, GROUP, [ONE].as_slice()),
-        (Block, GROUP, [TWO].as_slice()),
-    ];
-    let mut table = table(rt.alloc(), &limits)?;
-    let refused = report(&rt, rt.alloc(), &mut table, 7, &told, 0);
-    assert_eq!(rt;
-        refused,
-        Err(AcceptFault::Limit(LimitFault::Sources(GROUP, 2)))
-    );
-    let refused = report(&rt, rt.alloc(), &mut table, 7, &told[..1], 0);
-    assert_eq!(rt;
-        refused,
-        Err(AcceptFault::Limit(LimitFault::Sources(OTHER, 2)))
-    );
-    assert_rows(&rt, rt.alloc(), &table, &[])?;
+    run(&rt, rt.alloc(), &ONE_SOURCE, &TWO_WIDE_GROUPS)?;
     Ok(())
 }
+
+const ENDED_GROUPS: [Step<'static>; 7] = [
+    Report(7, &[(IsEx, GROUP, &[]), (Allow, OTHER, &[ONE])], 0, Ok(())),
+    Report(7, &[(ToIn, GROUP, &[])], 1, Ok(())),
+    Rows(&[(7, OTHER, Include, &[ONE])]),
+    Clear(8, 2, false),
+    Rows(&[(7, OTHER, Include, &[ONE])]),
+    Clear(7, 3, true),
+    Rows(&[]),
+];
 
 #[test]
 fn a_record_of_nothing_and_a_clearing_end_groups(rt: HostRuntime) -> Result<(), Fail> {
-    let told = [(IsEx, GROUP, [].as_slice()), (Allow, OTHER, &[ONE])];
-    let mut table = table(rt.alloc(), &WIDE)?;
-    report(&rt, rt.alloc(), &mut table, 7, &told, 0)?;
-    report(&rt, rt.alloc(), &mut table, 7, &[(ToIn, GROUP, &[])], 1)?;
-    let row = [(7, OTHER, Include, [ONE].as_slice())];
-    assert_rows(&rt, rt.alloc(), &table, &row)?;
-    let live = table.clear(&endpoint(8), &moment(&rt, 2));
-    assert!(rt; !live);
-    assert_rows(&rt, rt.alloc(), &table, &row)?;
-    let live = table.clear(&endpoint(7), &moment(&rt, 3));
-    assert!(rt; live);
-    assert_rows(&rt, rt.alloc(), &table, &[])?;
+    run(&rt, rt.alloc(), &WIDE, &ENDED_GROUPS)?;
     Ok(())
 }
 
+const EARLIER_MOMENT: [Step<'static>; 5] = [
+    Advance(1000),
+    Report(7, &[(IsEx, GROUP, &[])], 10, Ok(())),
+    Now(1000),
+    Advance(260_999),
+    Rows(&[(7, GROUP, Exclude, &[])]),
+];
+
 #[test]
 fn a_moment_that_goes_backwards_is_the_last_one(rt: HostRuntime) -> Result<(), Fail> {
-    let mut table = table(rt.alloc(), &WIDE)?;
-    table.advance(&moment(&rt, 1000));
-    report(&rt, rt.alloc(), &mut table, 7, &[(IsEx, GROUP, &[])], 10)?;
-    assert_eq!(rt; table.now(), moment(&rt, 1000));
-    table.advance(&moment(&rt, 260_999));
-    let row = [(7, GROUP, Exclude, [].as_slice())];
-    assert_rows(&rt, rt.alloc(), &table, &row)?;
+    run(&rt, rt.alloc(), &WIDE, &EARLIER_MOMENT)?;
     Ok(())
 }

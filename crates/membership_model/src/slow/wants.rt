@@ -7,8 +7,8 @@ ghost use Rattle.endpoint_membership.specs.Targets.{endpoints_in, targets_of};
 
 use super::wishes::is_admitted;
 use super::{Spot, add_live, latest_ms};
-use crate::change::Change;
 use amt_values::{Endpoint, Ip, Moment};
+use endpoint_membership::Change;
 use source_filter::Records;
 use std::alloc::{AllocError, Global};
 

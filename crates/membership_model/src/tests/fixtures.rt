@@ -3,10 +3,9 @@ ghost use Rattle.std.specs.Prelude.{◌≡◌, ◌≤◌, IfOk, true};
 ghost use Rattle.source_filter.specs.Record.{item_count};
 ghost use Rattle.endpoint_membership.specs.Table.{IsWithinLimits};
 
-use crate::limits::{AcceptFault, Limits};
-use crate::row::{Row, Rows};
-use crate::table::Table;
+use crate::slow::slow_rows;
 use amt_values::{Endpoint, Ip, Moment};
+use endpoint_membership::{AcceptFault, Change, Limits, Row, Rows, Table};
 use source_filter::{Ips, Mode, Record, RecordKind, Records};
 use std::alloc::{AllocError, Global};
 use std::process::Abort;
@@ -17,6 +16,18 @@ pub const WIDE: Limits = Limits {
     endpoints: 1000,
     groups: 1000,
     sources: 1000,
+};
+
+pub const ONE_GROUP: Limits = Limits {
+    endpoints: 1000,
+    groups: 1,
+    sources: 1000,
+};
+
+pub const ONE_SOURCE: Limits = Limits {
+    endpoints: 1000,
+    groups: 1000,
+    sources: 1,
 };
 
 pub const GROUP: Ip = Ip::V4(0xef01_0101);
@@ -112,6 +123,18 @@ fn is_row(row: &Row, wanted: &Wanted) -> bool {
         && row.filter.sources() == wanted.3
 }
 
+fn are_rows(rows: &Rows, wanted: &[Wanted]) -> bool {
+    if rows.len() != wanted.len() {
+        return false;
+    }
+    for (row, wanted) in rows.as_slice().iter().zip(wanted) {
+        if !is_row(row, wanted) {
+            return false;
+        }
+    }
+    true
+}
+
 // Asserts that the table has these rows and no others.
 pub fn assert_rows(
     rt: &impl Abort,
@@ -120,10 +143,7 @@ pub fn assert_rows(
     wanted: &[Wanted],
 ) -> Result<(), AllocError> {
     let rows = table.rows(alloc)?;
-    assert_eq!(rt; rows.len(), wanted.len(), "{rows:?}");
-    for (row, wanted) in rows.as_slice().iter().zip(wanted) {
-        assert!(rt; is_row(row, wanted), "{row:?}");
-    }
+    assert!(rt; are_rows(&rows, wanted), "{rows:?}");
     Ok(())
 }
 
@@ -134,7 +154,7 @@ fn is_same_row(one: &Row, other: &Row) -> bool {
         && one.filter.sources() == other.filter.sources()
 }
 
-pub fn are_same_rows(one: &Rows, other: &Rows) -> bool {
+fn are_same_rows(one: &Rows, other: &Rows) -> bool {
     if one.len() != other.len() {
         return false;
     }
@@ -144,4 +164,21 @@ pub fn are_same_rows(one: &Rows, other: &Rows) -> bool {
         }
     }
     true
+}
+
+// Asserts that the table has the rows that the definitions give at the moment.
+pub fn assert_slow_rows(
+    rt: &impl Abort,
+    alloc: Global,
+    table: &Table,
+    log: &[Change],
+    at: &Moment,
+) -> Result<(), AllocError> {
+    let rows = table.rows(alloc)?;
+    let wanted = slow_rows(alloc, LIFETIME_MS, at, log)?;
+    assert!(rt;
+        are_same_rows(&rows, &wanted),
+        "{log:?} {rows:?} {wanted:?}"
+    );
+    Ok(())
 }

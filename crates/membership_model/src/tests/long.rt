@@ -1,20 +1,17 @@
 // Reports of several hundred records.
-ghost use Rattle.std.specs.Prelude.{◌<◌};
+ghost use Rattle.std.specs.Prelude.{◌≡◌, length};
 ghost use Rattle.endpoint_membership.specs.Table.{IsWithinLimits};
 
 use super::fixtures::{
-    CHANNEL, GROUP, LIFETIME_MS, OTHER, Told, WIDE, are_few, are_same_rows, assert_rows, endpoint,
-    moment, record_of, report, table,
+    CHANNEL, GROUP, OTHER, Told, WIDE, are_few, assert_rows, assert_slow_rows, endpoint, moment,
+    record_of, report, table,
 };
 use super::random::Words;
-use crate::change::Change;
-use crate::limits::AcceptFault;
-use crate::slow::slow_rows;
-use crate::table::Table;
-use amt_values::Ip;
+use amt_values::{Ip, Moment};
+use endpoint_membership::{AcceptFault, Change, Table};
 use source_filter::Mode::{Exclude, Include};
 use source_filter::RecordKind::{Allow, Block, IsEx, ToEx, ToIn};
-use source_filter::{RecordKind, Records};
+use source_filter::{Mode, RecordKind, Records};
 use std::alloc::{AllocError, Global};
 use std::process::Abort;
 use std::test::Fail;
@@ -50,22 +47,48 @@ fn report_each(
     report(rt, alloc, table, 7, told.as_slice(), 0)
 }
 
+// The same, and then the endpoint has this one row.
+fn assert_each(
+    rt: &impl Abort,
+    alloc: Global,
+    table: &mut Table,
+    kind: RecordKind,
+    sources: &[Ip],
+    wanted: (Mode, &[Ip]),
+) -> Result<(), AllocError>
+    requires { IsWithinLimits table.old }
+    ensures { IsWithinLimits table.new }
+{
+    let answer = report_each(rt, alloc, table, kind, sources);
+    assert_eq!(rt; answer, Ok(()), "{kind:?}");
+    assert_rows(rt, alloc, table, &[(7, GROUP, wanted.0, wanted.1)])
+}
+
+fn assert_sums(
+    rt: &impl Abort,
+    alloc: Global,
+    rising: &[Ip],
+    scattered: &[Ip],
+) -> Result<(), AllocError>
+    requires { length rising.now ≡ 400 }
+{
+    let (one, _) = rising.split_at(1);
+    let (first, rest) = rising.split_at(300);
+    let mut table = table(alloc, &WIDE)?;
+    assert_each(rt, alloc, &mut table, Allow, scattered, (Include, rising))?;
+    assert_each(rt, alloc, &mut table, Block, first, (Include, rest))?;
+    assert_each(rt, alloc, &mut table, IsEx, one, (Exclude, one))?;
+    assert_each(rt, alloc, &mut table, Block, scattered, (Exclude, rising))?;
+    assert_each(rt, alloc, &mut table, Allow, rest, (Exclude, first))?;
+    Ok(())
+}
+
 #[test]
 fn records_of_one_source_each_add_up_on_their_group(rt: HostRuntime) -> Result<(), Fail> {
     let rising = sources(rt.alloc(), 1)?;
     let scattered = sources(rt.alloc(), 7)?;
     assert!(rt; rising.len() == 400);
-    let (first, rest) = rising.as_slice().split_at(300);
-    let mut table = table(rt.alloc(), &WIDE)?;
-    report_each(&rt, rt.alloc(), &mut table, Allow, scattered.as_slice())?;
-    let row = [(7, GROUP, Include, rising.as_slice())];
-    assert_rows(&rt, rt.alloc(), &table, &row)?;
-    report_each(&rt, rt.alloc(), &mut table, Block, first)?;
-    assert_rows(&rt, rt.alloc(), &table, &[(7, GROUP, Include, rest)])?;
-    report(&rt, rt.alloc(), &mut table, 7, &[(IsEx, GROUP, &[])], 0)?;
-    report_each(&rt, rt.alloc(), &mut table, Block, scattered.as_slice())?;
-    report_each(&rt, rt.alloc(), &mut table, Allow, rest)?;
-    assert_rows(&rt, rt.alloc(), &table, &[(7, GROUP, Exclude, first)])?;
+    assert_sums(&rt, rt.alloc(), rising.as_slice(), scattered.as_slice())?;
     Ok(())
 }
 
@@ -92,25 +115,50 @@ fn long_records(alloc: Global, words: &mut Words, count: u32) -> Result<Records,
     Ok(records)
 }
 
+// The endpoint of host 7 reports 300 random records, and the table is compared.
+fn assert_long(
+    rt: &impl Abort,
+    alloc: Global,
+    table: &mut Table,
+    log: &mut Vec<Change>,
+    words: &mut Words,
+    at: Moment,
+) -> Result<(), AllocError>
+    requires { IsWithinLimits table.old }
+    ensures { IsWithinLimits table.new }
+{
+    let records = long_records(alloc, words, 300)?;
+    assert!(rt; are_few(&records));
+    let endpoint = endpoint(7);
+    let answer = table.accept(alloc, &endpoint, &records, &at);
+    assert_eq!(rt; answer, Ok(()));
+    log.push(Change::Reported {
+        endpoint,
+        records,
+        at,
+    })?;
+    assert_slow_rows(rt, alloc, table, log.as_slice(), &at)
+}
+
+fn assert_all_long(rt: &impl Abort, alloc: Global) -> Result<(), AllocError> {
+    let mut words = Words { state: 2 };
+    let mut table = table(alloc, &WIDE)?;
+    let mut log = Vec::new(alloc);
+    for step in 0..3 {
+        assert_long(
+            rt,
+            alloc,
+            &mut table,
+            &mut log,
+            &mut words,
+            moment(rt, step * 1000),
+        )?;
+    }
+    Ok(())
+}
+
 #[test]
 fn long_reports_leave_the_rows_of_the_definitions(rt: HostRuntime) -> Result<(), Fail> {
-    let mut words = Words { state: 2 };
-    let mut table = table(rt.alloc(), &WIDE)?;
-    let mut log = Vec::new(rt.alloc());
-    for step in 0..3 {
-        let at = moment(&rt, step * 1000);
-        let records = long_records(rt.alloc(), &mut words, 300)?;
-        assert!(rt; are_few(&records));
-        let endpoint = endpoint(7);
-        table.accept(rt.alloc(), &endpoint, &records, &at)?;
-        log.push(Change::Reported {
-            endpoint,
-            records,
-            at,
-        })?;
-        let rows = table.rows(rt.alloc())?;
-        let wanted = slow_rows(rt.alloc(), LIFETIME_MS, &at, log.as_slice())?;
-        assert!(rt; are_same_rows(&rows, &wanted), "{rows:?} {wanted:?}");
-    }
+    assert_all_long(&rt, rt.alloc())?;
     Ok(())
 }

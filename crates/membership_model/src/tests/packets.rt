@@ -1,13 +1,13 @@
 // Who gets the packets of a source to a group.
+ghost use Rattle.std.specs.Prelude.{◌≡◌, ◌≤◌};
+ghost use Rattle.endpoint_membership.specs.Limits.{live_count};
 ghost use Rattle.endpoint_membership.specs.Table.{IsWithinLimits};
 
-use super::fixtures::{
-    CHANNEL, GROUP, ONE, OTHER, THREE, TWO, WIDE, endpoint, moment, report, table,
-};
-use crate::limits::Limits;
-use crate::table::Table;
-use crate::targets::Targets;
+use super::fixtures::{CHANNEL, GROUP, ONE, OTHER, THREE, TWO, endpoint, moment};
+use super::steps::Step::{Packets, Report};
+use super::steps::{Step, run};
 use amt_values::Ip;
+use endpoint_membership::{Limits, Table, Targets};
 use source_filter::RecordKind::{Allow, IsEx};
 use std::alloc::{AllocError, Global};
 use std::process::Abort;
@@ -15,7 +15,7 @@ use std::test::Fail;
 
 // A packet by group and source, the moment at which it comes, the hosts that get a copy, and what
 // it shows.
-type Packet<'a> = (Ip, Ip, u64, &'a [u8], &'a str);
+pub type Packet<'a> = (Ip, Ip, u64, &'a [u8], &'a str);
 
 // After three reports: 198.51.100.9 of all sources at 0, 198.51.100.8 of one source at 1, and
 // 198.51.100.7 of all sources but another one at 2.
@@ -45,15 +45,29 @@ const PACKETS: [Packet<'static>; 11] = [
     (GROUP, TWO, 3, &[7, 8, 9], "no question lets time pass"),
 ];
 
-fn assert_hosts(rt: &impl Abort, targets: &Targets, hosts: &[u8], shows: &str) {
-    assert_eq!(rt; targets.len(), hosts.len(), "{shows}: {targets:?}");
-    for (target, host) in targets.as_slice().iter().zip(hosts) {
-        assert_eq!(rt; *target, endpoint(*host), "{shows}: {targets:?}");
+fn are_hosts(targets: &Targets, hosts: &[u8]) -> bool {
+    if targets.len() != hosts.len() {
+        return false;
     }
+    for (target, host) in targets.as_slice().iter().zip(hosts) {
+        if *target != endpoint(*host) {
+            return false;
+        }
+    }
+    true
 }
 
-// Asserts where the packets go, one after the other.
-fn assert_copies(
+fn assert_packet(rt: &impl Abort, table: &Table, targets: &mut Targets, packet: &Packet)
+    requires { live_count table.now.rows ≤ targets.old.room }
+    ensures { targets.new.room ≡ targets.old.room }
+{
+    let (group, source, at_ms, hosts, shows) = packet;
+    table.admitting_into(group, source, &moment(rt, *at_ms), targets);
+    assert!(rt; are_hosts(targets, hosts), "{shows}: {targets:?}");
+}
+
+// Asserts where the packets go, one after the other, with the same targets.
+pub fn assert_packets(
     rt: &impl Abort,
     alloc: Global,
     table: &Table,
@@ -62,25 +76,28 @@ fn assert_copies(
     requires { IsWithinLimits table.now }
 {
     let mut targets = Targets::new(alloc, table.limits().endpoints)?;
-    for (group, source, at_ms, hosts, shows) in packets {
-        table.admitting_into(group, source, &moment(rt, *at_ms), &mut targets);
-        assert_hosts(rt, &targets, hosts, shows);
+    for packet in packets {
+        assert_packet(rt, table, &mut targets, packet);
     }
     Ok(())
 }
 
 // As many endpoints report as the limits allow, so the targets have no room to spare.
+const THREE_ENDPOINTS: Limits = Limits {
+    endpoints: 3,
+    groups: 1000,
+    sources: 1000,
+};
+
+const THREE_REPORTS: [Step<'static>; 4] = [
+    Report(9, &[(IsEx, GROUP, &[])], 0, Ok(())),
+    Report(8, &[(Allow, GROUP, &[TWO])], 1, Ok(())),
+    Report(7, &[(IsEx, GROUP, &[ONE]), (IsEx, OTHER, &[])], 2, Ok(())),
+    Packets(&PACKETS),
+];
+
 #[test]
 fn packets_go_to_the_endpoints_that_want_them(rt: HostRuntime) -> Result<(), Fail> {
-    let limits = Limits {
-        endpoints: 3,
-        ..WIDE
-    };
-    let mut table = table(rt.alloc(), &limits)?;
-    let all_but_one = [(IsEx, GROUP, [ONE].as_slice()), (IsEx, OTHER, &[])];
-    report(&rt, rt.alloc(), &mut table, 9, &[(IsEx, GROUP, &[])], 0)?;
-    report(&rt, rt.alloc(), &mut table, 8, &[(Allow, GROUP, &[TWO])], 1)?;
-    report(&rt, rt.alloc(), &mut table, 7, &all_but_one, 2)?;
-    assert_copies(&rt, rt.alloc(), &table, &PACKETS)?;
+    run(&rt, rt.alloc(), &THREE_ENDPOINTS, &THREE_REPORTS)?;
     Ok(())
 }

@@ -1,23 +1,26 @@
 // Small logs of random calls: after each call the table has the rows that the definitions give, and
 // packets go where the definitions send them.
-ghost use Rattle.std.specs.Prelude.{◌<◌, ◌≤◌};
+ghost use Rattle.std.specs.Prelude.{◌≡◌, ◌<◌, ◌≤◌, ◌^◌};
+ghost use Rattle.endpoint_membership.specs.Limits.{live_count};
 ghost use Rattle.endpoint_membership.specs.Table.{IsWithinLimits};
 
 use super::fixtures::{
-    CHANNEL, GROUP, LIFETIME_MS, ONE, OTHER, THREE, TWO, WIDE, are_few, are_same_rows, moment,
-    record_of, table,
+    CHANNEL, GROUP, LIFETIME_MS, ONE, ONE_GROUP, ONE_SOURCE, OTHER, THREE, TWO, WIDE, are_few,
+    assert_slow_rows, moment, record_of, table,
 };
-use crate::change::Change;
-use crate::limits::{AcceptFault, LimitFault, Limits};
-use crate::row::{Row, Rows};
 use crate::slow::{slow_rows, slow_targets};
-use crate::table::Table;
-use crate::targets::Targets;
 use amt_values::{Endpoint, Ip, Moment};
+use endpoint_membership::{AcceptFault, Change, LimitFault, Limits, Row, Rows, Table, Targets};
 use source_filter::{RecordKind, Records, copy_records};
 use std::alloc::{AllocError, Global};
 use std::process::Abort;
 use std::test::Fail;
+
+const ONE_ENDPOINT: Limits = Limits {
+    endpoints: 1,
+    groups: 1000,
+    sources: 1000,
+};
 
 const KINDS: [RecordKind; 6] = [
     RecordKind::IsIn,
@@ -120,6 +123,52 @@ fn passed(
     Ok(None)
 }
 
+fn passed_by_log(
+    alloc: Global,
+    log: &[Change],
+    now: &Moment,
+    endpoint: &Endpoint,
+    records: &Records,
+    limits: &Limits,
+) -> Result<Option<LimitFault>, AllocError> {
+    let rows = slow_rows(alloc, LIFETIME_MS, now, log)?;
+    passed(alloc, &rows, endpoint, records, limits)
+}
+
+fn log_report(
+    alloc: Global,
+    log: &mut Vec<Change>,
+    endpoint: Endpoint,
+    records: &Records,
+    at: Moment,
+) -> Result<(), AllocError> {
+    let records = copy_records(alloc, records)?;
+    log.push(Change::Reported {
+        endpoint,
+        records,
+        at,
+    })?;
+    Ok(())
+}
+
+// A report that is refused leaves a mark in its place.
+fn settle(
+    rt: &impl Abort,
+    log: &mut Vec<Change>,
+    at: Moment,
+    answer: Result<(), AcceptFault>,
+    passed: Option<LimitFault>,
+) -> Result<(), AllocError> {
+    let Some(fault) = passed else {
+        assert_eq!(rt; answer, Ok(()));
+        return Ok(());
+    };
+    assert_eq!(rt; answer, Err(AcceptFault::Limit(fault)));
+    log.truncate(log.len().saturating_sub(1));
+    log.push(Change::Mark { at })?;
+    Ok(())
+}
+
 // Lets the endpoint report random records, and writes down what was accepted.
 fn accept(
     rt: &impl Abort,
@@ -137,24 +186,26 @@ fn accept(
     let records = random_records(alloc, words)?;
     assert!(rt; are_few(&records));
     let answer = table.accept(alloc, &endpoint, &records, &at);
-    let copies = copy_records(alloc, &records)?;
-    log.push(Change::Reported {
-        endpoint,
-        records: copies,
-        at,
-    })?;
-    let wanted = slow_rows(alloc, LIFETIME_MS, &table.now(), log.as_slice())?;
-    let passed = passed(alloc, &wanted, &endpoint, &records, limits)?;
-    match answer {
-        Ok(()) => assert_eq!(rt; passed, None),
-        Err(AcceptFault::Limit(fault)) => {
-            assert_eq!(rt; passed, Some(fault));
-            log.pop();
-            log.push(Change::Mark { at })?;
-        }
-        Err(AcceptFault::Memory) => return Err(AllocError),
-    }
-    Ok(())
+    log_report(alloc, log, endpoint, &records, at)?;
+    let passed = passed_by_log(
+        alloc,
+        log.as_slice(),
+        &table.now(),
+        &endpoint,
+        &records,
+        limits,
+    )?;
+    settle(rt, log, at, answer, passed)
+}
+
+fn is_live_by_log(
+    alloc: Global,
+    log: &[Change],
+    endpoint: &Endpoint,
+    now: &Moment,
+) -> Result<bool, AllocError> {
+    let rows = slow_rows(alloc, LIFETIME_MS, now, log)?;
+    Ok(rows.as_slice().iter().any(|row| row.endpoint == *endpoint))
 }
 
 fn clear(
@@ -170,8 +221,7 @@ fn clear(
     ensures { IsWithinLimits table.new }
 {
     let live = table.clear(&endpoint, &at);
-    let before = slow_rows(alloc, LIFETIME_MS, &latest.later(&at), log.as_slice())?;
-    let was_live = before.as_slice().iter().any(|row| row.endpoint == endpoint);
+    let was_live = is_live_by_log(alloc, log.as_slice(), &endpoint, &latest.later(&at))?;
     assert_eq!(rt; live, was_live);
     log.push(Change::Clear { endpoint, at })?;
     Ok(())
@@ -221,8 +271,30 @@ fn call(
     }
 }
 
-// Compares who gets the packets at the moment.
-fn compare_targets(
+// Compares who gets a packet at the moment.
+fn assert_packet(
+    rt: &impl Abort,
+    alloc: Global,
+    table: &Table,
+    log: &[Change],
+    at: &Moment,
+    targets: &mut Targets,
+    packet: (Ip, Ip),
+) -> Result<(), AllocError>
+    requires { live_count table.now.rows ≤ targets.old.room }
+    ensures { targets.new.room ≡ targets.old.room }
+{
+    let (group, source) = packet;
+    table.admitting_into(&group, &source, at, targets);
+    let wanted = slow_targets(alloc, LIFETIME_MS, at, log, &group, &source)?;
+    assert!(rt;
+        targets.as_slice() == wanted.as_slice(),
+        "{log:?} {packet:?} {at:?} {targets:?} {wanted:?}"
+    );
+    Ok(())
+}
+
+fn assert_packets(
     rt: &impl Abort,
     alloc: Global,
     table: &Table,
@@ -232,19 +304,59 @@ fn compare_targets(
     requires { IsWithinLimits table.now }
 {
     let mut targets = Targets::new(alloc, table.limits().endpoints)?;
-    for (group, source) in PACKETS {
-        table.admitting_into(&group, &source, at, &mut targets);
-        let wanted = slow_targets(alloc, LIFETIME_MS, at, log, &group, &source)?;
-        assert!(rt;
-            targets.as_slice() == wanted.as_slice(),
-            "{log:?} {group:?} {source:?} {at:?} {targets:?} {wanted:?}"
-        );
+    for packet in PACKETS {
+        assert_packet(rt, alloc, table, log, at, &mut targets, packet)?;
     }
     Ok(())
 }
 
-// A log of random calls, with the table compared after each of them. Some moments go backwards.
-fn compare(
+// Compares the rows and the receivers of packets, at the table's moment and at a later one.
+fn assert_table(
+    rt: &impl Abort,
+    alloc: Global,
+    table: &Table,
+    log: &[Change],
+    latest: &Moment,
+    later: &Moment,
+) -> Result<(), AllocError>
+    requires { IsWithinLimits table.now }
+{
+    assert_eq!(rt; table.now(), *latest);
+    assert_slow_rows(rt, alloc, table, log, latest)?;
+    assert_packets(rt, alloc, table, log, latest)?;
+    assert_packets(rt, alloc, table, log, later)
+}
+
+fn paused(rt: &impl Abort, words: &mut Words, from_ms: u64) -> Moment
+    requires { from_ms < 2 ^ 62 }
+{
+    Moment::new(from_ms + random_pause(words)).expect(rt, "the logs are short")
+}
+
+// One random call, which some times tells a moment that is over; the latest moment after it.
+fn assert_call(
+    rt: &impl Abort,
+    alloc: Global,
+    table: &mut Table,
+    log: &mut Vec<Change>,
+    words: &mut Words,
+    latest: Moment,
+    limits: &Limits,
+) -> Result<Moment, AllocError>
+    requires { IsWithinLimits table.old }
+    ensures { IsWithinLimits table.new }
+{
+    let start_ms = if words.below(8) == 0 { 0 } else { latest.ms() };
+    let at = paused(rt, words, start_ms);
+    call(rt, alloc, table, log, words, latest, at, limits)?;
+    let latest = latest.later(&at);
+    let later = paused(rt, words, latest.ms());
+    assert_table(rt, alloc, table, log.as_slice(), &latest, &later)?;
+    Ok(latest)
+}
+
+// A log of random calls, with the table compared after each of them.
+fn assert_log(
     rt: &impl Abort,
     alloc: Global,
     words: &mut Words,
@@ -258,21 +370,24 @@ fn compare(
     let mut log = Vec::new(alloc);
     let mut latest = moment(rt, 0);
     for _ in 0..12 {
-        // Every eighth call tells a moment that is over.
-        let start = if words.below(8) == 0 { 0 } else { latest.ms() };
-        let at = Moment::new(start + random_pause(words)).expect(rt, "the logs are short");
-        call(rt, alloc, &mut table, &mut log, words, latest, at, limits)?;
-        latest = latest.later(&at);
-        assert_eq!(rt; table.now(), latest);
-        let rows = table.rows(alloc)?;
-        let wanted = slow_rows(alloc, LIFETIME_MS, &latest, log.as_slice())?;
-        assert!(rt;
-            are_same_rows(&rows, &wanted),
-            "{log:?} {rows:?} {wanted:?}"
-        );
-        compare_targets(rt, alloc, &table, log.as_slice(), &latest)?;
-        let later = Moment::new(latest.ms() + random_pause(words)).expect(rt, "the logs are short");
-        compare_targets(rt, alloc, &table, log.as_slice(), &later)?;
+        latest = assert_call(rt, alloc, &mut table, &mut log, words, latest, limits)?;
+    }
+    Ok(())
+}
+
+fn assert_logs(
+    rt: &impl Abort,
+    alloc: Global,
+    words: &mut Words,
+    count: u32,
+    limits: &Limits,
+) -> Result<(), AllocError>
+    requires endpoints { limits.now.endpoints ≤ 1000 }
+    requires groups { limits.now.groups ≤ 1000 }
+    requires sources { limits.now.sources ≤ 1000 }
+{
+    for _ in 0..count {
+        assert_log(rt, alloc, words, limits)?;
     }
     Ok(())
 }
@@ -280,21 +395,9 @@ fn compare(
 #[test]
 fn random_calls_leave_the_rows_of_the_definitions(rt: HostRuntime) -> Result<(), Fail> {
     let mut words = Words { state: 1 };
-    for _ in 0..180 {
-        compare(&rt, rt.alloc(), &mut words, &WIDE)?;
-    }
-    let narrow = [
-        Limits {
-            endpoints: 1,
-            ..WIDE
-        },
-        Limits { groups: 1, ..WIDE },
-        Limits { sources: 1, ..WIDE },
-    ];
-    for limits in narrow {
-        for _ in 0..60 {
-            compare(&rt, rt.alloc(), &mut words, &limits)?;
-        }
-    }
+    assert_logs(&rt, rt.alloc(), &mut words, 180, &WIDE)?;
+    assert_logs(&rt, rt.alloc(), &mut words, 60, &ONE_ENDPOINT)?;
+    assert_logs(&rt, rt.alloc(), &mut words, 60, &ONE_GROUP)?;
+    assert_logs(&rt, rt.alloc(), &mut words, 60, &ONE_SOURCE)?;
     Ok(())
 }

@@ -14,7 +14,7 @@ use Rattle.endpoint_membership.specs.Rows.{places_in}
 use Rattle.endpoint_membership.specs.contracts.slow.SpotOrd as ord
 use Rattle.endpoint_membership.specs.contracts.slow.SpotPartialEq as eq
 use Rattle.endpoint_membership.proofs.Places.{place_order-exact, place_order-total, same_place-is}
-use Rattle.endpoint_membership.proofs.slow.places.Goals as goal
+use Rattle.membership_model.proofs.slow.places.Goals as goal
 
 -- the derived order and equality of places are those of the definitions
 spots_compared : (ord.TheImpl.ghosts).cmp ≡ place_order

@@ -7,8 +7,8 @@ use Rattle.endpoint_membership.specs.declared.kept.Kept.{Kept}
 use Rattle.endpoint_membership.specs.declared.row.Row.{Row}
 use Rattle.endpoint_membership.specs.Place.{Place}
 use Rattle.endpoint_membership.specs.Rows.{shown, standing}
-use Rattle.endpoint_membership.proofs.slow.slow_rows.Goals.{in-Some+in_ok-push, in_default}
-use Rattle.endpoint_membership.proofs.slow.slow_rows.Goals as goal
+use Rattle.membership_model.proofs.slow.slow_rows.Goals.{in-Some+in_ok-push, in_default}
+use Rattle.membership_model.proofs.slow.slow_rows.Goals as goal
 
 abbrev as_list : Option Row → List Row
 as_list None = []

@@ -7,7 +7,7 @@ use Rattle.source_filter.specs.Rising.{rising}
 use Rattle.source_filter.proofs.Sorting.{rising-sorted}
 use Rattle.endpoint_membership.specs.Place.{same_endpoint}
 use Rattle.endpoint_membership.specs.Targets.{endpoints_in}
-use Rattle.endpoint_membership.proofs.slow.wants.reporters.Goals as goal
+use Rattle.membership_model.proofs.slow.wants.reporters.Goals as goal
 
 endpoints_tied : (one other : Tunnel) → (eq.TheImpl.ghosts).eq one other ≡ same_endpoint one other
 endpoints_tied one other = search rules

@@ -2,7 +2,7 @@ use Rattle.std.proofs.Common.{filter, ap, ◌∙◌, take_all}
 use Rattle.amt_values.specs.Tunnel.{Tunnel}
 use Rattle.endpoint_membership.specs.Admission.{is_admitted}
 use Rattle.endpoint_membership.specs.Targets.{targets_of}
-use Rattle.endpoint_membership.proofs.slow.wants.slow_targets.Goals as goal
+use Rattle.membership_model.proofs.slow.wants.slow_targets.Goals as goal
 
 pub returns : goal.returns
 unfolding targets_of

@@ -1,6 +1,6 @@
 use Rattle.std.proofs.Common.{◌≡◌, filter, take}
 use Rattle.endpoint_membership.specs.Admission.{is_admitted}
-use Rattle.endpoint_membership.proofs.slow.wants.slow_targets.Given as goal
+use Rattle.membership_model.proofs.slow.wants.slow_targets.Given as goal
 
 abbrev pub invariant-loop-endpoint : goal.invariant-loop-endpoint
 invariant-loop-endpoint l =

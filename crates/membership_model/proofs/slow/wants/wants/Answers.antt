@@ -2,7 +2,7 @@ use Rattle.std.proofs.Common.{ℕ, ◌≡◌, max, reverse, rules, ap, ◌∙◌
 use Rattle.endpoint_membership.specs.Log.{latest, live_chain}
 use Rattle.endpoint_membership.specs.Wishes.{admitted}
 use Rattle.endpoint_membership.proofs.Held.{latest-reverse}
-use Rattle.endpoint_membership.proofs.slow.wants.wants.Goals as goal
+use Rattle.membership_model.proofs.slow.wants.wants.Goals as goal
 
 pub returns : goal.returns
 returns c =

@@ -3,7 +3,7 @@ use Rattle.std.proofs.lemmas.List.{take_more}
 use Rattle.source_filter.specs.declared.record.Record.{Record}
 use Rattle.amt_values.specs.declared.address.Ip.{Ip}
 use Rattle.endpoint_membership.specs.Wishes.{named}
-use Rattle.endpoint_membership.proofs.slow.wishes.named.Goals as goal
+use Rattle.membership_model.proofs.slow.wishes.named.Goals as goal
 
 named-last : (records : List Record) (last : Record) → named (records ++ last ∷ []) ≡ named records ++ last.sources
 named-last [] last = append-nil last.sources
