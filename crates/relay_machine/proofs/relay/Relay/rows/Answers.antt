@@ -16,10 +16,10 @@ returns-clause-stands c = IfOk-weaker c.rows.result _ _
     let inside = subst (λ (relay : RelayState). RelayAt relay settings first events) (sym c.self.view_is) at in
     let log = accepted settings first events in
     shown (terms_of settings) log inside.table
-    ∙ ap (λ (moment : ℕ). rows_of (membership_interval_ms settings) moment log) (latest-accepted _ settings first events at)) c.rows.ensures
+    ∙ ap (λ (moment : ℕ). rows_of (membership_interval_ms settings) moment log) (latest-accepted _ settings first events at)) c.rows.ensures.stands
 
 pub returns-clause-published : goal.returns-clause-published
 returns-clause-published c = IfOk-weaker c.rows.result _ _
     (λ rows shown log.
     subst (λ (relay : RelayState). Holds (terms_of relay.settings) relay.table log → rows ≡ rows_of (membership_interval_ms relay.settings) (latest log) log)
-    c.self.view_is (shown (terms_of c.self.inside.querier.settings) log)) c.rows.ensures
+    c.self.view_is (shown (terms_of c.self.inside.querier.settings) log)) c.rows.ensures.stands
