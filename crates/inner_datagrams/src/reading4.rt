@@ -1,7 +1,7 @@
 ghost use Rattle.std.specs.Prelude.{◌≡◌, ◌≤◌, ◌∷◌, ◌++◌, [], length, IfOk};
 ghost use Rattle.inner_datagrams.specs.Fault.{faults4, first_holding, fragment, header_faults, header_length_faults, length_faults, other_protocol, wrong_header_sum, wrong_total};
 ghost use Rattle.inner_datagrams.specs.Header.{header_octets};
-ghost use Rattle.inner_datagrams.specs.Reading.{inner4_at, unless};
+ghost use Rattle.inner_datagrams.specs.Reading.{inner4_at, parts4, unless};
 
 use crate::checksum::{expected_sum, is_right};
 use crate::fields::{number_at, short_at};
@@ -112,6 +112,17 @@ fn header_fault(bytes: &[u8], end: usize) -> Option<InnerFault>
     protocol_fault(bytes[9])
 }
 
+fn parts4(source: u32, destination: u32, start: usize, end: usize) -> Inner
+    ensures { result ≡ parts4 source destination start end }
+{
+    Inner {
+        source: Ip::V4(source),
+        destination: Ip::V4(destination),
+        start,
+        end,
+    }
+}
+
 // The IPv4 datagram that the bytes are, or their first fault.
 pub fn read_inner4(bytes: &[u8]) -> Result<Inner, InnerFault>
     requires { length bytes.now ≤ INPUT_LIMIT }
@@ -121,11 +132,11 @@ pub fn read_inner4(bytes: &[u8]) -> Result<Inner, InnerFault>
     let start = header_end(bytes)?;
     match header_fault(bytes, start) {
         Some(fault) => Err(fault),
-        None => Ok(Inner {
-            source: Ip::V4(number_at(bytes, 12)),
-            destination: Ip::V4(number_at(bytes, 16)),
+        None => Ok(parts4(
+            number_at(bytes, 12),
+            number_at(bytes, 16),
             start,
-            end: bytes.len(),
-        }),
+            bytes.len(),
+        )),
     }
 }

@@ -1,7 +1,7 @@
 ghost use Rattle.std.specs.Prelude.{◌≡◌, ◌≤◌, ◌∷◌, [], length, IfOk};
 ghost use Rattle.inner_datagrams.specs.Fault.{faults6, first_holding, hop_by_hop_faults, length_faults6, next_header_faults, wrong_total6};
 ghost use Rattle.inner_datagrams.specs.Header6.{headers_end6, hop_by_hop_end, hop_by_hop_next, last_next_header};
-ghost use Rattle.inner_datagrams.specs.Reading.{inner6_at, unless};
+ghost use Rattle.inner_datagrams.specs.Reading.{inner6_at, parts6, unless};
 
 use crate::fields::{address_at, short_at};
 use crate::inner::{Inner, InnerFault};
@@ -73,6 +73,17 @@ fn next_header_fault(kind: u8) -> Option<InnerFault>
     }
 }
 
+fn parts6(source: u128, destination: u128, start: usize, end: usize) -> Inner
+    ensures { result ≡ parts6 source destination start end }
+{
+    Inner {
+        source: Ip::V6(source),
+        destination: Ip::V6(destination),
+        start,
+        end,
+    }
+}
+
 // The IPv6 datagram that the bytes are, or their first fault.
 pub fn read_inner6(bytes: &[u8]) -> Result<Inner, InnerFault>
     requires { length bytes.now ≤ INPUT_LIMIT }
@@ -81,11 +92,11 @@ pub fn read_inner6(bytes: &[u8]) -> Result<Inner, InnerFault>
     let (start, kind) = headers(bytes)?;
     match next_header_fault(kind) {
         Some(fault) => Err(fault),
-        None => Ok(Inner {
-            source: Ip::V6(address_at(bytes, 8)),
-            destination: Ip::V6(address_at(bytes, 24)),
+        None => Ok(parts6(
+            address_at(bytes, 8),
+            address_at(bytes, 24),
             start,
-            end: bytes.len(),
-        }),
+            bytes.len(),
+        )),
     }
 }
