@@ -1,6 +1,6 @@
 -- Which octets are a query, and the first fault of those that are none (RFC 3376, section 4.1;
 -- RFC 3810, section 5.1).
-use Rattle.std.specs.Prelude.{◌≡◌, ℕ, ◌+◌, ◌*◌, ◌/◌, ◌%◌, ◌≤◌, ◌==◌, nat_lt, ⊤, false, List, [], ◌∷◌, ◌++◌, length, drop, slice_index, Option, Some, None, Result, if◌then◌else◌}
+use Rattle.std.specs.Prelude.{◌≡◌, ℕ, ◌+◌, ◌*◌, ◌/◌, ◌%◌, ◌≤◌, ◌==◌, nat_lt, ⊤, Bool, false, List, [], ◌∷◌, ◌++◌, length, drop, slice_index, Option, Some, None, Result, if◌then◌else◌}
 use Rattle.byteorder.specs.Endian.{big_bytes, big_number}
 use Rattle.inner_datagrams.specs.Checksum.{internet_sum_of, IsRight}
 use Rattle.source_filter.specs.declared.fault.ReportFault.{ReportFault}
@@ -38,6 +38,13 @@ behind_group family payload = drop (group_place family + width family) payload
 abbrev pub query_flags : Family → List ℕ → ℕ
 query_flags family payload = slice_index (behind_group family payload) 0
 
+-- of those flags the robustness variable, and whether S is set
+abbrev pub robustness_in : ℕ → ℕ
+robustness_in flags = flags % 8
+
+abbrev pub suppresses : ℕ → Bool
+suppresses flags = flags / 8 % 2 == 1
+
 abbrev pub asked_sources : Family → List ℕ → ℕ
 asked_sources family payload = big_number 2 (drop 2 (behind_group family payload))
 
@@ -57,8 +64,8 @@ pub record IsQuery (family : Family) (pseudo_header : List ℕ) (query : QueryRe
   pub right_sum : IsRight (pseudo_header ++ payload)
   pub max_code : max_code_of family payload ≡ query.fields.max_code
   pub group : address_in family (group_number family payload) ≡ query.group
-  pub suppress : (query_flags family payload / 8 % 2 == 1) ≡ query.suppress
-  pub robustness : query_flags family payload % 8 ≡ query.fields.robustness
+  pub suppress : suppresses (query_flags family payload) ≡ query.suppress
+  pub robustness : robustness_in (query_flags family payload) ≡ query.fields.robustness
   pub interval_code : slice_index (behind_group family payload) 1 ≡ query.fields.interval_code
   pub sources : asked_sources family payload ≡ query.sources
 
@@ -67,10 +74,10 @@ abbrev pub query_at : Family → List ℕ → QueryRead
 query_at family payload = record {
   fields = record {
     max_code = max_code_of family payload;
-    robustness = query_flags family payload % 8;
+    robustness = robustness_in (query_flags family payload);
     interval_code = slice_index (behind_group family payload) 1;
   };
-  suppress = query_flags family payload / 8 % 2 == 1;
+  suppress = suppresses (query_flags family payload);
   group = address_in family (group_number family payload);
   sources = asked_sources family payload;
 }
@@ -103,14 +110,18 @@ unfoldable pub written_query : Family → List ℕ → QueryFields → List ℕ
 written_query family pseudo_header fields =
     query_with_sum (internet_sum_of (pseudo_header ++ query_with_sum 0 family fields)) family fields
 
+-- fewer octets than the query takes with its sources
+abbrev pub sources_fault : Family → List ℕ → Option ReportFault
+sources_fault family payload =
+    if nat_lt (length payload) (query_length family payload) then Some (SourceShort 0) else None
+
 -- the first condition that holds: too few octets, another type, a wrong sum, sources that aren't
 -- all there
 abbrev pub first_query_fault : Family → List ℕ → List ℕ → Option ReportFault
 first_query_fault family pseudo_header payload =
     if nat_lt (length payload) (query_least family) then Some (Short (query_least family) (length payload))
     else (if slice_index payload 0 == query_type family
-    then fault_or (sum_fault pseudo_header payload)
-    (if nat_lt (length payload) (query_length family payload) then Some (SourceShort 0) else None)
+    then fault_or (sum_fault pseudo_header payload) (sources_fault family payload)
     else Some (Kind (slice_index payload 0)))
 
 -- the values of the query that the payload is, or its first fault

@@ -1,6 +1,8 @@
-ghost use Rattle.std.specs.Prelude.{◌≡◌, ◌≤◌, ◌%◌, length, IfOk};
+ghost use Rattle.std.specs.Prelude.{◌≡◌, ◌≤◌, ◌%◌, ◌∷◌, ◌++◌, [], length, IfOk};
+ghost use Rattle.byteorder.specs.Endian.{big_bytes};
+ghost use Rattle.group_records.specs.declared.family.Family.TheVariants.{V4, V6};
 ghost use Rattle.group_records.specs.Family.{address_in};
-ghost use Rattle.group_records.specs.Query.{IsGeneralQuery, most_code, query_least, query_with_sum, written_query};
+ghost use Rattle.group_records.specs.Query.{IsGeneralQuery, most_code, query_least, query_type, query_with_sum, written_query};
 
 use crate::family::Family;
 use crate::query::query_type;
@@ -19,6 +21,20 @@ fn no_group(family: Family) -> Ip
     }
 }
 
+// The octets before the group, with a zero in place of the checksum.
+fn head4(max_code: u8) -> [u8; 4]
+    ensures { result ≡ query_type V4 ∷ max_code ∷ 0 ∷ 0 ∷ [] }
+{
+    [query_type(Family::V4), max_code, 0, 0]
+}
+
+fn head6(max_code: u16) -> [u8; 8]
+    ensures { result ≡ query_type V6 ∷ 0 ∷ 0 ∷ 0 ∷ big_bytes 2 max_code ++ 0 ∷ 0 ∷ [] }
+{
+    let [high, low] = max_code.to_be_bytes();
+    [query_type(Family::V6), 0, 0, 0, high, low, 0, 0]
+}
+
 // The query with a zero in place of its checksum.
 fn unsummed_query(
     alloc: Global,
@@ -29,14 +45,9 @@ fn unsummed_query(
     ensures { IfOk result (λ octets. octets.items ≡ query_with_sum 0 family fields.now) }
 {
     let mut octets = Vec::new(alloc);
-    octets.push(query_type(family))?;
     match family {
-        Family::V4 => octets.extend_from_slice(&[fields.max_code as u8, 0, 0])?,
-        Family::V6 => {
-            octets.extend_from_slice(&[0, 0, 0])?;
-            octets.extend_from_slice(&fields.max_code.to_be_bytes())?;
-            octets.extend_from_slice(&[0, 0])?;
-        }
+        Family::V4 => octets.extend_from_slice(&head4(fields.max_code as u8))?,
+        Family::V6 => octets.extend_from_slice(&head6(fields.max_code))?,
     }
     append_address(no_group(family), &mut octets)?;
     octets.extend_from_slice(&[fields.robustness, fields.interval_code, 0, 0])?;

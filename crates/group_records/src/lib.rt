@@ -6,6 +6,9 @@
 //! A time has at most one code.
 //! It knows no datagram's layout, no tunnel or moment. The checksum it takes from inner_datagrams.
 //! Standard: RFC 3376, sections 4.1 and 4.2; RFC 3810, sections 5.1 and 5.2.
+//!
+//! Its tests are those of igmp_records and mld_records, which call each function here in their own
+//! family: tests in this crate would prove all of it a second time.
 #![tactic(auto)]
 
 mod code;
@@ -22,6 +25,3 @@ pub use general::write_query;
 pub use query::read_query;
 pub use report::read_report;
 pub use writing::{REPORT_LIMIT, report_length, write_report};
-
-#[cfg(test)]
-mod tests;

@@ -1,7 +1,7 @@
 ghost use Rattle.std.specs.Prelude.{◌≡◌, ◌≤◌, ◌%◌, length, IfOk, IfErr, Ok, Err, MatchResult, None, Some};
 ghost use Rattle.source_filter.specs.declared.query.QueryRead.{QueryRead as QueryReadValue};
 ghost use Rattle.source_filter.specs.declared.fault.ReportFault.{ReportFault as ReportFaultValue};
-ghost use Rattle.group_records.specs.Query.{IsQuery, IsQueryFault, first_query_fault, group_place, max_code_of, query_at, query_of, query_least, query_length, query_type};
+ghost use Rattle.group_records.specs.Query.{IsQuery, IsQueryFault, first_query_fault, group_place, max_code_of, query_at, query_of, query_least, query_length, query_type, robustness_in, sources_fault, suppresses};
 
 use crate::family::{Family, address_at, width};
 use crate::record::source_count;
@@ -49,6 +49,18 @@ fn max_code_at(family: Family, payload: &[u8]) -> u16
     }
 }
 
+fn robustness_in(flags: u8) -> u8
+    ensures { result ≡ robustness_in flags }
+{
+    flags & 7
+}
+
+fn suppresses(flags: u8) -> bool
+    ensures { result ≡ suppresses flags }
+{
+    flags >> 3 & 1 == 1
+}
+
 fn query_at(family: Family, payload: &[u8]) -> QueryRead
     requires { query_least family ≤ length payload.now }
     ensures { result ≡ query_at family payload.now }
@@ -59,10 +71,10 @@ fn query_at(family: Family, payload: &[u8]) -> QueryRead
     QueryRead {
         fields: QueryFields {
             max_code: max_code_at(family, payload),
-            robustness: flags & 7,
+            robustness: robustness_in(flags),
             interval_code: behind_group[1],
         },
-        suppress: flags >> 3 & 1 == 1,
+        suppress: suppresses(flags),
         group: address_at(family, group),
         sources: source_count(behind_group),
     }
@@ -75,6 +87,16 @@ fn query_length(family: Family, payload: &[u8]) -> usize
 {
     let (_, behind_group) = payload.split_at(group_place(family) + width(family));
     query_least(family) + usize::from(source_count(behind_group)) * width(family)
+}
+
+fn sources_fault(family: Family, payload: &[u8]) -> Option<ReportFault>
+    requires { query_least family ≤ length payload.now }
+    ensures { result ≡ sources_fault family payload.now }
+{
+    if payload.len() < query_length(family, payload) {
+        return Some(ReportFault::SourceShort(0));
+    }
+    None
 }
 
 fn query_fault(family: Family, pseudo_header: &[u8], payload: &[u8]) -> Option<ReportFault>
@@ -94,10 +116,7 @@ fn query_fault(family: Family, pseudo_header: &[u8], payload: &[u8]) -> Option<R
     if let Some(fault) = sum_fault(pseudo_header, payload) {
         return Some(fault);
     }
-    if payload.len() < query_length(family, payload) {
-        return Some(ReportFault::SourceShort(0));
-    }
-    None
+    sources_fault(family, payload)
 }
 
 /// Reads a whole payload of at most 16 MiB as one membership query.

@@ -52,6 +52,15 @@ fn append_sources(sources: &[Ip], octets: &mut Vec<u8>) -> Result<(), AllocError
     Ok(())
 }
 
+// The octets before the group. The second one stays zero: no auxiliary data is written.
+fn record_head(kind: RecordKind, count: u16) -> [u8; 4]
+    ensures { result ≡ kind_number kind ∷ 0 ∷ big_bytes 2 count }
+{
+    let mut head = [kind_number(kind), 0, 0, 0];
+    BigEndian::write_u16(&mut head[2..], count);
+    head
+}
+
 fn append_written(group_record: &Record, octets: &mut Vec<u8>) -> Result<(), AllocError>
     requires { length group_record.now.sources < 65536 }
     ensures fit { OnOk result (HasFittingAddresses group_record.now) }
@@ -59,10 +68,7 @@ fn append_written(group_record: &Record, octets: &mut Vec<u8>) -> Result<(), All
         ≡ octets.old.items ++ written_record group_record.now) }
 {
     let sources = group_record.sources.as_slice();
-    // The second octet stays zero: no auxiliary data is written.
-    let mut head = [kind_number(group_record.kind), 0, 0, 0];
-    BigEndian::write_u16(&mut head[2..], sources.len() as u16);
-    octets.extend_from_slice(&head)?;
+    octets.extend_from_slice(&record_head(group_record.kind, sources.len() as u16))?;
     append_address(group_record.group, octets)?;
     append_sources(sources, octets)
 }

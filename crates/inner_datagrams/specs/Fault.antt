@@ -22,31 +22,58 @@ version_faults bytes =
     ∷ (not (ip_version bytes == 4 || ip_version bytes == 6), Version (ip_version bytes))
     ∷ []
 
--- lengths of the header and of the whole that aren't those of the bytes (RFC 791, section 3.1)
-abbrev pub length_faults : List ℕ → Conditions InnerFault
-length_faults bytes =
+-- a header that is shorter than it may be or than it states (RFC 791, section 3.1)
+abbrev pub header_length_faults : List ℕ → Conditions InnerFault
+header_length_faults bytes =
     (nat_lt (length bytes) 20, ShortHeader 20 (length bytes))
     ∷ (nat_lt (header_words bytes) 5, HeaderLength (header_words bytes))
     ∷ (nat_lt (length bytes) (header_octets bytes), ShortHeader (header_octets bytes) (length bytes))
-    ∷ (not (total_length bytes == length bytes), TotalLength (total_length bytes) (length bytes))
     ∷ []
 
--- a wrong checksum, a fragment, another protocol than IGMP (RFC 791, section 3.1)
-abbrev pub header_faults : List ℕ → Conditions InnerFault
-header_faults bytes =
+-- the length of the whole isn't that of the bytes
+abbrev pub wrong_total : List ℕ → Bool × InnerFault
+wrong_total bytes = (not (total_length bytes == length bytes), TotalLength (total_length bytes) (length bytes))
+
+-- lengths of the header and of the whole that aren't those of the bytes
+abbrev pub length_faults : List ℕ → Conditions InnerFault
+length_faults bytes = header_length_faults bytes ++ wrong_total bytes ∷ []
+
+-- the header's words don't add up (RFC 791, section 3.1)
+abbrev pub wrong_header_sum : List ℕ → Bool × InnerFault
+wrong_header_sum bytes =
     (not (is_right (header_of bytes)), HeaderSum (internet_sum_of (with_zero_sum (header_of bytes))) (header_sum bytes))
-    ∷ (not (fragment_bits bytes == 0), Fragment (fragment_bits bytes))
-    ∷ (not (protocol_number bytes == 2), Protocol (protocol_number bytes))
-    ∷ []
 
--- lengths of the IPv6 header and of the whole that aren't those of the bytes (RFC 8200, section 3), and
--- that of a hop-by-hop header, which has at least 8 octets (section 4.3)
+-- more fragments follow, or others come before
+abbrev pub fragment : List ℕ → Bool × InnerFault
+fragment bytes = (not (fragment_bits bytes == 0), Fragment (fragment_bits bytes))
+
+-- another protocol than IGMP (RFC 3376, section 4)
+abbrev pub other_protocol : ℕ → Bool × InnerFault
+other_protocol protocol = (not (protocol == 2), Protocol protocol)
+
+-- a wrong checksum, a fragment, another protocol
+abbrev pub header_faults : List ℕ → Conditions InnerFault
+header_faults bytes = wrong_header_sum bytes ∷ fragment bytes ∷ other_protocol (protocol_number bytes) ∷ []
+
+-- the length of the whole that an IPv6 header states isn't that of the bytes (RFC 8200, section 3)
+abbrev pub wrong_total6 : List ℕ → Bool × InnerFault
+wrong_total6 bytes = (not (whole_length6 bytes == length bytes), TotalLength (whole_length6 bytes) (length bytes))
+
+-- lengths of the IPv6 header and of the whole that aren't those of the bytes, and that of a
+-- hop-by-hop header, which has at least 8 octets (RFC 8200, section 4.3)
 abbrev pub length_faults6 : List ℕ → Conditions InnerFault
 length_faults6 bytes =
     (nat_lt (length bytes) 40, ShortHeader 40 (length bytes))
-    ∷ (not (whole_length6 bytes == length bytes), TotalLength (whole_length6 bytes) (length bytes))
+    ∷ wrong_total6 bytes
     ∷ (has_hop_by_hop bytes && nat_lt (length bytes) 48, ShortHeader 48 (length bytes))
     ∷ (has_hop_by_hop bytes && nat_lt (length bytes) (hop_by_hop_end bytes), ShortHeader (hop_by_hop_end bytes) (length bytes))
+    ∷ []
+
+-- of those, the ones of a hop-by-hop header that is there
+abbrev pub hop_by_hop_faults : List ℕ → Conditions InnerFault
+hop_by_hop_faults bytes =
+    (nat_lt (length bytes) 48, ShortHeader 48 (length bytes))
+    ∷ (nat_lt (length bytes) (hop_by_hop_end bytes), ShortHeader (hop_by_hop_end bytes) (length bytes))
     ∷ []
 
 -- the kind of another extension header that may stand before a message: hop-by-hop options, routing,

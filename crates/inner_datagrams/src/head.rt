@@ -1,4 +1,4 @@
-ghost use Rattle.std.specs.Prelude.{◌≡◌, ◌≤◌, ◌∷◌, [], length, Err, IfOk, MatchResult, None, Ok, Some};
+ghost use Rattle.std.specs.Prelude.{◌≡◌, ◌≤◌, ◌∷◌, [], length, Err, IfNone, IfOk, MatchResult, None, Ok, Some};
 ghost use Rattle.inner_datagrams.specs.Fault.{first_holding};
 ghost use Rattle.inner_datagrams.specs.Head.{IsHead, first_head_fault, head4_at, head6_at, head_of, short_header};
 ghost use Rattle.inner_datagrams.specs.Reading.{unless};
@@ -30,19 +30,34 @@ pub enum HeadFault {
     ShortHeader(u32, u32),
 }
 
+fn short_header(need: u32, bytes: &[u8]) -> Option<HeadFault>
+    requires { length bytes.now ≤ INPUT_LIMIT }
+    ensures fault { result ≡ first_holding (short_header need bytes.now ∷ []) }
+    ensures enough { IfNone result (need ≤ length bytes.now) }
+{
+    let have = bytes.len() as u32;
+    if have < need {
+        return Some(HeadFault::ShortHeader(need, have));
+    }
+    None
+}
+
+fn head_of(source: Ip, group: Ip) -> Head
+    ensures source { result.source ≡ source }
+    ensures group { result.group ≡ group }
+{
+    Head { source, group }
+}
+
 fn head4(bytes: &[u8]) -> Result<Head, HeadFault>
     requires { length bytes.now ≤ INPUT_LIMIT }
     ensures { result
         ≡ unless (first_holding (short_header 20 bytes.now ∷ [])) (head4_at bytes.now) }
 {
-    let have = bytes.len() as u32;
-    if have < 20 {
-        return Err(HeadFault::ShortHeader(20, have));
+    match short_header(20, bytes) {
+        Some(fault) => Err(fault),
+        None => Ok(head_of(Ip::V4(number_at(bytes, 12)), Ip::V4(number_at(bytes, 16)))),
     }
-    Ok(Head {
-        source: Ip::V4(number_at(bytes, 12)),
-        group: Ip::V4(number_at(bytes, 16)),
-    })
 }
 
 fn head6(bytes: &[u8]) -> Result<Head, HeadFault>
@@ -50,14 +65,10 @@ fn head6(bytes: &[u8]) -> Result<Head, HeadFault>
     ensures { result
         ≡ unless (first_holding (short_header 40 bytes.now ∷ [])) (head6_at bytes.now) }
 {
-    let have = bytes.len() as u32;
-    if have < 40 {
-        return Err(HeadFault::ShortHeader(40, have));
+    match short_header(40, bytes) {
+        Some(fault) => Err(fault),
+        None => Ok(head_of(Ip::V6(address_at(bytes, 8)), Ip::V6(address_at(bytes, 24)))),
     }
-    Ok(Head {
-        source: Ip::V6(address_at(bytes, 8)),
-        group: Ip::V6(address_at(bytes, 24)),
-    })
 }
 
 #[tactic(auto, unfolding(crate::specs::Head::first_head_fault))]

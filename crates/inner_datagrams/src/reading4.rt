@@ -1,18 +1,18 @@
-ghost use Rattle.std.specs.Prelude.{◌≡◌, ◌≤◌, ◌++◌, length, IfOk};
-ghost use Rattle.inner_datagrams.specs.Fault.{faults4, first_holding, header_faults, length_faults};
+ghost use Rattle.std.specs.Prelude.{◌≡◌, ◌≤◌, ◌∷◌, ◌++◌, [], length, IfOk};
+ghost use Rattle.inner_datagrams.specs.Fault.{faults4, first_holding, fragment, header_faults, header_length_faults, length_faults, other_protocol, wrong_header_sum, wrong_total};
 ghost use Rattle.inner_datagrams.specs.Header.{header_octets};
-ghost use Rattle.inner_datagrams.specs.Reading.{inner4_at, unless};
+ghost use Rattle.inner_datagrams.specs.Reading.{inner4_at, parts4, unless};
 
 use crate::checksum::{expected_sum, is_right};
 use crate::fields::{number_at, short_at};
 use crate::inner::{Inner, InnerFault};
 use amt_values::{INPUT_LIMIT, Ip};
 
-// Where the header ends, if the lengths that it states are those of the bytes.
-fn header_end(bytes: &[u8]) -> Result<usize, InnerFault>
+// The octets of the header, if as many as it states are there.
+fn stated_header(bytes: &[u8]) -> Result<usize, InnerFault>
     requires { length bytes.now ≤ INPUT_LIMIT }
     ensures value { result
-        ≡ unless (first_holding (length_faults bytes.now)) (header_octets bytes.now) }
+        ≡ unless (first_holding (header_length_faults bytes.now)) (header_octets bytes.now) }
     ensures least { IfOk result (λ end. 20 ≤ end) }
     ensures most { IfOk result (λ end. end ≤ 60) }
     ensures within { IfOk result (λ end. end ≤ length bytes.now) }
@@ -29,11 +29,70 @@ fn header_end(bytes: &[u8]) -> Result<usize, InnerFault>
     if have < need {
         return Err(InnerFault::ShortHeader(need, have));
     }
+    Ok(need as usize)
+}
+
+fn total_fault(bytes: &[u8]) -> Option<InnerFault>
+    requires least { 20 ≤ length bytes.now }
+    requires most { length bytes.now ≤ INPUT_LIMIT }
+    ensures { result ≡ first_holding (wrong_total bytes.now ∷ []) }
+{
+    let have = bytes.len() as u32;
     let total = short_at(bytes, 2) as u32;
     if total != have {
-        return Err(InnerFault::TotalLength(total, have));
+        return Some(InnerFault::TotalLength(total, have));
     }
-    Ok(need as usize)
+    None
+}
+
+// Where the header ends, if the lengths that it states are those of the bytes.
+fn header_end(bytes: &[u8]) -> Result<usize, InnerFault>
+    requires { length bytes.now ≤ INPUT_LIMIT }
+    ensures value { result
+        ≡ unless (first_holding (length_faults bytes.now)) (header_octets bytes.now) }
+    ensures least { IfOk result (λ end. 20 ≤ end) }
+    ensures most { IfOk result (λ end. end ≤ 60) }
+    ensures within { IfOk result (λ end. end ≤ length bytes.now) }
+{
+    let end = stated_header(bytes)?;
+    match total_fault(bytes) {
+        Some(fault) => Err(fault),
+        None => Ok(end),
+    }
+}
+
+fn sum_fault(bytes: &[u8], end: usize) -> Option<InnerFault>
+    requires least { 20 ≤ end }
+    requires most { end ≤ 60 }
+    requires within { end ≤ length bytes.now }
+    requires end { end ≡ header_octets bytes.now }
+    ensures { result ≡ first_holding (wrong_header_sum bytes.now ∷ []) }
+{
+    let (header, _) = bytes.split_at(end);
+    if is_right(header) {
+        return None;
+    }
+    let want = expected_sum(header);
+    Some(InnerFault::HeaderSum(want, short_at(bytes, 10)))
+}
+
+fn fragment_fault(bytes: &[u8]) -> Option<InnerFault>
+    requires { 20 ≤ length bytes.now }
+    ensures { result ≡ first_holding (fragment bytes.now ∷ []) }
+{
+    match short_at(bytes, 6) & 0x3fff {
+        0 => None,
+        bits => Some(InnerFault::Fragment(bits)),
+    }
+}
+
+fn protocol_fault(protocol: u8) -> Option<InnerFault>
+    ensures { result ≡ first_holding (other_protocol protocol ∷ []) }
+{
+    match protocol {
+        2 => None,
+        _ => Some(InnerFault::Protocol(protocol)),
+    }
 }
 
 // What a header that ends there has against it: a wrong checksum, a fragment, another protocol.
@@ -44,18 +103,23 @@ fn header_fault(bytes: &[u8], end: usize) -> Option<InnerFault>
     requires end { end ≡ header_octets bytes.now }
     ensures { result ≡ first_holding (header_faults bytes.now) }
 {
-    let (header, _) = bytes.split_at(end);
-    if !is_right(header) {
-        let want = expected_sum(header);
-        return Some(InnerFault::HeaderSum(want, short_at(bytes, 10)));
+    if let Some(fault) = sum_fault(bytes, end) {
+        return Some(fault);
     }
-    let fragment = short_at(bytes, 6) & 0x3fff;
-    if fragment != 0 {
-        return Some(InnerFault::Fragment(fragment));
+    if let Some(fault) = fragment_fault(bytes) {
+        return Some(fault);
     }
-    match bytes[9] {
-        2 => None,
-        protocol => Some(InnerFault::Protocol(protocol)),
+    protocol_fault(bytes[9])
+}
+
+fn parts4(source: u32, destination: u32, start: usize, end: usize) -> Inner
+    ensures { result ≡ parts4 source destination start end }
+{
+    Inner {
+        source: Ip::V4(source),
+        destination: Ip::V4(destination),
+        start,
+        end,
     }
 }
 
@@ -68,11 +132,11 @@ pub fn read_inner4(bytes: &[u8]) -> Result<Inner, InnerFault>
     let start = header_end(bytes)?;
     match header_fault(bytes, start) {
         Some(fault) => Err(fault),
-        None => Ok(Inner {
-            source: Ip::V4(number_at(bytes, 12)),
-            destination: Ip::V4(number_at(bytes, 16)),
+        None => Ok(parts4(
+            number_at(bytes, 12),
+            number_at(bytes, 16),
             start,
-            end: bytes.len(),
-        }),
+            bytes.len(),
+        )),
     }
 }

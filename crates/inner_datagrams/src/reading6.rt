@@ -1,11 +1,44 @@
-ghost use Rattle.std.specs.Prelude.{◌≡◌, ◌≤◌, length, IfOk};
-ghost use Rattle.inner_datagrams.specs.Fault.{faults6, first_holding, length_faults6, next_header_faults};
-ghost use Rattle.inner_datagrams.specs.Header6.{headers_end6, last_next_header};
-ghost use Rattle.inner_datagrams.specs.Reading.{inner6_at, unless};
+ghost use Rattle.std.specs.Prelude.{◌≡◌, ◌≤◌, ◌∷◌, [], length, IfOk};
+ghost use Rattle.inner_datagrams.specs.Fault.{faults6, first_holding, hop_by_hop_faults, length_faults6, next_header_faults, wrong_total6};
+ghost use Rattle.inner_datagrams.specs.Header6.{headers_end6, hop_by_hop_end, hop_by_hop_next, last_next_header};
+ghost use Rattle.inner_datagrams.specs.Reading.{inner6_at, parts6, unless};
 
 use crate::fields::{address_at, short_at};
 use crate::inner::{Inner, InnerFault};
 use amt_values::{INPUT_LIMIT, Ip};
+
+fn total_fault(bytes: &[u8]) -> Option<InnerFault>
+    requires least { 40 ≤ length bytes.now }
+    requires most { length bytes.now ≤ INPUT_LIMIT }
+    ensures { result ≡ first_holding (wrong_total6 bytes.now ∷ []) }
+{
+    let have = bytes.len() as u32;
+    let whole = 40 + short_at(bytes, 4) as u32;
+    if whole != have {
+        return Some(InnerFault::TotalLength(whole, have));
+    }
+    None
+}
+
+// Where a hop-by-hop header ends and what it says to follow, if all of it is there.
+fn hop_by_hop(bytes: &[u8]) -> Result<(usize, u8), InnerFault>
+    requires { length bytes.now ≤ INPUT_LIMIT }
+    ensures value { result ≡ unless (first_holding (hop_by_hop_faults bytes.now))
+        (hop_by_hop_end bytes.now, hop_by_hop_next bytes.now) }
+    ensures least { IfOk result (λ headers. 40 ≤ headers.0) }
+    ensures within { IfOk result (λ headers. headers.0 ≤ length bytes.now) }
+{
+    // Its length is read only where its least 8 octets are there.
+    let have = bytes.len() as u32;
+    if have < 48 {
+        return Err(InnerFault::ShortHeader(48, have));
+    }
+    let need = 40 + 8 * (bytes[41] as u32 + 1);
+    if have < need {
+        return Err(InnerFault::ShortHeader(need, have));
+    }
+    Ok((need as usize, bytes[40]))
+}
 
 // Where the headers end and what the last of them says to follow, if the lengths that they state
 // are those of the bytes.
@@ -20,23 +53,13 @@ fn headers(bytes: &[u8]) -> Result<(usize, u8), InnerFault>
     if have < 40 {
         return Err(InnerFault::ShortHeader(40, have));
     }
-    let whole = 40 + short_at(bytes, 4) as u32;
-    if whole != have {
-        return Err(InnerFault::TotalLength(whole, have));
+    if let Some(fault) = total_fault(bytes) {
+        return Err(fault);
     }
-    let kind = bytes[6];
-    if kind != 0 {
-        return Ok((40, kind));
+    match bytes[6] {
+        0 => hop_by_hop(bytes),
+        kind => Ok((40, kind)),
     }
-    // The length of a hop-by-hop header is read only where its least 8 octets are there.
-    if have < 48 {
-        return Err(InnerFault::ShortHeader(48, have));
-    }
-    let need = 40 + 8 * (bytes[41] as u32 + 1);
-    if have < need {
-        return Err(InnerFault::ShortHeader(need, have));
-    }
-    Ok((need as usize, bytes[40]))
 }
 
 fn next_header_fault(kind: u8) -> Option<InnerFault>
@@ -50,6 +73,17 @@ fn next_header_fault(kind: u8) -> Option<InnerFault>
     }
 }
 
+fn parts6(source: u128, destination: u128, start: usize, end: usize) -> Inner
+    ensures { result ≡ parts6 source destination start end }
+{
+    Inner {
+        source: Ip::V6(source),
+        destination: Ip::V6(destination),
+        start,
+        end,
+    }
+}
+
 // The IPv6 datagram that the bytes are, or their first fault.
 pub fn read_inner6(bytes: &[u8]) -> Result<Inner, InnerFault>
     requires { length bytes.now ≤ INPUT_LIMIT }
@@ -58,11 +92,11 @@ pub fn read_inner6(bytes: &[u8]) -> Result<Inner, InnerFault>
     let (start, kind) = headers(bytes)?;
     match next_header_fault(kind) {
         Some(fault) => Err(fault),
-        None => Ok(Inner {
-            source: Ip::V6(address_at(bytes, 8)),
-            destination: Ip::V6(address_at(bytes, 24)),
+        None => Ok(parts6(
+            address_at(bytes, 8),
+            address_at(bytes, 24),
             start,
-            end: bytes.len(),
-        }),
+            bytes.len(),
+        )),
     }
 }
