@@ -1,11 +1,11 @@
 //! The program `amt`: the command over standard input, output and error.
 //!
-//! Contract: it ends with the status that `amt_command::amt` answers for its words and streams.
+//! Contract: it ends with the status that `amt_command::amt_exit_code` answers for its words and streams.
 //! It knows no format and no protocol.
 //! No standard.
 #![tactic(auto)]
 
-use amt_command::{amt, amt_without_memory};
+use amt_command::{amt_exit_code, exit_code_without_memory};
 use amt_ports::{ReaderSource, WriterSink};
 use std::io::ErrorKind;
 use std::process::ExitCode;
@@ -28,10 +28,10 @@ fn main(rt: HostRuntime) -> ExitCode {
     let words = match words(&rt) {
         Ok(words) => words,
         Err(error) if error.kind() == ErrorKind::OutOfMemory => {
-            return ExitCode::from(amt_without_memory(&mut err));
+            return exit_code_without_memory(&mut err);
         }
         // Words that can't be read, as those that aren't UTF-8, are no line of the command.
         Err(_) => Vec::new(rt.alloc()),
     };
-    ExitCode::from(amt(rt.alloc(), &words, &mut input, &mut out, &mut err))
+    amt_exit_code(rt.alloc(), &words, &mut input, &mut out, &mut err)
 }

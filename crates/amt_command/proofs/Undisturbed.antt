@@ -1,5 +1,5 @@
 -- Where nothing disturbs a run, the octets alone decide how it ends, but for want of memory.
-use Rattle.std.proofs.Common.{◌≡◌, ℕ, ◌≤◌, ◌⊎◌, Option, Some, List, length, Result, Ok, Err, IsOk, OnOk, IsErrOf, IfErr, inl, inr, refl, sym, subst, arith}
+use Rattle.std.proofs.Common.{◌≡◌, ℕ, ◌<◌, ◌≤◌, ◌⊎◌, Option, Some, List, length, Result, Ok, Err, IsOk, OnOk, IsErrOf, IfErr, inl, inr, refl, sym, subst, arith}
 use Rattle.amt_ports.specs.Reading.{TakesAll, TakesMore}
 use Rattle.amt_values.specs.declared.bytes.TheConstants.{INPUT_LIMIT}
 use Rattle.amt_ports.proofs.Taken.{TakesAll-told, TakesMore-told}
@@ -33,6 +33,19 @@ pub more_told : (left left' : Option (List ℕ)) (bytes : List ℕ) → left ≡
 more_told left left' bytes told short more =
     let long = TakesMore-told INPUT_LIMIT bytes left' (subst (λ (l : Option (List ℕ)). TakesMore INPUT_LIMIT l left') told more) in absurd (omega (arith, long, short))
 
+-- an input that is longer than the limit, where it told its octets, was not read to its end
+short_told : (left left' : Option (List ℕ)) (bytes read : List ℕ) → left ≡ Some bytes → TakesAll left left' read → length read ≤ INPUT_LIMIT → INPUT_LIMIT < length bytes → ⊥
+short_told left left' bytes read told all short long =
+    let few : length bytes ≤ INPUT_LIMIT = subst (λ (octets : List ℕ). length octets ≤ INPUT_LIMIT) (told_all left left' bytes read told all) short in absurd (omega (arith, few, long))
+
+pub long_done : (left left' written written' : Option (List ℕ)) (r : Result (Unit {0}) Ending) (bytes : List ℕ) → left ≡ Some bytes → INPUT_LIMIT < length bytes
+    → OnOk r (Replays left left' written written') → IsOk r → ⊥
+long_done left left' written written' (Ok done) bytes told long replays ok = short_told left left' bytes replays.input.bytes told replays.input.read replays.input.short long
+long_done left left' written written' (Err ending) bytes told long replays ok = cc ok
+
+pub long_fault : (left left' : Option (List ℕ)) (bytes text : List ℕ) → left ≡ Some bytes → INPUT_LIMIT < length bytes → IsFaultText left left' text → ⊥
+long_fault left left' bytes text told long fault = short_told left left' bytes fault.bytes told fault.read fault.short long
+
 pub only_done : (r : Result (Unit {0}) Ending) → (IsErrOf r Usage → ⊥) → ((text : List ℕ) → IsErrOf r (Script text) → ⊥) → (IsErrOf r ReadFault → ⊥) → (IsErrOf r WriteFault → ⊥) → (IsErrOf r TooLong → ⊥)
     → (status_of r ≡ 0) ⊎ (status_of r ≡ 7)
 only_done (Ok done) usage script read write long = inl refl
@@ -52,6 +65,16 @@ only_no_script (Err ReadFault) usage ok read write long = absurd (read refl)
 only_no_script (Err WriteFault) usage ok read write long = absurd (write refl)
 only_no_script (Err Memory) usage ok read write long = inr refl
 only_no_script (Err TooLong) usage ok read write long = absurd (long refl)
+
+pub only_too_long : (r : Result (Unit {0}) Ending) → (IsErrOf r Usage → ⊥) → (IsOk r → ⊥) → ((text : List ℕ) → IsErrOf r (Script text) → ⊥) → (IsErrOf r ReadFault → ⊥) → (IsErrOf r WriteFault → ⊥)
+    → (status_of r ≡ 8) ⊎ (status_of r ≡ 7)
+only_too_long (Ok done) usage ok script read write = absurd (ok refl)
+only_too_long (Err Usage) usage ok script read write = absurd (usage refl)
+only_too_long (Err (Script text)) usage ok script read write = absurd (script text refl)
+only_too_long (Err ReadFault) usage ok script read write = absurd (read refl)
+only_too_long (Err WriteFault) usage ok script read write = absurd (write refl)
+only_too_long (Err Memory) usage ok script read write = inr refl
+only_too_long (Err TooLong) usage ok script read write = inl refl
 
 pub fault_told : (left left' : Option (List ℕ)) (r : Result (Unit {0}) Ending) (text : List ℕ) → IfErr r (TellsItsFault left left') → IsErrOf r (Script text) → IsFaultText left left' text
 fault_told left left' r text tells is = rw is at tells

@@ -8,9 +8,10 @@
 
 mod ending;
 mod fault;
+mod reading;
 mod top;
 
-pub use top::{amt, amt_without_memory};
+pub use top::{amt, amt_exit_code, amt_without_memory, exit_code_without_memory};
 
 #[cfg(test)]
 mod tests;

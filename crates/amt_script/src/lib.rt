@@ -27,6 +27,3 @@ pub use reason::Reason;
 pub use replay::{RunFault, run_relay_script};
 pub use script::{RelayItem, RelayItems, RelayScript, ScriptError};
 pub use text::{print_relay_event, print_relay_step};
-
-#[cfg(test)]
-mod tests;

@@ -17,13 +17,16 @@ use amt_ports::{Sink, write_all_own};
 use amt_values::Bytes;
 use relay_machine::{Event, Relay};
 use std::alloc::Global;
+use thiserror::Error;
 
 /// Why the text of a script was not written whole. A front of it stays written.
-#[derive(Clone, Copy, Debug, PartialEq, Eq)]
+#[derive(Clone, Copy, Debug, PartialEq, Eq, Error)]
 pub enum RunFault {
     /// The sink failed.
+    #[error("write fault")]
     Write,
-    /// Want of memory for the relay, a step, the rows that stand, or their text.
+    /// Out of memory for the relay, a step, the rows that stand, or their text.
+    #[error("out of memory")]
     Memory,
 }
 

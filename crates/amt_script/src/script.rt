@@ -5,6 +5,7 @@ use relay_machine::{Event, Settings};
 use response_mac::Secret;
 use std::alloc::{AllocError, Global};
 use std::marker::Model;
+use thiserror::Error;
 
 /// What a script does with its relay.
 #[derive(Debug, Drop)]
@@ -69,10 +70,12 @@ pub struct RelayScript {
 }
 
 /// Why octets were not read as a script.
-#[derive(Clone, Copy, Debug, PartialEq, Eq)]
+#[derive(Clone, Copy, Debug, PartialEq, Eq, Error)]
 pub enum ScriptError {
     /// The first bad line, counted from 1, and the first reason in it.
+    #[error("line {line}: {}", .reason.word())]
     Fault { line: u32, reason: Reason },
-    /// Want of memory for the settings, the items or their octets.
+    /// Out of memory for the settings, the items or their octets.
+    #[error("out of memory")]
     Memory,
 }

@@ -1,7 +1,7 @@
-use super::{are_texts, is_outcome};
+use super::{UPDATE, are_outcomes, are_texts};
 use std::test::Fail;
 
-// Each row: what it shows, the lines behind the relay's settings, and the text. The texts were worked out
+// Each row: what it shows, the lines after the relay's settings, and the text. The texts were worked out
 // from the definitions, and the response MACs by another implementation, Python's hmac module.
 const ROWS: [(&str, &str, &str); 10] = [
     (
@@ -176,7 +176,7 @@ const INNER: [(&str, &str, &str); 28] = [
         "updated",
     ),
     (
-        "a record of unknown type, auxiliary data, and octets behind the last record",
+        "a record of unknown type, auxiliary data, and octets after the last record",
         "6000000000570001fe800000000000000000000000000002ff0200000000000000000000000000163a000502000001008fff878f0000000209020001ff3e000000000000000000000000000220010db8000000000000000000000009000000000000000002010000ff3e0000000000000000000000000001c0ffee00010203",
         "updated",
     ),
@@ -204,9 +204,5 @@ fn mld_is_queried_and_its_reports_are_taken(rt: HostRuntime) -> Result<(), Fail>
 
 #[test]
 fn the_first_fault_of_an_mld_report_is_told(rt: HostRuntime) -> Result<(), Fail> {
-    for (what, inner, outcome) in INNER {
-        let hex = format!(in rt.alloc(); "05004db758a175550a0b0c0d{inner}")?;
-        is_outcome(&rt, rt.alloc(), what, hex.as_str(), outcome)?;
-    }
-    Ok(())
+    are_outcomes(&rt, rt.alloc(), UPDATE, &INNER)
 }

@@ -1,8 +1,9 @@
-use super::{are_texts, is_text};
+use super::{are_texts, is_row};
 use std::alloc::{AllocError, Global};
+use std::process::Abort;
 use std::test::Fail;
 
-// Each row: what it shows, the lines behind the relay's settings, and the text. The texts were worked out
+// Each row: what it shows, the lines after the relay's settings, and the text. The texts were worked out
 // from the definitions, and the response MACs by another implementation, Python's hmac module.
 const ROWS: [(&str, &str, &str); 12] = [
     (
@@ -81,25 +82,30 @@ fn packet_of(alloc: Global, octets: usize) -> Result<String, AllocError> {
     Ok(hex)
 }
 
+// The membership of 198.51.100.7:5000 for 239.1.1.1, and two packets.
+fn lines_of(alloc: Global, first: &str, second: &str) -> Result<String, AllocError> {
+    format!(in alloc;
+        "dg 198.51.100.7:5000 05004db758a175550a0b0c0d46c0002800000000010239f80a000002e0000016940400002200ebfb0000000102000000ef010101\nmc {first}\nmc {second}\n"
+    )
+}
+
+fn text_of(alloc: Global, copied: &str) -> Result<String, AllocError> {
+    format!(in alloc;
+        "= 1 updated\n= 2 copied 1\n> 198.51.100.7:5000 0600{copied}\n= 3 toobig 1451\n. 3\n"
+    )
+}
+
+fn is_copied_alone(rt: &impl Abort, alloc: Global, one: &str, other: &str) -> Result<(), Fail> {
+    let lines = lines_of(alloc, one, other)?;
+    let text = text_of(alloc, one)?;
+    is_row(rt, alloc, "both lengths", lines.as_str(), text.as_str())
+}
+
 #[test]
 fn a_packet_of_1450_octets_is_copied_and_a_longer_one_is_too_big(
     rt: HostRuntime,
 ) -> Result<(), Fail> {
-    let joined =
-        "dg 198.51.100.7:5000 05004db758a175550a0b0c0d46c0002800000000010239f80a000002e0000016940400002200ebfb0000000102000000ef010101";
     let longest = packet_of(rt.alloc(), 1_450)?;
     let longer = packet_of(rt.alloc(), 1_451)?;
-    let script = format!(in rt.alloc();
-        "set relay 192.0.2.1\n{joined}\nmc {longest}\nmc {longer}\n"
-    )?;
-    let text = format!(in rt.alloc();
-        "= 1 updated\n= 2 copied 1\n> 198.51.100.7:5000 0600{longest}\n= 3 toobig 1451\n. 3\n"
-    )?;
-    is_text(
-        &rt,
-        rt.alloc(),
-        "both limits",
-        script.as_str(),
-        text.as_str(),
-    )
+    is_copied_alone(&rt, rt.alloc(), longest.as_str(), longer.as_str())
 }

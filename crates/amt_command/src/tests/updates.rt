@@ -1,7 +1,7 @@
 use super::are_texts;
 use std::test::Fail;
 
-// Each row: what it shows, the lines behind the relay's settings, and the text. The response MACs are of
+// Each row: what it shows, the lines after the relay's settings, and the text. The response MACs are of
 // the peers and the nonce 0a0b0c0d under 32 zero octets, and were computed with another implementation,
 // Python's hmac module.
 const ROWS: [(&str, &str, &str); 8] = [

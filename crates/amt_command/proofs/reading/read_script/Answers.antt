@@ -1,7 +1,7 @@
 use Rattle.amt_script.specs.Fault.{IsErrorOf, RulesOutScripts}
 use Rattle.amt_script.specs.declared.script.ScriptError.TheVariants as errors
 use Rattle.amt_command.proofs.Undisturbed.{tells_fault}
-use Rattle.amt_command.proofs.top.replay_relay.Goals as goal
+use Rattle.amt_command.proofs.reading.read_script.Goals as goal
 
 pub returns-in-Err-Fault-clause-script : goal.returns-in-Err-Fault-clause-script
 returns-in-Err-Fault-clause-script g c =

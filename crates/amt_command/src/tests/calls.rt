@@ -1,0 +1,103 @@
+use super::with_relay;
+use amt_script::{
+    Reason, RelayItem, RunFault, ScriptError, print_relay_event, print_relay_step,
+    read_relay_script,
+};
+use amt_values::{Bytes, INPUT_LIMIT, Ip};
+use relay_machine::{Outcome, Sends, Settings, Step};
+use std::alloc::{AllocError, Global};
+use std::fmt::Display;
+use std::process::Abort;
+use std::test::Fail;
+
+// Lines of a script, as its events are printed.
+const LINES: [&str; 7] = [
+    "at 4611686018427387903\n",
+    "secret 00112233445566778899aabbccddeeff00112233445566778899aabbccddeeff\n",
+    "dg 198.51.100.7:5000 0100000001020304\n",
+    "dg 198.51.100.7:0 -\n",
+    "dg [2001:db8::1:0:0:1]:65535 00\n",
+    "mc 4500001c0000000004119c92c6336409ef0101010400040000080000\n",
+    "mc -\n",
+];
+
+// The line of the first event; nothing where there is none.
+fn first_line(alloc: Global, script: &str) -> Result<Bytes, AllocError> {
+    if script.len() > INPUT_LIMIT {
+        return Ok(Bytes::new(alloc));
+    }
+    let Ok(script) = read_relay_script(alloc, script.as_bytes()) else {
+        return Ok(Bytes::new(alloc));
+    };
+    match script.items.as_slice().first() {
+        Some(RelayItem::Event(event)) => print_relay_event(alloc, event),
+        _ => Ok(Bytes::new(alloc)),
+    }
+}
+
+fn is_read_back(rt: &impl Abort, alloc: Global, line: &str) -> Result<(), Fail> {
+    let script = with_relay(alloc, line)?;
+    let printed = first_line(alloc, script.as_str())?;
+    assert_eq!(rt; printed.as_slice(), line.as_bytes(), "{line}");
+    Ok(())
+}
+
+#[test]
+fn a_printed_event_is_read_back(rt: HostRuntime) -> Result<(), Fail> {
+    for line in LINES.as_slice() {
+        is_read_back(&rt, rt.alloc(), line)?;
+    }
+    Ok(())
+}
+
+fn settings_of(alloc: Global, script: &str) -> Option<Settings> {
+    if script.len() > INPUT_LIMIT {
+        return None;
+    }
+    match read_relay_script(alloc, script.as_bytes()) {
+        Ok(script) => Some(script.settings),
+        Err(_) => None,
+    }
+}
+
+#[test]
+fn settings_have_defaults(rt: HostRuntime) {
+    assert_eq!(rt;
+        settings_of(rt.alloc(), "set relay 192.0.2.1\n"),
+        Some(Settings::of_relay(Ip::V4(0xc000_0201)))
+    );
+}
+
+fn step_text(alloc: Global, outcome: Outcome) -> Result<Bytes, AllocError> {
+    let step = Step {
+        outcome,
+        sends: Sends::new(alloc),
+        change: None,
+    };
+    print_relay_step(alloc, 7, &step)
+}
+
+#[test]
+fn a_step_has_its_number_and_its_outcome(rt: HostRuntime) -> Result<(), Fail> {
+    let text = step_text(rt.alloc(), Outcome::Copied(0))?;
+    assert_eq!(rt; text.as_slice(), b"= 7 copied 0\n".as_slice());
+    Ok(())
+}
+
+fn is_shown(rt: &impl Abort, alloc: Global, error: &impl Display, text: &str) -> Result<(), Fail> {
+    let shown = format!(in alloc; "{error}")?;
+    assert_eq!(rt; shown.as_str(), text);
+    Ok(())
+}
+
+#[test]
+fn a_fault_has_its_text(rt: HostRuntime) -> Result<(), Fail> {
+    let fault = ScriptError::Fault {
+        line: 3,
+        reason: Reason::Late,
+    };
+    is_shown(&rt, rt.alloc(), &fault, "line 3: late")?;
+    is_shown(&rt, rt.alloc(), &ScriptError::Memory, "out of memory")?;
+    is_shown(&rt, rt.alloc(), &RunFault::Write, "write fault")?;
+    is_shown(&rt, rt.alloc(), &RunFault::Memory, "out of memory")
+}

@@ -1,0 +1,171 @@
+use super::*;
+use std::process::ExitCode;
+
+const SCRIPT: &str = "set relay 192.0.2.1\ndg 198.51.100.7:5000 0100000001020304\n";
+
+const TEXT: &str = "= 1 advertised\n> 198.51.100.7:5000 0200000001020304c0000201\n. 1\n";
+
+const STEP: &str = "= 1 advertised\n> 198.51.100.7:5000 0200000001020304c0000201\n";
+
+const USAGE: &str =
+    "amt: usage: replay relay|gateway|pair, dump, vectors, load SEED N, relay FILE, gateway FILE\n";
+
+#[derive(Clone, Copy)]
+enum Input {
+    Text(&'static str),
+    LineFeeds(usize),
+}
+
+// Words, input and the calls that fail; the status, the output, and the line on standard error.
+type Case = (&'static str, Input, Failing, u8, &'static str, &'static str);
+
+const CASES: [Case; 17] = [
+    ("", Input::Text(""), NONE_FAILS, 2, "", USAGE),
+    ("jump", Input::Text(""), NONE_FAILS, 2, "", USAGE),
+    ("replay", Input::Text(SCRIPT), NONE_FAILS, 2, "", USAGE),
+    ("replay gateway", Input::Text(""), NONE_FAILS, 2, "", USAGE),
+    (
+        "replay relay relay",
+        Input::Text(SCRIPT),
+        NONE_FAILS,
+        2,
+        "",
+        USAGE,
+    ),
+    ("relay replay", Input::Text(""), NONE_FAILS, 2, "", USAGE),
+    ("replay relay", Input::Text(SCRIPT), NONE_FAILS, 0, TEXT, ""),
+    (
+        "replay relay",
+        Input::Text("jump\n"),
+        NONE_FAILS,
+        3,
+        "",
+        "amt: line 1: word\n",
+    ),
+    (
+        "replay relay",
+        Input::Text(SCRIPT),
+        (1, 0, 0),
+        4,
+        "",
+        "amt: read fault\n",
+    ),
+    (
+        "replay relay",
+        Input::Text(SCRIPT),
+        (2, 0, 0),
+        4,
+        "",
+        "amt: read fault\n",
+    ),
+    (
+        "replay relay",
+        Input::Text(SCRIPT),
+        (0, 1, 0),
+        5,
+        "",
+        "amt: write fault\n",
+    ),
+    (
+        "replay relay",
+        Input::Text(SCRIPT),
+        (0, 2, 0),
+        5,
+        STEP,
+        "amt: write fault\n",
+    ),
+    // The third write never comes.
+    ("replay relay", Input::Text(SCRIPT), (0, 3, 0), 0, TEXT, ""),
+    // A line that can not be written leaves the status.
+    ("jump", Input::Text(""), (0, 0, 1), 2, "", ""),
+    ("replay relay", Input::Text("jump"), (0, 0, 1), 3, "", ""),
+    ("replay relay", Input::Text(""), (1, 0, 1), 4, "", ""),
+    ("replay relay", Input::Text(SCRIPT), (0, 1, 1), 5, "", ""),
+];
+
+const TOO_LONG: [Case; 2] = [
+    (
+        "replay relay",
+        Input::LineFeeds(16_777_217),
+        NONE_FAILS,
+        8,
+        "",
+        "amt: input too long\n",
+    ),
+    (
+        "replay relay",
+        Input::LineFeeds(16_777_217),
+        (0, 0, 1),
+        8,
+        "",
+        "",
+    ),
+];
+
+fn octets_of(alloc: Global, input: Input) -> Result<Bytes, AllocError> {
+    match input {
+        Input::Text(text) => Bytes::copied(alloc, text.as_bytes()),
+        Input::LineFeeds(count) => Ok(Bytes::from(vec![in alloc; b'\n'; count]?)),
+    }
+}
+
+fn is_case(rt: &impl Abort, alloc: Global, case: &Case) -> Result<(), Fail> {
+    let (words, input, failing, status, out, err) = *case;
+    let octets = octets_of(alloc, input)?;
+    let ended = run(alloc, words, octets, failing)?;
+    is_ended(rt, words, &ended, status, out, err);
+    Ok(())
+}
+
+fn are_cases(rt: &impl Abort, alloc: Global, cases: &[Case]) -> Result<(), Fail> {
+    for case in cases {
+        is_case(rt, alloc, case)?;
+    }
+    Ok(())
+}
+
+#[test]
+fn each_status_has_its_cause_and_its_line(rt: HostRuntime) -> Result<(), Fail> {
+    are_cases(&rt, rt.alloc(), &CASES)
+}
+
+#[test]
+fn an_input_of_one_octet_too_many_is_too_long(rt: HostRuntime) -> Result<(), Fail> {
+    are_cases(&rt, rt.alloc(), &TOO_LONG)
+}
+
+// The same run with the status as that of a process.
+fn exit_code(alloc: Global, line: &str, script: &str) -> Result<ExitCode, AllocError> {
+    let words = words_of(alloc, line)?;
+    let mut input = MemSource::new(alloc, Bytes::copied(alloc, script.as_bytes())?);
+    let mut out = MemSink::new(alloc);
+    let mut err = MemSink::new(alloc);
+    Ok(amt_exit_code(alloc, &words, &mut input, &mut out, &mut err))
+}
+
+#[test]
+fn a_process_ends_with_the_status(rt: HostRuntime) -> Result<(), Fail> {
+    for (line, script, status) in [
+        ("replay relay", SCRIPT, 0),
+        ("replay relay", "jump", 3),
+        ("jump", "", 2),
+    ] {
+        let code = exit_code(rt.alloc(), line, script)?;
+        assert_eq!(rt; code, ExitCode::from(status), "{line}");
+    }
+    Ok(())
+}
+
+#[test]
+fn no_memory_for_the_words_is_status_7(rt: HostRuntime) {
+    let mut err = MemSink::new(rt.alloc());
+    assert_eq!(rt; amt_without_memory(&mut err), 7);
+    assert_eq!(rt; err.as_slice(), b"amt: out of memory\n".as_slice());
+}
+
+#[test]
+fn a_process_without_memory_for_its_words_ends_with_7(rt: HostRuntime) {
+    let mut err = MemSink::new(rt.alloc());
+    assert_eq!(rt; exit_code_without_memory(&mut err), ExitCode::from(7));
+    assert_eq!(rt; err.as_slice(), b"amt: out of memory\n".as_slice());
+}
