@@ -29,8 +29,6 @@ pub use sends::{OneSend, Sends, Step};
 pub use settings::Settings;
 
 #[cfg(test)]
-mod packet_tests;
+mod settings_tests;
 #[cfg(test)]
 mod tests;
-#[cfg(test)]
-mod update_tests;
