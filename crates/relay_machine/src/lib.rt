@@ -16,6 +16,7 @@ mod outcome;
 mod packet;
 mod querier;
 mod relay;
+mod reply;
 mod report;
 mod sends;
 mod settings;
