@@ -1,4 +1,5 @@
 mod calls;
+mod datagrams;
 mod day;
 mod faults;
 mod mld;

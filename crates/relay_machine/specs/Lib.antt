@@ -2,6 +2,8 @@ pub mod Accepted
 pub mod Answers
 pub mod Conditions
 pub mod Events
+pub mod Logs
+pub mod Macs
 pub mod Packets
 pub mod Queries
 pub mod Reading
