@@ -7,7 +7,7 @@ use Rattle.std.specs.Io.KnownBytes.{Appends}
 use Rattle.relay_machine.specs.declared.outcome.Outcome.{Outcome}
 use Rattle.relay_machine.specs.declared.sends.OneSend.{OneSend}
 use Rattle.relay_machine.specs.declared.settings.Settings.{Settings}
-use Rattle.relay_machine.specs.State.{RelayState}
+use Rattle.relay_machine.specs.declared.relay.Relay.{Relay}
 use Rattle.response_mac.specs.declared.secret.Secret.{Secret}
 use Rattle.relay_machine.specs.Answers.{RelayAt}
 use Rattle.amt_script.specs.declared.script.RelayItem.{RelayItem}
@@ -19,7 +19,7 @@ pub same_step : (number : ℕ) (o p : Outcome) (s t : List OneSend) → o ≡ p 
 same_step number o p s t same_outcome same_sends = rw (same_outcome, same_sends) refl
 
 -- the relay has taken the events among these items, and of all their text this is left
-pub record IsRunning (relay : RelayState) (settings : Settings) (first : Secret) (items : List RelayItem) (taken : ℕ) (closing : List ℕ) (old new : Option (List ℕ)) : Type 0 where
+pub record IsRunning (relay : Relay) (settings : Settings) (first : Secret) (items : List RelayItem) (taken : ℕ) (closing : List ℕ) (old new : Option (List ℕ)) : Type 0 where
   pub at : RelayAt relay settings first (events_in (take taken items))
   pub text : WritesUpTo old new (items_text settings first [] items ++ closing) (items_text settings first (take taken items) (drop taken items) ++ closing)
 
@@ -60,7 +60,7 @@ events_more items i item within is =
     ∙ ap (λ (taken : List RelayItem). events_in taken) (sym (taken_more items i item within is))
 
 -- one more item was taken, and its lines were written
-pub run_more : (relay relay' : RelayState) (settings : Settings) (first : Secret) (items : List RelayItem) (i : ℕ) (item : RelayItem) (closing : List ℕ) (old new newer : Option (List ℕ))
+pub run_more : (relay relay' : Relay) (settings : Settings) (first : Secret) (items : List RelayItem) (i : ℕ) (item : RelayItem) (closing : List ℕ) (old new newer : Option (List ℕ))
     → i < length items → item ≡ get_or items i item → IsRunning relay settings first items i closing old new
     → Appends new newer (item_text settings first (events_in (take i items)) (i + 1) item)
     → RelayAt relay' settings first (events_in (take i items) ++ events_in (item ∷ [])) → IsRunning relay' settings first items (i + 1) closing old newer
@@ -70,7 +70,7 @@ run_more relay relay' settings first items i item closing old new newer within i
 }
 
 -- a front of an item's lines was written
-pub run_cut : (relay : RelayState) (settings : Settings) (first : Secret) (items : List RelayItem) (i : ℕ) (item : RelayItem) (closing : List ℕ) (old new newer : Option (List ℕ))
+pub run_cut : (relay : Relay) (settings : Settings) (first : Secret) (items : List RelayItem) (i : ℕ) (item : RelayItem) (closing : List ℕ) (old new newer : Option (List ℕ))
     → i < length items → item ≡ get_or items i item → IsRunning relay settings first items i closing old new
     → WritesFront new newer (item_text settings first (events_in (take i items)) (i + 1) item)
     → WritesFront old newer (items_text settings first [] items ++ closing)
@@ -78,7 +78,7 @@ run_cut relay settings first items i item closing old new newer within is before
     written_front old new newer _ _ _ (subst (WritesUpTo old new (items_text settings first [] items ++ closing)) (taken_text settings first items i item closing within is) before.text) front
 
 -- no item is left, and the closing line was written, or a front of it
-pub run_closed : (relay : RelayState) (settings : Settings) (first : Secret) (items : List RelayItem) (i : ℕ) (closing : List ℕ) (old new newer : Option (List ℕ))
+pub run_closed : (relay : Relay) (settings : Settings) (first : Secret) (items : List RelayItem) (i : ℕ) (closing : List ℕ) (old new newer : Option (List ℕ))
     → length items ≤ i → IsRunning relay settings first items i closing old new → WritesFront new newer closing
     → WritesFront old newer (items_text settings first [] items ++ closing)
 run_closed relay settings first items i closing old new newer past before front =

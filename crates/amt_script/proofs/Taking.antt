@@ -1,7 +1,7 @@
 -- A text's lines that were read so far, and those that are left.
 use Rattle.std.proofs.Common.{◌≡◌, ℕ, ◌+◌, ◌<◌, ◌≤◌, false, List, [], ◌∷◌, ◌++◌, length, inl, inr, refl, sym, ap, subst, ◌∙◌, append_assoc, append-nil, length-append, arith}
 use Rattle.std.specs.Str.Lines.{lines}
-use Rattle.relay_machine.specs.Settings.{IsLawful}
+use Rattle.relay_machine.specs.Settings.{AreLawfulSettings}
 use Rattle.response_mac.specs.declared.secret.Secret.{Secret}
 use Rattle.amt_script.specs.declared.script.RelayItem.{RelayItem}
 use Rattle.relay_machine.specs.declared.settings.Settings.{Settings}
@@ -69,7 +69,7 @@ pub said_is_bad : (given : List Setting) (items : List RelayItem) (line : List �
 said_is_bad given items line reason something first = record { judged = inr something; first = first }
 
 pub without_codes : (given : List Setting) (items : List RelayItem) (ls : List (List ℕ)) (values : Settings) (secret : Secret) (number : ℕ) → Begins given items ls
-    → Settles given values secret → (IsLawful values → ⊥) → number ≡ length ls + 1 → IsFaultAtEnd number reasons.Range ls
+    → Settles given values secret → (AreLawfulSettings values → ⊥) → number ≡ length ls + 1 → IsFaultAtEnd number reasons.Range ls
 without_codes given items ls values secret number begun settled none counted = record {
   counted = counted;
   settings = given;

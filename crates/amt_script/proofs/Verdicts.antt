@@ -2,7 +2,7 @@
 use Rattle.std.proofs.Common.{◌≡◌, ℕ, ◌+◌, ◌⊎◌, List, [], ◌∷◌, ◌++◌, length, Some, inl, inr, refl, sym, ap, subst, ◌∙◌}
 use Rattle.std.specs.Str.Lines.{lines}
 use Rattle.amt_values.specs.declared.address.Ip.{Ip}
-use Rattle.relay_machine.specs.Settings.{IsLawful}
+use Rattle.relay_machine.specs.Settings.{AreLawfulSettings}
 use Rattle.response_mac.specs.declared.secret.Secret.{Secret}
 use Rattle.amt_script.specs.declared.script.RelayItem.{RelayItem}
 use Rattle.relay_machine.specs.declared.settings.Settings.{Settings}
@@ -61,11 +61,11 @@ one_script bytes one other h k =
     same_script one other (settled_values k.given one.settings other.settings one.secret other.secret settled k.settled)
     (settled.first_secret ∙ sym k.settled.first_secret) same.items
 
-wrong_at_end : (given : List Setting) (values : Settings) (secret : Secret) (reason : Reason) → Settles given values secret → IsLawful values
+wrong_at_end : (given : List Setting) (values : Settings) (secret : Secret) (reason : Reason) → Settles given values secret → AreLawfulSettings values
     → First (HoldsAtEnd given) (reasons.Missing ∷ reasons.Range ∷ []) reason → ⊥
 wrong_at_end given values secret reason settled codes (inl missing) = cc (sym settled.relay ∙ missing.0)
 wrong_at_end given values secret reason settled codes (inr (none, inl range)) =
-    range.0.3 (subst IsLawful (settled_values given values range.0.0 secret range.0.1 settled range.0.2) codes)
+    range.0.3 (subst AreLawfulSettings (settled_values given values range.0.0 secret range.0.1 settled range.0.2) codes)
 wrong_at_end given values secret reason settled codes (inr (none, inr more)) = more.1
 
 fault_rules_out : (bytes : List ℕ) (line : ℕ) (reason : Reason) (script : RelayScript) → IsFaultAt line reason bytes → IsRelayScript script bytes → ⊥

@@ -1,7 +1,7 @@
 -- Which line of octets that spell no script is the first bad one, and for which reason.
 use Rattle.std.specs.Prelude.{◌≡◌, ◌≢◌, ℕ, ◌+◌, ◌⊎◌, false, List, [], ◌∷◌, ◌++◌, length, codes, IsSome, None}
 use Rattle.std.specs.Str.Lines.{lines}
-use Rattle.relay_machine.specs.Settings.{IsLawful}
+use Rattle.relay_machine.specs.Settings.{AreLawfulSettings}
 use Rattle.response_mac.specs.declared.secret.Secret.{Secret}
 use Rattle.amt_script.specs.declared.script.RelayItem.{RelayItem}
 use Rattle.relay_machine.specs.declared.settings.Settings.{Settings}
@@ -63,7 +63,7 @@ pub record IsBadLine (settings : List Setting) (items : List RelayItem) (line : 
 abbrev pub HoldsAtEnd : List Setting → Reason → Type 0
 HoldsAtEnd given Missing = relay_in (set_at given keys.Relay) ≡ None
 HoldsAtEnd given Range =
-    (values : Settings) × (secret : Secret) × Settles given values secret × (IsLawful values → ⊥)
+    (values : Settings) × (secret : Secret) × Settles given values secret × (AreLawfulSettings values → ⊥)
 HoldsAtEnd given reason = ⊥
 
 -- the lines before begin a script, and this one is bad

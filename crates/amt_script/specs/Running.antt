@@ -1,7 +1,7 @@
 -- Which scripts a relay can be run over.
 use Rattle.std.specs.List.{AllByRecursion}
 use Rattle.relay_machine.specs.Conditions.{IsEvent}
-use Rattle.relay_machine.specs.Settings.{IsLawful}
+use Rattle.relay_machine.specs.Settings.{AreLawfulSettings}
 use Rattle.amt_script.specs.declared.script.RelayItem.{RelayItem}
 use Rattle.amt_script.specs.declared.script.RelayItem.TheVariants.{Event, Show}
 use Rattle.amt_script.specs.declared.script.RelayScript.{RelayScript}
@@ -13,5 +13,5 @@ IsItem Show = Unit {0}
 
 -- a relay may have its settings, and each item may be told to it
 pub record IsRunnable (script : RelayScript) : Type 0 where
-  pub lawful : IsLawful script.settings
+  pub lawful : AreLawfulSettings script.settings
   pub sized : AllByRecursion IsItem script.items

@@ -5,7 +5,7 @@ use Rattle.std.specs.Str.Lines.{lines}
 use Rattle.amt_values.specs.declared.address.Ip.{Ip}
 use Rattle.amt_values.specs.declared.address.Ip.TheVariants.{V4, V6}
 use Rattle.amt_values.specs.Text.{IsIpText, IsPeerText}
-use Rattle.relay_machine.specs.Settings.{IsLawful}
+use Rattle.relay_machine.specs.Settings.{AreLawfulSettings}
 use Rattle.response_mac.specs.declared.secret.Secret.{Secret}
 use Rattle.relay_machine.specs.declared.event.Event.{Event}
 use Rattle.relay_machine.specs.declared.event.Event.TheVariants as events
@@ -145,4 +145,4 @@ pub record IsRelayScript (script : RelayScript) (bytes : List ℕ) : Type 0 wher
   pub given : List Setting
   pub all_lines : Begins given script.items (lines bytes)
   pub settled : Settles given script.settings script.secret
-  pub lawful : IsLawful script.settings
+  pub lawful : AreLawfulSettings script.settings

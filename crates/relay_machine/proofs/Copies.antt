@@ -24,15 +24,16 @@ use Rattle.relay_machine.specs.declared.event.Event.{Event}
 use Rattle.relay_machine.specs.declared.event.Event.TheVariants.{Packet}
 use Rattle.relay_machine.specs.declared.outcome.Outcome.{Outcome}
 use Rattle.relay_machine.specs.declared.outcome.Outcome.TheVariants.{Copied}
+use Rattle.relay_machine.specs.declared.relay.Relay.{Relay}
 use Rattle.relay_machine.specs.declared.sends.OneSend.{OneSend}
 use Rattle.relay_machine.specs.declared.sends.Step.{Step}
 use Rattle.relay_machine.specs.declared.settings.Settings.{Settings}
 use Rattle.relay_machine.specs.Accepted.{accepted}
-use Rattle.relay_machine.specs.Answers.{RelayAt, sends_of}
+use Rattle.relay_machine.specs.Answers.{RelayAt, StandsFor, sends_of, settings_of}
 use Rattle.relay_machine.specs.Events.{now_of}
 use Rattle.relay_machine.specs.Packets.{AreCopies, IsToCopy, copies, head_to_copy, packet_outcome, packet_sends, receivers, targets_after, targets_at, wants_after}
 use Rattle.relay_machine.specs.Settings.{membership_interval_ms, terms_of}
-use Rattle.relay_machine.specs.State.{HasLog, RelayState}
+use Rattle.relay_machine.specs.State.{HasLog}
 use Rattle.relay_machine.proofs.Onward.{latest-accepted}
 
 -- as many endpoints as a table that stands for a log tells are those of its rows
@@ -100,10 +101,10 @@ AreCopies-sends settings first events packet head to_copy =
     (IsRising-targets_of lifetime log head.group head.source (now_of events)))
 
 -- what a relay sends of a packet by its own log is what it sends by the events
-packet_sends-after : {E : Type 0} (relay : RelayState) (settings : Settings) (first : Secret) (events : List Event) (packet : List ℕ) (answer : Result Step E)
+packet_sends-after : {E : Type 0} (relay : Relay) (settings : Settings) (first : Secret) (events : List Event) (packet : List ℕ) (answer : Result Step E)
     → RelayAt relay settings first events
-    → ((log : List Change) → Holds (terms_of relay.settings) relay.table log
-    → IfOk answer (λ step. step.sends ≡ packet_sends (targets_at (terms_of relay.settings) log (latest log)) packet (head_to_copy relay.settings.packet_limit packet)))
+    → ((log : List Change) → StandsFor relay log
+    → IfOk answer (λ step. step.sends ≡ packet_sends (targets_at (terms_of (settings_of relay)) log (latest log)) packet (head_to_copy (settings_of relay).packet_limit packet)))
     → IfOk answer (λ step. step.sends ≡ sends_of settings first events (Packet packet))
 packet_sends-after relay settings first events packet answer at sends =
     let log = accepted settings first events in
@@ -114,10 +115,10 @@ packet_sends-after relay settings first events packet answer at sends =
     (sends log holds)
 
 -- by what is answered to a packet: the copies of it
-pub AreCopies-answered : {E : Type 0} (relay : RelayState) (settings : Settings) (first : Secret) (events : List Event) (packet : List ℕ) (head : Head) (answer : Result Step E)
+pub AreCopies-answered : {E : Type 0} (relay : Relay) (settings : Settings) (first : Secret) (events : List Event) (packet : List ℕ) (head : Head) (answer : Result Step E)
     → RelayAt relay settings first events
-    → ((log : List Change) → Holds (terms_of relay.settings) relay.table log
-    → IfOk answer (λ step. step.sends ≡ packet_sends (targets_at (terms_of relay.settings) log (latest log)) packet (head_to_copy relay.settings.packet_limit packet)))
+    → ((log : List Change) → StandsFor relay log
+    → IfOk answer (λ step. step.sends ≡ packet_sends (targets_at (terms_of (settings_of relay)) log (latest log)) packet (head_to_copy (settings_of relay).packet_limit packet)))
     → IsToCopy settings.packet_limit head packet → IfOk answer (λ step. AreCopies (wants_after settings first events head) packet step.sends)
 AreCopies-answered relay settings first events packet head answer at sends to_copy =
     IfOk-weaker answer _ _

@@ -1,5 +1,8 @@
 -- Where one more event leaves a relay.
 use Rattle.std.proofs.Common.{◌≡◌, ℕ, max, Bool, true, false, List, [], ◌∷◌, ◌++◌, Option, Some, None, Result, Ok, Err, refl, sym, ap, subst, ◌∙◌, arith}
+use mathlib.Core.HLevel.{is_prop→PathP}
+use Rattle.std.proofs.Math.Logic.{∥∥₁_map, ∥∥₁_prop}
+use Rattle.std.proofs.Props.{props}
 use Rattle.std.proofs.lemmas.List.{append-nil, reverse-append, reverse-reverse}
 use Rattle.std.proofs.lemmas.List.Elements.{filter_map-append}
 use Rattle.std.proofs.lemmas.List.Sums.{fold-append}
@@ -26,13 +29,14 @@ use Rattle.endpoint_membership.proofs.Held.{IsWithin-log, latest-push}
 use Rattle.relay_machine.specs.declared.event.Event.{Event}
 use Rattle.relay_machine.specs.declared.event.Event.TheVariants.{Moment, Datagram, Packet, Rotate}
 use Rattle.relay_machine.specs.declared.outcome.Unlawful.{Unlawful}
+use Rattle.relay_machine.specs.declared.relay.Relay.{Relay}
 use Rattle.relay_machine.specs.declared.sends.Step.{Step}
 use Rattle.relay_machine.specs.declared.settings.Settings.{Settings}
 use Rattle.relay_machine.specs.Accepted.{accepted, accepted_back, datagram_entry, entry_after, entry_of, with_change}
-use Rattle.relay_machine.specs.Answers.{RelayAt}
+use Rattle.relay_machine.specs.Answers.{RelayAt, StandsFor, moment_of, settings_of}
 use Rattle.relay_machine.specs.Events.{moment_in, now_of, secret_in, secrets_of}
 use Rattle.relay_machine.specs.Settings.{terms_of}
-use Rattle.relay_machine.specs.State.{HasLog, IsSound, RelayState}
+use Rattle.relay_machine.specs.State.{HasLog}
 use Rattle.relay_machine.specs.Teardowns.{teardown_entry}
 use Rattle.relay_machine.specs.Updates.{forwarded, limit_change, report_in, update_change}
 
@@ -70,12 +74,31 @@ accepted-push settings first events event =
     ∙ ap (λ (earlier : List Event). with_change log (entry_after settings first earlier log event)) (reverse-reverse events)
 
 -- the log's latest moment is the events'
-pub latest-accepted : (relay : RelayState) (settings : Settings) (first : Secret) (events : List Event) → RelayAt relay settings first events
+pub latest-accepted : (relay : Relay) (settings : Settings) (first : Secret) (events : List Event) → RelayAt relay settings first events
     → latest (accepted settings first events) ≡ now_of events
 latest-accepted relay settings first events at = sym at.table.moment ∙ at.moment
 
+-- a relay's table stands for the accepted log
+pub StandsFor-accepted : (relay : Relay) (settings : Settings) (first : Secret) (events : List Event) → RelayAt relay settings first events
+    → StandsFor relay (accepted settings first events)
+StandsFor-accepted relay settings first events at =
+    subst (λ (known : Settings). Holds (terms_of known) relay.table (accepted settings first events)) (sym at.settings_kept) at.table
+
+within_prop : (table : TableValue) → IsProp (IsWithinLimits table)
+within_prop table = hlevel props
+
+-- relays that keep the same are one
+pub same_relay : (relay after : Relay) → after.querier ≡ relay.querier → after.secrets ≡ relay.secrets → after.table ≡ relay.table → after ≡ relay
+same_relay relay after same_querier same_secrets same_table = λ i. record {
+  querier = same_querier i;
+  secrets = same_secrets i;
+  table = same_table i;
+  within = is_prop→PathP (λ j. IsWithinLimits (same_table j)) (λ j. within_prop (same_table j)) after.within relay.within i;
+  has_log = is_prop→PathP (λ j. ∥ HasLog (terms_of (same_querier j).settings) (same_table j) ∥₁) (λ j. ∥∥₁_prop) after.has_log relay.has_log i;
+}
+
 -- a new relay
-pub RelayAt-new : (relay : RelayState) (settings : Settings) (first : Secret) → relay.settings ≡ settings → relay.secrets ≡ secrets_after first []
+pub RelayAt-new : (relay : Relay) (settings : Settings) (first : Secret) → settings_of relay ≡ settings → relay.secrets ≡ secrets_after first []
     → Holds (terms_of settings) relay.table [] → RelayAt relay settings first []
 unfolding now_of secrets_of accepted_back
 RelayAt-new relay settings first same_settings same_secrets holds =
@@ -88,11 +111,11 @@ Holds-push : (settings : Settings) (first : Secret) (events : List Event) (event
 Holds-push settings first events event table holds = subst (Holds (terms_of settings) table) (sym (accepted-push settings first events event)) holds
 
 -- a moment moves the table on, and changes nothing else
-pub RelayAt-moment : (relay : RelayState) (settings : Settings) (first : Secret) (events : List Event) (moment later : ℕ) (table : TableValue)
-    → RelayAt relay settings first events → later ≡ max relay.table.moment moment
-    → ((terms : Terms) (log : List Change) → Holds terms relay.table log → Holds terms table (log ++ Mark later ∷ []))
-    → RelayAt (record relay { table = table }) settings first (events ++ Moment moment ∷ [])
-RelayAt-moment relay settings first events moment later table at later_is marked =
+pub RelayAt-moment : (relay after : Relay) (settings : Settings) (first : Secret) (events : List Event) (moment later : ℕ) → RelayAt relay settings first events
+    → settings_of after ≡ settings_of relay → after.secrets ≡ relay.secrets → later ≡ max (moment_of relay) moment
+    → ((terms : Terms) (log : List Change) → Holds terms relay.table log → Holds terms after.table (log ++ Mark later ∷ []))
+    → RelayAt after settings first (events ++ Moment moment ∷ [])
+RelayAt-moment relay after settings first events moment later at same_settings same_secrets later_is marked =
     let log = accepted settings first events in
     let held = marked (terms_of settings) log at.table in
     let by_events : later ≡ max (now_of events) moment = later_is ∙ ap (λ (m : ℕ). max m moment) at.moment in
@@ -100,9 +123,9 @@ RelayAt-moment relay settings first events moment later table at later_is marked
     let shown = held.moment in
     let pushed = latest-push log (Mark later) in
     let before = latest-accepted relay settings first events at in record {
-      settings_kept = at.settings_kept;
-      secrets = at.secrets ∙ sym (secrets_of-other first events (Moment moment) refl);
-      table = Holds-push settings first events (Moment moment) table (subst (λ (m : ℕ). Holds (terms_of settings) table (log ++ Mark m ∷ [])) by_events held);
+      settings_kept = same_settings ∙ at.settings_kept;
+      secrets = same_secrets ∙ (at.secrets ∙ sym (secrets_of-other first events (Moment moment) refl));
+      table = Holds-push settings first events (Moment moment) after.table (subst (λ (m : ℕ). Holds (terms_of settings) after.table (log ++ Mark m ∷ [])) by_events held);
       moment = omega arith;
     }
 
@@ -136,72 +159,70 @@ datagram_entry-unmoved terms secrets log (Some source) (Ok (Multicast packet)) =
 datagram_entry-unmoved terms secrets log (Some source) (Ok (Teardown mac nonce gateway)) = teardown_entry-unmoved (is_good secrets gateway nonce mac) log gateway
 
 -- a datagram changes the table by the entry that it adds, and nothing else
-pub RelayAt-datagram : (relay : RelayState) (settings : Settings) (first : Secret) (events : List Event) (from : Peer) (bytes : List ℕ)
-    (table : TableValue) → RelayAt relay settings first events
+pub RelayAt-datagram : (relay after : Relay) (settings : Settings) (first : Secret) (events : List Event) (from : Peer) (bytes : List ℕ) → RelayAt relay settings first events
+    → settings_of after ≡ settings_of relay → after.secrets ≡ relay.secrets
     → (let log = accepted settings first events in
-    Holds (terms_of settings) table (with_change log (datagram_entry (terms_of settings) (secrets_of first events) (latest log) log (endpoint_of from) (message_of bytes))))
-    → RelayAt (record relay { table = table }) settings first (events ++ Datagram from bytes ∷ [])
-RelayAt-datagram relay settings first events from bytes table at holds =
+    Holds (terms_of settings) after.table (with_change log (datagram_entry (terms_of settings) (secrets_of first events) (latest log) log (endpoint_of from) (message_of bytes))))
+    → RelayAt after settings first (events ++ Datagram from bytes ∷ [])
+RelayAt-datagram relay after settings first events from bytes at same_settings same_secrets holds =
     let log = accepted settings first events in
     let before = latest-accepted relay settings first events at in
     let made : ℕ → Option Change = λ (m : ℕ). datagram_entry (terms_of settings) (secrets_of first events) m log (endpoint_of from) (message_of bytes) in record {
-      settings_kept = at.settings_kept;
-      secrets = at.secrets ∙ sym (secrets_of-other first events (Datagram from bytes) refl);
-      table = Holds-push settings first events (Datagram from bytes) table (subst (λ (m : ℕ). Holds (terms_of settings) table (with_change log (made m))) before holds);
+      settings_kept = same_settings ∙ at.settings_kept;
+      secrets = same_secrets ∙ (at.secrets ∙ sym (secrets_of-other first events (Datagram from bytes) refl));
+      table = Holds-push settings first events (Datagram from bytes) after.table (subst (λ (m : ℕ). Holds (terms_of settings) after.table (with_change log (made m))) before holds);
       moment = holds.moment
           ∙ (datagram_entry-unmoved (terms_of settings) (secrets_of first events) log (endpoint_of from) (message_of bytes)
           ∙ (before ∙ sym (now_of-other events (Datagram from bytes) refl)));
     }
 
 -- by what is answered to a datagram: the table that it leaves
-pub RelayAt-answered : {E : Type 0} (relay : RelayState) (settings : Settings) (first : Secret) (events : List Event) (from : Peer) (bytes : List ℕ)
-    (table : TableValue) (answer : Result Step E) → RelayAt relay settings first events
-    → ((log : List Change) → Holds (terms_of relay.settings) relay.table log
-    → IfOk answer (λ _. Holds (terms_of relay.settings) table
-    (with_change log (datagram_entry (terms_of relay.settings) relay.secrets (latest log) log (endpoint_of from) (message_of bytes)))))
-    → IfOk answer (λ _. RelayAt (record relay { table = table }) settings first (events ++ Datagram from bytes ∷ []))
-RelayAt-answered relay settings first events from bytes table (Err fault) at stands = tt
-RelayAt-answered relay settings first events from bytes table (Ok step) at stands =
+pub RelayAt-answered : {E : Type 0} (relay after : Relay) (settings : Settings) (first : Secret) (events : List Event) (from : Peer) (bytes : List ℕ) (answer : Result Step E)
+    → RelayAt relay settings first events → settings_of after ≡ settings_of relay → after.secrets ≡ relay.secrets
+    → ((log : List Change) → StandsFor relay log
+    → IfOk answer (λ _. Holds (terms_of (settings_of relay)) after.table
+    (with_change log (datagram_entry (terms_of (settings_of relay)) relay.secrets (latest log) log (endpoint_of from) (message_of bytes)))))
+    → IfOk answer (λ _. RelayAt after settings first (events ++ Datagram from bytes ∷ []))
+RelayAt-answered relay after settings first events from bytes (Err fault) at same_settings same_secrets stands = tt
+RelayAt-answered relay after settings first events from bytes (Ok step) at same_settings same_secrets stands =
     let log = accepted settings first events in
-    let held : Settings → Secrets → Type 0 = λ (known : Settings) (secrets : Secrets). Holds (terms_of known) table
+    let held : Settings → Secrets → Type 0 = λ (known : Settings) (secrets : Secrets). Holds (terms_of known) after.table
     (with_change log (datagram_entry (terms_of known) secrets (latest log) log (endpoint_of from) (message_of bytes))) in
     let holds = subst (λ (known : Settings). Holds (terms_of known) relay.table log) (sym at.settings_kept) at.table in
-    RelayAt-datagram relay settings first events from bytes table at
+    RelayAt-datagram relay after settings first events from bytes at same_settings same_secrets
     (subst (held settings) at.secrets (subst (λ (known : Settings). held known relay.secrets) at.settings_kept (stands log holds)))
 
 -- a packet changes nothing
-pub RelayAt-packet : (relay : RelayState) (settings : Settings) (first : Secret) (events : List Event) (bytes : List ℕ) → RelayAt relay settings first events
-    → RelayAt relay settings first (events ++ Packet bytes ∷ [])
-RelayAt-packet relay settings first events bytes at = record {
-  settings_kept = at.settings_kept;
-  secrets = at.secrets ∙ sym (secrets_of-other first events (Packet bytes) refl);
-  table = Holds-push settings first events (Packet bytes) relay.table at.table;
-  moment = at.moment ∙ sym (now_of-other events (Packet bytes) refl);
+pub RelayAt-packet : (relay after : Relay) (settings : Settings) (first : Secret) (events : List Event) (bytes : List ℕ) → RelayAt relay settings first events
+    → settings_of after ≡ settings_of relay → after.secrets ≡ relay.secrets → after.table ≡ relay.table → RelayAt after settings first (events ++ Packet bytes ∷ [])
+RelayAt-packet relay after settings first events bytes at same_settings same_secrets same_table = record {
+  settings_kept = same_settings ∙ at.settings_kept;
+  secrets = same_secrets ∙ (at.secrets ∙ sym (secrets_of-other first events (Packet bytes) refl));
+  table = Holds-push settings first events (Packet bytes) after.table (subst (λ (table : TableValue). Holds (terms_of settings) table (accepted settings first events)) (sym same_table) at.table);
+  moment = ap (λ (table : TableValue). table.moment) same_table ∙ (at.moment ∙ sym (now_of-other events (Packet bytes) refl));
 }
 
 -- a secret is the last of the secrets, and nothing else changes
-pub RelayAt-rotate : (relay : RelayState) (settings : Settings) (first : Secret) (events : List Event) (secret : Secret) (rotated : Secrets)
-    → RelayAt relay settings first events
-    → ((f : Secret) (changes : List Secret) → relay.secrets ≡ secrets_after f changes → rotated ≡ secrets_after f (changes ++ secret ∷ []))
-    → RelayAt (record relay { secrets = rotated }) settings first (events ++ Rotate secret ∷ [])
+pub RelayAt-rotate : (relay after : Relay) (settings : Settings) (first : Secret) (events : List Event) (secret : Secret) → RelayAt relay settings first events
+    → settings_of after ≡ settings_of relay → after.table ≡ relay.table
+    → ((f : Secret) (changes : List Secret) → relay.secrets ≡ secrets_after f changes → after.secrets ≡ secrets_after f (changes ++ secret ∷ []))
+    → RelayAt after settings first (events ++ Rotate secret ∷ [])
 unfolding secrets_of
-RelayAt-rotate relay settings first events secret rotated at appended = record {
-  settings_kept = at.settings_kept;
+RelayAt-rotate relay after settings first events secret at same_settings same_table appended = record {
+  settings_kept = same_settings ∙ at.settings_kept;
   secrets = appended first (filter_map secret_in events) at.secrets ∙ sym (secrets_of-rotate first events secret);
-  table = Holds-push settings first events (Rotate secret) relay.table at.table;
-  moment = at.moment ∙ sym (now_of-other events (Rotate secret) refl);
+  table = Holds-push settings first events (Rotate secret) after.table (subst (λ (table : TableValue). Holds (terms_of settings) table (accepted settings first events)) (sym same_table) at.table);
+  moment = ap (λ (table : TableValue). table.moment) same_table ∙ (at.moment ∙ sym (now_of-other events (Rotate secret) refl));
 }
 
--- a relay that keeps its table within the limits stays within them by the log
-pub IsWithin-events : (relay : RelayState) (settings : Settings) (first : Secret) (events : List Event) → RelayAt relay settings first events → IsWithinLimits relay.table
+-- what stands by the log is within the limits, as each relay's table is
+pub IsWithin-events : (relay : Relay) (settings : Settings) (first : Secret) (events : List Event) → RelayAt relay settings first events
     → IsWithin settings.limits (standing_now (terms_of settings) (accepted settings first events))
-IsWithin-events relay settings first events at within = IsWithin-log (terms_of settings) relay.table (accepted settings first events) at.table within
+IsWithin-events relay settings first events at = IsWithin-log (terms_of settings) relay.table (accepted settings first events) at.table relay.within
 
--- a table that an answer left is sound again
-pub IsSound-answered : {E : Type 0} (settings : Settings) (before after : TableValue) (behind : List Change → List Change) (answer : Result Step E) → IsSound settings before
-    → ((log : List Change) → Holds (terms_of settings) before log → IfOk answer (λ _. Holds (terms_of settings) after (behind log)))
-    → OnErr answer (after ≡ before) → IsWithinLimits after → IsSound settings after
-IsSound-answered settings before after behind (Ok step) sound stands same within =
-    record { within = within; has_log = (behind sound.has_log.0, stands sound.has_log.0 sound.has_log.1) }
-IsSound-answered settings before after behind (Err fault) sound stands same within =
-    record { within = within; has_log = subst (HasLog (terms_of settings)) (sym same) sound.has_log }
+-- a table that an answer left stands for some log again
+pub HasLog-answered : {E : Type 0} (terms : Terms) (before after : TableValue) (behind : List Change → List Change) (answer : Result Step E) → ∥ HasLog terms before ∥₁
+    → ((log : List Change) → Holds terms before log → IfOk answer (λ _. Holds terms after (behind log))) → OnErr answer (after ≡ before)
+    → ∥ HasLog terms after ∥₁
+HasLog-answered terms before after behind (Ok step) has_log stands same = ∥∥₁_map has_log (λ found. (behind found.0, stands found.0 found.1))
+HasLog-answered terms before after behind (Err fault) has_log stands same = subst (λ (table : TableValue). ∥ HasLog terms table ∥₁) (sym same) has_log

@@ -19,6 +19,7 @@ use Rattle.relay_machine.specs.declared.event.Event.{Event}
 use Rattle.relay_machine.specs.declared.event.Event.TheVariants.{Moment, Datagram, Packet, Rotate}
 use Rattle.relay_machine.specs.declared.outcome.Outcome.{Outcome}
 use Rattle.relay_machine.specs.declared.outcome.Outcome.TheVariants.{Moved, Rotated, Advertised, Queried, BadSource, Undecoded, WrongKind}
+use Rattle.relay_machine.specs.declared.relay.Relay.{Relay}
 use Rattle.relay_machine.specs.declared.sends.OneSend.{OneSend}
 use Rattle.relay_machine.specs.declared.settings.Settings.{Settings}
 use Rattle.relay_machine.specs.Accepted.{accepted}
@@ -26,7 +27,6 @@ use Rattle.relay_machine.specs.Events.{now_of, secrets_of}
 use Rattle.relay_machine.specs.Packets.{head_to_copy, packet_outcome, packet_sends, targets_after}
 use Rattle.relay_machine.specs.Queries.{query_for}
 use Rattle.relay_machine.specs.Settings.{membership_interval_ms, terms_of}
-use Rattle.relay_machine.specs.State.{RelayState}
 use Rattle.relay_machine.specs.Teardowns.{teardown_outcome}
 use Rattle.relay_machine.specs.Updates.{report_in, update_outcome}
 
@@ -80,13 +80,25 @@ sends_of settings first events (Packet bytes) = packet_sends (targets_after sett
 sends_of settings first events (Datagram from bytes) =
     replies settings (secrets_of first events).current (is_limited (terms_of settings) (accepted settings first events)) (endpoint_of from) (message_of bytes)
 
+-- what the relay was set up with
+abbrev pub settings_of : Relay → Settings
+settings_of relay = relay.querier.settings
+
+-- how late it is at the relay
+abbrev pub moment_of : Relay → ℕ
+moment_of relay = relay.table.moment
+
+-- the relay's table stands for the log by its settings
+abbrev pub StandsFor : Relay → List Change → Type 0
+StandsFor relay log = Holds (terms_of (settings_of relay)) relay.table log
+
 -- the relay is where these events leave one of these settings that began with this secret: its
 -- table stands for their accepted log
-pub record RelayAt (relay : RelayState) (settings : Settings) (first : Secret) (events : List Event) : Type 0 where
-  pub settings_kept : relay.settings ≡ settings
+pub record RelayAt (relay : Relay) (settings : Settings) (first : Secret) (events : List Event) : Type 0 where
+  pub settings_kept : settings_of relay ≡ settings
   pub secrets : relay.secrets ≡ secrets_of first events
   pub table : Holds (terms_of settings) relay.table (accepted settings first events)
-  pub moment : relay.table.moment ≡ now_of events
+  pub moment : moment_of relay ≡ now_of events
 
 -- what stands after the events
 abbrev pub rows_after : Settings → Secret → List Event → List Row

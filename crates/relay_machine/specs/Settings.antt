@@ -45,7 +45,7 @@ pub record IsPacketLimit (octets : ℕ) : Type 0 where
 
 -- a robustness that is not zero (RFC 3376, section 8.1) and that three bits carry (section 4.1.6),
 -- times that queries carry, and limits
-pub record IsLawful (settings : Settings) : Type 0 where
+pub record AreLawfulSettings (settings : Settings) : Type 0 where
   pub least_robustness : 1 ≤ settings.robustness
   pub most_robustness : settings.robustness ≤ 7
   pub times : HasQueryTimes settings

@@ -6,7 +6,7 @@ ghost use Rattle.endpoint_membership.specs.Table.{IsWithinLimits, Terms};
 ghost use Rattle.relay_machine.specs.Logs.{IfOkByEachLog};
 ghost use Rattle.relay_machine.specs.Packets.{by_head, by_scope, copies, head_to_copy, packet_outcome, packet_sends, targets_at};
 ghost use Rattle.relay_machine.specs.Settings.{terms_of};
-ghost use Rattle.relay_machine.specs.State.{HasLog, IsSound};
+ghost use Rattle.relay_machine.specs.State.{HasLog};
 
 use crate::outcome::{NotForwarded, Outcome};
 use crate::querier::Querier;
@@ -58,7 +58,7 @@ fn head_to_copy(limit: u32, packet: &[u8]) -> Result<Head, Outcome>
 // The endpoints that want the source in the group at the table's moment.
 fn targets(alloc: Global, table: &Table, head: &Head) -> Result<Targets, AllocError>
     requires within { IsWithinLimits table.now }
-    requires has_log { (terms : Terms) × HasLog terms table.now }
+    requires has_log { ∥ ((terms : Terms) × HasLog terms table.now) ∥₁ }
     ensures wanted { (terms : Terms) → IfOkByEachLog terms table.now result (λ log targets.
         targets.endpoints ≡ targets_at terms log (latest log) head.now) }
     ensures few { IfOk result (λ targets. length targets.endpoints ≤ 4294967295) }
@@ -91,7 +91,8 @@ pub fn forward(
     table: &Table,
     packet: &Bytes,
 ) -> Result<Step, AllocError>
-    requires sound { IsSound querier.now.settings table.now }
+    requires within { IsWithinLimits table.now }
+    requires has_log { ∥ HasLog (terms_of querier.now.settings) table.now ∥₁ }
     requires size { length packet.now ≤ 65535 }
     ensures outcome { IfOkByEachLog (terms_of querier.now.settings) table.now result (λ log step.
         step.outcome ≡ packet_outcome

@@ -38,10 +38,10 @@ impl Querier {
     ghost use Rattle.std.specs.Prelude.{IfOk};
     ghost use Rattle.amt_messages.specs.Conditions.{IsSendable};
     ghost use Rattle.relay_machine.specs.Queries.{general_query, query_for};
-    ghost use Rattle.relay_machine.specs.Settings.{IsLawful};
+    ghost use Rattle.relay_machine.specs.Settings.{AreLawfulSettings};
 
     pub fn new(settings: Settings) -> Querier
-        requires { IsLawful settings }
+        requires { AreLawfulSettings settings }
         ensures { result.settings ≡ settings }
     {
         let igmp = QueryFields {

@@ -1,20 +1,7 @@
-ghost use Rattle.std.specs.Prelude.{◌≡◌, ℕ, List, [], ◌∷◌, ◌++◌, None, IfOk, IsOk, OnErr};
-ghost use Rattle.inner_datagrams.specs.declared.head.Head.{Head};
-ghost use Rattle.endpoint_membership.specs.Limits.{IsWithin, live_count};
-ghost use Rattle.endpoint_membership.specs.Log.{latest};
-ghost use Rattle.endpoint_membership.specs.Rows.{rows_of};
-ghost use Rattle.endpoint_membership.specs.Table.{Holds, standing_now};
-ghost use Rattle.endpoint_membership.specs.declared.change.Change.{Change as Entry};
-ghost use Rattle.response_mac.specs.declared.secret.Secret.{Secret as SecretValue};
-ghost use Rattle.relay_machine.specs.declared.event.Event.{Event as EventValue};
-ghost use Rattle.relay_machine.specs.declared.event.Event.TheVariants.{Packet};
-ghost use Rattle.relay_machine.specs.declared.settings.Settings.{Settings as SettingsValue};
-ghost use Rattle.relay_machine.specs.Accepted.{accepted, change_of, with_change};
-ghost use Rattle.relay_machine.specs.Answers.{RelayAt, outcome_of, rows_after, sends_of};
-ghost use Rattle.relay_machine.specs.Conditions.{IsEvent, IsPayload};
-ghost use Rattle.relay_machine.specs.Events.{now_of};
-ghost use Rattle.relay_machine.specs.Packets.{AreCopies, IsToCopy, wants_after};
-ghost use Rattle.relay_machine.specs.Settings.{IsLawful, membership_interval_ms, terms_of};
+ghost use Rattle.endpoint_membership.specs.Table.{IsWithinLimits};
+ghost use Rattle.relay_machine.specs.Settings.{terms_of};
+ghost use Rattle.relay_machine.specs.State.{HasLog};
+ghost use Rattle.std.proofs.Props.{props};
 
 use crate::datagram::answer;
 use crate::event::Event;
@@ -27,36 +14,44 @@ use amt_values::Moment;
 use endpoint_membership::{Change, Rows, Table};
 use response_mac::{Secret, Secrets};
 use std::alloc::{AllocError, Global};
-use std::marker::Model;
 
 /// A relay (RFC 7450, section 4.1.3).
+///
+/// Contracts see each of its fields, so where they say that a relay is as before, nothing more was
+/// kept. What the table keeps is within the limits, and stands for some log.
 #[derive(Debug, Drop)]
 pub struct Relay {
     querier: Querier,
     secrets: Secrets,
     table: Table,
-}
-
-impl Model for Relay {
-    ghost use Rattle.relay_machine.specs.State.{IsSound, RelayState};
-
-    ghost Value = { RelayState };
-
-    ghost view = { λ r. record {
-      settings = r.querier.settings;
-      secrets = r.secrets;
-      table = r.table;
-    } };
-
-    ghost invariant = { λ r. IsSound r.querier.settings r.table };
+    ghost within: { IsWithinLimits table } by { Prim.hlevel props },
+    ghost has_log: { ∥ HasLog (terms_of querier.settings) table ∥₁ },
 }
 
 impl Relay {
+    ghost use Rattle.std.specs.Prelude.{◌≡◌, ℕ, List, [], ◌∷◌, ◌++◌, None, IfOk, IsOk, OnErr};
+    ghost use Rattle.inner_datagrams.specs.declared.head.Head.{Head};
+    ghost use Rattle.endpoint_membership.specs.Limits.{IsWithin, live_count};
+    ghost use Rattle.endpoint_membership.specs.Log.{latest};
+    ghost use Rattle.endpoint_membership.specs.Rows.{rows_of};
+    ghost use Rattle.endpoint_membership.specs.Table.{standing_now};
+    ghost use Rattle.endpoint_membership.specs.declared.change.Change.{Change as Entry};
+    ghost use Rattle.response_mac.specs.declared.secret.Secret.{Secret as SecretValue};
+    ghost use Rattle.relay_machine.specs.declared.event.Event.{Event as EventValue};
+    ghost use Rattle.relay_machine.specs.declared.event.Event.TheVariants.{Packet};
+    ghost use Rattle.relay_machine.specs.declared.settings.Settings.{Settings as SettingsValue};
+    ghost use Rattle.relay_machine.specs.Accepted.{accepted, change_of, with_change};
+    ghost use Rattle.relay_machine.specs.Answers.{RelayAt, StandsFor, moment_of, outcome_of, rows_after, sends_of, settings_of};
+    ghost use Rattle.relay_machine.specs.Conditions.{IsEvent, IsPayload};
+    ghost use Rattle.relay_machine.specs.Events.{now_of};
+    ghost use Rattle.relay_machine.specs.Packets.{AreCopies, IsToCopy, wants_after};
+    ghost use Rattle.relay_machine.specs.Settings.{AreLawfulSettings, membership_interval_ms};
+
     /// A relay at moment 0, whose current secret is this one and at which nothing stands.
     ///
     /// Whatever events may come, what stands by their accepted log is within the settings' limits.
     pub fn new(alloc: Global, settings: Settings, secret: Secret) -> Result<Relay, AllocError>
-        requires { IsLawful settings }
+        requires { AreLawfulSettings settings }
         ensures stands { IfOk result (λ relay. RelayAt relay settings secret []) }
         ensures within { (events : List EventValue) → IsWithin settings.limits
             (standing_now (terms_of settings) (accepted settings secret events)) }
@@ -71,7 +66,7 @@ impl Relay {
 
     /// The latest moment that the relay was told, or 0.
     pub fn now(&self) -> Moment
-        ensures value { result ≡ self.now.table.moment }
+        ensures value { result ≡ moment_of self.now }
         ensures latest { (settings : SettingsValue) (first : SecretValue)
             (events : List EventValue) → RelayAt self.now settings first events
             → result ≡ now_of events }
@@ -85,8 +80,8 @@ impl Relay {
             (events : List EventValue) → RelayAt self.now settings first events
             → rows ≡ rows_after settings first events) }
         ensures published { IfOk result (λ rows. (log : List Entry)
-            → Holds (terms_of self.now.settings) self.now.table log
-            → rows ≡ rows_of (membership_interval_ms self.now.settings) (latest log) log) }
+            → StandsFor self.now log
+            → rows ≡ rows_of (membership_interval_ms (settings_of self.now)) (latest log) log) }
     {
         self.table.rows(alloc)
     }
@@ -124,9 +119,9 @@ impl Relay {
 
         // Whoever appends each entry that is handed out to a log has one for which the table stands,
         // as it does for the accepted log: no clearing that isn't handed out is missed.
-        ensures published { (log : List Entry) → Holds (terms_of self.old.settings) self.old.table log
-            → IfOk result (λ step. Holds (terms_of self.old.settings) self.new.table
-            (with_change log step.change)) }
+        ensures published { (log : List Entry) → StandsFor self.old log
+            → IfOk result (λ step. StandsFor self.new (with_change log step.change)) }
+        ensures settings { settings_of self.new ≡ settings_of self.old }
 
         // No datagram but an accepted Update and the Teardown of a live endpoint changes the relay,
         // not even a Request: what is kept for each, as its nonce, could be made to fill the
@@ -154,14 +149,10 @@ impl Relay {
                 self.table.advance(&at);
                 Ok(Step::accepted(alloc, Outcome::Moved(at), Change::Mark { at }))
             }
-            Event::Datagram { from, bytes } => answer(
-                alloc,
-                &self.querier,
-                &self.secrets,
-                &mut self.table,
-                from,
-                bytes,
-            ),
+            Event::Datagram { from, bytes } => {
+                let querier = &self.querier;
+                answer(alloc, querier, &self.secrets, &mut self.table, from, bytes)
+            }
             Event::Packet { bytes } => forward(alloc, &self.querier, &self.table, bytes),
             Event::Rotate(secret) => {
                 self.secrets.rotate(*secret);

@@ -1,5 +1,5 @@
 ghost use Rattle.std.specs.Prelude.{◌≡◌, ◌≤◌, ◌↔◌, IsTrue};
-ghost use Rattle.relay_machine.specs.Settings.{AreLimits, HasMldCode, HasQueryTimes, IsLawful, IsPacketLimit, IsQueryTime, default_settings, membership_interval_ms};
+ghost use Rattle.relay_machine.specs.Settings.{AreLimits, HasMldCode, HasQueryTimes, AreLawfulSettings, IsPacketLimit, IsQueryTime, default_settings, membership_interval_ms};
 
 use amt_values::Ip;
 use endpoint_membership::Limits;
@@ -37,7 +37,7 @@ impl Settings {
     /// and queries that come from 0.0.0.0 and fe80::1.
     pub fn of_relay(relay: Ip) -> Settings
         ensures value { result ≡ default_settings relay }
-        ensures lawful { IsLawful result }
+        ensures lawful { AreLawfulSettings result }
     {
         Settings {
             relay,
@@ -60,7 +60,7 @@ impl Settings {
     /// those of MLD carry the response time in milliseconds, by a code of their own (RFC 3810, section
     /// 5.1.3).
     pub fn lawful(&self) -> bool
-        ensures { IsTrue result ↔ IsLawful self.now }
+        ensures { IsTrue result ↔ AreLawfulSettings self.now }
     {
         is_robustness(self.robustness)
             && self.has_query_times()

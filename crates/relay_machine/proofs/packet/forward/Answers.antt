@@ -1,4 +1,5 @@
 use Rattle.std.proofs.Common.{◌≡◌, ℕ, List, Ok, ap, ◌∙◌}
+use Rattle.std.proofs.Math.Logic.{∥∥₁_map}
 use Rattle.amt_values.specs.Tunnel.{Tunnel}
 use Rattle.endpoint_membership.specs.Log.{latest}
 use Rattle.relay_machine.specs.Packets.{copies, head_to_copy, targets_at}
@@ -22,3 +23,6 @@ returns-clause-sends c log holds =
     (c.in_ok-sends.ensures
     ∙ (ap (λ (found : List Tunnel). copies found c.as_slice-packet.result.now) c.as_slice.ensures
     ∙ ap (λ (packet : List ℕ). copies c.in_ok-targets.targets.endpoints packet) c.as_slice-packet.ensures))
+
+pub targets-requires-clause-has_log : goal.targets-requires-clause-has_log
+targets-requires-clause-has_log c = ∥∥₁_map c.requires.has_log (λ found. (terms_of c.args.querier.now.settings, found))
