@@ -2,21 +2,27 @@ ghost use Rattle.std.specs.Prelude.{◌≡◌, ◌≤◌, ◌++◌, Some, length
 ghost use Rattle.amt_messages.specs.declared.message.Message.TheVariants.{Teardown};
 ghost use Rattle.amt_messages.specs.Conditions.{IsSeen};
 ghost use Rattle.amt_messages.specs.Layout.{IsCanonical, seen_octets, spelling_of};
-ghost use Rattle.amt_messages.specs.Refusal.{Gives, teardown_reading};
+ghost use Rattle.amt_messages.specs.Refusal.{Gives, teardown_reading, teardown_refusal};
 
 use crate::fields::{gateway_at, mac_at, number_at};
 use crate::message::Message;
-use crate::refusal::{DecodeFault, length_refusal};
+use crate::refusal::{DecodeFault, Refused, length_refusal};
 use amt_values::{Bytes, Endpoint, Mac48, octets_of_address};
 use std::alloc::{AllocError, Global};
+
+fn teardown_refusal(bytes: &[u8]) -> Option<Refused>
+    requires { length bytes.now ≤ 65535 }
+    ensures { result ≡ teardown_refusal bytes.now }
+{
+    length_refusal(30, bytes.len() as u32)
+}
 
 // Reads what the first octet says to be a Teardown.
 pub fn read_teardown(bytes: &[u8]) -> Result<Message, DecodeFault>
     requires { length bytes.now ≤ 65535 }
     ensures { Gives result (teardown_reading bytes.now) }
 {
-    let have = bytes.len() as u32;
-    match length_refusal(30, have) {
+    match teardown_refusal(bytes) {
         Some(refusal) => Err(DecodeFault::Refused(refusal)),
         None => Ok(Message::Teardown {
             mac: mac_at(bytes, 2),

@@ -1,7 +1,7 @@
 ghost use Rattle.std.specs.Prelude.{◌≡◌, ◌≤◌, length, IfOk};
 ghost use Rattle.amt_messages.specs.declared.message.Message.TheVariants.{Update};
 ghost use Rattle.amt_messages.specs.Layout.{IsCanonical, spelling_of};
-ghost use Rattle.amt_messages.specs.Refusal.{Gives, update_reading};
+ghost use Rattle.amt_messages.specs.Refusal.{Gives, update_reading, update_refusal};
 
 use crate::fields::{mac_at, number_at};
 use crate::message::Message;
@@ -9,14 +9,25 @@ use crate::refusal::{DecodeFault, Refused};
 use amt_values::{Bytes, Mac48};
 use std::alloc::{AllocError, Global};
 
+fn update_refusal(bytes: &[u8]) -> Option<Refused>
+    requires { length bytes.now ≤ 65535 }
+    ensures { result ≡ update_refusal bytes.now }
+{
+    let have = bytes.len() as u32;
+    if have < 12 {
+        Some(Refused::Short(12, have))
+    } else {
+        None
+    }
+}
+
 // Reads what the first octet says to be an Update.
 pub fn read_update(alloc: Global, bytes: &[u8]) -> Result<Message, DecodeFault>
     requires { length bytes.now ≤ 65535 }
     ensures { Gives result (update_reading bytes.now) }
 {
-    let have = bytes.len() as u32;
-    if have < 12 {
-        return Err(DecodeFault::Refused(Refused::Short(12, have)));
+    if let Some(refusal) = update_refusal(bytes) {
+        return Err(DecodeFault::Refused(refusal));
     }
     let (_, datagram) = bytes.split_at(12);
     let Ok(inner) = Bytes::copied(alloc, datagram) else {

@@ -195,14 +195,14 @@ const FALTERING: [(&str, &[Call], usize, Answers, Answers); 5] = [
         [Ok(1), Err(Failed)],
     ),
     (
-        "another fault is told and not asked again, and the device goes on",
+        "another fault is reported and not asked again, and the device goes on",
         &[Call::Fails(ErrorKind::WouldBlock), Call::Moves(3)],
         8,
         [Err(Failed), Ok(3)],
         [Err(Failed), Ok(3)],
     ),
     (
-        "a fault is told where there is nothing to move",
+        "a fault is reported where there is nothing to move",
         &[Call::Fails(ErrorKind::BrokenPipe), Call::Moves(0)],
         0,
         [Err(Failed), Ok(0)],
@@ -238,7 +238,7 @@ fn writes(calls: &'static [Call], room: usize, want: &Answers) -> bool {
 }
 
 #[test]
-fn a_fault_of_a_device_is_told_once_and_an_interruption_never(rt: HostRuntime) {
+fn a_fault_of_a_device_is_reported_once_and_an_interruption_never(rt: HostRuntime) {
     for (name, calls, room, read, written) in FALTERING.as_slice() {
         assert!(rt; reads(calls, *room, read), "{name}");
         assert!(rt; writes(calls, *room, written), "{name}");
