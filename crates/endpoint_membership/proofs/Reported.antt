@@ -7,7 +7,6 @@ use Rattle.amt_values.specs.declared.address.Ip.{Ip}
 use Rattle.amt_values.specs.Tunnel.{Tunnel}
 use Rattle.amt_values.proofs.Orders.{tunnel_order-exact, tunnel_order-total}
 use Rattle.source_filter.specs.Filter.{FilterValue}
-use Rattle.source_filter.specs.Rising.{IsRising}
 use Rattle.source_filter.specs.declared.mode.Mode.{Mode}
 use Rattle.source_filter.specs.declared.mode.Mode.TheVariants.{Include, Exclude}
 use Rattle.source_filter.specs.declared.record.Record.{Record}
@@ -18,7 +17,7 @@ use Rattle.endpoint_membership.specs.Kept.{earlier, is_fresh, later, only}
 use Rattle.endpoint_membership.specs.Log.{is_empty, latest}
 use Rattle.endpoint_membership.specs.Own.{WishValue, AreOwn, applied_all, filter_wished, on_group, row_of_wish, wish_after, wish_after_all, wish_in}
 use Rattle.endpoint_membership.specs.Place.{Place, same_endpoint}
-use Rattle.endpoint_membership.specs.Rows.{kept_if_standing, kept_order, row_at, standing}
+use Rattle.endpoint_membership.specs.Rows.{kept_if_standing, row_at, standing}
 use Rattle.endpoint_membership.specs.Table.{AreRows}
 use Rattle.endpoint_membership.proofs.Parts.{is_of, parted}
 use Rattle.endpoint_membership.proofs.Standing.{filter_in, standing-later, standing-report}

@@ -21,7 +21,7 @@ use crate::limits::{AcceptFault, LimitFault, Limits};
 use crate::live::{count_live, one_unless};
 use crate::own::own_rows;
 use crate::row::{Rows, show};
-use crate::sweep::{drop_endpoint, is_live, purge, replace};
+use crate::sweep::{KeptRows, is_live};
 use crate::targets::{Targets, collect_targets};
 use amt_values::{Endpoint, Ip, Moment};
 use source_filter::Records;
@@ -39,7 +39,7 @@ pub struct Table {
     limits: Limits,
     lifetime_ms: u64,
     // By endpoint, then group.
-    rows: Vec<Kept>,
+    rows: KeptRows,
 }
 
 impl Model for Table {
@@ -49,9 +49,12 @@ impl Model for Table {
 
     ghost Value = { TableValue };
 
-    ghost view = { λ t. record { moment = t.moment; limits = t.limits; lifetime = t.lifetime_ms; rows = t.rows.items } };
+    ghost view = { λ t. record { moment = t.moment; limits = t.limits; lifetime = t.lifetime_ms; rows = t.rows } };
 
-    ghost invariant = { λ t. AreLawful t.limits t.lifetime_ms × IsRising kept_order t.rows.items };
+    ghost invariant = { λ t. AreLawful t.limits t.lifetime_ms × IsRising kept_order t.rows };
+
+    // Nothing is kept beside what contracts see.
+    ghost inverse = { λ v. record { moment = v.moment; limits = v.limits; lifetime_ms = v.lifetime; rows = v.rows } };
 }
 
 impl Table {
@@ -67,7 +70,7 @@ impl Table {
             moment: Moment::new(0).unwrap(),
             limits,
             lifetime_ms,
-            rows: Vec::new(alloc),
+            rows: KeptRows::new(alloc),
         })
     }
 
@@ -96,7 +99,7 @@ impl Table {
         ensures within { IsWithinLimits self.old → IsWithinLimits self.new }
     {
         self.moment = self.moment.later(at);
-        purge(&mut self.rows, self.moment, self.lifetime_ms);
+        self.rows.purge(self.moment, self.lifetime_ms);
     }
 
     /// Takes away the endpoint's groups; whether it was live.
@@ -110,9 +113,9 @@ impl Table {
         ensures within { IsWithinLimits self.old → IsWithinLimits self.new }
     {
         self.moment = self.moment.later(at);
-        purge(&mut self.rows, self.moment, self.lifetime_ms);
-        let live = is_live(&self.rows, endpoint);
-        drop_endpoint(&mut self.rows, endpoint);
+        self.rows.purge(self.moment, self.lifetime_ms);
+        let live = is_live(self.rows.as_slice(), endpoint);
+        self.rows.drop_endpoint(endpoint);
         live
     }
 
@@ -122,7 +125,7 @@ impl Table {
         ensures { (terms : Terms) (log : List Entry) → Holds terms self.now log
             → result ≡ live_count (standing_now terms log) }
     {
-        count_live(&self.rows, &None, self.moment, self.lifetime_ms) as u32
+        count_live(self.rows.as_slice(), &None, self.moment, self.lifetime_ms) as u32
     }
 
     /// What stands, by endpoint and then by group.
@@ -131,7 +134,7 @@ impl Table {
             → Holds terms self.now log → rows ≡ rows_of terms.lifetime (latest log) log) }
         ensures bounded { IsWithinLimits self.now → IfOk result (AreFew self.now.limits) }
     {
-        let rows = show(alloc, &self.rows)?;
+        let rows = show(alloc, self.rows.as_slice())?;
         Ok(rows)
     }
 
@@ -152,7 +155,14 @@ impl Table {
         ensures few { length out.new.endpoints ≤ live_count self.now.rows }
     {
         let later = self.moment.later(at);
-        collect_targets(&self.rows, group, source, later, self.lifetime_ms, out);
+        collect_targets(
+            self.rows.as_slice(),
+            group,
+            source,
+            later,
+            self.lifetime_ms,
+            out,
+        );
     }
 
     // The endpoint's rows after a report at the moment.
@@ -166,15 +176,15 @@ impl Table {
         ensures { IfOk result (λ own. AreOwn self.now.lifetime moment endpoint.now records.now
             self.now.rows own.items) }
     {
-        let own = own_rows(
+        let after = own_rows(
             alloc,
-            &self.rows,
+            self.rows.as_slice(),
             endpoint,
             records,
             moment,
             self.lifetime_ms,
         )?;
-        Ok(own)
+        Ok(after)
     }
 
     // The first limit that a report passes, if these are its endpoint's rows afterwards.
@@ -193,7 +203,12 @@ impl Table {
             + (if is_empty own.now then 0 else 1))
             (find (is_over self.now.limits.sources records.now) own.now) }
     {
-        let others = count_live(&self.rows, &Some(*endpoint), moment, self.lifetime_ms);
+        let others = count_live(
+            self.rows.as_slice(),
+            &Some(*endpoint),
+            moment,
+            self.lifetime_ms,
+        );
         let live = others + one_unless(own.is_empty());
         limit_passed(&self.limits, own, records.as_slice(), live)
     }
@@ -240,12 +255,12 @@ impl Table {
             self.advance(at);
             return Err(AcceptFault::Limit(fault));
         }
-        match replace(&mut self.rows, endpoint, own) {
+        match self.rows.replace(endpoint, own) {
             Ok(()) => {}
             Err(_) => return Err(AcceptFault::Memory),
         }
         self.moment = moment;
-        purge(&mut self.rows, moment, self.lifetime_ms);
+        self.rows.purge(moment, self.lifetime_ms);
         Ok(())
     }
 }

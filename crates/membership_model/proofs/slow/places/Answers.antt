@@ -11,8 +11,8 @@ use Rattle.source_filter.proofs.Compared.{compared, tied}
 use Rattle.source_filter.proofs.Sorting.{rising-sorted}
 use Rattle.endpoint_membership.specs.Place.{Place, place_order, same_endpoint}
 use Rattle.endpoint_membership.specs.Rows.{places_in}
-use Rattle.endpoint_membership.specs.contracts.slow.SpotOrd as ord
-use Rattle.endpoint_membership.specs.contracts.slow.SpotPartialEq as eq
+use Rattle.membership_model.specs.contracts.slow.SpotOrd as ord
+use Rattle.membership_model.specs.contracts.slow.SpotPartialEq as eq
 use Rattle.endpoint_membership.proofs.Places.{place_order-exact, place_order-total, same_place-is}
 use Rattle.membership_model.proofs.slow.places.Goals as goal
 

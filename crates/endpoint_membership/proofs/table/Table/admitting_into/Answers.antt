@@ -13,8 +13,8 @@ use Rattle.endpoint_membership.proofs.table.Table.admitting_into.Goals as goal
 pub collect_targets-requires-clause-room : goal.collect_targets-requires-clause-room
 collect_targets-requires-clause-room c =
     let lifetime = c.self.inside.lifetime_ms in
-    let few = length-targets lifetime c.later-later.result c.args.group.now c.args.source.now c.self.inside.rows.items c.self.invariant.1 in
-    let same = ap (λ (rows : List Kept). length (targets_in lifetime c.later-later.result c.args.group.now c.args.source.now rows)) c.deref.ensures.value in
+    let few = length-targets lifetime c.later-later.result c.args.group.now c.args.source.now c.self.inside.rows c.self.invariant.1 in
+    let same = ap (λ (rows : List Kept). length (targets_in lifetime c.later-later.result c.args.group.now c.args.source.now rows)) c.as_slice.ensures in
     let live = ap (λ (table : TableValue). live_count table.rows) c.self.view_is in
     let room = c.requires.room in
     omega arith
@@ -23,7 +23,7 @@ pub returns-clause-targets : goal.returns-clause-targets
 returns-clause-targets c terms log holds =
     let inside = subst (λ (table : TableValue). Holds terms table log) (sym c.self.view_is) holds in
     c.collect_targets.ensures.endpoints
-    ∙ ap (targets_in c.self.inside.lifetime_ms c.later-later.result c.args.group.now c.args.source.now) c.deref.ensures.value
+    ∙ ap (targets_in c.self.inside.lifetime_ms c.later-later.result c.args.group.now c.args.source.now) c.as_slice.ensures
     ∙ targets_are terms _ log c.args.group.now c.args.source.now c.args.at.now c.later-later.result c.later-later.ensures inside
 
 pub returns-clause-exactly : goal.returns-clause-exactly
@@ -35,14 +35,14 @@ returns-clause-exactly c terms log holds endpoint =
 pub returns-clause-rising : goal.returns-clause-rising
 returns-clause-rising c =
     subst (IsRising tunnel_order) (sym (c.collect_targets.ensures.endpoints
-    ∙ ap (targets_in c.self.inside.lifetime_ms c.later-later.result c.args.group.now c.args.source.now) c.deref.ensures.value))
-    (IsRising-targets c.self.inside.lifetime_ms c.later-later.result c.args.group.now c.args.source.now c.self.inside.rows.items c.self.invariant.1)
+    ∙ ap (targets_in c.self.inside.lifetime_ms c.later-later.result c.args.group.now c.args.source.now) c.as_slice.ensures))
+    (IsRising-targets c.self.inside.lifetime_ms c.later-later.result c.args.group.now c.args.source.now c.self.inside.rows c.self.invariant.1)
 
 pub returns-clause-few : goal.returns-clause-few
 returns-clause-few c =
     let lifetime = c.self.inside.lifetime_ms in
-    let few = length-targets lifetime c.later-later.result c.args.group.now c.args.source.now c.self.inside.rows.items c.self.invariant.1 in
+    let few = length-targets lifetime c.later-later.result c.args.group.now c.args.source.now c.self.inside.rows c.self.invariant.1 in
     let all = ap (λ (endpoints : List Tunnel). length endpoints) (c.collect_targets.ensures.endpoints
-    ∙ ap (targets_in lifetime c.later-later.result c.args.group.now c.args.source.now) c.deref.ensures.value) in
+    ∙ ap (targets_in lifetime c.later-later.result c.args.group.now c.args.source.now) c.as_slice.ensures) in
     let live = ap (λ (table : TableValue). live_count table.rows) c.self.view_is in
     omega arith

@@ -13,20 +13,20 @@ pub invariant_of-self : goal.invariant_of-self
 invariant_of-self c = (
   c.self.invariant.0,
   subst (IsRising kept_order) (sym c.purge.ensures)
-      (IsRising-filter kept_order (is_fresh c.self.inside.lifetime_ms c.later-self-inside.result) c.self.inside.rows.items c.self.invariant.1),
+      (IsRising-filter kept_order (is_fresh c.self.inside.lifetime_ms c.later-self-inside.result) c.self.inside.rows c.self.invariant.1),
 )
 
 pub returns-clause-stands : goal.returns-clause-stands
 returns-clause-stands c terms log holds =
     let inside = subst (λ (table : TableValue). Holds terms table log) (sym c.self.view_is) holds in
-    Holds-mark terms _ log c.args.at.now c.later-self-inside.result c.purge.new.rows.items c.later-self-inside.ensures c.purge.ensures inside
+    Holds-mark terms _ log c.args.at.now c.later-self-inside.result c.purge.new.self c.later-self-inside.ensures c.purge.ensures inside
 
 pub returns-clause-within : goal.returns-clause-within
 returns-clause-within c within =
     let inside = subst IsWithinLimits (sym c.self.view_is) within in
-    subst (IsWithin c.self.inside.limits) (sym c.purge.ensures) (IsWithin-filter c.self.inside.limits (is_fresh c.self.inside.lifetime_ms c.later-self-inside.result) c.self.inside.rows.items inside)
+    subst (IsWithin c.self.inside.limits) (sym c.purge.ensures) (IsWithin-filter c.self.inside.limits (is_fresh c.self.inside.lifetime_ms c.later-self-inside.result) c.self.inside.rows inside)
 
 pub returns-clause-same : goal.returns-clause-same
 returns-clause-same c terms log holds before =
     let inside = subst (λ (table : TableValue). Holds terms table log) (sym c.self.view_is) holds in
-    no_later terms _ log c.args.at.now c.later-self-inside.result c.purge.new.rows.items c.later-self-inside.ensures c.purge.ensures inside before ∙ c.self.view_is
+    no_later terms _ log c.args.at.now c.later-self-inside.result c.purge.new.self c.later-self-inside.ensures c.purge.ensures inside before ∙ c.self.view_is

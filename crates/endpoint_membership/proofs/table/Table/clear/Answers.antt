@@ -13,31 +13,31 @@ use Rattle.endpoint_membership.proofs.table.Table.clear.Goals as goal
 pub invariant_of-self : goal.invariant_of-self
 invariant_of-self c =
     let fresh = subst (IsRising kept_order) (sym c.purge.ensures)
-    (IsRising-filter kept_order (is_fresh c.self.inside.lifetime_ms c.later-self-inside.result) c.self.inside.rows.items c.self.invariant.1) in
-    (c.self.invariant.0, subst (IsRising kept_order) (sym c.drop_endpoint.ensures) (IsRising-filter kept_order (is_besides c.args.endpoint.now) c.purge.new.rows.items fresh))
+    (IsRising-filter kept_order (is_fresh c.self.inside.lifetime_ms c.later-self-inside.result) c.self.inside.rows c.self.invariant.1) in
+    (c.self.invariant.0, subst (IsRising kept_order) (sym c.drop_endpoint.ensures) (IsRising-filter kept_order (is_besides c.args.endpoint.now) c.purge.new.self fresh))
 
 pub returns-clause-live : goal.returns-clause-live
 returns-clause-live c terms log holds =
     let inside = subst (λ (table : TableValue). Holds terms table log) (sym c.self.view_is) holds in
-    c.is_live-live.ensures ∙ ap (is_live c.args.endpoint.now) (c.deref.ensures.value ∙ c.purge.ensures
+    c.is_live-live.ensures ∙ ap (is_live c.args.endpoint.now) (c.as_slice.ensures ∙ c.purge.ensures
     ∙ fresh_are terms _ log c.args.at.now c.later-self-inside.result c.later-self-inside.ensures inside)
 
 pub returns-clause-stands : goal.returns-clause-stands
 returns-clause-stands c terms log holds =
     let inside = subst (λ (table : TableValue). Holds terms table log) (sym c.self.view_is) holds in
-    Holds-clear terms _ log c.args.endpoint.now c.args.at.now c.later-self-inside.result c.purge.new.rows.items c.drop_endpoint.new.rows.items
+    Holds-clear terms _ log c.args.endpoint.now c.args.at.now c.later-self-inside.result c.purge.new.self c.drop_endpoint.new.self
     c.later-self-inside.ensures c.purge.ensures c.drop_endpoint.ensures inside
 
 pub returns-clause-within : goal.returns-clause-within
 returns-clause-within c within =
     let inside = subst IsWithinLimits (sym c.self.view_is) within in
     let limits = c.self.inside.limits in
-    let fresh = subst (IsWithin limits) (sym c.purge.ensures) (IsWithin-filter limits (is_fresh c.self.inside.lifetime_ms c.later-self-inside.result) c.self.inside.rows.items inside) in
-    subst (IsWithin limits) (sym c.drop_endpoint.ensures) (IsWithin-filter limits (is_besides c.args.endpoint.now) c.purge.new.rows.items fresh)
+    let fresh = subst (IsWithin limits) (sym c.purge.ensures) (IsWithin-filter limits (is_fresh c.self.inside.lifetime_ms c.later-self-inside.result) c.self.inside.rows inside) in
+    subst (IsWithin limits) (sym c.drop_endpoint.ensures) (IsWithin-filter limits (is_besides c.args.endpoint.now) c.purge.new.self fresh)
 
 pub returns-clause-same : goal.returns-clause-same
 returns-clause-same c terms log holds before none =
     let inside = subst (λ (table : TableValue). Holds terms table log) (sym c.self.view_is) holds in
-    let fresh = sym (ap (is_live c.args.endpoint.now) c.deref.ensures.value) ∙ sym c.is_live-live.ensures ∙ none in
-    none_cleared terms _ log c.args.endpoint.now c.args.at.now c.later-self-inside.result c.purge.new.rows.items c.drop_endpoint.new.rows.items
+    let fresh = sym (ap (is_live c.args.endpoint.now) c.as_slice.ensures) ∙ sym c.is_live-live.ensures ∙ none in
+    none_cleared terms _ log c.args.endpoint.now c.args.at.now c.later-self-inside.result c.purge.new.self c.drop_endpoint.new.self
     c.later-self-inside.ensures c.purge.ensures c.drop_endpoint.ensures inside before fresh ∙ c.self.view_is

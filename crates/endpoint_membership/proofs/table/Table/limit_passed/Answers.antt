@@ -10,9 +10,9 @@ use Rattle.endpoint_membership.proofs.table.Table.limit_passed.Goals as goal
 pub overflow_add-live : goal.overflow_add-live
 overflow_add-live c =
     let within = subst IsWithinLimits (sym c.self.view_is) c.requires.within in
-    let count = c.count_live-others.ensures (subst (IsRising kept_order) (sym c.deref.ensures.value) c.self.invariant.1) in
-    let fewer = live_count-filter (is_counted c.self.inside.lifetime_ms c.args.moment (Some c.args.endpoint.now)) c.deref.result.now in
-    let all = ap live_count c.deref.ensures.value in
+    let count = c.count_live-others.ensures (subst (IsRising kept_order) (sym c.as_slice.ensures) c.self.invariant.1) in
+    let fewer = live_count-filter (is_counted c.self.inside.lifetime_ms c.args.moment (Some c.args.endpoint.now)) c.as_slice.result.now in
+    let all = ap live_count c.as_slice.ensures in
     let most = within.endpoints in
     let lawful = c.self.invariant.0.endpoints in
     let step = c.one_unless.ensures.most in
@@ -21,9 +21,9 @@ overflow_add-live c =
 pub limit_passed-requires-clause-endpoints : goal.limit_passed-requires-clause-endpoints
 limit_passed-requires-clause-endpoints c =
     let within = subst IsWithinLimits (sym c.self.view_is) c.requires.within in
-    let count = c.count_live-others.ensures (subst (IsRising kept_order) (sym c.deref.ensures.value) c.self.invariant.1) in
-    let fewer = live_count-filter (is_counted c.self.inside.lifetime_ms c.args.moment (Some c.args.endpoint.now)) c.deref.result.now in
-    let all = ap live_count c.deref.ensures.value in
+    let count = c.count_live-others.ensures (subst (IsRising kept_order) (sym c.as_slice.ensures) c.self.invariant.1) in
+    let fewer = live_count-filter (is_counted c.self.inside.lifetime_ms c.args.moment (Some c.args.endpoint.now)) c.as_slice.result.now in
+    let all = ap live_count c.as_slice.ensures in
     let most = within.endpoints in
     let lawful = c.self.invariant.0.endpoints in
     let step = c.one_unless.ensures.most in

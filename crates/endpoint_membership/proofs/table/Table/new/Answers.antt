@@ -7,11 +7,11 @@ use Rattle.endpoint_membership.proofs.Held.{Holds-new, IsRising-none, table_of}
 use Rattle.endpoint_membership.proofs.table.Table.new.Goals as goal
 
 pub invariant_of-result : goal.invariant_of-result
-invariant_of-result c = (c.requires, subst (IsRising kept_order) (sym c.new-2.ensures.items) IsRising-none)
+invariant_of-result c = (c.requires, subst (IsRising kept_order) (sym c.new-2.ensures) IsRising-none)
 
 pub returns-clause-stands : goal.returns-clause-stands
 returns-clause-stands c =
     let terms : Terms = record { limits = c.args.limits; lifetime = c.args.lifetime_ms } in
     let start : c.unwrap.result ≡ 0 = search rules in
-    subst (λ (moment : ℕ). Holds terms (table_of moment c.args.limits c.args.lifetime_ms c.new-2.result.items) []) (sym start)
-    (subst (λ (rows : List Kept). Holds terms (table_of 0 c.args.limits c.args.lifetime_ms rows) []) (sym c.new-2.ensures.items) (Holds-new c.args.limits c.args.lifetime_ms))
+    subst (λ (moment : ℕ). Holds terms (table_of moment c.args.limits c.args.lifetime_ms c.new-2.result) []) (sym start)
+    (subst (λ (rows : List Kept). Holds terms (table_of 0 c.args.limits c.args.lifetime_ms rows) []) (sym c.new-2.ensures) (Holds-new c.args.limits c.args.lifetime_ms))
