@@ -32,8 +32,8 @@ use Rattle.relay_machine.specs.declared.outcome.Unlawful.{Unlawful}
 use Rattle.relay_machine.specs.declared.relay.Relay.{Relay}
 use Rattle.relay_machine.specs.declared.sends.Step.{Step}
 use Rattle.relay_machine.specs.declared.settings.Settings.{Settings}
-use Rattle.relay_machine.specs.Accepted.{accepted, accepted_back, datagram_entry, entry_after, entry_of, with_change}
-use Rattle.relay_machine.specs.Answers.{RelayAt, StandsFor, moment_of, settings_of}
+use Rattle.relay_machine.specs.Accepted.{accepted, accepted_back, change_of, datagram_entry, entry_after, entry_of, handed_out, with_change}
+use Rattle.relay_machine.specs.Answers.{RelayAt, StandsFor, judged, moment_of, outcome_of, settings_of}
 use Rattle.relay_machine.specs.Events.{moment_in, now_of, secret_in, secrets_of}
 use Rattle.relay_machine.specs.Settings.{terms_of}
 use Rattle.relay_machine.specs.State.{HasLog}
@@ -191,6 +191,32 @@ RelayAt-answered relay after settings first events from bytes (Ok step) at same_
     let holds = subst (λ (known : Settings). Holds (terms_of known) relay.table log) (sym at.settings_kept) at.table in
     RelayAt-datagram relay after settings first events from bytes at same_settings same_secrets
     (subst (held settings) at.secrets (subst (λ (known : Settings). held known relay.secrets) at.settings_kept (stands log holds)))
+
+-- what is answered to a datagram by the table's own log is what is answered to it by the events
+pub outcome-answered : {E : Type 0} (relay : Relay) (settings : Settings) (first : Secret) (events : List Event) (from : Peer) (bytes : List ℕ) (answer : Result Step E)
+    → RelayAt relay settings first events
+    → ((log : List Change) → StandsFor relay log
+    → IfOk answer (λ step. step.outcome ≡ judged (terms_of (settings_of relay)) relay.secrets (latest log) log (endpoint_of from) (message_of bytes)))
+    → IfOk answer (λ step. step.outcome ≡ outcome_of settings first events (Datagram from bytes))
+outcome-answered relay settings first events from bytes answer at told =
+    let log = accepted settings first events in
+    let by : Settings → Secrets → ℕ → Type 0 = λ known secrets moment. IfOk answer (λ step. step.outcome ≡ judged (terms_of known) secrets moment log (endpoint_of from) (message_of bytes)) in
+    subst (by settings (secrets_of first events)) (latest-accepted relay settings first events at)
+    (subst (λ (secrets : Secrets). by settings secrets (latest log)) at.secrets
+    (subst (λ (known : Settings). by known relay.secrets (latest log)) at.settings_kept (told log (StandsFor-accepted relay settings first events at))))
+
+pub change-answered : {E : Type 0} (relay : Relay) (settings : Settings) (first : Secret) (events : List Event) (from : Peer) (bytes : List ℕ) (answer : Result Step E)
+    → RelayAt relay settings first events
+    → ((log : List Change) → StandsFor relay log → IfOk answer (λ step. step.change ≡ handed_out (terms_of (settings_of relay)) log
+    (datagram_entry (terms_of (settings_of relay)) relay.secrets (latest log) log (endpoint_of from) (message_of bytes))))
+    → IfOk answer (λ step. step.change ≡ change_of settings first events (Datagram from bytes))
+change-answered relay settings first events from bytes answer at told =
+    let log = accepted settings first events in
+    let by : Settings → Secrets → ℕ → Type 0 = λ known secrets moment.
+    IfOk answer (λ step. step.change ≡ handed_out (terms_of known) log (datagram_entry (terms_of known) secrets moment log (endpoint_of from) (message_of bytes))) in
+    subst (by settings (secrets_of first events)) (latest-accepted relay settings first events at)
+    (subst (λ (secrets : Secrets). by settings secrets (latest log)) at.secrets
+    (subst (λ (known : Settings). by known relay.secrets (latest log)) at.settings_kept (told log (StandsFor-accepted relay settings first events at))))
 
 -- a packet changes nothing
 pub RelayAt-packet : (relay after : Relay) (settings : Settings) (first : Secret) (events : List Event) (bytes : List ℕ) → RelayAt relay settings first events

@@ -3,6 +3,7 @@ ghost use Rattle.amt_messages.specs.Conditions.{IsSendable};
 ghost use Rattle.amt_messages.specs.Layout.{spelling_of};
 ghost use Rattle.amt_messages.specs.Refusal.{message_of};
 ghost use Rattle.amt_values.specs.Endpoint.{endpoint_of};
+ghost use Rattle.amt_values.specs.Octets.{AreOctets};
 ghost use Rattle.endpoint_membership.specs.Log.{latest};
 ghost use Rattle.endpoint_membership.specs.Table.{Holds, IsWithinLimits};
 ghost use Rattle.endpoint_membership.specs.declared.change.Change.{Change as Entry};
@@ -151,11 +152,13 @@ pub fn answer(
         → IfOk result (λ step. step.change ≡ None → table.new ≡ table.old) }
     ensures err { OnErr result (table.new ≡ table.old) }
     ensures within { IsWithinLimits table.new }
+    ensures octets { AreOctets bytes.now }
 {
+    let octets = bytes.as_slice();
     let Some(source) = Endpoint::of(from) else {
         return Ok(Step::quiet(alloc, Outcome::BadSource));
     };
-    match decode(alloc, bytes.as_slice()) {
+    match decode(alloc, octets) {
         Err(DecodeFault::Memory) => Err(AllocError),
         Err(DecodeFault::Refused(refusal)) => Ok(Step::quiet(alloc, Outcome::Undecoded(refusal))),
         Ok(message) => answer_message(alloc, querier, secrets, table, source, &message),
