@@ -13,11 +13,12 @@ use Rattle.endpoint_membership.specs.declared.limits.Limits.{Limits}
 use Rattle.endpoint_membership.specs.Kept.{is_besides, is_counted, is_fresh}
 use Rattle.endpoint_membership.specs.Limits.{IsWithin, first_limit}
 use Rattle.endpoint_membership.specs.Log.{brought, latest}
+use Rattle.endpoint_membership.specs.Own.{AreOwn}
 use Rattle.endpoint_membership.specs.Rows.{kept_order, standing_rows}
 use Rattle.endpoint_membership.specs.Table.{AreRows, Holds, IsWithinLimits, TableValue, Terms, limit_passed, standing_now}
 use Rattle.endpoint_membership.proofs.ByLog.{rows_are}
 use Rattle.endpoint_membership.proofs.Owning.{replaced}
-use Rattle.endpoint_membership.proofs.Reported.{AreOwn, AreRows-reported}
+use Rattle.endpoint_membership.proofs.Reported.{AreRows-reported}
 use Rattle.endpoint_membership.proofs.Steps.{AreRows-clear, AreRows-later, AreRows-other}
 use Rattle.endpoint_membership.proofs.Within.{none_passed}
 

@@ -4,6 +4,7 @@ pub mod Chains
 pub mod Clearings
 pub mod Counts
 pub mod Drained
+pub mod Few
 pub mod Held
 pub mod Judged
 pub mod Listing

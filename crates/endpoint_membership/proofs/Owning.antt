@@ -20,7 +20,7 @@ use Rattle.endpoint_membership.specs.declared.limits.Limits.{Limits}
 use Rattle.endpoint_membership.specs.Kept.{earlier, is_counted, is_fresh, later, only}
 use Rattle.endpoint_membership.specs.Limits.{IsWithin, fault_by, first_limit, group_count, live_count, size}
 use Rattle.endpoint_membership.specs.Log.{is_empty}
-use Rattle.endpoint_membership.specs.Own.{WishValue, AreOf, filter_wished, is_over, on_group, row_of_wish, wish_after_all, wish_in}
+use Rattle.endpoint_membership.specs.Own.{WishValue, AreOf, AreOwn, filter_wished, is_over, on_group, row_of_wish, wish_after_all, wish_in}
 use Rattle.endpoint_membership.specs.Place.{Place, same_endpoint, same_group}
 use Rattle.endpoint_membership.specs.Rows.{is_standing, kept_order, place_of, row_at}
 use Rattle.endpoint_membership.specs.Table.{AreLawful}
@@ -29,7 +29,7 @@ use Rattle.endpoint_membership.proofs.ByLog.{kept_by}
 use Rattle.endpoint_membership.proofs.Judged.{judged}
 use Rattle.endpoint_membership.proofs.Lookup.{row_at-filter}
 use Rattle.endpoint_membership.proofs.Parts.{IsRising-replaced, is_of, parted}
-use Rattle.endpoint_membership.proofs.Reported.{AreOwn, wish_after_all-is}
+use Rattle.endpoint_membership.proofs.Reported.{wish_after_all-is}
 use Rattle.endpoint_membership.proofs.Steps.{row_at-others, row_at-three}
 use Rattle.endpoint_membership.proofs.Within.{IsWithin-filter, IsWithin-report, its_place, on_none}
 

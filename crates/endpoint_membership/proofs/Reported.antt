@@ -16,7 +16,7 @@ use Rattle.endpoint_membership.specs.declared.change.Change.TheVariants.{Reporte
 use Rattle.endpoint_membership.specs.declared.kept.Kept.{Kept}
 use Rattle.endpoint_membership.specs.Kept.{earlier, is_fresh, later, only}
 use Rattle.endpoint_membership.specs.Log.{is_empty, latest}
-use Rattle.endpoint_membership.specs.Own.{WishValue, AreOf, applied_all, filter_wished, on_group, row_of_wish, wish_after, wish_after_all, wish_in}
+use Rattle.endpoint_membership.specs.Own.{WishValue, AreOwn, applied_all, filter_wished, on_group, row_of_wish, wish_after, wish_after_all, wish_in}
 use Rattle.endpoint_membership.specs.Place.{Place, same_endpoint}
 use Rattle.endpoint_membership.specs.Rows.{kept_if_standing, kept_order, row_at, standing}
 use Rattle.endpoint_membership.specs.Table.{AreRows}
@@ -70,13 +70,6 @@ own_stands lifetime moment at endpoint records past rows group some onward are =
     ap (λ (one : Option Kept). row_of_wish endpoint group (wish_after_all now (on_group group records) (wish_in one))) found
     ∙ row_by endpoint group now (on_group group records) _ _ before refl
     ∙ sym (standing-report lifetime at endpoint records past here some (ap is_eq (tied_itself tunnel_order-total endpoint)))
-
--- what own_rows answers of rows that rise
-pub record AreOwn (lifetime moment : ℕ) (endpoint : Tunnel) (records : List Record) (rows own : List Kept) : Type 0 where
-  pub rises : IsRising kept_order own
-  pub of : AreOf endpoint own
-  pub each : (group : Ip) → row_at own (place endpoint group)
-      ≡ row_of_wish endpoint group (wish_after_all moment (on_group group records) (wish_in (only (is_fresh lifetime moment) (row_at rows (place endpoint group)))))
 
 -- the rows of the endpoint are what stands at its places
 pub own_at : (lifetime moment at : ℕ) (endpoint : Tunnel) (records : List Record) (past : List Change) (rows own : List Kept) → 0 < lifetime

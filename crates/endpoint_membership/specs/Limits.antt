@@ -1,5 +1,5 @@
 -- The limits of a membership table: each keeps hosts from claiming the relay's memory.
-use Rattle.std.specs.Prelude.{ℕ, ◌≤◌, nat_lt, Bool, List, length, map, Option, Some, None, ◌&&◌, if◌then◌else◌}
+use Rattle.std.specs.Prelude.{ℕ, ◌*◌, ◌≤◌, nat_lt, Bool, List, length, map, sum_by, Option, Some, None, ◌&&◌, if◌then◌else◌}
 use Rattle.std.specs.List.{list_any, find, count_by, AllByRecursion}
 use Rattle.amt_values.specs.Order.{tunnel_order}
 use Rattle.amt_values.specs.Tunnel.{Tunnel}
@@ -10,6 +10,7 @@ use Rattle.endpoint_membership.specs.declared.kept.Kept.{Kept}
 use Rattle.endpoint_membership.specs.declared.limits.LimitFault.{LimitFault}
 use Rattle.endpoint_membership.specs.declared.limits.LimitFault.TheVariants.{Sources, Groups, Endpoints}
 use Rattle.endpoint_membership.specs.declared.limits.Limits.{Limits}
+use Rattle.endpoint_membership.specs.declared.row.Row.{Row}
 
 -- the number of groups that stand at the endpoint
 abbrev pub group_count : Tunnel → List Kept → ℕ
@@ -28,6 +29,11 @@ pub record IsWithin (limits : Limits) (rows : List Kept) : Type 0 where
   pub endpoints : live_count rows ≤ limits.endpoints
   pub groups : (endpoint : Tunnel) → group_count endpoint rows ≤ limits.groups
   pub sources : AllByRecursion (λ kept. size kept ≤ limits.sources) rows
+
+-- the limits bound how many rows there are, and how many sources they list together
+pub record AreFew (limits : Limits) (all : List Row) : Type 0 where
+  pub rows : length all ≤ limits.endpoints * limits.groups
+  pub sources : sum_by (λ row. length row.filter.sources) all ≤ (limits.endpoints * limits.groups) * limits.sources
 
 -- a group of the endpoint that a record is on, with more sources than allowed
 abbrev pub is_too_wide : Limits → Tunnel → List Record → Kept → Bool

@@ -3,17 +3,25 @@ use Rattle.std.specs.Prelude.{◌≡◌, ℕ, Bool, true, List, [], ◌∷◌, O
 use Rattle.std.specs.List.{AllByRecursion, filter, list_any}
 use Rattle.amt_values.specs.declared.address.Ip.{Ip}
 use Rattle.amt_values.specs.Tunnel.{Tunnel}
-use Rattle.source_filter.specs.Filter.{FilterValue, applied, nothing}
+use Rattle.source_filter.specs.Filter.{FilterValue, applied, nothing, sources_after}
+use Rattle.source_filter.specs.Rising.{IsRising}
 use Rattle.source_filter.specs.declared.record.Record.{Record}
-use Rattle.endpoint_membership.specs.Kept.{is_fresh}
+use Rattle.source_filter.specs.declared.record.RecordKind.{RecordKind}
+use Rattle.endpoint_membership.specs.Kept.{is_fresh, only}
 use Rattle.endpoint_membership.specs.Place.{same_endpoint, same_group}
-use Rattle.endpoint_membership.specs.Rows.{kept_if_standing}
+use Rattle.endpoint_membership.specs.Rows.{kept_if_standing, kept_order, row_at}
 use Rattle.endpoint_membership.specs.declared.kept.Kept.{Kept}
 
 -- what is wanted of a group, and since when it counts
 pub record WishValue : Type 0 where
   pub filter : FilterValue
   pub renewed : ℕ
+
+-- a wish whose list a change of sources changed
+abbrev pub changed : RecordKind → List Ip → WishValue → WishValue
+changed kind listed wish = record wish {
+  filter = record wish.filter { sources = sources_after kind wish.filter.mode wish.filter.sources listed };
+}
 
 -- the filter after records, oldest first
 abbrev pub applied_all : FilterValue → List Record → FilterValue
@@ -63,3 +71,10 @@ AreOf endpoint rows = AllByRecursion (λ kept. same_endpoint kept.endpoint endpo
 abbrev pub is_over : ℕ → List Record → Kept → Bool
 is_over most records kept =
     nat_lt most (length kept.filter.sources) && list_any (λ group_record. same_group kept.group group_record.group) records
+
+-- the rows of an endpoint after its report, from all rows before it
+pub record AreOwn (lifetime moment : ℕ) (endpoint : Tunnel) (records : List Record) (rows own : List Kept) : Type 0 where
+  pub rises : IsRising kept_order own
+  pub of : AreOf endpoint own
+  pub each : (group : Ip) → row_at own (record { endpoint = endpoint; group = group })
+      ≡ row_of_wish endpoint group (wish_after_all moment (on_group group records) (wish_in (only (is_fresh lifetime moment) (row_at rows (record { endpoint = endpoint; group = group })))))

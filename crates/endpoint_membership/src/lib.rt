@@ -28,8 +28,3 @@ pub use limits::{AcceptFault, LimitFault, Limits};
 pub use row::{Row, Rows};
 pub use table::Table;
 pub use targets::Targets;
-
-#[cfg(test)]
-mod slow;
-#[cfg(test)]
-mod tests;

@@ -6,9 +6,9 @@ ghost use Rattle.source_filter.specs.Record.{item_count};
 ghost use Rattle.source_filter.specs.Rising.{IsRising};
 ghost use Rattle.endpoint_membership.specs.Admission.{is_admitted};
 ghost use Rattle.endpoint_membership.specs.Kept.{is_counted};
-ghost use Rattle.endpoint_membership.specs.Limits.{IsWithin, fault_by, live_count, size};
+ghost use Rattle.endpoint_membership.specs.Limits.{AreFew, IsWithin, fault_by, live_count, size};
 ghost use Rattle.endpoint_membership.specs.Log.{is_empty, latest};
-ghost use Rattle.endpoint_membership.specs.Own.{is_over};
+ghost use Rattle.endpoint_membership.specs.Own.{AreOwn, is_over};
 ghost use Rattle.endpoint_membership.specs.Rows.{is_live, rows_of, standing_rows};
 ghost use Rattle.endpoint_membership.specs.Table.{Holds, IsWithinLimits, OnLimit, OnMemory, Terms, limit_passed, standing_now};
 ghost use Rattle.endpoint_membership.specs.Targets.{targets_of};
@@ -127,8 +127,9 @@ impl Table {
 
     /// What stands, by endpoint and then by group.
     pub fn rows(&self, alloc: Global) -> Result<Rows, AllocError>
-        ensures { IfOk result (λ rows. (terms : Terms) (log : List Entry) → Holds terms self.now log
-            → rows ≡ rows_of terms.lifetime (latest log) log) }
+        ensures stands { IfOk result (λ rows. (terms : Terms) (log : List Entry)
+            → Holds terms self.now log → rows ≡ rows_of terms.lifetime (latest log) log) }
+        ensures bounded { IsWithinLimits self.now → IfOk result (AreFew self.now.limits) }
     {
         let rows = show(alloc, &self.rows)?;
         Ok(rows)
@@ -152,6 +153,28 @@ impl Table {
     {
         let later = self.moment.later(at);
         collect_targets(&self.rows, group, source, later, self.lifetime_ms, out);
+    }
+
+    // The endpoint's rows after a report at the moment.
+    fn own_after(
+        &self,
+        alloc: Global,
+        endpoint: &Endpoint,
+        records: &Records,
+        moment: Moment,
+    ) -> Result<Vec<Kept>, AllocError>
+        ensures { IfOk result (λ own. AreOwn self.now.lifetime moment endpoint.now records.now
+            self.now.rows own.items) }
+    {
+        let own = own_rows(
+            alloc,
+            &self.rows,
+            endpoint,
+            records,
+            moment,
+            self.lifetime_ms,
+        )?;
+        Ok(own)
     }
 
     // The first limit that a report passes, if these are its endpoint's rows afterwards.
@@ -209,14 +232,7 @@ impl Table {
             → OnLimit result (λ _. IsWithin terms.limits (standing_now terms (log ++ Reported endpoint.now records.now at.now ∷ [])) → ⊥) }
     {
         let moment = self.moment.later(at);
-        let own = match own_rows(
-            alloc,
-            &self.rows,
-            endpoint,
-            records,
-            moment,
-            self.lifetime_ms,
-        ) {
+        let own = match self.own_after(alloc, endpoint, records, moment) {
             Ok(own) => own,
             Err(_) => return Err(AcceptFault::Memory),
         };

@@ -1,8 +1,9 @@
 ghost use Rattle.std.specs.Prelude.{◌≡◌, Some, IfOk, OnOk};
 ghost use Rattle.amt_values.specs.Order.{ip_order};
-ghost use Rattle.source_filter.specs.Filter.{applied, nothing};
+ghost use Rattle.source_filter.specs.Filter.{applied, nothing, rising_sources};
 ghost use Rattle.source_filter.specs.Rising.{IsRising, difference, union};
-ghost use Rattle.endpoint_membership.specs.Own.{wish_in};
+ghost use Rattle.source_filter.specs.declared.record.RecordKind.TheVariants.{Allow, Block};
+ghost use Rattle.endpoint_membership.specs.Own.{changed, wish_in};
 ghost use Rattle.endpoint_membership.specs.Rows.{is_standing};
 
 use crate::kept::Kept;
@@ -100,30 +101,47 @@ impl Wish {
         self.renewed = moment;
         let listed = group_record.sources.as_slice();
         match group_record.kind {
-            RecordKind::IsIn | RecordKind::ToIn => {
-                self.mode = Mode::Include;
-                self.sources.clear();
-                insert_all(&mut self.sources, listed)
+            RecordKind::IsIn | RecordKind::ToIn => self.set(Mode::Include, listed),
+            RecordKind::IsEx | RecordKind::ToEx => self.set(Mode::Exclude, listed),
+            RecordKind::Allow => self.allow(listed),
+            RecordKind::Block => self.block(listed),
+        }
+    }
+
+    // A whole filter in the place of the old one.
+    fn set(&mut self, mode: Mode, listed: &[Ip]) -> Result<(), AllocError>
+        ensures { OnOk result (self.new ≡ record self.old {
+          filter = record { mode = mode; sources = rising_sources listed.now };
+        }) }
+    {
+        self.mode = mode;
+        self.sources.clear();
+        insert_all(&mut self.sources, listed)
+    }
+
+    // These sources are wanted too.
+    fn allow(&mut self, listed: &[Ip]) -> Result<(), AllocError>
+        ensures { OnOk result (self.new ≡ changed Allow listed.now self.old) }
+    {
+        match self.mode {
+            Mode::Include => insert_all(&mut self.sources, listed),
+            Mode::Exclude => {
+                remove_all(&mut self.sources, listed);
+                Ok(())
             }
-            RecordKind::IsEx | RecordKind::ToEx => {
-                self.mode = Mode::Exclude;
-                self.sources.clear();
-                insert_all(&mut self.sources, listed)
+        }
+    }
+
+    // These sources are no longer wanted.
+    fn block(&mut self, listed: &[Ip]) -> Result<(), AllocError>
+        ensures { OnOk result (self.new ≡ changed Block listed.now self.old) }
+    {
+        match self.mode {
+            Mode::Exclude => insert_all(&mut self.sources, listed),
+            Mode::Include => {
+                remove_all(&mut self.sources, listed);
+                Ok(())
             }
-            RecordKind::Allow => match self.mode {
-                Mode::Include => insert_all(&mut self.sources, listed),
-                Mode::Exclude => {
-                    remove_all(&mut self.sources, listed);
-                    Ok(())
-                }
-            },
-            RecordKind::Block => match self.mode {
-                Mode::Include => {
-                    remove_all(&mut self.sources, listed);
-                    Ok(())
-                }
-                Mode::Exclude => insert_all(&mut self.sources, listed),
-            },
         }
     }
 }

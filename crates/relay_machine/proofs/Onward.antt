@@ -1,7 +1,7 @@
 -- Where one more event leaves a relay.
 use Rattle.std.proofs.Common.{◌≡◌, ℕ, max, Bool, true, false, List, [], ◌∷◌, ◌++◌, Option, Some, None, Result, Ok, Err, refl, sym, ap, subst, ◌∙◌, arith}
 use mathlib.Core.HLevel.{is_prop→PathP}
-use Rattle.std.proofs.Math.Logic.{∥∥₁_map, ∥∥₁_prop}
+use Rattle.std.proofs.Math.Logic.{∥∥₁_elim, ∥∥₁_map, ∥∥₁_prop}
 use Rattle.std.proofs.Props.{props}
 use Rattle.std.proofs.lemmas.List.{append-nil, reverse-append, reverse-reverse}
 use Rattle.std.proofs.lemmas.List.Elements.{filter_map-append}
@@ -19,12 +19,14 @@ use Rattle.response_mac.specs.declared.secret.Secret.{Secret}
 use Rattle.response_mac.specs.declared.secrets.Secrets.{Secrets}
 use Rattle.response_mac.specs.ResponseMac.{is_good, secrets_after}
 use Rattle.source_filter.specs.declared.record.Record.{Record}
-use Rattle.endpoint_membership.specs.Limits.{IsWithin}
+use Rattle.endpoint_membership.specs.Limits.{AreFew, IsWithin}
 use Rattle.endpoint_membership.specs.Log.{latest}
 use Rattle.endpoint_membership.specs.Table.{Holds, IsWithinLimits, TableValue, Terms, limit_passed, standing_now}
 use Rattle.endpoint_membership.specs.declared.change.Change.{Change}
 use Rattle.endpoint_membership.specs.declared.change.Change.TheVariants.{Mark, Clear, Reported}
 use Rattle.endpoint_membership.specs.declared.limits.LimitFault.{LimitFault}
+use Rattle.endpoint_membership.specs.declared.limits.Limits.{Limits}
+use Rattle.endpoint_membership.specs.declared.row.Row.{Row}
 use Rattle.endpoint_membership.proofs.Held.{IsWithin-log, latest-push}
 use Rattle.relay_machine.specs.declared.event.Event.{Event}
 use Rattle.relay_machine.specs.declared.event.Event.TheVariants.{Moment, Datagram, Packet, Rotate}
@@ -83,6 +85,11 @@ pub StandsFor-accepted : (relay : Relay) (settings : Settings) (first : Secret) 
     → StandsFor relay (accepted settings first events)
 StandsFor-accepted relay settings first events at =
     subst (λ (known : Settings). Holds (terms_of known) relay.table (accepted settings first events)) (sym at.settings_kept) at.table
+
+-- the limits of a relay's table are those of its settings
+pub AreFew-settings : (relay : Relay) (rows : List Row) → AreFew relay.table.limits rows → AreFew (settings_of relay).limits rows
+AreFew-settings relay rows few =
+    ∥∥₁_elim relay.has_log (hlevel props) (λ found. subst (λ (limits : Limits). AreFew limits rows) found.1.limits few)
 
 within_prop : (table : TableValue) → IsProp (IsWithinLimits table)
 within_prop table = hlevel props

@@ -33,7 +33,7 @@ impl Relay {
     ghost use Rattle.amt_values.specs.Tunnel.{Tunnel};
     ghost use Rattle.source_filter.specs.declared.record.Record.{Record as RecordValue};
     ghost use Rattle.inner_datagrams.specs.declared.head.Head.{Head};
-    ghost use Rattle.endpoint_membership.specs.Limits.{IsWithin, live_count};
+    ghost use Rattle.endpoint_membership.specs.Limits.{AreFew, IsWithin, live_count};
     ghost use Rattle.endpoint_membership.specs.Log.{latest};
     ghost use Rattle.endpoint_membership.specs.Rows.{rows_of};
     ghost use Rattle.endpoint_membership.specs.Table.{standing_now};
@@ -88,6 +88,7 @@ impl Relay {
         ensures published { IfOk result (λ rows. (log : List Entry)
             → StandsFor self.now log
             → rows ≡ rows_of (membership_interval_ms (settings_of self.now)) (latest log) log) }
+        ensures bounded { IfOk result (AreFew (settings_of self.now).limits) }
     {
         self.table.rows(alloc)
     }

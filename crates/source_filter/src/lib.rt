@@ -1,8 +1,9 @@
-//! Source filters and group records, and what the readers of both address families share.
+//! Source filters and group records, and what the readers of both address families share: the faults
+//! of a report, and the fields of a query with their codes.
 //!
 //! Contract: a filter after a record admits a source by what the record says, where the record
 //! speaks of it, and as before elsewhere.
-//! It knows no layout, tunnel endpoint or moment.
+//! It reads and writes no octets, and knows no tunnel endpoint or moment.
 //! Standard: RFC 3376, sections 3.2, 4.1 and 4.2.12; RFC 3810, section 5.1.
 #![tactic(auto)]
 

@@ -1,6 +1,9 @@
 use super::*;
+use Mode::{Exclude, Include};
+use RecordKind::{Allow, Block, IsEx, IsIn, ToEx, ToIn};
 use amt_values::Ip;
 use std::alloc::{AllocError, Global};
+use std::process::Abort;
 use std::test::Fail;
 
 const GROUP: Ip = Ip::V4(0xe801_0203);
@@ -17,6 +20,16 @@ const SECOND: Ip = Ip::V4(0xc633_6402);
 
 const SITE: Ip = Ip::V6(0x2001_0db8_0000_0000_0000_0000_0000_0001);
 
+// A filter as tests write it: mode and sources, a source that it admits and one that it doesn't.
+type Wanted<'a> = (Mode, &'a [Ip], Ip, Ip);
+
+fn is_wanted(filter: &Filter, wanted: &Wanted) -> bool {
+    filter.mode() == wanted.0
+        && filter.sources() == wanted.1
+        && filter.admits(&wanted.2)
+        && !filter.admits(&wanted.3)
+}
+
 fn about(alloc: Global, kind: RecordKind, sources: &[Ip]) -> Result<Record, AllocError> {
     Ok(Record {
         kind,
@@ -27,58 +40,108 @@ fn about(alloc: Global, kind: RecordKind, sources: &[Ip]) -> Result<Record, Allo
 
 #[test]
 fn a_new_filter_lists_each_source_once_with_ipv4_first(rt: HostRuntime) -> Result<(), Fail> {
-    let sources = [SITE, TWO, ONE, SITE, TWO];
-    let filter = Filter::new(rt.alloc(), Mode::Include, &sources)?;
-    assert_eq!(rt; filter.sources(), [ONE, TWO, SITE].as_slice());
-    assert!(rt; filter.admits(&SITE));
-    assert!(rt; !filter.admits(&THREE));
+    let filter = Filter::new(rt.alloc(), Include, &[SITE, TWO, ONE, SITE, TWO])?;
+    let wanted = (Include, [ONE, TWO, SITE].as_slice(), SITE, THREE);
+    assert!(rt; is_wanted(&filter, &wanted), "{filter:?}");
+    Ok(())
+}
+
+// The mode before and the record, then the filter after it.
+const CHANGES: [(Mode, RecordKind, Wanted<'static>); 12] = [
+    (Include, IsIn, (Include, &[TWO, THREE], THREE, ONE)),
+    (Include, ToIn, (Include, &[TWO, THREE], THREE, ONE)),
+    (Include, IsEx, (Exclude, &[TWO, THREE], ONE, TWO)),
+    (Include, ToEx, (Exclude, &[TWO, THREE], ONE, TWO)),
+    (Include, Allow, (Include, &[ONE, TWO, THREE], THREE, FIRST)),
+    (Include, Block, (Include, &[ONE], ONE, TWO)),
+    (Exclude, IsIn, (Include, &[TWO, THREE], TWO, FIRST)),
+    (Exclude, ToIn, (Include, &[TWO, THREE], TWO, FIRST)),
+    (Exclude, IsEx, (Exclude, &[TWO, THREE], ONE, THREE)),
+    (Exclude, ToEx, (Exclude, &[TWO, THREE], ONE, THREE)),
+    (Exclude, Allow, (Exclude, &[ONE], TWO, ONE)),
+    (Exclude, Block, (Exclude, &[ONE, TWO, THREE], FIRST, THREE)),
+];
+
+// A filter of two sources after a record on one of them and on a third.
+fn changed(alloc: Global, mode: Mode, kind: RecordKind) -> Result<Filter, AllocError> {
+    let before = Filter::new(alloc, mode, &[ONE, TWO])?;
+    let change = about(alloc, kind, &[THREE, TWO])?;
+    before.apply(alloc, &change)
+}
+
+fn assert_changed(
+    rt: &impl Abort,
+    alloc: Global,
+    mode: Mode,
+    kind: RecordKind,
+    wanted: &Wanted,
+) -> Result<(), AllocError> {
+    let after = changed(alloc, mode, kind)?;
+    assert!(rt; is_wanted(&after, wanted), "{kind:?} in {mode:?}");
     Ok(())
 }
 
 #[test]
 fn each_record_changes_each_mode_as_the_table_says(rt: HostRuntime) -> Result<(), Fail> {
-    use Mode::{Exclude, Include};
-    use RecordKind::{Allow, Block, IsEx, IsIn, ToEx, ToIn};
-    // The mode before and the record, then mode and sources, a wanted source and an unwanted one.
-    let rows: [(Mode, RecordKind, Mode, &[Ip], Ip, Ip); 12] = [
-        (Include, IsIn, Include, &[TWO, THREE], THREE, ONE),
-        (Include, ToIn, Include, &[TWO, THREE], THREE, ONE),
-        (Include, IsEx, Exclude, &[TWO, THREE], ONE, TWO),
-        (Include, ToEx, Exclude, &[TWO, THREE], ONE, TWO),
-        (Include, Allow, Include, &[ONE, TWO, THREE], THREE, FIRST),
-        (Include, Block, Include, &[ONE], ONE, TWO),
-        (Exclude, IsIn, Include, &[TWO, THREE], TWO, FIRST),
-        (Exclude, ToIn, Include, &[TWO, THREE], TWO, FIRST),
-        (Exclude, IsEx, Exclude, &[TWO, THREE], ONE, THREE),
-        (Exclude, ToEx, Exclude, &[TWO, THREE], ONE, THREE),
-        (Exclude, Allow, Exclude, &[ONE], TWO, ONE),
-        (Exclude, Block, Exclude, &[ONE, TWO, THREE], FIRST, THREE),
-    ];
-    for (mode, kind, mode_after, sources_after, wanted, unwanted) in rows {
-        let before = Filter::new(rt.alloc(), mode, &[ONE, TWO])?;
-        let change = about(rt.alloc(), kind, &[THREE, TWO])?;
-        let after = before.apply(rt.alloc(), &change)?;
-        assert_eq!(rt; after.mode(), mode_after, "{kind:?} in {mode:?}");
-        assert_eq!(rt; after.sources(), sources_after, "{kind:?} in {mode:?}");
-        assert!(rt; after.admits(&wanted), "{kind:?} in {mode:?}");
-        assert!(rt; !after.admits(&unwanted), "{kind:?} in {mode:?}");
+    for (mode, kind, wanted) in &CHANGES {
+        assert_changed(&rt, rt.alloc(), *mode, *kind, wanted)?;
     }
     Ok(())
 }
 
+// The filter of nothing after records of one source each.
+fn changed_by(alloc: Global, changes: &[(RecordKind, Ip)]) -> Result<Filter, AllocError> {
+    let mut filter = Filter::new(alloc, Include, &[])?;
+    for (kind, source) in changes {
+        filter = filter.apply(alloc, &about(alloc, *kind, &[*source])?)?;
+    }
+    Ok(filter)
+}
+
+fn copy_of_changed(alloc: Global, changes: &[(RecordKind, Ip)]) -> Result<Filter, AllocError> {
+    let filter = changed_by(alloc, changes)?;
+    copy_filter(alloc, &filter)
+}
+
 #[test]
 fn records_apply_in_order_and_a_copy_is_equal(rt: HostRuntime) -> Result<(), Fail> {
-    let mut filter = Filter::new(rt.alloc(), Mode::Include, &[])?;
-    for (kind, source) in [
-        (RecordKind::IsEx, FIRST),
-        (RecordKind::Allow, FIRST),
-        (RecordKind::Block, SECOND),
-    ] {
-        filter = filter.apply(rt.alloc(), &about(rt.alloc(), kind, &[source])?)?;
+    let copy = copy_of_changed(
+        rt.alloc(),
+        &[(IsEx, FIRST), (Allow, FIRST), (Block, SECOND)],
+    )?;
+    let wanted = (Exclude, [SECOND].as_slice(), FIRST, SECOND);
+    assert!(rt; is_wanted(&copy, &wanted), "{copy:?}");
+    Ok(())
+}
+
+fn two_records(alloc: Global) -> Result<Records, AllocError> {
+    let mut records = Records::new(alloc);
+    records.push(about(alloc, ToEx, &[])?)?;
+    records.push(about(alloc, Allow, &[TWO, ONE, TWO])?)?;
+    Ok(records)
+}
+
+fn copies_of_two(alloc: Global) -> Result<Records, AllocError> {
+    let records = two_records(alloc)?;
+    copy_records(alloc, &records)
+}
+
+fn is_about(group_record: &Record, kind: RecordKind, sources: &[Ip]) -> bool {
+    group_record.kind == kind
+        && group_record.group == GROUP
+        && group_record.sources.as_slice() == sources
+}
+
+fn are_the_two(records: &Records) -> bool {
+    match records.as_slice() {
+        [one, two] => is_about(one, ToEx, &[]) && is_about(two, Allow, &[TWO, ONE, TWO]),
+        _ => false,
     }
-    let copy = copy_filter(rt.alloc(), &filter)?;
-    drop(filter);
-    assert_eq!(rt; copy.mode(), Mode::Exclude);
-    assert_eq!(rt; copy.sources(), [SECOND].as_slice());
+}
+
+#[test]
+fn copies_of_records_keep_the_order_and_the_repeats(rt: HostRuntime) -> Result<(), Fail> {
+    let copies = copies_of_two(rt.alloc())?;
+    assert!(rt; are_the_two(&copies), "{copies:?}");
     Ok(())
 }

@@ -4,7 +4,7 @@ use Rattle.endpoint_membership.specs.Rows.{rows_of}
 use Rattle.relay_machine.specs.Accepted.{accepted}
 use Rattle.relay_machine.specs.Answers.{settings_of}
 use Rattle.relay_machine.specs.Settings.{membership_interval_ms, terms_of}
-use Rattle.relay_machine.proofs.Onward.{latest-accepted}
+use Rattle.relay_machine.proofs.Onward.{AreFew-settings, latest-accepted}
 use Rattle.relay_machine.proofs.relay.Relay.rows.Goals as goal
 
 pub returns-clause-stands : goal.returns-clause-stands
@@ -12,8 +12,11 @@ returns-clause-stands c = IfOk-weaker c.rows.result _ _
     (λ rows shown settings first events at.
     let log = accepted settings first events in
     shown (terms_of settings) log at.table
-    ∙ ap (λ (moment : ℕ). rows_of (membership_interval_ms settings) moment log) (latest-accepted _ settings first events at)) c.rows.ensures
+    ∙ ap (λ (moment : ℕ). rows_of (membership_interval_ms settings) moment log) (latest-accepted _ settings first events at)) c.rows.ensures.stands
 
 pub returns-clause-published : goal.returns-clause-published
 returns-clause-published c = IfOk-weaker c.rows.result _ _
-    (λ rows shown. shown (terms_of (settings_of c.args.self.now))) c.rows.ensures
+    (λ rows shown. shown (terms_of (settings_of c.args.self.now))) c.rows.ensures.stands
+
+pub returns-clause-bounded : goal.returns-clause-bounded
+returns-clause-bounded c = IfOk-weaker c.rows.result _ _ (AreFew-settings c.args.self.now) (c.rows.ensures.bounded c.args.self.now.within)

@@ -1,0 +1,110 @@
+-- Rows within the limits are few: a product of the limits bounds them.
+use Rattle.std.proofs.Common.{◌≡◌, ℕ, ◌+◌, ◌*◌, ◌≤◌, Bool, true, false, cond, ◌||◌, List, [], ◌∷◌, length, map, sum_by, refl, ◌∙◌, arith}
+use Rattle.std.specs.List.{AllByRecursion}
+use Rattle.std.proofs.Math.Nat.{mul-le-mul, suc-mul}
+use Rattle.std.proofs.lemmas.Cmp.{eq_by_cmp_equiv}
+use Rattle.std.proofs.lemmas.List.{length-map}
+use Rattle.std.proofs.lemmas.List.Sums.{sum_by-cons}
+use Rattle.amt_values.specs.Order.{tunnel_order}
+use Rattle.amt_values.specs.Tunnel.{Tunnel}
+use Rattle.amt_values.proofs.Orders.{tunnel_order-total}
+use Rattle.source_filter.specs.Rising.{has, rising}
+use Rattle.source_filter.proofs.RisingLaws.{has-rising}
+use Rattle.endpoint_membership.specs.Limits.{AreFew, IsWithin, group_count, live_count, size}
+use Rattle.endpoint_membership.specs.Place.{same_endpoint}
+use Rattle.endpoint_membership.specs.Rows.{shown}
+use Rattle.endpoint_membership.specs.declared.kept.Kept.{Kept}
+use Rattle.endpoint_membership.specs.declared.limits.Limits.{Limits}
+
+one_if : Bool → ℕ
+one_if test = cond test 1 0
+
+-- how many of the endpoints are the row's
+hits : List Tunnel → Kept → ℕ
+hits [] kept = 0
+hits (endpoint ∷ rest) kept = one_if (same_endpoint kept.endpoint endpoint) + hits rest kept
+
+-- the rows of the endpoints, counted one endpoint after the other
+total : List Tunnel → List Kept → ℕ
+total [] rows = 0
+total (endpoint ∷ rest) rows = group_count endpoint rows + total rest rows
+
+group_count-cons : (endpoint : Tunnel) (kept : Kept) (rest : List Kept) → group_count endpoint (kept ∷ rest) ≡ one_if (same_endpoint kept.endpoint endpoint) + group_count endpoint rest
+unfolding one_if
+group_count-cons endpoint kept rest = sum_by-cons _ kept rest
+
+total-cons : (endpoints : List Tunnel) (kept : Kept) (rest : List Kept) → total endpoints (kept ∷ rest) ≡ hits endpoints kept + total endpoints rest
+unfolding total hits
+total-cons [] kept rest = refl
+total-cons (endpoint ∷ others) kept rest = omega (arith, group_count-cons endpoint kept rest, total-cons others kept rest)
+
+hits_by : (here : Bool) (some : Bool) (more : ℕ) → (some ≡ true → 1 ≤ more) → (here || some) ≡ true → 1 ≤ one_if here + more
+unfolding one_if
+hits_by true some more rest is = omega arith
+hits_by false some more rest is = omega (arith, rest is)
+
+hits-some : (endpoints : List Tunnel) (kept : Kept) → has tunnel_order endpoints kept.endpoint ≡ true → 1 ≤ hits endpoints kept
+unfolding hits
+hits-some [] kept listed = cc
+hits-some (endpoint ∷ rest) kept listed =
+    hits_by (same_endpoint kept.endpoint endpoint) (has tunnel_order rest kept.endpoint) (hits rest kept) (hits-some rest kept) listed
+
+-- no row is left out where each row's endpoint is among them
+length-total : (endpoints : List Tunnel) (rows : List Kept) → AllByRecursion (λ kept. has tunnel_order endpoints kept.endpoint ≡ true) rows → length rows ≤ total endpoints rows
+length-total endpoints [] listed = omega arith
+length-total endpoints (kept ∷ rest) listed =
+    omega (arith, total-cons endpoints kept rest, hits-some endpoints kept listed.0, length-total endpoints rest listed.1)
+
+total-few : (most : ℕ) (endpoints : List Tunnel) (rows : List Kept) → ((endpoint : Tunnel) → group_count endpoint rows ≤ most) → total endpoints rows ≤ length endpoints * most
+unfolding total
+total-few most [] rows few = omega arith
+total-few most (endpoint ∷ rest) rows few = omega (arith, few endpoint, total-few most rest rows few, suc-mul (length rest) most)
+
+abbrev endpoints_of : List Kept → List Tunnel
+endpoints_of rows = map (λ (kept : Kept). kept.endpoint) rows
+
+or_true : (here some : Bool) → some ≡ true → (here || some) ≡ true
+or_true true some is = refl
+or_true false some is = is
+
+-- what lists the endpoints of some rows lists them with one endpoint more
+All-more : (endpoint : Tunnel) (endpoints : List Tunnel) (rows : List Kept) → AllByRecursion (λ kept. has tunnel_order endpoints kept.endpoint ≡ true) rows
+    → AllByRecursion (λ kept. has tunnel_order (endpoint ∷ endpoints) kept.endpoint ≡ true) rows
+All-more endpoint endpoints [] each = tt
+All-more endpoint endpoints (kept ∷ rest) each = (or_true (same_endpoint kept.endpoint endpoint) _ each.0, All-more endpoint endpoints rest each.1)
+
+All-own : (rows : List Kept) → AllByRecursion (λ kept. has tunnel_order (endpoints_of rows) kept.endpoint ≡ true) rows
+All-own [] = tt
+All-own (kept ∷ rest) =
+    (rw ((eq_by_cmp_equiv tunnel_order-total).refl kept.endpoint) refl, All-more kept.endpoint (endpoints_of rest) rest (All-own rest))
+
+All-rising : (endpoints : List Tunnel) (rows : List Kept) → AllByRecursion (λ kept. has tunnel_order endpoints kept.endpoint ≡ true) rows
+    → AllByRecursion (λ kept. has tunnel_order (rising tunnel_order endpoints) kept.endpoint ≡ true) rows
+All-rising endpoints [] each = tt
+All-rising endpoints (kept ∷ rest) each = (has-rising tunnel_order-total endpoints kept.endpoint ∙ each.0, All-rising endpoints rest each.1)
+
+rows-few : (limits : Limits) (rows : List Kept) → IsWithin limits rows → length rows ≤ limits.endpoints * limits.groups
+rows-few limits rows within =
+    let live = rising tunnel_order (endpoints_of rows) in
+    let counted = length-total live rows (All-rising (endpoints_of rows) rows (All-own rows)) in
+    let few = total-few limits.groups live rows within.groups in
+    let most : live_count rows * limits.groups ≤ limits.endpoints * limits.groups = mul-le-mul within.endpoints (omega arith) in
+    omega arith
+
+-- the sources of the rows as they are shown
+abbrev sources_in : List Kept → ℕ
+sources_in rows = sum_by (λ row. length row.filter.sources) (map shown rows)
+
+sources-few : (most : ℕ) (rows : List Kept) → AllByRecursion (λ kept. size kept ≤ most) rows → sources_in rows ≤ length rows * most
+sources-few most [] each = omega arith
+sources-few most (kept ∷ rest) each =
+    omega (arith, sum_by-cons (λ row. length row.filter.sources) (shown kept) (map shown rest), each.0, sources-few most rest each.1, suc-mul (length rest) most)
+
+pub AreFew-shown : (limits : Limits) (rows : List Kept) → IsWithin limits rows → AreFew limits (map shown rows)
+AreFew-shown limits rows within =
+    let few = rows-few limits rows within in
+    let listed = sources-few limits.sources rows within.sources in
+    let most : length rows * limits.sources ≤ (limits.endpoints * limits.groups) * limits.sources = mul-le-mul few (omega arith) in record {
+      rows = omega (arith, length-map rows shown);
+      sources = omega arith;
+    }
