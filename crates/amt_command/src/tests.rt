@@ -1,3 +1,4 @@
+mod datagrams;
 mod day;
 mod mld;
 mod packets;

@@ -4,6 +4,8 @@ pub mod Answers
 pub mod Conditions
 pub mod Events
 pub mod Lawful
+pub mod Logs
+pub mod Macs
 pub mod Packets
 pub mod Queries
 pub mod Reading

@@ -16,6 +16,7 @@ mod outcome;
 mod packet;
 mod querier;
 mod relay;
+mod reply;
 mod report;
 mod sends;
 mod settings;
@@ -29,8 +30,6 @@ pub use sends::{OneSend, Sends, Step};
 pub use settings::Settings;
 
 #[cfg(test)]
-mod packet_tests;
+mod settings_tests;
 #[cfg(test)]
 mod tests;
-#[cfg(test)]
-mod update_tests;

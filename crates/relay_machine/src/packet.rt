@@ -1,8 +1,10 @@
-ghost use Rattle.std.specs.Prelude.{◌≡◌, ◌≤◌, [], List, length, None, IfOk};
+ghost use Rattle.std.specs.Prelude.{◌≡◌, ◌≤◌, [], length, nat_lt, None, IfOk};
+ghost use Rattle.amt_values.specs.Group.{is_forwardable};
+ghost use Rattle.inner_datagrams.specs.Head.{head_of};
 ghost use Rattle.endpoint_membership.specs.Log.{latest};
-ghost use Rattle.endpoint_membership.specs.Table.{Holds, IsWithinLimits, Terms};
-ghost use Rattle.endpoint_membership.specs.declared.change.Change.{Change as Entry};
-ghost use Rattle.relay_machine.specs.Packets.{copies, head_to_copy, packet_outcome, packet_sends, targets_at};
+ghost use Rattle.endpoint_membership.specs.Table.{IsWithinLimits, Terms};
+ghost use Rattle.relay_machine.specs.Logs.{IfOkByEachLog};
+ghost use Rattle.relay_machine.specs.Packets.{by_head, by_scope, copies, head_to_copy, packet_outcome, packet_sends, targets_at};
 ghost use Rattle.relay_machine.specs.Settings.{terms_of};
 ghost use Rattle.relay_machine.specs.State.{HasLog};
 
@@ -15,32 +17,50 @@ use endpoint_membership::{Table, Targets};
 use inner_datagrams::{Head, packet_head};
 use std::alloc::{AllocError, Global};
 
+fn is_too_big(limit: u32, packet: &[u8]) -> bool
+    ensures { result ≡ nat_lt limit (length packet.now) }
+{
+    packet.len() > limit as usize
+}
+
+// The head, where packets of its group are forwarded.
+fn in_scope(head: Head) -> Result<Head, Outcome>
+    ensures { result ≡ by_scope (is_forwardable head.group) head }
+{
+    if forwardable(&head.group) {
+        Ok(head)
+    } else {
+        Err(Outcome::NotForwarded(NotForwarded::Scope(head.group)))
+    }
+}
+
+fn head_in_scope(packet: &[u8]) -> Result<Head, Outcome>
+    requires { length packet.now ≤ 65535 }
+    ensures { result ≡ by_head (head_of packet.now) }
+{
+    match packet_head(packet) {
+        Err(fault) => Err(Outcome::NotForwarded(NotForwarded::Head(fault))),
+        Ok(head) => in_scope(head),
+    }
+}
+
 // The source and the group of a packet that is copied.
 fn head_to_copy(limit: u32, packet: &[u8]) -> Result<Head, Outcome>
     requires { length packet.now ≤ 65535 }
     ensures { result ≡ head_to_copy limit packet.now }
 {
-    if packet.len() > limit as usize {
+    if is_too_big(limit, packet) {
         return Err(Outcome::TooBig(packet.len() as u32));
     }
-    match packet_head(packet) {
-        Err(fault) => Err(Outcome::NotForwarded(NotForwarded::Head(fault))),
-        Ok(head) => {
-            if forwardable(&head.group) {
-                Ok(head)
-            } else {
-                Err(Outcome::NotForwarded(NotForwarded::Scope(head.group)))
-            }
-        }
-    }
+    head_in_scope(packet)
 }
 
 // The endpoints that want the source in the group at the table's moment.
 fn targets(alloc: Global, table: &Table, head: &Head) -> Result<Targets, AllocError>
     requires within { IsWithinLimits table.now }
     requires has_log { ∥ ((terms : Terms) × HasLog terms table.now) ∥₁ }
-    ensures wanted { (terms : Terms) (log : List Entry) → Holds terms table.now log
-        → IfOk result (λ targets. targets.endpoints ≡ targets_at terms log (latest log) head.now) }
+    ensures wanted { (terms : Terms) → IfOkByEachLog terms table.now result (λ log targets.
+        targets.endpoints ≡ targets_at terms log (latest log) head.now) }
     ensures few { IfOk result (λ targets. length targets.endpoints ≤ 4294967295) }
 {
     let mut targets = Targets::new(alloc, table.live_endpoints())?;
@@ -74,12 +94,12 @@ pub fn forward(
     requires within { IsWithinLimits table.now }
     requires has_log { ∥ HasLog (terms_of querier.now.settings) table.now ∥₁ }
     requires size { length packet.now ≤ 65535 }
-    ensures outcome { (log : List Entry) → Holds (terms_of querier.now.settings) table.now log
-        → IfOk result (λ step. step.outcome ≡ packet_outcome
+    ensures outcome { IfOkByEachLog (terms_of querier.now.settings) table.now result (λ log step.
+        step.outcome ≡ packet_outcome
         (targets_at (terms_of querier.now.settings) log (latest log))
         (head_to_copy querier.now.settings.packet_limit packet.now)) }
-    ensures sends { (log : List Entry) → Holds (terms_of querier.now.settings) table.now log
-        → IfOk result (λ step. step.sends ≡ packet_sends
+    ensures sends { IfOkByEachLog (terms_of querier.now.settings) table.now result (λ log step.
+        step.sends ≡ packet_sends
         (targets_at (terms_of querier.now.settings) log (latest log)) packet.now
         (head_to_copy querier.now.settings.packet_limit packet.now)) }
     ensures change { IfOk result (λ step. step.change ≡ None) }

@@ -1,10 +1,10 @@
-ghost use Rattle.std.specs.Prelude.{◌≡◌, ◌≤◌, ◌∷◌, ◌++◌, [], List, length, None, true, IfOk, OnErr};
+ghost use Rattle.std.specs.Prelude.{◌≡◌, ◌≤◌, ◌∷◌, ◌++◌, [], length, None, true, IfOk, OnErr};
 ghost use Rattle.source_filter.specs.Record.{item_count};
 ghost use Rattle.endpoint_membership.specs.Log.{latest};
 ghost use Rattle.endpoint_membership.specs.Table.{Holds, IsWithinLimits, Terms, limit_passed};
-ghost use Rattle.endpoint_membership.specs.declared.change.Change.{Change as Entry};
 ghost use Rattle.endpoint_membership.specs.declared.change.Change.TheVariants.{Reported};
 ghost use Rattle.relay_machine.specs.Accepted.{with_change};
+ghost use Rattle.relay_machine.specs.Logs.{IfOkByEachLog};
 ghost use Rattle.relay_machine.specs.Updates.{limit_change, limit_outcome, report_in, update_change, update_outcome};
 
 use crate::forward::forwarded;
@@ -25,16 +25,16 @@ fn accept(
 ) -> Result<Step, AllocError>
     requires within { IsWithinLimits table.old }
     requires items { item_count records ≤ 65535 }
-    ensures outcome { (terms : Terms) (log : List Entry) → Holds terms table.old log
-        → IfOk result (λ step. step.outcome ≡ limit_outcome (limit_passed terms log source records (latest log))) }
+    ensures outcome { (terms : Terms) → IfOkByEachLog terms table.old result (λ log step.
+        step.outcome ≡ limit_outcome (limit_passed terms log source records (latest log))) }
     ensures sends { IfOk result (λ step. step.sends ≡ []) }
-    ensures change { (terms : Terms) (log : List Entry) → Holds terms table.old log
-        → IfOk result (λ step. step.change ≡ limit_change (limit_passed terms log source records (latest log))
+    ensures change { (terms : Terms) → IfOkByEachLog terms table.old result (λ log step.
+        step.change ≡ limit_change (limit_passed terms log source records (latest log))
         (Reported source records (latest log))) }
-    ensures stands { (terms : Terms) (log : List Entry) → Holds terms table.old log
-        → IfOk result (λ step. Holds terms table.new (with_change log step.change)) }
-    ensures same { (terms : Terms) (log : List Entry) → Holds terms table.old log
-        → IfOk result (λ step. step.change ≡ None → table.new ≡ table.old) }
+    ensures stands { (terms : Terms) → IfOkByEachLog terms table.old result (λ log step.
+        Holds terms table.new (with_change log step.change)) }
+    ensures same { (terms : Terms) → IfOkByEachLog terms table.old result (λ log step.
+        step.change ≡ None → table.new ≡ table.old) }
     ensures err { OnErr result (table.new ≡ table.old) }
     ensures within { IsWithinLimits table.new }
 {
@@ -55,7 +55,7 @@ fn accept(
 }
 
 // What an Update of a good MAC comes to: the report in it is judged, and then the limits.
-pub fn take_report(
+fn take_report(
     alloc: Global,
     table: &mut Table,
     source: Endpoint,
@@ -63,17 +63,17 @@ pub fn take_report(
 ) -> Result<Step, AllocError>
     requires within { IsWithinLimits table.old }
     requires size { length inner.now ≤ 65535 }
-    ensures outcome { (terms : Terms) (log : List Entry) → Holds terms table.old log
-        → IfOk result (λ step. step.outcome ≡ update_outcome true (report_in inner.now)
+    ensures outcome { (terms : Terms) → IfOkByEachLog terms table.old result (λ log step.
+        step.outcome ≡ update_outcome true (report_in inner.now)
         (λ records. limit_passed terms log source records (latest log))) }
     ensures sends { IfOk result (λ step. step.sends ≡ []) }
-    ensures change { (terms : Terms) (log : List Entry) → Holds terms table.old log
-        → IfOk result (λ step. step.change ≡ update_change true (report_in inner.now)
+    ensures change { (terms : Terms) → IfOkByEachLog terms table.old result (λ log step.
+        step.change ≡ update_change true (report_in inner.now)
         (λ records. limit_passed terms log source records (latest log)) source (latest log)) }
-    ensures stands { (terms : Terms) (log : List Entry) → Holds terms table.old log
-        → IfOk result (λ step. Holds terms table.new (with_change log step.change)) }
-    ensures same { (terms : Terms) (log : List Entry) → Holds terms table.old log
-        → IfOk result (λ step. step.change ≡ None → table.new ≡ table.old) }
+    ensures stands { (terms : Terms) → IfOkByEachLog terms table.old result (λ log step.
+        Holds terms table.new (with_change log step.change)) }
+    ensures same { (terms : Terms) → IfOkByEachLog terms table.old result (λ log step.
+        step.change ≡ None → table.new ≡ table.old) }
     ensures err { OnErr result (table.new ≡ table.old) }
     ensures within { IsWithinLimits table.new }
 {
@@ -87,4 +87,34 @@ pub fn take_report(
         Err(_) => return Err(AllocError),
     };
     accept(alloc, table, source, records)
+}
+
+// What an Update comes to: its MAC is judged first.
+pub fn take_update(
+    alloc: Global,
+    table: &mut Table,
+    source: Endpoint,
+    good: bool,
+    inner: &Bytes,
+) -> Result<Step, AllocError>
+    requires within { IsWithinLimits table.old }
+    requires size { length inner.now ≤ 65535 }
+    ensures outcome { (terms : Terms) → IfOkByEachLog terms table.old result (λ log step.
+        step.outcome ≡ update_outcome good (report_in inner.now)
+        (λ records. limit_passed terms log source records (latest log))) }
+    ensures sends { IfOk result (λ step. step.sends ≡ []) }
+    ensures change { (terms : Terms) → IfOkByEachLog terms table.old result (λ log step.
+        step.change ≡ update_change good (report_in inner.now)
+        (λ records. limit_passed terms log source records (latest log)) source (latest log)) }
+    ensures stands { (terms : Terms) → IfOkByEachLog terms table.old result (λ log step.
+        Holds terms table.new (with_change log step.change)) }
+    ensures same { (terms : Terms) → IfOkByEachLog terms table.old result (λ log step.
+        step.change ≡ None → table.new ≡ table.old) }
+    ensures err { OnErr result (table.new ≡ table.old) }
+    ensures within { IsWithinLimits table.new }
+{
+    if !good {
+        return Ok(Step::quiet(alloc, Outcome::BadMac));
+    }
+    take_report(alloc, table, source, inner)
 }

@@ -1,4 +1,4 @@
-ghost use Rattle.std.specs.Prelude.{◌≡◌, ◌↔◌, IsTrue};
+ghost use Rattle.std.specs.Prelude.{◌≡◌, ◌≤◌, ◌↔◌, IsTrue};
 ghost use Rattle.relay_machine.specs.Settings.{AreLimits, HasMldCode, HasQueryTimes, AreLawfulSettings, IsPacketLimit, IsQueryTime, default_settings, membership_interval_ms};
 
 use amt_values::Ip;
@@ -62,10 +62,10 @@ impl Settings {
     pub fn lawful(&self) -> bool
         ensures { IsTrue result ↔ AreLawfulSettings self.now }
     {
-        match self.robustness {
-            1..=7 => self.has_query_times() && are_lawful(&self.limits) && self.has_packet_limit(),
-            _ => false,
-        }
+        is_robustness(self.robustness)
+            && self.has_query_times()
+            && are_lawful(&self.limits)
+            && is_packet_limit(self.packet_limit)
     }
 
     fn has_query_times(&self) -> bool
@@ -77,12 +77,6 @@ impl Settings {
         has_mld_code(self.response_tenths * 100)
     }
 
-    fn has_packet_limit(&self) -> bool
-        ensures { IsTrue result ↔ IsPacketLimit self.now.packet_limit }
-    {
-        (20..=65000).contains(&self.packet_limit)
-    }
-
     /// How long a membership report counts, in milliseconds (RFC 3376, section 8.4).
     pub fn lifetime_ms(&self) -> u64
         ensures { result ≡ membership_interval_ms self.now }
@@ -90,6 +84,18 @@ impl Settings {
         let interval = u64::from(self.robustness) * u64::from(self.query_seconds);
         interval * 1000 + u64::from(self.response_tenths) * 100
     }
+}
+
+fn is_robustness(robustness: u8) -> bool
+    ensures { IsTrue result ↔ ((1 ≤ robustness) × (robustness ≤ 7)) }
+{
+    (1..=7).contains(&robustness)
+}
+
+fn is_packet_limit(octets: u32) -> bool
+    ensures { IsTrue result ↔ IsPacketLimit octets }
+{
+    (20..=65000).contains(&octets)
 }
 
 fn is_query_time(time: u32) -> bool

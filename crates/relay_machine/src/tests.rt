@@ -1,20 +1,18 @@
-ghost use Rattle.std.specs.Prelude.{◌≤◌, length};
+ghost use Rattle.std.specs.Prelude.{◌≤◌, IfOk, length};
+ghost use Rattle.relay_machine.specs.Conditions.{IsEvent};
 
 use super::*;
-use amt_messages::Refused;
-use amt_values::{Bytes, Ip, Moment, Peer};
-use endpoint_membership::Limits;
-use igmp_records::code_value4;
-use inner_datagrams::InnerFault;
+use amt_values::{Bytes, Endpoint, Ip, Moment, Peer};
+use endpoint_membership::{Change, LimitFault, Limits, Row};
+use inner_datagrams::{HeadFault, InnerFault};
 use response_mac::Secret;
+use source_filter::Mode;
 use std::alloc::{AllocError, Global};
 use std::process::Abort;
 use std::test::Fail;
 
-// 192.0.2.1 and 198.51.100.7.
-const RELAY: u32 = 0xc000_0201;
-
-const GATEWAY: Ip = Ip::V4(0xc633_6407);
+// 198.51.100.7.
+const GATEWAY: u32 = 0xc633_6407;
 
 const DISCOVERY: &[u8] = b"\x01\x00\x00\x00\x01\x02\x03\x04";
 
@@ -23,217 +21,315 @@ const REQUEST: &[u8] = b"\x03\x00\x00\x00\x0a\x0b\x0c\x0d";
 
 const REQUEST6: &[u8] = b"\x03\x01\x00\x00\x0a\x0b\x0c\x0d";
 
-// The datagrams of the General Queries, from 192.0.2.1 and from fe80::1.
-const GENERAL_QUERY: &[u8] =
-    b"\x46\xc0\x00\x24\x00\x00\x00\x00\x01\x02\x82\x11\xc0\x00\x02\x01\xe0\x00\x00\x01\x94\x04\x00\x00\x11\x64\xec\x1e\x00\x00\x00\x00\x02\x7d\x00\x00";
+// Updates of the gateway at port 5000, with the MAC of the nonce 0a0b0c0d under 32 zero octets, which
+// was computed with another implementation, Python's hmac module. This one has no inner datagram.
+const EMPTY: &[u8] = b"\x05\x00\x4d\xb7\x58\xa1\x75\x55\x0a\x0b\x0c\x0d";
 
-const GENERAL_QUERY6: &[u8] =
-    b"\x60\x00\x00\x00\x00\x24\x00\x01\xfe\x80\x00\x00\x00\x00\x00\x00\x00\x00\x00\x00\x00\x00\x00\x01\xff\x02\x00\x00\x00\x00\x00\x00\x00\x00\x00\x00\x00\x00\x00\x01\x3a\x00\x05\x02\x00\x00\x01\x00\x82\x00\x56\x96\x27\x10\x00\x00\x00\x00\x00\x00\x00\x00\x00\x00\x00\x00\x00\x00\x00\x00\x00\x00\x02\x7d\x00\x00";
+// 239.1.1.1 is wanted from every source.
+const ONE_GROUP: &[u8] =
+    b"\x05\x00\x4d\xb7\x58\xa1\x75\x55\x0a\x0b\x0c\x0d\x46\xc0\x00\x28\x00\x00\x00\x00\x01\x02\x39\xf8\x0a\x00\x00\x02\xe0\x00\x00\x16\x94\x04\x00\x00\x22\x00\xeb\xfb\x00\x00\x00\x01\x02\x00\x00\x00\xef\x01\x01\x01";
 
-fn relay(rt: &impl Abort, alloc: Global, address: Ip) -> Result<Relay, AllocError> {
-    let mut settings = Settings::of_relay(address);
-    settings.query4 = RELAY;
+// The same of port 5001.
+const OF_ANOTHER: &[u8] =
+    b"\x05\x00\xc9\x2b\x03\x8a\x5c\x0a\x0a\x0b\x0c\x0d\x46\xc0\x00\x28\x00\x00\x00\x00\x01\x02\x39\xf8\x0a\x00\x00\x02\xe0\x00\x00\x16\x94\x04\x00\x00\x22\x00\xeb\xfb\x00\x00\x00\x01\x02\x00\x00\x00\xef\x01\x01\x01";
+
+// Two records: 232.1.1.1 is wanted from every source, and of 224.0.0.251 nothing is.
+const TWO_RECORDS: &[u8] =
+    b"\x05\x00\x4d\xb7\x58\xa1\x75\x55\x0a\x0b\x0c\x0d\x46\xc0\x00\x30\x00\x00\x00\x00\x01\x02\x39\xf0\x0a\x00\x00\x02\xe0\x00\x00\x16\x94\x04\x00\x00\x22\x00\x10\xff\x00\x00\x00\x02\x02\x00\x00\x00\xe8\x01\x01\x01\x01\x00\x00\x00\xe0\x00\x00\xfb";
+
+// By MLD from fe80::2, 2001:db8::9 is wanted of ff3e::1.
+const ONE_SOURCE6: &[u8] =
+    b"\x05\x00\x4d\xb7\x58\xa1\x75\x55\x0a\x0b\x0c\x0d\x60\x00\x00\x00\x00\x34\x00\x01\xfe\x80\x00\x00\x00\x00\x00\x00\x00\x00\x00\x00\x00\x00\x00\x02\xff\x02\x00\x00\x00\x00\x00\x00\x00\x00\x00\x00\x00\x00\x00\x16\x3a\x00\x05\x02\x00\x00\x01\x00\x8f\x00\x44\xf9\x00\x00\x00\x01\x01\x00\x00\x01\xff\x3e\x00\x00\x00\x00\x00\x00\x00\x00\x00\x00\x00\x00\x00\x01\x20\x01\x0d\xb8\x00\x00\x00\x00\x00\x00\x00\x00\x00\x00\x00\x09";
+
+// A Teardown of the gateway at port 5000, and one with another MAC.
+const TEARDOWN: &[u8] =
+    b"\x07\x00\x4d\xb7\x58\xa1\x75\x55\x0a\x0b\x0c\x0d\x13\x88\x00\x00\x00\x00\x00\x00\x00\x00\x00\x00\x00\x00\xc6\x33\x64\x07";
+
+const BAD_TEARDOWN: &[u8] =
+    b"\x07\x00\x4d\xb7\x58\xa1\x75\x56\x0a\x0b\x0c\x0d\x13\x88\x00\x00\x00\x00\x00\x00\x00\x00\x00\x00\x00\x00\xc6\x33\x64\x07";
+
+// From 2001:db8::9 to ff3e::1, with nothing behind the header.
+const PACKET: &[u8] =
+    b"\x60\x00\x00\x00\x00\x00\x3b\x04\x20\x01\x0d\xb8\x00\x00\x00\x00\x00\x00\x00\x00\x00\x00\x00\x09\xff\x3e\x00\x00\x00\x00\x00\x00\x00\x00\x00\x00\x00\x00\x00\x01";
+
+// ff3e::1 and 2001:db8::9.
+const GROUP6: Ip = Ip::V6(0xff3e_0000_0000_0000_0000_0000_0000_0001);
+
+const SOURCE6: Ip = Ip::V6(0x2001_0db8_0000_0000_0000_0000_0000_0009);
+
+// What happens; a datagram comes from the gateway, at this port.
+#[derive(Clone, Copy)]
+enum Given {
+    Told(u64),
+    Datagram(u16, &'static [u8]),
+    Packet(&'static [u8]),
+    Drawn(u8),
+}
+
+// An entry that is handed out, with its endpoint's address and port, the number of its records, and its
+// moment.
+#[derive(Clone, Copy, Debug, PartialEq, Eq)]
+enum Entry {
+    None,
+    Reported(u128, u16, usize, u64),
+    Clear(u128, u16, u64),
+    Mark(u64),
+}
+
+// What is given, what it comes to, how many datagrams are sent, and the entry.
+type Wanted = (Given, Outcome, usize, Entry);
+
+// At moment 1000, where the limits are one endpoint, two groups and one source.
+const JOINING: [Wanted; 6] = [
+    (Given::Drawn(0), Outcome::Rotated, 0, Entry::None),
+    (
+        Given::Datagram(5000, DISCOVERY),
+        Outcome::Advertised,
+        1,
+        Entry::None,
+    ),
+    (
+        Given::Datagram(5000, REQUEST),
+        Outcome::Queried {
+            v6: false,
+            limited: false,
+        },
+        1,
+        Entry::None,
+    ),
+    (
+        Given::Datagram(5000, EMPTY),
+        Outcome::Unlawful(Unlawful::Inner(InnerFault::ShortHeader(20, 0))),
+        0,
+        Entry::None,
+    ),
+    (
+        Given::Datagram(5000, TWO_RECORDS),
+        Outcome::Updated,
+        0,
+        Entry::Reported(0xc633_6407, 5000, 1, 1000),
+    ),
+    (
+        Given::Datagram(5000, ONE_SOURCE6),
+        Outcome::Updated,
+        0,
+        Entry::Reported(0xc633_6407, 5000, 1, 1000),
+    ),
+];
+
+// Then two groups stand at the gateway's port 5000.
+const LEAVING: [Wanted; 9] = [
+    (
+        Given::Datagram(5000, ONE_GROUP),
+        Outcome::Over(LimitFault::Groups(3)),
+        0,
+        Entry::None,
+    ),
+    (
+        Given::Datagram(5001, ONE_GROUP),
+        Outcome::BadMac,
+        0,
+        Entry::None,
+    ),
+    (
+        Given::Datagram(5001, OF_ANOTHER),
+        Outcome::Over(LimitFault::Endpoints(2)),
+        0,
+        Entry::None,
+    ),
+    (
+        Given::Datagram(5001, REQUEST6),
+        Outcome::Queried {
+            v6: true,
+            limited: true,
+        },
+        1,
+        Entry::None,
+    ),
+    (Given::Packet(PACKET), Outcome::Copied(1), 1, Entry::None),
+    (
+        Given::Packet(b""),
+        Outcome::NotForwarded(NotForwarded::Head(HeadFault::ShortHeader(20, 0))),
+        0,
+        Entry::None,
+    ),
+    (
+        Given::Datagram(6000, BAD_TEARDOWN),
+        Outcome::BadMac,
+        0,
+        Entry::None,
+    ),
+    (
+        Given::Datagram(6000, TEARDOWN),
+        Outcome::TornDown,
+        0,
+        Entry::Clear(0xc633_6407, 5000, 1000),
+    ),
+    (
+        Given::Datagram(6000, TEARDOWN),
+        Outcome::NoTunnel,
+        0,
+        Entry::None,
+    ),
+];
+
+fn relay(rt: &impl Abort, alloc: Global) -> Result<Relay, AllocError> {
+    let mut settings = Settings::of_relay(Ip::V4(0xc000_0201));
+    settings.limits = Limits {
+        endpoints: 1,
+        groups: 2,
+        sources: 1,
+    };
     assert!(rt; settings.lawful());
     Relay::new(alloc, settings, Secret([0; 32]))
 }
 
-fn datagram(alloc: Global, relay: &mut Relay, from: Ip, octets: &[u8]) -> Result<Step, AllocError>
-    requires { length octets.now ≤ 65535 }
+fn payload(rt: &impl Abort, alloc: Global, octets: &[u8]) -> Result<Bytes, AllocError>
+    ensures { IfOk result (λ bytes. length bytes ≤ 65535) }
 {
-    let from = Peer {
-        ip: from,
-        port: 5000,
-    };
-    let bytes = Bytes::copied(alloc, octets)?;
-    relay.step(alloc, &Event::Datagram { from, bytes })
+    assert!(rt; octets.len() <= 65535);
+    Bytes::copied(alloc, octets)
 }
 
-fn assert_sent(rt: &impl Abort, step: &Step, octets: &[u8]) {
-    let gateway = Peer {
-        ip: GATEWAY,
-        port: 5000,
-    };
-    assert_eq!(rt; step.sends.len(), 1);
-    for send in step.sends.as_slice() {
-        assert_eq!(rt; send.to.peer(), gateway);
-        assert_eq!(rt; send.bytes.as_slice(), octets);
-    }
-}
-
-// The Query to 198.51.100.7:5000 with this MAC and this datagram, for the nonce 0a0b0c0d.
-fn query(alloc: Global, mac: &[u8; 6], inner: &[u8]) -> Result<Bytes, AllocError> {
-    let mut bytes = Bytes::copied(alloc, b"\x04\x01")?;
-    bytes.append(mac)?;
-    bytes.append(b"\x0a\x0b\x0c\x0d")?;
-    bytes.append(inner)?;
-    bytes.append(b"\x13\x88")?;
-    bytes.append(b"\x00\x00\x00\x00\x00\x00\x00\x00\x00\x00\x00\x00\xc6\x33\x64\x07")?;
-    Ok(bytes)
-}
-
-#[test]
-fn a_discovery_is_answered_with_the_relays_address(rt: HostRuntime) -> Result<(), Fail> {
-    let address = Ip::V6(0x2001_0db8_0000_0000_0000_0000_0000_0001);
-    let mut relay = relay(&rt, rt.alloc(), address)?;
-    let step = datagram(rt.alloc(), &mut relay, GATEWAY, DISCOVERY)?;
-    assert_eq!(rt; step.outcome, Outcome::Advertised);
-    let advertisement =
-        b"\x02\x00\x00\x00\x01\x02\x03\x04\x20\x01\x0d\xb8\x00\x00\x00\x00\x00\x00\x00\x00\x00\x00\x00\x01";
-    assert_sent(&rt, &step, advertisement);
-    Ok(())
-}
-
-// The MACs were computed with another implementation, Python's hmac module.
-#[test]
-fn a_request_is_answered_with_a_query_under_the_current_secret(
-    rt: HostRuntime,
-) -> Result<(), Fail> {
-    let mut relay = relay(&rt, rt.alloc(), Ip::V4(RELAY))?;
-    let rows: [(Option<Secret>, &[u8; 6]); 2] = [
-        (None, b"\x4d\xb7\x58\xa1\x75\x55"),
-        (Some(Secret([1; 32])), b"\xbf\x8a\xb1\xca\x09\xd1"),
-    ];
-    for (secret, mac) in rows {
-        if let Some(secret) = secret {
-            let step = relay.step(rt.alloc(), &Event::Rotate(secret))?;
-            assert_eq!(rt; step.outcome, Outcome::Rotated);
-            assert_eq!(rt; step.sends.len(), 0);
+fn event_of(rt: &impl Abort, alloc: Global, given: Given) -> Result<Event, AllocError>
+    ensures { IfOk result IsEvent }
+{
+    match given {
+        Given::Told(ms) => Ok(Event::Moment(Moment::new(ms).expect(rt, "a moment"))),
+        Given::Drawn(octet) => Ok(Event::Rotate(Secret([octet; 32]))),
+        Given::Packet(octets) => {
+            let bytes = payload(rt, alloc, octets)?;
+            Ok(Event::Packet { bytes })
         }
-        for (request, v6, inner) in [
-            (REQUEST, false, GENERAL_QUERY),
-            (REQUEST6, true, GENERAL_QUERY6),
-        ] {
-            let step = datagram(rt.alloc(), &mut relay, GATEWAY, request)?;
-            let limited = false;
-            assert_eq!(rt; step.outcome, Outcome::Queried { v6, limited });
-            assert_sent(&rt, &step, query(rt.alloc(), mac, inner)?.as_slice());
+        Given::Datagram(port, octets) => {
+            let ip = Ip::V4(GATEWAY);
+            let from = Peer { ip, port };
+            let bytes = payload(rt, alloc, octets)?;
+            Ok(Event::Datagram { from, bytes })
         }
     }
+}
+
+fn step_of(
+    rt: &impl Abort,
+    alloc: Global,
+    relay: &mut Relay,
+    given: Given,
+) -> Result<Step, AllocError> {
+    let event = event_of(rt, alloc, given)?;
+    relay.step(alloc, &event)
+}
+
+fn entry_of(change: &Option<Change>) -> Entry {
+    match change {
+        None => Entry::None,
+        Some(Change::Mark { at }) => Entry::Mark(at.ms()),
+        Some(Change::Clear { endpoint, at }) => {
+            Entry::Clear(endpoint.address(), endpoint.port(), at.ms())
+        }
+        Some(
+            Change::Reported {
+                endpoint,
+                records,
+                at,
+            },
+        ) => Entry::Reported(endpoint.address(), endpoint.port(), records.len(), at.ms()),
+    }
+}
+
+fn is_step(rt: &impl Abort, step: &Step, wanted: &Wanted) {
+    let (_, outcome, sends, handed_out) = wanted;
+    assert_eq!(rt; step.outcome, *outcome);
+    assert!(rt;
+        step.sends.len() == *sends && entry_of(&step.change) == *handed_out,
+        "{outcome:?}"
+    );
+}
+
+fn gives(
+    rt: &impl Abort,
+    alloc: Global,
+    relay: &mut Relay,
+    wanted: &Wanted,
+) -> Result<(), AllocError> {
+    let (given, _, _, _) = wanted;
+    let step = step_of(rt, alloc, relay, *given)?;
+    is_step(rt, &step, wanted);
+    Ok(())
+}
+
+// At this time; an earlier one changes nothing.
+fn is_told(
+    rt: &impl Abort,
+    alloc: Global,
+    relay: &mut Relay,
+    told: u64,
+    ms: u64,
+) -> Result<(), AllocError> {
+    let now = Moment::new(ms).expect(rt, "a moment");
+    gives(
+        rt,
+        alloc,
+        relay,
+        &(Given::Told(told), Outcome::Moved(now), 0, Entry::Mark(ms)),
+    )?;
+    assert_eq!(rt; relay.now(), now);
+    Ok(())
+}
+
+fn is_row(rt: &impl Abort, row: &Row, group: Ip, mode: Mode, sources: &[Ip]) {
+    assert!(rt;
+        row.endpoint.peer()
+            == Peer {
+                ip: Ip::V4(GATEWAY),
+                port: 5000
+            },
+        "{group:?}"
+    );
+    assert!(rt;
+        row.group == group && row.filter.mode() == mode,
+        "{group:?}"
+    );
+    assert_eq!(rt; row.filter.sources(), sources, "{group:?}");
+}
+
+fn are_rows(rt: &impl Abort, rows: &[Row]) {
+    match rows {
+        [first, second] => {
+            is_row(rt, first, Ip::V4(0xe801_0101), Mode::Exclude, &[]);
+            is_row(rt, second, GROUP6, Mode::Include, &[SOURCE6]);
+        }
+        _ => assert!(rt; false, "two rows"),
+    }
+}
+
+fn stands(rt: &impl Abort, alloc: Global, relay: &Relay) -> Result<(), AllocError> {
+    let rows = relay.rows(alloc)?;
+    are_rows(rt, rows.as_slice());
+    Ok(())
+}
+
+fn goes_through(
+    rt: &impl Abort,
+    alloc: Global,
+    relay: &mut Relay,
+    rows: &[Wanted],
+) -> Result<(), AllocError> {
+    for wanted in rows {
+        gives(rt, alloc, relay, wanted)?;
+    }
     Ok(())
 }
 
 #[test]
-fn every_other_datagram_is_not_answered(rt: HostRuntime) -> Result<(), Fail> {
-    let rows: [(Ip, &[u8], Outcome); 9] = [
-        (Ip::V6(1), DISCOVERY, Outcome::BadSource),
-        (Ip::V6(0xffff_c633_6407), b"", Outcome::BadSource),
-        (GATEWAY, b"", Outcome::Undecoded(Refused::Empty)),
-        (GATEWAY, b"\x06", Outcome::Undecoded(Refused::Short(2, 1))),
-        (GATEWAY, b"\x06\x00", Outcome::WrongKind(6)),
-        (
-            GATEWAY,
-            b"\x02\x00\x00\x00\x01\x02\x03\x04\xc0\x00\x02\x01",
-            Outcome::WrongKind(2),
-        ),
-        (
-            GATEWAY,
-            b"\x04\x00\x4d\xb7\x58\xa1\x75\x55\x0a\x0b\x0c\x0d\x45\x00\x00\x14\x00\x00\x00\x00\x01\x02\x00\x00\x00\x00\x00\x00\x00\x00\x00\x00",
-            Outcome::WrongKind(4),
-        ),
-        (
-            GATEWAY,
-            b"\x05\x00\x4d\xb7\x58\xa1\x75\x55\x0a\x0b\x0c\x0d",
-            Outcome::Unlawful(Unlawful::Inner(InnerFault::ShortHeader(20, 0))),
-        ),
-        (
-            GATEWAY,
-            b"\x05\x00\x4d\xb7\x58\xa1\x75\x56\x0a\x0b\x0c\x0d",
-            Outcome::BadMac,
-        ),
-    ];
-    let mut relay = relay(&rt, rt.alloc(), Ip::V4(RELAY))?;
-    for (from, octets, outcome) in rows {
-        assert!(rt; octets.len() <= 65535);
-        let step = datagram(rt.alloc(), &mut relay, from, octets)?;
-        assert_eq!(rt; step.outcome, outcome);
-        assert_eq!(rt; step.sends.len(), 0);
+fn each_event_has_its_outcome_and_its_entry(rt: HostRuntime) -> Result<(), Fail> {
+    let mut relay = relay(&rt, rt.alloc())?;
+    for (told, ms) in [(1000, 1000), (500, 1000)] {
+        is_told(&rt, rt.alloc(), &mut relay, told, ms)?;
     }
+    goes_through(&rt, rt.alloc(), &mut relay, &JOINING)?;
+    assert_eq!(rt; relay.live_endpoints(), 1);
+    stands(&rt, rt.alloc(), &relay)?;
+    goes_through(&rt, rt.alloc(), &mut relay, &LEAVING)?;
     Ok(())
-}
-
-#[test]
-fn time_never_goes_back(rt: HostRuntime) -> Result<(), Fail> {
-    let mut relay = relay(&rt, rt.alloc(), Ip::V4(RELAY))?;
-    assert_eq!(rt; relay.now().ms(), 0);
-    let last = Moment::new(1000).ok_or("a moment")?;
-    for told in [1000, 500] {
-        let moment = Moment::new(told).ok_or("a moment")?;
-        let step = relay.step(rt.alloc(), &Event::Moment(moment))?;
-        assert_eq!(rt; step.outcome, Outcome::Moved(last), "told {told}");
-        assert_eq!(rt; step.sends.len(), 0);
-        assert_eq!(rt; relay.now(), last);
-    }
-    Ok(())
-}
-
-#[test]
-fn lawful_settings_are_those_that_a_query_can_carry(rt: HostRuntime) {
-    let rows = [
-        (2, 125, 100, true),
-        (1, 1, 1, true),
-        (7, 31744, 31744, true),
-        (2, 128, 100, true),
-        (0, 125, 100, false),
-        (8, 125, 100, false),
-        (2, 0, 100, false),
-        (2, 129, 100, false),
-        (2, 31745, 100, false),
-        (2, 125, 0, false),
-        (2, 125, 129, false),
-    ];
-    for (robustness, query_seconds, response_tenths, lawful) in rows {
-        let mut settings = Settings::of_relay(GATEWAY);
-        settings.robustness = robustness;
-        settings.query_seconds = query_seconds;
-        settings.response_tenths = response_tenths;
-        assert_eq!(rt;
-            settings.lawful(),
-            lawful,
-            "{robustness}, {query_seconds} s, {response_tenths}"
-        );
-    }
-}
-
-// So the code of MLD, which is asked for too, refuses no response time.
-#[test]
-fn each_response_time_of_igmp_has_a_code_in_mld(rt: HostRuntime) {
-    for code in 1..=255 {
-        let mut settings = Settings::of_relay(GATEWAY);
-        settings.response_tenths = code_value4(code);
-        assert!(rt; settings.lawful(), "the code {code}");
-    }
-}
-
-#[test]
-fn a_report_counts_for_260_seconds_by_default(rt: HostRuntime) {
-    assert_eq!(rt; Settings::of_relay(GATEWAY).lifetime_ms(), 260_000);
-}
-
-#[test]
-fn lawful_limits_leave_room_for_16777216_sources(rt: HostRuntime) {
-    let rows = [
-        (1024, 64, 64, true),
-        (65536, 256, 1, true),
-        (65536, 4, 64, true),
-        (65536, 5, 64, false),
-        (0, 64, 64, false),
-        (65537, 1, 1, false),
-        (1, 0, 64, false),
-        (1, 257, 1, false),
-        (1, 1, 0, false),
-        (1, 1, 65, false),
-    ];
-    for (endpoints, groups, sources, lawful) in rows {
-        let mut settings = Settings::of_relay(GATEWAY);
-        settings.limits = Limits {
-            endpoints,
-            groups,
-            sources,
-        };
-        assert_eq!(rt;
-            settings.lawful(),
-            lawful,
-            "{endpoints}, {groups}, {sources}"
-        );
-    }
 }

@@ -1,6 +1,6 @@
 use Rattle.std.proofs.Common.{ℕ, nat_le, ap}
 use Rattle.relay_machine.specs.Settings.{terms_of}
-use Rattle.relay_machine.proofs.datagram.is_limited.Goals as goal
+use Rattle.relay_machine.proofs.reply.is_limited.Goals as goal
 
 pub returns : goal.returns
 returns c log holds =
