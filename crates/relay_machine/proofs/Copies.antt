@@ -1,5 +1,5 @@
 -- To whom a packet goes.
-use Rattle.std.proofs.Common.{◌≡◌, ℕ, ◌↔◌, Bool, true, false, List, [], ◌∷◌, length, nat_lt, Result, Ok, refl, sym, ap, subst, ◌∙◌, arith}
+use Rattle.std.proofs.Common.{◌≡◌, ℕ, ◌↔◌, Bool, true, false, List, [], ◌∷◌, length, nat_lt, Result, Ok, Err, refl, sym, ap, subst, ◌∙◌, arith, suc}
 use Rattle.std.specs.List.{Contains}
 use Rattle.std.specs.Result.{IfOk}
 use Rattle.std.proofs.lemmas.Result.{IfOk-weaker}
@@ -29,7 +29,7 @@ use Rattle.relay_machine.specs.declared.sends.OneSend.{OneSend}
 use Rattle.relay_machine.specs.declared.sends.Step.{Step}
 use Rattle.relay_machine.specs.declared.settings.Settings.{Settings}
 use Rattle.relay_machine.specs.Accepted.{accepted}
-use Rattle.relay_machine.specs.Answers.{RelayAt, StandsFor, sends_of, settings_of}
+use Rattle.relay_machine.specs.Answers.{RelayAt, StandsFor, outcome_of, sends_of, settings_of}
 use Rattle.relay_machine.specs.Events.{now_of}
 use Rattle.relay_machine.specs.Packets.{AreCopies, IsToCopy, copies, head_to_copy, packet_outcome, packet_sends, receivers, targets_after, targets_at, wants_after}
 use Rattle.relay_machine.specs.Settings.{membership_interval_ms, terms_of}
@@ -89,7 +89,7 @@ head_to_copy-ok limit head packet to_copy =
     rw (short, found, to_copy.scope) refl
 
 -- the sends after a packet that is copied
-pub AreCopies-sends : (settings : Settings) (first : Secret) (events : List Event) (packet : List ℕ) (head : Head) → IsToCopy settings.packet_limit head packet
+AreCopies-sends : (settings : Settings) (first : Secret) (events : List Event) (packet : List ℕ) (head : Head) → IsToCopy settings.packet_limit head packet
     → AreCopies (wants_after settings first events head) packet (sends_of settings first events (Packet packet))
 AreCopies-sends settings first events packet head to_copy =
     let lifetime = membership_interval_ms settings in
@@ -114,13 +114,46 @@ packet_sends-after relay settings first events packet answer at sends =
     (λ step is. is ∙ (ap (λ (known : Settings). sent known (latest log)) at.settings_kept ∙ ap (λ (moment : ℕ). sent settings moment) (latest-accepted relay settings first events at)))
     (sends log holds)
 
+-- what a relay answers to a packet by its own log is what it answers by the events
+pub packet_outcome-after : {E : Type 0} (relay : Relay) (settings : Settings) (first : Secret) (events : List Event) (packet : List ℕ) (answer : Result Step E)
+    → RelayAt relay settings first events
+    → ((log : List Change) → StandsFor relay log
+    → IfOk answer (λ step. step.outcome ≡ packet_outcome (targets_at (terms_of (settings_of relay)) log (latest log)) (head_to_copy (settings_of relay).packet_limit packet)))
+    → IfOk answer (λ step. step.outcome ≡ outcome_of settings first events (Packet packet))
+packet_outcome-after relay settings first events packet answer at told =
+    let log = accepted settings first events in
+    let holds = subst (λ (known : Settings). Holds (terms_of known) relay.table log) (sym at.settings_kept) at.table in
+    let by : Settings → ℕ → Outcome = λ known moment. packet_outcome (targets_at (terms_of known) log moment) (head_to_copy known.packet_limit packet) in
+    IfOk-weaker answer _ _
+    (λ step is. is ∙ (ap (λ (known : Settings). by known (latest log)) at.settings_kept ∙ ap (λ (moment : ℕ). by settings moment) (latest-accepted relay settings first events at)))
+    (told log holds)
+
+length-copies : (targets : List Tunnel) (packet : List ℕ) → length (copies targets packet) ≡ length targets
+length-copies [] packet = refl
+length-copies (endpoint ∷ later) packet = ap (λ (n : ℕ). suc n) (length-copies later packet)
+
+-- a packet to copy comes to Copied of as many as are sent
+copied-sends : (settings : Settings) (first : Secret) (events : List Event) (packet : List ℕ) (head : Head) → IsToCopy settings.packet_limit head packet
+    → outcome_of settings first events (Packet packet) ≡ Copied (length (sends_of settings first events (Packet packet)))
+copied-sends settings first events packet head to_copy =
+    let targets = targets_after settings first events in
+    let found = head_to_copy-ok settings.packet_limit head packet to_copy in
+    subst (λ (read : Result Head Outcome). packet_outcome targets read ≡ Copied (length (packet_sends targets packet read))) (sym found)
+    (ap (λ (n : ℕ). Copied n) (sym (length-copies (targets head) packet)))
+
 -- by what is answered to a packet: the copies of it
 pub AreCopies-answered : {E : Type 0} (relay : Relay) (settings : Settings) (first : Secret) (events : List Event) (packet : List ℕ) (head : Head) (answer : Result Step E)
     → RelayAt relay settings first events
     → ((log : List Change) → StandsFor relay log
+    → IfOk answer (λ step. step.outcome ≡ packet_outcome (targets_at (terms_of (settings_of relay)) log (latest log)) (head_to_copy (settings_of relay).packet_limit packet)))
+    → ((log : List Change) → StandsFor relay log
     → IfOk answer (λ step. step.sends ≡ packet_sends (targets_at (terms_of (settings_of relay)) log (latest log)) packet (head_to_copy (settings_of relay).packet_limit packet)))
-    → IsToCopy settings.packet_limit head packet → IfOk answer (λ step. AreCopies (wants_after settings first events head) packet step.sends)
-AreCopies-answered relay settings first events packet head answer at sends to_copy =
-    IfOk-weaker answer _ _
-    (λ step is. subst (AreCopies (wants_after settings first events head) packet) (sym is) (AreCopies-sends settings first events packet head to_copy))
-    (packet_sends-after relay settings first events packet answer at sends)
+    → IsToCopy settings.packet_limit head packet
+    → IfOk answer (λ step. AreCopies (wants_after settings first events head) packet step.sends × (step.outcome ≡ Copied (length step.sends)))
+AreCopies-answered {E} relay settings first events packet head (Err fault) at outcome sends to_copy = tt
+AreCopies-answered {E} relay settings first events packet head (Ok step) at outcome sends to_copy =
+    let sent = packet_sends-after {E = E} relay settings first events packet (Ok step) at sends in
+    let came = packet_outcome-after {E = E} relay settings first events packet (Ok step) at outcome in (
+      subst (AreCopies (wants_after settings first events head) packet) (sym sent) (AreCopies-sends settings first events packet head to_copy),
+      came ∙ (copied-sends settings first events packet head to_copy ∙ ap (λ (all : List OneSend). Copied (length all)) (sym sent)),
+    )

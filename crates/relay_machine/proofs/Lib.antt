@@ -1,5 +1,8 @@
+pub mod Acceptance
 pub mod Copies
+pub mod Goodness
 pub mod HandedOut
+pub mod Lawful
 pub mod Limits
 pub mod Onward
 pub mod QuerySizes

@@ -69,7 +69,7 @@ row_unconcerned lifetime moment entry log rows after place before behind none =
     ∙ (standing-other lifetime moment entry (reverse log) place none ∙ sym (before.each place))
 
 -- by a report that passes no limit
-within-report : (terms : Terms) (log : List Change) (source : Tunnel) (records : List Record) (at : ℕ) → limit_passed terms log source records at ≡ None
+pub within-report : (terms : Terms) (log : List Change) (source : Tunnel) (records : List Record) (at : ℕ) → limit_passed terms log source records at ≡ None
     → IsLogWithin terms log → IsLogWithin terms (log ++ Reported source records at ∷ [])
 within-report terms log source records at none within =
     let entry = Reported source records at in

@@ -1,7 +1,7 @@
 -- Where one more event leaves a relay.
 use Rattle.std.proofs.Common.{◌≡◌, ℕ, max, Bool, true, false, List, [], ◌∷◌, ◌++◌, Option, Some, None, Result, Ok, Err, refl, sym, ap, subst, ◌∙◌, arith}
 use mathlib.Core.HLevel.{is_prop→PathP}
-use Rattle.std.proofs.Math.Logic.{∥∥₁_map, ∥∥₁_prop}
+use Rattle.std.proofs.Math.Logic.{∥∥₁_elim, ∥∥₁_map, ∥∥₁_prop}
 use Rattle.std.proofs.Props.{props}
 use Rattle.std.proofs.lemmas.List.{append-nil, reverse-append, reverse-reverse}
 use Rattle.std.proofs.lemmas.List.Elements.{filter_map-append}
@@ -19,12 +19,14 @@ use Rattle.response_mac.specs.declared.secret.Secret.{Secret}
 use Rattle.response_mac.specs.declared.secrets.Secrets.{Secrets}
 use Rattle.response_mac.specs.ResponseMac.{is_good, secrets_after}
 use Rattle.source_filter.specs.declared.record.Record.{Record}
-use Rattle.endpoint_membership.specs.Limits.{IsWithin}
+use Rattle.endpoint_membership.specs.Limits.{AreFew, IsWithin}
 use Rattle.endpoint_membership.specs.Log.{latest}
 use Rattle.endpoint_membership.specs.Table.{Holds, IsWithinLimits, TableValue, Terms, limit_passed, standing_now}
 use Rattle.endpoint_membership.specs.declared.change.Change.{Change}
 use Rattle.endpoint_membership.specs.declared.change.Change.TheVariants.{Mark, Clear, Reported}
 use Rattle.endpoint_membership.specs.declared.limits.LimitFault.{LimitFault}
+use Rattle.endpoint_membership.specs.declared.limits.Limits.{Limits}
+use Rattle.endpoint_membership.specs.declared.row.Row.{Row}
 use Rattle.endpoint_membership.proofs.Held.{IsWithin-log, latest-push}
 use Rattle.relay_machine.specs.declared.event.Event.{Event}
 use Rattle.relay_machine.specs.declared.event.Event.TheVariants.{Moment, Datagram, Packet, Rotate}
@@ -32,8 +34,8 @@ use Rattle.relay_machine.specs.declared.outcome.Unlawful.{Unlawful}
 use Rattle.relay_machine.specs.declared.relay.Relay.{Relay}
 use Rattle.relay_machine.specs.declared.sends.Step.{Step}
 use Rattle.relay_machine.specs.declared.settings.Settings.{Settings}
-use Rattle.relay_machine.specs.Accepted.{accepted, accepted_back, datagram_entry, entry_after, entry_of, with_change}
-use Rattle.relay_machine.specs.Answers.{RelayAt, StandsFor, moment_of, settings_of}
+use Rattle.relay_machine.specs.Accepted.{accepted, accepted_back, change_of, datagram_entry, entry_after, entry_of, handed_out, with_change}
+use Rattle.relay_machine.specs.Answers.{RelayAt, StandsFor, judged, moment_of, outcome_of, settings_of}
 use Rattle.relay_machine.specs.Events.{moment_in, now_of, secret_in, secrets_of}
 use Rattle.relay_machine.specs.Settings.{terms_of}
 use Rattle.relay_machine.specs.State.{HasLog}
@@ -83,6 +85,11 @@ pub StandsFor-accepted : (relay : Relay) (settings : Settings) (first : Secret) 
     → StandsFor relay (accepted settings first events)
 StandsFor-accepted relay settings first events at =
     subst (λ (known : Settings). Holds (terms_of known) relay.table (accepted settings first events)) (sym at.settings_kept) at.table
+
+-- the limits of a relay's table are those of its settings
+pub AreFew-settings : (relay : Relay) (rows : List Row) → AreFew relay.table.limits rows → AreFew (settings_of relay).limits rows
+AreFew-settings relay rows few =
+    ∥∥₁_elim relay.has_log (hlevel props) (λ found. subst (λ (limits : Limits). AreFew limits rows) found.1.limits few)
 
 within_prop : (table : TableValue) → IsProp (IsWithinLimits table)
 within_prop table = hlevel props
@@ -191,6 +198,32 @@ RelayAt-answered relay after settings first events from bytes (Ok step) at same_
     let holds = subst (λ (known : Settings). Holds (terms_of known) relay.table log) (sym at.settings_kept) at.table in
     RelayAt-datagram relay after settings first events from bytes at same_settings same_secrets
     (subst (held settings) at.secrets (subst (λ (known : Settings). held known relay.secrets) at.settings_kept (stands log holds)))
+
+-- what is answered to a datagram by the table's own log is what is answered to it by the events
+pub outcome-answered : {E : Type 0} (relay : Relay) (settings : Settings) (first : Secret) (events : List Event) (from : Peer) (bytes : List ℕ) (answer : Result Step E)
+    → RelayAt relay settings first events
+    → ((log : List Change) → StandsFor relay log
+    → IfOk answer (λ step. step.outcome ≡ judged (terms_of (settings_of relay)) relay.secrets (latest log) log (endpoint_of from) (message_of bytes)))
+    → IfOk answer (λ step. step.outcome ≡ outcome_of settings first events (Datagram from bytes))
+outcome-answered relay settings first events from bytes answer at told =
+    let log = accepted settings first events in
+    let by : Settings → Secrets → ℕ → Type 0 = λ known secrets moment. IfOk answer (λ step. step.outcome ≡ judged (terms_of known) secrets moment log (endpoint_of from) (message_of bytes)) in
+    subst (by settings (secrets_of first events)) (latest-accepted relay settings first events at)
+    (subst (λ (secrets : Secrets). by settings secrets (latest log)) at.secrets
+    (subst (λ (known : Settings). by known relay.secrets (latest log)) at.settings_kept (told log (StandsFor-accepted relay settings first events at))))
+
+pub change-answered : {E : Type 0} (relay : Relay) (settings : Settings) (first : Secret) (events : List Event) (from : Peer) (bytes : List ℕ) (answer : Result Step E)
+    → RelayAt relay settings first events
+    → ((log : List Change) → StandsFor relay log → IfOk answer (λ step. step.change ≡ handed_out (terms_of (settings_of relay)) log
+    (datagram_entry (terms_of (settings_of relay)) relay.secrets (latest log) log (endpoint_of from) (message_of bytes))))
+    → IfOk answer (λ step. step.change ≡ change_of settings first events (Datagram from bytes))
+change-answered relay settings first events from bytes answer at told =
+    let log = accepted settings first events in
+    let by : Settings → Secrets → ℕ → Type 0 = λ known secrets moment.
+    IfOk answer (λ step. step.change ≡ handed_out (terms_of known) log (datagram_entry (terms_of known) secrets moment log (endpoint_of from) (message_of bytes))) in
+    subst (by settings (secrets_of first events)) (latest-accepted relay settings first events at)
+    (subst (λ (secrets : Secrets). by settings secrets (latest log)) at.secrets
+    (subst (λ (known : Settings). by known relay.secrets (latest log)) at.settings_kept (told log (StandsFor-accepted relay settings first events at))))
 
 -- a packet changes nothing
 pub RelayAt-packet : (relay after : Relay) (settings : Settings) (first : Secret) (events : List Event) (bytes : List ℕ) → RelayAt relay settings first events

@@ -1,7 +1,9 @@
+pub mod Acceptance
 pub mod Accepted
 pub mod Answers
 pub mod Conditions
 pub mod Events
+pub mod Lawful
 pub mod Logs
 pub mod Macs
 pub mod Packets

@@ -2,6 +2,7 @@ ghost use Rattle.std.specs.Prelude.{◌≡◌, ◌≤◌, length, OnErr, None, O
 ghost use Rattle.amt_messages.specs.Conditions.{IsSendable};
 ghost use Rattle.amt_messages.specs.Refusal.{message_of};
 ghost use Rattle.amt_values.specs.Endpoint.{endpoint_of};
+ghost use Rattle.amt_values.specs.Octets.{AreOctets};
 ghost use Rattle.endpoint_membership.specs.Log.{latest};
 ghost use Rattle.endpoint_membership.specs.Table.{Holds, IsWithinLimits};
 ghost use Rattle.relay_machine.specs.Accepted.{datagram_entry, handed_out, with_change};
@@ -114,11 +115,13 @@ pub fn answer(
         step.change ≡ None → table.new ≡ table.old) }
     ensures err { OnErr result (table.new ≡ table.old) }
     ensures within { IsWithinLimits table.new }
+    ensures octets { AreOctets bytes.now }
 {
+    let octets = bytes.as_slice();
     let Some(source) = Endpoint::of(from) else {
         return Ok(Step::quiet(alloc, Outcome::BadSource));
     };
-    match decode(alloc, bytes.as_slice()) {
+    match decode(alloc, octets) {
         Err(DecodeFault::Memory) => Err(AllocError),
         Err(DecodeFault::Refused(refusal)) => Ok(Step::quiet(alloc, Outcome::Undecoded(refusal))),
         Ok(message) => answer_message(alloc, querier, secrets, table, source, &message),

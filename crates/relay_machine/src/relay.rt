@@ -29,22 +29,28 @@ pub struct Relay {
 }
 
 impl Relay {
-    ghost use Rattle.std.specs.Prelude.{◌≡◌, ℕ, List, [], ◌∷◌, ◌++◌, None, IfOk, IsOk, OnErr};
+    ghost use Rattle.std.specs.Prelude.{◌≡◌, ℕ, List, [], ◌∷◌, ◌++◌, length, None, Some, IfOk, IsOk, OnErr};
+    ghost use Rattle.amt_values.specs.Tunnel.{Tunnel};
+    ghost use Rattle.source_filter.specs.declared.record.Record.{Record as RecordValue};
     ghost use Rattle.inner_datagrams.specs.declared.head.Head.{Head};
-    ghost use Rattle.endpoint_membership.specs.Limits.{IsWithin, live_count};
+    ghost use Rattle.endpoint_membership.specs.Limits.{AreFew, IsWithin, live_count};
     ghost use Rattle.endpoint_membership.specs.Log.{latest};
     ghost use Rattle.endpoint_membership.specs.Rows.{rows_of};
     ghost use Rattle.endpoint_membership.specs.Table.{standing_now};
     ghost use Rattle.endpoint_membership.specs.declared.change.Change.{Change as Entry};
+    ghost use Rattle.endpoint_membership.specs.declared.change.Change.TheVariants.{Clear, Reported};
     ghost use Rattle.response_mac.specs.declared.secret.Secret.{Secret as SecretValue};
     ghost use Rattle.relay_machine.specs.declared.event.Event.{Event as EventValue};
     ghost use Rattle.relay_machine.specs.declared.event.Event.TheVariants.{Packet};
+    ghost use Rattle.relay_machine.specs.declared.outcome.Outcome.TheVariants.{Copied, TornDown, Updated};
     ghost use Rattle.relay_machine.specs.declared.settings.Settings.{Settings as SettingsValue};
+    ghost use Rattle.relay_machine.specs.Acceptance.{IsAcceptedTeardown, IsAcceptedUpdate, IsSomeAcceptedTeardown, IsSomeAcceptedUpdate};
     ghost use Rattle.relay_machine.specs.Accepted.{accepted, change_of, with_change};
     ghost use Rattle.relay_machine.specs.Answers.{RelayAt, StandsFor, moment_of, outcome_of, rows_after, sends_of, settings_of};
     ghost use Rattle.relay_machine.specs.Conditions.{IsEvent, IsPayload};
     ghost use Rattle.relay_machine.specs.Events.{now_of};
     ghost use Rattle.relay_machine.specs.Packets.{AreCopies, IsToCopy, wants_after};
+    ghost use Rattle.relay_machine.specs.Updates.{forwarded};
     ghost use Rattle.relay_machine.specs.Settings.{AreLawfulSettings, membership_interval_ms};
 
     /// A relay at moment 0, whose current secret is this one and at which nothing stands.
@@ -82,6 +88,7 @@ impl Relay {
         ensures published { IfOk result (λ rows. (log : List Entry)
             → StandsFor self.now log
             → rows ≡ rows_of (membership_interval_ms (settings_of self.now)) (latest log) log) }
+        ensures bounded { IfOk result (AreFew (settings_of self.now).limits) }
     {
         self.table.rows(alloc)
     }
@@ -132,13 +139,39 @@ impl Relay {
             → IfOk result (λ step. step.change ≡ None → self.new ≡ self.old) }
         ensures err { OnErr result (self.new ≡ self.old) }
 
+        // An Update of an endpoint under a good MAC, with a lawful report and within the limits, adds
+        // the report's records on forwardable groups at the relay's moment, and no other event does
+        // (RFC 7450, section 5.3.3).
+        ensures updated { (settings : SettingsValue) (first : SecretValue)
+            (events : List EventValue) (endpoint : Tunnel) (records : List RecordValue)
+            → RelayAt self.old settings first events
+            → IsAcceptedUpdate settings first events event.now endpoint records
+            → IfOk result (λ step. (step.outcome ≡ Updated)
+            × (step.change ≡ Some (Reported endpoint (forwarded records) (now_of events)))) }
+        ensures updated_only { (settings : SettingsValue) (first : SecretValue)
+            (events : List EventValue) → RelayAt self.old settings first events
+            → IfOk result (λ step. step.outcome ≡ Updated
+            → IsSomeAcceptedUpdate settings first events event.now) }
+
+        // A Teardown clears the endpoint that it names, whatever endpoint it comes from.
+        ensures torn { (settings : SettingsValue) (first : SecretValue)
+            (events : List EventValue) (named : Tunnel) → RelayAt self.old settings first events
+            → IsAcceptedTeardown settings first events event.now named
+            → IfOk result (λ step. (step.outcome ≡ TornDown)
+            × (step.change ≡ Some (Clear named (now_of events)))) }
+        ensures torn_only { (settings : SettingsValue) (first : SecretValue)
+            (events : List EventValue) → RelayAt self.old settings first events
+            → IfOk result (λ step. step.outcome ≡ TornDown
+            → IsSomeAcceptedTeardown settings first events event.now) }
+
         // A packet with no fault goes once, as it is, to each endpoint whose newest record that
         // speaks of the packet's source wants it (RFC 7450, section 5.3.3), and to no other.
         ensures copies { (settings : SettingsValue) (first : SecretValue)
             (events : List EventValue) (packet : List ℕ) (head : Head)
             → RelayAt self.old settings first events
             → event.now ≡ Packet packet → IsToCopy settings.packet_limit head packet
-            → IfOk result (λ step. AreCopies (wants_after settings first events head) packet step.sends) }
+            → IfOk result (λ step. AreCopies (wants_after settings first events head) packet step.sends
+            × (step.outcome ≡ Copied (length step.sends))) }
 
         // A moment and a secret take no memory, so time moves on and secrets age whatever is left.
         ensures sure { ¬ IsPayload event.now → IsOk result }

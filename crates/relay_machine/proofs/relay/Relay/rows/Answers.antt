@@ -4,7 +4,7 @@ use Rattle.endpoint_membership.specs.Rows.{rows_of}
 use Rattle.relay_machine.specs.Accepted.{accepted}
 use Rattle.relay_machine.specs.Answers.{settings_of}
 use Rattle.relay_machine.specs.Settings.{membership_interval_ms, terms_of}
-use Rattle.relay_machine.proofs.Onward.{latest-accepted}
+use Rattle.relay_machine.proofs.Onward.{AreFew-settings, latest-accepted}
 use Rattle.relay_machine.proofs.relay.Relay.rows.Goals as goal
 
 pub returns-clause-stands : goal.returns-clause-stands
@@ -17,3 +17,6 @@ returns-clause-stands c = IfOk-weaker c.rows.result _ _
 pub returns-clause-published : goal.returns-clause-published
 returns-clause-published c = IfOk-weaker c.rows.result _ _
     (λ rows shown. shown (terms_of (settings_of c.args.self.now))) c.rows.ensures.stands
+
+pub returns-clause-bounded : goal.returns-clause-bounded
+returns-clause-bounded c = IfOk-weaker c.rows.result _ _ (AreFew-settings c.args.self.now) (c.rows.ensures.bounded c.args.self.now.within)

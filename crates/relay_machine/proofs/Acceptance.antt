@@ -1,0 +1,271 @@
+-- An accepted Update gives its outcome and entry, and no other event gives them; an accepted Teardown likewise.
+use Rattle.std.proofs.Common.{◌≡◌, ℕ, nat_lt, Bool, true, false, List, length, Option, Some, None, Result, Ok, Err, if◌then◌else◌, refl, sym, subst, ◌∙◌}
+use Rattle.std.specs.Result.{IfOk}
+use Rattle.amt_values.specs.Endpoint.{endpoint_of}
+use Rattle.amt_values.specs.Group.{is_forwardable}
+use Rattle.amt_values.specs.Octets.{AreOctets}
+use Rattle.amt_values.specs.Tunnel.{Tunnel}
+use Rattle.amt_values.specs.declared.mac.Mac48.{Mac48}
+use Rattle.amt_values.specs.declared.peer.Peer.{Peer}
+use Rattle.amt_messages.specs.Refusal.{message_of}
+use Rattle.amt_messages.specs.declared.message.Message.{Message}
+use Rattle.amt_messages.specs.declared.message.Message.TheVariants.{Discovery, Advertisement, Request, Query, Update, Multicast, Teardown}
+use Rattle.amt_messages.specs.declared.refusal.Refused.{Refused}
+use Rattle.amt_messages.proofs.Spelled.{spelled_is_read}
+use Rattle.amt_messages.proofs.Unrefused.{read_is_spelled}
+use Rattle.source_filter.specs.declared.record.Record.{Record}
+use Rattle.response_mac.specs.ResponseMac.{is_good}
+use Rattle.response_mac.specs.declared.secret.Secret.{Secret}
+use Rattle.response_mac.specs.declared.secrets.Secrets.{Secrets}
+use Rattle.endpoint_membership.specs.Rows.{is_live}
+use Rattle.endpoint_membership.specs.Table.{Terms, limit_passed, standing_now}
+use Rattle.endpoint_membership.specs.declared.change.Change.{Change}
+use Rattle.endpoint_membership.specs.declared.change.Change.TheVariants.{Clear, Reported}
+use Rattle.endpoint_membership.specs.declared.limits.LimitFault.{LimitFault}
+use Rattle.endpoint_membership.proofs.Within.{none_passed}
+use Rattle.inner_datagrams.specs.Head.{head_of}
+use Rattle.inner_datagrams.specs.declared.head.Head.{Head}
+use Rattle.inner_datagrams.specs.declared.head.HeadFault.{HeadFault}
+use Rattle.relay_machine.specs.declared.event.Event.{Event}
+use Rattle.relay_machine.specs.declared.event.Event.TheVariants.{Moment, Datagram, Packet, Rotate}
+use Rattle.relay_machine.specs.declared.outcome.Outcome.TheVariants.{TooBig, TornDown, Updated}
+use Rattle.relay_machine.specs.declared.outcome.Unlawful.{Unlawful}
+use Rattle.relay_machine.specs.declared.sends.Step.{Step}
+use Rattle.relay_machine.specs.declared.settings.Settings.{Settings}
+use Rattle.relay_machine.specs.Acceptance.{IsAcceptedTeardown, IsAcceptedUpdate, IsSomeAcceptedTeardown, IsSomeAcceptedUpdate}
+use Rattle.relay_machine.specs.Accepted.{accepted, change_of}
+use Rattle.relay_machine.specs.Answers.{judged, outcome_of}
+use Rattle.relay_machine.specs.Events.{now_of, secrets_of}
+use Rattle.relay_machine.specs.Packets.{by_head, by_scope, packet_outcome, targets_after}
+use Rattle.relay_machine.specs.Settings.{terms_of}
+use Rattle.relay_machine.specs.Teardowns.{teardown_outcome}
+use Rattle.relay_machine.specs.Updates.{forwarded, limit_outcome, report_in, update_outcome}
+use Rattle.amt_values.proofs.NetworkOrder.{AreOctets-drop}
+use Rattle.relay_machine.proofs.Goodness.{is_good-true}
+use Rattle.relay_machine.proofs.Lawful.{lawful-report_in, report_in-lawful}
+use Rattle.relay_machine.proofs.Limits.{always_within, within-report}
+
+-- what the octets of an accepted Update are judged as
+pub outcome-accepted : (settings : Settings) (first : Secret) (events : List Event) (event : Event) (endpoint : Tunnel) (records : List Record)
+    → IsAcceptedUpdate settings first events event endpoint records
+    → (outcome_of settings first events event ≡ Updated) × (change_of settings first events event ≡ Some (Reported endpoint (forwarded records) (now_of events)))
+outcome-accepted settings first events event endpoint records update =
+    let read = spelled_is_read (Update update.mac update.nonce update.inner) update.bytes update.spelled in
+    let good = (is_good-true (secrets_of first events) endpoint update.nonce update.mac).1 update.good in
+    let lawful = report_in-lawful update.inner records update.lawful in
+    let none : limit_passed (terms_of settings) (accepted settings first events) endpoint (forwarded records) (now_of events) ≡ None =
+    none_passed settings.limits endpoint (forwarded records) _ update.within in
+    rw (update.came, update.source, read, good, lawful, none) (refl, refl)
+
+pub outcome-cleared : (settings : Settings) (first : Secret) (events : List Event) (event : Event) (named : Tunnel)
+    → IsAcceptedTeardown settings first events event named
+    → (outcome_of settings first events event ≡ TornDown) × (change_of settings first events event ≡ Some (Clear named (now_of events)))
+outcome-cleared settings first events event named teardown =
+    let read = spelled_is_read (Teardown teardown.mac teardown.nonce named) teardown.bytes teardown.spelled in
+    let good = (is_good-true (secrets_of first events) named teardown.nonce teardown.mac).1 teardown.good in
+    rw (teardown.came, teardown.source, read, good, teardown.live) (refl, refl)
+
+-- what came where a datagram is judged to be an accepted Update
+record IsUpdateOf (terms : Terms) (secrets : Secrets) (moment : ℕ) (log : List Change) (from : Option Tunnel) (reading : Result Message Refused) : Type 0 where
+  source : Tunnel
+  mac : Mac48
+  nonce : ℕ
+  inner : List ℕ
+  records : List Record
+  comes_from : from ≡ Some source
+  read : reading ≡ Ok (Update mac nonce inner)
+  good : is_good secrets source nonce mac ≡ true
+  lawful : report_in inner ≡ Ok records
+  none : limit_passed terms log source (forwarded records) moment ≡ None
+
+limit-updated : (passed : Option LimitFault) → limit_outcome passed ≡ Updated → passed ≡ None
+limit-updated None same = refl
+limit-updated (Some fault) same = cc
+
+update-updated : (good : Bool) (reading : Result (List Record) Unlawful) (passed : List Record → Option LimitFault) → update_outcome good reading passed ≡ Updated
+    → (good ≡ true) × ((records : List Record) × (reading ≡ Ok records) × (passed (forwarded records) ≡ None))
+update-updated false reading passed same = cc
+update-updated true (Err fault) passed same = cc
+update-updated true (Ok records) passed same = (refl, (records, refl, limit-updated (passed (forwarded records)) same))
+
+teardown-updated : (good live : Bool) → teardown_outcome good live ≡ Updated → ⊥
+teardown-updated false live same = cc
+teardown-updated true true same = cc
+teardown-updated true false same = cc
+
+judged-updated : (terms : Terms) (secrets : Secrets) (moment : ℕ) (log : List Change) (from : Option Tunnel) (reading : Result Message Refused)
+    → judged terms secrets moment log from reading ≡ Updated → IsUpdateOf terms secrets moment log from reading
+judged-updated terms secrets moment log None reading same = cc
+judged-updated terms secrets moment log (Some source) (Err refusal) same = cc
+judged-updated terms secrets moment log (Some source) (Ok (Discovery nonce)) same = cc
+judged-updated terms secrets moment log (Some source) (Ok (Advertisement nonce relay)) same = cc
+judged-updated terms secrets moment log (Some source) (Ok (Request v6 nonce)) same = cc
+judged-updated terms secrets moment log (Some source) (Ok (Query limited mac nonce inner seen)) same = cc
+judged-updated terms secrets moment log (Some source) (Ok (Multicast packet)) same = cc
+judged-updated terms secrets moment log (Some source) (Ok (Update mac nonce inner)) same =
+    let parts = update-updated (is_good secrets source nonce mac) (report_in inner) (λ (records : List Record). limit_passed terms log source records moment) same in record {
+      source = source;
+      mac = mac;
+      nonce = nonce;
+      inner = inner;
+      records = parts.1.0;
+      comes_from = refl;
+      read = refl;
+      good = parts.0;
+      lawful = parts.1.1;
+      none = parts.1.2;
+    }
+judged-updated terms secrets moment log (Some source) (Ok (Teardown mac nonce gateway)) same =
+    absurd (teardown-updated (is_good secrets gateway nonce mac) (is_live gateway (standing_now terms log)) same)
+
+-- what came where it is judged to be an accepted Teardown
+record IsTeardownOf (terms : Terms) (secrets : Secrets) (log : List Change) (from : Option Tunnel) (reading : Result Message Refused) : Type 0 where
+  sender : Tunnel
+  mac : Mac48
+  nonce : ℕ
+  named : Tunnel
+  comes_from : from ≡ Some sender
+  read : reading ≡ Ok (Teardown mac nonce named)
+  good : is_good secrets named nonce mac ≡ true
+  live : is_live named (standing_now terms log) ≡ true
+
+limit-torn : (passed : Option LimitFault) → limit_outcome passed ≡ TornDown → ⊥
+limit-torn None same = cc
+limit-torn (Some fault) same = cc
+
+update-torn : (good : Bool) (reading : Result (List Record) Unlawful) (passed : List Record → Option LimitFault) → update_outcome good reading passed ≡ TornDown → ⊥
+update-torn false reading passed same = cc
+update-torn true (Err fault) passed same = cc
+update-torn true (Ok records) passed same = limit-torn (passed (forwarded records)) same
+
+teardown-torn : (good live : Bool) → teardown_outcome good live ≡ TornDown → (good ≡ true) × (live ≡ true)
+teardown-torn false live same = cc
+teardown-torn true true same = (refl, refl)
+teardown-torn true false same = cc
+
+judged-torn : (terms : Terms) (secrets : Secrets) (moment : ℕ) (log : List Change) (from : Option Tunnel) (reading : Result Message Refused)
+    → judged terms secrets moment log from reading ≡ TornDown → IsTeardownOf terms secrets log from reading
+judged-torn terms secrets moment log None reading same = cc
+judged-torn terms secrets moment log (Some source) (Err refusal) same = cc
+judged-torn terms secrets moment log (Some source) (Ok (Discovery nonce)) same = cc
+judged-torn terms secrets moment log (Some source) (Ok (Advertisement nonce relay)) same = cc
+judged-torn terms secrets moment log (Some source) (Ok (Request v6 nonce)) same = cc
+judged-torn terms secrets moment log (Some source) (Ok (Query limited mac nonce inner seen)) same = cc
+judged-torn terms secrets moment log (Some source) (Ok (Multicast packet)) same = cc
+judged-torn terms secrets moment log (Some source) (Ok (Update mac nonce inner)) same =
+    absurd (update-torn (is_good secrets source nonce mac) (report_in inner) (λ (records : List Record). limit_passed terms log source records moment) same)
+judged-torn terms secrets moment log (Some source) (Ok (Teardown mac nonce gateway)) same =
+    let parts = teardown-torn (is_good secrets gateway nonce mac) (is_live gateway (standing_now terms log)) same in record {
+      sender = source;
+      mac = mac;
+      nonce = nonce;
+      named = gateway;
+      comes_from = refl;
+      read = refl;
+      good = parts.0;
+      live = parts.1;
+    }
+
+-- a packet comes to neither
+scope-neither : (forwards : Bool) (head : Head) (targets : Head → List Tunnel)
+    → (packet_outcome targets (by_scope forwards head) ≡ Updated → ⊥) × (packet_outcome targets (by_scope forwards head) ≡ TornDown → ⊥)
+scope-neither true head targets = (λ same. cc, λ same. cc)
+scope-neither false head targets = (λ same. cc, λ same. cc)
+
+head-neither : (reading : Result Head HeadFault) (targets : Head → List Tunnel)
+    → (packet_outcome targets (by_head reading) ≡ Updated → ⊥) × (packet_outcome targets (by_head reading) ≡ TornDown → ⊥)
+head-neither (Err fault) targets = (λ same. cc, λ same. cc)
+head-neither (Ok head) targets = scope-neither (is_forwardable head.group) head targets
+
+pub packet-neither : (big : Bool) (octets : ℕ) (reading : Result Head HeadFault) (targets : Head → List Tunnel)
+    → (packet_outcome targets (if big then Err (TooBig octets) else by_head reading) ≡ Updated → ⊥)
+    × (packet_outcome targets (if big then Err (TooBig octets) else by_head reading) ≡ TornDown → ⊥)
+packet-neither true octets reading targets = (λ same. cc, λ same. cc)
+packet-neither false octets reading targets = head-neither reading targets
+
+-- what comes as a datagram is octets
+abbrev pub AreOctetsIn : Event → Type 0
+AreOctetsIn event = (from : Peer) (bytes : List ℕ) → event ≡ Datagram from bytes → AreOctets bytes
+
+-- an event that comes to Updated is an accepted Update
+pub accepted-updated : (settings : Settings) (first : Secret) (events : List Event) (event : Event) → AreOctetsIn event
+    → outcome_of settings first events event ≡ Updated → IsSomeAcceptedUpdate settings first events event
+accepted-updated settings first events (Moment moment) octets same = cc
+accepted-updated settings first events (Rotate secret) octets same = cc
+accepted-updated settings first events (Packet bytes) octets same =
+    absurd ((packet-neither (nat_lt settings.packet_limit (length bytes)) (length bytes) (head_of bytes) (targets_after settings first events)).0 same)
+accepted-updated settings first events (Datagram from bytes) octets same =
+    let terms = terms_of settings in
+    let log = accepted settings first events in
+    let update = judged-updated terms (secrets_of first events) (now_of events) log (endpoint_of from) (message_of bytes) same in
+    let spelled = read_is_spelled bytes (Update update.mac update.nonce update.inner) update.read in
+    let small : AreOctets update.inner = subst AreOctets (sym spelled.inner_field) (AreOctets-drop 12 bytes (octets from bytes refl)) in (
+      update.source,
+      update.records,
+      record {
+        from = from;
+        bytes = bytes;
+        mac = update.mac;
+        nonce = update.nonce;
+        inner = update.inner;
+        came = refl;
+        source = update.comes_from;
+        spelled = spelled;
+        good = (is_good-true (secrets_of first events) update.source update.nonce update.mac).0 update.good;
+        lawful = lawful-report_in update.inner update.records small update.lawful;
+        within = within-report terms log update.source (forwarded update.records) (now_of events) update.none (always_within settings first events);
+      },
+    )
+
+-- one that comes to TornDown is an accepted Teardown
+pub accepted-torn : (settings : Settings) (first : Secret) (events : List Event) (event : Event)
+    → outcome_of settings first events event ≡ TornDown → IsSomeAcceptedTeardown settings first events event
+accepted-torn settings first events (Moment moment) same = cc
+accepted-torn settings first events (Rotate secret) same = cc
+accepted-torn settings first events (Packet bytes) same =
+    absurd ((packet-neither (nat_lt settings.packet_limit (length bytes)) (length bytes) (head_of bytes) (targets_after settings first events)).1 same)
+accepted-torn settings first events (Datagram from bytes) same =
+    let teardown = judged-torn (terms_of settings) (secrets_of first events) (now_of events) (accepted settings first events) (endpoint_of from) (message_of bytes) same in (
+      teardown.named,
+      record {
+        from = from;
+        bytes = bytes;
+        sender = teardown.sender;
+        mac = teardown.mac;
+        nonce = teardown.nonce;
+        came = refl;
+        source = teardown.comes_from;
+        spelled = read_is_spelled bytes (Teardown teardown.mac teardown.nonce teardown.named) teardown.read;
+        good = (is_good-true (secrets_of first events) teardown.named teardown.nonce teardown.mac).0 teardown.good;
+        live = teardown.live;
+      },
+    )
+
+-- the same by what was answered
+pub updated-answered : {E : Type 0} (settings : Settings) (first : Secret) (events : List Event) (event : Event) (endpoint : Tunnel) (records : List Record) (answer : Result Step E)
+    → IfOk answer (λ step. step.outcome ≡ outcome_of settings first events event) → IfOk answer (λ step. step.change ≡ change_of settings first events event)
+    → IsAcceptedUpdate settings first events event endpoint records
+    → IfOk answer (λ step. (step.outcome ≡ Updated) × (step.change ≡ Some (Reported endpoint (forwarded records) (now_of events))))
+updated-answered settings first events event endpoint records (Err fault) outcome change update = tt
+updated-answered settings first events event endpoint records (Ok step) outcome change update =
+    let accepted_as = outcome-accepted settings first events event endpoint records update in (outcome ∙ accepted_as.0, change ∙ accepted_as.1)
+
+pub torn-answered : {E : Type 0} (settings : Settings) (first : Secret) (events : List Event) (event : Event) (named : Tunnel) (answer : Result Step E)
+    → IfOk answer (λ step. step.outcome ≡ outcome_of settings first events event) → IfOk answer (λ step. step.change ≡ change_of settings first events event)
+    → IsAcceptedTeardown settings first events event named
+    → IfOk answer (λ step. (step.outcome ≡ TornDown) × (step.change ≡ Some (Clear named (now_of events))))
+torn-answered settings first events event named (Err fault) outcome change teardown = tt
+torn-answered settings first events event named (Ok step) outcome change teardown =
+    let cleared_as = outcome-cleared settings first events event named teardown in (outcome ∙ cleared_as.0, change ∙ cleared_as.1)
+
+pub updated_only-answered : {E : Type 0} (settings : Settings) (first : Secret) (events : List Event) (event : Event) (answer : Result Step E) → AreOctetsIn event
+    → IfOk answer (λ step. step.outcome ≡ outcome_of settings first events event)
+    → IfOk answer (λ step. step.outcome ≡ Updated → IsSomeAcceptedUpdate settings first events event)
+updated_only-answered settings first events event (Err fault) octets outcome = tt
+updated_only-answered settings first events event (Ok step) octets outcome = λ same. accepted-updated settings first events event octets (sym outcome ∙ same)
+
+pub torn_only-answered : {E : Type 0} (settings : Settings) (first : Secret) (events : List Event) (event : Event) (answer : Result Step E)
+    → IfOk answer (λ step. step.outcome ≡ outcome_of settings first events event)
+    → IfOk answer (λ step. step.outcome ≡ TornDown → IsSomeAcceptedTeardown settings first events event)
+torn_only-answered settings first events event (Err fault) outcome = tt
+torn_only-answered settings first events event (Ok step) outcome = λ same. accepted-torn settings first events event (sym outcome ∙ same)
