@@ -305,8 +305,7 @@ const REPORTS: [(&str, &[u8], &[Listed]); 9] = [
 
 fn is_record(group_record: &Record, listed: &Listed) -> bool {
     let (kind, group, sources) = listed;
-    group_record.kind == *kind
-        && group_record.group == *group
+    (group_record.kind, group_record.group) == (*kind, *group)
         && group_record.sources.as_slice() == *sources
 }
 
