@@ -1,4 +1,4 @@
--- A front of a line was written, whatever came of it.
+-- A prefix of a line was written, whatever came of it.
 use Rattle.std.proofs.Common.{ℕ, ◌<◌, Option, List, [], length, take, Result, Ok, Err, OnOk, OnErr, sym, append-nil}
 use Rattle.std.specs.Io.KnownBytes.{Appends}
 use Rattle.amt_script.specs.Writing.{WritesFront}

@@ -1,4 +1,4 @@
--- Where nothing disturbs a run, the octets alone decide how it ends, but for want of memory.
+-- Where nothing disturbs a run, the octets alone decide how it ends, unless memory runs out.
 use Rattle.std.proofs.Common.{◌≡◌, ℕ, ◌<◌, ◌≤◌, ◌⊎◌, Option, Some, List, length, Result, Ok, Err, IsOk, OnOk, IsErrOf, IfErr, inl, inr, refl, sym, subst, arith}
 use Rattle.amt_ports.specs.Reading.{TakesAll, TakesMore}
 use Rattle.amt_values.specs.declared.bytes.TheConstants.{INPUT_LIMIT}
@@ -12,7 +12,7 @@ use Rattle.amt_script.specs.Script.{IsRelayScript}
 use Rattle.amt_command.specs.Ending.{status_of, line_of, TellsItsFault}
 use Rattle.amt_command.specs.Command.{IsInput, IsFaultText, fault_line, Replays, status_line}
 
--- an input that was read to its end, where it told its octets
+-- an input that was read to its end, where it reported its octets
 told_all : (left left' : Option (List ℕ)) (bytes read : List ℕ) → left ≡ Some bytes → TakesAll left left' read → read ≡ bytes
 told_all left left' bytes read told all = TakesAll-told bytes read left' (subst (λ (l : Option (List ℕ)). TakesAll l left' read) told all)
 
@@ -33,7 +33,7 @@ pub more_told : (left left' : Option (List ℕ)) (bytes : List ℕ) → left ≡
 more_told left left' bytes told short more =
     let long = TakesMore-told INPUT_LIMIT bytes left' (subst (λ (l : Option (List ℕ)). TakesMore INPUT_LIMIT l left') told more) in absurd (omega (arith, long, short))
 
--- an input that is longer than the limit, where it told its octets, was not read to its end
+-- an input that is longer than the limit, where it reported its octets, was not read to its end
 short_told : (left left' : Option (List ℕ)) (bytes read : List ℕ) → left ≡ Some bytes → TakesAll left left' read → length read ≤ INPUT_LIMIT → INPUT_LIMIT < length bytes → ⊥
 short_told left left' bytes read told all short long =
     let few : length bytes ≤ INPUT_LIMIT = subst (λ (octets : List ℕ). length octets ≤ INPUT_LIMIT) (told_all left left' bytes read told all) short in absurd (omega (arith, few, long))

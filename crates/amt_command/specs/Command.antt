@@ -29,7 +29,7 @@ pub record Replays (left left' written written' : Option (List ℕ)) : Type 0 wh
   pub input : IsInput left left' script
   pub text : Appends written written' (text_of script)
 
--- the input was read to its end, and a front of the text of its script was written
+-- the input was read to its end, and a prefix of the text of its script was written
 pub record BeginsToReplay (left left' written written' : Option (List ℕ)) : Type 0 where
   pub script : RelayScript
   pub input : IsInput left left' script
@@ -61,7 +61,7 @@ abbrev pub WritesFault : Option (List ℕ) → Option (List ℕ) → Option (Lis
 WritesFault left left' written written' =
     (text : List ℕ) × IsFaultText left left' text × Appends written written' text
 
--- a front of its line was
+-- a prefix of its line was
 abbrev pub BeginsFault : Option (List ℕ) → Option (List ℕ) → Option (List ℕ) → Option (List ℕ) → Type 0
 BeginsFault left left' written written' =
     (text : List ℕ) × IsFaultText left left' text × WritesFront written written' text

@@ -13,7 +13,7 @@ pub enum Ending {
     ReadFault,
     /// A write of the output failed.
     WriteFault,
-    /// Want of memory, wherever it came.
+    /// Out of memory, wherever it came.
     Memory,
     /// The input has more octets than are taken.
     TooLong,

@@ -47,7 +47,7 @@ first_four_flagged kind flags bytes enough first second reserved =
     first_two kind flags bytes (omega arith) first second
     ∙ ap (λ (rest : List ℕ). kind ∷ flags ∷ rest) (cut 2 2 bytes ∙ ap (λ (xs : List ℕ). xs ++ drop 4 bytes) reserved)
 
--- an address of so many octets stands behind the nonce, and nothing behind it
+-- an address of so many octets stands after the nonce, and nothing after it
 advertised : (nonce address octets : ℕ) (bytes : List ℕ) → AreOctets bytes → IsAdvertisement nonce address octets bytes
     → drop 4 bytes ≡ big_bytes 4 nonce ++ big_bytes octets address
 advertised nonce address octets bytes small h =
@@ -114,7 +114,7 @@ seen_behind endpoint inner bytes small octets names form =
     ∙ ap (λ (xs : List ℕ). big_bytes 2 endpoint.port ++ xs)
     (ap (λ (n : ℕ). drop n bytes) place ∙ (sym address ∙ ap (λ (n : ℕ). big_bytes 16 n) (sym one_form))))
 
--- the parts of a Query, an Update or a Teardown behind the first two octets
+-- the parts of a Query, an Update or a Teardown after the first two octets
 query_parts : (mac : Mac48) (nonce : ℕ) (inner tail bytes : List ℕ) → AreOctets bytes → 12 ≤ length bytes
     → mac.0 ≡ take 6 (drop 2 bytes) → nonce ≡ big_number 4 (drop 8 bytes) → inner ≡ take (length inner) (drop 12 bytes)
     → drop (12 + length inner) bytes ≡ tail → drop 2 bytes ≡ mac.0 ++ big_bytes 4 nonce ++ inner ++ tail

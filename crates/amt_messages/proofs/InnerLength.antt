@@ -6,7 +6,7 @@ use Rattle.byteorder.specs.Numbers.{big_from-take}
 use Rattle.byteorder.specs.Endian.{big_number}
 use Rattle.amt_messages.specs.Inner.{inner_length_of}
 
--- two octets from a place on are those of a front that reaches past them
+-- two octets from a place on are those of a prefix that reaches past them
 short_in_front : (n place : ℕ) (octets : List ℕ) → place + 2 ≤ n → big_number 2 (drop place (take n octets)) ≡ big_number 2 (drop place octets)
 short_in_front n zero octets far = big_from-take 0 2 n octets (omega arith)
 short_in_front zero (suc place) octets far = absurd (omega arith)
@@ -18,7 +18,7 @@ pub inner_length_of-least : (octets : List ℕ) (n : ℕ) → inner_length_of oc
 unfolding inner_length_of
 inner_length_of-least octets n states = grind arith
 
--- so a front of six octets and more states the same length
+-- so a prefix of six octets and more states the same length
 pub inner_length_of-take : (n : ℕ) (octets : List ℕ) → 6 ≤ n → n ≤ length octets → inner_length_of (take n octets) ≡ inner_length_of octets
 unfolding inner_length_of
 inner_length_of-take n octets far enough =

@@ -46,7 +46,7 @@ query_reserved true false = refl
 query_reserved false true = refl
 query_reserved false false = refl
 
--- the parts of a Query, an Update or a Teardown by their places, behind an octet of type and one of flags
+-- the parts of a Query, an Update or a Teardown by their places, after an octet of type and one of flags
 module _ (kind flags : ℕ) (mac nonce inner tail : List ℕ) (six : length mac ≡ 6) (four : length nonce ≡ 4) where
   whole_length : length (kind ∷ flags ∷ (mac ++ nonce ++ inner ++ tail)) ≡ 12 + length inner + length tail
   whole_length = omega (arith, length-append (mac ++ nonce ++ inner) tail, length-append (mac ++ nonce) inner, length-append mac nonce)

@@ -55,7 +55,7 @@ pub record IsQuery (limited named : Bool) (mac : Mac48) (nonce : ℕ) (inner byt
   pub inner_field : inner ≡ take (length inner) (drop 12 bytes)
   pub inner_whole : inner_length_of inner ≡ Some (length inner)
 
--- the gateway's port and address, behind an inner datagram of so many octets (RFC 7450, section 5.1.4); a
+-- the gateway's port and address, after an inner datagram of so many octets (RFC 7450, section 5.1.4); a
 -- Teardown has them in the same place, with no inner datagram (section 5.1.7)
 abbrev pub gateway_port : ℕ → List ℕ → ℕ
 gateway_port inner bytes = big_number 2 (drop (12 + inner) bytes)
@@ -110,7 +110,7 @@ HasZeroReserved (Update mac nonce inner) bytes = slice_index bytes 1 ≡ 0
 HasZeroReserved (Multicast packet) bytes = slice_index bytes 1 ≡ 0
 HasZeroReserved (Teardown mac nonce gateway) bytes = slice_index bytes 1 ≡ 0
 
--- an IPv4 address of a gateway stands behind 96 zero bits
+-- an IPv4 address of a gateway stands after 96 zero bits
 abbrev pub HasZeroForm : Message → List ℕ → Type 0
 HasZeroForm (Discovery nonce) bytes = Unit {0}
 HasZeroForm (Advertisement nonce relay) bytes = Unit {0}

@@ -31,7 +31,7 @@ abbrev pub inner_refusal : Option ℕ → List ℕ → Option Refused
 inner_refusal None bytes = Some NoInner
 inner_refusal (Some inner) bytes = length_refusal (query_length (has_flag 0 bytes) inner) (length bytes)
 
--- a Query's head is tried first, then the inner datagram behind it, then the whole length
+-- a Query's head is tried first, then the inner datagram after it, then the whole length
 abbrev pub query_refusal : List ℕ → Option Refused
 query_refusal bytes =
     if nat_lt (length bytes) 12 then Some (Short 12 (length bytes)) else inner_refusal (inner_length_of (drop 12 bytes)) bytes
@@ -45,11 +45,11 @@ advertisement_refusal bytes = length_refusal (advertisement_length (length bytes
 abbrev pub request_refusal : List ℕ → Option Refused
 request_refusal bytes = length_refusal 8 (length bytes)
 
--- an Update has a head, and any octets behind it
+-- an Update has a head, and any octets after it
 abbrev pub update_refusal : List ℕ → Option Refused
 update_refusal bytes = if nat_lt (length bytes) 12 then Some (Short 12 (length bytes)) else None
 
--- Multicast Data has a head of two octets, and any packet behind it
+-- Multicast Data has a head of two octets, and any packet after it
 abbrev pub multicast_refusal : List ℕ → Option Refused
 multicast_refusal bytes = if nat_lt (length bytes) 2 then Some (Short 2 (length bytes)) else None
 
@@ -87,7 +87,7 @@ advertisement_at bytes = Advertisement (big_number 4 (drop 4 bytes)) (relay_at b
 abbrev pub request_at : List ℕ → Message
 request_at bytes = Request (has_flag 0 bytes) (big_number 4 (drop 4 bytes))
 
--- what a Query says of the gateway, behind an inner datagram of so many octets
+-- what a Query says of the gateway, after an inner datagram of so many octets
 abbrev pub seen_at : ℕ → List ℕ → Option Tunnel
 seen_at inner bytes = if has_flag 0 bytes then Some (gateway_at inner bytes) else None
 
@@ -173,7 +173,7 @@ abbrev pub Gives : Result Message DecodeFault → Result Message Refused → Typ
 Gives (Ok message) reading = reading ≡ Ok message
 Gives (Err fault) reading = FaultGives fault reading
 
--- the refusal in a fault; want of memory comes where nothing is refused
+-- the refusal in a fault; out of memory comes where nothing is refused
 abbrev pub refusal_in : DecodeFault → Option Refused
 refusal_in (RefusedBy refusal) = Some refusal
 refusal_in Memory = None

@@ -56,7 +56,7 @@ pub fn mac_at(bytes: &[u8], place: usize) -> Mac48
     Mac48(octets)
 }
 
-// The endpoint that the port and the address behind an inner datagram name.
+// The endpoint that the port and the address after an inner datagram name.
 pub fn gateway_at(bytes: &[u8], inner: usize) -> Endpoint
     requires { 12 + inner + 18 ≤ length bytes.now }
     ensures { result ≡ gateway_at inner bytes.now }

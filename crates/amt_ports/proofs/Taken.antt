@@ -24,7 +24,7 @@ TakesAtMost-read limit n a b c bs buf before read fits most = record {
   most = omega (arith, length-taken n bs buf fits);
 }
 
--- n bytes from a place on are in front of those from the place n further
+-- n bytes from a place on are before those from the place n further
 pub drop-front : (at n : ℕ) (bytes : List ℕ) → drop at bytes ≡ take n (drop at bytes) ++ drop (at + n) bytes
 drop-front at n bytes = sym (take-append-drop n (drop at bytes)) ∙ ap (λ l. take n (drop at bytes) ++ l) (drop-drop n at bytes)
 

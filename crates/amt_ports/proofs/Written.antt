@@ -5,7 +5,7 @@ use Rattle.std.proofs.lemmas.List.{take-append-drop}
 use Rattle.std.specs.Io.KnownBytes.{Appends, Keeps}
 use Rattle.std.proofs.KnownBytes.{Appends-kept, Appends-trans}
 
--- what was appended before a call that kept all is a front of the whole, and not all of it
+-- what was appended before a call that kept all is a prefix of the whole, and not all of it
 pub Appends-front : (a b c : Option (List ℕ)) (all done rest : List ℕ) → all ≡ done ++ rest → 0 < length rest → Appends a b done → Keeps b c → (n : ℕ) × (n < length all) × Appends a c (take n all)
 Appends-front a b c all done rest parts left before kept =
     let front : take (length done) all ≡ done = ap (take (length done)) parts ∙ take-append_seam done rest in

@@ -13,7 +13,7 @@ pub trait Sink {
     /// How often the device has failed. A count at 2^64 - 1 stays there.
     ghost faults: { Self → ℕ };
 
-    /// Writes a front of the piece, and answers how long that front is. It may be shorter than the
+    /// Writes a prefix of the piece, and answers how long it is. It may be shorter than the
     /// piece, so callers go on from there. A write that failed has written nothing.
     fn write(&mut self, piece: &[u8]) -> Result<usize, Failed>
         ensures bound { WritesAtMost result piece.now }

@@ -13,7 +13,7 @@ pub trait Source {
     /// How often the device has failed. A count at 2^64 - 1 stays there.
     ghost faults: { Self → ℕ };
 
-    /// Reads the next bytes into the front of the buffer. 0 for a buffer that is not empty is the
+    /// Reads the next bytes into the buffer's start. 0 for a buffer that is not empty is the
     /// end of input. A read that failed has taken nothing.
     fn read(&mut self, buf: &mut [u8]) -> Result<usize, Failed>
         ensures bound { ReadsAtMost result buf.new }

@@ -54,7 +54,7 @@ impl CallTally {
         Ok(())
     }
 
-    /// Counts a fault of a call that is not listed, as one for want of memory.
+    /// Counts a fault of a call that is not listed, as one where memory ran out.
     pub(crate) fn fail(&mut self) -> Failed
         ensures fault { self.new ≡ with_fault self.old }
         ensures later { self.old.faults ≤ self.new.faults }

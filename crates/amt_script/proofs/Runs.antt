@@ -69,7 +69,7 @@ run_more relay relay' settings first items i item closing old new newer within i
   text = written_more old new newer _ _ _ (subst (WritesUpTo old new (items_text settings first [] items ++ closing)) (taken_text settings first items i item closing within is) before.text) written;
 }
 
--- a front of an item's lines was written
+-- a prefix of an item's lines was written
 pub run_cut : (relay : Relay) (settings : Settings) (first : Secret) (items : List RelayItem) (i : ℕ) (item : RelayItem) (closing : List ℕ) (old new newer : Option (List ℕ))
     → i < length items → item ≡ get_or items i item → IsRunning relay settings first items i closing old new
     → WritesFront new newer (item_text settings first (events_in (take i items)) (i + 1) item)
@@ -77,7 +77,7 @@ pub run_cut : (relay : Relay) (settings : Settings) (first : Secret) (items : Li
 run_cut relay settings first items i item closing old new newer within is before front =
     written_front old new newer _ _ _ (subst (WritesUpTo old new (items_text settings first [] items ++ closing)) (taken_text settings first items i item closing within is) before.text) front
 
--- no item is left, and the closing line was written, or a front of it
+-- no item is left, and the closing line was written, or a prefix of it
 pub run_closed : (relay : Relay) (settings : Settings) (first : Secret) (items : List RelayItem) (i : ℕ) (closing : List ℕ) (old new newer : Option (List ℕ))
     → length items ≤ i → IsRunning relay settings first items i closing old new → WritesFront new newer closing
     → WritesFront old newer (items_text settings first [] items ++ closing)

@@ -31,7 +31,7 @@ pub lines-last : (line : List ℕ) → 0 < length line → All (λ octet. octet 
 lines-last line some lacks =
     ap lines_of_parts (slice_split_none (λ octet. octet == 10) line (differs 10 line lacks)) ∙ only_part line some
 
--- spaces at the front of a line are in no field
+-- spaces at the beginning of a line are in no field
 pub fields-spaces : (n : ℕ) (line : List ℕ) → AllByRecursion (λ octet. octet ≡ 32) (take n line) → fields line ≡ fields (drop n line)
 fields-spaces zero line spaces = refl
 fields-spaces (suc n) [] spaces = refl

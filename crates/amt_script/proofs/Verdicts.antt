@@ -85,7 +85,7 @@ record AreEqual (before before' : List (List ℕ)) (line line' : List ℕ) : Typ
   lists : before ≡ before'
   last : line ≡ line'
 
--- the first list, with the line after it, is a front of the other
+-- the first list, with the line after it, is a prefix of the other
 abbrev IsFront : List (List ℕ) → List ℕ → List (List ℕ) → Type 0
 IsFront before line other = (more : List (List ℕ)) × (other ≡ before ++ line ∷ more)
 

@@ -21,7 +21,7 @@ written_more a b c text piece rest before written = record {
   written = Appends-trans a b c before.front piece before.written written;
 }
 
--- a front of the next piece was written
+-- a prefix of the next piece was written
 pub written_front : (a b c : Option (List ℕ)) (text piece rest : List ℕ) → WritesUpTo a b text (piece ++ rest) → WritesFront b c piece → WritesFront a c text
 written_front a b c text piece rest before next =
     let whole = before.parts ∙ (ap (λ (xs : List ℕ). before.front ++ (xs ++ rest)) next.1.parts

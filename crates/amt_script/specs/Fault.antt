@@ -78,7 +78,7 @@ pub record IsFaultInLine (number : ℕ) (reason : Reason) (ls : List (List ℕ))
   pub begun : Begins settings items before
   pub bad : IsBadLine settings items line reason
 
--- no line is bad, but together they are no script; the fault is told behind them all
+-- no line is bad, but together they are no script; the fault is reported after them all
 pub record IsFaultAtEnd (number : ℕ) (reason : Reason) (ls : List (List ℕ)) : Type 0 where
   pub counted : number ≡ length ls + 1
   pub settings : List Setting
@@ -90,7 +90,7 @@ abbrev pub IsFaultAt : ℕ → Reason → List ℕ → Type 0
 IsFaultAt number reason bytes =
     IsFaultInLine number reason (lines bytes) ⊎ IsFaultAtEnd number reason (lines bytes)
 
--- the error is the fault of the octets; want of memory says nothing
+-- the error is the fault of the octets; out of memory says nothing
 abbrev pub IsErrorOf : List ℕ → ScriptError → Type 0
 IsErrorOf bytes (errors.Fault line reason) = IsFaultAt line reason bytes
 IsErrorOf bytes errors.Memory = Unit {0}

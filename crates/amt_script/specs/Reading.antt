@@ -16,7 +16,7 @@ use Rattle.amt_script.specs.Fault.{First, FailsAs, IsBadLine, IsFaultInLine}
 use Rattle.amt_script.specs.Script.{Begins, IsSettingLine, IsItemLine}
 use Rattle.amt_script.specs.Setting.{key_of, set_at}
 
--- the reason is the first that holds; want of memory says nothing
+-- the reason is the first that holds; out of memory says nothing
 abbrev pub FailsFirst : (Reason → Type 0) → List Reason → LineError → Type 0
 FailsFirst Holds order (Bad reason) = First Holds order reason
 FailsFirst Holds order Memory = Unit {0}
@@ -43,12 +43,12 @@ abbrev pub TakesLine : List Setting → List RelayItem → List Setting → List
 TakesLine given items given' items' line =
     (before : List (List ℕ)) → Begins given items before → Begins given' items' (before ++ line ∷ [])
 
--- the line is bad for this reason; want of memory says nothing
+-- the line is bad for this reason; out of memory says nothing
 abbrev pub FailsOnLine : List Setting → List RelayItem → List ℕ → LineError → Type 0
 FailsOnLine given items line (Bad reason) = IsBadLine given items line reason
 FailsOnLine given items line Memory = Unit {0}
 
--- some line is the first bad one; want of memory says nothing
+-- some line is the first bad one; out of memory says nothing
 abbrev pub FailsInLines : List (List ℕ) → ScriptError → Type 0
 FailsInLines ls (errors.Fault line reason) = IsFaultInLine line reason ls
 FailsInLines ls errors.Memory = Unit {0}

@@ -11,7 +11,7 @@ abbrev pub IsItem : RelayItem → Type 0
 IsItem (Event event) = IsEvent event
 IsItem Show = Unit {0}
 
--- a relay may have its settings, and each item may be told to it
+-- a relay may have its settings, and each item may be given to it
 pub record IsRunnable (script : RelayScript) : Type 0 where
   pub lawful : AreLawfulSettings script.settings
   pub sized : AllByRecursion IsItem script.items

@@ -8,6 +8,6 @@ pub record WritesUpTo (old new : Option (List ℕ)) (text rest : List ℕ) : Typ
   pub parts : text ≡ front ++ rest
   pub written : Appends old new front
 
--- a front of the text was written
+-- a prefix of the text was written
 abbrev pub WritesFront : Option (List ℕ) → Option (List ℕ) → List ℕ → Type 0
 WritesFront old new text = (rest : List ℕ) × WritesUpTo old new text rest

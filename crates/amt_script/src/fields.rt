@@ -3,7 +3,7 @@ ghost use Rattle.amt_script.specs.Lines.{fields};
 
 use amt_values::cut_at;
 
-// What follows the spaces at the front; none where there are spaces alone.
+// What follows the spaces at the beginning; none where there are spaces alone.
 fn without_leading_spaces(line: &[u8]) -> Option<&[u8]>
     ensures spaces { IfSome result (λ rest. (n : ℕ) × All (λ octet. octet ≡ 32) (take n line.now) × (rest.now ≡ drop n line.now)) }
     ensures filled { IfSome result (λ rest. (0 < length rest.now) × (slice_index rest.now 0 ≢ 32)) }

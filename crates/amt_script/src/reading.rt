@@ -136,7 +136,7 @@ pub fn read_relay_script(alloc: Global, bytes: &[u8]) -> Result<RelayScript, Scr
     ensures fault { IfErr result (IsErrorOf bytes.now) }
     ensures none { IfErr result (RulesOutScripts bytes.now) }
 
-    // The octets alone decide which script is read, or which line and reason is told.
+    // The octets alone decide which script is read, or which line and reason are reported.
     ensures one_script { HasOneScript }
     ensures one_fault { HasOneFault }
 {

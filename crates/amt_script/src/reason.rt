@@ -1,4 +1,4 @@
-/// Why a line is no line of a script. Where several hold, the earlier one here is told.
+/// Why a line is no line of a script. Where several hold, the earlier one here is reported.
 #[derive(Clone, Copy, Debug, PartialEq, Eq)]
 pub enum Reason {
     /// More than 140,000 octets.

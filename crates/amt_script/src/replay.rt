@@ -19,7 +19,7 @@ use relay_machine::{Event, Relay};
 use std::alloc::Global;
 use thiserror::Error;
 
-/// Why the text of a script was not written whole. A front of it stays written.
+/// Why the text of a script was not written whole. A prefix of it stays written.
 #[derive(Clone, Copy, Debug, PartialEq, Eq, Error)]
 pub enum RunFault {
     /// The sink failed.

@@ -30,7 +30,7 @@ fn print_sources(alloc: Global, sources: &[Ip]) -> Result<Bytes, AllocError>
     Ok(text)
 }
 
-// A space, and a field behind it.
+// A space, and a field after it.
 fn append_field(text: &mut Bytes, field: &[u8]) -> Result<(), AllocError>
     ensures { OnOk result (text.new ≡ text.old ++ (codes " " ++ field.now)) }
 {

@@ -46,7 +46,7 @@ fn print_over(alloc: Global, fault: &LimitFault) -> Result<Bytes, AllocError>
     Ok(text)
 }
 
-// A word, and the number behind it.
+// A word, and the number after it.
 fn print_numbered(alloc: Global, word: &str, number: u64) -> Result<Bytes, AllocError>
     ensures { IfOk result (λ text. text ≡ word.now ++ (codes " " ++ decimal number)) }
 {

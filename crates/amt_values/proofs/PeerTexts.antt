@@ -29,12 +29,12 @@ Lacks-opening number address names = subst (Lacks 91) (sym names.1) (Lacks-v4_te
 pub Lacks-closing : (number : ℕ) (address : List ℕ) → IsIpText (V6 number) address → Lacks 93 address
 Lacks-closing number address names = Lacks-v6 93 (groups_of number) address (omega arith) (λ same. omega arith) names.1
 
--- the text of an IPv4 peer has no bracket in front
+-- the text of an IPv4 peer has no bracket before it
 pub not_bracketed : (number port : ℕ) (text : List ℕ) → IsPeerText (record { ip = V4 number; port = port }) (91 ∷ text) → ⊥
 not_bracketed number port text h =
     not_first 91 h.address (decimal port) text 58 (Lacks-opening number h.address h.names) (λ same. omega arith) (sym h.spelled)
 
--- what stands before and after the first colon, where no bracket stands in front
+-- what stands before and after the first colon, where no bracket stands before it
 pub record IsPlainPeer (ip : Ip) (port : ℕ) (front back : List ℕ) : Type 0 where
   pub number : ℕ
   pub family : ip ≡ V4 number

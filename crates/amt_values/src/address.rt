@@ -10,7 +10,7 @@ pub enum Ip {
     V6(u128),
 }
 
-/// The address as 16 octets carry it: IPv4 stands behind 96 zero bits.
+/// The address as 16 octets carry it: IPv4 stands after 96 zero bits.
 pub fn wire16(ip: &Ip) -> u128
     ensures value { result ≡ number_of ip.now }
     ensures one_form { has_ipv4_prefix ip.now ≡ false → is_mapped result ≡ false }

@@ -6,7 +6,7 @@ use std::marker::Model;
 
 /// A tunnel endpoint (RFC 7450): the gateway's address and port as the relay sees them.
 ///
-/// Each endpoint has one form: of the two that an IPv4 address has in 16 octets, the one behind 96
+/// Each endpoint has one form: of the two that an IPv4 address has in 16 octets, the one after 96
 /// zero bits. The order is that of the addresses, and for one address that of the ports.
 #[derive(Clone, Copy, Debug, PartialEq, Eq, PartialOrd, Ord)]
 pub struct Endpoint {

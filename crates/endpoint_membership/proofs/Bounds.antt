@@ -137,7 +137,7 @@ above_group endpoint kept [] here of above = tt
 above_group endpoint kept (later ∷ own) here of above =
     (sym (by_group kept later (here ∙ sym (tells_apart tunnel_order-exact later.endpoint endpoint of.0))) ∙ above.0, above_group endpoint kept own here of.1 above.1)
 
--- the groups of an endpoint rise with its rows
+-- the groups of an endpoint ascend with its rows
 IsRising-groups : (endpoint : Tunnel) (own : List Kept) → AreOf endpoint own → IsRising kept_order own → IsRising ip_order (groups_of own)
 unfolding IsStrictlySortedBy
 IsRising-groups endpoint [] of rises = tt

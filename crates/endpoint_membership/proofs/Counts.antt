@@ -1,4 +1,4 @@
--- Lists that rise have no repeats, so their lengths count; and a filter raises no count.
+-- Lists that ascend have no repeats, so their lengths count; and a filter raises no count.
 use Rattle.std.proofs.Common.{◌≡◌, ◌+◌, ◌≤◌, suc, Bool, true, false, cond, not, ◌||◌, List, [], ◌∷◌, length, map, filter, refl, sym, ◌∙◌, arith}
 use Rattle.std.specs.Cmp.{IsTotalOrder}
 use Rattle.std.specs.Ordering.{eq_by_cmp, is_eq, match_ordering}

@@ -52,7 +52,7 @@ IsUnited-none old rises = record { rises = rises; each = λ source. united_none 
 pub IsReduced-none : (old : List Ip) → IsRising ip_order old → IsReduced old [] old
 IsReduced-none old rises = record { rises = rises; each = λ source. reduced_none (has ip_order old source) }
 
--- a set that rises and has this source or not, by the order of addresses
+-- a set that ascends and has this source or not, by the order of addresses
 record IsUpdated (before after : BTreeSet Ip) (source : Ip) (present : Bool) : Type 0 where
   rises : IsRising ip_order after.keys
   each : (other : Ip) → has ip_order after.keys other ≡ cond (eq_by_cmp ip_order other source) present (has ip_order before.keys other)
@@ -109,6 +109,6 @@ listing mode sources = record { mode = mode; sources = sources }
 pub same_filter : {one other : FilterValue} → one.mode ≡ other.mode → one.sources ≡ other.sources → one ≡ other
 same_filter h k = λ i. record { mode = h i; sources = k i }
 
--- the different sources of a list that rises are the list
+-- the different sources of a list that ascends are the list
 pub rising_listed : (mode : Mode) (listed keys : List Ip) → listed ≡ keys → IsRising ip_order keys → listing mode (rising_sources listed) ≡ listing mode keys
 rising_listed mode listed keys same rises = ap (listing mode) (ap rising_sources same ∙ rising-fixed ip_order-total ip_order-exact keys rises)

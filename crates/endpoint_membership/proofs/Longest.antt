@@ -1,4 +1,4 @@
--- The live chain holds the records of the longest unbroken front of a place's renewals.
+-- The live chain holds the records of the longest unbroken prefix of a place's renewals.
 use Rattle.std.proofs.Common.{◌≡◌, ℕ, ◌+◌, ◌≤◌, Bool, true, false, cond, ltb, List, [], ◌∷◌, ◌++◌, length, refl, sym, ap, subst, arith, inl, inr}
 use Rattle.std.proofs.lemmas.Bool.{cases_Bool, ltb-true, lt-ltb}
 use Rattle.source_filter.specs.declared.record.Record.{Record}
@@ -7,7 +7,7 @@ use Rattle.endpoint_membership.specs.Chain.{IsLongestChain, IsUnbroken, Renewal,
 use Rattle.endpoint_membership.specs.Log.{concerns, latest, live_chain, records_at}
 use Rattle.endpoint_membership.specs.Place.{Place}
 
--- the renewals up to the first gap of a lifetime, and those behind it
+-- the renewals up to the first gap of a lifetime, and those after it
 abbrev front_by : ℕ → ℕ → List Renewal → List Renewal
 front_by lifetime moment [] = []
 front_by lifetime moment (newest ∷ older) = cond (ltb moment (newest.moment + lifetime)) (newest ∷ front_by lifetime newest.moment older) []
@@ -30,7 +30,7 @@ unbroken_by lifetime moment (newest ∷ older) = elim (cases_Bool (ltb moment (n
   | inr stale ↦ rw stale tt
 ]
 
--- an unbroken front reaches no further
+-- an unbroken prefix reaches no further
 reaches : (lifetime moment : ℕ) (other rest : List Renewal) → IsUnbroken lifetime moment other → length other ≤ length (front_by lifetime moment (other ++ rest))
 reaches lifetime moment [] rest unbroken = omega arith
 reaches lifetime moment (newest ∷ other) rest unbroken =

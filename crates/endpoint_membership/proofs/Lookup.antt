@@ -1,4 +1,4 @@
--- The row of a place in lists of rows that rise.
+-- The row of a place in lists of rows that ascend.
 use Rattle.std.proofs.Common.{◌≡◌, Bool, true, false, cond, List, [], ◌∷◌, ◌++◌, filter, Option, Some, None, unwrap_or, refl, sym, ap, ◌∙◌}
 use Rattle.std.specs.List.{AllByRecursion}
 use Rattle.std.specs.Option.{option_or}
@@ -88,7 +88,7 @@ rest_by : (here : Bool) (one : Kept) (found later : Option Kept) → (here ≡ t
 rest_by true one found later none nothing same = none refl ∙ sym (nothing refl)
 rest_by false one found later none nothing same = same
 
--- behind equal first rows each place has the same row
+-- after equal first rows each place has the same row
 same_behind : (one other : Kept) (xs ys : List Kept) → IsRising kept_order (one ∷ xs) → IsRising kept_order (other ∷ ys) → one ≡ other
     → ((place : Place) → row_at (one ∷ xs) place ≡ row_at (other ∷ ys) place) → (place : Place) → row_at xs place ≡ row_at ys place
 same_behind one other xs ys first second equal same place =
@@ -105,7 +105,7 @@ same_first Equal one other xs ys is first second same =
 same_first Greater one other xs ys is first second same =
     absurd (not_before other one ys xs first (sym (same (place_of other))) (kept_order-total.antisymm other one ∙ ap ordering_reverse is))
 
--- rows that rise are the same where each place has the same row
+-- rows that ascend are the same where each place has the same row
 pub same_rows : (xs ys : List Kept) → IsRising kept_order xs → IsRising kept_order ys → ((place : Place) → row_at xs place ≡ row_at ys place) → xs ≡ ys
 same_rows [] [] first second same = refl
 same_rows [] (other ∷ ys) first second same = let some = row_at-first other ys in let none = same (place_of other) in absurd cc

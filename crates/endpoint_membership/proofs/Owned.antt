@@ -184,7 +184,7 @@ AreAfter-wishes endpoint group (entry ∷ rest) before =
     AreAfter-cons_option (place endpoint group) (place endpoint entry.0) (kept_wish endpoint entry) (filter_map (kept_wish endpoint) rest) (its_place endpoint entry)
     (place_by_group endpoint group entry.0 ∙ before.0) (AreAfter-wishes endpoint group rest before.1)
 
--- the rows of a map's wishes rise
+-- the rows of a map's wishes ascend
 pub IsRising-wishes : (endpoint : Tunnel) (entries : List (Ip × WishValue)) → IsStrictlySortedBy ip_order (keys_of entries) → IsRising kept_order (filter_map (kept_wish endpoint) entries)
 unfolding IsStrictlySortedBy
 IsRising-wishes endpoint [] sorted = tt

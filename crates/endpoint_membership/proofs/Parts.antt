@@ -1,4 +1,4 @@
--- Rows that rise fall into three parts: of earlier endpoints, of one endpoint, and of later ones.
+-- Rows that ascend fall into three parts: of earlier endpoints, of one endpoint, and of later ones.
 use Rattle.std.proofs.Common.{◌≡◌, ℕ, suc, ◌+◌, ◌≤◌, Bool, cond, not, List, [], ◌∷◌, ◌++◌, take, drop, filter, refl, sym, ap, subst, ◌∙◌, arith}
 use Rattle.std.specs.List.{splice}
 use Rattle.std.specs.Ordering.{is_eq, is_lt, ordering_reverse, ordering_then}
@@ -44,7 +44,7 @@ behind_by Less endpoint kept other is behind after = tunnel_order-total.trans en
 behind_by Equal endpoint kept other is behind after = ap (tunnel_order endpoint) (sym (tunnel_order-exact kept.endpoint other.endpoint is)) ∙ behind
 behind_by Greater endpoint kept other is behind after = absurd (not_less_by (tunnel_order kept.endpoint other.endpoint) (ip_order kept.group other.group) after is)
 
--- what comes behind a row of a later endpoint is of later endpoints
+-- what comes after a row of a later endpoint is of later endpoints
 AreBehind-after : (endpoint : Tunnel) (kept : Kept) (rows : List Kept) → tunnel_order endpoint kept.endpoint ≡ Less → AreAfter (place_of kept) rows → AreBehind endpoint rows
 AreBehind-after endpoint kept [] behind after = tt
 AreBehind-after endpoint kept (other ∷ rest) behind after =
@@ -94,7 +94,7 @@ tail_by Equal endpoint kept other rest is same after rises onward =
 tail_by Greater endpoint kept other rest is same after rises onward =
     absurd (not_less_by (tunnel_order kept.endpoint other.endpoint) (ip_order kept.group other.group) after is)
 
--- behind a row of the endpoint stand more of its rows, and then those of later endpoints
+-- after a row of the endpoint stand more of its rows, and then those of later endpoints
 tail_after : (endpoint : Tunnel) (kept : Kept) (rest : List Kept) → tunnel_order kept.endpoint endpoint ≡ Equal → AreAfter (place_of kept) rest → IsRising kept_order rest → IsTail endpoint rest
 tail_after endpoint kept [] same after rises = record { start = refl; whole = refl; of = tt; behind = tt }
 tail_after endpoint kept (other ∷ rest) same after rises =
@@ -123,7 +123,7 @@ parted_by Greater endpoint kept rest is rises parted =
     IsParted-tail endpoint (kept ∷ rest)
     (IsTail-behind endpoint kept rest (tunnel_order-total.antisymm endpoint kept.endpoint ∙ ap ordering_reverse is) (sorted_head kept_order kept rest rises))
 
--- rows that rise fall into these parts
+-- rows that ascend fall into these parts
 pub parted : (endpoint : Tunnel) (rows : List Kept) → IsRising kept_order rows → IsParted endpoint rows (earlier endpoint rows) (filter (is_of endpoint) rows) (later endpoint rows)
 parted endpoint [] rises = record { whole = refl; earlier = tt; of = tt; later = tt }
 parted endpoint (kept ∷ rest) rises =
@@ -135,7 +135,7 @@ start_before_end_by Less start end before = omega arith
 start_before_end_by Equal start end before = omega arith
 start_before_end_by Greater start end before = omega arith
 
--- the endpoint's rows end where they start, or behind that
+-- the endpoint's rows end where they start, or after that
 pub start_before_end : (endpoint : Tunnel) (rows : List Kept) → start_of endpoint rows ≤ end_of endpoint rows
 start_before_end endpoint [] = omega arith
 start_before_end endpoint (kept ∷ rest) =
@@ -147,7 +147,7 @@ pub spliced_is : (endpoint : Tunnel) (rows items own : List Kept) (start end : �
     → splice rows start end items ≡ earlier endpoint rows ++ (own ++ later endpoint rows)
 spliced_is endpoint rows items own start end starts ends same = rw (starts, ends, same) refl
 
--- rows rise with other rows of the endpoint in the place of its rows
+-- rows ascend with other rows of the endpoint in the place of its rows
 pub IsRising-replaced : (endpoint : Tunnel) (rows own : List Kept) → IsRising kept_order rows → IsRising kept_order own → AreOf endpoint own
     → IsRising kept_order (earlier endpoint rows ++ (own ++ later endpoint rows))
 IsRising-replaced endpoint rows own rises rise of =

@@ -134,7 +134,7 @@ pub IsRising-back : (xs ys : List Kept) → IsRising kept_order (xs ++ ys) → I
 IsRising-back [] ys rises = rises
 IsRising-back (x ∷ xs) ys rises = IsRising-back xs ys (sorted_tail kept_order x (xs ++ ys) rises)
 
--- rows of an endpoint stand behind rows of earlier endpoints
+-- rows of an endpoint stand after rows of earlier endpoints
 before_of : (endpoint : Tunnel) (kept : Kept) (ys : List Kept) → tunnel_order kept.endpoint endpoint ≡ Less → AreOf endpoint ys → AllByRecursion (λ later. kept_order kept later ≡ Less) ys
 before_of endpoint kept [] before of = tt
 before_of endpoint kept (later ∷ ys) before of =
@@ -160,7 +160,7 @@ IsRising-of_behind endpoint [] behind first second of later = second
 IsRising-of_behind endpoint (kept ∷ own) behind first second of later =
     (both_all (λ other. kept_order kept other ≡ Less) own behind first.0 (of_behind endpoint kept behind of.0 later), IsRising-of_behind endpoint own behind first.1 second of.1 later)
 
--- rows before an endpoint's, rows of the endpoint and rows behind rise together
+-- rows before an endpoint's, rows of the endpoint and rows after it ascend together
 pub IsRising-three : (endpoint : Tunnel) (before own behind : List Kept) → IsRising kept_order before → IsRising kept_order own → IsRising kept_order behind
     → AreBefore endpoint before → AreOf endpoint own → AreBehind endpoint behind → IsRising kept_order (before ++ (own ++ behind))
 unfolding IsStrictlySortedBy

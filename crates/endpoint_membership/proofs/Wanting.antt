@@ -83,7 +83,7 @@ unfolding IsStrictlySortedBy
 IsRising-endpoints group [] on rises = tt
 IsRising-endpoints group (kept ∷ rows) on rises = (less_each group kept rows on.0 on.1 rises.0, IsRising-endpoints group rows on.1 rises.1)
 
--- the endpoints of the rows that let a packet in rise
+-- the endpoints of the rows that let a packet in ascend
 pub IsRising-targets : (lifetime moment : ℕ) (group source : Ip) (rows : List Kept) → IsRising kept_order rows → IsRising tunnel_order (targets_in lifetime moment group source rows)
 IsRising-targets lifetime moment group source rows rises =
     let test = is_target lifetime moment group source in
@@ -267,7 +267,7 @@ has-targets_of lifetime log group source moment endpoint =
     ∙ ap (λ (test : Bool). test && wanted endpoint) (has-rising tunnel_order-total (endpoints_in log) endpoint)
     ∙ known_by (has tunnel_order (endpoints_in log) endpoint) (wanted endpoint) (unreported lifetime log group source moment endpoint)
 
--- the targets by the log rise
+-- the targets by the log ascend
 pub IsRising-targets_of : (lifetime : ℕ) (log : List Change) (group source : Ip) (moment : ℕ) → IsRising tunnel_order (targets_of lifetime log group source moment)
 unfolding targets_of
 IsRising-targets_of lifetime log group source moment =

@@ -30,8 +30,8 @@ abbrev pub records_of : List Renewal → List Record
 records_of [] = []
 records_of (newest ∷ older) = newest.records ++ records_of older
 
--- The records are those of a front, which are the newest renewals of the place. The front is
--- unbroken, and no longer front is.
+-- The records are those of a prefix, which are the newest renewals of the place. The prefix is
+-- unbroken, and no longer prefix is.
 pub record IsLongestChain (lifetime : ℕ) (place : Place) (moment : ℕ) (past : List Change) (records : List Record) : Type 0 where
   pub front : List Renewal
   pub before : List Renewal

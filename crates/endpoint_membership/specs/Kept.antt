@@ -23,7 +23,7 @@ only test (Some kept) = if test kept then Some kept else None
 abbrev pub is_besides : Tunnel → Kept → Bool
 is_besides endpoint kept = not (same_endpoint kept.endpoint endpoint)
 
--- the row's endpoint comes before this one, or behind it
+-- the row's endpoint comes before this one, or after it
 abbrev pub is_before : Tunnel → Kept → Bool
 is_before endpoint kept = is_lt (tunnel_order kept.endpoint endpoint)
 

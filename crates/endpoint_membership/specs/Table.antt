@@ -27,7 +27,7 @@ pub record Terms : Type 0 where
   pub limits : Limits
   pub lifetime : ℕ
 
--- the rows rise by endpoint and group, and at each place stands what stands there by the entries
+-- the rows ascend by endpoint and group, and at each place stands what stands there by the entries
 pub record AreRows (lifetime moment : ℕ) (past : List Change) (rows : List Kept) : Type 0 where
   pub rise : IsRising kept_order rows
   pub each : (place : Place) → row_at rows place ≡ standing lifetime moment past place

@@ -16,7 +16,7 @@ endpoints_in (Reported endpoint records at ∷ rest) = endpoint ∷ endpoints_in
 endpoints_in (Clear endpoint at ∷ rest) = endpoints_in rest
 endpoints_in (Mark at ∷ rest) = endpoints_in rest
 
--- the different endpoints that want the source of the group at a moment, rising; no moment is
+-- the different endpoints that want the source of the group at a moment, ascending; no moment is
 -- before the latest one of the log
 unfoldable pub targets_of : ℕ → List Change → Ip → Ip → ℕ → List Tunnel
 targets_of lifetime log group source moment =

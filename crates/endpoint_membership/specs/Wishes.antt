@@ -38,7 +38,7 @@ named (newest ∷ older) = newest.sources ++ named older
 abbrev pub is_counted : List Record → Ip → Bool
 is_counted records source = if excludes records then not (admitted records source) else admitted records source
 
--- the different named sources that are so, rising; their number is the group's size
+-- the different named sources that are so, ascending; their number is the group's size
 abbrev pub counted_sources : List Record → List Ip
 counted_sources records = rising_sources (filter (is_counted records) (named records))
 

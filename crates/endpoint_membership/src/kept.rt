@@ -37,7 +37,7 @@ impl Kept {
         self.endpoint < *endpoint
     }
 
-    /// Whether its endpoint comes behind this one.
+    /// Whether its endpoint comes after this one.
     pub fn is_behind(&self, endpoint: &Endpoint) -> bool
         ensures { result ≡ is_behind endpoint.now self.now }
     {

@@ -1,5 +1,5 @@
 -- From what was answered by the reading of a payload to what it says of the report.
-use Rattle.std.proofs.Common.{◌≡◌, ℕ, ◌≤◌, List, length, drop, slice_index, ◌++◌, Bool, true, false, cond, eqb, ltb, Option, Some, None, Result, Ok, Err, refl, sym, subst, ap, ◌∙◌}
+use Rattle.std.proofs.Common.{◌≡◌, ◌↔◌, ℕ, ◌≤◌, List, length, drop, slice_index, ◌++◌, Bool, true, false, cond, eqb, ltb, Option, Some, None, Result, Ok, Err, refl, sym, subst, ap, ◌∙◌}
 use Rattle.std.proofs.lemmas.Bool.{eqb-true, eq-eqb, ltb-false, le-ltb}
 use Rattle.std.specs.Result.{IfOk, MatchResult}
 use Rattle.byteorder.specs.Endian.{big_number}
@@ -14,7 +14,7 @@ use Rattle.source_filter.specs.declared.fault.ReadFault.TheVariants.{Report, Mem
 use Rattle.group_records.specs.declared.family.Family.{Family}
 use Rattle.group_records.specs.Carried.{known_records}
 use Rattle.group_records.specs.Family.{report_type}
-use Rattle.group_records.specs.Report.{IsReport}
+use Rattle.group_records.specs.Report.{IsReport, IsSomeReport}
 use Rattle.group_records.specs.Reading.{Gives, Tells, all_carried_at, first_report_fault, report_head_fault, reading_by, report_of, sum_fault}
 use Rattle.group_records.proofs.Spelled.{untaken}
 use Rattle.group_records.proofs.Walk.{AreRecords-once, AreRecords-read, fault_or-none}
@@ -83,6 +83,29 @@ unfolding report_of
 read_is_report family pseudo_header payload records small same =
     let read = reading_by-ok (first_report_fault family pseudo_header payload) _ records same in
     subst (λ (rs : List Record). IsReport family pseudo_header rs payload) read.1 (faultless_is_report family pseudo_header payload small read.0)
+
+-- what is read of a payload is what it is a report of, and it needs no call that reads it
+pub report_of-report : (family : Family) (pseudo_header payload : List ℕ) → AreOctets payload → (records : List Record)
+    → (report_of family pseudo_header payload ≡ Ok records) ↔ IsReport family pseudo_header records payload
+report_of-report family pseudo_header payload small records =
+    (read_is_report family pseudo_header payload records small, report_is_read family pseudo_header payload records)
+
+faultless_report : (family : Family) (pseudo_header payload : List ℕ) → IsSomeReport family pseudo_header payload
+    → first_report_fault family pseudo_header payload ≡ None
+unfolding report_of
+faultless_report family pseudo_header payload some =
+    (reading_by-ok (first_report_fault family pseudo_header payload) _ some.records (report_is_read family pseudo_header payload some.records some.report)).0
+
+-- a payload has no fault exactly where it is a report
+pub first_report_fault-none : (family : Family) (pseudo_header payload : List ℕ) → AreOctets payload
+    → (first_report_fault family pseudo_header payload ≡ None) ↔ IsSomeReport family pseudo_header payload
+first_report_fault-none family pseudo_header payload small = (
+  λ none. record {
+    records = known_records family (all_carried_at family (big_number 2 (drop 6 payload)) (drop 8 payload));
+    report = faultless_is_report family pseudo_header payload small none;
+  },
+  faultless_report family pseudo_header payload,
+)
 
 pub answer_found : (family : Family) (pseudo_header payload : List ℕ) (answer : Result (List Record) ReadFault) → AreOctets payload
     → Gives answer (report_of family pseudo_header payload) → IfOk answer (λ records. IsReport family pseudo_header records payload)

@@ -1,4 +1,4 @@
--- The codes of times: values rise with codes, and a value shifted back has its code's mantissa.
+-- The codes of times: values ascend with codes, and a value shifted back has its code's mantissa.
 use Rattle.std.proofs.Common.{◌≡◌, ◌≢◌, ℕ, zero, suc, ◌+◌, ◌-◌, ◌*◌, ◌/◌, ◌%◌, ◌^◌, ◌<◌, ◌≤◌, ◌⊎◌, Bool, true, false, cond, eqb, bit_and, bit_or, Option, Some, unwrap_or, inl, inr, refl, sym, ap, ◌∙◌, arith}
 use Rattle.std.proofs.Math.Nat.{mul_assoc, mul-le-mul, mul-lt-mul_of_pos_right, mul-div_cancel, pow-le-pow_right}
 use Rattle.std.proofs.lemmas.Bool.{eq-eqb, eqb-true, lt-ltb, le-ltb, cases_lt, cases_order}

@@ -124,7 +124,7 @@ either : (first second : Bool) → second ≡ true → (first || second) ≡ tru
 either true second holds = refl
 either false second holds = holds
 
--- and so does a record behind it
+-- and so does a record after it
 pub asks_later : (family : Family) (count index : ℕ) (left rest : List ℕ) → index < count → record_length family left ≤ length left
     → rest ≡ drop (record_length family left) left → asks_memory family (count - (index + 1)) rest ≡ true
     → asks_memory family (count - index) left ≡ true

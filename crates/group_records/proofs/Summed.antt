@@ -1,4 +1,4 @@
--- A message whose checksum is filled in, behind its first two octets, adds up right.
+-- A message whose checksum is filled in, after its first two octets, adds up right.
 use Rattle.std.proofs.Common.{◌≡◌, ℕ, ◌+◌, ◌*◌, ◌/◌, ◌%◌, List, [], ◌∷◌, ◌++◌, length, length-append, subst, arith, append_assoc}
 use Rattle.byteorder.specs.Endian.{big_bytes}
 use Rattle.amt_values.specs.Octets.{AreOctets}

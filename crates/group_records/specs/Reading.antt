@@ -122,7 +122,7 @@ abbrev pub Gives : Result (List Record) ReadFault → Result (List Record) Repor
 Gives (Ok records) reading = reading ≡ Ok records
 Gives (Err fault) reading = FaultGives fault reading
 
--- the fault that is told is this one; want of memory tells none
+-- the fault that is reported is this one; out of memory reports none
 abbrev pub Tells : Option ReportFault → ReadFault → Type 0
 Tells first (Report fault) = first ≡ Some fault
 Tells first Memory = Unit {0}

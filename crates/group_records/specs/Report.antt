@@ -23,3 +23,8 @@ pub record IsReport (family : Family) (pseudo_header : List ℕ) (records : List
   pub kind : slice_index payload 0 ≡ report_type family
   pub right_sum : IsRight (pseudo_header ++ payload)
   pub carries : AreRecords family (big_number 2 (drop 6 payload)) records (drop 8 payload)
+
+-- a report of some records
+pub record IsSomeReport (family : Family) (pseudo_header payload : List ℕ) : Type 0 where
+  pub records : List Record
+  pub report : IsReport family pseudo_header records payload

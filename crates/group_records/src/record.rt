@@ -22,7 +22,7 @@ fn kind_of(kind: u8) -> Option<RecordKind>
     }
 }
 
-// The number of sources that is stated behind two octets, as in a record's head and behind a
+// The number of sources that is stated after two octets, as in a record's head and after a
 // query's group.
 pub fn source_count(octets: &[u8]) -> u16
     requires { 4 ≤ length octets.now }

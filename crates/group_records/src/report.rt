@@ -1,9 +1,9 @@
-ghost use Rattle.std.specs.Prelude.{◌≡◌, ◌≤◌, ◌%◌, List, length, drop, IfOk, Ok, Err, MatchResult, None, Some, true};
+ghost use Rattle.std.specs.Prelude.{◌≡◌, ◌↔◌, ◌≤◌, ◌%◌, List, length, drop, IfOk, Ok, Err, MatchResult, None, Some, true};
 ghost use Rattle.source_filter.specs.Record.{item_count};
 ghost use Rattle.source_filter.specs.declared.record.Record.{Record as RecordValue};
 ghost use Rattle.source_filter.specs.declared.fault.ReadFault.TheVariants.{Memory};
 ghost use Rattle.source_filter.specs.declared.fault.ReportFault.{ReportFault as ReportFaultValue};
-ghost use Rattle.group_records.specs.Report.{IsReport};
+ghost use Rattle.group_records.specs.Report.{IsReport, IsSomeReport};
 ghost use Rattle.group_records.specs.Reading.{AsksMemory, Gives, Tells, asks_memory, first_report_fault, report_head_fault, kind_fault, records_reading, report_of, sum_fault};
 
 use crate::family::{Family, is_old_report, report_type};
@@ -135,6 +135,13 @@ pub fn read_report(
         → IsReport family pseudo_header.now records payload.now
         → IsReport family pseudo_header.now others payload.now
         → records ≡ others }
+
+    // Of every payload, whatever is answered: also where memory ran out.
+    ensures spelled { (first_report_fault family pseudo_header.now payload.now ≡ None)
+        ↔ IsSomeReport family pseudo_header.now payload.now }
+    ensures reading { (records : List RecordValue)
+        → (report_of family pseudo_header.now payload.now ≡ Ok records)
+        ↔ IsReport family pseudo_header.now records payload.now }
 
     ensures refused { MatchResult result
         (λ _. first_report_fault family pseudo_header.now payload.now ≡ None)

@@ -22,7 +22,7 @@ IsInnerAt inner bytes = IsInner inner.source inner.destination (payload_of inner
 pub version4 : (version : ℕ) → not (eqb version 4 || eqb version 6) ≡ false → eqb version 6 ≡ false → version ≡ 4
 version4 version one not_six = eqb-true version 4 (grind arith)
 
--- where no condition on the version holds, the first fault is that of the conditions behind it
+-- where no condition on the version holds, the first fault is that of the conditions after it
 behind_version : (bytes : List ℕ) (rest : Conditions InnerFault) → first_holding (version_faults bytes ++ rest) ≡ None
     → (not (eqb (ip_version bytes) 4 || eqb (ip_version bytes) 6) ≡ false) × (first_holding rest ≡ None)
 behind_version bytes rest none =

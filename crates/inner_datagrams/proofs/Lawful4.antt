@@ -1,4 +1,4 @@
--- IPv4: bytes have no fault behind their version exactly where they are an inner datagram.
+-- IPv4: bytes have no fault after their version exactly where they are an inner datagram.
 use Rattle.std.proofs.Common.{◌≡◌, ℕ, List, length, ltb, false, None, refl, sym, arith}
 use Rattle.std.proofs.lemmas.Bool.{le-ltb, ltb-false}
 use Rattle.inner_datagrams.specs.Header.{ip_version, header_octets, source_number, destination_number}

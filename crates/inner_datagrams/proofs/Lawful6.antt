@@ -1,4 +1,4 @@
--- IPv6: bytes have no fault behind their version exactly where they are an inner datagram.
+-- IPv6: bytes have no fault after their version exactly where they are an inner datagram.
 use Rattle.std.proofs.Common.{◌≡◌, ◌⊎◌, inl, inr, ℕ, ◌≤◌, List, length, drop, ltb, eqb, cond, Bool, true, false, ◌&&◌, None, refl, sym, arith}
 use Rattle.std.proofs.lemmas.Bool.{le-ltb, ltb-false, eqb-true}
 use Rattle.inner_datagrams.specs.Header.{ip_version}

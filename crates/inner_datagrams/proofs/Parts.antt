@@ -60,7 +60,7 @@ ones_sum-around pseudo_header front back pseudo_even front_even pseudo_small fro
     let whole = ones_sum-append_even (pseudo_header ++ front) (0 ∷ 0 ∷ back) before_even before_small field_small in
     rw (whole, before, ones_sum-zero_field back back_small) refl
 
--- with nothing in front of the field, the sum is that of what is behind it
+-- with nothing before the field, the sum is that of what comes after it
 pub internet_sum_of-all_behind : (pseudo_header bytes : List ℕ) → length pseudo_header % 2 ≡ 0 → AreOctets pseudo_header → AreOctets bytes
     → internet_sum_of (pseudo_header ++ [] ++ 0 ∷ 0 ∷ bytes) ≡ internet_sum_of (pseudo_header ++ bytes)
 internet_sum_of-all_behind pseudo_header bytes even pseudo_small small =

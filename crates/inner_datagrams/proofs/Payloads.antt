@@ -1,4 +1,4 @@
--- What stands behind a datagram's headers.
+-- What stands after a datagram's headers.
 use Rattle.std.proofs.Common.{◌≡◌, ℕ, ◌-◌, List, length, length-drop, drop, arith}
 use Rattle.std.proofs.lemmas.List.{take_all}
 use Rattle.inner_datagrams.specs.Reading.{payload_of}

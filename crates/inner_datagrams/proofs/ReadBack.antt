@@ -12,7 +12,7 @@ use Rattle.inner_datagrams.specs.Written.{header4_with_sum, header4, written_inn
 use Rattle.inner_datagrams.proofs.Octets.{AreOctets-from_each}
 use Rattle.inner_datagrams.proofs.RightSum.{IsRight-filled}
 
--- what stands before the checksum of a header, and behind it
+-- what stands before the checksum of a header, and after it
 abbrev before_sum : ℕ → List ℕ
 before_sum total_length = 0x46 ∷ 0xc0 ∷ big_bytes 2 total_length ++ 0 ∷ 0 ∷ 0 ∷ 0 ∷ [] ++ 1 ∷ 2 ∷ []
 
@@ -77,7 +77,7 @@ start6 : (source destination : ℕ) (payload : List ℕ) → payload_start (writ
 unfolding written_inner6
 start6 source destination payload = refl
 
--- the payload that is written begins behind the headers that are written
+-- the payload that is written begins after the headers that are written
 pub payload_start-written : (source destination : Ip) (payload bytes : List ℕ) → IsWrittenInner source destination payload bytes
     → payload_start bytes ≡ written_headers source
 payload_start-written (V4 source) (V4 destination) payload bytes h = ap payload_start h.2 ∙ start4 source destination payload

@@ -32,7 +32,7 @@ ones_sum-complement front back small =
     let after = rw (sum-between front back word) at (StandsFor-ones_sum (front ++ word ∷ back) filled) in
     complement_fills (sum (front ++ back)) blank _ before after
 
--- an even number of octets in front are words of their own
+-- an even number of octets before it are words of their own
 words-append : (front back : List ℕ) (pairs : ℕ) → length front ≡ pairs * 2 → words (front ++ back) ≡ words front ++ words back
 words-append [] back pairs even = refl
 words-append (last ∷ []) back pairs even = absurd (omega arith)

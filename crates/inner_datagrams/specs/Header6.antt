@@ -1,8 +1,8 @@
--- The fields of an IPv6 header (RFC 8200, section 3), and of a hop-by-hop header behind it (section 4.3).
+-- The fields of an IPv6 header (RFC 8200, section 3), and of a hop-by-hop header after it (section 4.3).
 use Rattle.std.specs.Prelude.{ℕ, ◌+◌, ◌*◌, ◌==◌, Bool, List, drop, slice_index, if◌then◌else◌}
 use Rattle.byteorder.specs.Endian.{big_number}
 
--- the octets behind the IPv6 header, those of extension headers among them
+-- the octets after the IPv6 header, those of extension headers among them
 abbrev pub payload_length : List ℕ → ℕ
 payload_length bytes = big_number 2 (drop 4 bytes)
 
@@ -28,11 +28,11 @@ has_hop_by_hop bytes = next_header bytes == 0
 abbrev pub hop_by_hop_next : List ℕ → ℕ
 hop_by_hop_next bytes = slice_index bytes 40
 
--- the place behind the hop-by-hop header; its length counts units of 8 octets without the first one
+-- the place after the hop-by-hop header; its length counts units of 8 octets without the first one
 abbrev pub hop_by_hop_end : List ℕ → ℕ
 hop_by_hop_end bytes = 40 + 8 * (slice_index bytes 41 + 1)
 
--- the place behind all headers that are read
+-- the place after all headers that are read
 abbrev pub headers_end6 : List ℕ → ℕ
 headers_end6 bytes = if has_hop_by_hop bytes then hop_by_hop_end bytes else 40
 

@@ -33,7 +33,7 @@ pub record FollowsHopByHop (payload bytes : List ℕ) : Type 0 where
   pub protocol : hop_by_hop_next bytes ≡ 58
   pub carries : drop (hop_by_hop_end bytes) bytes ≡ payload
 
--- an IPv6 datagram that carries ICMPv6, behind no extension header but one of hop-by-hop options
+-- an IPv6 datagram that carries ICMPv6, after no extension header but one of hop-by-hop options
 -- (RFC 8200, sections 3 and 4). The traffic class, the flow label, the hop limit and the options may
 -- be any.
 pub record IsInner6 (source destination : ℕ) (payload bytes : List ℕ) : Type 0 where

@@ -36,7 +36,7 @@ inner6_at bytes = parts6 (source_number6 bytes) (destination_number6 bytes) (hea
 abbrev pub inner_at : List ℕ → Inner
 inner_at bytes = if ip_version bytes == 6 then inner6_at bytes else inner4_at bytes
 
--- the place behind a datagram's headers, by its version
+-- the place after a datagram's headers, by its version
 abbrev pub payload_start : List ℕ → ℕ
 payload_start bytes = if ip_version bytes == 6 then headers_end6 bytes else header_octets bytes
 

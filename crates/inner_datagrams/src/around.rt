@@ -11,7 +11,7 @@ fn ones_add(one: u16, other: u16) -> u16
     (sum % 0x10000 + sum / 0x10000) as u16
 }
 
-/// The checksum that belongs into a field of two octets between `front` and `back`, behind a
+/// The checksum that belongs into a field of two octets between `front` and `back`, after a
 /// pseudo-header that is summed and not sent (RFC 1071, section 1; RFC 8200, section 8.1).
 ///
 /// The field stands at an even place, so the parts are summed where they stand.

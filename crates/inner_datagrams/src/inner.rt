@@ -5,9 +5,9 @@ use amt_values::Ip;
 pub struct Inner {
     pub source: Ip,
     pub destination: Ip,
-    /// The place of the payload's first octet, behind the headers and their options.
+    /// The place of the payload's first octet, after the headers and their options.
     pub start: usize,
-    /// The place behind the payload's last octet.
+    /// The place after the payload's last octet.
     pub end: usize,
 }
 

@@ -8,7 +8,7 @@ use amt_values::Bytes;
 use byteorder::{BigEndian, ByteOrder};
 use std::alloc::{AllocError, Global};
 
-// ICMPv6 follows, behind 8 octets with the option Router Alert and two octets of padding.
+// ICMPv6 follows, after 8 octets with the option Router Alert and two octets of padding.
 const HOP_BY_HOP: [u8; 8] = [58, 0, 5, 2, 0, 0, 1, 0];
 
 // The IPv6 header, of version 6 and hop limit 1, and the hop-by-hop header that follows it.

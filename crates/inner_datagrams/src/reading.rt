@@ -27,7 +27,7 @@ fn read(bytes: &[u8]) -> Result<Inner, InnerFault>
 }
 
 /// Reads a whole datagram that carries membership messages, in place: IGMP over IPv4, or ICMPv6
-/// over IPv6, there behind at most one hop-by-hop header.
+/// over IPv6, there after at most one hop-by-hop header.
 ///
 /// The type of service or traffic class, the identification, the flags but "more fragments", the
 /// flow label, the time to live or hop limit, the addresses and the options may be any. The faults

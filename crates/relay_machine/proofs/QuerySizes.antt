@@ -24,7 +24,7 @@ unfolding general_query written_inner4 written_inner6 written_query inner_length
 inner_length_of-general_query settings false = refl
 inner_length_of-general_query settings true = refl
 
--- so a Query may carry it, with as many octets behind it as an endpoint takes
+-- so a Query may carry it, with as many octets after it as an endpoint takes
 pub query_may_carry : (inner : List ℕ) (settings : Settings) (v6 : Bool) (behind : ℕ) → behind ≤ 18 → inner ≡ general_query settings v6
     → (inner_length_of inner ≡ Some (length inner)) × (12 + length inner + behind ≤ 65535)
 query_may_carry inner settings false behind few same =

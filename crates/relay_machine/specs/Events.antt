@@ -14,7 +14,7 @@ moment_in (Datagram from bytes) = None
 moment_in (Packet bytes) = None
 moment_in (Rotate secret) = None
 
--- how late the events have told that it is; 0 before they tell
+-- the latest time that the events have reported; 0 before they report any
 unfoldable pub now_of : List Event → ℕ
 now_of events = fold max 0 (filter_map moment_in events)
 

@@ -70,7 +70,7 @@ impl Relay {
         })
     }
 
-    /// The latest moment that the relay was told, or 0.
+    /// The latest moment that was reported to the relay, or 0.
     pub fn now(&self) -> Moment
         ensures value { result ≡ moment_of self.now }
         ensures latest { (settings : SettingsValue) (first : SecretValue)
@@ -103,7 +103,7 @@ impl Relay {
         self.table.live_endpoints()
     }
 
-    /// Takes one event. After want of memory the relay is as before, and the event may be given
+    /// Takes one event. Where memory ran out the relay is as before, and the event may be given
     /// again.
     pub fn step(&mut self, alloc: Global, event: &Event) -> Result<Step, AllocError>
         requires { IsEvent event.now }

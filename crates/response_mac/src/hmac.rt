@@ -12,7 +12,7 @@ const OUTER_PAD: u8 = 0x5c;
 
 /// HMAC with SHA-256 (RFC 2104).
 ///
-/// A short key and itself with zeros behind are one key, and so are a key above 64 octets and its
+/// A short key and itself with zeros after are one key, and so are a key above 64 octets and its
 /// digest: let no peer choose keys.
 #[tactic(auto, unfolding(crate::specs::Hmac::hmac_of))]
 pub fn hmac_sha256(key: &[u8], message: &[u8]) -> [u8; 32]

@@ -1,4 +1,4 @@
--- What a filter admits after a record, and that its sources rise.
+-- What a filter admits after a record, and that its sources ascend.
 use Rattle.std.proofs.Common.{◌≡◌, Bool, true, false, not, ◌&&◌, ◌||◌, if◌then◌else◌, List, ◌++◌, refl, ap, ◌∙◌}
 use Rattle.amt_values.specs.declared.address.Ip.{Ip}
 use Rattle.amt_values.specs.Order.{ip_order}

@@ -114,7 +114,7 @@ module _ {K : Type 0} {order : K → K → Ordering} where
     IsRising-rising [] = tt
     IsRising-rising (x ∷ xs) = IsRising-placed x (rising order xs) (IsRising-rising xs)
 
-    -- a set has one rising list
+    -- a set has one ascending list
     pub same_rising : CmpEqualImpliesEq order → (xs ys : List K) → IsRising order xs → IsRising order ys → ((s : K) → has order xs s ≡ has order ys s) → xs ≡ ys
     same_rising exact xs ys first second same =
         btree_set_from_contains total (record { keys = xs }) (record { keys = ys }) first second same exact

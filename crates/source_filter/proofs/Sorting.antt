@@ -63,7 +63,7 @@ module _ {K : Type 0} {order : K → K → Ordering} (total : IsTotalOrder order
   turned_greater : (x y : K) → order x y ≡ Greater → eq_by_cmp order y x ≡ false
   turned_greater x y is = ap is_eq (total.antisymm y x ∙ ap ordering_reverse is)
 
-  -- a binary search in a rising list tells whether it has the item
+  -- a binary search in an ascending list tells whether it has the item
   pub has-searched : (xs : List K) (s : K) (answer : Result ℕ ℕ) → IsRising order xs → IsSearchInRange answer (length xs)
       → IsBinarySearchResult (λ y. order y s) xs answer → is_ok answer ≡ has order xs s
   has-searched xs s (Ok i) rises below at = sym (list_any_at (eq_by_cmp order s) xs i s below (ap is_eq (tied_back total (get_or xs i s) s (at s))))

@@ -11,7 +11,7 @@ use Rattle.source_filter.specs.declared.record.Record.{Record}
 use Rattle.source_filter.specs.declared.record.RecordKind.{RecordKind}
 use Rattle.source_filter.specs.declared.record.RecordKind.TheVariants.{IsIn, IsEx, ToIn, ToEx, Allow, Block}
 
--- what contracts see of a filter: its mode, and its sources, which rise
+-- what contracts see of a filter: its mode, and its sources, which ascend
 pub record FilterValue : Type 0 where
   pub mode : Mode
   pub sources : List Ip
@@ -29,7 +29,7 @@ admits filter source = admits_by filter.mode (lists filter.sources source)
 abbrev pub nothing : FilterValue
 nothing = record { mode = Include; sources = [] }
 
--- the different sources, rising
+-- the different sources, ascending
 abbrev pub rising_sources : List Ip → List Ip
 rising_sources sources = rising ip_order sources
 

@@ -1,4 +1,4 @@
--- Lists that rise by an order, with each item once: sets with one form.
+-- Lists that ascend by an order, with each item once: sets with one form.
 use Rattle.std.specs.Prelude.{Bool, not, List, [], ◌∷◌, ◌++◌}
 use Rattle.std.specs.List.{filter, list_any}
 use Rattle.std.specs.List.Sorted.{IsStrictlySortedBy}
@@ -14,17 +14,17 @@ module _ {K : Type 0} (order : K → K → Ordering) where
   abbrev pub IsRising : List K → Type 0
   IsRising xs = IsStrictlySortedBy order xs
 
-  -- rising items with x among them
+  -- ascending items with x among them
   abbrev pub placed : K → List K → List K
   placed x [] = x ∷ []
   placed x (y ∷ ys) = match_ordering (order x y) (x ∷ y ∷ ys) (y ∷ ys) (y ∷ placed x ys)
 
-  -- the different items of a list, rising
+  -- the different items of a list, ascending
   abbrev pub rising : List K → List K
   rising [] = []
   rising (x ∷ xs) = placed x (rising xs)
 
-  -- the items of either list, rising
+  -- the items of either list, ascending
   abbrev pub union : List K → List K → List K
   union xs ys = rising (xs ++ ys)
 

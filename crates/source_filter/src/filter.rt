@@ -13,7 +13,7 @@ use std::marker::Model;
 
 /// What is wanted of one group: a mode and the sources that it speaks of (RFC 3376, section 3.2).
 ///
-/// The sources rise, and each is listed once, so equal wishes of one mode are equal filters.
+/// The sources ascend, and each is listed once, so equal wishes of one mode are equal filters.
 #[derive(Debug, Drop)]
 pub struct Filter {
     mode: Mode,
@@ -61,7 +61,7 @@ impl Filter {
         self.mode
     }
 
-    /// The listed sources, rising.
+    /// The listed sources, ascending.
     pub fn sources(&self) -> &[Ip]
         ensures listed { result.now ≡ self.now.sources }
         ensures rising { IsRising ip_order self.now.sources }

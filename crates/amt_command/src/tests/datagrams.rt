@@ -1,7 +1,7 @@
 use super::are_texts;
 use std::test::Fail;
 
-// Each row: what it shows, the lines behind the relay's settings, and the text. The texts were worked out
+// Each row: what it shows, the lines after the relay's settings, and the text. The texts were worked out
 // from the definitions, and the response MACs by another implementation, Python's hmac module.
 const ROWS: [(&str, &str, &str); 7] = [
     (

@@ -28,7 +28,7 @@ impl Model for MemSink {
 }
 
 impl MemSink {
-    /// No call of it fails but for want of memory.
+    /// No call of it fails unless memory runs out.
     pub fn new(alloc: Global) -> Self
         ensures written { result.written ≡ [] }
         ensures tally { result.tally ≡ fresh_tally [] }

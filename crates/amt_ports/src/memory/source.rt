@@ -57,7 +57,7 @@ impl Source for FaultlessSource {
     }
 }
 
-// Copies as many bytes as both have to the front of the buffer, and answers how many.
+// Copies as many bytes as both have to the start of the buffer, and answers how many.
 fn fill(buf: &mut [u8], bytes: &[u8]) -> usize
     ensures count { result ≡ min (length bytes.now) (length buf.old) }
     ensures copied { take result buf.new ≡ take result bytes.now }

@@ -35,7 +35,7 @@ loop-source-preserved c =
     one_more c.args.sources.now c.as_slice-source-items.result.now c.as_slice.result.now c.loop-source.kept c.push.new.self c.loop-source.source-index false
     own c.loop-source-test.true c.loop-source.invariant c.if-is_among.ensures c.in_ok-push.ensures.ok
 
--- the loop went over all of the old sources, which rise
+-- the loop went over all of the old sources, which ascend
 pub invariant_of-result : goal.invariant_of-result
 invariant_of-result c =
     let whole : take c.loop-source.source-index c.as_slice-source-items.result.now ≡ c.self.inside.sources =

@@ -1,4 +1,4 @@
--- What `fill` copied is the front of what was left, and the place moved past it.
+-- What `fill` copied is the prefix of what was left, and the place moved past it.
 use Rattle.std.proofs.Common.{◌≡◌, ◌+◌, ◌++◌, length, take, drop, arith, sym, ap, ◌∙◌, drop_of_length-le}
 use Rattle.amt_ports.proofs.Taken.{drop-front}
 use Rattle.amt_ports.proofs.memory.source.FaultlessSourceSource.read.Goals as goal
