@@ -1,6 +1,7 @@
 mod calls;
 mod datagrams;
 mod day;
+mod embedding;
 mod faults;
 mod mld;
 mod outcomes;

@@ -140,8 +140,8 @@ impl Relay {
         ensures err { OnErr result (self.new ≡ self.old) }
 
         // An Update of an endpoint under a good MAC, with a lawful report and within the limits, adds
-        // the report's records on forwardable groups at the relay's moment, and no other event does
-        // (RFC 7450, section 5.3.3).
+        // the report's records on forwardable groups at the relay's moment, and no other event is
+        // `Updated` (RFC 7450, section 5.3.3).
         ensures updated { (settings : SettingsValue) (first : SecretValue)
             (events : List EventValue) (endpoint : Tunnel) (records : List RecordValue)
             → RelayAt self.old settings first events
