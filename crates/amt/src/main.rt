@@ -1,14 +1,13 @@
 //! The program `amt`: the command over standard input, output and error.
 //!
-//! Contract: it ends with the status that `amt_command::amt_exit_code` answers for its words and streams.
+//! Contract: it ends with the status that `amt_command::amt_exit` answers for its words and streams.
 //! It knows no format and no protocol.
 //! No standard.
 #![tactic(auto)]
 
-use amt_command::{amt_exit_code, exit_code_without_memory};
+use amt_command::{Exit, amt_exit, exit_without_memory};
 use amt_ports::{ReaderSource, WriterSink};
 use std::io::ErrorKind;
-use std::process::ExitCode;
 use std::rt::Env;
 use std::{env, io};
 
@@ -21,17 +20,17 @@ fn words(rt: &(impl Env + AllocGlobal)) -> io::Result<Vec<String>> {
     Ok(words)
 }
 
-fn main(rt: HostRuntime) -> ExitCode {
+fn main(rt: HostRuntime) -> Exit {
     let mut input = ReaderSource::new(rt.stdin());
     let mut out = WriterSink::new(rt.stdout());
     let mut err = WriterSink::new(rt.stderr());
     let words = match words(&rt) {
         Ok(words) => words,
         Err(error) if error.kind() == ErrorKind::OutOfMemory => {
-            return exit_code_without_memory(&mut err);
+            return exit_without_memory(&mut err);
         }
         // Words that can't be read, as those that aren't UTF-8, are no line of the command.
         Err(_) => Vec::new(rt.alloc()),
     };
-    amt_exit_code(rt.alloc(), &words, &mut input, &mut out, &mut err)
+    amt_exit(rt.alloc(), &words, &mut input, &mut out, &mut err)
 }

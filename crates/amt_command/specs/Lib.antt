@@ -1,3 +1,4 @@
 pub mod Command
 pub mod Ending
+pub mod Exit
 pub mod Status

@@ -7,11 +7,13 @@
 #![tactic(auto)]
 
 mod ending;
+mod exit;
 mod fault;
 mod reading;
 mod top;
 
-pub use top::{amt, amt_exit_code, amt_without_memory, exit_code_without_memory};
+pub use exit::Exit;
+pub use top::{amt, amt_exit, amt_without_memory, exit_without_memory};
 
 #[cfg(test)]
 mod tests;

@@ -1,6 +1,5 @@
 ghost use Rattle.std.specs.Prelude.{◌≡◌, ◌≢◌, ◌↔◌, ◌⊎◌, map, string_bytes, IsTrue, IsOk, IsErrOf, IfErr, OnOk};
 ghost use Rattle.std.specs.Io.KnownBytes.{Appends};
-ghost use Rattle.std.specs.Process.{exit_status};
 ghost use Rattle.amt_ports.specs.Causes.{Rose};
 ghost use Rattle.amt_ports.specs.Reading.{TakesAtMost, TakesMore};
 ghost use Rattle.amt_values.specs.declared.bytes.TheConstants.{INPUT_LIMIT};
@@ -8,14 +7,15 @@ ghost use Rattle.amt_script.specs.Fault.{HasOneScript, HasOneFault};
 ghost use Rattle.amt_script.specs.Writing.{WritesFront};
 ghost use Rattle.amt_command.specs.Command.{IsReplayRelay, Replays, BeginsToReplay};
 ghost use Rattle.amt_command.specs.Ending.{status_of, line_of, TellsItsFault};
+ghost use Rattle.amt_command.specs.Exit.{status_in};
 ghost use Rattle.amt_command.specs.Status.{Answers, Reports, ReportsMemory};
 
 use crate::ending::Ending;
+use crate::exit::Exit;
 use crate::reading::read_script;
 use amt_ports::{Sink, Source, write_all_own};
 use amt_script::{RunFault, run_relay_script};
 use std::alloc::Global;
-use std::process::ExitCode;
 
 fn is_word(word: &String, text: &str) -> bool
     ensures { IsTrue result ↔ (string_bytes word.now ≡ text.now) }
@@ -133,19 +133,21 @@ pub fn amt<S: Source, O: Sink, E: Sink>(
 }
 
 /// `amt`, with the status as the one that the process ends with.
-pub fn amt_exit_code<S: Source, O: Sink, E: Sink>(
+pub fn amt_exit<S: Source, O: Sink, E: Sink>(
     alloc: Global,
     words: &[String],
     input: &mut S,
     out: &mut O,
     err: &mut E,
-) -> ExitCode
+) -> Exit
     ensures answers { Answers S.left S.faults O.written O.faults
-        (map string_bytes words.now) input.old input.new out.old out.new (exit_status result) }
+        (map string_bytes words.now) input.old input.new out.old out.new (status_in result) }
     ensures reports { Reports S.left E.written E.faults input.old input.new
-        err.old err.new (exit_status result) }
+        err.old err.new (status_in result) }
+    ensures one_script { HasOneScript }
+    ensures one_fault { HasOneFault }
 {
-    ExitCode::from(amt(alloc, words, input, out, err))
+    Exit::of(amt(alloc, words, input, out, err))
 }
 
 /// What `amt` answers where memory runs out before there are words.
@@ -158,8 +160,8 @@ pub fn amt_without_memory<E: Sink>(err: &mut E) -> u8
 }
 
 /// `amt_without_memory`, with the status as the one that the process ends with.
-pub fn exit_code_without_memory<E: Sink>(err: &mut E) -> ExitCode
-    ensures { ReportsMemory E.written E.faults err.old err.new (exit_status result) }
+pub fn exit_without_memory<E: Sink>(err: &mut E) -> Exit
+    ensures { ReportsMemory E.written E.faults err.old err.new (status_in result) }
 {
-    ExitCode::from(amt_without_memory(err))
+    Exit::of(amt_without_memory(err))
 }

@@ -95,13 +95,12 @@ within_prop : (table : TableValue) → IsProp (IsWithinLimits table)
 within_prop table = hlevel props
 
 -- relays that keep the same are one
-pub same_relay : (relay after : Relay) → after.querier ≡ relay.querier → after.secrets ≡ relay.secrets → after.table ≡ relay.table → after ≡ relay
-same_relay relay after same_querier same_secrets same_table = λ i. record {
-  querier = same_querier i;
-  secrets = same_secrets i;
-  table = same_table i;
-  within = is_prop→PathP (λ j. IsWithinLimits (same_table j)) (λ j. within_prop (same_table j)) after.within relay.within i;
-  has_log = is_prop→PathP (λ j. ∥ HasLog (terms_of (same_querier j).settings) (same_table j) ∥₁) (λ j. ∥∥₁_prop) after.has_log relay.has_log i;
+pub same_relay : (relay : Relay) (table : TableValue) (within : IsWithinLimits table) (has_log : ∥ HasLog (terms_of relay.querier.settings) table ∥₁)
+    → table ≡ relay.table → record relay { table = table; within = within; has_log = has_log } ≡ relay
+same_relay relay table within has_log same = λ i. record relay {
+  table = same i;
+  within = is_prop→PathP (λ j. IsWithinLimits (same j)) (λ j. within_prop (same j)) within relay.within i;
+  has_log = is_prop→PathP (λ j. ∥ HasLog (terms_of relay.querier.settings) (same j) ∥₁) (λ j. ∥∥₁_prop) has_log relay.has_log i;
 }
 
 -- a new relay

@@ -45,7 +45,8 @@ IsSomeAcceptedUpdate settings first events event =
     (endpoint : Tunnel) × (records : List Record) × IsAcceptedUpdate settings first events event endpoint records
 
 -- the event is a Teardown, of whatever endpoint, that names this one: its response MAC is good for
--- the endpoint that it names, at which some group stands
+-- the endpoint that it names, at which some group stands. Where none does, the log keeps the clearing
+-- too, and nothing that stands changes
 pub record IsAcceptedTeardown (settings : Settings) (first : Secret) (events : List Event) (event : Event) (named : Tunnel) : Type 0 where
   pub from : Peer
   pub bytes : List ℕ

@@ -12,6 +12,7 @@
 mod datagram;
 mod event;
 mod forward;
+mod laws;
 mod outcome;
 mod packet;
 mod querier;
@@ -24,6 +25,7 @@ mod teardown;
 mod update;
 
 pub use event::Event;
+pub use laws::lawful_reports_are_those_that_are_read;
 pub use outcome::{NotForwarded, Outcome, Unlawful};
 pub use relay::Relay;
 pub use sends::{OneSend, Sends, Step};

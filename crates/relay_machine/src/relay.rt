@@ -18,7 +18,8 @@ use std::alloc::{AllocError, Global};
 /// A relay (RFC 7450, section 4.1.3).
 ///
 /// Contracts see each of its fields, so where they say that a relay is as before, nothing more was
-/// kept. What the table keeps is within the limits, and stands for some log.
+/// kept; a cell, of which they see nothing, none of its fields is. What the table keeps is within the
+/// limits, and stands for some log.
 #[derive(Debug, Drop)]
 pub struct Relay {
     querier: Querier,

@@ -333,3 +333,12 @@ fn each_event_has_its_outcome_and_its_entry(rt: HostRuntime) -> Result<(), Fail>
     goes_through(&rt, rt.alloc(), &mut relay, &LEAVING)?;
     Ok(())
 }
+
+fn has_no_cell<T: Sync>() {}
+
+// Contracts don't see what a cell holds, so one could hide what came. What threads may share has no
+// `Cell` and no `RefCell`.
+#[test]
+fn a_relay_has_no_cell(_rt: HostRuntime) {
+    has_no_cell::<Relay>();
+}

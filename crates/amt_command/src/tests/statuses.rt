@@ -1,5 +1,5 @@
 use super::*;
-use std::process::ExitCode;
+use std::process::{ExitCode, Termination};
 
 const SCRIPT: &str = "set relay 192.0.2.1\ndg 198.51.100.7:5000 0100000001020304\n";
 
@@ -135,12 +135,12 @@ fn an_input_of_one_octet_too_many_is_too_long(rt: HostRuntime) -> Result<(), Fai
 }
 
 // The same run with the status as that of a process.
-fn exit_code(alloc: Global, line: &str, script: &str) -> Result<ExitCode, AllocError> {
+fn exit(alloc: Global, line: &str, script: &str) -> Result<Exit, AllocError> {
     let words = words_of(alloc, line)?;
     let mut input = MemSource::new(alloc, Bytes::copied(alloc, script.as_bytes())?);
     let mut out = MemSink::new(alloc);
     let mut err = MemSink::new(alloc);
-    Ok(amt_exit_code(alloc, &words, &mut input, &mut out, &mut err))
+    Ok(amt_exit(alloc, &words, &mut input, &mut out, &mut err))
 }
 
 #[test]
@@ -150,7 +150,7 @@ fn a_process_ends_with_the_status(rt: HostRuntime) -> Result<(), Fail> {
         ("replay relay", "jump", 3),
         ("jump", "", 2),
     ] {
-        let code = exit_code(rt.alloc(), line, script)?;
+        let code = exit(rt.alloc(), line, script)?.report(&rt);
         assert_eq!(rt; code, ExitCode::from(status), "{line}");
     }
     Ok(())
@@ -166,6 +166,9 @@ fn no_memory_for_the_words_is_status_7(rt: HostRuntime) {
 #[test]
 fn a_process_without_memory_for_its_words_ends_with_7(rt: HostRuntime) {
     let mut err = MemSink::new(rt.alloc());
-    assert_eq!(rt; exit_code_without_memory(&mut err), ExitCode::from(7));
+    assert_eq!(rt;
+        exit_without_memory(&mut err).report(&rt),
+        ExitCode::from(7)
+    );
     assert_eq!(rt; err.as_slice(), b"amt: out of memory\n".as_slice());
 }

@@ -42,7 +42,7 @@ returns-in-Moment-clause-published c log holds =
 
 pub returns-in-Datagram-clause-same : goal.returns-in-Datagram-clause-same
 returns-in-Datagram-clause-same c settings first events at payload =
-    IfOk-weaker c.answer.result _ _ (λ step same none. same_relay _ _ refl refl (same none)) (c.answer.ensures.same (accepted settings first events) (StandsFor-accepted c.args.self.now settings first events at))
+    IfOk-weaker c.answer.result _ _ (λ step same none. same_relay c.args.self.now _ _ _ (same none)) (c.answer.ensures.same (accepted settings first events) (StandsFor-accepted c.args.self.now settings first events at))
 
 pub returns-in-Datagram-clause-next : goal.returns-in-Datagram-clause-next
 returns-in-Datagram-clause-next c settings first events at =
