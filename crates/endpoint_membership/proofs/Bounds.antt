@@ -16,13 +16,13 @@ use Rattle.amt_values.specs.Order.{ip_order}
 use Rattle.amt_values.specs.Tunnel.{Tunnel}
 use Rattle.amt_values.proofs.Orders.{ip_order-total, tunnel_order-exact, tunnel_order-total}
 use Rattle.source_filter.specs.Filter.{FilterValue, applied, sources_after}
-use Rattle.source_filter.specs.Rising.{IsRising, has, rising}
+use Rattle.contract_words.specs.Ascending.{IsAscending, has, ascending}
 use Rattle.source_filter.specs.declared.mode.Mode.{Mode}
 use Rattle.source_filter.specs.declared.mode.Mode.TheVariants.{Include, Exclude}
 use Rattle.source_filter.specs.declared.record.Record.{Record}
 use Rattle.source_filter.specs.declared.record.RecordKind.{RecordKind}
 use Rattle.source_filter.specs.declared.record.RecordKind.TheVariants.{Allow, Block}
-use Rattle.source_filter.proofs.RisingLaws.{has-append, length-rising}
+use Rattle.contract_words.proofs.AscendingLaws.{has-append, length-ascending}
 use Rattle.endpoint_membership.specs.Limits.{group_count}
 use Rattle.endpoint_membership.specs.Own.{AreOf, applied_all, on_group}
 use Rattle.endpoint_membership.specs.Place.{Place, same_endpoint, same_group, same_place}
@@ -35,19 +35,19 @@ row_at-first : (kept : Kept) (rest : List Kept) → row_at (kept ∷ rest) (plac
 row_at-first kept rest = rw (ap is_eq (tied_itself place_order-total (place_of kept))) refl
 
 -- a later row is found among all rows: the first row is of another place
-found_more : (kept one : Kept) (rest : List Kept) (place : Place) (here : Bool) → same_place place (place_of kept) ≡ here → IsRising kept_order (kept ∷ rest) → row_at rest place ≡ Some one
+found_more : (kept one : Kept) (rest : List Kept) (place : Place) (here : Bool) → same_place place (place_of kept) ≡ here → IsAscending kept_order (kept ∷ rest) → row_at rest place ≡ Some one
     → cond here (Some kept) (row_at rest place) ≡ Some one
-found_more kept one rest place true same rises found =
-    let none = ap (row_at rest) (same_place-exact place (place_of kept) same) ∙ row_at-after (place_of kept) rest (sorted_head kept_order kept rest rises) in cc
-found_more kept one rest place false same rises found = found
+found_more kept one rest place true same ascends found =
+    let none = ap (row_at rest) (same_place-exact place (place_of kept) same) ∙ row_at-after (place_of kept) rest (sorted_head kept_order kept rest ascends) in cc
+found_more kept one rest place false same ascends found = found
 
-pub All-from_row_at : (P : Kept → Type 0) (rows : List Kept) → IsRising kept_order rows
+pub All-from_row_at : (P : Kept → Type 0) (rows : List Kept) → IsAscending kept_order rows
     → ((place : Place) (kept : Kept) → row_at rows place ≡ Some kept → P kept) → AllByRecursion P rows
-All-from_row_at P [] rises each = tt
-All-from_row_at P (kept ∷ rest) rises each = (
+All-from_row_at P [] ascends each = tt
+All-from_row_at P (kept ∷ rest) ascends each = (
   each (place_of kept) kept (row_at-first kept rest),
-  All-from_row_at P rest (sorted_tail kept_order kept rest rises)
-      (λ place one found. each place one (found_more kept one rest place (same_place place (place_of kept)) refl rises found)),
+  All-from_row_at P rest (sorted_tail kept_order kept rest ascends)
+      (λ place one found. each place one (found_more kept one rest place (same_place place (place_of kept)) refl ascends found)),
 )
 
 found_in : (P : Kept → Type 0) (here : Bool) (first kept : Kept) (later : Option Kept) → P first → (later ≡ Some kept → P kept) → cond here (Some first) later ≡ Some kept → P kept
@@ -59,16 +59,16 @@ All-at P [] place kept each found = cc
 All-at P (first ∷ rest) place kept each found =
     found_in P (same_place place (place_of first)) first kept (row_at rest place) each.0 (All-at P rest place kept each.1) found
 
-length-union : (old listed : List Ip) → length (rising ip_order (old ++ listed)) ≤ length old + length listed
-length-union old listed = omega (arith, length-rising ip_order (old ++ listed), length-append old listed)
+length-union : (old listed : List Ip) → length (ascending ip_order (old ++ listed)) ≤ length old + length listed
+length-union old listed = omega (arith, length-ascending ip_order (old ++ listed), length-append old listed)
 
 length-difference : (old listed : List Ip) → length (filter (λ (source : Ip). not (has ip_order listed source)) old) ≤ length old + length listed
 length-difference old listed =
     let lost = λ (source : Ip). not (has ip_order listed source) in
     omega (arith, length-filter_both lost (λ (source : Ip). not (lost source)) (λ (source : Ip). refl) old)
 
-length-listed : (old listed : List Ip) → length (rising ip_order listed) ≤ length old + length listed
-length-listed old listed = omega (arith, length-rising ip_order listed)
+length-listed : (old listed : List Ip) → length (ascending ip_order listed) ≤ length old + length listed
+length-listed old listed = omega (arith, length-ascending ip_order listed)
 
 -- a record brings at most its own sources
 length-sources_after : (kind : RecordKind) (mode : Mode) (old listed : List Ip) → length (sources_after kind mode old listed) ≤ length old + length listed
@@ -138,11 +138,11 @@ above_group endpoint kept (later ∷ own) here of above =
     (sym (by_group kept later (here ∙ sym (tells_apart tunnel_order-exact later.endpoint endpoint of.0))) ∙ above.0, above_group endpoint kept own here of.1 above.1)
 
 -- the groups of an endpoint ascend with its rows
-IsRising-groups : (endpoint : Tunnel) (own : List Kept) → AreOf endpoint own → IsRising kept_order own → IsRising ip_order (groups_of own)
+IsAscending-groups : (endpoint : Tunnel) (own : List Kept) → AreOf endpoint own → IsAscending kept_order own → IsAscending ip_order (groups_of own)
 unfolding IsStrictlySortedBy
-IsRising-groups endpoint [] of rises = tt
-IsRising-groups endpoint (kept ∷ own) of rises =
-    (above_group endpoint kept own (tells_apart tunnel_order-exact kept.endpoint endpoint of.0) of.1 rises.0, IsRising-groups endpoint own of.1 rises.1)
+IsAscending-groups endpoint [] of ascends = tt
+IsAscending-groups endpoint (kept ∷ own) of ascends =
+    (above_group endpoint kept own (tells_apart tunnel_order-exact kept.endpoint endpoint of.0) of.1 ascends.0, IsAscending-groups endpoint own of.1 ascends.1)
 
 given_by : (X : Type 0) (found : Option Kept) → is_some found ≡ true → ((kept : Kept) → found ≡ Some kept → X) → X
 given_by X None some given = cc
@@ -166,14 +166,14 @@ stood_or_reported endpoint records rows own of each group stands =
     ∙ listed_by (has ip_order reported group) (is_some (row_at rows (at endpoint group))) (has ip_order stood group) (each group kept is) (is_some-row_at endpoint rows group))
 
 -- a report brings at most a group for each record
-pub few_groups : (endpoint : Tunnel) (records : List Record) (rows own : List Kept) → IsRising kept_order rows → IsRising kept_order own → AreOf endpoint own
+pub few_groups : (endpoint : Tunnel) (records : List Record) (rows own : List Kept) → IsAscending kept_order rows → IsAscending kept_order own → AreOf endpoint own
     → ((group : Ip) (kept : Kept) → row_at own (record { endpoint = endpoint; group = group }) ≡ Some kept
     → (has ip_order (map (λ (one : Record). one.group) records) group || is_some (row_at rows (record { endpoint = endpoint; group = group }))) ≡ true)
     → length own ≤ group_count endpoint rows + length records
 few_groups endpoint records rows own first second of each =
     let stood = groups_of (rows_at endpoint rows) in
     let reported = map (λ (one : Record). one.group) records in
-    let apart = IsDistinct-from_sorted ip_order (groups_of own) (IsRising-groups endpoint own of second) in
+    let apart = IsDistinct-from_sorted ip_order (groups_of own) (IsAscending-groups endpoint own of second) in
     let fewer = length-le_from_is_member (eq_by_cmp_equiv ip_order-total) (groups_of own) (stood ++ reported) apart (stood_or_reported endpoint records rows own of each) in
     omega (arith, fewer, length-append stood reported, length-groups endpoint rows, length-map own (λ (kept : Kept). kept.group), length-map records (λ (one : Record). one.group))
 

@@ -7,9 +7,9 @@ use Rattle.std.specs.declared.cmp.Ordering.TheVariants.{Less}
 use Rattle.std.proofs.lemmas.Bool.{cases_Bool}
 use Rattle.amt_values.specs.Tunnel.{Tunnel}
 use Rattle.source_filter.specs.Filter.{FilterValue, nothing}
-use Rattle.source_filter.specs.Rising.{IsRising, has, rising}
+use Rattle.contract_words.specs.Ascending.{IsAscending, has, ascending}
 use Rattle.source_filter.specs.declared.record.Record.{Record}
-use Rattle.source_filter.proofs.RisingLaws.{IsRising-rising, has-append, has-rising}
+use Rattle.contract_words.proofs.AscendingLaws.{IsAscending-ascending, has-append, has-ascending}
 use Rattle.endpoint_membership.specs.declared.change.Change.{Change}
 use Rattle.endpoint_membership.specs.declared.change.Change.TheVariants.{Reported, Clear, Mark}
 use Rattle.endpoint_membership.specs.declared.kept.Kept.{Kept}
@@ -79,18 +79,18 @@ AreAfter-filter_map given its place [] before = tt
 AreAfter-filter_map given its place (at ∷ places) before =
     AreAfter-cons_option place at (given at) (filter_map given places) (its at) before.0 (AreAfter-filter_map given its place places before.1)
 
-pub IsRising-cons_option : (at : Place) (one : Option Kept) (rest : List Kept) → ((kept : Kept) → one ≡ Some kept → place_of kept ≡ at) → AreAfter at rest → IsRising kept_order rest
-    → IsRising kept_order (cons_option one rest)
+pub IsAscending-cons_option : (at : Place) (one : Option Kept) (rest : List Kept) → ((kept : Kept) → one ≡ Some kept → place_of kept ≡ at) → AreAfter at rest → IsAscending kept_order rest
+    → IsAscending kept_order (cons_option one rest)
 unfolding IsStrictlySortedBy
-IsRising-cons_option at None rest its after rises = rises
-IsRising-cons_option at (Some kept) rest its after rises =
-    (rw (sym (its kept refl)) at after, rises)
+IsAscending-cons_option at None rest its after ascends = ascends
+IsAscending-cons_option at (Some kept) rest its after ascends =
+    (rw (sym (its kept refl)) at after, ascends)
 
-IsRising-filter_map : (given : Place → Option Kept) → GivesItsPlace given → (places : List Place) → IsRising place_order places → IsRising kept_order (filter_map given places)
+IsAscending-filter_map : (given : Place → Option Kept) → GivesItsPlace given → (places : List Place) → IsAscending place_order places → IsAscending kept_order (filter_map given places)
 unfolding IsStrictlySortedBy
-IsRising-filter_map given its [] rises = tt
-IsRising-filter_map given its (at ∷ places) rises =
-    IsRising-cons_option at (given at) (filter_map given places) (its at) (AreAfter-filter_map given its at places rises.0) (IsRising-filter_map given its places rises.1)
+IsAscending-filter_map given its [] ascends = tt
+IsAscending-filter_map given its (at ∷ places) ascends =
+    IsAscending-cons_option at (given at) (filter_map given places) (its at) (AreAfter-filter_map given its at places ascends.0) (IsAscending-filter_map given its places ascends.1)
 
 either_part : (a b : Bool) → (a || b) ≡ false → (a ≡ false) × (b ≡ false)
 either_part true b none = cc
@@ -144,9 +144,9 @@ AreRows-standing_rows lifetime moment log =
     let past = reverse log in
     let places = places_in past in
     let its = GivesItsPlace-standing lifetime moment past in record {
-      rise = IsRising-filter_map (standing lifetime moment past) its (rising place_order places) (IsRising-rising place_order-total places);
-      each = λ place. row_at-filter_map (standing lifetime moment past) its (rising place_order places) place
-          ∙ ap (λ (listed : Bool). cond listed (standing lifetime moment past place) None) (has-rising place_order-total places place)
+      ascend = IsAscending-filter_map (standing lifetime moment past) its (ascending place_order places) (IsAscending-ascending place_order-total places);
+      each = λ place. row_at-filter_map (standing lifetime moment past) its (ascending place_order places) place
+          ∙ ap (λ (listed : Bool). cond listed (standing lifetime moment past place) None) (has-ascending place_order-total places place)
           ∙ listed_by (has place_order places place) (standing lifetime moment past place) (bare lifetime moment past place);
     }
 
@@ -154,4 +154,4 @@ AreRows-standing_rows lifetime moment log =
 pub rows_are : (lifetime moment : ℕ) (log : List Change) (rows : List Kept) → AreRows lifetime moment (reverse log) rows → rows ≡ standing_rows lifetime moment log
 rows_are lifetime moment log rows are =
     let by_log = AreRows-standing_rows lifetime moment log in
-    same_rows rows (standing_rows lifetime moment log) are.rise by_log.rise (λ place. are.each place ∙ sym (by_log.each place))
+    same_rows rows (standing_rows lifetime moment log) are.ascend by_log.ascend (λ place. are.each place ∙ sym (by_log.each place))

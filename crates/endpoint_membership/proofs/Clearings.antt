@@ -123,7 +123,7 @@ rows-unless_cleared lifetime log later endpoint at moment some none onward =
     let before = AreRows-standing_rows lifetime (max at (latest log)) log in
     let cleared = AreRows-standing_rows lifetime moment (log ++ Clear endpoint at ∷ later) in
     ap (λ (rows : List Kept). map shown rows) (rows_are lifetime moment (log ++ Mark at ∷ later) (standing_rows lifetime moment (log ++ Clear endpoint at ∷ later)) (record {
-      rise = cleared.rise;
+      ascend = cleared.ascend;
       each = λ place. cleared.each place ∙ standing-unless_cleared lifetime log later endpoint at moment place some
           (λ group. sym (before.each (at_group endpoint group)) ∙ unseen endpoint group (standing_rows lifetime (max at (latest log)) log) none) onward;
     }))

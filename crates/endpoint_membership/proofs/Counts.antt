@@ -13,14 +13,14 @@ use Rattle.std.proofs.lemmas.Map.Made.{length-le_from_is_member}
 use Rattle.amt_values.specs.Order.{tunnel_order}
 use Rattle.amt_values.specs.Tunnel.{Tunnel}
 use Rattle.amt_values.proofs.Orders.{tunnel_order-exact, tunnel_order-total}
-use Rattle.source_filter.specs.Rising.{IsRising, has, placed, rising}
-use Rattle.source_filter.proofs.RisingLaws.{IsRising-rising, has-rising}
+use Rattle.contract_words.specs.Ascending.{IsAscending, has, placed, ascending}
+use Rattle.contract_words.proofs.AscendingLaws.{IsAscending-ascending, has-ascending}
 use Rattle.endpoint_membership.specs.Limits.{group_count, live_count}
 use Rattle.endpoint_membership.specs.Place.{same_endpoint}
 use Rattle.endpoint_membership.specs.declared.kept.Kept.{Kept}
 
 -- a set has at most the items of a set that contains it
-pub length-within : {K : Type 0} (order : K → K → Ordering) → IsTotalOrder order → CmpEqualImpliesEq order → (xs ys : List K) → IsRising order xs → IsRising order ys
+pub length-within : {K : Type 0} (order : K → K → Ordering) → IsTotalOrder order → CmpEqualImpliesEq order → (xs ys : List K) → IsAscending order xs → IsAscending order ys
     → ((s : K) → has order xs s ≡ true → has order ys s ≡ true) → length xs ≤ length ys
 length-within order total exact xs ys first second each = length-le_from_is_member (eq_by_cmp_equiv total) xs ys (IsDistinct-from_sorted order xs first) each
 
@@ -60,8 +60,8 @@ pub live_count-filter : (test : Kept → Bool) (rows : List Kept) → live_count
 live_count-filter test rows =
     let some = endpoints (filter test rows) in
     let all = endpoints rows in
-    length-within tunnel_order tunnel_order-total tunnel_order-exact (rising tunnel_order some) (rising tunnel_order all) (IsRising-rising tunnel_order-total some) (IsRising-rising tunnel_order-total all)
-    (λ endpoint listed. has-rising tunnel_order-total all endpoint ∙ has-endpoints-filter test rows endpoint (sym (has-rising tunnel_order-total some endpoint) ∙ listed))
+    length-within tunnel_order tunnel_order-total tunnel_order-exact (ascending tunnel_order some) (ascending tunnel_order all) (IsAscending-ascending tunnel_order-total some) (IsAscending-ascending tunnel_order-total all)
+    (λ endpoint listed. has-ascending tunnel_order-total all endpoint ∙ has-endpoints-filter test rows endpoint (sym (has-ascending tunnel_order-total some endpoint) ∙ listed))
 
 pub group_count-filter : (test : Kept → Bool) (endpoint : Tunnel) (rows : List Kept) → group_count endpoint (filter test rows) ≤ group_count endpoint rows
 group_count-filter test endpoint rows =

@@ -8,8 +8,8 @@ use Rattle.std.proofs.lemmas.List.Sums.{sum_by-cons}
 use Rattle.amt_values.specs.Order.{tunnel_order}
 use Rattle.amt_values.specs.Tunnel.{Tunnel}
 use Rattle.amt_values.proofs.Orders.{tunnel_order-total}
-use Rattle.source_filter.specs.Rising.{has, rising}
-use Rattle.source_filter.proofs.RisingLaws.{has-rising}
+use Rattle.contract_words.specs.Ascending.{has, ascending}
+use Rattle.contract_words.proofs.AscendingLaws.{has-ascending}
 use Rattle.endpoint_membership.specs.Limits.{AreFew, IsWithin, group_count, live_count, size}
 use Rattle.endpoint_membership.specs.Place.{same_endpoint}
 use Rattle.endpoint_membership.specs.Rows.{shown}
@@ -78,15 +78,15 @@ All-own [] = tt
 All-own (kept ∷ rest) =
     (rw ((eq_by_cmp_equiv tunnel_order-total).refl kept.endpoint) refl, All-more kept.endpoint (endpoints_of rest) rest (All-own rest))
 
-All-rising : (endpoints : List Tunnel) (rows : List Kept) → AllByRecursion (λ kept. has tunnel_order endpoints kept.endpoint ≡ true) rows
-    → AllByRecursion (λ kept. has tunnel_order (rising tunnel_order endpoints) kept.endpoint ≡ true) rows
-All-rising endpoints [] each = tt
-All-rising endpoints (kept ∷ rest) each = (has-rising tunnel_order-total endpoints kept.endpoint ∙ each.0, All-rising endpoints rest each.1)
+All-ascending : (endpoints : List Tunnel) (rows : List Kept) → AllByRecursion (λ kept. has tunnel_order endpoints kept.endpoint ≡ true) rows
+    → AllByRecursion (λ kept. has tunnel_order (ascending tunnel_order endpoints) kept.endpoint ≡ true) rows
+All-ascending endpoints [] each = tt
+All-ascending endpoints (kept ∷ rest) each = (has-ascending tunnel_order-total endpoints kept.endpoint ∙ each.0, All-ascending endpoints rest each.1)
 
 rows-few : (limits : Limits) (rows : List Kept) → IsWithin limits rows → length rows ≤ limits.endpoints * limits.groups
 rows-few limits rows within =
-    let live = rising tunnel_order (endpoints_of rows) in
-    let counted = length-total live rows (All-rising (endpoints_of rows) rows (All-own rows)) in
+    let live = ascending tunnel_order (endpoints_of rows) in
+    let counted = length-total live rows (All-ascending (endpoints_of rows) rows (All-own rows)) in
     let few = total-few limits.groups live rows within.groups in
     let most : live_count rows * limits.groups ≤ limits.endpoints * limits.groups = mul-le-mul within.endpoints (omega arith) in
     omega arith

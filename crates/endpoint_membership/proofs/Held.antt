@@ -3,7 +3,7 @@ use Rattle.std.proofs.Common.{◌≤◌, ◌≡◌, ℕ, ◌<◌, max, List, [],
 use Rattle.std.specs.List.Sorted.{IsStrictlySortedBy}
 use Rattle.std.proofs.lemmas.List.{reverse-append}
 use Rattle.amt_values.specs.Tunnel.{Tunnel}
-use Rattle.source_filter.specs.Rising.{IsRising}
+use Rattle.contract_words.specs.Ascending.{IsAscending}
 use Rattle.source_filter.specs.declared.record.Record.{Record}
 use Rattle.endpoint_membership.specs.declared.change.Change.{Change}
 use Rattle.endpoint_membership.specs.declared.change.Change.TheVariants.{Reported, Clear, Mark}
@@ -45,7 +45,7 @@ table_of moment limits lifetime rows = record { moment = moment; limits = limits
 -- no entry, no row
 pub Holds-new : (limits : Limits) (lifetime : ℕ) → Holds (record { limits = limits; lifetime = lifetime }) (table_of 0 limits lifetime []) []
 unfolding IsStrictlySortedBy
-Holds-new limits lifetime = record { limits = refl; lifetime = refl; moment = refl; rows = record { rise = tt; each = λ place. refl } }
+Holds-new limits lifetime = record { limits = refl; lifetime = refl; moment = refl; rows = record { ascend = tt; each = λ place. refl } }
 
 -- rows by the log with an entry, from rows by the log turned round
 held : (terms : Terms) (table : TableValue) (log : List Change) (entry : Change) (moment : ℕ) (rows : List Kept) → Holds terms table log → moment ≡ max table.moment (brought entry)
@@ -107,9 +107,9 @@ pub rows_now : (terms : Terms) (table : TableValue) (log : List Change) → Hold
 rows_now terms table log holds =
     fresh_are terms table log 0 table.moment (omega arith) holds ∙ ap (λ (moment : ℕ). standing_rows terms.lifetime moment log) (omega arith)
 
-pub IsRising-none : IsRising kept_order []
+pub IsAscending-none : IsAscending kept_order []
 unfolding IsStrictlySortedBy
-IsRising-none = tt
+IsAscending-none = tt
 
 -- a report, with the rows that its records leave in the place of the endpoint's
 pub Holds-report : (terms : Terms) (table : TableValue) (log : List Change) (endpoint : Tunnel) (records : List Record) (at moment : ℕ) (own rows : List Kept) → 0 < table.lifetime

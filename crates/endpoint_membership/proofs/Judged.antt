@@ -12,9 +12,9 @@ use Rattle.std.proofs.lemmas.List.Sums.{sum_by-cons}
 use Rattle.amt_values.specs.Order.{tunnel_order}
 use Rattle.amt_values.specs.Tunnel.{Tunnel}
 use Rattle.amt_values.proofs.Orders.{tunnel_order-exact, tunnel_order-total}
-use Rattle.source_filter.specs.Rising.{IsRising, has, placed, rising}
+use Rattle.contract_words.specs.Ascending.{IsAscending, has, placed, ascending}
 use Rattle.source_filter.specs.declared.record.Record.{Record}
-use Rattle.source_filter.proofs.RisingLaws.{IsRising-placed, IsRising-rising, has-append, has-placed, has-rising, same_rising}
+use Rattle.contract_words.proofs.AscendingLaws.{IsAscending-placed, IsAscending-ascending, has-append, has-placed, has-ascending, same_ascending}
 use Rattle.endpoint_membership.specs.declared.kept.Kept.{Kept}
 use Rattle.endpoint_membership.specs.declared.limits.Limits.{Limits}
 use Rattle.endpoint_membership.specs.Kept.{earlier, is_counted, is_fresh, later}
@@ -178,15 +178,15 @@ live-three endpoint before [] behind none of nothing = omega arith
 live-three endpoint before (kept ∷ own) behind none of nothing =
     let others = endpoints_of (before ++ behind) in
     let all = endpoints_of (before ++ (kept ∷ own ++ behind)) in
-    let placed_there = same_rising tunnel_order-total tunnel_order-exact (rising tunnel_order all) (placed tunnel_order endpoint (rising tunnel_order others))
-    (IsRising-rising tunnel_order-total all) (IsRising-placed tunnel_order-total endpoint (rising tunnel_order others) (IsRising-rising tunnel_order-total others))
-    (λ one. has-rising tunnel_order-total all one
+    let placed_there = same_ascending tunnel_order-total tunnel_order-exact (ascending tunnel_order all) (placed tunnel_order endpoint (ascending tunnel_order others))
+    (IsAscending-ascending tunnel_order-total all) (IsAscending-placed tunnel_order-total endpoint (ascending tunnel_order others) (IsAscending-ascending tunnel_order-total others))
+    (λ one. has-ascending tunnel_order-total all one
     ∙ endpoints-three before (kept ∷ own) behind one
     ∙ ap (λ (test : Bool). has tunnel_order (endpoints_of before) one || (test || has tunnel_order (endpoints_of behind) one)) (has-own endpoint kept own one of)
     ∙ swapped (has tunnel_order (endpoints_of before) one) (same_endpoint one endpoint) (has tunnel_order (endpoints_of behind) one)
-    ∙ sym (has-placed tunnel_order-total endpoint (rising tunnel_order others) one
-    ∙ ap (λ (test : Bool). same_endpoint one endpoint || test) (has-rising tunnel_order-total others one ∙ endpoints-two before behind one))) in
-    let longer = length-placed_new endpoint (rising tunnel_order others) (has-rising tunnel_order-total others endpoint ∙ both_none before behind endpoint none nothing) in
+    ∙ sym (has-placed tunnel_order-total endpoint (ascending tunnel_order others) one
+    ∙ ap (λ (test : Bool). same_endpoint one endpoint || test) (has-ascending tunnel_order-total others one ∙ endpoints-two before behind one))) in
+    let longer = length-placed_new endpoint (ascending tunnel_order others) (has-ascending tunnel_order-total others endpoint ∙ both_none before behind endpoint none nothing) in
     let whole = ap (λ (tunnels : List Tunnel). length tunnels) placed_there in
     omega (arith, whole, longer)
 
@@ -219,12 +219,12 @@ others_are lifetime moment endpoint rows before own behind parts =
     ∙ ap (λ (front : List Kept). front ++ filter (is_fresh lifetime moment) behind) (counted_before lifetime moment endpoint before (AreNotOf-before endpoint before parts.earlier))
 
 -- the limits that the rows pass, as the code judges them
-pub judged : (lifetime moment : ℕ) (limits : Limits) (endpoint : Tunnel) (records : List Record) (rows own : List Kept) → IsRising kept_order rows → AreOf endpoint own
+pub judged : (lifetime moment : ℕ) (limits : Limits) (endpoint : Tunnel) (records : List Record) (rows own : List Kept) → IsAscending kept_order rows → AreOf endpoint own
     → filter (is_fresh lifetime moment) own ≡ own
     → first_limit limits endpoint records (filter (is_fresh lifetime moment) (earlier endpoint rows ++ (own ++ later endpoint rows)))
     ≡ fault_by limits (length own) (live_count (filter (is_counted lifetime moment (Some endpoint)) rows) + (if is_empty own then 0 else 1)) (find (is_over limits.sources records) own)
-judged lifetime moment limits endpoint records rows own rises of fresh =
-    let parts = parted endpoint rows rises in
+judged lifetime moment limits endpoint records rows own ascends of fresh =
+    let parts = parted endpoint rows ascends in
     let test = is_fresh lifetime moment in
     let before = filter test (earlier endpoint rows) in
     let behind = filter test (later endpoint rows) in

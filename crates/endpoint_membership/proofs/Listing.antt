@@ -7,19 +7,19 @@ use Rattle.std.proofs.lemmas.Cmp.{eq_by_cmp_equiv}
 use Rattle.amt_values.specs.declared.address.Ip.{Ip}
 use Rattle.amt_values.specs.Order.{ip_order}
 use Rattle.amt_values.proofs.Orders.{ip_order-exact, ip_order-total}
-use Rattle.source_filter.specs.Filter.{FilterValue, rising_sources}
-use Rattle.source_filter.specs.Rising.{IsRising, difference, has, union}
+use Rattle.source_filter.specs.Filter.{FilterValue, ascending_sources}
+use Rattle.contract_words.specs.Ascending.{IsAscending, difference, has, union}
 use Rattle.source_filter.specs.declared.mode.Mode.{Mode}
-use Rattle.source_filter.proofs.RisingLaws.{IsRising-filter, IsRising-rising, has-append, has-difference, has-union, rising-fixed, same_rising}
+use Rattle.contract_words.proofs.AscendingLaws.{IsAscending-filter, IsAscending-ascending, has-append, has-difference, has-union, ascending-fixed, same_ascending}
 
 -- what stands in the set: the old sources and those put in
 pub record IsUnited (old done held : List Ip) : Type 0 where
-  pub rises : IsRising ip_order held
+  pub ascends : IsAscending ip_order held
   pub each : (source : Ip) → has ip_order held source ≡ (has ip_order old source || has ip_order done source)
 
 -- what stands in the set: the old sources without those taken out
 pub record IsReduced (old done held : List Ip) : Type 0 where
-  pub rises : IsRising ip_order held
+  pub ascends : IsAscending ip_order held
   pub each : (source : Ip) → has ip_order held source ≡ (has ip_order old source && not (has ip_order done source))
 
 united_none : (old : Bool) → old ≡ (old || false)
@@ -46,15 +46,15 @@ reduced_one false true true = refl
 reduced_one false true false = refl
 reduced_one false false done = refl
 
-pub IsUnited-none : (old : List Ip) → IsRising ip_order old → IsUnited old [] old
-IsUnited-none old rises = record { rises = rises; each = λ source. united_none (has ip_order old source) }
+pub IsUnited-none : (old : List Ip) → IsAscending ip_order old → IsUnited old [] old
+IsUnited-none old ascends = record { ascends = ascends; each = λ source. united_none (has ip_order old source) }
 
-pub IsReduced-none : (old : List Ip) → IsRising ip_order old → IsReduced old [] old
-IsReduced-none old rises = record { rises = rises; each = λ source. reduced_none (has ip_order old source) }
+pub IsReduced-none : (old : List Ip) → IsAscending ip_order old → IsReduced old [] old
+IsReduced-none old ascends = record { ascends = ascends; each = λ source. reduced_none (has ip_order old source) }
 
 -- a set that ascends and has this source or not, by the order of addresses
 record IsUpdated (before after : BTreeSet Ip) (source : Ip) (present : Bool) : Type 0 where
-  rises : IsRising ip_order after.keys
+  ascends : IsAscending ip_order after.keys
   each : (other : Ip) → has ip_order after.keys other ≡ cond (eq_by_cmp ip_order other source) present (has ip_order before.keys other)
 
 turned : (source other : Ip) → eq_by_cmp ip_order source other ≡ eq_by_cmp ip_order other source
@@ -65,7 +65,7 @@ updated : (cmp : Ip → Ip → Ordering) (before after : BTreeSet Ip) (source : 
 updated cmp before after source present same ordered updates =
     let told = subst (λ (order : Ip → Ip → Ordering). Updates order before after source present) same updates in
     record {
-      rises = subst (λ (order : Ip → Ip → Ordering). IsOrdered order after) same ordered;
+      ascends = subst (λ (order : Ip → Ip → Ordering). IsOrdered order after) same ordered;
       each = λ other. told.0 other ∙ ap (λ (test : Bool). cond test present (has ip_order before.keys other)) (turned source other);
     }
 
@@ -75,7 +75,7 @@ pub IsUnited-more : (cmp : Ip → Ip → Ordering) (old done : List Ip) (before 
 IsUnited-more cmp old done before after source same ordered updates so_far =
     let now = updated cmp before after source true same ordered updates in
     record {
-      rises = now.rises;
+      ascends = now.ascends;
       each = λ other. now.each other ∙ ap (cond (eq_by_cmp ip_order other source) true) (so_far.each other)
           ∙ united_one (eq_by_cmp ip_order other source) (has ip_order old other) (has ip_order done other)
           ∙ sym (ap (λ (test : Bool). has ip_order old other || test) (has-append ip_order done (source ∷ []) other));
@@ -87,7 +87,7 @@ pub IsReduced-more : (cmp : Ip → Ip → Ordering) (old done : List Ip) (before
 IsReduced-more cmp old done before after source same ordered updates so_far =
     let now = updated cmp before after source false same ordered updates in
     record {
-      rises = now.rises;
+      ascends = now.ascends;
       each = λ other. now.each other ∙ ap (cond (eq_by_cmp ip_order other source) false) (so_far.each other)
           ∙ reduced_one (eq_by_cmp ip_order other source) (has ip_order old other) (has ip_order done other)
           ∙ sym (ap (λ (test : Bool). has ip_order old other && not test) (has-append ip_order done (source ∷ []) other));
@@ -95,12 +95,12 @@ IsReduced-more cmp old done before after source same ordered updates so_far =
 
 pub united : (old done held : List Ip) → IsUnited old done held → held ≡ union ip_order old done
 united old done held all =
-    same_rising ip_order-total ip_order-exact held (union ip_order old done) all.rises (IsRising-rising ip_order-total (old ++ done))
+    same_ascending ip_order-total ip_order-exact held (union ip_order old done) all.ascends (IsAscending-ascending ip_order-total (old ++ done))
     (λ source. all.each source ∙ sym (has-union ip_order-total old done source))
 
-pub reduced : (old done held : List Ip) → IsRising ip_order old → IsReduced old done held → held ≡ difference ip_order old done
-reduced old done held rises all =
-    same_rising ip_order-total ip_order-exact held (difference ip_order old done) all.rises (IsRising-filter ip_order (λ source. not (has ip_order done source)) old rises)
+pub reduced : (old done held : List Ip) → IsAscending ip_order old → IsReduced old done held → held ≡ difference ip_order old done
+reduced old done held ascends all =
+    same_ascending ip_order-total ip_order-exact held (difference ip_order old done) all.ascends (IsAscending-filter ip_order (λ source. not (has ip_order done source)) old ascends)
     (λ source. all.each source ∙ sym (has-difference ip_order-exact old done source))
 
 abbrev pub listing : Mode → List Ip → FilterValue
@@ -110,5 +110,5 @@ pub same_filter : {one other : FilterValue} → one.mode ≡ other.mode → one.
 same_filter h k = λ i. record { mode = h i; sources = k i }
 
 -- the different sources of a list that ascends are the list
-pub rising_listed : (mode : Mode) (listed keys : List Ip) → listed ≡ keys → IsRising ip_order keys → listing mode (rising_sources listed) ≡ listing mode keys
-rising_listed mode listed keys same rises = ap (listing mode) (ap rising_sources same ∙ rising-fixed ip_order-total ip_order-exact keys rises)
+pub ascending_listed : (mode : Mode) (listed keys : List Ip) → listed ≡ keys → IsAscending ip_order keys → listing mode (ascending_sources listed) ≡ listing mode keys
+ascending_listed mode listed keys same ascends = ap (listing mode) (ap ascending_sources same ∙ ascending-fixed ip_order-total ip_order-exact keys ascends)

@@ -12,8 +12,8 @@ use Rattle.std.proofs.lemmas.Map.Keys.{sorted_head, sorted_tail}
 use Rattle.amt_values.specs.Order.{ip_order, tunnel_order}
 use Rattle.amt_values.specs.Tunnel.{Tunnel}
 use Rattle.amt_values.proofs.Orders.{tunnel_order-exact, tunnel_order-total}
-use Rattle.source_filter.specs.Rising.{IsRising, has, placed, rising}
-use Rattle.source_filter.proofs.RisingLaws.{IsRising-filter, IsRising-placed, IsRising-rising, has-append, has-placed, has-rising, same_rising}
+use Rattle.contract_words.specs.Ascending.{IsAscending, has, placed, ascending}
+use Rattle.contract_words.proofs.AscendingLaws.{IsAscending-filter, IsAscending-placed, IsAscending-ascending, has-append, has-placed, has-ascending, same_ascending}
 use Rattle.endpoint_membership.specs.declared.kept.Kept.{Kept}
 use Rattle.endpoint_membership.specs.Kept.{ends_with, last_of}
 use Rattle.endpoint_membership.specs.Limits.{live_count}
@@ -51,24 +51,24 @@ either_true true b either = λ no. cc
 either_true false b either = λ no. either
 
 seen_last_by : (here : Bool) (first kept : Kept) (rows : List Kept) → same_endpoint kept.endpoint first.endpoint ≡ here
-    → IsRising kept_order (first ∷ (rows ++ kept ∷ [])) → has tunnel_order (endpoints_of (first ∷ rows)) kept.endpoint ≡ true
+    → IsAscending kept_order (first ∷ (rows ++ kept ∷ [])) → has tunnel_order (endpoints_of (first ∷ rows)) kept.endpoint ≡ true
     → (has tunnel_order (endpoints_of rows) kept.endpoint ≡ true → ends_with (last_of rows) kept.endpoint ≡ true) → ends_with (last_of (first ∷ rows)) kept.endpoint ≡ true
-seen_last_by false first kept rows is rises seen onward =
+seen_last_by false first kept rows is ascends seen onward =
     ends_same (last_of rows) first.endpoint kept.endpoint (onward (either_true (same_endpoint kept.endpoint first.endpoint) (has tunnel_order (endpoints_of rows) kept.endpoint) seen is))
-seen_last_by true first kept [] is rises seen onward = same_back first.endpoint kept.endpoint ∙ is
-seen_last_by true first kept (second ∷ rows) is rises seen onward =
-    let after = sorted_head kept_order first (second ∷ rows ++ kept ∷ []) rises in
-    let before = last_in (λ (later : Kept). kept_order second later ≡ Less) rows kept (sorted_head kept_order second (rows ++ kept ∷ []) (sorted_tail kept_order first (second ∷ rows ++ kept ∷ []) rises)) in
+seen_last_by true first kept [] is ascends seen onward = same_back first.endpoint kept.endpoint ∙ is
+seen_last_by true first kept (second ∷ rows) is ascends seen onward =
+    let after = sorted_head kept_order first (second ∷ rows ++ kept ∷ []) ascends in
+    let before = last_in (λ (later : Kept). kept_order second later ≡ Less) rows kept (sorted_head kept_order second (rows ++ kept ∷ []) (sorted_tail kept_order first (second ∷ rows ++ kept ∷ []) ascends)) in
     let same = between_by (tunnel_order first.endpoint second.endpoint) (tunnel_order second.endpoint kept.endpoint) first second kept refl refl after.0 before
     (sym (same_endpoint-exact kept.endpoint first.endpoint is)) in
     let here : same_endpoint kept.endpoint second.endpoint ≡ true = ap (same_endpoint kept.endpoint) same ∙ ap is_eq (tied_itself tunnel_order-total kept.endpoint) in
     ends_same (last_of (second ∷ rows)) first.endpoint kept.endpoint (onward (rw here refl))
 
 -- an endpoint that was seen is that of the last row
-seen_last : (rows : List Kept) (kept : Kept) → IsRising kept_order (rows ++ kept ∷ []) → has tunnel_order (endpoints_of rows) kept.endpoint ≡ true → ends_with (last_of rows) kept.endpoint ≡ true
-seen_last [] kept rises seen = cc
-seen_last (first ∷ rows) kept rises seen =
-    seen_last_by (same_endpoint kept.endpoint first.endpoint) first kept rows refl rises seen (seen_last rows kept (sorted_tail kept_order first (rows ++ kept ∷ []) rises))
+seen_last : (rows : List Kept) (kept : Kept) → IsAscending kept_order (rows ++ kept ∷ []) → has tunnel_order (endpoints_of rows) kept.endpoint ≡ true → ends_with (last_of rows) kept.endpoint ≡ true
+seen_last [] kept ascends seen = cc
+seen_last (first ∷ rows) kept ascends seen =
+    seen_last_by (same_endpoint kept.endpoint first.endpoint) first kept rows refl ascends seen (seen_last rows kept (sorted_tail kept_order first (rows ++ kept ∷ []) ascends))
 
 or_true : (a : Bool) → (a || true) ≡ true
 or_true true = refl
@@ -109,30 +109,30 @@ counted_by : (seen : Bool) (rows : List Kept) (kept : Kept) → has tunnel_order
 counted_by true rows kept seen =
     let all = endpoints_of (rows ++ kept ∷ []) in
     let some = endpoints_of rows in
-    let same = same_rising tunnel_order-total tunnel_order-exact (rising tunnel_order all) (rising tunnel_order some) (IsRising-rising tunnel_order-total all) (IsRising-rising tunnel_order-total some)
-    (λ one. has-rising tunnel_order-total all one ∙ members rows kept one
+    let same = same_ascending tunnel_order-total tunnel_order-exact (ascending tunnel_order all) (ascending tunnel_order some) (IsAscending-ascending tunnel_order-total all) (IsAscending-ascending tunnel_order-total some)
+    (λ one. has-ascending tunnel_order-total all one ∙ members rows kept one
     ∙ known (same_endpoint one kept.endpoint) (has tunnel_order some one) (λ here. ap (has tunnel_order some) (same_endpoint-exact one kept.endpoint here) ∙ seen)
-    ∙ sym (has-rising tunnel_order-total some one)) in
+    ∙ sym (has-ascending tunnel_order-total some one)) in
     let whole = ap (λ (tunnels : List Tunnel). length tunnels) same in
     omega (arith, whole)
 counted_by false rows kept seen =
     let all = endpoints_of (rows ++ kept ∷ []) in
     let some = endpoints_of rows in
-    let same = same_rising tunnel_order-total tunnel_order-exact (rising tunnel_order all) (placed tunnel_order kept.endpoint (rising tunnel_order some))
-    (IsRising-rising tunnel_order-total all) (IsRising-placed tunnel_order-total kept.endpoint (rising tunnel_order some) (IsRising-rising tunnel_order-total some))
-    (λ one. has-rising tunnel_order-total all one ∙ members rows kept one
-    ∙ sym (has-placed tunnel_order-total kept.endpoint (rising tunnel_order some) one
-    ∙ ap (λ (test : Bool). same_endpoint one kept.endpoint || test) (has-rising tunnel_order-total some one))) in
+    let same = same_ascending tunnel_order-total tunnel_order-exact (ascending tunnel_order all) (placed tunnel_order kept.endpoint (ascending tunnel_order some))
+    (IsAscending-ascending tunnel_order-total all) (IsAscending-placed tunnel_order-total kept.endpoint (ascending tunnel_order some) (IsAscending-ascending tunnel_order-total some))
+    (λ one. has-ascending tunnel_order-total all one ∙ members rows kept one
+    ∙ sym (has-placed tunnel_order-total kept.endpoint (ascending tunnel_order some) one
+    ∙ ap (λ (test : Bool). same_endpoint one kept.endpoint || test) (has-ascending tunnel_order-total some one))) in
     let whole = ap (λ (tunnels : List Tunnel). length tunnels) same in
-    let longer = length-placed_new kept.endpoint (rising tunnel_order some) (has-rising tunnel_order-total some kept.endpoint ∙ seen) in
+    let longer = length-placed_new kept.endpoint (ascending tunnel_order some) (has-ascending tunnel_order-total some kept.endpoint ∙ seen) in
     omega (arith, whole, longer)
 
 -- one more row makes one more live endpoint, unless the last row is of the same endpoint
-pub live_count-push : (rows : List Kept) (kept : Kept) → IsRising kept_order (rows ++ kept ∷ [])
+pub live_count-push : (rows : List Kept) (kept : Kept) → IsAscending kept_order (rows ++ kept ∷ [])
     → live_count (rows ++ kept ∷ []) ≡ live_count rows + (if ends_with (last_of rows) kept.endpoint then 0 else 1)
-live_count-push rows kept rises =
+live_count-push rows kept ascends =
     counted_by (ends_with (last_of rows) kept.endpoint) rows kept
-    (same_test (has tunnel_order (endpoints_of rows) kept.endpoint) (ends_with (last_of rows) kept.endpoint) (seen_last rows kept rises) (last_seen rows kept.endpoint))
+    (same_test (has tunnel_order (endpoints_of rows) kept.endpoint) (ends_with (last_of rows) kept.endpoint) (seen_last rows kept ascends) (last_seen rows kept.endpoint))
 
 pub filter-push_yes : (test : Kept → Bool) (rows : List Kept) (kept : Kept) → test kept ≡ true → filter test (rows ++ kept ∷ []) ≡ filter test rows ++ kept ∷ []
 filter-push_yes test rows kept passes = filter-append test rows (kept ∷ []) ∙ rw passes refl
@@ -141,12 +141,12 @@ pub filter-push_no : (test : Kept → Bool) (rows : List Kept) (kept : Kept) →
 filter-push_no test rows kept fails = filter-append test rows (kept ∷ []) ∙ rw fails (append-nil (filter test rows))
 
 -- one more row that counts
-pub more_live : (test : Kept → Bool) (rows : List Kept) (kept : Kept) (count step : ℕ) (last : Option Tunnel) → IsRising kept_order (rows ++ kept ∷ []) → test kept ≡ true
+pub more_live : (test : Kept → Bool) (rows : List Kept) (kept : Kept) (count step : ℕ) (last : Option Tunnel) → IsAscending kept_order (rows ++ kept ∷ []) → test kept ≡ true
     → count ≡ live_count (filter test rows) → last ≡ last_of (filter test rows) → step ≡ (if ends_with last kept.endpoint then 0 else 1)
     → count + step ≡ live_count (filter test (rows ++ kept ∷ []))
-more_live test rows kept count step last rises passes so_far ends is =
+more_live test rows kept count step last ascends passes so_far ends is =
     let whole = filter-push_yes test rows kept passes in
-    let more = live_count-push (filter test rows) kept (subst (IsRising kept_order) whole (IsRising-filter kept_order test (rows ++ kept ∷ []) rises)) in
+    let more = live_count-push (filter test rows) kept (subst (IsAscending kept_order) whole (IsAscending-filter kept_order test (rows ++ kept ∷ []) ascends)) in
     let stepped = is ∙ ap (λ (one : Option Tunnel). if ends_with one kept.endpoint then 0 else 1) ends in
     let longer = ap live_count whole in
     omega (arith, so_far, more, stepped, longer)

@@ -17,14 +17,14 @@ use Rattle.amt_values.specs.Order.{ip_order}
 use Rattle.amt_values.specs.Tunnel.{Tunnel}
 use Rattle.amt_values.proofs.Orders.{ip_order-exact, ip_order-total, tunnel_order-total}
 use Rattle.source_filter.specs.Filter.{FilterValue}
-use Rattle.source_filter.specs.Rising.{IsRising}
+use Rattle.contract_words.specs.Ascending.{IsAscending}
 use Rattle.source_filter.specs.declared.record.Record.{Record}
 use Rattle.endpoint_membership.specs.declared.kept.Kept.{Kept}
 use Rattle.endpoint_membership.specs.Kept.{is_fresh, only}
 use Rattle.endpoint_membership.specs.Own.{WishValue, AreOf, is_own, kept_wish, on_group, row_of_wish, wish_after, wish_after_all, wish_in}
 use Rattle.endpoint_membership.specs.Place.{Place, place_order, same_endpoint, same_group, same_place}
 use Rattle.endpoint_membership.specs.Rows.{is_standing, kept_order, place_of, row_at}
-use Rattle.endpoint_membership.proofs.ByLog.{AreAfter-cons_option, IsRising-cons_option, kept_by, row_at-cons_option}
+use Rattle.endpoint_membership.proofs.ByLog.{AreAfter-cons_option, IsAscending-cons_option, kept_by, row_at-cons_option}
 use Rattle.endpoint_membership.proofs.Lookup.{AreAfter, row_at-after, row_at-append, same_place-exact}
 use Rattle.endpoint_membership.proofs.Places.{kept_order-total, same_place-is}
 
@@ -87,13 +87,13 @@ last_of P [] last each = each.0
 last_of P (x ∷ xs) last each = last_of P xs last each.1
 
 -- rows before a later one are not of its place
-not_earlier : (xs : List Kept) (kept : Kept) (at : Place) → IsRising kept_order (xs ++ kept ∷ []) → at ≡ place_of kept → row_at xs at ≡ None
-not_earlier [] kept at rises here = refl
-not_earlier (first ∷ xs) kept at rises here =
-    let before = last_of (λ (later : Kept). kept_order first later ≡ Less) xs kept (sorted_head kept_order first (xs ++ kept ∷ []) rises) in
+not_earlier : (xs : List Kept) (kept : Kept) (at : Place) → IsAscending kept_order (xs ++ kept ∷ []) → at ≡ place_of kept → row_at xs at ≡ None
+not_earlier [] kept at ascends here = refl
+not_earlier (first ∷ xs) kept at ascends here =
+    let before = last_of (λ (later : Kept). kept_order first later ≡ Less) xs kept (sorted_head kept_order first (xs ++ kept ∷ []) ascends) in
     let apart : same_place at (place_of first) ≡ false = ap (λ (one : Place). same_place one (place_of first)) here
     ∙ ap is_eq (kept_order-total.antisymm kept first ∙ ap ordering_reverse before) in
-    rw apart (not_earlier xs kept at (sorted_tail kept_order first (xs ++ kept ∷ []) rises) here)
+    rw apart (not_earlier xs kept at (sorted_tail kept_order first (xs ++ kept ∷ []) ascends) here)
 
 found_by : (here fresh : Bool) (kept : Kept) (before : Option Kept) (test : Kept → Bool) → test kept ≡ fresh → (here ≡ true → before ≡ None)
     → wish_in (only test (option_or before (cond here (Some kept) None))) ≡ cond (here && fresh) (wish_in (Some kept)) (wish_in (only test before))
@@ -107,16 +107,16 @@ reordered true false f = only_false f
 reordered false g f = refl
 
 -- what is wished with one row more
-pub one_more_wish : (lifetime moment : ℕ) (endpoint : Tunnel) (xs : List Kept) (kept : Kept) (group : Ip) → IsRising kept_order (xs ++ kept ∷ [])
+pub one_more_wish : (lifetime moment : ℕ) (endpoint : Tunnel) (xs : List Kept) (kept : Kept) (group : Ip) → IsAscending kept_order (xs ++ kept ∷ [])
     → wish_in (only (is_fresh lifetime moment) (row_at (xs ++ kept ∷ []) (place endpoint group)))
     ≡ cond (is_own lifetime moment endpoint kept && same_group kept.group group) (wish_in (Some kept)) (wish_in (only (is_fresh lifetime moment) (row_at xs (place endpoint group))))
-one_more_wish lifetime moment endpoint xs kept group rises =
+one_more_wish lifetime moment endpoint xs kept group ascends =
     let at = place endpoint group in
     let fresh = is_fresh lifetime moment kept in
     let before = wish_in (only (is_fresh lifetime moment) (row_at xs at)) in
     ap (λ (found : Option Kept). wish_in (only (is_fresh lifetime moment) found)) (row_at-append xs (kept ∷ []) at)
     ∙ found_by (same_place at (place_of kept)) fresh kept (row_at xs at) (is_fresh lifetime moment) refl
-    (λ same. not_earlier xs kept at rises (same_place-exact at (place_of kept) same))
+    (λ same. not_earlier xs kept at ascends (same_place-exact at (place_of kept) same))
     ∙ ap (λ (test : Bool). cond test (wish_in (Some kept)) before)
     (ap (λ (test : Bool). test && fresh) (same_place-is at (place_of kept)
     ∙ ap (λ (test : Bool). test && same_group group kept.group) (same_endpoint-back endpoint kept.endpoint)
@@ -125,14 +125,14 @@ one_more_wish lifetime moment endpoint xs kept group rises =
 
 -- the wishes of rows after one row more, of the endpoint or not
 pub more_found : (lifetime moment : ℕ) (endpoint : Tunnel) (xs : List Kept) (kept : Kept) (group : Ip) (before after : Option WishValue) (own : Bool)
-    → IsRising kept_order (xs ++ kept ∷ []) → is_own lifetime moment endpoint kept ≡ own
+    → IsAscending kept_order (xs ++ kept ∷ []) → is_own lifetime moment endpoint kept ≡ own
     → before ≡ wish_in (only (is_fresh lifetime moment) (row_at xs (place endpoint group)))
     → after ≡ cond (own && same_group kept.group group) (wish_in (Some kept)) before
     → after ≡ wish_in (only (is_fresh lifetime moment) (row_at (xs ++ kept ∷ []) (place endpoint group)))
-more_found lifetime moment endpoint xs kept group before after own rises is so_far now =
+more_found lifetime moment endpoint xs kept group before after own ascends is so_far now =
     now ∙ ap (cond (own && same_group kept.group group) (wish_in (Some kept))) so_far
     ∙ ap (λ (test : Bool). cond (test && same_group kept.group group) (wish_in (Some kept)) (wish_in (only (is_fresh lifetime moment) (row_at xs (place endpoint group))))) (sym is)
-    ∙ sym (one_more_wish lifetime moment endpoint xs kept group rises)
+    ∙ sym (one_more_wish lifetime moment endpoint xs kept group ascends)
 
 -- an insertion, by the order of addresses
 pub updated : (cmp : Ip → Ip → Ordering) (before after : BTreeMap Ip WishValue) (key : Ip) (wish : Option WishValue) → cmp ≡ ip_order → Updates cmp before after key wish
@@ -185,12 +185,12 @@ AreAfter-wishes endpoint group (entry ∷ rest) before =
     (place_by_group endpoint group entry.0 ∙ before.0) (AreAfter-wishes endpoint group rest before.1)
 
 -- the rows of a map's wishes ascend
-pub IsRising-wishes : (endpoint : Tunnel) (entries : List (Ip × WishValue)) → IsStrictlySortedBy ip_order (keys_of entries) → IsRising kept_order (filter_map (kept_wish endpoint) entries)
+pub IsAscending-wishes : (endpoint : Tunnel) (entries : List (Ip × WishValue)) → IsStrictlySortedBy ip_order (keys_of entries) → IsAscending kept_order (filter_map (kept_wish endpoint) entries)
 unfolding IsStrictlySortedBy
-IsRising-wishes endpoint [] sorted = tt
-IsRising-wishes endpoint (entry ∷ rest) sorted =
-    IsRising-cons_option (place endpoint entry.0) (kept_wish endpoint entry) (filter_map (kept_wish endpoint) rest) (its_place endpoint entry)
-    (AreAfter-wishes endpoint entry.0 rest sorted.0) (IsRising-wishes endpoint rest sorted.1)
+IsAscending-wishes endpoint [] sorted = tt
+IsAscending-wishes endpoint (entry ∷ rest) sorted =
+    IsAscending-cons_option (place endpoint entry.0) (kept_wish endpoint entry) (filter_map (kept_wish endpoint) rest) (its_place endpoint entry)
+    (AreAfter-wishes endpoint entry.0 rest sorted.0) (IsAscending-wishes endpoint rest sorted.1)
 
 wish_found : (here : Bool) (endpoint : Tunnel) (group key : Ip) (wish : WishValue) (later : Option WishValue) (rest : Option Kept) → (here ≡ true → group ≡ key) → (here ≡ true → rest ≡ None)
     → rest ≡ row_of_wish endpoint group later

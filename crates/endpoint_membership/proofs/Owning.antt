@@ -11,9 +11,9 @@ use Rattle.amt_values.specs.Tunnel.{Tunnel}
 use Rattle.amt_values.proofs.Orders.{tunnel_order-exact, tunnel_order-total}
 use Rattle.source_filter.specs.Filter.{FilterValue}
 use Rattle.source_filter.specs.Record.{item_count}
-use Rattle.source_filter.specs.Rising.{IsRising, has}
+use Rattle.contract_words.specs.Ascending.{IsAscending, has}
 use Rattle.source_filter.specs.declared.record.Record.{Record}
-use Rattle.source_filter.proofs.RisingLaws.{IsRising-filter}
+use Rattle.contract_words.proofs.AscendingLaws.{IsAscending-filter}
 use Rattle.endpoint_membership.specs.declared.kept.Kept.{Kept}
 use Rattle.endpoint_membership.specs.declared.limits.LimitFault.{LimitFault}
 use Rattle.endpoint_membership.specs.declared.limits.Limits.{Limits}
@@ -28,7 +28,7 @@ use Rattle.endpoint_membership.proofs.Bounds.{All-at, All-from_row_at, few_group
 use Rattle.endpoint_membership.proofs.ByLog.{kept_by}
 use Rattle.endpoint_membership.proofs.Judged.{judged}
 use Rattle.endpoint_membership.proofs.Lookup.{row_at-filter}
-use Rattle.endpoint_membership.proofs.Parts.{IsRising-replaced, is_of, parted}
+use Rattle.endpoint_membership.proofs.Parts.{IsAscending-replaced, is_of, parted}
 use Rattle.endpoint_membership.proofs.Reported.{wish_after_all-is}
 use Rattle.endpoint_membership.proofs.Steps.{row_at-others, row_at-three}
 use Rattle.endpoint_membership.proofs.Within.{IsWithin-filter, IsWithin-report, its_place, on_none}
@@ -129,7 +129,7 @@ filter_all test (kept ∷ rest) each = rw each.0 (ap (λ (more : List Kept). kep
 pub own_fresh : (lifetime moment : ℕ) (endpoint : Tunnel) (records : List Record) (rows own : List Kept) → 0 < lifetime → AreOwn lifetime moment endpoint records rows own
     → filter (is_fresh lifetime moment) own ≡ own
 own_fresh lifetime moment endpoint records rows own some owned =
-    filter_all (is_fresh lifetime moment) own (All-from_row_at (λ (kept : Kept). is_fresh lifetime moment kept ≡ true) own owned.rises
+    filter_all (is_fresh lifetime moment) own (All-from_row_at (λ (kept : Kept). is_fresh lifetime moment kept ≡ true) own owned.ascends
     (λ at kept found. (own_row lifetime moment endpoint records rows own at.group kept some owned (ap (row_at own) (sym (own_place endpoint own at kept owned.of found)) ∙ found)).fresh))
 
 wished_size : (limits : Limits) (test : Kept → Bool) (rows : List Kept) (at : Place) → IsWithin limits rows → (found : Option Kept) → found ≡ only test (row_at rows at)
@@ -142,7 +142,7 @@ wished_size limits test rows at within (Some kept) is =
 pub own_sizes : (limits : Limits) (lifetime moment : ℕ) (endpoint : Tunnel) (records : List Record) (rows own : List Kept) → 0 < lifetime → AreOwn lifetime moment endpoint records rows own
     → IsWithin limits rows → AllByRecursion (λ kept. size kept ≤ limits.sources + item_count records) own
 own_sizes limits lifetime moment endpoint records rows own some owned within =
-    All-from_row_at (λ (kept : Kept). size kept ≤ limits.sources + item_count records) own owned.rises
+    All-from_row_at (λ (kept : Kept). size kept ≤ limits.sources + item_count records) own owned.ascends
     (λ at kept found.
     let test = is_fresh lifetime moment in
     let here = place endpoint at.group in
@@ -165,52 +165,52 @@ reported_or_old true old either = refl
 reported_or_old false old either = either refl
 
 -- each group of the endpoint stood before or is reported
-pub own_few : (lifetime moment : ℕ) (endpoint : Tunnel) (records : List Record) (rows own : List Kept) → 0 < lifetime → IsRising kept_order rows → AreOwn lifetime moment endpoint records rows own
+pub own_few : (lifetime moment : ℕ) (endpoint : Tunnel) (records : List Record) (rows own : List Kept) → 0 < lifetime → IsAscending kept_order rows → AreOwn lifetime moment endpoint records rows own
     → length own ≤ group_count endpoint rows + length records
-own_few lifetime moment endpoint records rows own some rises owned =
-    few_groups endpoint records rows own rises owned.rises owned.of
+own_few lifetime moment endpoint records rows own some ascends owned =
+    few_groups endpoint records rows own ascends owned.ascends owned.of
     (λ group kept found. reported_or_old (has ip_order (map (λ (one : Record). one.group) records) group) (is_some (row_at rows (place endpoint group)))
     (λ silent. is_some-found (row_at rows (place endpoint group)) kept (only_found (is_fresh lifetime moment) (row_at rows (place endpoint group)) kept
     ((own_row lifetime moment endpoint records rows own group kept some owned found).old (on_none group records (sym (has-groups records group) ∙ silent))))))
 
 -- rows within the limits stay so by a report that passes none
-pub IsWithin-replaced : (limits : Limits) (lifetime moment : ℕ) (endpoint : Tunnel) (records : List Record) (rows own : List Kept) → 0 < lifetime → IsRising kept_order rows
+pub IsWithin-replaced : (limits : Limits) (lifetime moment : ℕ) (endpoint : Tunnel) (records : List Record) (rows own : List Kept) → 0 < lifetime → IsAscending kept_order rows
     → AreOwn lifetime moment endpoint records rows own → IsWithin limits rows → first_limit limits endpoint records (replaced lifetime moment endpoint rows own) ≡ None
     → IsWithin limits (replaced lifetime moment endpoint rows own)
-IsWithin-replaced limits lifetime moment endpoint records rows own some rises owned within none =
+IsWithin-replaced limits lifetime moment endpoint records rows own some ascends owned within none =
     let test = is_fresh lifetime moment in
-    let parts = parted endpoint rows rises in
+    let parts = parted endpoint rows ascends in
     let all = earlier endpoint rows ++ (own ++ later endpoint rows) in
-    let rise = IsRising-replaced endpoint rows own rises owned.rises owned.of in
-    IsWithin-report limits endpoint records (filter test rows) (filter test all) (IsRising-filter kept_order test rows rises) (IsRising-filter kept_order test all rise) (IsWithin-filter limits test rows within) none
-    (λ at apart. row_at-filter test all at rise
+    let ascend = IsAscending-replaced endpoint rows own ascends owned.ascends owned.of in
+    IsWithin-report limits endpoint records (filter test rows) (filter test all) (IsAscending-filter kept_order test rows ascends) (IsAscending-filter kept_order test all ascend) (IsWithin-filter limits test rows within) none
+    (λ at apart. row_at-filter test all at ascend
     ∙ ap (only test) (row_at-others endpoint (earlier endpoint rows) own (filter (is_of endpoint) rows) (later endpoint rows) at owned.of parts.of apart ∙ ap (λ (whole : List Kept). row_at whole at) (sym parts.whole))
-    ∙ sym (row_at-filter test rows at rises))
-    (λ group kept silent found. row_at-filter test rows (place endpoint group) rises
+    ∙ sym (row_at-filter test rows at ascends))
+    (λ group kept silent found. row_at-filter test rows (place endpoint group) ascends
     ∙ (own_row lifetime moment endpoint records rows own group kept some owned
     (sym (row_at-three endpoint (earlier endpoint rows) own (later endpoint rows) (place endpoint group) parts.earlier parts.later (ap is_eq (tied_itself tunnel_order-total endpoint)))
-    ∙ only_found test (row_at all (place endpoint group)) kept (sym (row_at-filter test all (place endpoint group) rise) ∙ found))).old silent)
+    ∙ only_found test (row_at all (place endpoint group)) kept (sym (row_at-filter test all (place endpoint group) ascend) ∙ found))).old silent)
 
 -- the first limit that a report passes, as the code judges it by the endpoint's rows
 abbrev pub judgement : ℕ → ℕ → Limits → Tunnel → List Record → List Kept → List Kept → Option LimitFault
 judgement lifetime moment limits endpoint records rows own =
     fault_by limits (length own) (live_count (filter (is_counted lifetime moment (Some endpoint)) rows) + (if is_empty own then 0 else 1)) (find (is_over limits.sources records) own)
 
-pub judged_at : (lifetime moment : ℕ) (limits : Limits) (endpoint : Tunnel) (records : List Record) (rows own slice : List Kept) (result : Option LimitFault) → 0 < lifetime → IsRising kept_order rows
+pub judged_at : (lifetime moment : ℕ) (limits : Limits) (endpoint : Tunnel) (records : List Record) (rows own slice : List Kept) (result : Option LimitFault) → 0 < lifetime → IsAscending kept_order rows
     → AreOwn lifetime moment endpoint records rows own → slice ≡ own → result ≡ judgement lifetime moment limits endpoint records rows slice
     → first_limit limits endpoint records (replaced lifetime moment endpoint rows own) ≡ result
-judged_at lifetime moment limits endpoint records rows own slice result some rises owned same is =
-    judged lifetime moment limits endpoint records rows own rises owned.of (own_fresh lifetime moment endpoint records rows own some owned)
+judged_at lifetime moment limits endpoint records rows own slice result some ascends owned same is =
+    judged lifetime moment limits endpoint records rows own ascends owned.of (own_fresh lifetime moment endpoint records rows own some owned)
     ∙ ap (judgement lifetime moment limits endpoint records rows) (sym same) ∙ sym is
 
 -- what own_rows answers of a slice of these rows
-pub owned_rows : (lifetime moment : ℕ) (endpoint : Tunnel) (records : List Record) (slice rows own : List Kept) → slice ≡ rows → IsRising kept_order rows → IsRising kept_order own → AreOf endpoint own
-    → (IsRising kept_order slice → (group : Ip) → row_at own (place endpoint group)
+pub owned_rows : (lifetime moment : ℕ) (endpoint : Tunnel) (records : List Record) (slice rows own : List Kept) → slice ≡ rows → IsAscending kept_order rows → IsAscending kept_order own → AreOf endpoint own
+    → (IsAscending kept_order slice → (group : Ip) → row_at own (place endpoint group)
     ≡ row_of_wish endpoint group (wish_after_all moment (on_group group records) (wish_in (only (is_fresh lifetime moment) (row_at slice (place endpoint group))))))
     → AreOwn lifetime moment endpoint records rows own
-owned_rows lifetime moment endpoint records slice rows own same rises rise of each =
+owned_rows lifetime moment endpoint records slice rows own same ascends ascend of each =
     subst (λ (all : List Kept). AreOwn lifetime moment endpoint records all own) same
-    (record { rises = rise; of = of; each = each (subst (IsRising kept_order) (sym same) rises) })
+    (record { ascends = ascend; of = of; each = each (subst (IsAscending kept_order) (sym same) ascends) })
 
 All-below : (bound most : ℕ) (rows : List Kept) → bound < most → AllByRecursion (λ kept. size kept ≤ bound) rows → AllByRecursion (λ kept. size kept < most) rows
 All-below bound most [] less each = tt
@@ -224,10 +224,10 @@ sizes_fit limits lifetime moment endpoint records rows own slice lawful within i
     subst (AllByRecursion (λ (kept : Kept). size kept < 2 ^ 32)) (sym same)
     (All-below (limits.sources + item_count records) (2 ^ 32) own (omega arith) (own_sizes limits lifetime moment endpoint records rows own lawful.some_time owned within))
 
-pub groups_fit : (limits : Limits) (lifetime moment : ℕ) (endpoint : Tunnel) (records : List Record) (rows own slice : List Kept) → AreLawful limits lifetime → IsRising kept_order rows → IsWithin limits rows
+pub groups_fit : (limits : Limits) (lifetime moment : ℕ) (endpoint : Tunnel) (records : List Record) (rows own slice : List Kept) → AreLawful limits lifetime → IsAscending kept_order rows → IsWithin limits rows
     → item_count records ≤ 16777216 → AreOwn lifetime moment endpoint records rows own → slice ≡ own → length slice < 2 ^ 32
-groups_fit limits lifetime moment endpoint records rows own slice lawful rises within items owned same =
-    let few = own_few lifetime moment endpoint records rows own lawful.some_time rises owned in
+groups_fit limits lifetime moment endpoint records rows own slice lawful ascends within items owned same =
+    let few = own_few lifetime moment endpoint records rows own lawful.some_time ascends owned in
     let most = within.groups endpoint in
     let bound = lawful.groups in
     let long = ap (λ (all : List Kept). length all) same in

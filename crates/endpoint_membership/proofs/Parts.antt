@@ -8,14 +8,14 @@ use Rattle.std.proofs.lemmas.Map.Keys.{sorted_head, sorted_tail}
 use Rattle.amt_values.specs.Order.{ip_order, tunnel_order}
 use Rattle.amt_values.specs.Tunnel.{Tunnel}
 use Rattle.amt_values.proofs.Orders.{tunnel_order-exact, tunnel_order-total}
-use Rattle.source_filter.specs.Rising.{IsRising}
+use Rattle.contract_words.specs.Ascending.{IsAscending}
 use Rattle.endpoint_membership.specs.declared.kept.Kept.{Kept}
 use Rattle.endpoint_membership.specs.Kept.{earlier, end_of, later, start_of}
 use Rattle.endpoint_membership.specs.Own.{AreOf}
 use Rattle.endpoint_membership.specs.Place.{same_endpoint}
 use Rattle.endpoint_membership.specs.Rows.{kept_order, place_of}
 use Rattle.endpoint_membership.proofs.Lookup.{AreAfter}
-use Rattle.endpoint_membership.proofs.Steps.{AreBehind, IsParted, IsRising-back, IsRising-front, IsRising-three}
+use Rattle.endpoint_membership.proofs.Steps.{AreBehind, IsParted, IsAscending-back, IsAscending-front, IsAscending-three}
 
 one_more : (n : ℕ) → 1 + n ≡ suc n
 one_more n = omega arith
@@ -83,32 +83,32 @@ IsTail-same endpoint kept rest same tail =
     }
 
 tail_by : (order : Ordering) (endpoint : Tunnel) (kept other : Kept) (rest : List Kept) → tunnel_order kept.endpoint other.endpoint ≡ order
-    → tunnel_order kept.endpoint endpoint ≡ Equal → kept_order kept other ≡ Less → IsRising kept_order (other ∷ rest)
+    → tunnel_order kept.endpoint endpoint ≡ Equal → kept_order kept other ≡ Less → IsAscending kept_order (other ∷ rest)
     → (tunnel_order other.endpoint endpoint ≡ Equal → IsTail endpoint rest) → IsTail endpoint (other ∷ rest)
-tail_by Less endpoint kept other rest is same after rises onward =
+tail_by Less endpoint kept other rest is same after ascends onward =
     IsTail-behind endpoint other rest (ap (λ (one : Tunnel). tunnel_order one other.endpoint) (sym (tunnel_order-exact kept.endpoint endpoint same)) ∙ is)
-    (sorted_head kept_order other rest rises)
-tail_by Equal endpoint kept other rest is same after rises onward =
+    (sorted_head kept_order other rest ascends)
+tail_by Equal endpoint kept other rest is same after ascends onward =
     let here = ap (λ (one : Tunnel). tunnel_order one endpoint) (sym (tunnel_order-exact kept.endpoint other.endpoint is)) ∙ same in
     IsTail-same endpoint other rest here (onward here)
-tail_by Greater endpoint kept other rest is same after rises onward =
+tail_by Greater endpoint kept other rest is same after ascends onward =
     absurd (not_less_by (tunnel_order kept.endpoint other.endpoint) (ip_order kept.group other.group) after is)
 
 -- after a row of the endpoint stand more of its rows, and then those of later endpoints
-tail_after : (endpoint : Tunnel) (kept : Kept) (rest : List Kept) → tunnel_order kept.endpoint endpoint ≡ Equal → AreAfter (place_of kept) rest → IsRising kept_order rest → IsTail endpoint rest
-tail_after endpoint kept [] same after rises = record { start = refl; whole = refl; of = tt; behind = tt }
-tail_after endpoint kept (other ∷ rest) same after rises =
-    tail_by (tunnel_order kept.endpoint other.endpoint) endpoint kept other rest refl same after.0 rises
-    (λ here. tail_after endpoint other rest here (sorted_head kept_order other rest rises) (sorted_tail kept_order other rest rises))
+tail_after : (endpoint : Tunnel) (kept : Kept) (rest : List Kept) → tunnel_order kept.endpoint endpoint ≡ Equal → AreAfter (place_of kept) rest → IsAscending kept_order rest → IsTail endpoint rest
+tail_after endpoint kept [] same after ascends = record { start = refl; whole = refl; of = tt; behind = tt }
+tail_after endpoint kept (other ∷ rest) same after ascends =
+    tail_by (tunnel_order kept.endpoint other.endpoint) endpoint kept other rest refl same after.0 ascends
+    (λ here. tail_after endpoint other rest here (sorted_head kept_order other rest ascends) (sorted_tail kept_order other rest ascends))
 
 IsParted-tail : (endpoint : Tunnel) (rows : List Kept) → IsTail endpoint rows → IsParted endpoint rows (earlier endpoint rows) (filter (is_of endpoint) rows) (later endpoint rows)
 IsParted-tail endpoint rows tail =
     record { whole = rw tail.start tail.whole; earlier = rw tail.start tt; of = tail.of; later = tail.behind }
 
-parted_by : (order : Ordering) (endpoint : Tunnel) (kept : Kept) (rest : List Kept) → tunnel_order kept.endpoint endpoint ≡ order → IsRising kept_order (kept ∷ rest)
+parted_by : (order : Ordering) (endpoint : Tunnel) (kept : Kept) (rest : List Kept) → tunnel_order kept.endpoint endpoint ≡ order → IsAscending kept_order (kept ∷ rest)
     → IsParted endpoint rest (earlier endpoint rest) (filter (is_of endpoint) rest) (later endpoint rest)
     → IsParted endpoint (kept ∷ rest) (earlier endpoint (kept ∷ rest)) (filter (is_of endpoint) (kept ∷ rest)) (later endpoint (kept ∷ rest))
-parted_by Less endpoint kept rest is rises parted =
+parted_by Less endpoint kept rest is ascends parted =
     let turned = tunnel_order-total.antisymm endpoint kept.endpoint ∙ ap ordering_reverse is in record {
       whole = rw (is, turned, take_first (start_of endpoint rest) kept rest, drop_first (end_of endpoint rest) kept rest)
           (ap (λ (more : List Kept). kept ∷ more) parted.whole);
@@ -116,18 +116,18 @@ parted_by Less endpoint kept rest is rises parted =
       of = rw is parted.of;
       later = rw (turned, drop_first (end_of endpoint rest) kept rest) parted.later;
     }
-parted_by Equal endpoint kept rest is rises parted =
+parted_by Equal endpoint kept rest is ascends parted =
     IsParted-tail endpoint (kept ∷ rest)
-    (IsTail-same endpoint kept rest is (tail_after endpoint kept rest is (sorted_head kept_order kept rest rises) (sorted_tail kept_order kept rest rises)))
-parted_by Greater endpoint kept rest is rises parted =
+    (IsTail-same endpoint kept rest is (tail_after endpoint kept rest is (sorted_head kept_order kept rest ascends) (sorted_tail kept_order kept rest ascends)))
+parted_by Greater endpoint kept rest is ascends parted =
     IsParted-tail endpoint (kept ∷ rest)
-    (IsTail-behind endpoint kept rest (tunnel_order-total.antisymm endpoint kept.endpoint ∙ ap ordering_reverse is) (sorted_head kept_order kept rest rises))
+    (IsTail-behind endpoint kept rest (tunnel_order-total.antisymm endpoint kept.endpoint ∙ ap ordering_reverse is) (sorted_head kept_order kept rest ascends))
 
 -- rows that ascend fall into these parts
-pub parted : (endpoint : Tunnel) (rows : List Kept) → IsRising kept_order rows → IsParted endpoint rows (earlier endpoint rows) (filter (is_of endpoint) rows) (later endpoint rows)
-parted endpoint [] rises = record { whole = refl; earlier = tt; of = tt; later = tt }
-parted endpoint (kept ∷ rest) rises =
-    parted_by (tunnel_order kept.endpoint endpoint) endpoint kept rest refl rises (parted endpoint rest (sorted_tail kept_order kept rest rises))
+pub parted : (endpoint : Tunnel) (rows : List Kept) → IsAscending kept_order rows → IsParted endpoint rows (earlier endpoint rows) (filter (is_of endpoint) rows) (later endpoint rows)
+parted endpoint [] ascends = record { whole = refl; earlier = tt; of = tt; later = tt }
+parted endpoint (kept ∷ rest) ascends =
+    parted_by (tunnel_order kept.endpoint endpoint) endpoint kept rest refl ascends (parted endpoint rest (sorted_tail kept_order kept rest ascends))
 
 start_before_end_by : (order : Ordering) (start end : ℕ) → start ≤ end
     → cond (is_lt order) (1 + start) 0 ≤ cond (not (is_lt (ordering_reverse order))) (1 + end) 0
@@ -148,11 +148,11 @@ pub spliced_is : (endpoint : Tunnel) (rows items own : List Kept) (start end : �
 spliced_is endpoint rows items own start end starts ends same = rw (starts, ends, same) refl
 
 -- rows ascend with other rows of the endpoint in the place of its rows
-pub IsRising-replaced : (endpoint : Tunnel) (rows own : List Kept) → IsRising kept_order rows → IsRising kept_order own → AreOf endpoint own
-    → IsRising kept_order (earlier endpoint rows ++ (own ++ later endpoint rows))
-IsRising-replaced endpoint rows own rises rise of =
-    let parts = parted endpoint rows rises in
-    let whole = subst (IsRising kept_order) parts.whole rises in
+pub IsAscending-replaced : (endpoint : Tunnel) (rows own : List Kept) → IsAscending kept_order rows → IsAscending kept_order own → AreOf endpoint own
+    → IsAscending kept_order (earlier endpoint rows ++ (own ++ later endpoint rows))
+IsAscending-replaced endpoint rows own ascends ascend of =
+    let parts = parted endpoint rows ascends in
+    let whole = subst (IsAscending kept_order) parts.whole ascends in
     let old = filter (is_of endpoint) rows in
-    IsRising-three endpoint (earlier endpoint rows) own (later endpoint rows) (IsRising-front (earlier endpoint rows) (old ++ later endpoint rows) whole) rise
-    (IsRising-back old (later endpoint rows) (IsRising-back (earlier endpoint rows) (old ++ later endpoint rows) whole)) parts.earlier of parts.later
+    IsAscending-three endpoint (earlier endpoint rows) own (later endpoint rows) (IsAscending-front (earlier endpoint rows) (old ++ later endpoint rows) whole) ascend
+    (IsAscending-back old (later endpoint rows) (IsAscending-back (earlier endpoint rows) (old ++ later endpoint rows) whole)) parts.earlier of parts.later

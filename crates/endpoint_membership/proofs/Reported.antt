@@ -87,4 +87,4 @@ pub AreRows-reported : (lifetime moment at : ℕ) (endpoint : Tunnel) (records :
     (filter (is_fresh lifetime (latest (Reported endpoint records at ∷ past))) (earlier endpoint rows ++ (own ++ later endpoint rows)))
 AreRows-reported lifetime moment at endpoint records past rows own some onward are owned =
     AreRows-report lifetime moment at endpoint records past rows (earlier endpoint rows) (filter (is_of endpoint) rows) (later endpoint rows) own onward are
-    (parted endpoint rows are.rise) owned.rises owned.of (own_at lifetime moment at endpoint records past rows own some onward are owned)
+    (parted endpoint rows are.ascend) owned.ascends owned.of (own_at lifetime moment at endpoint records past rows own some onward are owned)

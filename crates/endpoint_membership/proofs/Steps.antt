@@ -13,9 +13,9 @@ use Rattle.amt_values.specs.declared.address.Ip.{Ip}
 use Rattle.amt_values.specs.Order.{tunnel_order}
 use Rattle.amt_values.specs.Tunnel.{Tunnel}
 use Rattle.amt_values.proofs.Orders.{tunnel_order-exact, tunnel_order-total}
-use Rattle.source_filter.specs.Rising.{IsRising}
+use Rattle.contract_words.specs.Ascending.{IsAscending}
 use Rattle.source_filter.specs.declared.record.Record.{Record}
-use Rattle.source_filter.proofs.RisingLaws.{IsRising-filter}
+use Rattle.contract_words.proofs.AscendingLaws.{IsAscending-filter}
 use Rattle.endpoint_membership.specs.declared.change.Change.{Change}
 use Rattle.endpoint_membership.specs.declared.change.Change.TheVariants.{Reported, Clear}
 use Rattle.endpoint_membership.specs.declared.kept.Kept.{Kept}
@@ -34,8 +34,8 @@ use Rattle.endpoint_membership.proofs.Standing.{standing-clear, standing-later, 
 pub AreRows-later : (lifetime moment later : ℕ) (past : List Change) (rows : List Kept) → moment ≤ later → AreRows lifetime moment past rows
     → AreRows lifetime later past (filter (is_fresh lifetime later) rows)
 AreRows-later lifetime moment later past rows onward are = record {
-  rise = IsRising-filter kept_order (is_fresh lifetime later) rows are.rise;
-  each = λ place. row_at-filter (is_fresh lifetime later) rows place are.rise
+  ascend = IsAscending-filter kept_order (is_fresh lifetime later) rows are.ascend;
+  each = λ place. row_at-filter (is_fresh lifetime later) rows place are.ascend
       ∙ ap (only (is_fresh lifetime later)) (are.each place)
       ∙ sym (standing-later lifetime moment later past place onward);
 }
@@ -44,7 +44,7 @@ AreRows-later lifetime moment later past rows onward are = record {
 pub AreRows-other : (lifetime moment : ℕ) (entry : Change) (past : List Change) (rows : List Kept) → ((place : Place) → records_at place entry ≡ [])
     → AreRows lifetime moment past rows → AreRows lifetime moment (entry ∷ past) rows
 AreRows-other lifetime moment entry past rows none are =
-    record { rise = are.rise; each = λ place. are.each place ∙ sym (standing-other lifetime moment entry past place (none place)) }
+    record { ascend = are.ascend; each = λ place. are.each place ∙ sym (standing-other lifetime moment entry past place (none place)) }
 
 either_way : (found : Option Kept) (here : Bool) → found ≡ cond here found found
 either_way found true = refl
@@ -70,8 +70,8 @@ pub AreRows-clear : (lifetime at : ℕ) (endpoint : Tunnel) (past : List Change)
     → AreRows lifetime (latest (Clear endpoint at ∷ past)) (Clear endpoint at ∷ past) (filter (is_besides endpoint) rows)
 AreRows-clear lifetime at endpoint past rows are =
     let moment = latest (Clear endpoint at ∷ past) in record {
-      rise = IsRising-filter kept_order (is_besides endpoint) rows are.rise;
-      each = λ place. row_at-filter (is_besides endpoint) rows place are.rise
+      ascend = IsAscending-filter kept_order (is_besides endpoint) rows are.ascend;
+      each = λ place. row_at-filter (is_besides endpoint) rows place are.ascend
           ∙ ap (only (is_besides endpoint)) (are.each place)
           ∙ only_besides (standing lifetime moment past place) endpoint place (GivesItsPlace-standing lifetime moment past place)
           ∙ cleared_by (same_endpoint place.endpoint endpoint) (standing lifetime moment past place) (standing lifetime moment (Clear endpoint at ∷ past) place)
@@ -125,14 +125,14 @@ both_all : (P : Kept → Type 0) (xs ys : List Kept) → AllByRecursion P xs →
 both_all P [] ys first second = second
 both_all P (x ∷ xs) ys first second = (first.0, both_all P xs ys first.1 second)
 
-pub IsRising-front : (xs ys : List Kept) → IsRising kept_order (xs ++ ys) → IsRising kept_order xs
+pub IsAscending-front : (xs ys : List Kept) → IsAscending kept_order (xs ++ ys) → IsAscending kept_order xs
 unfolding IsStrictlySortedBy
-IsRising-front [] ys rises = tt
-IsRising-front (x ∷ xs) ys rises = (front_of (λ kept. kept_order x kept ≡ Less) xs ys rises.0, IsRising-front xs ys rises.1)
+IsAscending-front [] ys ascends = tt
+IsAscending-front (x ∷ xs) ys ascends = (front_of (λ kept. kept_order x kept ≡ Less) xs ys ascends.0, IsAscending-front xs ys ascends.1)
 
-pub IsRising-back : (xs ys : List Kept) → IsRising kept_order (xs ++ ys) → IsRising kept_order ys
-IsRising-back [] ys rises = rises
-IsRising-back (x ∷ xs) ys rises = IsRising-back xs ys (sorted_tail kept_order x (xs ++ ys) rises)
+pub IsAscending-back : (xs ys : List Kept) → IsAscending kept_order (xs ++ ys) → IsAscending kept_order ys
+IsAscending-back [] ys ascends = ascends
+IsAscending-back (x ∷ xs) ys ascends = IsAscending-back xs ys (sorted_tail kept_order x (xs ++ ys) ascends)
 
 -- rows of an endpoint stand after rows of earlier endpoints
 before_of : (endpoint : Tunnel) (kept : Kept) (ys : List Kept) → tunnel_order kept.endpoint endpoint ≡ Less → AreOf endpoint ys → AllByRecursion (λ later. kept_order kept later ≡ Less) ys
@@ -153,22 +153,22 @@ of_behind endpoint kept (later ∷ ys) of behind =
     let here = ap (λ (one : Tunnel). tunnel_order one later.endpoint) (same_endpoint-exact kept.endpoint endpoint of) ∙ behind.0 in
     (rw here refl, of_behind endpoint kept ys of behind.1)
 
-IsRising-of_behind : (endpoint : Tunnel) (own behind : List Kept) → IsRising kept_order own → IsRising kept_order behind → AreOf endpoint own → AreBehind endpoint behind
-    → IsRising kept_order (own ++ behind)
+IsAscending-of_behind : (endpoint : Tunnel) (own behind : List Kept) → IsAscending kept_order own → IsAscending kept_order behind → AreOf endpoint own → AreBehind endpoint behind
+    → IsAscending kept_order (own ++ behind)
 unfolding IsStrictlySortedBy
-IsRising-of_behind endpoint [] behind first second of later = second
-IsRising-of_behind endpoint (kept ∷ own) behind first second of later =
-    (both_all (λ other. kept_order kept other ≡ Less) own behind first.0 (of_behind endpoint kept behind of.0 later), IsRising-of_behind endpoint own behind first.1 second of.1 later)
+IsAscending-of_behind endpoint [] behind first second of later = second
+IsAscending-of_behind endpoint (kept ∷ own) behind first second of later =
+    (both_all (λ other. kept_order kept other ≡ Less) own behind first.0 (of_behind endpoint kept behind of.0 later), IsAscending-of_behind endpoint own behind first.1 second of.1 later)
 
 -- rows before an endpoint's, rows of the endpoint and rows after it ascend together
-pub IsRising-three : (endpoint : Tunnel) (before own behind : List Kept) → IsRising kept_order before → IsRising kept_order own → IsRising kept_order behind
-    → AreBefore endpoint before → AreOf endpoint own → AreBehind endpoint behind → IsRising kept_order (before ++ (own ++ behind))
+pub IsAscending-three : (endpoint : Tunnel) (before own behind : List Kept) → IsAscending kept_order before → IsAscending kept_order own → IsAscending kept_order behind
+    → AreBefore endpoint before → AreOf endpoint own → AreBehind endpoint behind → IsAscending kept_order (before ++ (own ++ behind))
 unfolding IsStrictlySortedBy
-IsRising-three endpoint [] own behind first second third earlier of later = IsRising-of_behind endpoint own behind second third of later
-IsRising-three endpoint (kept ∷ before) own behind first second third earlier of later = (
+IsAscending-three endpoint [] own behind first second third earlier of later = IsAscending-of_behind endpoint own behind second third of later
+IsAscending-three endpoint (kept ∷ before) own behind first second third earlier of later = (
   both_all (λ other. kept_order kept other ≡ Less) before (own ++ behind) first.0
       (both_all (λ other. kept_order kept other ≡ Less) own behind (before_of endpoint kept own earlier.0 of) (before_behind endpoint kept behind earlier.0 later)),
-  IsRising-three endpoint before own behind first.1 second third earlier.1 of later,
+  IsAscending-three endpoint before own behind first.1 second third earlier.1 of later,
 )
 
 -- rows in three parts: of earlier endpoints, of this one, and of later ones
@@ -204,19 +204,19 @@ row_at-others endpoint before own other behind place of others apart =
 -- a report replaces the endpoint's rows by what stands there then
 pub AreRows-report : (lifetime moment at : ℕ) (endpoint : Tunnel) (records : List Record) (past : List Change) (rows before own behind replaced : List Kept)
     → moment ≤ latest (Reported endpoint records at ∷ past) → AreRows lifetime moment past rows
-    → IsParted endpoint rows before own behind → IsRising kept_order replaced → AreOf endpoint replaced
+    → IsParted endpoint rows before own behind → IsAscending kept_order replaced → AreOf endpoint replaced
     → ((place : Place) → same_endpoint place.endpoint endpoint ≡ true
     → row_at replaced place ≡ standing lifetime (latest (Reported endpoint records at ∷ past)) (Reported endpoint records at ∷ past) place)
     → AreRows lifetime (latest (Reported endpoint records at ∷ past)) (Reported endpoint records at ∷ past)
     (filter (is_fresh lifetime (latest (Reported endpoint records at ∷ past))) (before ++ (replaced ++ behind)))
-AreRows-report lifetime moment at endpoint records past rows before own behind replaced onward are parted rises of each =
+AreRows-report lifetime moment at endpoint records past rows before own behind replaced onward are parted ascends of each =
     let entry = Reported endpoint records at in
     let later = latest (entry ∷ past) in
-    let whole = rw parted.whole at are.rise in
-    let rise = IsRising-three endpoint before replaced behind (IsRising-front before (own ++ behind) whole) rises
-    (IsRising-back own behind (IsRising-back before (own ++ behind) whole)) parted.earlier of parted.later in record {
-      rise = IsRising-filter kept_order (is_fresh lifetime later) (before ++ (replaced ++ behind)) rise;
-      each = λ place. row_at-filter (is_fresh lifetime later) (before ++ (replaced ++ behind)) place rise ∙ elim (cases_Bool (same_endpoint place.endpoint endpoint)) [
+    let whole = rw parted.whole at are.ascend in
+    let ascend = IsAscending-three endpoint before replaced behind (IsAscending-front before (own ++ behind) whole) ascends
+    (IsAscending-back own behind (IsAscending-back before (own ++ behind) whole)) parted.earlier of parted.later in record {
+      ascend = IsAscending-filter kept_order (is_fresh lifetime later) (before ++ (replaced ++ behind)) ascend;
+      each = λ place. row_at-filter (is_fresh lifetime later) (before ++ (replaced ++ behind)) place ascend ∙ elim (cases_Bool (same_endpoint place.endpoint endpoint)) [
         | inl same ↦ ap (only (is_fresh lifetime later)) (row_at-three endpoint before replaced behind place parted.earlier parted.later same ∙ each place same)
             ∙ sym (standing-later lifetime later later (entry ∷ past) place (omega arith))
         | inr apart ↦ ap (only (is_fresh lifetime later))

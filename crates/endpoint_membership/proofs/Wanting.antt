@@ -15,9 +15,9 @@ use Rattle.amt_values.specs.Order.{ip_order, tunnel_order}
 use Rattle.amt_values.specs.Tunnel.{Tunnel}
 use Rattle.amt_values.proofs.Orders.{ip_order-exact, ip_order-total, tunnel_order-exact, tunnel_order-total}
 use Rattle.source_filter.specs.Filter.{admits}
-use Rattle.source_filter.specs.Rising.{IsRising, has, rising}
+use Rattle.contract_words.specs.Ascending.{IsAscending, has, ascending}
 use Rattle.source_filter.specs.declared.record.Record.{Record}
-use Rattle.source_filter.proofs.RisingLaws.{IsRising-filter, IsRising-rising, has-append, has-filter, has-rising, rising-fixed, same_rising}
+use Rattle.contract_words.proofs.AscendingLaws.{IsAscending-filter, IsAscending-ascending, has-append, has-filter, has-ascending, ascending-fixed, same_ascending}
 use Rattle.endpoint_membership.specs.declared.change.Change.{Change}
 use Rattle.endpoint_membership.specs.declared.change.Change.TheVariants.{Reported, Clear, Mark}
 use Rattle.endpoint_membership.specs.declared.kept.Kept.{Kept}
@@ -78,23 +78,23 @@ less_each : (group : Ip) (one : Kept) (rows : List Kept) → same_group one.grou
 less_each group one [] here on after = tt
 less_each group one (next ∷ rows) here on after = (less_endpoint group one next here on.0 after.0, less_each group one rows here on.1 after.1)
 
-IsRising-endpoints : (group : Ip) (rows : List Kept) → AreOn group rows → IsRising kept_order rows → IsRising tunnel_order (endpoints_of rows)
+IsAscending-endpoints : (group : Ip) (rows : List Kept) → AreOn group rows → IsAscending kept_order rows → IsAscending tunnel_order (endpoints_of rows)
 unfolding IsStrictlySortedBy
-IsRising-endpoints group [] on rises = tt
-IsRising-endpoints group (kept ∷ rows) on rises = (less_each group kept rows on.0 on.1 rises.0, IsRising-endpoints group rows on.1 rises.1)
+IsAscending-endpoints group [] on ascends = tt
+IsAscending-endpoints group (kept ∷ rows) on ascends = (less_each group kept rows on.0 on.1 ascends.0, IsAscending-endpoints group rows on.1 ascends.1)
 
 -- the endpoints of the rows that let a packet in ascend
-pub IsRising-targets : (lifetime moment : ℕ) (group source : Ip) (rows : List Kept) → IsRising kept_order rows → IsRising tunnel_order (targets_in lifetime moment group source rows)
-IsRising-targets lifetime moment group source rows rises =
+pub IsAscending-targets : (lifetime moment : ℕ) (group source : Ip) (rows : List Kept) → IsAscending kept_order rows → IsAscending tunnel_order (targets_in lifetime moment group source rows)
+IsAscending-targets lifetime moment group source rows ascends =
     let test = is_target lifetime moment group source in
-    IsRising-endpoints group (filter test rows) (AreOn-targets lifetime moment group source rows) (IsRising-filter kept_order test rows rises)
+    IsAscending-endpoints group (filter test rows) (AreOn-targets lifetime moment group source rows) (IsAscending-filter kept_order test rows ascends)
 
 -- they are at most the live ones
-pub length-targets : (lifetime moment : ℕ) (group source : Ip) (rows : List Kept) → IsRising kept_order rows → length (targets_in lifetime moment group source rows) ≤ live_count rows
-length-targets lifetime moment group source rows rises =
+pub length-targets : (lifetime moment : ℕ) (group source : Ip) (rows : List Kept) → IsAscending kept_order rows → length (targets_in lifetime moment group source rows) ≤ live_count rows
+length-targets lifetime moment group source rows ascends =
     let test = is_target lifetime moment group source in
     let once = ap (λ (all : List Tunnel). length all)
-    (rising-fixed tunnel_order-total tunnel_order-exact (targets_in lifetime moment group source rows) (IsRising-targets lifetime moment group source rows rises)) in
+    (ascending-fixed tunnel_order-total tunnel_order-exact (targets_in lifetime moment group source rows) (IsAscending-targets lifetime moment group source rows ascends)) in
     omega (arith, once, live_count-filter test rows)
 
 -- before the last row of the rows there is room for its endpoint
@@ -130,12 +130,12 @@ has-endpoints group (kept ∷ rows) endpoint on =
     seen_by (same_endpoint endpoint kept.endpoint) kept (row_at rows (at endpoint group)) (has tunnel_order (endpoints_of rows) endpoint) (has-endpoints group rows endpoint on.1)
     ∙ ap (λ (test : Bool). is_some (cond test (Some kept) (row_at rows (at endpoint group)))) (sym here)
 
-has-targets : (lifetime moment : ℕ) (group source : Ip) (rows : List Kept) (endpoint : Tunnel) → IsRising kept_order rows
+has-targets : (lifetime moment : ℕ) (group source : Ip) (rows : List Kept) (endpoint : Tunnel) → IsAscending kept_order rows
     → has tunnel_order (targets_in lifetime moment group source rows) endpoint ≡ is_some (only (is_target lifetime moment group source) (row_at rows (at endpoint group)))
-has-targets lifetime moment group source rows endpoint rises =
+has-targets lifetime moment group source rows endpoint ascends =
     let test = is_target lifetime moment group source in
     has-endpoints group (filter test rows) endpoint (AreOn-targets lifetime moment group source rows)
-    ∙ ap (λ (found : Option Kept). is_some found) (row_at-filter test rows (at endpoint group) rises)
+    ∙ ap (λ (found : Option Kept). is_some found) (row_at-filter test rows (at endpoint group) ascends)
 
 is_some-cond : (test : Bool) (kept : Kept) → is_some (cond test (Some kept) None) ≡ test
 is_some-cond true kept = refl
@@ -191,7 +191,7 @@ has-wanted : (lifetime : ℕ) (log : List Change) (group source : Ip) (moment : 
     → has tunnel_order (targets_in lifetime (max moment (latest log)) group source rows) endpoint ≡ is_admitted lifetime log (at endpoint group) source moment
 has-wanted lifetime log group source moment rows endpoint are =
     let later = max moment (latest log) in
-    has-targets lifetime later group source rows endpoint are.rise
+    has-targets lifetime later group source rows endpoint are.ascend
     ∙ ap (λ (found : Option Kept). is_some (only (is_target lifetime later group source) found)) (are.each (at endpoint group))
     ∙ target_by lifetime log group source moment endpoint (standing lifetime (latest log) (reverse log) (at endpoint group)) refl
     ∙ admitted_later lifetime log (at endpoint group) source moment
@@ -263,15 +263,15 @@ pub has-targets_of : (lifetime : ℕ) (log : List Change) (group source : Ip) (m
 unfolding targets_of
 has-targets_of lifetime log group source moment endpoint =
     let wanted = λ (one : Tunnel). is_admitted lifetime log (at one group) source moment in
-    has-filter tunnel_order-exact wanted (rising tunnel_order (endpoints_in log)) endpoint
-    ∙ ap (λ (test : Bool). test && wanted endpoint) (has-rising tunnel_order-total (endpoints_in log) endpoint)
+    has-filter tunnel_order-exact wanted (ascending tunnel_order (endpoints_in log)) endpoint
+    ∙ ap (λ (test : Bool). test && wanted endpoint) (has-ascending tunnel_order-total (endpoints_in log) endpoint)
     ∙ known_by (has tunnel_order (endpoints_in log) endpoint) (wanted endpoint) (unreported lifetime log group source moment endpoint)
 
 -- the targets by the log ascend
-pub IsRising-targets_of : (lifetime : ℕ) (log : List Change) (group source : Ip) (moment : ℕ) → IsRising tunnel_order (targets_of lifetime log group source moment)
+pub IsAscending-targets_of : (lifetime : ℕ) (log : List Change) (group source : Ip) (moment : ℕ) → IsAscending tunnel_order (targets_of lifetime log group source moment)
 unfolding targets_of
-IsRising-targets_of lifetime log group source moment =
-    IsRising-filter tunnel_order (λ (one : Tunnel). is_admitted lifetime log (at one group) source moment) (rising tunnel_order (endpoints_in log)) (IsRising-rising tunnel_order-total (endpoints_in log))
+IsAscending-targets_of lifetime log group source moment =
+    IsAscending-filter tunnel_order (λ (one : Tunnel). is_admitted lifetime log (at one group) source moment) (ascending tunnel_order (endpoints_in log)) (IsAscending-ascending tunnel_order-total (endpoints_in log))
 
 -- a list has an endpoint where the test finds it
 pub Contains-has : (endpoints : List Tunnel) (endpoint : Tunnel) (wanted : Bool) → has tunnel_order endpoints endpoint ≡ wanted → Contains endpoints endpoint ↔ (wanted ≡ true)
@@ -296,6 +296,6 @@ targets_are terms table log group source moment later is holds =
     let by_log = targets_of terms.lifetime log group source moment in
     ap (λ (lifetime : ℕ). targets_in lifetime later group source table.rows) holds.lifetime
     ∙ ap (λ (one : ℕ). targets_in terms.lifetime one group source table.rows) turned
-    ∙ same_rising tunnel_order-total tunnel_order-exact by_rows by_log
-    (IsRising-targets terms.lifetime (max moment (latest log)) group source table.rows holds.rows.rise) (IsRising-targets_of terms.lifetime log group source moment)
+    ∙ same_ascending tunnel_order-total tunnel_order-exact by_rows by_log
+    (IsAscending-targets terms.lifetime (max moment (latest log)) group source table.rows holds.rows.ascend) (IsAscending-targets_of terms.lifetime log group source moment)
     (λ endpoint. has-wanted terms.lifetime log group source moment table.rows endpoint holds.rows ∙ sym (has-targets_of terms.lifetime log group source moment endpoint))

@@ -7,14 +7,14 @@ use Rattle.amt_values.specs.Order.{ip_order}
 use Rattle.amt_values.proofs.Orders.{ip_order-total, ip_order-exact}
 use Rattle.source_filter.specs.Filter.{FilterValue, admits, admits_by, applied, mode_after, nothing, sources_after}
 use Rattle.source_filter.specs.Record.{is_full, lists, says, speaks}
-use Rattle.source_filter.specs.Rising.{IsRising}
+use Rattle.contract_words.specs.Ascending.{IsAscending}
 use Rattle.source_filter.specs.declared.mode.Mode.{Mode}
 use Rattle.source_filter.specs.declared.mode.Mode.TheVariants.{Include, Exclude}
 use Rattle.source_filter.specs.declared.record.Record.{Record}
 use Rattle.source_filter.specs.declared.record.RecordKind.{RecordKind}
 use Rattle.source_filter.specs.declared.record.RecordKind.TheVariants.{IsIn, IsEx, ToIn, ToEx, Allow, Block}
-use Rattle.source_filter.proofs.Applied.{IsRising-applied, admits-applied, lists-rising}
-use Rattle.source_filter.proofs.RisingLaws.{IsRising-rising, has-append, has-difference, has-filter, has-union, same_rising}
+use Rattle.source_filter.proofs.Applied.{IsAscending-applied, admits-applied, lists-ascending}
+use Rattle.contract_words.proofs.AscendingLaws.{IsAscending-ascending, has-append, has-difference, has-filter, has-union, same_ascending}
 use Rattle.endpoint_membership.specs.Own.{applied_all}
 use Rattle.endpoint_membership.specs.Wishes.{admitted, counted_sources, excludes, is_counted, is_excluding, named, wish_of}
 
@@ -43,9 +43,9 @@ admits-filter_of [] source = refl
 admits-filter_of (newest ∷ older) source =
     admits-applied (filter_of older) newest source ∙ ap (λ (before : Bool). if speaks newest source then says newest source else before) (admits-filter_of older source)
 
-IsRising-filter_of : (records : List Record) → IsRising ip_order (filter_of records).sources
-IsRising-filter_of [] = IsRising-rising ip_order-total []
-IsRising-filter_of (newest ∷ older) = IsRising-applied (filter_of older) newest (IsRising-filter_of older)
+IsAscending-filter_of : (records : List Record) → IsAscending ip_order (filter_of records).sources
+IsAscending-filter_of [] = IsAscending-ascending ip_order-total []
+IsAscending-filter_of (newest ∷ older) = IsAscending-applied (filter_of older) newest (IsAscending-filter_of older)
 
 counted_by : (excluding listed admitted : Bool) → admits_by (mode_by excluding) listed ≡ admitted → listed ≡ (if excluding then not admitted else admitted)
 counted_by true true admitted says = ap not says
@@ -81,7 +81,7 @@ from_either Block Include old listed source given =
 from_either Block Exclude old listed source given =
     turned (lists old source) (lists listed source) (sym (has-union ip_order-total old listed source) ∙ given)
 from_either full mode old listed source given =
-    turned (lists old source) (lists listed source) (either_right (lists listed source) (lists old source) (sym (lists-rising listed source) ∙ given))
+    turned (lists old source) (lists listed source) (either_right (lists listed source) (lists old source) (sym (lists-ascending listed source) ∙ given))
 
 either_onward : (a b c : Bool) → (b ≡ true → c ≡ true) → (a || b) ≡ true → (a || c) ≡ true
 either_onward true b c onward given = refl
@@ -105,12 +105,12 @@ lists-counted_sources records source =
     lists-filter_of records source
     ∙ within_by (lists (named records) source) (is_counted records source) (λ counted. lists-named records source (lists-filter_of records source ∙ counted))
     ∙ sym (has-filter ip_order-exact (is_counted records) (named records) source)
-    ∙ sym (lists-rising (filter (is_counted records) (named records)) source)
+    ∙ sym (lists-ascending (filter (is_counted records) (named records)) source)
 
 sources-filter_of : (records : List Record) → (filter_of records).sources ≡ counted_sources records
 sources-filter_of records =
-    same_rising ip_order-total ip_order-exact (filter_of records).sources (counted_sources records)
-    (IsRising-filter_of records) (IsRising-rising ip_order-total (filter (is_counted records) (named records))) (lists-counted_sources records)
+    same_ascending ip_order-total ip_order-exact (filter_of records).sources (counted_sources records)
+    (IsAscending-filter_of records) (IsAscending-ascending ip_order-total (filter (is_counted records) (named records))) (lists-counted_sources records)
 
 abbrev made : Mode → List Ip → FilterValue
 made mode sources = record { mode = mode; sources = sources }

@@ -8,9 +8,9 @@ use Rattle.std.proofs.lemmas.Map.Views.{tells_apart}
 use Rattle.amt_values.specs.declared.address.Ip.{Ip}
 use Rattle.amt_values.specs.Tunnel.{Tunnel}
 use Rattle.amt_values.proofs.Orders.{tunnel_order-exact, tunnel_order-total}
-use Rattle.source_filter.specs.Rising.{IsRising}
+use Rattle.contract_words.specs.Ascending.{IsAscending}
 use Rattle.source_filter.specs.declared.record.Record.{Record}
-use Rattle.source_filter.proofs.RisingLaws.{IsRising-filter}
+use Rattle.contract_words.proofs.AscendingLaws.{IsAscending-filter}
 use Rattle.endpoint_membership.specs.Kept.{only}
 use Rattle.endpoint_membership.specs.Limits.{IsWithin, fault_by, first_limit, group_count, is_too_wide, live_count, size}
 use Rattle.endpoint_membership.specs.Own.{on_group}
@@ -116,7 +116,7 @@ only_elsewhere (Some kept) endpoint place its apart =
     let elsewhere = sym (ap (λ (one : Place). same_endpoint one.endpoint endpoint) (its kept refl)) ∙ apart in rw elsewhere refl
 
 -- an endpoint whose places have the rows that they had has as many groups as it had
-same_count : (endpoint other : Tunnel) (rows after : List Kept) → IsRising kept_order rows → IsRising kept_order after → same_endpoint other endpoint ≡ false
+same_count : (endpoint other : Tunnel) (rows after : List Kept) → IsAscending kept_order rows → IsAscending kept_order after → same_endpoint other endpoint ≡ false
     → ((place : Place) → same_endpoint place.endpoint endpoint ≡ false → row_at after place ≡ row_at rows place) → group_count other after ≡ group_count other rows
 same_count endpoint other rows after first second apart same =
     let test = λ (kept : Kept). same_endpoint kept.endpoint other in
@@ -127,7 +127,7 @@ same_count endpoint other rows after first second apart same =
           only_elsewhere (row_at after place) other place (its_place after place) elsewhere ∙ sym (only_elsewhere (row_at rows place) other place (its_place rows place) elsewhere)
       | inr away ↦ ap (only test) (same place away)
     ] in
-    let left = same_rows (filter test after) (filter test rows) (IsRising-filter kept_order test after second) (IsRising-filter kept_order test rows first)
+    let left = same_rows (filter test after) (filter test rows) (IsAscending-filter kept_order test after second) (IsAscending-filter kept_order test rows first)
     (λ place. row_at-filter test after place second ∙ each place ∙ sym (row_at-filter test rows place first)) in
     sym (length-filter test after) ∙ ap (λ (all : List Kept). length all) left ∙ length-filter test rows
 
@@ -161,7 +161,7 @@ narrow limits endpoint records rows after within none others silent place kept f
     ]
 
 -- a report that passes no limit leaves rows within the limits
-pub IsWithin-report : (limits : Limits) (endpoint : Tunnel) (records : List Record) (rows after : List Kept) → IsRising kept_order rows → IsRising kept_order after
+pub IsWithin-report : (limits : Limits) (endpoint : Tunnel) (records : List Record) (rows after : List Kept) → IsAscending kept_order rows → IsAscending kept_order after
     → IsWithin limits rows → first_limit limits endpoint records after ≡ None
     → ((place : Place) → same_endpoint place.endpoint endpoint ≡ false → row_at after place ≡ row_at rows place)
     → ((group : Ip) (kept : Kept) → on_group group records ≡ [] → row_at after (record { endpoint = endpoint; group = group }) ≡ Some kept

@@ -3,7 +3,7 @@ use Rattle.std.specs.Prelude.{ℕ, ◌*◌, ◌≤◌, nat_lt, Bool, List, lengt
 use Rattle.std.specs.List.{list_any, find, count_by, AllByRecursion}
 use Rattle.amt_values.specs.Order.{tunnel_order}
 use Rattle.amt_values.specs.Tunnel.{Tunnel}
-use Rattle.source_filter.specs.Rising.{rising}
+use Rattle.contract_words.specs.Ascending.{ascending}
 use Rattle.source_filter.specs.declared.record.Record.{Record}
 use Rattle.endpoint_membership.specs.Place.{same_endpoint, same_group}
 use Rattle.endpoint_membership.specs.declared.kept.Kept.{Kept}
@@ -18,7 +18,7 @@ group_count endpoint rows = count_by (λ kept. same_endpoint kept.endpoint endpo
 
 -- the number of different endpoints
 abbrev pub live_count : List Kept → ℕ
-live_count rows = length (rising tunnel_order (map (λ kept. kept.endpoint) rows))
+live_count rows = length (ascending tunnel_order (map (λ kept. kept.endpoint) rows))
 
 -- the number of listed sources
 abbrev pub size : Kept → ℕ

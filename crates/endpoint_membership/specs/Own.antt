@@ -4,7 +4,7 @@ use Rattle.std.specs.List.{AllByRecursion, filter, list_any}
 use Rattle.amt_values.specs.declared.address.Ip.{Ip}
 use Rattle.amt_values.specs.Tunnel.{Tunnel}
 use Rattle.source_filter.specs.Filter.{FilterValue, applied, nothing, sources_after}
-use Rattle.source_filter.specs.Rising.{IsRising}
+use Rattle.contract_words.specs.Ascending.{IsAscending}
 use Rattle.source_filter.specs.declared.record.Record.{Record}
 use Rattle.source_filter.specs.declared.record.RecordKind.{RecordKind}
 use Rattle.endpoint_membership.specs.Kept.{is_fresh, only}
@@ -74,7 +74,7 @@ is_over most records kept =
 
 -- the rows of an endpoint after its report, from all rows before it
 pub record AreOwn (lifetime moment : ℕ) (endpoint : Tunnel) (records : List Record) (rows own : List Kept) : Type 0 where
-  pub rises : IsRising kept_order own
+  pub ascends : IsAscending kept_order own
   pub of : AreOf endpoint own
   pub each : (group : Ip) → row_at own (record { endpoint = endpoint; group = group })
       ≡ row_of_wish endpoint group (wish_after_all moment (on_group group records) (wish_in (only (is_fresh lifetime moment) (row_at rows (record { endpoint = endpoint; group = group })))))

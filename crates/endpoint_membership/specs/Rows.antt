@@ -5,7 +5,7 @@ use Rattle.std.specs.Ordering.{on}
 use Rattle.std.specs.declared.cmp.Ordering.{Ordering}
 use Rattle.amt_values.specs.Tunnel.{Tunnel}
 use Rattle.source_filter.specs.Filter.{FilterValue}
-use Rattle.source_filter.specs.Rising.{rising}
+use Rattle.contract_words.specs.Ascending.{ascending}
 use Rattle.source_filter.specs.declared.mode.Mode.{Mode}
 use Rattle.source_filter.specs.declared.mode.Mode.TheVariants.{Include, Exclude}
 use Rattle.source_filter.specs.declared.record.Record.{Record}
@@ -51,7 +51,7 @@ places_in (Mark at ∷ rest) = places_in rest
 -- all that stands at the moment by the log, oldest entry first: by endpoint, then group
 abbrev pub standing_rows : ℕ → ℕ → List Change → List Kept
 standing_rows lifetime moment log =
-    let past = reverse log in filter_map (standing lifetime moment past) (rising place_order (places_in past))
+    let past = reverse log in filter_map (standing lifetime moment past) (ascending place_order (places_in past))
 
 abbrev pub place_of : Kept → Place
 place_of kept = record { endpoint = kept.endpoint; group = kept.group }

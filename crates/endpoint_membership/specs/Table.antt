@@ -1,7 +1,7 @@
 -- What a membership table stands for.
 use Rattle.std.specs.Prelude.{◌≡◌, ℕ, ◌≤◌, ◌++◌, ◌∷◌, [], List, Option, Result, Ok, Err, reverse}
 use Rattle.amt_values.specs.Tunnel.{Tunnel}
-use Rattle.source_filter.specs.Rising.{IsRising}
+use Rattle.contract_words.specs.Ascending.{IsAscending}
 use Rattle.source_filter.specs.declared.record.Record.{Record}
 use Rattle.endpoint_membership.specs.Limits.{IsWithin, first_limit}
 use Rattle.endpoint_membership.specs.Log.{latest}
@@ -29,7 +29,7 @@ pub record Terms : Type 0 where
 
 -- the rows ascend by endpoint and group, and at each place stands what stands there by the entries
 pub record AreRows (lifetime moment : ℕ) (past : List Change) (rows : List Kept) : Type 0 where
-  pub rise : IsRising kept_order rows
+  pub ascend : IsAscending kept_order rows
   pub each : (place : Place) → row_at rows place ≡ standing lifetime moment past place
 
 -- the table stands for the log, oldest entry first, by these terms

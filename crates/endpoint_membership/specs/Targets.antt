@@ -4,7 +4,7 @@ use Rattle.std.specs.List.{filter}
 use Rattle.amt_values.specs.declared.address.Ip.{Ip}
 use Rattle.amt_values.specs.Order.{tunnel_order}
 use Rattle.amt_values.specs.Tunnel.{Tunnel}
-use Rattle.source_filter.specs.Rising.{rising}
+use Rattle.contract_words.specs.Ascending.{ascending}
 use Rattle.endpoint_membership.specs.Admission.{is_admitted}
 use Rattle.endpoint_membership.specs.declared.change.Change.{Change}
 use Rattle.endpoint_membership.specs.declared.change.Change.TheVariants.{Reported, Clear, Mark}
@@ -20,7 +20,7 @@ endpoints_in (Mark at ∷ rest) = endpoints_in rest
 -- before the latest one of the log
 unfoldable pub targets_of : ℕ → List Change → Ip → Ip → ℕ → List Tunnel
 targets_of lifetime log group source moment =
-    filter (λ endpoint. is_admitted lifetime log (record { endpoint = endpoint; group = group }) source moment) (rising tunnel_order (endpoints_in log))
+    filter (λ endpoint. is_admitted lifetime log (record { endpoint = endpoint; group = group }) source moment) (ascending tunnel_order (endpoints_in log))
 
 -- what contracts see of targets: how many endpoints there is room for, and those that are in
 pub record TargetsValue : Type 0 where

@@ -3,7 +3,7 @@
 use Rattle.std.specs.Prelude.{Bool, true, false, not, List, [], ◌∷◌, ◌++◌, if◌then◌else◌}
 use Rattle.std.specs.List.{filter}
 use Rattle.amt_values.specs.declared.address.Ip.{Ip}
-use Rattle.source_filter.specs.Filter.{FilterValue, rising_sources}
+use Rattle.source_filter.specs.Filter.{FilterValue, ascending_sources}
 use Rattle.source_filter.specs.Record.{is_full, speaks, says}
 use Rattle.source_filter.specs.declared.mode.Mode.TheVariants.{Include, Exclude}
 use Rattle.source_filter.specs.declared.record.Record.{Record}
@@ -40,7 +40,7 @@ is_counted records source = if excludes records then not (admitted records sourc
 
 -- the different named sources that are so, ascending; their number is the group's size
 abbrev pub counted_sources : List Record → List Ip
-counted_sources records = rising_sources (filter (is_counted records) (named records))
+counted_sources records = ascending_sources (filter (is_counted records) (named records))
 
 -- the same as a mode and a list
 abbrev pub wish_of : List Record → FilterValue

@@ -4,7 +4,7 @@ ghost use Rattle.amt_values.specs.declared.address.Ip.{Ip};
 ghost use Rattle.amt_values.specs.Order.{tunnel_order};
 ghost use Rattle.amt_values.specs.Tunnel.{Tunnel};
 ghost use Rattle.source_filter.specs.Filter.{admits};
-ghost use Rattle.source_filter.specs.Rising.{IsRising};
+ghost use Rattle.contract_words.specs.Ascending.{IsAscending};
 ghost use Rattle.endpoint_membership.specs.Admission.{NothingStands, is_admitted};
 ghost use Rattle.endpoint_membership.specs.Chain.{IsLongestChain};
 ghost use Rattle.endpoint_membership.specs.Log.{latest, live_chain};
@@ -48,8 +48,8 @@ pub fn targets_are_those_that_want()
         → Contains (targets_of lifetime log group source moment) endpoint
         ↔ (is_admitted lifetime log (record { endpoint = endpoint; group = group }) source moment
         ≡ true) }
-    ensures rising { (lifetime : ℕ) (log : List Change) (group source : Ip) (moment : ℕ)
-        → IsRising tunnel_order (targets_of lifetime log group source moment) }
+    ensures ascending { (lifetime : ℕ) (log : List Change) (group source : Ip) (moment : ℕ)
+        → IsAscending tunnel_order (targets_of lifetime log group source moment) }
 {}
 
 /// A clearing of an endpoint at which nothing stands needs no place in the log: with no more than

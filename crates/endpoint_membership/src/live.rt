@@ -1,6 +1,6 @@
 ghost use Rattle.std.specs.Prelude.{◌≡◌, ◌≤◌, if◌then◌else◌};
 ghost use Rattle.std.specs.List.{filter};
-ghost use Rattle.source_filter.specs.Rising.{IsRising};
+ghost use Rattle.contract_words.specs.Ascending.{IsAscending};
 ghost use Rattle.endpoint_membership.specs.Kept.{ends_with, is_counted};
 ghost use Rattle.endpoint_membership.specs.Limits.{live_count};
 ghost use Rattle.endpoint_membership.specs.Rows.{kept_order};
@@ -43,7 +43,7 @@ pub fn count_live(
     lifetime_ms: u64,
 ) -> usize
     requires { lifetime_ms ≤ 1000000000 }
-    ensures { IsRising kept_order rows.now
+    ensures { IsAscending kept_order rows.now
         → result ≡ live_count (filter (is_counted lifetime_ms moment besides.now) rows.now) }
 {
     let mut count = 0;

@@ -3,7 +3,7 @@ ghost use Rattle.std.specs.BTreeMap.{BTreeMap as Map, get, IsOrdered};
 ghost use Rattle.std.specs.List.{filter_map};
 ghost use Rattle.amt_values.specs.declared.address.Ip.{Ip as Address};
 ghost use Rattle.amt_values.specs.Order.{ip_order};
-ghost use Rattle.source_filter.specs.Rising.{IsRising};
+ghost use Rattle.contract_words.specs.Ascending.{IsAscending};
 ghost use Rattle.endpoint_membership.specs.Kept.{is_fresh, only};
 ghost use Rattle.endpoint_membership.specs.Own.{AreOf, is_own, kept_wish, on_group, row_of_wish, wish_after_all, wish_in};
 ghost use Rattle.endpoint_membership.specs.Place.{same_group};
@@ -43,7 +43,7 @@ fn wishes_before(
     lifetime_ms: u64,
 ) -> Result<BTreeMap<Ip, Wish>, AllocError>
     requires { lifetime_ms ≤ 1000000000 }
-    ensures { IfOk result (λ wishes. IsRising kept_order rows.now → (group : Address)
+    ensures { IfOk result (λ wishes. IsAscending kept_order rows.now → (group : Address)
         → get ip_order wishes group ≡ wish_in (only (is_fresh lifetime_ms moment)
         (row_at rows.now (record { endpoint = endpoint.now; group = group })))) }
 {
@@ -130,9 +130,9 @@ pub fn own_rows(
     lifetime_ms: u64,
 ) -> Result<Vec<Kept>, AllocError>
     requires { lifetime_ms ≤ 1000000000 }
-    ensures rises { IfOk result (λ own. IsRising kept_order own.items) }
+    ensures ascends { IfOk result (λ own. IsAscending kept_order own.items) }
     ensures of { IfOk result (λ own. AreOf endpoint.now own.items) }
-    ensures each { IfOk result (λ own. IsRising kept_order rows.now → (group : Address)
+    ensures each { IfOk result (λ own. IsAscending kept_order rows.now → (group : Address)
         → row_at own.items (record { endpoint = endpoint.now; group = group })
         ≡ row_of_wish endpoint.now group (wish_after_all moment (on_group group records.now)
         (wish_in (only (is_fresh lifetime_ms moment)

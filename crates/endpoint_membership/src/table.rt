@@ -3,7 +3,7 @@ ghost use Rattle.std.specs.List.{AllByRecursion, filter, find};
 ghost use Rattle.amt_values.specs.Order.{tunnel_order};
 ghost use Rattle.amt_values.specs.Tunnel.{Tunnel};
 ghost use Rattle.source_filter.specs.Record.{item_count};
-ghost use Rattle.source_filter.specs.Rising.{IsRising};
+ghost use Rattle.contract_words.specs.Ascending.{IsAscending};
 ghost use Rattle.endpoint_membership.specs.Admission.{is_admitted};
 ghost use Rattle.endpoint_membership.specs.Kept.{is_counted};
 ghost use Rattle.endpoint_membership.specs.Limits.{AreFew, IsWithin, fault_by, live_count, size};
@@ -43,7 +43,7 @@ pub struct Table {
 }
 
 impl Model for Table {
-    ghost use Rattle.source_filter.specs.Rising.{IsRising};
+    ghost use Rattle.contract_words.specs.Ascending.{IsAscending};
     ghost use Rattle.endpoint_membership.specs.Rows.{kept_order};
     ghost use Rattle.endpoint_membership.specs.Table.{AreLawful, TableValue};
 
@@ -51,7 +51,7 @@ impl Model for Table {
 
     ghost view = { λ t. record { moment = t.moment; limits = t.limits; lifetime = t.lifetime_ms; rows = t.rows } };
 
-    ghost invariant = { λ t. AreLawful t.limits t.lifetime_ms × IsRising kept_order t.rows };
+    ghost invariant = { λ t. AreLawful t.limits t.lifetime_ms × IsAscending kept_order t.rows };
 
     // Nothing is kept beside what contracts see.
     ghost inverse = { λ v. record { moment = v.moment; limits = v.limits; lifetime_ms = v.lifetime; rows = v.rows } };
@@ -149,7 +149,7 @@ impl Table {
             → (endpoint : Tunnel) → Contains out.new.endpoints endpoint
             ↔ (is_admitted terms.lifetime log (record { endpoint = endpoint; group = group.now })
             source.now at.now ≡ true) }
-        ensures rising { IsRising tunnel_order out.new.endpoints }
+        ensures ascending { IsAscending tunnel_order out.new.endpoints }
 
         ensures room { out.new.room ≡ out.old.room }
         ensures few { length out.new.endpoints ≤ live_count self.now.rows }

@@ -1,7 +1,7 @@
 ghost use Rattle.std.specs.Prelude.{◌≡◌, Some, IfOk, OnOk};
 ghost use Rattle.amt_values.specs.Order.{ip_order};
-ghost use Rattle.source_filter.specs.Filter.{applied, nothing, rising_sources};
-ghost use Rattle.source_filter.specs.Rising.{IsRising, difference, union};
+ghost use Rattle.source_filter.specs.Filter.{applied, nothing, ascending_sources};
+ghost use Rattle.contract_words.specs.Ascending.{IsAscending, difference, union};
 ghost use Rattle.source_filter.specs.declared.record.RecordKind.TheVariants.{Allow, Block};
 ghost use Rattle.endpoint_membership.specs.Own.{changed, wish_in};
 ghost use Rattle.endpoint_membership.specs.Rows.{is_standing};
@@ -27,14 +27,14 @@ pub struct Wish {
 
 impl Model for Wish {
     ghost use Rattle.amt_values.specs.Order.{ip_order};
-    ghost use Rattle.source_filter.specs.Rising.{IsRising};
+    ghost use Rattle.contract_words.specs.Ascending.{IsAscending};
     ghost use Rattle.endpoint_membership.specs.Own.{WishValue};
 
     ghost Value = { WishValue };
 
     ghost view = { λ w. record { filter = record { mode = w.mode; sources = w.sources.keys }; renewed = w.renewed } };
 
-    ghost invariant = { λ w. IsRising ip_order w.sources.keys };
+    ghost invariant = { λ w. IsAscending ip_order w.sources.keys };
 }
 
 impl Wish {
@@ -111,7 +111,7 @@ impl Wish {
     // A whole filter in the place of the old one.
     fn set(&mut self, mode: Mode, listed: &[Ip]) -> Result<(), AllocError>
         ensures { OnOk result (self.new ≡ record self.old {
-          filter = record { mode = mode; sources = rising_sources listed.now };
+          filter = record { mode = mode; sources = ascending_sources listed.now };
         }) }
     {
         self.mode = mode;
@@ -148,9 +148,9 @@ impl Wish {
 
 // After an error some of them are in.
 fn insert_all(sources: &mut BTreeSet<Ip>, listed: &[Ip]) -> Result<(), AllocError>
-    requires { IsRising ip_order sources.old.keys }
+    requires { IsAscending ip_order sources.old.keys }
     ensures listed { OnOk result (sources.new.keys ≡ union ip_order sources.old.keys listed.now) }
-    ensures rising { IsRising ip_order sources.new.keys }
+    ensures ascending { IsAscending ip_order sources.new.keys }
 {
     for source in listed {
         match sources.insert(*source) {
@@ -162,9 +162,9 @@ fn insert_all(sources: &mut BTreeSet<Ip>, listed: &[Ip]) -> Result<(), AllocErro
 }
 
 fn remove_all(sources: &mut BTreeSet<Ip>, listed: &[Ip])
-    requires { IsRising ip_order sources.old.keys }
+    requires { IsAscending ip_order sources.old.keys }
     ensures listed { sources.new.keys ≡ difference ip_order sources.old.keys listed.now }
-    ensures rising { IsRising ip_order sources.new.keys }
+    ensures ascending { IsAscending ip_order sources.new.keys }
 {
     for source in listed {
         sources.remove(source);

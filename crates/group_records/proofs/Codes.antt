@@ -23,8 +23,8 @@ shift_less above first second low high small below =
     mul-le-mul (omega arith) (pow-le-pow_right {n = 2} (omega arith) {i = 1 + low} {j = high} (omega arith)) in
     omega (arith, less, next, most)
 
-shift_rises : (above first second shift : ℕ) → first < second → (above + first) * 2 ^ shift < (above + second) * 2 ^ shift
-shift_rises above first second shift below = mul-lt-mul_of_pos_right (omega arith) (shift_positive shift)
+shift_ascends : (above first second shift : ℕ) → first < second → (above + first) * 2 ^ shift < (above + second) * 2 ^ shift
+shift_ascends above first second shift below = mul-lt-mul_of_pos_right (omega arith) (shift_positive shift)
 
 -- the shift as masks and shifts of words give it
 significand : (bits code : ℕ) → bits ≤ 12
@@ -62,13 +62,13 @@ upper_value-least V4 code upper = rw (upper_value V4 code upper) (shift_least 16
 upper_value-least V6 code upper = rw (upper_value V6 code upper) (shift_least 4096 (mantissa_of V6 code) (exponent_of V6 code))
 
 -- of two codes of the upper half the greater has the greater exponent, or the same and the greater mantissa
-parts_rise : (family : Family) (low high : ℕ) → low < high → code_count family / 2 ≤ low → high < code_count family
+parts_ascend : (family : Family) (low high : ℕ) → low < high → code_count family / 2 ≤ low → high < code_count family
     → (exponent_of family low < exponent_of family high) ⊎ ((exponent_of family low ≡ exponent_of family high) × (mantissa_of family low < mantissa_of family high))
-parts_rise V4 low high less upper small = elim (cases_lt (low / 16 % 8) (high / 16 % 8)) [
+parts_ascend V4 low high less upper small = elim (cases_lt (low / 16 % 8) (high / 16 % 8)) [
   | inl below ↦ inl below
   | inr same ↦ inr (omega arith, omega arith)
 ]
-parts_rise V6 low high less upper small = elim (cases_lt (low / 4096 % 8) (high / 4096 % 8)) [
+parts_ascend V6 low high less upper small = elim (cases_lt (low / 4096 % 8) (high / 4096 % 8)) [
   | inl below ↦ inl below
   | inr same ↦ inr (omega arith, omega arith)
 ]
@@ -76,25 +76,25 @@ parts_rise V6 low high less upper small = elim (cases_lt (low / 4096 % 8) (high 
 mantissa_of-small : (family : Family) (code : ℕ) → mantissa_of family code < 2 ^ mantissa_bits family
 mantissa_of-small family code = mod_below code (2 ^ mantissa_bits family) (shift_positive (mantissa_bits family))
 
-upper_rises : (family : Family) (low high : ℕ) → low < high → code_count family / 2 ≤ low → high < code_count family
+upper_ascends : (family : Family) (low high : ℕ) → low < high → code_count family / 2 ≤ low → high < code_count family
     → code_value family low < code_value family high
-upper_rises family low high less upper small =
+upper_ascends family low high less upper small =
     let above = 2 ^ mantissa_bits family in
     let first = mantissa_of family low in
     let second = mantissa_of family high in
     let reached : code_count family / 2 ≤ high = omega arith in
-    rw (upper_value family low upper, upper_value family high reached) (elim (parts_rise family low high less upper small) [
+    rw (upper_value family low upper, upper_value family high reached) (elim (parts_ascend family low high less upper small) [
       | inl below ↦ shift_less above first second (exponent_of family low + 3) (exponent_of family high + 3) (mantissa_of-small family low) (omega arith)
-      | inr (same, below) ↦ rw same (shift_rises above first second (exponent_of family high + 3) below)
+      | inr (same, below) ↦ rw same (shift_ascends above first second (exponent_of family high + 3) below)
     ])
 
 -- a greater code has a greater value
-rises : (family : Family) (low high : ℕ) → low < high → high < code_count family → code_value family low < code_value family high
-rises family low high less small = elim (cases_lt high (code_count family / 2)) [
+ascends : (family : Family) (low high : ℕ) → low < high → high < code_count family → code_value family low < code_value family high
+ascends family low high less small = elim (cases_lt high (code_count family / 2)) [
   | inl lower ↦ rw (lower_value family low (omega arith), lower_value family high lower) less
   | inr upper ↦ elim (cases_lt low (code_count family / 2)) [
     | inl lower ↦ let least = upper_value-least family high upper in rw (lower_value family low lower) (omega arith)
-    | inr both ↦ upper_rises family low high less both small
+    | inr both ↦ upper_ascends family low high less both small
   ]
 ]
 
@@ -103,15 +103,15 @@ pub same_code : (family : Family) (a b : ℕ) → a < code_count family → b < 
 same_code family a b a_small b_small same =
     elim (cases_order a b) [
       | inl one ↦ one
-      | inr (inl less) ↦ let lower = rises family a b less b_small in absurd (omega arith)
-      | inr (inr more) ↦ let higher = rises family b a more a_small in absurd (omega arith)
+      | inr (inl less) ↦ let lower = ascends family a b less b_small in absurd (omega arith)
+      | inr (inr more) ↦ let higher = ascends family b a more a_small in absurd (omega arith)
     ]
 
 -- no code stands for a greater time than the last
 pub code_value-most : (family : Family) (code : ℕ) → code < code_count family → code_value family code ≤ code_value family (code_count family - 1)
 code_value-most family code small =
     elim (cases_lt code (code_count family - 1)) [
-      | inl before ↦ let lower = rises family code (code_count family - 1) before (omega arith) in omega arith
+      | inl before ↦ let lower = ascends family code (code_count family - 1) before (omega arith) in omega arith
       | inr last ↦ let same : code ≡ code_count family - 1 = omega arith in rw same (omega arith)
     ]
 

@@ -3,7 +3,7 @@
 ghost use Rattle.std.specs.Prelude.{◌≡◌, ◌<◌, ◌≤◌, ◌^◌, ◌++◌, reverse, IfOk, OnOk};
 ghost use Rattle.std.specs.List.{filter};
 ghost use Rattle.std.specs.Option.{option_map};
-ghost use Rattle.source_filter.specs.Rising.{rising};
+ghost use Rattle.contract_words.specs.Ascending.{ascending};
 ghost use Rattle.endpoint_membership.specs.Log.{brought, latest, leaving, live_chain, records_at};
 ghost use Rattle.endpoint_membership.specs.Place.{place_order, same_group};
 ghost use Rattle.endpoint_membership.specs.Rows.{places_in, places_of, rows_of, shown, standing};
@@ -217,7 +217,7 @@ fn add_places(found: &mut Vec<Spot>, log: &[Change]) -> Result<(), AllocError>
 }
 
 fn places(alloc: Global, log: &[Change]) -> Result<Vec<Spot>, AllocError>
-    ensures { IfOk result (λ found. found.items ≡ rising place_order (places_in (reverse log.now))) }
+    ensures { IfOk result (λ found. found.items ≡ ascending place_order (places_in (reverse log.now))) }
 {
     let mut found = Vec::new(alloc);
     add_places(&mut found, log)?;

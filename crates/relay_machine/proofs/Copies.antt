@@ -9,7 +9,7 @@ use Rattle.amt_values.specs.Order.{tunnel_order}
 use Rattle.amt_values.specs.Tunnel.{Tunnel}
 use Rattle.amt_messages.specs.Layout.{IsCanonical, spelling_of}
 use Rattle.amt_messages.specs.declared.message.Message.TheVariants.{Multicast}
-use Rattle.source_filter.specs.Rising.{IsRising}
+use Rattle.contract_words.specs.Ascending.{IsAscending}
 use Rattle.inner_datagrams.specs.Head.{head_of}
 use Rattle.inner_datagrams.specs.declared.head.Head.{Head}
 use Rattle.inner_datagrams.proofs.Heads.{answer_only}
@@ -19,7 +19,7 @@ use Rattle.endpoint_membership.specs.Log.{latest}
 use Rattle.endpoint_membership.specs.Table.{Holds, TableValue, Terms, standing_now}
 use Rattle.endpoint_membership.specs.declared.change.Change.{Change}
 use Rattle.endpoint_membership.proofs.ByLog.{rows_are}
-use Rattle.endpoint_membership.proofs.Wanting.{IsRising-targets_of, targets_want}
+use Rattle.endpoint_membership.proofs.Wanting.{IsAscending-targets_of, targets_want}
 use Rattle.relay_machine.specs.declared.event.Event.{Event}
 use Rattle.relay_machine.specs.declared.event.Event.TheVariants.{Packet}
 use Rattle.relay_machine.specs.declared.outcome.Outcome.{Outcome}
@@ -61,12 +61,12 @@ copy_to packet endpoint = record { to = endpoint; bytes = spelling_of (Multicast
 
 -- copies to the targets are copies to those that want the packet
 copies-are : (targets : List Tunnel) (packet : List ℕ) (wants : Tunnel → Bool) → ((endpoint : Tunnel) → Contains targets endpoint ↔ (wants endpoint ≡ true))
-    → IsRising tunnel_order targets → AreCopies wants packet (copies targets packet)
+    → IsAscending tunnel_order targets → AreCopies wants packet (copies targets packet)
 unfolding copy_to
-copies-are targets packet wants exactly rises =
+copies-are targets packet wants exactly ascends =
     let same = sym (receivers-copies targets packet) in record {
       exactly = λ endpoint. subst (λ (to : List Tunnel). Contains to endpoint ↔ (wants endpoint ≡ true)) same (exactly endpoint);
-      once = subst (IsRising tunnel_order) same rises;
+      once = subst (IsAscending tunnel_order) same ascends;
       octets = All-map (λ (send : OneSend). IsCanonical (Multicast packet) send.bytes) (copy_to packet) targets (λ k d small. data_is_canonical packet);
     }
 
@@ -98,7 +98,7 @@ AreCopies-sends settings first events packet head to_copy =
     let found = head_to_copy-ok settings.packet_limit head packet to_copy in
     subst (λ (read : Result Head Outcome). AreCopies (wants_after settings first events head) packet (packet_sends targets packet read)) (sym found)
     (copies-are (targets head) packet (wants_after settings first events head) (targets_want lifetime log head.group head.source (now_of events))
-    (IsRising-targets_of lifetime log head.group head.source (now_of events)))
+    (IsAscending-targets_of lifetime log head.group head.source (now_of events)))
 
 -- what a relay sends of a packet by its own log is what it sends by the events
 packet_sends-after : {E : Type 0} (relay : Relay) (settings : Settings) (first : Secret) (events : List Event) (packet : List ℕ) (answer : Result Step E)

@@ -79,7 +79,7 @@ within-report terms log source records at none within =
     let before = AreRows-later terms.lifetime (latest log) moment (reverse log) (standing_now terms log) (omega (arith, latest-push log entry))
     (AreRows-standing_rows terms.lifetime (latest log) log) in
     let behind = AreRows-standing_rows terms.lifetime moment (log ++ entry ∷ []) in
-    IsWithin-report terms.limits source records rows after before.rise behind.rise (IsWithin-filter terms.limits (is_fresh terms.lifetime moment) (standing_now terms log) within) none
+    IsWithin-report terms.limits source records rows after before.ascend behind.ascend (IsWithin-filter terms.limits (is_fresh terms.lifetime moment) (standing_now terms log) within) none
     (λ place apart. row_unconcerned terms.lifetime moment entry log rows after place before behind (rw apart refl))
     (λ group kept silent found.
     sym (row_unconcerned terms.lifetime moment entry log rows after (record { endpoint = source; group = group }) before behind

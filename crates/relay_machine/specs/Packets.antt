@@ -6,7 +6,7 @@ use Rattle.amt_values.specs.Order.{tunnel_order}
 use Rattle.amt_values.specs.Tunnel.{Tunnel}
 use Rattle.amt_messages.specs.Layout.{IsCanonical, spelling_of}
 use Rattle.amt_messages.specs.declared.message.Message.TheVariants.{Multicast}
-use Rattle.source_filter.specs.Rising.{IsRising}
+use Rattle.contract_words.specs.Ascending.{IsAscending}
 use Rattle.inner_datagrams.specs.Head.{IsHead, head_of}
 use Rattle.inner_datagrams.specs.declared.head.Head.{Head}
 use Rattle.inner_datagrams.specs.declared.head.HeadFault.{HeadFault}
@@ -82,5 +82,5 @@ receivers sends = map (λ send. send.to) sends
 -- Data message of the packet as it is
 pub record AreCopies (wants : Tunnel → Bool) (packet : List ℕ) (sends : List OneSend) : Type 0 where
   pub exactly : (endpoint : Tunnel) → Contains (receivers sends) endpoint ↔ (wants endpoint ≡ true)
-  pub once : IsRising tunnel_order (receivers sends)
+  pub once : IsAscending tunnel_order (receivers sends)
   pub octets : All (λ send. IsCanonical (Multicast packet) send.bytes) sends

@@ -3,25 +3,25 @@ use Rattle.std.proofs.Common.{◌≡◌, Bool, true, false, not, ◌&&◌, ◌||
 use Rattle.amt_values.specs.declared.address.Ip.{Ip}
 use Rattle.amt_values.specs.Order.{ip_order}
 use Rattle.amt_values.proofs.Orders.{ip_order-total, ip_order-exact}
-use Rattle.source_filter.specs.Filter.{FilterValue, admits, admits_by, applied, mode_after, rising_sources, sources_after}
+use Rattle.source_filter.specs.Filter.{FilterValue, admits, admits_by, applied, mode_after, ascending_sources, sources_after}
 use Rattle.source_filter.specs.Record.{is_full, lists, says, says_by, speaks}
-use Rattle.source_filter.specs.Rising.{IsRising, has}
+use Rattle.contract_words.specs.Ascending.{IsAscending, has}
 use Rattle.source_filter.specs.declared.mode.Mode.{Mode}
 use Rattle.source_filter.specs.declared.mode.Mode.TheVariants.{Include, Exclude}
 use Rattle.source_filter.specs.declared.record.Record.{Record}
 use Rattle.source_filter.specs.declared.record.RecordKind.{RecordKind}
 use Rattle.source_filter.specs.declared.record.RecordKind.TheVariants.{IsIn, IsEx, ToIn, ToEx, Allow, Block}
-use Rattle.source_filter.proofs.RisingLaws.{has-rising, has-union, has-difference, IsRising-rising, IsRising-filter}
+use Rattle.contract_words.proofs.AscendingLaws.{has-ascending, has-union, has-difference, IsAscending-ascending, IsAscending-filter}
 
-IsRising-sources_after : (kind : RecordKind) (mode : Mode) (old listed : List Ip) → IsRising ip_order old → IsRising ip_order (sources_after kind mode old listed)
-IsRising-sources_after Allow Include old listed rises = IsRising-rising ip_order-total (old ++ listed)
-IsRising-sources_after Allow Exclude old listed rises = IsRising-filter ip_order (λ x. not (has ip_order listed x)) old rises
-IsRising-sources_after Block Include old listed rises = IsRising-filter ip_order (λ x. not (has ip_order listed x)) old rises
-IsRising-sources_after Block Exclude old listed rises = IsRising-rising ip_order-total (old ++ listed)
-IsRising-sources_after full mode old listed rises = IsRising-rising ip_order-total listed
+IsAscending-sources_after : (kind : RecordKind) (mode : Mode) (old listed : List Ip) → IsAscending ip_order old → IsAscending ip_order (sources_after kind mode old listed)
+IsAscending-sources_after Allow Include old listed ascends = IsAscending-ascending ip_order-total (old ++ listed)
+IsAscending-sources_after Allow Exclude old listed ascends = IsAscending-filter ip_order (λ x. not (has ip_order listed x)) old ascends
+IsAscending-sources_after Block Include old listed ascends = IsAscending-filter ip_order (λ x. not (has ip_order listed x)) old ascends
+IsAscending-sources_after Block Exclude old listed ascends = IsAscending-ascending ip_order-total (old ++ listed)
+IsAscending-sources_after full mode old listed ascends = IsAscending-ascending ip_order-total listed
 
-pub IsRising-applied : (filter : FilterValue) (change : Record) → IsRising ip_order filter.sources → IsRising ip_order (applied filter change).sources
-IsRising-applied filter change rises = IsRising-sources_after change.kind filter.mode filter.sources change.sources rises
+pub IsAscending-applied : (filter : FilterValue) (change : Record) → IsAscending ip_order filter.sources → IsAscending ip_order (applied filter change).sources
+IsAscending-applied filter change ascends = IsAscending-sources_after change.kind filter.mode filter.sources change.sources ascends
 
 added : (was listed : Bool) → (was || listed) ≡ (if listed then true else was)
 added true true = refl
@@ -48,15 +48,15 @@ excluded false true = refl
 excluded false false = refl
 
 -- the list loses only repeats
-pub lists-rising : (listed : List Ip) (source : Ip) → lists (rising_sources listed) source ≡ lists listed source
-lists-rising listed source = has-rising ip_order-total listed source
+pub lists-ascending : (listed : List Ip) (source : Ip) → lists (ascending_sources listed) source ≡ lists listed source
+lists-ascending listed source = has-ascending ip_order-total listed source
 
 admitted : (kind : RecordKind) (mode : Mode) (old listed : List Ip) (source : Ip) → admits_by (mode_after kind mode) (lists (sources_after kind mode old listed) source)
     ≡ (if is_full kind || lists listed source then says_by kind (lists listed source) else admits_by mode (lists old source))
-admitted IsIn mode old listed source = lists-rising listed source
-admitted IsEx mode old listed source = ap not (lists-rising listed source)
-admitted ToIn mode old listed source = lists-rising listed source
-admitted ToEx mode old listed source = ap not (lists-rising listed source)
+admitted IsIn mode old listed source = lists-ascending listed source
+admitted IsEx mode old listed source = ap not (lists-ascending listed source)
+admitted ToIn mode old listed source = lists-ascending listed source
+admitted ToEx mode old listed source = ap not (lists-ascending listed source)
 admitted Allow Include old listed source = has-union ip_order-total old listed source ∙ added (lists old source) (lists listed source)
 admitted Allow Exclude old listed source = ap not (has-difference ip_order-exact old listed source) ∙ readmitted (lists old source) (lists listed source)
 admitted Block Include old listed source = has-difference ip_order-exact old listed source ∙ removed (lists old source) (lists listed source)

@@ -1,4 +1,2 @@
 pub mod Applied
 pub mod Compared
-pub mod RisingLaws
-pub mod Sorting

@@ -4,7 +4,7 @@ use Rattle.std.specs.Prelude.{Bool, not, List, []}
 use Rattle.amt_values.specs.declared.address.Ip.{Ip}
 use Rattle.amt_values.specs.Order.{ip_order}
 use Rattle.source_filter.specs.Record.{lists}
-use Rattle.source_filter.specs.Rising.{rising, union, difference}
+use Rattle.contract_words.specs.Ascending.{ascending, union, difference}
 use Rattle.source_filter.specs.declared.mode.Mode.{Mode}
 use Rattle.source_filter.specs.declared.mode.Mode.TheVariants.{Include, Exclude}
 use Rattle.source_filter.specs.declared.record.Record.{Record}
@@ -30,8 +30,8 @@ abbrev pub nothing : FilterValue
 nothing = record { mode = Include; sources = [] }
 
 -- the different sources, ascending
-abbrev pub rising_sources : List Ip → List Ip
-rising_sources sources = rising ip_order sources
+abbrev pub ascending_sources : List Ip → List Ip
+ascending_sources sources = ascending ip_order sources
 
 -- IS and TO records set the mode; ALLOW and BLOCK leave it
 abbrev pub mode_after : RecordKind → Mode → Mode
@@ -44,10 +44,10 @@ mode_after Block mode = mode
 
 -- IS and TO records replace the sources; ALLOW and BLOCK add to a filter's list or take from it
 abbrev pub sources_after : RecordKind → Mode → List Ip → List Ip → List Ip
-sources_after IsIn mode old listed = rising_sources listed
-sources_after IsEx mode old listed = rising_sources listed
-sources_after ToIn mode old listed = rising_sources listed
-sources_after ToEx mode old listed = rising_sources listed
+sources_after IsIn mode old listed = ascending_sources listed
+sources_after IsEx mode old listed = ascending_sources listed
+sources_after ToIn mode old listed = ascending_sources listed
+sources_after ToEx mode old listed = ascending_sources listed
 sources_after Allow Include old listed = union ip_order old listed
 sources_after Allow Exclude old listed = difference ip_order old listed
 sources_after Block Include old listed = difference ip_order old listed

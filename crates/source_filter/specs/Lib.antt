@@ -1,3 +1,2 @@
 pub mod Filter
 pub mod Record
-pub mod Rising

@@ -2,9 +2,9 @@ ghost use Rattle.std.specs.Prelude.{◌≡◌, true, false, IfOk};
 ghost use Rattle.amt_values.specs.Order.{ip_order};
 ghost use Rattle.amt_values.specs.declared.address.Ip.{Ip};
 ghost use Rattle.source_filter.specs.Record.{lists};
-ghost use Rattle.source_filter.specs.Rising.{IsRising};
+ghost use Rattle.contract_words.specs.Ascending.{IsAscending};
 
-use crate::ips::Ips;
+use crate::ips::{Ips, ascending_ips};
 use crate::mode::Mode;
 use crate::record::{Record, RecordKind};
 use amt_values::Ip;
@@ -23,36 +23,32 @@ pub struct Filter {
 impl Model for Filter {
     ghost use Rattle.amt_values.specs.Order.{ip_order};
     ghost use Rattle.source_filter.specs.Filter.{FilterValue};
-    ghost use Rattle.source_filter.specs.Rising.{IsRising};
+    ghost use Rattle.contract_words.specs.Ascending.{IsAscending};
 
     ghost Value = { FilterValue };
 
     ghost view = { λ f. record { mode = f.mode; sources = f.sources } };
 
-    ghost invariant = { λ f. IsRising ip_order f.sources };
+    ghost invariant = { λ f. IsAscending ip_order f.sources };
 
     ghost inverse = { λ v. record { mode = v.mode; sources = v.sources } };
 }
 
 impl Filter {
-    ghost use Rattle.source_filter.specs.Filter.{admits, applied, rising_sources};
+    ghost use Rattle.source_filter.specs.Filter.{admits, applied, ascending_sources};
     ghost use Rattle.source_filter.specs.Record.{says, speaks};
-    ghost use Rattle.source_filter.specs.Rising.{difference, union};
+    ghost use Rattle.contract_words.specs.Ascending.{difference, union};
 
     /// A filter of these sources, in any order and with any repeats.
     pub fn new(alloc: Global, mode: Mode, sources: &[Ip]) -> Result<Filter, AllocError>
         ensures mode { IfOk result (λ filter. filter.mode ≡ mode) }
-        ensures sources { IfOk result (λ filter. filter.sources ≡ rising_sources sources.now) }
-        ensures rising { IfOk result (λ filter. IsRising ip_order filter.sources) }
+        ensures sources { IfOk result (λ filter. filter.sources ≡ ascending_sources sources.now) }
+        ensures ascending { IfOk result (λ filter. IsAscending ip_order filter.sources) }
         ensures listed { IfOk result
             (λ filter. (source : Ip) → lists filter.sources source ≡ lists sources.now source) }
     {
-        let mut listed = Ips::copied(alloc, sources)?;
-        listed.make_rising();
-        Ok(Filter {
-            mode,
-            sources: listed,
-        })
+        let sources = ascending_ips(Vec::from_slice(alloc, sources)?);
+        Ok(Filter { mode, sources })
     }
 
     pub fn mode(&self) -> Mode
@@ -64,7 +60,7 @@ impl Filter {
     /// The listed sources, ascending.
     pub fn sources(&self) -> &[Ip]
         ensures listed { result.now ≡ self.now.sources }
-        ensures rising { IsRising ip_order self.now.sources }
+        ensures ascending { IsAscending ip_order self.now.sources }
     {
         self.sources.as_slice()
     }
@@ -119,12 +115,11 @@ impl Filter {
         ensures sources { IfOk result
             (λ after. after.sources ≡ union ip_order self.now.sources sources.now) }
     {
-        let mut listed = Ips::copied(alloc, self.sources.as_slice())?;
-        listed.append(sources)?;
-        listed.make_rising();
+        let mut listed = Vec::from_slice(alloc, self.sources.as_slice())?;
+        listed.extend_from_slice(sources)?;
         Ok(Filter {
             mode: self.mode,
-            sources: listed,
+            sources: ascending_ips(listed),
         })
     }
 
@@ -134,8 +129,7 @@ impl Filter {
         ensures sources { IfOk result
             (λ after. after.sources ≡ difference ip_order self.now.sources sources.now) }
     {
-        let mut removed = Ips::copied(alloc, sources)?;
-        removed.make_rising();
+        let removed = ascending_ips(Vec::from_slice(alloc, sources)?);
         let mut kept = Ips::new(alloc);
         for source in self.sources.as_slice() {
             if is_among(removed.as_slice(), source) {
@@ -150,11 +144,11 @@ impl Filter {
     }
 }
 
-fn is_among(rising: &[Ip], source: &Ip) -> bool
-    requires { IsRising ip_order rising.now }
-    ensures { result ≡ lists rising.now source.now }
+fn is_among(ascending: &[Ip], source: &Ip) -> bool
+    requires { IsAscending ip_order ascending.now }
+    ensures { result ≡ lists ascending.now source.now }
 {
-    rising.binary_search(source).is_ok()
+    ascending.binary_search(source).is_ok()
 }
 
 /// An equal filter that owns its memory.

@@ -1,54 +1,14 @@
-ghost use Rattle.std.specs.Prelude.{◌≡◌, [], ◌∷◌, ◌++◌, length, IfOk, OnOk, OnErr};
+//! Lists of group records, and copies. It must not know what the records are about.
+
+ghost use Rattle.std.specs.Prelude.{◌≡◌, IfOk};
 
 use crate::ips::Ips;
 use crate::record::Record;
+use contract_words::Items;
 use std::alloc::{AllocError, Global};
-use std::marker::Model;
 
 /// Group records, in the order of their report.
-#[derive(Debug, Drop)]
-pub struct Records {
-    records: Vec<Record>,
-}
-
-impl Model for Records {
-    ghost use Rattle.std.specs.Prelude.{List};
-    ghost use Rattle.source_filter.specs.declared.record.Record.{Record};
-
-    ghost Value = { List Record };
-
-    ghost view = { λ r. r.records.items };
-}
-
-impl Records {
-    pub fn new(alloc: Global) -> Self
-        ensures { result ≡ [] }
-    {
-        Records {
-            records: Vec::new(alloc),
-        }
-    }
-
-    pub fn as_slice(&self) -> &[Record]
-        ensures { result.now ≡ self.now }
-    {
-        self.records.as_slice()
-    }
-
-    pub fn len(&self) -> usize
-        ensures { result ≡ length self.now }
-    {
-        self.records.len()
-    }
-
-    pub fn push(&mut self, group_record: Record) -> Result<(), AllocError>
-        ensures ok { OnOk result (self.new ≡ self.old ++ group_record ∷ []) }
-        ensures err { OnErr result (self.new ≡ self.old) }
-    {
-        self.records.push(group_record)?;
-        Ok(())
-    }
-}
+pub type Records = Items<Record>;
 
 /// An equal record that owns its memory.
 pub fn copy_record(alloc: Global, group_record: &Record) -> Result<Record, AllocError>

@@ -67,28 +67,28 @@ fn assert_each(
 fn assert_sums(
     rt: &impl Abort,
     alloc: Global,
-    rising: &[Ip],
+    ascending: &[Ip],
     scattered: &[Ip],
 ) -> Result<(), AllocError>
-    requires { length rising.now ≡ 400 }
+    requires { length ascending.now ≡ 400 }
 {
-    let (one, _) = rising.split_at(1);
-    let (first, rest) = rising.split_at(300);
+    let (one, _) = ascending.split_at(1);
+    let (first, rest) = ascending.split_at(300);
     let mut table = table(alloc, &WIDE)?;
-    assert_each(rt, alloc, &mut table, Allow, scattered, (Include, rising))?;
+    assert_each(rt, alloc, &mut table, Allow, scattered, (Include, ascending))?;
     assert_each(rt, alloc, &mut table, Block, first, (Include, rest))?;
     assert_each(rt, alloc, &mut table, IsEx, one, (Exclude, one))?;
-    assert_each(rt, alloc, &mut table, Block, scattered, (Exclude, rising))?;
+    assert_each(rt, alloc, &mut table, Block, scattered, (Exclude, ascending))?;
     assert_each(rt, alloc, &mut table, Allow, rest, (Exclude, first))?;
     Ok(())
 }
 
 #[test]
 fn records_of_one_source_each_add_up_on_their_group(rt: HostRuntime) -> Result<(), Fail> {
-    let rising = sources(rt.alloc(), 1)?;
+    let ascending = sources(rt.alloc(), 1)?;
     let scattered = sources(rt.alloc(), 7)?;
-    assert!(rt; rising.len() == 400);
-    assert_sums(&rt, rt.alloc(), rising.as_slice(), scattered.as_slice())?;
+    assert!(rt; ascending.len() == 400);
+    assert_sums(&rt, rt.alloc(), ascending.as_slice(), scattered.as_slice())?;
     Ok(())
 }
 

@@ -3,7 +3,7 @@ use Rattle.std.proofs.lemmas.List.{take_more}
 use Rattle.amt_values.specs.declared.address.Ip.{Ip}
 use Rattle.amt_values.specs.declared.address.Ip.TheVariants.{V4}
 use Rattle.amt_values.specs.Order.{ip_order}
-use Rattle.source_filter.specs.Rising.{union}
+use Rattle.contract_words.specs.Ascending.{union}
 use Rattle.source_filter.proofs.Compared.{compared}
 use Rattle.endpoint_membership.proofs.Listing.{IsUnited, IsUnited-more, united}
 use Rattle.endpoint_membership.proofs.wish.insert_all.Goals as goal

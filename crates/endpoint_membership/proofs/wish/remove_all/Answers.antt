@@ -3,7 +3,7 @@ use Rattle.std.proofs.lemmas.List.{take_more}
 use Rattle.amt_values.specs.declared.address.Ip.{Ip}
 use Rattle.amt_values.specs.declared.address.Ip.TheVariants.{V4}
 use Rattle.amt_values.specs.Order.{ip_order}
-use Rattle.source_filter.specs.Rising.{difference}
+use Rattle.contract_words.specs.Ascending.{difference}
 use Rattle.source_filter.proofs.Compared.{compared}
 use Rattle.endpoint_membership.proofs.Listing.{IsReduced, IsReduced-more, reduced}
 use Rattle.endpoint_membership.proofs.wish.remove_all.Goals as goal

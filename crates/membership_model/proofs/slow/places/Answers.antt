@@ -6,9 +6,9 @@ use Rattle.amt_values.specs.contracts.address.IpPartialEq as eq_groups
 use Rattle.amt_values.specs.contracts.endpoint.EndpointPartialEq as eq_endpoints
 use Rattle.amt_values.specs.Order.{tunnel_order}
 use Rattle.amt_values.specs.Tunnel.{Tunnel}
-use Rattle.source_filter.specs.Rising.{rising}
+use Rattle.contract_words.specs.Ascending.{ascending}
 use Rattle.source_filter.proofs.Compared.{compared, tied}
-use Rattle.source_filter.proofs.Sorting.{rising-sorted}
+use Rattle.contract_words.proofs.Sorting.{ascending-sorted}
 use Rattle.endpoint_membership.specs.Place.{Place, place_order, same_endpoint}
 use Rattle.endpoint_membership.specs.Rows.{places_in}
 use Rattle.membership_model.specs.contracts.slow.SpotOrd as ord
@@ -33,5 +33,5 @@ pub returns : goal.returns
 returns c =
     let items = c.sort_unstable.new.self.items in
     let sorted = subst (λ order. IsSorted order items) spots_compared c.sort_unstable.ensures.sorted in
-    rising-sorted place_order-total spots_tied place_order-exact _ _ _ c.sort_unstable.ensures.permutation sorted c.dedup.ensures.filtered
-    ∙ ap (rising place_order) (c.in_ok-add_places.ensures ∙ ap (λ (start : List Place). start ++ places_in (reverse c.args.log.now)) c.new-found.ensures.items)
+    ascending-sorted place_order-total spots_tied place_order-exact _ _ _ c.sort_unstable.ensures.permutation sorted c.dedup.ensures.filtered
+    ∙ ap (ascending place_order) (c.in_ok-add_places.ensures ∙ ap (λ (start : List Place). start ++ places_in (reverse c.args.log.now)) c.new-found.ensures.items)

@@ -1,6 +1,6 @@
 use Rattle.std.proofs.Common.{filter, refl, sym, ap, subst, ◌∙◌}
-use Rattle.source_filter.specs.Rising.{IsRising}
-use Rattle.source_filter.proofs.RisingLaws.{IsRising-filter}
+use Rattle.contract_words.specs.Ascending.{IsAscending}
+use Rattle.contract_words.proofs.AscendingLaws.{IsAscending-filter}
 use Rattle.endpoint_membership.specs.Kept.{is_fresh}
 use Rattle.endpoint_membership.specs.Limits.{IsWithin}
 use Rattle.endpoint_membership.specs.Own.{AreOwn}
@@ -8,7 +8,7 @@ use Rattle.endpoint_membership.specs.Rows.{kept_order}
 use Rattle.endpoint_membership.specs.Table.{Holds, IsWithinLimits, TableValue}
 use Rattle.endpoint_membership.proofs.Held.{Holds-report, IsWithin-log, passed_is, unfit}
 use Rattle.endpoint_membership.proofs.Owning.{IsWithin-replaced, groups_fit, judged_at, judgement, replaced, sizes_fit}
-use Rattle.endpoint_membership.proofs.Parts.{IsRising-replaced}
+use Rattle.endpoint_membership.proofs.Parts.{IsAscending-replaced}
 use Rattle.endpoint_membership.proofs.table.Table.accept.Goals as goal
 
 pub limit_passed-requires-clause-groups : goal.limit_passed-requires-clause-groups
@@ -37,8 +37,8 @@ returns-in-Some-clause-limit c terms log holds =
 pub invariant_of-self-2 : goal.invariant_of-self-2
 invariant_of-self-2 c =
     let put = c.purge.ensures ∙ ap (filter (is_fresh c.self.inside.lifetime_ms c.later-moment.result)) c.in-Ok-replace.ensures.ok in
-    let rise = IsRising-replaced c.args.endpoint.now c.self.inside.rows c.in-Ok.own.items c.self.invariant.1 c.in-Ok.ensures.rises c.in-Ok.ensures.of in
-    (c.self.invariant.0, subst (IsRising kept_order) (sym put) (IsRising-filter kept_order (is_fresh c.self.inside.lifetime_ms c.later-moment.result) _ rise))
+    let ascend = IsAscending-replaced c.args.endpoint.now c.self.inside.rows c.in-Ok.own.items c.self.invariant.1 c.in-Ok.ensures.ascends c.in-Ok.ensures.of in
+    (c.self.invariant.0, subst (IsAscending kept_order) (sym put) (IsAscending-filter kept_order (is_fresh c.self.inside.lifetime_ms c.later-moment.result) _ ascend))
 
 pub returns-clause-passes : goal.returns-clause-passes
 returns-clause-passes c terms log holds =

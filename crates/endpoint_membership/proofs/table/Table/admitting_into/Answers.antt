@@ -1,13 +1,13 @@
 use Rattle.std.proofs.Common.{List, length, sym, ap, subst, ◌∙◌, arith}
 use Rattle.amt_values.specs.Order.{tunnel_order}
 use Rattle.amt_values.specs.Tunnel.{Tunnel}
-use Rattle.source_filter.specs.Rising.{IsRising, has}
+use Rattle.contract_words.specs.Ascending.{IsAscending, has}
 use Rattle.endpoint_membership.specs.declared.kept.Kept.{Kept}
 use Rattle.endpoint_membership.specs.Admission.{is_admitted}
 use Rattle.endpoint_membership.specs.Kept.{targets_in}
 use Rattle.endpoint_membership.specs.Limits.{live_count}
 use Rattle.endpoint_membership.specs.Table.{Holds, TableValue}
-use Rattle.endpoint_membership.proofs.Wanting.{Contains-has, IsRising-targets, has-targets_of, length-targets, targets_are}
+use Rattle.endpoint_membership.proofs.Wanting.{Contains-has, IsAscending-targets, has-targets_of, length-targets, targets_are}
 use Rattle.endpoint_membership.proofs.table.Table.admitting_into.Goals as goal
 
 pub collect_targets-requires-clause-room : goal.collect_targets-requires-clause-room
@@ -32,11 +32,11 @@ returns-clause-exactly c terms log holds endpoint =
     (ap (λ (endpoints : List Tunnel). has tunnel_order endpoints endpoint) (returns-clause-targets c terms log holds)
     ∙ has-targets_of terms.lifetime log c.args.group.now c.args.source.now c.args.at.now endpoint)
 
-pub returns-clause-rising : goal.returns-clause-rising
-returns-clause-rising c =
-    subst (IsRising tunnel_order) (sym (c.collect_targets.ensures.endpoints
+pub returns-clause-ascending : goal.returns-clause-ascending
+returns-clause-ascending c =
+    subst (IsAscending tunnel_order) (sym (c.collect_targets.ensures.endpoints
     ∙ ap (targets_in c.self.inside.lifetime_ms c.later-later.result c.args.group.now c.args.source.now) c.as_slice.ensures))
-    (IsRising-targets c.self.inside.lifetime_ms c.later-later.result c.args.group.now c.args.source.now c.self.inside.rows c.self.invariant.1)
+    (IsAscending-targets c.self.inside.lifetime_ms c.later-later.result c.args.group.now c.args.source.now c.self.inside.rows c.self.invariant.1)
 
 pub returns-clause-few : goal.returns-clause-few
 returns-clause-few c =

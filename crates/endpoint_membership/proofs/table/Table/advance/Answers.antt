@@ -1,6 +1,6 @@
 use Rattle.std.proofs.Common.{◌∙◌, sym, subst}
-use Rattle.source_filter.specs.Rising.{IsRising}
-use Rattle.source_filter.proofs.RisingLaws.{IsRising-filter}
+use Rattle.contract_words.specs.Ascending.{IsAscending}
+use Rattle.contract_words.proofs.AscendingLaws.{IsAscending-filter}
 use Rattle.endpoint_membership.specs.Kept.{is_fresh}
 use Rattle.endpoint_membership.specs.Limits.{IsWithin}
 use Rattle.endpoint_membership.specs.Rows.{kept_order}
@@ -12,8 +12,8 @@ use Rattle.endpoint_membership.proofs.table.Table.advance.Goals as goal
 pub invariant_of-self : goal.invariant_of-self
 invariant_of-self c = (
   c.self.invariant.0,
-  subst (IsRising kept_order) (sym c.purge.ensures)
-      (IsRising-filter kept_order (is_fresh c.self.inside.lifetime_ms c.later-self-inside.result) c.self.inside.rows c.self.invariant.1),
+  subst (IsAscending kept_order) (sym c.purge.ensures)
+      (IsAscending-filter kept_order (is_fresh c.self.inside.lifetime_ms c.later-self-inside.result) c.self.inside.rows c.self.invariant.1),
 )
 
 pub returns-clause-stands : goal.returns-clause-stands

@@ -1,6 +1,6 @@
 use Rattle.std.proofs.Common.{sym, ap, subst, ◌∙◌}
-use Rattle.source_filter.specs.Rising.{IsRising}
-use Rattle.source_filter.proofs.RisingLaws.{IsRising-filter}
+use Rattle.contract_words.specs.Ascending.{IsAscending}
+use Rattle.contract_words.proofs.AscendingLaws.{IsAscending-filter}
 use Rattle.endpoint_membership.specs.Kept.{is_besides, is_fresh}
 use Rattle.endpoint_membership.specs.Limits.{IsWithin}
 use Rattle.endpoint_membership.specs.Rows.{is_live, kept_order}
@@ -12,9 +12,9 @@ use Rattle.endpoint_membership.proofs.table.Table.clear.Goals as goal
 
 pub invariant_of-self : goal.invariant_of-self
 invariant_of-self c =
-    let fresh = subst (IsRising kept_order) (sym c.purge.ensures)
-    (IsRising-filter kept_order (is_fresh c.self.inside.lifetime_ms c.later-self-inside.result) c.self.inside.rows c.self.invariant.1) in
-    (c.self.invariant.0, subst (IsRising kept_order) (sym c.drop_endpoint.ensures) (IsRising-filter kept_order (is_besides c.args.endpoint.now) c.purge.new.self fresh))
+    let fresh = subst (IsAscending kept_order) (sym c.purge.ensures)
+    (IsAscending-filter kept_order (is_fresh c.self.inside.lifetime_ms c.later-self-inside.result) c.self.inside.rows c.self.invariant.1) in
+    (c.self.invariant.0, subst (IsAscending kept_order) (sym c.drop_endpoint.ensures) (IsAscending-filter kept_order (is_besides c.args.endpoint.now) c.purge.new.self fresh))
 
 pub returns-clause-live : goal.returns-clause-live
 returns-clause-live c terms log holds =

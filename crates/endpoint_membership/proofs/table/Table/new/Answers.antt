@@ -1,13 +1,13 @@
 use Rattle.std.proofs.Common.{List, ℕ, rules, sym, subst, ◌≡◌, []}
-use Rattle.source_filter.specs.Rising.{IsRising}
+use Rattle.contract_words.specs.Ascending.{IsAscending}
 use Rattle.endpoint_membership.specs.declared.kept.Kept.{Kept}
 use Rattle.endpoint_membership.specs.Rows.{kept_order}
 use Rattle.endpoint_membership.specs.Table.{Holds, Terms}
-use Rattle.endpoint_membership.proofs.Held.{Holds-new, IsRising-none, table_of}
+use Rattle.endpoint_membership.proofs.Held.{Holds-new, IsAscending-none, table_of}
 use Rattle.endpoint_membership.proofs.table.Table.new.Goals as goal
 
 pub invariant_of-result : goal.invariant_of-result
-invariant_of-result c = (c.requires, subst (IsRising kept_order) (sym c.new-2.ensures) IsRising-none)
+invariant_of-result c = (c.requires, subst (IsAscending kept_order) (sym c.new-2.ensures) IsAscending-none)
 
 pub returns-clause-stands : goal.returns-clause-stands
 returns-clause-stands c =

@@ -3,8 +3,8 @@ use Rattle.amt_values.specs.contracts.endpoint.EndpointPartialEq as eq
 use Rattle.amt_values.specs.Order.{tunnel_order}
 use Rattle.amt_values.specs.Tunnel.{Tunnel}
 use Rattle.amt_values.proofs.Orders.{tunnel_order-exact, tunnel_order-total}
-use Rattle.source_filter.specs.Rising.{rising}
-use Rattle.source_filter.proofs.Sorting.{rising-sorted}
+use Rattle.contract_words.specs.Ascending.{ascending}
+use Rattle.contract_words.proofs.Sorting.{ascending-sorted}
 use Rattle.endpoint_membership.specs.Place.{same_endpoint}
 use Rattle.endpoint_membership.specs.Targets.{endpoints_in}
 use Rattle.membership_model.proofs.slow.wants.reporters.Goals as goal
@@ -14,5 +14,5 @@ endpoints_tied one other = search rules
 
 pub returns : goal.returns
 returns c =
-    rising-sorted tunnel_order-total endpoints_tied tunnel_order-exact _ _ _ c.sort_unstable.ensures.permutation c.sort_unstable.ensures.sorted c.dedup.ensures.filtered
-    ∙ ap (rising tunnel_order) (c.in_ok-add_reporters.ensures ∙ ap (λ (start : List Tunnel). start ++ endpoints_in c.args.log.now) c.new-found.ensures.items)
+    ascending-sorted tunnel_order-total endpoints_tied tunnel_order-exact _ _ _ c.sort_unstable.ensures.permutation c.sort_unstable.ensures.sorted c.dedup.ensures.filtered
+    ∙ ap (ascending tunnel_order) (c.in_ok-add_reporters.ensures ∙ ap (λ (start : List Tunnel). start ++ endpoints_in c.args.log.now) c.new-found.ensures.items)

@@ -1,8 +1,8 @@
 use Rattle.std.proofs.Common.{ap, ◌∙◌}
-use Rattle.source_filter.specs.Filter.{rising_sources}
+use Rattle.source_filter.specs.Filter.{ascending_sources}
 use Rattle.source_filter.specs.Record.{lists}
-use Rattle.source_filter.proofs.Applied.{lists-rising}
+use Rattle.source_filter.proofs.Applied.{lists-ascending}
 use Rattle.source_filter.proofs.filter.Filter.new.Goals as goal
 
 pub returns-clause-listed : goal.returns-clause-listed
-returns-clause-listed c = λ source. ap (λ sources. lists sources source) (c.make_rising.ensures.value ∙ ap rising_sources c.in_ok-listed.ensures) ∙ lists-rising c.args.sources.now source
+returns-clause-listed c = λ source. ap (λ sources. lists sources source) (c.ascending_ips-sources.ensures.value ∙ ap ascending_sources c.in_ok-from_slice.ensures.items) ∙ lists-ascending c.args.sources.now source

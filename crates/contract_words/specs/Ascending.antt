@@ -11,8 +11,8 @@ module _ {K : Type 0} (order : K → K → Ordering) where
   has xs x = list_any (eq_by_cmp order x) xs
 
   -- each item is below those after it
-  abbrev pub IsRising : List K → Type 0
-  IsRising xs = IsStrictlySortedBy order xs
+  abbrev pub IsAscending : List K → Type 0
+  IsAscending xs = IsStrictlySortedBy order xs
 
   -- ascending items with x among them
   abbrev pub placed : K → List K → List K
@@ -20,13 +20,13 @@ module _ {K : Type 0} (order : K → K → Ordering) where
   placed x (y ∷ ys) = match_ordering (order x y) (x ∷ y ∷ ys) (y ∷ ys) (y ∷ placed x ys)
 
   -- the different items of a list, ascending
-  abbrev pub rising : List K → List K
-  rising [] = []
-  rising (x ∷ xs) = placed x (rising xs)
+  abbrev pub ascending : List K → List K
+  ascending [] = []
+  ascending (x ∷ xs) = placed x (ascending xs)
 
   -- the items of either list, ascending
   abbrev pub union : List K → List K → List K
-  union xs ys = rising (xs ++ ys)
+  union xs ys = ascending (xs ++ ys)
 
   -- the items of xs that ys lacks
   abbrev pub difference : List K → List K → List K

@@ -15,8 +15,8 @@ use Rattle.std.proofs.lemmas.List.Kept.{IsStrictlySortedBy-dedup}
 use Rattle.std.proofs.lemmas.List.Sorted.{list_any-IsPermutation, searchable_from_sorted}
 use Rattle.std.proofs.lemmas.Map.Keys.{Less-from_sorted}
 use Rattle.std.proofs.lemmas.Map.Lookups.{CmpEqualImpliesEq}
-use Rattle.source_filter.specs.Rising.{has, IsRising, rising}
-use Rattle.source_filter.proofs.RisingLaws.{Equal-from_test, has-rising, IsRising-rising, same_rising}
+use Rattle.contract_words.specs.Ascending.{has, IsAscending, ascending}
+use Rattle.contract_words.proofs.AscendingLaws.{Equal-from_test, has-ascending, IsAscending-ascending, same_ascending}
 
 either_again : (a b c : Bool) → a ≡ b → (a || c) ≡ (a || (b || c))
 either_again true b c same = refl
@@ -41,21 +41,21 @@ module _ {K : Type 0} {order : K → K → Ordering} (total : IsTotalOrder order
     has-dedup [] s = refl
     has-dedup (x ∷ xs) s = has-dedup_from x xs s
 
-    pub rising-sorted : CmpEqualImpliesEq order → (xs ys zs : List K) → IsPermutation xs ys → IsSorted order ys → IsFiltered (DiffersFromLast same) [] ys zs
-        → zs ≡ rising order xs
-    rising-sorted exact xs ys zs moved sorted left =
-        dedup_is same ys zs left ∙ same_rising total exact (dedup same ys) (rising order xs)
+    pub ascending-sorted : CmpEqualImpliesEq order → (xs ys zs : List K) → IsPermutation xs ys → IsSorted order ys → IsFiltered (DiffersFromLast same) [] ys zs
+        → zs ≡ ascending order xs
+    ascending-sorted exact xs ys zs moved sorted left =
+        dedup_is same ys zs left ∙ same_ascending total exact (dedup same ys) (ascending order xs)
         (IsStrictlySortedBy-dedup total ties ys sorted)
-        (IsRising-rising total xs)
-        (λ s. has-dedup ys s ∙ sym (list_any-IsPermutation (eq_by_cmp order s) xs ys moved) ∙ sym (has-rising total xs s))
+        (IsAscending-ascending total xs)
+        (λ s. has-dedup ys s ∙ sym (list_any-IsPermutation (eq_by_cmp order s) xs ys moved) ∙ sym (has-ascending total xs s))
 
   falls_not : (one other : Ordering) → one ≡ ordering_reverse other → other ≡ Less → is_lt one ≡ false
   falls_not one other turn is = ap is_lt (turn ∙ ap ordering_reverse is)
 
-  IsSorted-rising : (xs : List K) → IsRising order xs → IsSorted order xs
-  IsSorted-rising xs rises k d from below =
+  IsSorted-ascending : (xs : List K) → IsAscending order xs → IsSorted order xs
+  IsSorted-ascending xs ascends k d from below =
       falls_not (order (get_or xs (k + 1) d) (get_or xs k d)) (order (get_or xs k d) (get_or xs (k + 1) d))
-      (total.antisymm (get_or xs (k + 1) d) (get_or xs k d)) (Less-from_sorted order xs k (k + 1) d rises (omega arith) below)
+      (total.antisymm (get_or xs (k + 1) d) (get_or xs k d)) (Less-from_sorted order xs k (k + 1) d ascends (omega arith) below)
 
   turned_less : (x y : K) → order x y ≡ Less → eq_by_cmp order y x ≡ false
   turned_less x y is = ap is_eq (total.antisymm y x ∙ ap ordering_reverse is)
@@ -64,11 +64,11 @@ module _ {K : Type 0} {order : K → K → Ordering} (total : IsTotalOrder order
   turned_greater x y is = ap is_eq (total.antisymm y x ∙ ap ordering_reverse is)
 
   -- a binary search in an ascending list tells whether it has the item
-  pub has-searched : (xs : List K) (s : K) (answer : Result ℕ ℕ) → IsRising order xs → IsSearchInRange answer (length xs)
+  pub has-searched : (xs : List K) (s : K) (answer : Result ℕ ℕ) → IsAscending order xs → IsSearchInRange answer (length xs)
       → IsBinarySearchResult (λ y. order y s) xs answer → is_ok answer ≡ has order xs s
-  has-searched xs s (Ok i) rises below at = sym (list_any_at (eq_by_cmp order s) xs i s below (ap is_eq (tied_back total (get_or xs i s) s (at s))))
-  has-searched xs s (Err i) rises below at =
-      let parts = at (searchable_from_sorted total (λ (y : K). y) xs s (IsSorted-rising xs rises)) in
+  has-searched xs s (Ok i) ascends below at = sym (list_any_at (eq_by_cmp order s) xs i s below (ap is_eq (tied_back total (get_or xs i s) s (at s))))
+  has-searched xs s (Err i) ascends below at =
+      let parts = at (searchable_from_sorted total (λ (y : K). y) xs s (IsSorted-ascending xs ascends)) in
       sym (list_any_none (eq_by_cmp order s) xs (λ k d inside. ⊎_elim
       (λ before. turned_less (get_or xs k d) s (parts.0 k d (omega arith) before))
       (λ after. turned_greater (get_or xs k d) s (parts.1 k d after inside))

@@ -1,4 +1,4 @@
--- Rising lists under any total order.
+-- Ascending lists under any total order.
 use Rattle.std.proofs.Common.{◌≡◌, ◌≤◌, suc, Bool, true, false, not, ◌&&◌, ◌||◌, List, [], ◌∷◌, ◌++◌, length, filter, refl, sym, ap, ◌∙◌, arith}
 use Rattle.std.specs.Cmp.{IsTotalOrder}
 use Rattle.std.specs.List.{AllByRecursion}
@@ -12,7 +12,7 @@ use Rattle.std.proofs.lemmas.List.Kept.{IsStrictlySortedBy-filter}
 use Rattle.std.proofs.lemmas.Map.Keys.{sorted_tail}
 use Rattle.std.proofs.lemmas.Map.Lookups.{CmpEqualImpliesEq, btree_set_from_contains}
 use Rattle.std.proofs.lemmas.Map.Views.{any-filter_same}
-use Rattle.source_filter.specs.Rising.{has, IsRising, placed, rising, union, difference}
+use Rattle.contract_words.specs.Ascending.{has, IsAscending, placed, ascending, union, difference}
 
 twice : (a b c : Bool) → a ≡ b → (b || c) ≡ (a || (b || c))
 twice true b c same = ap (λ t. t || c) (sym same)
@@ -38,8 +38,8 @@ module _ {K : Type 0} (order : K → K → Ordering) where
   pub has-append : (xs ys : List K) (s : K) → has order (xs ++ ys) s ≡ (has order xs s || has order ys s)
   has-append xs ys s = list_any-append (eq_by_cmp order s) xs ys
 
-  pub IsRising-filter : (p : K → Bool) (xs : List K) → IsRising order xs → IsRising order (filter p xs)
-  IsRising-filter p xs rises = IsStrictlySortedBy-filter order p xs rises
+  pub IsAscending-filter : (p : K → Bool) (xs : List K) → IsAscending order xs → IsAscending order (filter p xs)
+  IsAscending-filter p xs ascends = IsStrictlySortedBy-filter order p xs ascends
 
   length-placed_by : (o : Ordering) (x y : K) (ys : List K) → length (placed order x ys) ≤ suc (length ys)
       → length (match_ordering o (x ∷ y ∷ ys) (y ∷ ys) (y ∷ placed order x ys)) ≤ suc (suc (length ys))
@@ -51,9 +51,9 @@ module _ {K : Type 0} (order : K → K → Ordering) where
   length-placed x [] = omega arith
   length-placed x (y ∷ ys) = length-placed_by (order x y) x y ys (length-placed x ys)
 
-  pub length-rising : (xs : List K) → length (rising order xs) ≤ length xs
-  length-rising [] = omega arith
-  length-rising (x ∷ xs) = omega (arith, length-placed x (rising order xs), length-rising xs)
+  pub length-ascending : (xs : List K) → length (ascending order xs) ≤ length xs
+  length-ascending [] = omega arith
+  length-ascending (x ∷ xs) = omega (arith, length-placed x (ascending order xs), length-ascending xs)
 
 module _ {K : Type 0} {order : K → K → Ordering} where
   pub has-filter : CmpEqualImpliesEq order → (p : K → Bool) (xs : List K) (s : K) → has order (filter p xs) s ≡ (has order xs s && p s)
@@ -75,12 +75,12 @@ module _ {K : Type 0} {order : K → K → Ordering} where
     has-placed x [] s = refl
     has-placed x (y ∷ ys) s = has-placed_by (order x y) x y ys s refl (has-placed x ys s)
 
-    pub has-rising : (xs : List K) (s : K) → has order (rising order xs) s ≡ has order xs s
-    has-rising [] s = refl
-    has-rising (x ∷ xs) s = has-placed x (rising order xs) s ∙ ap (λ t. eq_by_cmp order s x || t) (has-rising xs s)
+    pub has-ascending : (xs : List K) (s : K) → has order (ascending order xs) s ≡ has order xs s
+    has-ascending [] s = refl
+    has-ascending (x ∷ xs) s = has-placed x (ascending order xs) s ∙ ap (λ t. eq_by_cmp order s x || t) (has-ascending xs s)
 
     pub has-union : (xs ys : List K) (s : K) → has order (union order xs ys) s ≡ (has order xs s || has order ys s)
-    has-union xs ys s = has-rising (xs ++ ys) s ∙ has-append order xs ys s
+    has-union xs ys s = has-ascending (xs ++ ys) s ∙ has-append order xs ys s
 
     above_placed_by : (P : K → Type 0) (o : Ordering) (x y : K) (ys : List K) → P x → P y → AllByRecursion P ys → AllByRecursion P (placed order x ys)
         → AllByRecursion P (match_ordering o (x ∷ y ∷ ys) (y ∷ ys) (y ∷ placed order x ys))
@@ -96,28 +96,28 @@ module _ {K : Type 0} {order : K → K → Ordering} where
     above_lower x y [] is rest = tt
     above_lower x y (z ∷ zs) is rest = (total.trans x y z is rest.0, above_lower x y zs is rest.1)
 
-    IsRising-placed_by : (o : Ordering) (x y : K) (ys : List K) → order x y ≡ o → IsRising order (y ∷ ys) → IsRising order (placed order x ys)
-        → IsRising order (match_ordering o (x ∷ y ∷ ys) (y ∷ ys) (y ∷ placed order x ys))
+    IsAscending-placed_by : (o : Ordering) (x y : K) (ys : List K) → order x y ≡ o → IsAscending order (y ∷ ys) → IsAscending order (placed order x ys)
+        → IsAscending order (match_ordering o (x ∷ y ∷ ys) (y ∷ ys) (y ∷ placed order x ys))
     unfolding IsStrictlySortedBy
-    IsRising-placed_by Less x y ys is rises more = ((is, above_lower x y ys is rises.0), rises)
-    IsRising-placed_by Equal x y ys is rises more = rises
-    IsRising-placed_by Greater x y ys is rises more =
-        (above_placed (λ z. order y z ≡ Less) x ys (total.antisymm y x ∙ ap ordering_reverse is) rises.0, more)
+    IsAscending-placed_by Less x y ys is ascends more = ((is, above_lower x y ys is ascends.0), ascends)
+    IsAscending-placed_by Equal x y ys is ascends more = ascends
+    IsAscending-placed_by Greater x y ys is ascends more =
+        (above_placed (λ z. order y z ≡ Less) x ys (total.antisymm y x ∙ ap ordering_reverse is) ascends.0, more)
 
-    pub IsRising-placed : (x : K) (ys : List K) → IsRising order ys → IsRising order (placed order x ys)
+    pub IsAscending-placed : (x : K) (ys : List K) → IsAscending order ys → IsAscending order (placed order x ys)
     unfolding IsStrictlySortedBy
-    IsRising-placed x [] rises = (tt, tt)
-    IsRising-placed x (y ∷ ys) rises = IsRising-placed_by (order x y) x y ys refl rises (IsRising-placed x ys (sorted_tail order y ys rises))
+    IsAscending-placed x [] ascends = (tt, tt)
+    IsAscending-placed x (y ∷ ys) ascends = IsAscending-placed_by (order x y) x y ys refl ascends (IsAscending-placed x ys (sorted_tail order y ys ascends))
 
-    pub IsRising-rising : (xs : List K) → IsRising order (rising order xs)
+    pub IsAscending-ascending : (xs : List K) → IsAscending order (ascending order xs)
     unfolding IsStrictlySortedBy
-    IsRising-rising [] = tt
-    IsRising-rising (x ∷ xs) = IsRising-placed x (rising order xs) (IsRising-rising xs)
+    IsAscending-ascending [] = tt
+    IsAscending-ascending (x ∷ xs) = IsAscending-placed x (ascending order xs) (IsAscending-ascending xs)
 
     -- a set has one ascending list
-    pub same_rising : CmpEqualImpliesEq order → (xs ys : List K) → IsRising order xs → IsRising order ys → ((s : K) → has order xs s ≡ has order ys s) → xs ≡ ys
-    same_rising exact xs ys first second same =
+    pub same_ascending : CmpEqualImpliesEq order → (xs ys : List K) → IsAscending order xs → IsAscending order ys → ((s : K) → has order xs s ≡ has order ys s) → xs ≡ ys
+    same_ascending exact xs ys first second same =
         btree_set_from_contains total (record { keys = xs }) (record { keys = ys }) first second same exact
 
-    pub rising-fixed : CmpEqualImpliesEq order → (xs : List K) → IsRising order xs → rising order xs ≡ xs
-    rising-fixed exact xs rises = same_rising exact (rising order xs) xs (IsRising-rising xs) rises (has-rising xs)
+    pub ascending-fixed : CmpEqualImpliesEq order → (xs : List K) → IsAscending order xs → ascending order xs ≡ xs
+    ascending-fixed exact xs ascends = same_ascending exact (ascending order xs) xs (IsAscending-ascending xs) ascends (has-ascending xs)

@@ -1,0 +1,45 @@
+-- Conditions of which none holds, the first of two lists of conditions, and the value that is read where
+-- none holds.
+use Rattle.std.proofs.Common.{◌≡◌, ℕ, [], ◌∷◌, ◌++◌, Bool, true, false, not, eqb, Option, None, Some, Ok, Err, refl, arith}
+use Rattle.std.proofs.lemmas.Bool.{eqb-true, not-false}
+use Rattle.contract_words.specs.Conditions.{Conditions, NoneHolds, first_holding, first_of, unless}
+
+pub skipped : {Cause : Type 0} (holds : Bool) (cause : Cause) (rest : Conditions Cause) → first_holding ((holds, cause) ∷ rest) ≡ None
+    → (holds ≡ false) × (first_holding rest ≡ None)
+skipped true cause rest none = cc
+skipped false cause rest none = (refl, none)
+
+pub NoneHolds-of : {Cause : Type 0} (conditions : Conditions Cause) → first_holding conditions ≡ None → NoneHolds conditions
+NoneHolds-of [] none = tt
+NoneHolds-of (condition ∷ rest) none =
+    let parts = skipped condition.0 condition.1 rest none in (parts.0, NoneHolds-of rest parts.1)
+
+pub first_holding-none : {Cause : Type 0} (conditions : Conditions Cause) → NoneHolds conditions → first_holding conditions ≡ None
+first_holding-none [] none = refl
+first_holding-none (condition ∷ rest) none = rw none.0 (first_holding-none rest none.1)
+
+first_holding-step : {Cause : Type 0} (holds : Bool) (cause : Cause) (rest more : Conditions Cause)
+    → first_holding (rest ++ more) ≡ first_of (first_holding rest) (first_holding more)
+    → first_holding ((holds, cause) ∷ (rest ++ more)) ≡ first_of (first_holding ((holds, cause) ∷ rest)) (first_holding more)
+first_holding-step true cause rest more same = refl
+first_holding-step false cause rest more same = same
+
+-- conditions and then others: the first of the former that holds, or else of the latter
+pub first_holding-append : {Cause : Type 0} (conditions more : Conditions Cause)
+    → first_holding (conditions ++ more) ≡ first_of (first_holding conditions) (first_holding more)
+first_holding-append [] more = refl
+first_holding-append (condition ∷ rest) more = first_holding-step condition.0 condition.1 rest more (first_holding-append rest more)
+
+pub holds_not : (a b : ℕ) → not (eqb a b) ≡ false → a ≡ b
+holds_not a b none = eqb-true a b (not-false _ none)
+
+pub skips_same : (a b : ℕ) → a ≡ b → not (eqb a b) ≡ false
+skips_same a b same = grind arith
+
+pub unless-ok : {Cause A : Type 0} (cause : Option Cause) (at value : A) → Ok value ≡ unless cause at → (cause ≡ None) × (value ≡ at)
+unless-ok None at value same = (refl, cc)
+unless-ok (Some cause) at value same = cc
+
+pub unless-err : {Cause A : Type 0} (first : Option Cause) (at : A) (cause : Cause) → Err cause ≡ unless first at → first ≡ Some cause
+unless-err None at cause same = cc
+unless-err (Some other) at cause same = cc

@@ -1,0 +1,3 @@
+pub mod AscendingLaws
+pub mod ConditionLaws
+pub mod Sorting
