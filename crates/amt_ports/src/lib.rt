@@ -22,6 +22,3 @@ pub use reading::{READ_SIZE, ReadAllFault, read_all};
 pub use sink::Sink;
 pub use source::Source;
 pub use writing::{WriteFault, write_all_own};
-
-#[cfg(test)]
-mod tests;

@@ -30,6 +30,3 @@ pub use octets::{address_of_octets, octets_of_address};
 pub use order::{order_of_endpoints, order_of_ips};
 pub use peer::Peer;
 pub use text::{parse_ip, parse_peer, print_ip, print_peer};
-
-#[cfg(test)]
-mod tests;

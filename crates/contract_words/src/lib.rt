@@ -10,6 +10,3 @@
 mod items;
 
 pub use items::Items;
-
-#[cfg(test)]
-mod tests;

@@ -1,4 +1,6 @@
-use super::Items;
+//! The one list type. It knows public calls alone.
+
+use contract_words::Items;
 use std::test::Fail;
 
 #[test]

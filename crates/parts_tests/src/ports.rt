@@ -1,6 +1,8 @@
+//! Devices in memory and over std, and the two loops. It knows public calls alone.
+
 ghost use Rattle.std.specs.Prelude.{◌≤◌, IfOk};
 
-use super::*;
+use amt_ports::*;
 use amt_values::{Bytes, INPUT_LIMIT};
 use std::alloc::{AllocError, Global};
 use std::io;

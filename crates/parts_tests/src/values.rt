@@ -1,4 +1,6 @@
-use super::*;
+//! Addresses, endpoints, moments, octets and their texts. It knows public calls alone.
+
+use amt_values::*;
 use std::alloc::{AllocError, Global};
 use std::cmp::Ordering;
 
