@@ -14,6 +14,3 @@ mod top;
 
 pub use exit::Exit;
 pub use top::{amt, amt_exit, amt_without_memory, exit_without_memory};
-
-#[cfg(test)]
-mod tests;

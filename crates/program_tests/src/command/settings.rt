@@ -1,5 +1,4 @@
 use super::{are_faults, are_texts};
-use std::test::Fail;
 
 // Each row: what it shows, the lines after the relay's settings, and the text. The texts were worked out
 // from the definitions, and the response MACs by another implementation, Python's hmac module.
@@ -82,11 +81,11 @@ const FAULTS: [(&str, &str); 26] = [
 ];
 
 #[test]
-fn settings_of_queries_and_packets_are_in_force(rt: HostRuntime) -> Result<(), Fail> {
-    are_texts(&rt, rt.alloc(), &ROWS)
+fn settings_of_queries_and_packets_are_in_force(rt: HostRuntime) {
+    are_texts(&rt, rt.alloc(), &ROWS);
 }
 
 #[test]
-fn the_first_fault_of_query6_packet_limit_and_mc_is_told(rt: HostRuntime) -> Result<(), Fail> {
-    are_faults(&rt, rt.alloc(), &FAULTS)
+fn the_first_fault_of_query6_packet_limit_and_mc_is_told(rt: HostRuntime) {
+    are_faults(&rt, rt.alloc(), &FAULTS);
 }

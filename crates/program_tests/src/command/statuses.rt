@@ -1,4 +1,5 @@
 use super::*;
+use std::io::Eprint;
 use std::process::{ExitCode, Termination};
 
 const SCRIPT: &str = "set relay 192.0.2.1\ndg 198.51.100.7:5000 0100000001020304\n";
@@ -109,29 +110,25 @@ fn octets_of(alloc: Global, input: Input) -> Result<Bytes, AllocError> {
     }
 }
 
-fn is_case(rt: &impl Abort, alloc: Global, case: &Case) -> Result<(), Fail> {
-    let (words, input, failing, status, out, err) = *case;
-    let octets = octets_of(alloc, input)?;
-    let ended = run(alloc, words, octets, failing)?;
-    is_ended(rt, words, &ended, status, out, err);
-    Ok(())
+fn end_of(alloc: Global, words: &str, input: Input, failing: Failing) -> Result<Ended, AllocError> {
+    run(alloc, words, octets_of(alloc, input)?, failing)
 }
 
-fn are_cases(rt: &impl Abort, alloc: Global, cases: &[Case]) -> Result<(), Fail> {
-    for case in cases {
-        is_case(rt, alloc, case)?;
+fn are_cases(rt: &impl Abort, alloc: Global, cases: &[Case]) {
+    for (words, input, failing, status, out, err) in cases {
+        let ended = end_of(alloc, words, *input, *failing);
+        is_ended(rt, words, ended, *status, out, err);
     }
-    Ok(())
 }
 
 #[test]
-fn each_status_has_its_cause_and_its_line(rt: HostRuntime) -> Result<(), Fail> {
-    are_cases(&rt, rt.alloc(), &CASES)
+fn each_status_has_its_cause_and_its_line(rt: HostRuntime) {
+    are_cases(&rt, rt.alloc(), &CASES);
 }
 
 #[test]
-fn an_input_of_one_octet_too_many_is_too_long(rt: HostRuntime) -> Result<(), Fail> {
-    are_cases(&rt, rt.alloc(), &TOO_LONG)
+fn an_input_of_one_octet_too_many_is_too_long(rt: HostRuntime) {
+    are_cases(&rt, rt.alloc(), &TOO_LONG);
 }
 
 // The same run with the status as that of a process.
@@ -143,17 +140,27 @@ fn exit(alloc: Global, line: &str, script: &str) -> Result<Exit, AllocError> {
     Ok(amt_exit(alloc, &words, &mut input, &mut out, &mut err))
 }
 
+fn is_exit(
+    rt: &(impl Abort + Eprint),
+    line: &str,
+    exit: Result<Exit, AllocError>,
+    status: u8,
+) {
+    match exit {
+        Ok(exit) => assert_eq!(rt; exit.report(rt), ExitCode::from(status), "{line}"),
+        Err(_) => is_out_of_memory(rt, line),
+    }
+}
+
 #[test]
-fn a_process_ends_with_the_status(rt: HostRuntime) -> Result<(), Fail> {
+fn a_process_ends_with_the_status(rt: HostRuntime) {
     for (line, script, status) in [
         ("replay relay", SCRIPT, 0),
         ("replay relay", "jump", 3),
         ("jump", "", 2),
     ] {
-        let code = exit(rt.alloc(), line, script)?.report(&rt);
-        assert_eq!(rt; code, ExitCode::from(status), "{line}");
+        is_exit(&rt, line, exit(rt.alloc(), line, script), status);
     }
-    Ok(())
 }
 
 #[test]

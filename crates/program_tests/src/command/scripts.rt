@@ -1,7 +1,4 @@
-use super::{are_scripts, is_fault, is_text};
-use std::alloc::{AllocError, Global};
-use std::process::Abort;
-use std::test::Fail;
+use super::*;
 
 const TEXT: &str = "= 1 advertised\n> 198.51.100.7:5000 0200000001020304c0000201\n. 1\n";
 
@@ -57,48 +54,37 @@ const ROWS: [(&str, &str, &str); 10] = [
 ];
 
 #[test]
-fn a_script_has_its_text(rt: HostRuntime) -> Result<(), Fail> {
-    are_scripts(&rt, rt.alloc(), &ROWS)
+fn a_script_has_its_text(rt: HostRuntime) {
+    are_scripts(&rt, rt.alloc(), &ROWS);
 }
 
-// A comment, and a line of one setting, filled up with so many octets.
-fn long_lines(
+// A replay of a comment, and a line of one setting, filled up with so many octets.
+fn replay_filled(
     alloc: Global,
     filling: usize,
     spaces: usize,
     end: &str,
-) -> Result<String, AllocError> {
+) -> Result<Ended, AllocError> {
     let filling = "x".repeat(alloc, filling)?;
     let spaces = " ".repeat(alloc, spaces)?;
-    format!(in alloc; "#{filling}{end}set relay 192.0.2.1{spaces}{end}")
+    let script = format!(in alloc; "#{filling}{end}set relay 192.0.2.1{spaces}{end}")?;
+    replay(alloc, "", script.as_str())
 }
 
-fn are_read(rt: &impl Abort, alloc: Global, end: &str) -> Result<(), Fail> {
-    let script = long_lines(alloc, 139_999, 139_981, end)?;
-    is_text(
-        rt,
-        alloc,
-        "two lines of 140,000 octets",
-        script.as_str(),
-        ". 0\n",
-    )
+fn is_taken(rt: &impl Abort, alloc: Global, end: &str) {
+    let ended = replay_filled(alloc, 139_999, 139_981, end);
+    is_ended(rt, "two lines of 140,000 octets", ended, 0, ". 0\n", "");
 }
 
-fn is_too_long(
-    rt: &impl Abort,
-    alloc: Global,
-    filling: usize,
-    spaces: usize,
-    line: &str,
-) -> Result<(), Fail> {
-    let script = long_lines(alloc, filling, spaces, "\r\n")?;
-    is_fault(rt, alloc, script.as_str(), line)
+fn is_too_long(rt: &impl Abort, alloc: Global, filling: usize, spaces: usize, line: &str) {
+    let ended = replay_filled(alloc, filling, spaces, "\r\n");
+    is_ended(rt, line, ended, 3, "", line);
 }
 
 #[test]
-fn a_line_has_at_most_140000_octets(rt: HostRuntime) -> Result<(), Fail> {
-    are_read(&rt, rt.alloc(), "\n")?;
-    are_read(&rt, rt.alloc(), "\r\n")?;
-    is_too_long(&rt, rt.alloc(), 140_000, 139_981, "amt: line 1: long\n")?;
-    is_too_long(&rt, rt.alloc(), 139_999, 139_982, "amt: line 2: long\n")
+fn a_line_has_at_most_140000_octets(rt: HostRuntime) {
+    is_taken(&rt, rt.alloc(), "\n");
+    is_taken(&rt, rt.alloc(), "\r\n");
+    is_too_long(&rt, rt.alloc(), 140_000, 139_981, "amt: line 1: long\n");
+    is_too_long(&rt, rt.alloc(), 139_999, 139_982, "amt: line 2: long\n");
 }

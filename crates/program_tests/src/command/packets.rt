@@ -1,7 +1,4 @@
-use super::{are_texts, is_row};
-use std::alloc::{AllocError, Global};
-use std::process::Abort;
-use std::test::Fail;
+use super::*;
 
 // Each row: what it shows, the lines after the relay's settings, and the text. The texts were worked out
 // from the definitions, and the response MACs by another implementation, Python's hmac module.
@@ -74,8 +71,8 @@ const ROWS: [(&str, &str, &str); 13] = [
 ];
 
 #[test]
-fn a_packet_is_copied_to_those_who_want_it(rt: HostRuntime) -> Result<(), Fail> {
-    are_texts(&rt, rt.alloc(), &ROWS)
+fn a_packet_is_copied_to_those_who_want_it(rt: HostRuntime) {
+    are_texts(&rt, rt.alloc(), &ROWS);
 }
 
 // A packet of so many octets, at least 20, from 198.51.100.9 to 239.1.1.1.
@@ -87,30 +84,42 @@ fn packet_of(alloc: Global, octets: usize) -> Result<String, AllocError> {
     Ok(hex)
 }
 
-// The membership of 198.51.100.7:5000 for 239.1.1.1, and two packets.
-fn lines_of(alloc: Global, first: &str, second: &str) -> Result<String, AllocError> {
-    format!(in alloc;
-        "dg 198.51.100.7:5000 05004db758a175550a0b0c0d46c0002800000000010239f80a000002e0000016940400002200ebfb0000000102000000ef010101\nmc {first}\nmc {second}\n"
-    )
+// A packet of so many octets comes after the membership of 198.51.100.7:5000 for 239.1.1.1.
+fn forward(alloc: Global, packet: &str) -> Result<Ended, AllocError> {
+    let lines = format!(in alloc;
+        "dg 198.51.100.7:5000 05004db758a175550a0b0c0d46c0002800000000010239f80a000002e0000016940400002200ebfb0000000102000000ef010101\nmc {packet}\n"
+    )?;
+    replay(alloc, ADDRESSES, lines.as_str())
 }
 
-fn text_of(alloc: Global, copied: &str) -> Result<String, AllocError> {
-    format!(in alloc;
-        "= 1 updated\n= 2 copied 1\n> 198.51.100.7:5000 0600{copied}\n= 3 toobig 1451\n. 3\n"
-    )
+fn text_of_copy(alloc: Global, packet: &str) -> Result<String, AllocError> {
+    format!(in alloc; "= 1 updated\n= 2 copied 1\n> 198.51.100.7:5000 0600{packet}\n. 2\n")
 }
 
-fn is_copied_alone(rt: &impl Abort, alloc: Global, one: &str, other: &str) -> Result<(), Fail> {
-    let lines = lines_of(alloc, one, other)?;
-    let text = text_of(alloc, one)?;
-    is_row(rt, alloc, "both lengths", lines.as_str(), text.as_str())
+fn is_copied(rt: &impl Abort, alloc: Global, packet: &str) {
+    match text_of_copy(alloc, packet) {
+        Ok(text) => is_ended(rt, "1450 octets", forward(alloc, packet), 0, text.as_str(), ""),
+        Err(_) => is_out_of_memory(rt, "1450 octets"),
+    }
 }
 
 #[test]
-fn a_packet_of_1450_octets_is_copied_and_a_longer_one_is_too_big(
-    rt: HostRuntime,
-) -> Result<(), Fail> {
-    let longest = packet_of(rt.alloc(), 1_450)?;
-    let longer = packet_of(rt.alloc(), 1_451)?;
-    is_copied_alone(&rt, rt.alloc(), longest.as_str(), longer.as_str())
+fn a_packet_of_1450_octets_is_copied(rt: HostRuntime) {
+    match packet_of(rt.alloc(), 1_450) {
+        Ok(packet) => is_copied(&rt, rt.alloc(), packet.as_str()),
+        Err(_) => is_out_of_memory(&rt, "1450 octets"),
+    }
+}
+
+fn is_too_big(rt: &impl Abort, alloc: Global, packet: &str) {
+    let text = "= 1 updated\n= 2 toobig 1451\n. 2\n";
+    is_ended(rt, "1451 octets", forward(alloc, packet), 0, text, "");
+}
+
+#[test]
+fn a_packet_of_1451_octets_is_too_big(rt: HostRuntime) {
+    match packet_of(rt.alloc(), 1_451) {
+        Ok(packet) => is_too_big(&rt, rt.alloc(), packet.as_str()),
+        Err(_) => is_out_of_memory(&rt, "1451 octets"),
+    }
 }

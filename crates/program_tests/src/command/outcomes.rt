@@ -1,5 +1,4 @@
 use super::{UPDATE, are_outcomes};
-use std::test::Fail;
 
 // Each row: what it shows, a datagram, and its outcome. The Query was computed in Python.
 const REFUSED: [(&str, &str, &str); 17] = [
@@ -111,11 +110,11 @@ const JUDGED: [(&str, &str, &str); 12] = [
 ];
 
 #[test]
-fn every_other_datagram_is_refused_with_its_reason(rt: HostRuntime) -> Result<(), Fail> {
-    are_outcomes(&rt, rt.alloc(), "", &REFUSED)
+fn every_other_datagram_is_refused_with_its_reason(rt: HostRuntime) {
+    are_outcomes(&rt, rt.alloc(), "", &REFUSED);
 }
 
 #[test]
-fn an_update_is_judged_by_its_mac_and_its_report(rt: HostRuntime) -> Result<(), Fail> {
-    are_outcomes(&rt, rt.alloc(), UPDATE, &JUDGED)
+fn an_update_is_judged_by_its_mac_and_its_report(rt: HostRuntime) {
+    are_outcomes(&rt, rt.alloc(), UPDATE, &JUDGED);
 }

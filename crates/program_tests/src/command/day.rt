@@ -1,5 +1,4 @@
-use super::is_text;
-use std::test::Fail;
+use super::are_scripts;
 
 // examples/a_day_at_the_relay/script, to the octet.
 const SCRIPT: &str =
@@ -503,6 +502,6 @@ const EXPECTED: &str = "= 1 moved 21600000
 ";
 
 #[test]
-fn a_day_at_the_relay_goes_as_its_story_says(rt: HostRuntime) -> Result<(), Fail> {
-    is_text(&rt, rt.alloc(), "the day", SCRIPT, EXPECTED)
+fn a_day_at_the_relay_goes_as_its_story_says(rt: HostRuntime) {
+    are_scripts(&rt, rt.alloc(), &[("the day", SCRIPT, EXPECTED)]);
 }

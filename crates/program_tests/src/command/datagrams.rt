@@ -1,5 +1,4 @@
 use super::are_texts;
-use std::test::Fail;
 
 // Each row: what it shows, the lines after the relay's settings, and the text. The texts were worked out
 // from the definitions, and the response MACs by another implementation, Python's hmac module.
@@ -42,8 +41,6 @@ const ROWS: [(&str, &str, &str); 7] = [
 ];
 
 #[test]
-fn secrets_sources_types_and_limits_decide_what_a_datagram_comes_to(
-    rt: HostRuntime,
-) -> Result<(), Fail> {
-    are_texts(&rt, rt.alloc(), &ROWS)
+fn secrets_sources_types_and_limits_decide_what_a_datagram_comes_to(rt: HostRuntime) {
+    are_texts(&rt, rt.alloc(), &ROWS);
 }

@@ -1,4 +1,4 @@
-use super::with_relay;
+use super::{ADDRESSES, is_out_of_memory};
 use amt_script::{
     Reason, RelayItem, RunFault, ScriptError, print_relay_event, print_relay_step,
     read_relay_script,
@@ -8,7 +8,6 @@ use relay_machine::{Outcome, Sends, Settings, Step};
 use std::alloc::{AllocError, Global};
 use std::fmt::Display;
 use std::process::Abort;
-use std::test::Fail;
 
 // Lines of a script, as its events are printed.
 const LINES: [&str; 7] = [
@@ -21,8 +20,9 @@ const LINES: [&str; 7] = [
     "mc -\n",
 ];
 
-// The line of the first event; nothing where there is none.
-fn first_line(alloc: Global, script: &str) -> Result<Bytes, AllocError> {
+// The first event of a relay's script of these lines, as it is printed; nothing where there is none.
+fn printed_event(alloc: Global, lines: &str) -> Result<Bytes, AllocError> {
+    let script = format!(in alloc; "{ADDRESSES}{lines}")?;
     if script.len() > INPUT_LIMIT {
         return Ok(Bytes::new(alloc));
     }
@@ -35,19 +35,18 @@ fn first_line(alloc: Global, script: &str) -> Result<Bytes, AllocError> {
     }
 }
 
-fn is_read_back(rt: &impl Abort, alloc: Global, line: &str) -> Result<(), Fail> {
-    let script = with_relay(alloc, line)?;
-    let printed = first_line(alloc, script.as_str())?;
-    assert_eq!(rt; printed.as_slice(), line.as_bytes(), "{line}");
-    Ok(())
+fn is_printed(rt: &impl Abort, printed: Result<Bytes, AllocError>, text: &str) {
+    match printed {
+        Ok(printed) => assert_eq!(rt; printed.as_slice(), text.as_bytes()),
+        Err(_) => is_out_of_memory(rt, text),
+    }
 }
 
 #[test]
-fn a_printed_event_is_read_back(rt: HostRuntime) -> Result<(), Fail> {
+fn a_printed_event_is_read_back(rt: HostRuntime) {
     for line in LINES.as_slice() {
-        is_read_back(&rt, rt.alloc(), line)?;
+        is_printed(&rt, printed_event(rt.alloc(), line), line);
     }
-    Ok(())
 }
 
 fn settings_of(alloc: Global, script: &str) -> Option<Settings> {
@@ -78,26 +77,23 @@ fn step_text(alloc: Global, outcome: Outcome) -> Result<Bytes, AllocError> {
 }
 
 #[test]
-fn a_step_has_its_number_and_its_outcome(rt: HostRuntime) -> Result<(), Fail> {
-    let text = step_text(rt.alloc(), Outcome::Copied(0))?;
-    assert_eq!(rt; text.as_slice(), b"= 7 copied 0\n".as_slice());
-    Ok(())
+fn a_step_has_its_number_and_its_outcome(rt: HostRuntime) {
+    is_printed(&rt, step_text(rt.alloc(), Outcome::Copied(0)), "= 7 copied 0\n");
 }
 
-fn is_shown(rt: &impl Abort, alloc: Global, error: &impl Display, text: &str) -> Result<(), Fail> {
-    let shown = format!(in alloc; "{error}")?;
-    assert_eq!(rt; shown.as_str(), text);
-    Ok(())
+fn shown(alloc: Global, error: &impl Display) -> Result<Bytes, AllocError> {
+    let text = format!(in alloc; "{error}")?;
+    Bytes::copied(alloc, text.as_bytes())
 }
 
 #[test]
-fn a_fault_has_its_text(rt: HostRuntime) -> Result<(), Fail> {
+fn a_fault_has_its_text(rt: HostRuntime) {
     let fault = ScriptError::Fault {
         line: 3,
         reason: Reason::Late,
     };
-    is_shown(&rt, rt.alloc(), &fault, "line 3: late")?;
-    is_shown(&rt, rt.alloc(), &ScriptError::Memory, "out of memory")?;
-    is_shown(&rt, rt.alloc(), &RunFault::Write, "write fault")?;
-    is_shown(&rt, rt.alloc(), &RunFault::Memory, "out of memory")
+    is_printed(&rt, shown(rt.alloc(), &fault), "line 3: late");
+    is_printed(&rt, shown(rt.alloc(), &ScriptError::Memory), "out of memory");
+    is_printed(&rt, shown(rt.alloc(), &RunFault::Write), "write fault");
+    is_printed(&rt, shown(rt.alloc(), &RunFault::Memory), "out of memory");
 }

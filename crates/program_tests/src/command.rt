@@ -1,3 +1,5 @@
+//! The command `amt` on words and scripts: each row a script and its text. It knows public calls alone.
+
 mod calls;
 mod datagrams;
 mod day;
@@ -12,12 +14,11 @@ mod statuses;
 mod teardowns;
 mod updates;
 
-use super::*;
+use amt_command::*;
 use amt_ports::{MemSink, MemSource};
 use amt_values::Bytes;
 use std::alloc::{AllocError, Global};
 use std::process::Abort;
-use std::test::Fail;
 
 // The numbers of the calls of input, output and standard error that fail, counted from 1; 0 for none.
 type Failing = (u64, u64, u64);
@@ -52,78 +53,70 @@ fn run(alloc: Global, line: &str, script: Bytes, failing: Failing) -> Result<End
     Ok(Ended { status, out, err })
 }
 
-fn replay(alloc: Global, script: &str) -> Result<Ended, AllocError> {
+// The end of a replay of these lines of a relay's script.
+fn replay(alloc: Global, first: &str, lines: &str) -> Result<Ended, AllocError> {
+    let script = format!(in alloc; "{first}{lines}")?;
     let script = Bytes::copied(alloc, script.as_bytes())?;
     run(alloc, "replay relay", script, NONE_FAILS)
 }
 
-fn is_ended(rt: &impl Abort, what: &str, ended: &Ended, status: u8, out: &str, err: &str) {
+// A run ended with this status, this output and this line on standard error. It is handed over with its
+// want of memory, since a test that returns a result is proved twice.
+fn is_ended(
+    rt: &impl Abort,
+    what: &str,
+    ended: Result<Ended, AllocError>,
+    status: u8,
+    out: &str,
+    err: &str,
+) {
+    let Ok(ended) = ended else {
+        return is_out_of_memory(rt, what);
+    };
     assert_eq!(rt; ended.status, status, "{what}");
     assert_eq!(rt; ended.out.as_slice(), out.as_bytes(), "{what}");
     assert_eq!(rt; ended.err.as_slice(), err.as_bytes(), "{what}");
 }
 
-// What is done for a script, with nothing on standard error.
-fn is_text(
-    rt: &impl Abort,
-    alloc: Global,
-    what: &str,
-    script: &str,
-    text: &str,
-) -> Result<(), Fail> {
-    let ended = replay(alloc, script)?;
-    is_ended(rt, what, &ended, 0, text, "");
-    Ok(())
+fn is_out_of_memory(rt: &impl Abort, what: &str) {
+    assert!(rt; false, "out of memory: {what}");
 }
 
-fn is_fault(rt: &impl Abort, alloc: Global, script: &str, line: &str) -> Result<(), Fail> {
-    let ended = replay(alloc, script)?;
-    is_ended(rt, script, &ended, 3, "", line);
-    Ok(())
-}
-
-fn with_relay(alloc: Global, lines: &str) -> Result<String, AllocError> {
-    format!(in alloc; "set relay 192.0.2.1\nset query4 192.0.2.1\n{lines}")
-}
-
-fn is_row(rt: &impl Abort, alloc: Global, what: &str, lines: &str, text: &str) -> Result<(), Fail> {
-    let script = with_relay(alloc, lines)?;
-    is_text(rt, alloc, what, script.as_str(), text)
-}
+// The relay's addresses, with which most scripts begin.
+const ADDRESSES: &str = "set relay 192.0.2.1\nset query4 192.0.2.1\n";
 
 // Each row: what it shows, the lines after a relay's addresses, and the text.
-fn are_texts(rt: &impl Abort, alloc: Global, rows: &[(&str, &str, &str)]) -> Result<(), Fail> {
+fn are_texts(rt: &impl Abort, alloc: Global, rows: &[(&str, &str, &str)]) {
     for (what, lines, text) in rows {
-        is_row(rt, alloc, what, lines, text)?;
+        is_ended(rt, what, replay(alloc, ADDRESSES, lines), 0, text, "");
     }
-    Ok(())
 }
 
 // Each row: what it shows, a whole script, and the text.
-fn are_scripts(rt: &impl Abort, alloc: Global, rows: &[(&str, &str, &str)]) -> Result<(), Fail> {
+fn are_scripts(rt: &impl Abort, alloc: Global, rows: &[(&str, &str, &str)]) {
     for (what, script, text) in rows {
-        is_text(rt, alloc, what, script, text)?;
+        is_ended(rt, what, replay(alloc, "", script), 0, text, "");
     }
-    Ok(())
 }
 
 // Each row: a script that is none, and the line on standard error.
-fn are_faults(rt: &impl Abort, alloc: Global, rows: &[(&str, &str)]) -> Result<(), Fail> {
+fn are_faults(rt: &impl Abort, alloc: Global, rows: &[(&str, &str)]) {
     for (script, line) in rows {
-        is_fault(rt, alloc, script, line)?;
+        is_ended(rt, script, replay(alloc, "", script), 3, "", line);
     }
-    Ok(())
 }
 
 // What an Update of 198.51.100.7:5000 and the nonce 0a0b0c0d begins with under 32 zero octets. The MAC was
 // computed with another implementation, Python's hmac module.
 const UPDATE: &str = "05004db758a175550a0b0c0d";
 
-fn datagram_line(alloc: Global, start: &str, rest: &str) -> Result<String, AllocError> {
-    format!(in alloc; "dg 198.51.100.7:5000 {start}{rest}\n")
+// The end of a replay of one datagram from 198.51.100.7:5000.
+fn take(alloc: Global, start: &str, rest: &str) -> Result<Ended, AllocError> {
+    let line = format!(in alloc; "dg 198.51.100.7:5000 {start}{rest}\n")?;
+    replay(alloc, ADDRESSES, line.as_str())
 }
 
-fn outcome_lines(alloc: Global, outcome: &str) -> Result<String, AllocError> {
+fn text_of(alloc: Global, outcome: &str) -> Result<String, AllocError> {
     format!(in alloc; "= 1 {outcome}\n. 1\n")
 }
 
@@ -131,24 +124,19 @@ fn is_outcome(
     rt: &impl Abort,
     alloc: Global,
     what: &str,
-    datagram: &str,
+    ended: Result<Ended, AllocError>,
     outcome: &str,
-) -> Result<(), Fail> {
-    let text = outcome_lines(alloc, outcome)?;
-    is_row(rt, alloc, what, datagram, text.as_str())
+) {
+    match text_of(alloc, outcome) {
+        Ok(text) => is_ended(rt, what, ended, 0, text.as_str(), ""),
+        Err(_) => is_out_of_memory(rt, what),
+    }
 }
 
 // Each row: what it shows, a datagram from 198.51.100.7:5000 without its start, and its outcome, with
 // which nothing is sent.
-fn are_outcomes(
-    rt: &impl Abort,
-    alloc: Global,
-    start: &str,
-    rows: &[(&str, &str, &str)],
-) -> Result<(), Fail> {
+fn are_outcomes(rt: &impl Abort, alloc: Global, start: &str, rows: &[(&str, &str, &str)]) {
     for (what, rest, outcome) in rows {
-        let datagram = datagram_line(alloc, start, rest)?;
-        is_outcome(rt, alloc, what, datagram.as_str(), outcome)?;
+        is_outcome(rt, alloc, what, take(alloc, start, rest), outcome);
     }
-    Ok(())
 }

@@ -1,0 +1,9 @@
+//! Tests of the relay's program, by the public calls of its crates.
+//!
+//! Contract: none; it is tests alone. They stand in a crate of their own since the tests of a crate prove
+//! all its functions once more, which costs the gate as much again.
+//! It must not know what any crate keeps to itself.
+#![tactic(auto)]
+
+#[cfg(test)]
+mod command;
