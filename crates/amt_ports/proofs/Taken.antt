@@ -25,8 +25,8 @@ TakesAtMost-read limit n a b c bs buf before read fits most = record {
 }
 
 -- n bytes from a place on are before those from the place n further
-pub drop-front : (at n : ℕ) (bytes : List ℕ) → drop at bytes ≡ take n (drop at bytes) ++ drop (at + n) bytes
-drop-front at n bytes = sym (take-append-drop n (drop at bytes)) ∙ ap (λ l. take n (drop at bytes) ++ l) (drop-drop n at bytes)
+pub drop-prefix : (at n : ℕ) (bytes : List ℕ) → drop at bytes ≡ take n (drop at bytes) ++ drop (at + n) bytes
+drop-prefix at n bytes = sym (take-append-drop n (drop at bytes)) ∙ ap (λ l. take n (drop at bytes) ++ l) (drop-drop n at bytes)
 
 -- where the source tells its bytes, an input that was read to its end is all of them
 pub TakesAll-told : (xs bytes : List ℕ) (new : Option (List ℕ)) → TakesAll (Some xs) new bytes → bytes ≡ xs

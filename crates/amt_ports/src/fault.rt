@@ -1,3 +1,5 @@
+//! The answer of a device that failed, and the count that is its evidence. It must not know the devices.
+
 ghost use Rattle.std.specs.Prelude.{◌≡◌, ◌≤◌};
 ghost use Rattle.amt_ports.specs.Causes.{next_count};
 

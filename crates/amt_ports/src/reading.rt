@@ -1,3 +1,5 @@
+//! Reading an input to its end. It must not know what the bytes spell.
+
 ghost use Rattle.std.specs.Prelude.{◌≡◌, ◌+◌, ◌≤◌, length, IfOk, IsErrOf};
 ghost use Rattle.amt_ports.specs.Causes.{Rose};
 ghost use Rattle.amt_ports.specs.Reading.{TakesAll, TakesAtMost, TakesMore};

@@ -1,3 +1,5 @@
+//! What is written to. It must not know any device.
+
 ghost use Rattle.std.specs.Prelude.{◌<◌, ℕ, List, Option, length, IfOk};
 ghost use Rattle.std.specs.Io.{WritesAtMost};
 ghost use Rattle.std.specs.Io.KnownBytes.{WriteAppends};

@@ -1,3 +1,5 @@
+//! Writing all of a text. It must not know what the text says.
+
 ghost use Rattle.std.specs.Prelude.{◌<◌, ℕ, length, take, OnOk, OnErr};
 ghost use Rattle.std.specs.Io.KnownBytes.{Appends};
 ghost use Rattle.amt_ports.specs.Causes.{HasCause};
@@ -11,7 +13,7 @@ pub struct WriteFault;
 /// Writes all of the bytes, in as many calls as the sink needs. It takes no memory.
 pub fn write_all_own<O: Sink>(sink: &mut O, bytes: &[u8]) -> Result<(), WriteFault>
     ensures all { OnOk result (Appends (O.written sink.old) (O.written sink.new) bytes.now) }
-    ensures front { OnErr result ((n : ℕ) × (n < length bytes.now)
+    ensures prefix { OnErr result ((n : ℕ) × (n < length bytes.now)
         × Appends (O.written sink.old) (O.written sink.new) (take n bytes.now)) }
     ensures cause { HasCause (O.faults sink.old) (O.faults sink.new) result }
 {

@@ -6,7 +6,7 @@ use Rattle.std.specs.Char.{digit_value}
 use Rattle.std.specs.List.{AllZip, AllByRecursion, join_with_byte}
 use Rattle.std.specs.Net.Grammar.{IsDotted, IsGroup, IsGroupsAfter, IsGroups, IsColonHex, IsElided as IsElidedInStd}
 use Rattle.std.specs.Str.Parse.{AllDigits}
-use Rattle.amt_values.specs.Groups.{IsGroupsText, IsElided}
+use Rattle.amt_values.specs.Segments.{IsSegmentsText, IsElided}
 use Rattle.amt_values.proofs.Cuts.{Lacks, Lacks-parts, not_lacking}
 
 -- what stands after a piece
@@ -34,7 +34,7 @@ pieces_to_std ipv4 text (p ∷ pieces) [] same h = absurd h
 pieces_to_std ipv4 text (p ∷ pieces) (g ∷ groups) same h =
     inl (p, after_piece pieces, same ∙ join-cons p pieces, h.0, to_after ipv4 pieces groups h.1)
 
-to_std : (ipv4 : Bool) (groups text : List ℕ) → IsGroupsText groups text → IsGroups ipv4 text groups
+to_std : (ipv4 : Bool) (groups text : List ℕ) → IsSegmentsText groups text → IsGroups ipv4 text groups
 to_std ipv4 groups text h = pieces_to_std ipv4 text h.0 groups h.1 h.2
 
 -- a dotted text has a dot
@@ -65,7 +65,7 @@ from_after ipv4 (g ∷ groups) text lacks (inl h) =
     }
 from_after ipv4 (g ∷ groups) text lacks (inr h) = absurd (dotted_not_lacking (codes ":") text h.0 h.1 h.3 h.4 lacks)
 
-from_std : (ipv4 : Bool) (groups text : List ℕ) → Lacks 46 text → IsGroups ipv4 text groups → IsGroupsText groups text
+from_std : (ipv4 : Bool) (groups text : List ℕ) → Lacks 46 text → IsGroups ipv4 text groups → IsSegmentsText groups text
 from_std ipv4 [] text lacks h = ([], h, tt)
 from_std ipv4 (g ∷ groups) text lacks (inl h) =
     let p = h.0 in
@@ -95,13 +95,13 @@ elided_to_std groups text eight h =
       head = h.head;
       tail = h.tail;
       spelled = h.spelled ∙ sym (append_assoc h.head_text (codes "::") h.tail_text);
-      head_groups = to_std false h.head h.head_text h.head_groups;
-      tail_groups = to_std true h.tail h.tail_text h.tail_groups;
+      head_groups = to_std false h.head h.head_text h.head_segments;
+      tail_groups = to_std true h.tail h.tail_text h.tail_segments;
       room = omega (arith, sizes, h.some);
       value = rw gap (h.value ∙ sym (append_assoc h.head (replicate h.zeros 0) h.tail));
     }
 
-pub IsColonHex-from_groups : (groups text : List ℕ) → length groups ≡ 8 → IsGroupsText groups text ⊎ IsElided groups text → IsColonHex text groups
+pub IsColonHex-from_groups : (groups text : List ℕ) → length groups ≡ 8 → IsSegmentsText groups text ⊎ IsElided groups text → IsColonHex text groups
 IsColonHex-from_groups groups text eight (inl all) = inl (to_std true groups text all, eight)
 IsColonHex-from_groups groups text eight (inr elided) = inr (elided_to_std groups text eight elided)
 
@@ -119,11 +119,11 @@ elided_from_std groups text lacks h =
       head_text = h.head_text;
       tail_text = h.tail_text;
       spelled = spelled;
-      head_groups = from_std false h.head h.head_text parts.0 h.head_groups;
-      tail_groups = from_std true h.tail h.tail_text last.1 h.tail_groups;
+      head_segments = from_std false h.head h.head_text parts.0 h.head_groups;
+      tail_segments = from_std true h.tail h.tail_text last.1 h.tail_groups;
     }
 
-pub groups_from_IsColonHex : (groups text : List ℕ) → Lacks 46 text → IsColonHex text groups → IsGroupsText groups text ⊎ IsElided groups text
+pub groups_from_IsColonHex : (groups text : List ℕ) → Lacks 46 text → IsColonHex text groups → IsSegmentsText groups text ⊎ IsElided groups text
 groups_from_IsColonHex groups text lacks (inl all) = inl (from_std true groups text lacks all.0)
 groups_from_IsColonHex groups text lacks (inr elided) = inr (elided_from_std groups text lacks elided)
 
@@ -152,20 +152,20 @@ Lacks-joined : (at : ℕ) (pieces : List (List ℕ)) (groups : List ℕ) → IsF
 Lacks-joined at [] groups foreign h = All-nil (λ octet. octet ≢ at)
 Lacks-joined at (p ∷ pieces) groups foreign h = (Lacks-parts at (codes ":") (join_with_byte 58 (p ∷ pieces)) (Lacks-after at (p ∷ pieces) groups foreign h)).1
 
-Lacks-groups : (at : ℕ) (groups text : List ℕ) → IsForeign at → IsGroupsText groups text → Lacks at text
+Lacks-groups : (at : ℕ) (groups text : List ℕ) → IsForeign at → IsSegmentsText groups text → Lacks at text
 Lacks-groups at groups text foreign h = subst (Lacks at) (sym h.1) (Lacks-joined at h.0 groups foreign h.2)
 
 Lacks-elided : (at : ℕ) (groups text : List ℕ) → IsForeign at → IsElided groups text → Lacks at text
 Lacks-elided at groups text foreign h =
     let P : ℕ → Type 0 = λ (octet : ℕ). octet ≢ at in
     let other : 58 ≢ at = λ same. foreign.no_colon (sym same) in
-    let front = Lacks-groups at h.head h.head_text foreign h.head_groups in
-    let back = Lacks-groups at h.tail h.tail_text foreign h.tail_groups in
+    let front = Lacks-groups at h.head h.head_text foreign h.head_segments in
+    let back = Lacks-groups at h.tail h.tail_text foreign h.tail_segments in
     let colons = All-cons P 58 (58 ∷ h.tail_text) other (All-cons P 58 h.tail_text other back) in
     subst (Lacks at) (sym h.spelled) (All-append P h.head_text (58 ∷ 58 ∷ h.tail_text) front colons)
 
 -- an IPv6 address has only colons and hexadecimal digits
-pub Lacks-v6 : (at : ℕ) (groups text : List ℕ) → 16 ≤ digit_value at → at ≢ 58 → IsGroupsText groups text ⊎ IsElided groups text → Lacks at text
+pub Lacks-v6 : (at : ℕ) (groups text : List ℕ) → 16 ≤ digit_value at → at ≢ 58 → IsSegmentsText groups text ⊎ IsElided groups text → Lacks at text
 Lacks-v6 at groups text no_digit no_colon (inl all) =
     Lacks-groups at groups text (record { no_digit = no_digit; no_colon = no_colon }) all
 Lacks-v6 at groups text no_digit no_colon (inr elided) =

@@ -3,10 +3,10 @@ use Rattle.std.proofs.Common.{◌≡◌, ℕ, suc, ◌+◌, ◌*◌, ◌-◌, �
 use Rattle.std.proofs.NetLemmas.Texts.{AllSegments, AllSegments-take, AllSegments-drop, IsZeroRun-longest_zero_run}
 use Rattle.std.proofs.lemmas.Bool.{cases_lt}
 use Rattle.std.specs.Net.Text.{hex, groups_text, longest_zero_run, hex_groups_text}
-use Rattle.amt_values.specs.Groups.{groups_of}
+use Rattle.amt_values.specs.Segments.{address_segments}
 use Rattle.amt_values.specs.Text.{v6_text}
 use Rattle.amt_values.proofs.Printed.{written_after, shortened_text, long_text, plain_text}
-use Rattle.amt_values.proofs.Segments.{AllSegments-groups_of, length-groups_of}
+use Rattle.amt_values.proofs.Segments.{AllSegments-address_segments, length-address_segments}
 use Rattle.amt_values.proofs.ShortGroups.{IsShortGroup-hex}
 
 length-hex : (group : ℕ) → group < 2 ^ 16 → length (hex group) ≤ 4
@@ -20,9 +20,9 @@ length-written_after (g ∷ groups) fits =
     omega (arith, whole, rest, length-hex g (fits 0))
 
 -- no colon stands before the first group
-length-groups_text : (groups : List ℕ) → AllSegments groups → length (groups_text groups) ≤ 5 * length groups - 1
-length-groups_text [] fits = omega arith
-length-groups_text (g ∷ groups) fits =
+length-segments_text : (groups : List ℕ) → AllSegments groups → length (groups_text groups) ≤ 5 * length groups - 1
+length-segments_text [] fits = omega arith
+length-segments_text (g ∷ groups) fits =
     let rest = length-written_after groups (λ k. fits (suc k)) in
     let whole = length-append (hex g) (written_after groups) in
     omega (arith, whole, rest, length-hex g (fits 0))
@@ -32,8 +32,8 @@ length-shortened : (groups : List ℕ) (start count : ℕ) → AllSegments group
 length-shortened groups start count fits eight within two =
     let head = take start groups in
     let tail = drop (start + count) groups in
-    let front = length-groups_text head (AllSegments-take start groups fits) in
-    let back = length-groups_text tail (AllSegments-drop (start + count) groups fits) in
+    let front = length-segments_text head (AllSegments-take start groups fits) in
+    let back = length-segments_text tail (AllSegments-drop (start + count) groups fits) in
     let before : length head ≡ start = length-take-le start groups (omega arith) in
     let after = length-drop (start + count) groups in
     let whole = length-append (groups_text head) (codes "::" ++ groups_text tail) in
@@ -49,9 +49,9 @@ length-hex_groups_text groups fits eight =
           let shortened = length-shortened groups start count fits eight (omega (arith, run.0, eight)) long in
           omega (arith, ap (λ (text : List ℕ). length text) (long_text groups long), shortened)
       | inr short ↦
-          let plain = length-groups_text groups fits in
+          let plain = length-segments_text groups fits in
           omega (arith, ap (λ (text : List ℕ). length text) (plain_text groups short), plain, eight)
     ]
 
 pub length-v6_text : (number : ℕ) → length (v6_text number) ≤ 39
-length-v6_text number = length-hex_groups_text (groups_of number) (AllSegments-groups_of number) (length-groups_of number)
+length-v6_text number = length-hex_groups_text (address_segments number) (AllSegments-address_segments number) (length-address_segments number)

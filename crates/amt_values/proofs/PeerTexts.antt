@@ -4,7 +4,7 @@ use Rattle.std.proofs.NetLemmas.Alphabet.{IsDigitOrDot}
 use Rattle.amt_values.specs.declared.address.Ip.{Ip}
 use Rattle.amt_values.specs.declared.address.Ip.TheVariants.{V4, V6}
 use Rattle.amt_values.specs.declared.peer.Peer.{Peer}
-use Rattle.amt_values.specs.Groups.{groups_of}
+use Rattle.amt_values.specs.Segments.{address_segments}
 use Rattle.amt_values.specs.Text.{IsIpText, IsPeerText}
 use Rattle.amt_values.proofs.Cuts.{Lacks, cut_once, not_first, not_lacking}
 use Rattle.amt_values.proofs.Dotted.{Lacks-v4_text}
@@ -27,7 +27,7 @@ Lacks-opening number address names = subst (Lacks 91) (sym names.1) (Lacks-v4_te
 
 -- an IPv6 address has no closing bracket
 pub Lacks-closing : (number : ℕ) (address : List ℕ) → IsIpText (V6 number) address → Lacks 93 address
-Lacks-closing number address names = Lacks-v6 93 (groups_of number) address (omega arith) (λ same. omega arith) names.1
+Lacks-closing number address names = Lacks-v6 93 (address_segments number) address (omega arith) (λ same. omega arith) names.1
 
 -- the text of an IPv4 peer has no bracket before it
 pub not_bracketed : (number port : ℕ) (text : List ℕ) → IsPeerText (record { ip = V4 number; port = port }) (91 ∷ text) → ⊥

@@ -3,15 +3,15 @@ use Rattle.std.proofs.Common.{◌≡◌, ℕ, ◌↔◌, List, refl, ap, ◌∙�
 use Rattle.amt_values.specs.declared.address.Ip.{Ip}
 use Rattle.amt_values.specs.declared.address.Ip.TheVariants.{V4, V6}
 use Rattle.amt_values.specs.declared.peer.Peer.{Peer}
-use Rattle.amt_values.specs.Groups.{groups_of}
+use Rattle.amt_values.specs.Segments.{address_segments}
 use Rattle.amt_values.specs.Text.{ip_text, peer_text, with_port, IsPrintedIp, IsPrintedPeer, IsIpText, IsPeerText}
 use Rattle.amt_values.proofs.Printed.{canonical_exactly}
-use Rattle.amt_values.proofs.Segments.{AllSegments-groups_of}
+use Rattle.amt_values.proofs.Segments.{AllSegments-address_segments}
 use Rattle.amt_values.proofs.V6Texts.{v6_printed}
 
 pub printed_ip : (ip : Ip) (text : List ℕ) → IsPrintedIp ip text ↔ (text ≡ ip_text ip)
 printed_ip (V4 number) text = (λ same. same, λ same. same)
-printed_ip (V6 number) text = canonical_exactly (groups_of number) (AllSegments-groups_of number) text
+printed_ip (V6 number) text = canonical_exactly (address_segments number) (AllSegments-address_segments number) text
 
 pub printed_peer : (peer : Peer) (text : List ℕ) → IsPrintedPeer peer text ↔ (text ≡ peer_text peer)
 printed_peer peer text = (

@@ -5,7 +5,7 @@ use Rattle.std.proofs.lemmas.Nat.{div-mul-add, mod-mul-add}
 use Rattle.std.specs.Int.{w128, bytes_high_first, from_be_bytes}
 use Rattle.std.specs.Net.Addr.{segments_of, octets_of}
 use Rattle.byteorder.specs.Endian.{big_number}
-use Rattle.amt_values.specs.Groups.{groups_of}
+use Rattle.amt_values.specs.Segments.{address_segments}
 use Rattle.amt_values.specs.Octets.{AreOctets}
 use Rattle.amt_values.proofs.NetworkOrder.{AreOctets-bytes_high_first, bytes_high_first-big_from, big_from-bytes_high_first}
 
@@ -51,32 +51,32 @@ octets_of-segments_of (suc half) (a ∷ b ∷ octets) len small =
 abbrev pub number_of_groups : List ℕ → ℕ
 number_of_groups groups = from_be_bytes w128 (octets_of groups)
 
-pub groups_of-number : (groups : List ℕ) → length groups ≡ 8 → AllSegments groups → groups_of (number_of_groups groups) ≡ groups
-unfolding groups_of
-groups_of-number groups eight fits =
+pub address_segments-number : (groups : List ℕ) → length groups ≡ 8 → AllSegments groups → address_segments (number_of_groups groups) ≡ groups
+unfolding address_segments
+address_segments-number groups eight fits =
     let octets = octets_of groups in
     let len : length octets ≡ 16 = omega (arith, length-octets_of groups) in
     let again = bytes_high_first-big_from 16 octets len (AreOctets-octets_of groups fits) in
     ap (λ (number : ℕ). segments_of (bytes_high_first 16 number)) (from_be_bytes-big octets)
     ∙ (ap segments_of again ∙ segments_of-octets_of groups)
 
-pub number-groups_of : (number : ℕ) → number < 2 ^ 128 → number_of_groups (groups_of number) ≡ number
-unfolding groups_of
-number-groups_of number small =
+pub number-address_segments : (number : ℕ) → number < 2 ^ 128 → number_of_groups (address_segments number) ≡ number
+unfolding address_segments
+number-address_segments number small =
     let octets = bytes_high_first 16 number in
     let again = octets_of-segments_of 8 octets refl (AreOctets-bytes_high_first 16 number) in
     from_be_bytes-big (octets_of (segments_of octets))
     ∙ (ap (big_number 16) again ∙ big_from-bytes_high_first 16 number (omega arith))
 
-pub length-groups_of : (number : ℕ) → length (groups_of number) ≡ 8
-unfolding groups_of
-length-groups_of number = refl
+pub length-address_segments : (number : ℕ) → length (address_segments number) ≡ 8
+unfolding address_segments
+length-address_segments number = refl
 
-pub AllSegments-groups_of : (number : ℕ) → AllSegments (groups_of number)
-unfolding groups_of
-AllSegments-groups_of number = AllSegments-segments_of (bytes_high_first 16 number) (AreOctets-bytes_high_first 16 number)
+pub AllSegments-address_segments : (number : ℕ) → AllSegments (address_segments number)
+unfolding address_segments
+AllSegments-address_segments number = AllSegments-segments_of (bytes_high_first 16 number) (AreOctets-bytes_high_first 16 number)
 
 -- two numbers of the same groups are the same
-pub groups_of-injective : (n m : ℕ) → n < 2 ^ 128 → m < 2 ^ 128 → groups_of n ≡ groups_of m → n ≡ m
-groups_of-injective n m small_n small_m same =
-    sym (number-groups_of n small_n) ∙ (ap number_of_groups same ∙ number-groups_of m small_m)
+pub address_segments-injective : (n m : ℕ) → n < 2 ^ 128 → m < 2 ^ 128 → address_segments n ≡ address_segments m → n ≡ m
+address_segments-injective n m small_n small_m same =
+    sym (number-address_segments n small_n) ∙ (ap number_of_groups same ∙ number-address_segments m small_m)

@@ -4,7 +4,7 @@ use Rattle.std.proofs.lemmas.Fmt.{decimal_injective}
 use Rattle.amt_values.specs.declared.address.Ip.{Ip}
 use Rattle.amt_values.specs.declared.address.Ip.TheVariants.{V4, V6}
 use Rattle.amt_values.specs.declared.peer.Peer.{Peer}
-use Rattle.amt_values.specs.Groups.{groups_of}
+use Rattle.amt_values.specs.Segments.{address_segments}
 use Rattle.amt_values.specs.Text.{IsIpText, IsPeerText}
 use Rattle.amt_values.proofs.Cuts.{Lacks, cut_once}
 use Rattle.amt_values.proofs.Dotted.{v4_injective, v4_not_lacking}
@@ -15,7 +15,7 @@ use Rattle.amt_values.proofs.V6Texts.{v6_unique}
 -- no text names addresses of both families
 pub one_family : (n m : ℕ) (text : List ℕ) → IsIpText (V4 n) text → IsIpText (V6 m) text → ⊥
 one_family n m text h k =
-    let lacks = Lacks-v6 46 (groups_of m) text (omega arith) (λ same. omega arith) k.1 in
+    let lacks = Lacks-v6 46 (address_segments m) text (omega arith) (λ same. omega arith) k.1 in
     v4_not_lacking n (subst (Lacks 46) h.1 lacks)
 
 pub IsIpText-unique : (one other : Ip) (text : List ℕ) → IsIpText one text → IsIpText other text → one ≡ other

@@ -2,7 +2,7 @@ pub mod Address
 pub mod Canonical
 pub mod Endpoint
 pub mod Group
-pub mod Groups
+pub mod Segments
 pub mod Numeral
 pub mod Octets
 pub mod Order

@@ -6,7 +6,7 @@ use Rattle.amt_values.specs.declared.address.Ip.{Ip}
 use Rattle.amt_values.specs.declared.address.Ip.TheVariants.{V4, V6}
 use Rattle.amt_values.specs.declared.peer.Peer.{Peer}
 use Rattle.amt_values.specs.Canonical.{IsCanonicalText}
-use Rattle.amt_values.specs.Groups.{groups_of, IsV6Text}
+use Rattle.amt_values.specs.Segments.{address_segments, IsV6Text}
 
 -- four decimal numbers with dots between them
 abbrev pub v4_text : ℕ → List ℕ
@@ -15,7 +15,7 @@ v4_text number = ipv4_text (to_be_bytes w32 number)
 -- groups of hexadecimal digits in lower case, the longest run of zero groups as `::`, and never a
 -- dotted tail (RFC 5952, section 4)
 abbrev pub v6_text : ℕ → List ℕ
-v6_text number = hex_groups_text (groups_of number)
+v6_text number = hex_groups_text (address_segments number)
 
 abbrev pub ip_text : Ip → List ℕ
 ip_text (V4 number) = v4_text number
@@ -24,7 +24,7 @@ ip_text (V6 number) = v6_text number
 -- the text is the one in which the address is printed; of IPv6, by the rule itself
 abbrev pub IsPrintedIp : Ip → List ℕ → Type 0
 IsPrintedIp (V4 number) text = text ≡ v4_text number
-IsPrintedIp (V6 number) text = IsCanonicalText (groups_of number) text
+IsPrintedIp (V6 number) text = IsCanonicalText (address_segments number) text
 
 -- the text names the address
 abbrev pub IsIpText : Ip → List ℕ → Type 0

@@ -1,3 +1,5 @@
+//! IP addresses, and the one number that stands for each in 16 octets. It must not know ports.
+
 ghost use Rattle.std.specs.Prelude.{◌≡◌, false};
 ghost use Rattle.amt_values.specs.Address.{is_mapped, number_of, address_at, has_ipv4_prefix};
 

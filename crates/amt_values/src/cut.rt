@@ -1,3 +1,5 @@
+//! The parts of a text around an octet. It must not know what the text is of.
+
 ghost use Rattle.std.specs.Prelude.{◌≡◌, ◌≢◌, ◌∷◌, ◌++◌, ℕ, List, All, IfSome, IfNone};
 
 /// The parts before and after the first octet `at`; none where there is no such octet.

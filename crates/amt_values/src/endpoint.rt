@@ -1,3 +1,5 @@
+//! Tunnel endpoints and their one form. It must not know messages or memberships.
+
 ghost use Rattle.std.specs.Prelude.{◌≡◌, ◌↔◌, Some, IsNone, true, false};
 
 use crate::address::{from_wire16, has_ipv4_prefix, wire16};

@@ -1,3 +1,5 @@
+//! Which multicast groups are forwarded. It must not know who wants them.
+
 ghost use Rattle.std.specs.Prelude.{◌≡◌};
 ghost use Rattle.amt_values.specs.Group.{is_forwardable};
 

@@ -1,3 +1,5 @@
+//! Points in time. It must not know a clock.
+
 ghost use Rattle.std.specs.Prelude.{◌≡◌, ◌<◌, ◌≤◌, ◌^◌, ◌↔◌, ℕ, max, IsNone, IfSome};
 
 use std::marker::Model;

@@ -1,3 +1,5 @@
+//! The other end of a UDP datagram. It must not know which peers may be endpoints.
+
 use crate::address::Ip;
 
 /// An address and a port, as a UDP socket names the other end.

@@ -1,3 +1,5 @@
+//! Addresses and peers as text. It must not know the lines that texts stand in.
+
 ghost use Rattle.std.specs.Prelude.{◌≡◌, ◌<◌, ◌^◌, ◌↔◌, ◌≢◌, ◌++◌, ℕ, List, All, IsFalse, IfOk, IfSome, Some, codes, decimal, string_bytes};
 ghost use Rattle.amt_values.specs.declared.address.Ip.{Ip as IpValue};
 ghost use Rattle.amt_values.specs.declared.address.Ip.TheVariants.{V4, V6};
@@ -21,7 +23,7 @@ fn v4_string(alloc: Global, number: u32) -> Result<String, AllocError>
 }
 
 // The groups alone: the text of std's `Ipv6Addr` has a dotted tail for mapped addresses.
-#[tactic(auto, unfolding(std::specs::Net::Addr::IsIpv6OfBits, crate::specs::Groups::groups_of))]
+#[tactic(auto, unfolding(std::specs::Net::Addr::IsIpv6OfBits, crate::specs::Segments::address_segments))]
 fn v6_string(alloc: Global, number: u128) -> Result<String, AllocError>
     ensures { IfOk result (λ text. string_bytes text ≡ v6_text number) }
 {

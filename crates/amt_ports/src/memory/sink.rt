@@ -1,3 +1,5 @@
+//! A sink in memory, for tests and callers. It must not know the real devices.
+
 ghost use Rattle.std.specs.Prelude.{◌≡◌, ◌<◌, [], length, Some, Contains, IsErr, IfOk, OnOk, OnErr};
 ghost use Rattle.std.specs.Io.{WritesAtMost};
 ghost use Rattle.std.specs.Io.KnownBytes.{WriteAppends};

@@ -1,3 +1,5 @@
+//! Sources in memory, for tests and callers. They must not know the real devices.
+
 ghost use Rattle.std.specs.Prelude.{◌≡◌, ◌↔◌, [], min, length, take, drop, Some, Ok, Contains, IsErr, IfOk, OnOk, OnErr};
 ghost use Rattle.std.specs.Io.{ReadsAtMost};
 ghost use Rattle.std.specs.Io.KnownBytes.{ReadConsumes};
@@ -48,7 +50,7 @@ impl Source for FaultlessSource {
         ensures cause { HasCause 0 0 result }
 
         ensures most { result ≡ Ok (min (length self.old) (length buf.old)) }
-        ensures behind { IfOk result (λ n. drop n buf.new ≡ drop n buf.old) }
+        ensures rest { IfOk result (λ n. drop n buf.new ≡ drop n buf.old) }
     {
         let (_, left) = self.bytes.as_slice().split_at(self.at);
         let count = fill(buf, left);
@@ -61,12 +63,12 @@ impl Source for FaultlessSource {
 fn fill(buf: &mut [u8], bytes: &[u8]) -> usize
     ensures count { result ≡ min (length bytes.now) (length buf.old) }
     ensures copied { take result buf.new ≡ take result bytes.now }
-    ensures behind { drop result buf.new ≡ drop result buf.old }
+    ensures rest { drop result buf.new ≡ drop result buf.old }
 {
     let count = bytes.len().min(buf.len());
-    let (front, _) = buf.split_at_mut(count);
+    let (prefix, _) = buf.split_at_mut(count);
     let (bytes, _) = bytes.split_at(count);
-    front.copy_from_slice(bytes);
+    prefix.copy_from_slice(bytes);
     count
 }
 
@@ -123,7 +125,7 @@ impl Source for MemSource {
         ensures cause { HasCause self.old.tally.faults self.new.tally.faults result }
 
         ensures most { IfOk result (λ n. n ≡ min (length self.old.left) (length buf.old)) }
-        ensures behind { IfOk result (λ n. drop n buf.new ≡ drop n buf.old) }
+        ensures rest { IfOk result (λ n. drop n buf.new ≡ drop n buf.old) }
         ensures untouched { OnErr result (buf.new ≡ buf.old) }
         ensures listed { IsErr result
             ↔ Contains self.old.tally.failing (next_count self.old.tally.made) }

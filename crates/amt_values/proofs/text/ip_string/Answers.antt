@@ -1,6 +1,6 @@
 use Rattle.std.proofs.Common.{◌≡◌, ℕ, ◌^◌, ◌<◌, List, Result, Ok, Err, IfOk, string_bytes, sym, subst, rules}
 use Rattle.amt_values.specs.declared.address.Ip.TheVariants.{V6}
-use Rattle.amt_values.specs.Groups.{IsV6Text}
+use Rattle.amt_values.specs.Segments.{IsV6Text}
 use Rattle.amt_values.specs.Text.{v6_text, IsIpText}
 use Rattle.amt_values.proofs.V6Texts.{v6_printed}
 use Rattle.amt_values.proofs.text.ip_string.Goals as goal

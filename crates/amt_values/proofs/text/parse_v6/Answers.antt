@@ -1,6 +1,6 @@
 use Rattle.std.proofs.Common.{◌≡◌, ℕ, length, Some, sym, subst, ap, ◌∙◌, arith, rules, Fits, get_or, w16}
 use Rattle.std.proofs.NetLemmas.Texts.{AllSegments}
-use Rattle.amt_values.specs.Groups.{groups_of, IsV6Text}
+use Rattle.amt_values.specs.Segments.{address_segments, IsV6Text}
 use Rattle.amt_values.proofs.Cuts.{Lacks}
 use Rattle.amt_values.proofs.Joined.{Lacks-v6}
 use Rattle.amt_values.proofs.V6Texts.{v6_found, v6_only, v6_none}
@@ -8,7 +8,7 @@ use Rattle.amt_values.proofs.text.parse_v6.Goals as goal
 
 pub returns-then-has_dot-clause-only : goal.returns-then-has_dot-clause-only
 returns-then-has_dot-clause-only c = λ number names.
-    let lacks : Lacks 46 c.args.text.now = Lacks-v6 46 (groups_of number) c.args.text.now (omega arith) (λ same. omega arith) names.1 in
+    let lacks : Lacks 46 c.args.text.now = Lacks-v6 46 (address_segments number) c.args.text.now (omega arith) (λ same. omega arith) names.1 in
     let none = c.has_dot.ensures.1 lacks in
     absurd (cc (none, c.if-has_dot.true))
 
