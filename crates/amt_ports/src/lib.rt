@@ -15,7 +15,7 @@ mod source;
 mod tally;
 mod writing;
 
-pub use adapters::{ReaderSource, WriterSink};
+pub use adapters::{Adapted, ReaderSource, WriterSink};
 pub use fault::Failed;
 pub use memory::{FaultlessSource, MemSink, MemSource};
 pub use reading::{READ_SIZE, ReadAllFault, read_all};

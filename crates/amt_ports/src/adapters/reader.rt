@@ -6,42 +6,15 @@ ghost use Rattle.std.specs.IoError.{error_kind};
 ghost use Rattle.std.specs.Io.KnownBytes.{ReadConsumes};
 ghost use Rattle.amt_ports.specs.Causes.{HasCause, next_count};
 
+use crate::adapters::adapted::Adapted;
 use crate::fault::count_fault;
 use crate::{Failed, Source};
 use std::io::{self, ErrorKind, Read};
-use std::marker::Model;
 
 /// A std reader as a source. It tells what the reader tells, so standard input tells nothing.
-#[derive(Debug, Drop)]
-pub struct ReaderSource<R> {
-    reader: R,
-    faults: u64,
-}
+pub type ReaderSource<R> = Adapted<R>;
 
-impl<R> Model for ReaderSource<R> {
-    ghost use Rattle.amt_ports.specs.AdaptedDevice.{AdaptedDevice};
-
-    ghost Value = { AdaptedDevice R };
-
-    ghost view = { λ s. record { device = s.reader; faults = s.faults } };
-}
-
-impl<R: Read + Drop> ReaderSource<R> {
-    pub fn new(reader: R) -> Self
-        ensures device { result.device ≡ reader }
-        ensures faults { result.faults ≡ 0 }
-    {
-        ReaderSource { reader, faults: 0 }
-    }
-
-    pub fn faults(&self) -> u64
-        ensures { result ≡ self.now.faults }
-    {
-        self.faults
-    }
-}
-
-impl<R: Read + Drop> Source for ReaderSource<R> {
+impl<R: Read + Drop> Source for Adapted<R> {
     ghost left = { λ s. R.remaining s.device };
 
     ghost faults = { λ s. s.faults };
@@ -55,7 +28,7 @@ impl<R: Read + Drop> Source for ReaderSource<R> {
         ensures ok { OnOk result (self.new.faults ≡ self.old.faults) }
         ensures err { OnErr result (self.new.faults ≡ next_count self.old.faults) }
     {
-        match read_uninterrupted(&mut self.reader, buf) {
+        match read_uninterrupted(&mut self.device, buf) {
             Ok(count) => Ok(count),
             Err(_) => Err(count_fault(&mut self.faults)),
         }

@@ -6,42 +6,15 @@ ghost use Rattle.std.specs.IoError.{error_kind};
 ghost use Rattle.std.specs.Io.KnownBytes.{WriteAppends};
 ghost use Rattle.amt_ports.specs.Causes.{HasCause, next_count};
 
+use crate::adapters::adapted::Adapted;
 use crate::fault::count_fault;
 use crate::{Failed, Sink};
 use std::io::{self, ErrorKind, Write};
-use std::marker::Model;
 
 /// A std writer as a sink. It tells what the writer tells, and never flushes.
-#[derive(Debug, Drop)]
-pub struct WriterSink<W> {
-    writer: W,
-    faults: u64,
-}
+pub type WriterSink<W> = Adapted<W>;
 
-impl<W> Model for WriterSink<W> {
-    ghost use Rattle.amt_ports.specs.AdaptedDevice.{AdaptedDevice};
-
-    ghost Value = { AdaptedDevice W };
-
-    ghost view = { λ s. record { device = s.writer; faults = s.faults } };
-}
-
-impl<W: Write + Drop> WriterSink<W> {
-    pub fn new(writer: W) -> Self
-        ensures device { result.device ≡ writer }
-        ensures faults { result.faults ≡ 0 }
-    {
-        WriterSink { writer, faults: 0 }
-    }
-
-    pub fn faults(&self) -> u64
-        ensures { result ≡ self.now.faults }
-    {
-        self.faults
-    }
-}
-
-impl<W: Write + Drop> Sink for WriterSink<W> {
+impl<W: Write + Drop> Sink for Adapted<W> {
     ghost written = { λ s. W.contents s.device };
 
     ghost faults = { λ s. s.faults };
@@ -57,7 +30,7 @@ impl<W: Write + Drop> Sink for WriterSink<W> {
         ensures ok { OnOk result (self.new.faults ≡ self.old.faults) }
         ensures err { OnErr result (self.new.faults ≡ next_count self.old.faults) }
     {
-        match write_uninterrupted(&mut self.writer, piece) {
+        match write_uninterrupted(&mut self.device, piece) {
             Ok(count) if count > 0 || piece.is_empty() => Ok(count),
             _ => Err(count_fault(&mut self.faults)),
         }
