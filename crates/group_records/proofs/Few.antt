@@ -48,7 +48,7 @@ known_records-few family index (suc count) bytes none =
     let left = drop (record_length family bytes) bytes in
     let later = known_records-few family (suc index) count left both.1 in
     let first = carried_at-few family bytes in
-    let behind = length-drop (record_length family bytes) bytes in
+    let after = length-drop (record_length family bytes) bytes in
     let all = item_count-append (known_record family (carried_at family bytes)) (known_records family (all_carried_at family count left)) in omega arith
 
 read-few : (family : Family) (pseudo_header payload : List ℕ) (records : List Record) → report_of family pseudo_header payload ≡ Ok records
@@ -58,7 +58,7 @@ read-few family pseudo_header payload records same =
     let read = reading_by-ok (first_report_fault family pseudo_header payload) _ records same in
     let both = fault_or-none (report_head_fault family pseudo_header payload) _ read.0 in
     let few = known_records-few family 0 (big_number 2 (drop 6 payload)) (drop 8 payload) both.1 in
-    let behind = length-drop 8 payload in
+    let after = length-drop 8 payload in
     let fits : item_count (known_records family (all_carried_at family (big_number 2 (drop 6 payload)) (drop 8 payload))) ≤ length payload = omega arith in
     subst (λ (all : List Record). item_count all ≤ length payload) read.1 fits
 

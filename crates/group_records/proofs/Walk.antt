@@ -25,28 +25,28 @@ pub first_record_fault-spelled : (family : Family) (index : ℕ) (carried : List
 first_record_fault-spelled family index [] rest lawful = refl
 first_record_fault-spelled family index (first ∷ others) rest lawful =
     let here = All-head (IsCarried family) first others lawful in
-    let behind = flat_map (carried_octets family) others ++ rest in
+    let after = flat_map (carried_octets family) others ++ rest in
     let apart = append_assoc (carried_octets family first) (flat_map (carried_octets family) others) rest in
     let later = first_record_fault-spelled family (suc index) others rest (All-tail (IsCarried family) first others lawful) in
     let IsUnfaulted : List ℕ → Type 0 = λ (xs : List ℕ). first_record_fault family index (suc (length others)) xs ≡ None in
     let AreUnfaulted : List ℕ → Type 0 = λ (xs : List ℕ). first_record_fault family (suc index) (length others) xs ≡ None in
     subst IsUnfaulted (sym apart)
-    (fault_or-both _ _ (record_fault-spelled family index first behind here)
-    (subst AreUnfaulted (sym (past_record family first behind here)) later))
+    (fault_or-both _ _ (record_fault-spelled family index first after here)
+    (subst AreUnfaulted (sym (past_record family first after here)) later))
 
 pub all_carried_at-spelled : (family : Family) (carried : List Carried) (rest : List ℕ) → All (IsCarried family) carried
     → all_carried_at family (length carried) (flat_map (carried_octets family) carried ++ rest) ≡ carried
 all_carried_at-spelled family [] rest lawful = refl
 all_carried_at-spelled family (first ∷ others) rest lawful =
     let here = All-head (IsCarried family) first others lawful in
-    let behind = flat_map (carried_octets family) others ++ rest in
+    let after = flat_map (carried_octets family) others ++ rest in
     let apart = append_assoc (carried_octets family first) (flat_map (carried_octets family) others) rest in
     let later = all_carried_at-spelled family others rest (All-tail (IsCarried family) first others lawful) in
     ap (λ (xs : List ℕ). all_carried_at family (suc (length others)) xs) apart
-    ∙ (ap (λ (xs : List ℕ). carried_at family (carried_octets family first ++ behind) ∷ all_carried_at family (length others) xs)
-    (past_record family first behind here)
-    ∙ (ap (λ (xs : List Carried). carried_at family (carried_octets family first ++ behind) ∷ xs) later
-    ∙ ap (λ (x : Carried). x ∷ others) (carried_at-spelled family first behind here)))
+    ∙ (ap (λ (xs : List ℕ). carried_at family (carried_octets family first ++ after) ∷ all_carried_at family (length others) xs)
+    (past_record family first after here)
+    ∙ (ap (λ (xs : List Carried). carried_at family (carried_octets family first ++ after) ∷ xs) later
+    ∙ ap (λ (x : Carried). x ∷ others) (carried_at-spelled family first after here)))
 
 pub AreRecords-read : (family : Family) (index count : ℕ) (bytes : List ℕ) → AreOctets bytes → first_record_fault family index count bytes ≡ None
     → AreRecords family count (known_records family (all_carried_at family count bytes)) bytes

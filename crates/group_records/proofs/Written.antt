@@ -99,12 +99,12 @@ written_record-carried family group_record of_family =
     let count = length-map group_record.sources number_of in
     let group = octets-of_family family group_record.group of_family.group in
     let sources = sources-octets family group_record.sources of_family.sources in
-    let behind = flat_map (big_bytes (width family)) (map number_of group_record.sources) in
+    let after = flat_map (big_bytes (width family)) (map number_of group_record.sources) in
     let first = big_bytes (width family) (number_of group_record.group) in
     ap (λ (xs : List ℕ). (kind ∷ 0 ∷ big_bytes 2 (length group_record.sources) ++ xs) ++ flat_map address_octets group_record.sources) group
     ∙ (ap (λ (xs : List ℕ). (kind ∷ 0 ∷ big_bytes 2 (length group_record.sources) ++ first) ++ xs) sources
-    ∙ (ap (λ (n : ℕ). (kind ∷ 0 ∷ big_bytes 2 n ++ first) ++ behind) (sym count)
-    ∙ sym (append-nil ((kind ∷ 0 ∷ big_bytes 2 (length (map number_of group_record.sources)) ++ first) ++ behind))))
+    ∙ (ap (λ (n : ℕ). (kind ∷ 0 ∷ big_bytes 2 n ++ first) ++ after) (sym count)
+    ∙ sym (append-nil ((kind ∷ 0 ∷ big_bytes 2 (length (map number_of group_record.sources)) ++ first) ++ after))))
 
 kind_of-kind_number : (kind : RecordKind) → kind_of (kind_number kind) ≡ Some kind
 kind_of-kind_number IsIn = refl

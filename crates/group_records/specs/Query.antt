@@ -18,9 +18,9 @@ query_type V4 = 0x11
 query_type V6 = 0x82
 
 -- the octets before the group
-abbrev pub group_place : Family → ℕ
-group_place V4 = 4
-group_place V6 = 8
+abbrev pub group_offset : Family → ℕ
+group_offset V4 = 4
+group_offset V6 = 8
 
 -- the time within which a listener answers, as its code
 abbrev pub max_code_of : Family → List ℕ → ℕ
@@ -28,15 +28,15 @@ max_code_of V4 payload = slice_index payload 1
 max_code_of V6 payload = big_number 2 (drop 4 payload)
 
 abbrev pub group_number : Family → List ℕ → ℕ
-group_number family payload = big_number (width family) (drop (group_place family) payload)
+group_number family payload = big_number (width family) (drop (group_offset family) payload)
 
 -- what follows the group: four reserved bits, the flag S and the robustness variable of three bits,
 -- the interval's code, the number of sources, and the sources
-abbrev pub behind_group : Family → List ℕ → List ℕ
-behind_group family payload = drop (group_place family + width family) payload
+abbrev pub after_group : Family → List ℕ → List ℕ
+after_group family payload = drop (group_offset family + width family) payload
 
 abbrev pub query_flags : Family → List ℕ → ℕ
-query_flags family payload = slice_index (behind_group family payload) 0
+query_flags family payload = slice_index (after_group family payload) 0
 
 -- of those flags the robustness variable, and whether S is set
 abbrev pub robustness_in : ℕ → ℕ
@@ -46,11 +46,11 @@ abbrev pub suppresses : ℕ → Bool
 suppresses flags = flags / 8 % 2 == 1
 
 abbrev pub asked_sources : Family → List ℕ → ℕ
-asked_sources family payload = big_number 2 (drop 2 (behind_group family payload))
+asked_sources family payload = big_number 2 (drop 2 (after_group family payload))
 
 -- the octets of a query without sources
 abbrev pub query_least : Family → ℕ
-query_least family = group_place family + width family + 4
+query_least family = group_offset family + width family + 4
 
 -- and with as many as the payload states
 abbrev pub query_length : Family → List ℕ → ℕ
@@ -66,7 +66,7 @@ pub record IsQuery (family : Family) (pseudo_header : List ℕ) (query : QueryRe
   pub group : address_in family (group_number family payload) ≡ query.group
   pub suppress : suppresses (query_flags family payload) ≡ query.suppress
   pub robustness : robustness_in (query_flags family payload) ≡ query.fields.robustness
-  pub interval_code : slice_index (behind_group family payload) 1 ≡ query.fields.interval_code
+  pub interval_code : slice_index (after_group family payload) 1 ≡ query.fields.interval_code
   pub sources : asked_sources family payload ≡ query.sources
 
 -- that query
@@ -75,7 +75,7 @@ query_at family payload = record {
   fields = record {
     max_code = max_code_of family payload;
     robustness = robustness_in (query_flags family payload);
-    interval_code = slice_index (behind_group family payload) 1;
+    interval_code = slice_index (after_group family payload) 1;
   };
   suppress = suppresses (query_flags family payload);
   group = address_in family (group_number family payload);

@@ -1,3 +1,5 @@
+//! The codes of times, both ways. It must not know in which field a code stands.
+
 ghost use Rattle.std.specs.Prelude.{◌≡◌, ◌<◌, ◌≤◌, ◌^◌, ℕ, IfSome, Some};
 ghost use Rattle.group_records.specs.Code.{code_count, code_value, code_with, mantissa_bits, mantissa_of};
 

@@ -1,3 +1,5 @@
+//! What the two address families differ in. It must not know what a message says.
+
 ghost use Rattle.std.specs.Prelude.{◌≡◌, ◌≤◌, length};
 ghost use Rattle.byteorder.specs.Endian.{big_number};
 ghost use Rattle.group_records.specs.Family.{address_in, is_old_report, report_type, width};

@@ -1,3 +1,5 @@
+//! A General Query is written here. It must not know how a query is read.
+
 ghost use Rattle.std.specs.Prelude.{◌≡◌, ◌≤◌, ◌%◌, ◌∷◌, ◌++◌, [], length, IfOk};
 ghost use Rattle.byteorder.specs.Endian.{big_bytes};
 ghost use Rattle.group_records.specs.declared.family.Family.TheVariants.{V4, V6};

@@ -1,7 +1,9 @@
+//! A query is read here. It must not know what is answered to one.
+
 ghost use Rattle.std.specs.Prelude.{◌≡◌, ◌≤◌, ◌%◌, length, IfOk, IfErr, Ok, Err, MatchResult, None, Some};
 ghost use Rattle.source_filter.specs.declared.query.QueryRead.{QueryRead as QueryReadValue};
 ghost use Rattle.source_filter.specs.declared.fault.ReportFault.{ReportFault as ReportFaultValue};
-ghost use Rattle.group_records.specs.Query.{IsQuery, IsQueryFault, first_query_fault, group_place, max_code_of, query_at, query_of, query_least, query_length, query_type, robustness_in, sources_fault, suppresses};
+ghost use Rattle.group_records.specs.Query.{IsQuery, IsQueryFault, first_query_fault, group_offset, max_code_of, query_at, query_of, query_least, query_length, query_type, robustness_in, sources_fault, suppresses};
 
 use crate::family::{Family, address_at, width};
 use crate::record::source_count;
@@ -19,8 +21,8 @@ pub fn query_type(family: Family) -> u8
     }
 }
 
-fn group_place(family: Family) -> usize
-    ensures value { result ≡ group_place family }
+fn group_offset(family: Family) -> usize
+    ensures value { result ≡ group_offset family }
     ensures most { result ≤ 8 }
 {
     match family {
@@ -33,7 +35,7 @@ fn query_least(family: Family) -> usize
     ensures value { result ≡ query_least family }
     ensures most { result ≤ 28 }
 {
-    group_place(family) + width(family) + 4
+    group_offset(family) + width(family) + 4
 }
 
 fn max_code_at(family: Family, payload: &[u8]) -> u16
@@ -65,18 +67,18 @@ fn query_at(family: Family, payload: &[u8]) -> QueryRead
     requires { query_least family ≤ length payload.now }
     ensures { result ≡ query_at family payload.now }
 {
-    let (_, group) = payload.split_at(group_place(family));
-    let (_, behind_group) = payload.split_at(group_place(family) + width(family));
-    let flags = behind_group[0];
+    let (_, group) = payload.split_at(group_offset(family));
+    let (_, after_group) = payload.split_at(group_offset(family) + width(family));
+    let flags = after_group[0];
     QueryRead {
         fields: QueryFields {
             max_code: max_code_at(family, payload),
             robustness: robustness_in(flags),
-            interval_code: behind_group[1],
+            interval_code: after_group[1],
         },
         suppress: suppresses(flags),
         group: address_at(family, group),
-        sources: source_count(behind_group),
+        sources: source_count(after_group),
     }
 }
 
@@ -85,8 +87,8 @@ fn query_length(family: Family, payload: &[u8]) -> usize
     requires { query_least family ≤ length payload.now }
     ensures { result ≡ query_length family payload.now }
 {
-    let (_, behind_group) = payload.split_at(group_place(family) + width(family));
-    query_least(family) + usize::from(source_count(behind_group)) * width(family)
+    let (_, after_group) = payload.split_at(group_offset(family) + width(family));
+    query_least(family) + usize::from(source_count(after_group)) * width(family)
 }
 
 fn sources_fault(family: Family, payload: &[u8]) -> Option<ReportFault>

@@ -1,3 +1,5 @@
+//! One group record is read here. It must not know the report's head or its sum.
+
 ghost use Rattle.std.specs.Prelude.{◌≡◌, ◌≤◌, ◌*◌, ◌++◌, length, map, slice_index, is_some, true, IfOk, OnOk, OnErr};
 ghost use Rattle.group_records.specs.Family.{address_in, kind_of, width};
 ghost use Rattle.group_records.specs.Carried.{known_record};

@@ -1,3 +1,5 @@
+//! A membership report is read here. It must not know the datagram that carries it.
+
 ghost use Rattle.std.specs.Prelude.{◌≡◌, ◌↔◌, ◌≤◌, ◌%◌, List, length, drop, IfOk, Ok, Err, MatchResult, None, Some, true};
 ghost use Rattle.source_filter.specs.Record.{item_count};
 ghost use Rattle.source_filter.specs.declared.record.Record.{Record as RecordValue};
@@ -36,11 +38,11 @@ pub fn sum_fault(pseudo_header: &[u8], payload: &[u8]) -> Option<ReportFault>
     if internet_sum_around(pseudo_header, &[], payload) == 0 {
         return None;
     }
-    let (front, field_and_back) = payload.split_at(2);
-    let (_, back) = field_and_back.split_at(2);
+    let (prefix, field_and_suffix) = payload.split_at(2);
+    let (_, suffix) = field_and_suffix.split_at(2);
     Some(ReportFault::Sum(
-        internet_sum_around(pseudo_header, front, back),
-        BigEndian::read_u16(field_and_back),
+        internet_sum_around(pseudo_header, prefix, suffix),
+        BigEndian::read_u16(field_and_suffix),
     ))
 }
 

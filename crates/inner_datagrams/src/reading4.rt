@@ -1,9 +1,12 @@
-ghost use Rattle.std.specs.Prelude.{◌≡◌, ◌≤◌, ◌∷◌, ◌++◌, [], length, IfOk};
-ghost use Rattle.inner_datagrams.specs.Fault.{faults4, first_holding, fragment, header_faults, header_length_faults, length_faults, other_protocol, wrong_header_sum, wrong_total};
-ghost use Rattle.inner_datagrams.specs.Header.{header_octets};
-ghost use Rattle.inner_datagrams.specs.Reading.{inner4_at, parts4, unless};
+//! The header of an IPv4 datagram is read here. It must not know IPv6 or the payload.
 
-use crate::checksum::{expected_sum, is_right};
+ghost use Rattle.std.specs.Prelude.{◌≡◌, ◌≤◌, ◌∷◌, ◌++◌, [], length, IfOk};
+ghost use Rattle.contract_words.specs.Conditions.{first_holding, unless};
+ghost use Rattle.inner_datagrams.specs.Fault.{faults4, fragment, header_faults, header_length_faults, length_faults, other_protocol, wrong_header_sum, wrong_total};
+ghost use Rattle.inner_datagrams.specs.Header.{header_octets};
+ghost use Rattle.inner_datagrams.specs.Reading.{inner4_at, parts4};
+
+use crate::checksum::{expected_sum, has_right_sum};
 use crate::fields::{number_at, short_at};
 use crate::inner::{Inner, InnerFault};
 use amt_values::{INPUT_LIMIT, Ip};
@@ -69,7 +72,7 @@ fn sum_fault(bytes: &[u8], end: usize) -> Option<InnerFault>
     ensures { result ≡ first_holding (wrong_header_sum bytes.now ∷ []) }
 {
     let (header, _) = bytes.split_at(end);
-    if is_right(header) {
+    if has_right_sum(header) {
         return None;
     }
     let want = expected_sum(header);

@@ -1,3 +1,5 @@
+//! The pseudo-header of an MLD message. It must not know the message.
+
 ghost use Rattle.std.specs.Prelude.{◌≡◌};
 ghost use Rattle.mld_records.specs.PseudoHeader.{pseudo_header};
 

@@ -16,12 +16,12 @@ loop-index-preserved c =
     let left = c.loop-index.left.now in
     let rest = c.split_at.result.1.now in
     let none : record_fault c.args.family c.loop-index.index left ≡ None = search rules in
-    let behind : rest ≡ drop (record_length c.args.family left) left = c.split_at.ensures.back ∙ ap (λ (n : ℕ). drop n left) c.record_length.ensures in
-    let known = known_step c.args.family c.args.count c.loop-index.index c.loop-index.records _ left rest c.loop-index-test.true behind c.loop-index.invariant.known in
+    let after : rest ≡ drop (record_length c.args.family left) left = c.split_at.ensures.back ∙ ap (λ (n : ℕ). drop n left) c.record_length.ensures in
+    let known = known_step c.args.family c.args.count c.loop-index.index c.loop-index.records _ left rest c.loop-index-test.true after c.loop-index.invariant.known in
     let whole = whole_record c.args.family c.loop-index.index left none in
     record {
-      asks = λ later. c.loop-index.invariant.asks (asks_later c.args.family c.args.count c.loop-index.index left rest c.loop-index-test.true whole behind later);
-      fault = fault_step c.args.family c.args.count c.loop-index.index left rest _ c.loop-index-test.true none behind c.loop-index.invariant.fault;
+      asks = λ later. c.loop-index.invariant.asks (asks_later c.args.family c.args.count c.loop-index.index left rest c.loop-index-test.true whole after later);
+      fault = fault_step c.args.family c.args.count c.loop-index.index left rest _ c.loop-index-test.true none after c.loop-index.invariant.fault;
       known = rw c.in-Ok.ensures.kept known;
     }
 
