@@ -1,9 +1,11 @@
 -- A report names no more records and sources than it has octets.
-use Rattle.std.proofs.Common.{◌≡◌, ℕ, zero, suc, ◌+◌, ◌*◌, ◌≤◌, List, ◌++◌, length, length-append, length-drop, drop, Option, Some, None, Result, Ok, Err, subst, arith}
+use Rattle.std.proofs.Common.{◌≡◌, ℕ, zero, suc, ◌+◌, ◌*◌, ◌≤◌, List, ◌++◌, length, length-append, length-drop, drop, Option, Some, None, Result, Ok, Err, sym, subst, arith}
 use Rattle.std.proofs.lemmas.List.{length-map}
 use Rattle.std.proofs.lemmas.List.Sums.{sum_by-append}
 use Rattle.std.specs.Result.{IfOk}
 use Rattle.byteorder.specs.Endian.{big_number}
+use Rattle.contract_words.specs.Conditions.{first_holding}
+use Rattle.contract_words.proofs.ConditionLaws.{first_holding-both_none, unless-ok}
 use Rattle.source_filter.specs.declared.record.Record.{Record}
 use Rattle.source_filter.specs.declared.record.RecordKind.{RecordKind}
 use Rattle.source_filter.specs.declared.fault.ReadFault.{ReadFault}
@@ -12,11 +14,10 @@ use Rattle.group_records.specs.declared.family.Family.{Family}
 use Rattle.group_records.specs.declared.family.Family.TheVariants.{V4, V6}
 use Rattle.group_records.specs.Carried.{Carried, known_by, known_record, known_records}
 use Rattle.group_records.specs.Family.{address_in, kind_of, width}
-use Rattle.group_records.specs.Reading.{Gives, all_carried_at, carried_at, first_record_fault, first_report_fault, head_length, record_fault, record_length, report_head_fault, report_of, source_count}
-use Rattle.group_records.proofs.Answered.{reading_by-ok}
+use Rattle.group_records.specs.Reading.{Gives, all_carried_at, all_record_faults, carried_at, first_report_fault, head_length, record_count, record_faults, record_length, records_in, report_head_faults, report_of, source_count}
 use Rattle.group_records.proofs.Numbers.{length-numbers_at}
 use Rattle.group_records.proofs.Spelled.{whole_record}
-use Rattle.group_records.proofs.Walk.{fault_or-none}
+use Rattle.group_records.proofs.Walk.{later_faults}
 
 item_count-append : (some others : List Record) → item_count (some ++ others) ≡ item_count some + item_count others
 item_count-append some others =
@@ -39,11 +40,11 @@ carried_at-few family bytes =
     let count = length-numbers_at (width family) (source_count bytes) (drop (head_length family) bytes) in
     let some = width-some family (source_count bytes) in omega arith
 
-known_records-few : (family : Family) (index count : ℕ) (bytes : List ℕ) → first_record_fault family index count bytes ≡ None
+known_records-few : (family : Family) (index count : ℕ) (bytes : List ℕ) → first_holding (all_record_faults family index count bytes) ≡ None
     → item_count (known_records family (all_carried_at family count bytes)) ≤ length bytes
 known_records-few family index zero bytes none = omega arith
 known_records-few family index (suc count) bytes none =
-    let both = fault_or-none (record_fault family index bytes) _ none in
+    let both = first_holding-both_none (record_faults family index bytes) (later_faults family index count bytes) none in
     let whole = whole_record family index bytes both.0 in
     let left = drop (record_length family bytes) bytes in
     let later = known_records-few family (suc index) count left both.1 in
@@ -55,12 +56,12 @@ read-few : (family : Family) (pseudo_header payload : List ℕ) (records : List 
     → item_count records ≤ length payload
 unfolding first_report_fault report_of
 read-few family pseudo_header payload records same =
-    let read = reading_by-ok (first_report_fault family pseudo_header payload) _ records same in
-    let both = fault_or-none (report_head_fault family pseudo_header payload) _ read.0 in
-    let few = known_records-few family 0 (big_number 2 (drop 6 payload)) (drop 8 payload) both.1 in
+    let read = unless-ok (first_report_fault family pseudo_header payload) (records_in family payload) records (sym same) in
+    let both = first_holding-both_none (report_head_faults family pseudo_header payload) (all_record_faults family 0 (record_count payload) (drop 8 payload)) read.0 in
+    let few = known_records-few family 0 (record_count payload) (drop 8 payload) both.1 in
     let after = length-drop 8 payload in
-    let fits : item_count (known_records family (all_carried_at family (big_number 2 (drop 6 payload)) (drop 8 payload))) ≤ length payload = omega arith in
-    subst (λ (all : List Record). item_count all ≤ length payload) read.1 fits
+    let fits : item_count (records_in family payload) ≤ length payload = omega arith in
+    subst (λ (all : List Record). item_count all ≤ length payload) (sym read.1) fits
 
 pub answer_few : (family : Family) (pseudo_header payload : List ℕ) (answer : Result (List Record) ReadFault)
     → Gives answer (report_of family pseudo_header payload) → IfOk answer (λ records. item_count records ≤ length payload)

@@ -7,12 +7,14 @@ use Rattle.byteorder.specs.Endian.{big_number, big_bytes}
 use Rattle.byteorder.specs.Numbers.{big_from-lt, big_number-reads_back, length-bytes_high_first}
 use Rattle.amt_values.specs.Octets.{AreOctets}
 use Rattle.amt_values.proofs.NetworkOrder.{AreOctets-drop, AreOctets-take, bytes_high_first-take}
+use Rattle.contract_words.specs.Conditions.{first_holding}
+use Rattle.contract_words.proofs.ConditionLaws.{NoneHolds-of, first_holding-none}
 use Rattle.source_filter.specs.declared.fault.ReportFault.{ReportFault}
 use Rattle.source_filter.specs.declared.fault.ReportFault.TheVariants.{RecordShort, SourceShort}
 use Rattle.group_records.specs.declared.family.Family.{Family}
 use Rattle.group_records.specs.Carried.{Carried, IsCarried, carried_octets}
 use Rattle.group_records.specs.Family.{width}
-use Rattle.group_records.specs.Reading.{carried_at, head_length, numbers_at, record_fault, record_length, source_count}
+use Rattle.group_records.specs.Reading.{carried_at, head_length, numbers_at, record_faults, record_length, source_count}
 use Rattle.group_records.proofs.Numbers.{drop-past, take-part, length-numbers_at, length-spelled_numbers, numbers_at-fit, numbers_at-spelled, spelled-numbers_at}
 
 same_carried : (one other : Carried) → one.kind ≡ other.kind → one.group ≡ other.group → one.sources ≡ other.sources
@@ -94,30 +96,25 @@ pub past_record : (family : Family) (carried : Carried) (rest : List ℕ) → Is
 past_record family carried rest lawful =
     drop-past _ (carried_octets family carried) rest (length-carried_octets family carried rest lawful)
 
--- a record that is there in full is no fault
-pub record_fault-none : (family : Family) (index : ℕ) (bytes : List ℕ) → record_length family bytes ≤ length bytes → record_fault family index bytes ≡ None
-record_fault-none family index bytes whole =
+-- a record that is there in full has no fault
+pub record_faults-none : (family : Family) (index : ℕ) (bytes : List ℕ) → record_length family bytes ≤ length bytes
+    → first_holding (record_faults family index bytes) ≡ None
+record_faults-none family index bytes whole =
     let head = le-ltb (length bytes) (head_length family) (omega arith) in
     let all = le-ltb (length bytes) (record_length family bytes) whole in
-    rw (head, all) refl
+    first_holding-none (record_faults family index bytes) (head, (all, tt))
 
-pub record_fault-spelled : (family : Family) (index : ℕ) (carried : Carried) (rest : List ℕ) → IsCarried family carried
-    → record_fault family index (carried_octets family carried ++ rest) ≡ None
-record_fault-spelled family index carried rest lawful =
+pub record_faults-spelled : (family : Family) (index : ℕ) (carried : Carried) (rest : List ℕ) → IsCarried family carried
+    → first_holding (record_faults family index (carried_octets family carried ++ rest)) ≡ None
+record_faults-spelled family index carried rest lawful =
     let same = length-carried_octets family carried rest lawful in
     let both = length-append (carried_octets family carried) rest in
-    record_fault-none family index (carried_octets family carried ++ rest) (omega arith)
-
-pub untaken : (test : Bool) (fault : ReportFault) (later : Option ReportFault) → cond test (Some fault) later ≡ None → (test ≡ false) × (later ≡ None)
-untaken true fault later same = cc
-untaken false fault later same = (refl, same)
+    record_faults-none family index (carried_octets family carried ++ rest) (omega arith)
 
 -- where no fault is, the record is there in full
-pub whole_record : (family : Family) (index : ℕ) (bytes : List ℕ) → record_fault family index bytes ≡ None → record_length family bytes ≤ length bytes
+pub whole_record : (family : Family) (index : ℕ) (bytes : List ℕ) → first_holding (record_faults family index bytes) ≡ None → record_length family bytes ≤ length bytes
 whole_record family index bytes none =
-    let past_head = untaken (ltb (length bytes) (head_length family)) (RecordShort index) _ none in
-    let past_all = untaken (ltb (length bytes) (record_length family bytes)) (SourceShort index) None past_head.1 in
-    ltb-false (length bytes) (record_length family bytes) past_all.0
+    let all = NoneHolds-of (record_faults family index bytes) none in ltb-false (length bytes) (record_length family bytes) all.1.0
 
 -- the first two octets, and the rest
 first_two : (bytes : List ℕ) → 2 ≤ length bytes → bytes ≡ slice_index bytes 0 ∷ slice_index bytes 1 ∷ drop 2 bytes

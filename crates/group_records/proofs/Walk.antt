@@ -4,35 +4,34 @@ use Rattle.std.proofs.lemmas.List.Elements.{All-cons, All-head, All-tail}
 use Rattle.std.specs.List.{All, flat_map}
 use Rattle.amt_values.specs.Octets.{AreOctets}
 use Rattle.amt_values.proofs.NetworkOrder.{AreOctets-drop}
+use Rattle.contract_words.specs.Conditions.{Conditions, first_holding}
+use Rattle.contract_words.proofs.ConditionLaws.{first_holding-both_none, first_holding-later}
 use Rattle.source_filter.specs.declared.record.Record.{Record}
 use Rattle.source_filter.specs.declared.fault.ReportFault.{ReportFault}
 use Rattle.group_records.specs.declared.family.Family.{Family}
 use Rattle.group_records.specs.Carried.{Carried, IsCarried, carried_octets, known_record, known_records}
 use Rattle.group_records.specs.Report.{AreRecords}
-use Rattle.group_records.specs.Reading.{all_carried_at, carried_at, fault_or, first_record_fault, record_fault, record_length}
-use Rattle.group_records.proofs.Spelled.{carried_at-lawful, carried_at-spelled, past_record, record_fault-spelled, spelled-carried_at, whole_record}
+use Rattle.group_records.specs.Reading.{all_carried_at, all_record_faults, carried_at, record_faults, record_length}
+use Rattle.group_records.proofs.Spelled.{carried_at-lawful, carried_at-spelled, past_record, record_faults-spelled, spelled-carried_at, whole_record}
 
-pub fault_or-none : (first later : Option ReportFault) → fault_or first later ≡ None → (first ≡ None) × (later ≡ None)
-fault_or-none None later none = (refl, none)
-fault_or-none (Some fault) later none = cc
+-- what is wrong with the records after the one at the head
+abbrev pub later_faults : Family → ℕ → ℕ → List ℕ → Conditions ReportFault
+later_faults family index count bytes = all_record_faults family (suc index) count (drop (record_length family bytes) bytes)
 
-fault_or-both : (first later : Option ReportFault) → first ≡ None → later ≡ None → fault_or first later ≡ None
-fault_or-both None later none late = late
-fault_or-both (Some fault) later none late = cc
-
-pub first_record_fault-spelled : (family : Family) (index : ℕ) (carried : List Carried) (rest : List ℕ) → All (IsCarried family) carried
-    → first_record_fault family index (length carried) (flat_map (carried_octets family) carried ++ rest) ≡ None
-first_record_fault-spelled family index [] rest lawful = refl
-first_record_fault-spelled family index (first ∷ others) rest lawful =
+pub all_record_faults-spelled : (family : Family) (index : ℕ) (carried : List Carried) (rest : List ℕ) → All (IsCarried family) carried
+    → first_holding (all_record_faults family index (length carried) (flat_map (carried_octets family) carried ++ rest)) ≡ None
+all_record_faults-spelled family index [] rest lawful = refl
+all_record_faults-spelled family index (first ∷ others) rest lawful =
     let here = All-head (IsCarried family) first others lawful in
     let after = flat_map (carried_octets family) others ++ rest in
     let apart = append_assoc (carried_octets family first) (flat_map (carried_octets family) others) rest in
-    let later = first_record_fault-spelled family (suc index) others rest (All-tail (IsCarried family) first others lawful) in
-    let IsUnfaulted : List ℕ → Type 0 = λ (xs : List ℕ). first_record_fault family index (suc (length others)) xs ≡ None in
-    let AreUnfaulted : List ℕ → Type 0 = λ (xs : List ℕ). first_record_fault family (suc index) (length others) xs ≡ None in
+    let bytes = carried_octets family first ++ after in
+    let later = all_record_faults-spelled family (suc index) others rest (All-tail (IsCarried family) first others lawful) in
+    let IsUnfaulted : List ℕ → Type 0 = λ (xs : List ℕ). first_holding (all_record_faults family index (suc (length others)) xs) ≡ None in
+    let AreUnfaulted : List ℕ → Type 0 = λ (xs : List ℕ). first_holding (all_record_faults family (suc index) (length others) xs) ≡ None in
     subst IsUnfaulted (sym apart)
-    (fault_or-both _ _ (record_fault-spelled family index first after here)
-    (subst AreUnfaulted (sym (past_record family first after here)) later))
+    (first_holding-later (record_faults family index bytes) (later_faults family index (length others) bytes) (record_faults-spelled family index first after here)
+    ∙ subst AreUnfaulted (sym (past_record family first after here)) later)
 
 pub all_carried_at-spelled : (family : Family) (carried : List Carried) (rest : List ℕ) → All (IsCarried family) carried
     → all_carried_at family (length carried) (flat_map (carried_octets family) carried ++ rest) ≡ carried
@@ -48,12 +47,13 @@ all_carried_at-spelled family (first ∷ others) rest lawful =
     ∙ (ap (λ (xs : List Carried). carried_at family (carried_octets family first ++ after) ∷ xs) later
     ∙ ap (λ (x : Carried). x ∷ others) (carried_at-spelled family first after here)))
 
-pub AreRecords-read : (family : Family) (index count : ℕ) (bytes : List ℕ) → AreOctets bytes → first_record_fault family index count bytes ≡ None
+pub AreRecords-read : (family : Family) (index count : ℕ) (bytes : List ℕ) → AreOctets bytes
+    → first_holding (all_record_faults family index count bytes) ≡ None
     → AreRecords family count (known_records family (all_carried_at family count bytes)) bytes
 AreRecords-read family index zero bytes small none =
     record { carried = []; rest = bytes; number = refl; lawful = λ k d below. absurd (omega arith); spelled = refl; known = refl }
 AreRecords-read family index (suc count) bytes small none =
-    let both = fault_or-none (record_fault family index bytes) _ none in
+    let both = first_holding-both_none (record_faults family index bytes) (later_faults family index count bytes) none in
     let whole = whole_record family index bytes both.0 in
     let left = drop (record_length family bytes) bytes in
     let later = AreRecords-read family (suc index) count left (AreOctets-drop (record_length family bytes) bytes small) both.1 in
@@ -71,9 +71,9 @@ AreRecords-read family index (suc count) bytes small none =
 
 -- octets are so many records of one list
 pub AreRecords-once : (family : Family) (index count : ℕ) (records : List Record) (bytes : List ℕ) → AreRecords family count records bytes
-    → (first_record_fault family index count bytes ≡ None) × (known_records family (all_carried_at family count bytes) ≡ records)
+    → (first_holding (all_record_faults family index count bytes) ≡ None) × (known_records family (all_carried_at family count bytes) ≡ records)
 AreRecords-once family index count records bytes are =
-    let none = first_record_fault-spelled family index are.carried are.rest are.lawful in
+    let none = all_record_faults-spelled family index are.carried are.rest are.lawful in
     let read = all_carried_at-spelled family are.carried are.rest are.lawful in
     let read_here : all_carried_at family count bytes ≡ are.carried = rw (are.spelled, sym are.number) read in
     (rw (are.spelled, sym are.number) none, ap (λ (carried : List Carried). known_records family carried) read_here ∙ sym are.known)

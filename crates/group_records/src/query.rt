@@ -1,9 +1,10 @@
 //! A query is read here. It must not know what is answered to one.
 
-ghost use Rattle.std.specs.Prelude.{◌≡◌, ◌≤◌, ◌%◌, length, IfOk, IfErr, Ok, Err, MatchResult, None, Some};
+ghost use Rattle.std.specs.Prelude.{◌≡◌, ◌≤◌, ◌%◌, [], ◌∷◌, length, IfOk, IfErr, Ok, Err, MatchResult, None, Some};
 ghost use Rattle.source_filter.specs.declared.query.QueryRead.{QueryRead as QueryReadValue};
 ghost use Rattle.source_filter.specs.declared.fault.ReportFault.{ReportFault as ReportFaultValue};
-ghost use Rattle.group_records.specs.Query.{IsQuery, IsQueryFault, first_query_fault, group_offset, max_code_of, query_at, query_of, query_least, query_length, query_type, robustness_in, sources_fault, suppresses};
+ghost use Rattle.contract_words.specs.Conditions.{first_holding};
+ghost use Rattle.group_records.specs.Query.{IsQuery, IsQueryFault, first_query_fault, group_offset, max_code_of, query_at, query_of, query_least, query_length, query_type, missing_sources, robustness_in, suppresses};
 
 use crate::family::{Family, address_at, width};
 use crate::record::source_count;
@@ -12,6 +13,7 @@ use amt_values::INPUT_LIMIT;
 use byteorder::{BigEndian, ByteOrder};
 use source_filter::{QueryFields, QueryRead, ReportFault};
 
+// The type of a membership query.
 pub fn query_type(family: Family) -> u8
     ensures { result ≡ query_type family }
 {
@@ -21,6 +23,7 @@ pub fn query_type(family: Family) -> u8
     }
 }
 
+// The octets before the group.
 fn group_offset(family: Family) -> usize
     ensures value { result ≡ group_offset family }
     ensures most { result ≤ 8 }
@@ -31,6 +34,7 @@ fn group_offset(family: Family) -> usize
     }
 }
 
+// The octets of a query without sources.
 fn query_least(family: Family) -> usize
     ensures value { result ≡ query_least family }
     ensures most { result ≤ 28 }
@@ -38,6 +42,7 @@ fn query_least(family: Family) -> usize
     group_offset(family) + width(family) + 4
 }
 
+// The code of the time within which a listener answers.
 fn max_code_at(family: Family, payload: &[u8]) -> u16
     requires { query_least family ≤ length payload.now }
     ensures { result ≡ max_code_of family payload.now }
@@ -51,18 +56,21 @@ fn max_code_at(family: Family, payload: &[u8]) -> u16
     }
 }
 
+// The robustness variable in that octet (RFC 3376, section 4.1.6).
 fn robustness_in(flags: u8) -> u8
     ensures { result ≡ robustness_in flags }
 {
     flags & 7
 }
 
+// Whether the flag S is set in the octet after the group (RFC 3376, section 4.1.5).
 fn suppresses(flags: u8) -> bool
     ensures { result ≡ suppresses flags }
 {
     flags >> 3 & 1 == 1
 }
 
+// The values of the query that stands in the octets.
 fn query_at(family: Family, payload: &[u8]) -> QueryRead
     requires { query_least family ≤ length payload.now }
     ensures { result ≡ query_at family payload.now }
@@ -91,9 +99,10 @@ fn query_length(family: Family, payload: &[u8]) -> usize
     query_least(family) + usize::from(source_count(after_group)) * width(family)
 }
 
+// The fault that the sources aren't all there.
 fn sources_fault(family: Family, payload: &[u8]) -> Option<ReportFault>
     requires { query_least family ≤ length payload.now }
-    ensures { result ≡ sources_fault family payload.now }
+    ensures { result ≡ first_holding (missing_sources family payload.now ∷ []) }
 {
     if payload.len() < query_length(family, payload) {
         return Some(ReportFault::SourceShort(0));
@@ -101,6 +110,7 @@ fn sources_fault(family: Family, payload: &[u8]) -> Option<ReportFault>
     None
 }
 
+// The first fault of a query.
 fn query_fault(family: Family, pseudo_header: &[u8], payload: &[u8]) -> Option<ReportFault>
     requires pseudo_header_even { length pseudo_header.now % 2 ≡ 0 }
     requires pseudo_header_most { length pseudo_header.now ≤ 65535 }

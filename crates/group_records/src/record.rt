@@ -1,15 +1,17 @@
 //! One group record is read here. It must not know the report's head or its sum.
 
 ghost use Rattle.std.specs.Prelude.{◌≡◌, ◌≤◌, ◌*◌, ◌++◌, length, map, slice_index, is_some, true, IfOk, OnOk, OnErr};
+ghost use Rattle.contract_words.specs.Conditions.{first_holding};
 ghost use Rattle.group_records.specs.Family.{address_in, kind_of, width};
 ghost use Rattle.group_records.specs.Carried.{known_record};
-ghost use Rattle.group_records.specs.Reading.{carried_at, head_length, numbers_at, record_fault, record_length, source_count};
+ghost use Rattle.group_records.specs.Reading.{carried_at, head_length, numbers_at, record_faults, record_length, source_count};
 
 use crate::family::{Family, address_at, width};
 use byteorder::{BigEndian, ByteOrder};
 use source_filter::{Ips, Record, RecordKind, Records, ReportFault};
 use std::alloc::{AllocError, Global};
 
+// What a record of this type is about.
 fn kind_of(kind: u8) -> Option<RecordKind>
     ensures { result ≡ kind_of kind }
 {
@@ -44,8 +46,9 @@ pub fn record_length(family: Family, octets: &[u8]) -> usize
     4 + width(family) + sources + auxiliary
 }
 
+// The first fault of the record at the head, which has this number.
 pub fn record_fault(family: Family, index: u32, octets: &[u8]) -> Option<ReportFault>
-    ensures { result ≡ record_fault family index octets.now }
+    ensures { result ≡ first_holding (record_faults family index octets.now) }
 {
     if octets.len() < 4 + width(family) {
         return Some(ReportFault::RecordShort(index));
@@ -56,6 +59,7 @@ pub fn record_fault(family: Family, index: u32, octets: &[u8]) -> Option<ReportF
     None
 }
 
+// So many addresses, one after another.
 fn read_sources(alloc: Global, family: Family, count: u16, octets: &[u8]) -> Result<Ips, AllocError>
     requires { count * width family ≤ length octets.now }
     ensures { IfOk result (λ sources. sources
