@@ -11,7 +11,7 @@ use Rattle.source_filter.specs.declared.query.QueryRead.{QueryRead}
 use Rattle.group_records.specs.declared.family.Family.{Family}
 use Rattle.group_records.specs.declared.family.Family.TheVariants.{V4, V6}
 use Rattle.group_records.specs.Family.{width, address_in}
-use Rattle.group_records.specs.Reading.{wrong_sum}
+use Rattle.group_records.specs.Reading.{source_count, wrong_sum}
 
 -- the type of a membership query
 abbrev pub query_type : Family → ℕ
@@ -50,16 +50,16 @@ abbrev pub suppresses : ℕ → Bool
 suppresses flags = flags / 8 % 2 == 1
 
 -- the number of sources that are asked for (RFC 3376, section 4.1.8)
-abbrev pub asked_sources : Family → List ℕ → ℕ
-asked_sources family payload = big_number 2 (drop 2 (after_group family payload))
+abbrev pub query_source_count : Family → List ℕ → ℕ
+query_source_count family payload = source_count (after_group family payload)
 
 -- the octets of a query without sources
-abbrev pub query_least : Family → ℕ
-query_least family = group_offset family + width family + 4
+abbrev pub least_query_length : Family → ℕ
+least_query_length family = group_offset family + width family + 4
 
 -- and with as many as the payload states
 abbrev pub query_length : Family → List ℕ → ℕ
-query_length family payload = query_least family + asked_sources family payload * width family
+query_length family payload = least_query_length family + query_source_count family payload * width family
 
 -- a query of these values, with all of its sources. These, reserved octets and bits, and what
 -- follows the last source may be any.
@@ -72,7 +72,7 @@ pub record IsQuery (family : Family) (pseudo_header : List ℕ) (query : QueryRe
   pub suppress : suppresses (query_flags family payload) ≡ query.suppress
   pub robustness : robustness_in (query_flags family payload) ≡ query.fields.robustness
   pub interval_code : slice_index (after_group family payload) 1 ≡ query.fields.interval_code
-  pub sources : asked_sources family payload ≡ query.sources
+  pub sources : query_source_count family payload ≡ query.sources
 
 -- that query
 abbrev pub query_at : Family → List ℕ → QueryRead
@@ -84,7 +84,7 @@ query_at family payload = record {
   };
   suppress = suppresses (query_flags family payload);
   group = address_in family (group_number family payload);
-  sources = asked_sources family payload;
+  sources = query_source_count family payload;
 }
 
 -- a General Query: of every group and no source, and it suppresses nothing
@@ -96,9 +96,9 @@ abbrev pub IsGeneralQuery : Family → List ℕ → QueryFields → List ℕ →
 IsGeneralQuery family pseudo_header fields payload = IsQuery family pseudo_header (general_query family fields) payload
 
 -- the greatest code of the time within which a listener answers: it has 8 bits in IGMP, and 16 in MLD
-abbrev pub most_code : Family → ℕ
-most_code V4 = 255
-most_code V6 = 65535
+abbrev pub greatest_code : Family → ℕ
+greatest_code V4 = 255
+greatest_code V6 = 65535
 
 -- the end of the General Query that is written: every group, no flag beside the robustness, and no sources
 abbrev pub every_group : Family → QueryFields → List ℕ
@@ -124,18 +124,18 @@ missing_sources family payload = (nat_lt (length payload) (query_length family p
 -- there (RFC 3376, section 4.1; RFC 3810, section 5.1)
 abbrev pub query_faults : Family → List ℕ → List ℕ → Conditions ReportFault
 query_faults family pseudo_header payload =
-    (nat_lt (length payload) (query_least family), Short (query_least family) (length payload))
+    (nat_lt (length payload) (least_query_length family), Short (least_query_length family) (length payload))
     ∷ (not (slice_index payload 0 == query_type family), Kind (slice_index payload 0))
     ∷ wrong_sum pseudo_header payload
     ∷ missing_sources family payload
     ∷ []
 
 -- the first of these that holds
-abbrev pub first_query_fault : Family → List ℕ → List ℕ → Option ReportFault
+unfoldable pub first_query_fault : Family → List ℕ → List ℕ → Option ReportFault
 first_query_fault family pseudo_header payload = first_holding (query_faults family pseudo_header payload)
 
 -- the values of the query that the payload is, unless there is a first fault
-abbrev pub query_of : Family → List ℕ → List ℕ → Result QueryRead ReportFault
+unfoldable pub query_of : Family → List ℕ → List ℕ → Result QueryRead ReportFault
 query_of family pseudo_header payload = unless (first_query_fault family pseudo_header payload) (query_at family payload)
 
 -- a fault that a query may have: no older version of it is told apart, and it has no records but

@@ -10,7 +10,7 @@ use Rattle.source_filter.specs.declared.fault.ReportFault.TheVariants.{Short, Ki
 use Rattle.source_filter.specs.declared.fault.ReadFault.{ReadFault}
 use Rattle.source_filter.specs.declared.fault.ReadFault.TheVariants.{Report, Memory}
 use Rattle.group_records.specs.declared.family.Family.{Family}
-use Rattle.group_records.specs.Carried.{Carried, known_records}
+use Rattle.group_records.specs.CarriedRecord.{CarriedRecord, known_records}
 use Rattle.group_records.specs.Family.{width, kind_of, report_type, is_old_report}
 
 -- so many numbers of so many octets each, one after another
@@ -22,6 +22,7 @@ numbers_at octets (suc count) bytes = big_number octets bytes ∷ numbers_at oct
 abbrev pub head_length : Family → ℕ
 head_length family = 4 + width family
 
+-- the number of sources that is stated after two octets, as in that head and after a query's group
 abbrev pub source_count : List ℕ → ℕ
 source_count bytes = big_number 2 (drop 2 bytes)
 
@@ -30,8 +31,8 @@ abbrev pub record_length : Family → List ℕ → ℕ
 record_length family bytes = head_length family + source_count bytes * width family + slice_index bytes 1 * 4
 
 -- that record
-abbrev pub carried_at : Family → List ℕ → Carried
-carried_at family bytes = record {
+abbrev pub record_at : Family → List ℕ → CarriedRecord
+record_at family bytes = record {
   kind = slice_index bytes 0;
   group = big_number (width family) (drop 4 bytes);
   sources = numbers_at (width family) (source_count bytes) (drop (head_length family) bytes);
@@ -39,10 +40,10 @@ carried_at family bytes = record {
 }
 
 -- so many records, one after another
-abbrev pub all_carried_at : Family → ℕ → List ℕ → List Carried
-all_carried_at family zero bytes = []
-all_carried_at family (suc count) bytes =
-    carried_at family bytes ∷ all_carried_at family count (drop (record_length family bytes) bytes)
+abbrev pub records_at : Family → ℕ → List ℕ → List CarriedRecord
+records_at family zero bytes = []
+records_at family (suc count) bytes =
+    record_at family bytes ∷ records_at family count (drop (record_length family bytes) bytes)
 
 -- what is wrong with the record at the head of the octets, which has this number: fewer octets are left than
 -- its own head has, or than all of it takes (RFC 3376, section 4.2.4; RFC 3810, section 5.2.4)
@@ -106,11 +107,11 @@ pub record AsksMemory (family : Family) (pseudo_header payload : List ℕ) : Typ
 -- the known ones of so many records, unless there is a first fault
 unfoldable pub records_reading : Family → ℕ → List ℕ → Result (List Record) ReportFault
 records_reading family count bytes =
-    unless (first_holding (all_record_faults family 0 count bytes)) (known_records family (all_carried_at family count bytes))
+    unless (first_holding (all_record_faults family 0 count bytes)) (known_records family (records_at family count bytes))
 
 -- the known records that stand in a payload
 abbrev pub records_in : Family → List ℕ → List Record
-records_in family payload = known_records family (all_carried_at family (record_count payload) (drop 8 payload))
+records_in family payload = known_records family (records_at family (record_count payload) (drop 8 payload))
 
 -- the records of the report that the payload is, unless there is a first fault
 unfoldable pub report_of : Family → List ℕ → List ℕ → Result (List Record) ReportFault

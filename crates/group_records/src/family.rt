@@ -16,6 +16,7 @@ pub enum Family {
     V6,
 }
 
+// The octets of an address.
 pub fn width(family: Family) -> usize
     ensures value { result ≡ width family }
     ensures most { result ≤ 16 }
@@ -37,6 +38,7 @@ pub fn address_at(family: Family, octets: &[u8]) -> Ip
     }
 }
 
+// The type of a membership report.
 pub fn report_type(family: Family) -> u8
     ensures { result ≡ report_type family }
 {
@@ -46,6 +48,7 @@ pub fn report_type(family: Family) -> u8
     }
 }
 
+// The type of a report of an older version of the protocol.
 pub fn is_old_report(family: Family, kind: u8) -> bool
     ensures { result ≡ is_old_report family kind }
 {

@@ -4,7 +4,7 @@ ghost use Rattle.std.specs.Prelude.{◌≡◌, ◌≤◌, ◌%◌, [], ◌∷◌
 ghost use Rattle.source_filter.specs.declared.query.QueryRead.{QueryRead as QueryReadValue};
 ghost use Rattle.source_filter.specs.declared.fault.ReportFault.{ReportFault as ReportFaultValue};
 ghost use Rattle.contract_words.specs.Conditions.{first_holding};
-ghost use Rattle.group_records.specs.Query.{IsQuery, IsQueryFault, first_query_fault, group_offset, max_code_of, query_at, query_of, query_least, query_length, query_type, missing_sources, robustness_in, suppresses};
+ghost use Rattle.group_records.specs.Query.{IsQuery, IsQueryFault, first_query_fault, group_offset, max_code_of, query_at, query_of, least_query_length, query_length, query_type, missing_sources, robustness_in, suppresses};
 
 use crate::family::{Family, address_at, width};
 use crate::record::source_count;
@@ -35,8 +35,8 @@ fn group_offset(family: Family) -> usize
 }
 
 // The octets of a query without sources.
-fn query_least(family: Family) -> usize
-    ensures value { result ≡ query_least family }
+fn least_query_length(family: Family) -> usize
+    ensures value { result ≡ least_query_length family }
     ensures most { result ≤ 28 }
 {
     group_offset(family) + width(family) + 4
@@ -44,7 +44,7 @@ fn query_least(family: Family) -> usize
 
 // The code of the time within which a listener answers.
 fn max_code_at(family: Family, payload: &[u8]) -> u16
-    requires { query_least family ≤ length payload.now }
+    requires { least_query_length family ≤ length payload.now }
     ensures { result ≡ max_code_of family payload.now }
 {
     match family {
@@ -72,7 +72,7 @@ fn suppresses(flags: u8) -> bool
 
 // The values of the query that stands in the octets.
 fn query_at(family: Family, payload: &[u8]) -> QueryRead
-    requires { query_least family ≤ length payload.now }
+    requires { least_query_length family ≤ length payload.now }
     ensures { result ≡ query_at family payload.now }
 {
     let (_, group) = payload.split_at(group_offset(family));
@@ -92,16 +92,16 @@ fn query_at(family: Family, payload: &[u8]) -> QueryRead
 
 // The octets that the query takes with its sources.
 fn query_length(family: Family, payload: &[u8]) -> usize
-    requires { query_least family ≤ length payload.now }
+    requires { least_query_length family ≤ length payload.now }
     ensures { result ≡ query_length family payload.now }
 {
     let (_, after_group) = payload.split_at(group_offset(family) + width(family));
-    query_least(family) + usize::from(source_count(after_group)) * width(family)
+    least_query_length(family) + usize::from(source_count(after_group)) * width(family)
 }
 
 // The fault that the sources aren't all there.
 fn sources_fault(family: Family, payload: &[u8]) -> Option<ReportFault>
-    requires { query_least family ≤ length payload.now }
+    requires { least_query_length family ≤ length payload.now }
     ensures { result ≡ first_holding (missing_sources family payload.now ∷ []) }
 {
     if payload.len() < query_length(family, payload) {
@@ -111,13 +111,14 @@ fn sources_fault(family: Family, payload: &[u8]) -> Option<ReportFault>
 }
 
 // The first fault of a query.
+#[tactic(auto, unfolding(crate::specs::Query::first_query_fault))]
 fn query_fault(family: Family, pseudo_header: &[u8], payload: &[u8]) -> Option<ReportFault>
     requires pseudo_header_even { length pseudo_header.now % 2 ≡ 0 }
     requires pseudo_header_most { length pseudo_header.now ≤ 65535 }
     requires payload_most { length payload.now ≤ INPUT_LIMIT }
     ensures { result ≡ first_query_fault family pseudo_header.now payload.now }
 {
-    let least = query_least(family);
+    let least = least_query_length(family);
     if payload.len() < least {
         return Some(ReportFault::Short(least as u32, payload.len() as u32));
     }
@@ -137,6 +138,7 @@ fn query_fault(family: Family, pseudo_header: &[u8], payload: &[u8]) -> Option<R
 /// RFC 8200, section 8.1. The faults are tried in the order of `ReportFault`; a query of an older
 /// version of the protocol has too few octets. Reserved octets and bits, and what follows the
 /// sources, may be any.
+#[tactic(auto, unfolding(crate::specs::Query::first_query_fault, crate::specs::Query::query_of))]
 pub fn read_query(
     family: Family,
     pseudo_header: &[u8],

@@ -1,10 +1,10 @@
 //! One group record is read here. It must not know the report's head or its sum.
 
-ghost use Rattle.std.specs.Prelude.{◌≡◌, ◌≤◌, ◌*◌, ◌++◌, length, map, slice_index, is_some, true, IfOk, OnOk, OnErr};
+ghost use Rattle.std.specs.Prelude.{◌≡◌, ◌≤◌, ◌*◌, ◌++◌, drop, length, map, slice_index, is_some, true, IfOk, OnOk, OnErr};
 ghost use Rattle.contract_words.specs.Conditions.{first_holding};
 ghost use Rattle.group_records.specs.Family.{address_in, kind_of, width};
-ghost use Rattle.group_records.specs.Carried.{known_record};
-ghost use Rattle.group_records.specs.Reading.{carried_at, head_length, numbers_at, record_faults, record_length, source_count};
+ghost use Rattle.group_records.specs.CarriedRecord.{known_record};
+ghost use Rattle.group_records.specs.Reading.{record_at, head_length, numbers_at, record_faults, record_length, source_count};
 
 use crate::family::{Family, address_at, width};
 use byteorder::{BigEndian, ByteOrder};
@@ -44,6 +44,16 @@ pub fn record_length(family: Family, octets: &[u8]) -> usize
     let sources = usize::from(source_count(octets)) * width(family);
     let auxiliary = usize::from(octets[1]) * 4;
     4 + width(family) + sources + auxiliary
+}
+
+// What is left after the record at the head.
+pub fn after_record(family: Family, octets: &[u8]) -> &[u8]
+    requires head { head_length family ≤ length octets.now }
+    requires whole { record_length family octets.now ≤ length octets.now }
+    ensures { result.now ≡ drop (record_length family octets.now) octets.now }
+{
+    let (_, rest) = octets.split_at(record_length(family, octets));
+    rest
 }
 
 // The first fault of the record at the head, which has this number.
@@ -87,7 +97,7 @@ pub fn append_record(
     requires whole { record_length family octets.now ≤ length octets.now }
     ensures asks { OnErr result (is_some (kind_of (slice_index octets.now 0)) ≡ true) }
     ensures kept { OnOk result (records.new
-        ≡ records.old ++ known_record family (carried_at family octets.now)) }
+        ≡ records.old ++ known_record family (record_at family octets.now)) }
 {
     let Some(kind) = kind_of(octets[0]) else {
         return Ok(());

@@ -11,7 +11,7 @@ ghost use Rattle.group_records.specs.Report.{IsReport, IsSomeReport};
 ghost use Rattle.group_records.specs.Reading.{AsksMemory, Gives, asks_memory, cause_in, first_report_fault, kind_faults, records_reading, report_head_faults, report_of, wrong_sum};
 
 use crate::family::{Family, is_old_report, report_type};
-use crate::record::{append_record, record_fault, record_length};
+use crate::record::{after_record, append_record, record_fault};
 use amt_values::INPUT_LIMIT;
 use byteorder::{BigEndian, ByteOrder};
 use inner_datagrams::internet_sum_around;
@@ -86,8 +86,7 @@ fn read_records(
         let Ok(()) = append_record(alloc, family, left, &mut records) else {
             return Err(ReadFault::Memory);
         };
-        let (_, rest) = left.split_at(record_length(family, left));
-        left = rest;
+        left = after_record(family, left);
     }
     Ok(records)
 }

@@ -6,6 +6,7 @@ ghost use Rattle.inner_datagrams.specs.Checksum.{ones_add, internet_sum_of};
 use crate::checksum::internet_sum;
 use amt_values::INPUT_LIMIT;
 
+// One's complement addition of two words.
 fn ones_add(one: u16, other: u16) -> u16
     ensures { result ≡ ones_add one other }
 {

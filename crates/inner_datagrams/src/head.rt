@@ -31,6 +31,7 @@ pub enum HeadFault {
     ShortHeader(u32, u32),
 }
 
+// The fault of fewer octets than a header needs.
 fn short_header(need: u32, bytes: &[u8]) -> Option<HeadFault>
     requires { length bytes.now ≤ INPUT_LIMIT }
     ensures fault { result ≡ first_holding (short_header need bytes.now ∷ []) }
@@ -43,6 +44,7 @@ fn short_header(need: u32, bytes: &[u8]) -> Option<HeadFault>
     None
 }
 
+// The head of these addresses.
 fn head_of(source: Ip, group: Ip) -> Head
     ensures source { result.source ≡ source }
     ensures group { result.group ≡ group }
@@ -50,6 +52,7 @@ fn head_of(source: Ip, group: Ip) -> Head
     Head { source, group }
 }
 
+// The head of an IPv4 packet, if its least header is there.
 fn head4(bytes: &[u8]) -> Result<Head, HeadFault>
     requires { length bytes.now ≤ INPUT_LIMIT }
     ensures { result
@@ -61,6 +64,7 @@ fn head4(bytes: &[u8]) -> Result<Head, HeadFault>
     }
 }
 
+// The head of an IPv6 packet, if its header is there.
 fn head6(bytes: &[u8]) -> Result<Head, HeadFault>
     requires { length bytes.now ≤ INPUT_LIMIT }
     ensures { result
@@ -72,6 +76,7 @@ fn head6(bytes: &[u8]) -> Result<Head, HeadFault>
     }
 }
 
+// The head of a packet of either version.
 #[tactic(auto, unfolding(crate::specs::Head::first_head_fault))]
 fn read_head(bytes: &[u8]) -> Result<Head, HeadFault>
     requires { length bytes.now ≤ INPUT_LIMIT }

@@ -14,6 +14,7 @@ use crate::reading6::read_inner6;
 use crate::writing::PAYLOAD_LIMIT;
 use amt_values::INPUT_LIMIT;
 
+// The datagram of either version, or its first fault.
 #[tactic(auto, unfolding(crate::specs::Fault::first_inner_fault))]
 fn read(bytes: &[u8]) -> Result<Inner, InnerFault>
     requires { length bytes.now ≤ INPUT_LIMIT }

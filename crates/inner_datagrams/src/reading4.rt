@@ -35,6 +35,7 @@ fn stated_header(bytes: &[u8]) -> Result<usize, InnerFault>
     Ok(need as usize)
 }
 
+// The fault that the length of the whole isn't that of the bytes.
 fn total_fault(bytes: &[u8]) -> Option<InnerFault>
     requires least { 20 ≤ length bytes.now }
     requires most { length bytes.now ≤ INPUT_LIMIT }
@@ -64,6 +65,7 @@ fn header_end(bytes: &[u8]) -> Result<usize, InnerFault>
     }
 }
 
+// The fault that the words of the header, which ends there, don't add up.
 fn sum_fault(bytes: &[u8], end: usize) -> Option<InnerFault>
     requires least { 20 ≤ end }
     requires most { end ≤ 60 }
@@ -79,6 +81,7 @@ fn sum_fault(bytes: &[u8], end: usize) -> Option<InnerFault>
     Some(InnerFault::HeaderSum(want, short_at(bytes, 10)))
 }
 
+// The fault that more fragments follow or others come before.
 fn fragment_fault(bytes: &[u8]) -> Option<InnerFault>
     requires { 20 ≤ length bytes.now }
     ensures { result ≡ first_holding (fragment bytes.now ∷ []) }
@@ -89,6 +92,7 @@ fn fragment_fault(bytes: &[u8]) -> Option<InnerFault>
     }
 }
 
+// The fault of another protocol than IGMP.
 fn protocol_fault(protocol: u8) -> Option<InnerFault>
     ensures { result ≡ first_holding (other_protocol protocol ∷ []) }
 {
@@ -98,7 +102,7 @@ fn protocol_fault(protocol: u8) -> Option<InnerFault>
     }
 }
 
-// What a header that ends there has against it: a wrong checksum, a fragment, another protocol.
+// The first fault of a header that ends there: a wrong checksum, a fragment, another protocol.
 fn header_fault(bytes: &[u8], end: usize) -> Option<InnerFault>
     requires least { 20 ≤ end }
     requires most { end ≤ 60 }
@@ -115,6 +119,7 @@ fn header_fault(bytes: &[u8], end: usize) -> Option<InnerFault>
     protocol_fault(bytes[9])
 }
 
+// The datagram of these parts.
 fn parts4(source: u32, destination: u32, start: usize, end: usize) -> Inner
     ensures { result ≡ parts4 source destination start end }
 {

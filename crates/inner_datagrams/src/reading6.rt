@@ -10,6 +10,7 @@ use crate::fields::{address_at, short_at};
 use crate::inner::{Inner, InnerFault};
 use amt_values::{INPUT_LIMIT, Ip};
 
+// The fault that the length of the whole isn't that of the bytes.
 fn total_fault(bytes: &[u8]) -> Option<InnerFault>
     requires least { 40 ≤ length bytes.now }
     requires most { length bytes.now ≤ INPUT_LIMIT }
@@ -65,6 +66,7 @@ fn headers(bytes: &[u8]) -> Result<(usize, u8), InnerFault>
     }
 }
 
+// The fault of what follows the headers, where it isn't ICMPv6.
 fn next_header_fault(kind: u8) -> Option<InnerFault>
     ensures { result ≡ first_holding (next_header_faults kind) }
 {
@@ -76,6 +78,7 @@ fn next_header_fault(kind: u8) -> Option<InnerFault>
     }
 }
 
+// The datagram of these parts.
 fn parts6(source: u128, destination: u128, start: usize, end: usize) -> Inner
     ensures { result ≡ parts6 source destination start end }
 {

@@ -1,8 +1,8 @@
 use Rattle.std.proofs.Common.{◌≡◌, ℕ, drop, Some, None, ap, ◌∙◌, rules}
 use Rattle.contract_words.specs.Conditions.{first_holding}
 use Rattle.group_records.specs.Reading.{record_faults, record_length}
-use Rattle.group_records.proofs.Steps.{asks_here, asks_later, fault_here, fault_step, known_step, reading-err, reading-ok}
-use Rattle.group_records.proofs.Spelled.{whole_record}
+use Rattle.group_records.proofs.LoopSteps.{asks_here, asks_later, fault_here, fault_step, known_step, reading-err, reading-ok}
+use Rattle.group_records.proofs.RecordOctets.{whole_record}
 use Rattle.group_records.proofs.report.read_records.Goals as goal
 
 pub returns-in-Some-clause-value : goal.returns-in-Some-clause-value
@@ -15,9 +15,9 @@ returns-in-Some-clause-value c =
 pub loop-index-preserved : goal.loop-index-preserved
 loop-index-preserved c =
     let left = c.loop-index.left.now in
-    let rest = c.split_at.result.1.now in
+    let rest = c.after_record-left.result.now in
     let none : first_holding (record_faults c.args.family c.loop-index.index left) ≡ None = search rules in
-    let after : rest ≡ drop (record_length c.args.family left) left = c.split_at.ensures.back ∙ ap (λ (n : ℕ). drop n left) c.record_length.ensures in
+    let after : rest ≡ drop (record_length c.args.family left) left = c.after_record-left.ensures in
     let known = known_step c.args.family c.args.count c.loop-index.index c.loop-index.records _ left rest c.loop-index-test.true after c.loop-index.invariant.known in
     let whole = whole_record c.args.family c.loop-index.index left none in
     record {

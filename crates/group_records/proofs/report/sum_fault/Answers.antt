@@ -1,6 +1,6 @@
 use Rattle.std.proofs.Common.{rules, sym, ◌∙◌}
 use Rattle.amt_values.specs.Octets.{AreOctets}
-use Rattle.group_records.proofs.Steps.{wrong_sum-none, wrong_sum-some}
+use Rattle.group_records.proofs.LoopSteps.{wrong_sum-none, wrong_sum-some}
 use Rattle.group_records.proofs.report.sum_fault.Goals as goal
 
 pub returns-then-internet_sum_around-eq0 : goal.returns-then-internet_sum_around-eq0

@@ -16,12 +16,12 @@ use Rattle.source_filter.specs.declared.fault.ReportFault.TheVariants.{Short}
 use Rattle.source_filter.specs.declared.fault.ReadFault.{ReadFault}
 use Rattle.source_filter.specs.declared.fault.ReadFault.TheVariants.{Report, Memory}
 use Rattle.group_records.specs.declared.family.Family.{Family}
-use Rattle.group_records.specs.Carried.{known_records}
+use Rattle.group_records.specs.CarriedRecord.{known_records}
 use Rattle.group_records.specs.declared.family.Family.TheVariants.{V4, V6}
 use Rattle.group_records.specs.Family.{is_old_report, report_type}
 use Rattle.group_records.specs.Report.{IsReport, IsSomeReport}
 use Rattle.group_records.specs.Reading.{Gives, all_record_faults, cause_in, first_report_fault, record_count, records_in, report_head_faults, report_of}
-use Rattle.group_records.proofs.Walk.{AreRecords-once, AreRecords-read}
+use Rattle.group_records.proofs.RecordLists.{AreRecords-once, AreRecords-read}
 
 -- what is wrong with the records of a payload
 abbrev walk_faults : Family → List ℕ → Conditions ReportFault
