@@ -1,6 +1,6 @@
 -- Conditions of which none holds, the first of two lists of conditions, and the value that is read where
 -- none holds.
-use Rattle.std.proofs.Common.{◌≡◌, ℕ, [], ◌∷◌, ◌++◌, Bool, true, false, not, eqb, Option, None, Some, Ok, Err, refl, arith}
+use Rattle.std.proofs.Common.{◌≡◌, ℕ, [], ◌∷◌, ◌++◌, Bool, true, false, not, eqb, Option, None, Some, Ok, Err, refl, sym, ap, ◌∙◌, arith}
 use Rattle.std.proofs.lemmas.Bool.{eqb-true, not-false}
 use Rattle.contract_words.specs.Conditions.{Conditions, NoneHolds, first_holding, first_of, unless}
 
@@ -29,6 +29,27 @@ pub first_holding-append : {Cause : Type 0} (conditions more : Conditions Cause)
     → first_holding (conditions ++ more) ≡ first_of (first_holding conditions) (first_holding more)
 first_holding-append [] more = refl
 first_holding-append (condition ∷ rest) more = first_holding-step condition.0 condition.1 rest more (first_holding-append rest more)
+
+-- where the first of all is none, it is none of the former and none of the latter
+pub first_holding-both_none : {Cause : Type 0} (conditions more : Conditions Cause) → first_holding (conditions ++ more) ≡ None
+    → (first_holding conditions ≡ None) × (first_holding more ≡ None)
+first_holding-both_none [] more none = (refl, none)
+first_holding-both_none (condition ∷ rest) more none =
+    let parts = skipped condition.0 condition.1 (rest ++ more) none in
+    let others = first_holding-both_none rest more parts.1 in
+    (rw parts.0 others.0, others.1)
+
+-- where none of the former holds, the first of all is the first of the latter
+pub first_holding-later : {Cause : Type 0} (conditions more : Conditions Cause) → first_holding conditions ≡ None
+    → first_holding (conditions ++ more) ≡ first_holding more
+first_holding-later conditions more none =
+    first_holding-append conditions more ∙ ap (λ first. first_of first (first_holding more)) none
+
+-- where one of the former holds, the first of all is one of them
+pub first_holding-here : {Cause : Type 0} (conditions more : Conditions Cause) (cause : Cause) → first_holding conditions ≡ Some cause
+    → first_holding (conditions ++ more) ≡ Some cause
+first_holding-here conditions more cause some =
+    first_holding-append conditions more ∙ ap (λ first. first_of first (first_holding more)) some
 
 pub holds_not : (a b : ℕ) → not (eqb a b) ≡ false → a ≡ b
 holds_not a b none = eqb-true a b (not-false _ none)

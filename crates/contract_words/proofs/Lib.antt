@@ -1,3 +1,4 @@
+pub mod AnswerLaws
 pub mod AscendingLaws
 pub mod ConditionLaws
 pub mod Sorting

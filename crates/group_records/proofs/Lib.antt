@@ -1,10 +1,10 @@
 pub mod Codes
 pub mod Numbers
-pub mod Spelled
-pub mod Walk
-pub mod Steps
-pub mod Answered
-pub mod Few
-pub mod Summed
-pub mod Written
+pub mod RecordOctets
+pub mod RecordLists
+pub mod LoopSteps
+pub mod ReportReadings
+pub mod ItemCounts
+pub mod MessageSums
+pub mod WrittenReport
 pub mod WrittenQuery

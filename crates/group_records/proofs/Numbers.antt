@@ -12,11 +12,11 @@ use Rattle.amt_values.proofs.NetworkOrder.{AreOctets-drop, bytes_high_first-take
 use Rattle.group_records.specs.Reading.{numbers_at}
 
 -- what follows a part of so many items
-pub drop-past : {A : Type 0} (n : ℕ) (front back : List A) → length front ≡ n → drop n (front ++ back) ≡ back
-drop-past n front back len = ap (λ (k : ℕ). drop k (front ++ back)) (sym len) ∙ drop-append_seam front back
+pub drop-past : {A : Type 0} (n : ℕ) (prefix back : List A) → length prefix ≡ n → drop n (prefix ++ back) ≡ back
+drop-past n prefix back len = ap (λ (k : ℕ). drop k (prefix ++ back)) (sym len) ∙ drop-append_seam prefix back
 
-pub take-part : {A : Type 0} (n : ℕ) (front back : List A) → length front ≡ n → take n (front ++ back) ≡ front
-take-part n front back len = ap (λ (k : ℕ). take k (front ++ back)) (sym len) ∙ take-append_seam front back
+pub take-part : {A : Type 0} (n : ℕ) (prefix back : List A) → length prefix ≡ n → take n (prefix ++ back) ≡ prefix
+take-part n prefix back len = ap (λ (k : ℕ). take k (prefix ++ back)) (sym len) ∙ take-append_seam prefix back
 
 -- each number fits so many octets
 abbrev pub Fits : ℕ → ℕ → Type 0
@@ -27,10 +27,10 @@ pub numbers_at-spelled : (octets : ℕ) (numbers rest : List ℕ) → All (Fits 
     → numbers_at octets (length numbers) (flat_map (big_bytes octets) numbers ++ rest) ≡ numbers
 numbers_at-spelled octets [] rest fit = refl
 numbers_at-spelled octets (number ∷ numbers) rest fit =
-    let behind = flat_map (big_bytes octets) numbers ++ rest in
+    let after = flat_map (big_bytes octets) numbers ++ rest in
     let apart = append_assoc (big_bytes octets number) (flat_map (big_bytes octets) numbers) rest in
-    let first = big_number-reads_back octets number behind (All-head (Fits octets) number numbers fit) in
-    let past = drop-past octets (big_bytes octets number) behind (length-bytes_high_first octets number) in
+    let first = big_number-reads_back octets number after (All-head (Fits octets) number numbers fit) in
+    let past = drop-past octets (big_bytes octets number) after (length-bytes_high_first octets number) in
     let others = numbers_at-spelled octets numbers rest (All-tail (Fits octets) number numbers fit) in
     rw (apart, first, past, others) refl
 
@@ -65,9 +65,9 @@ spelled-numbers_at octets (suc count) bytes small enough =
     let first = bytes_high_first-take octets bytes there small in
     let others = spelled-numbers_at octets count (drop octets bytes) (AreOctets-drop octets bytes small) left in
     let place : octets + count * octets ≡ suc count * octets = omega arith in
-    let behind = drop-drop (count * octets) octets bytes ∙ ap (λ (n : ℕ). drop n bytes) place in
+    let after = drop-drop (count * octets) octets bytes ∙ ap (λ (n : ℕ). drop n bytes) place in
     let numbers = flat_map (big_bytes octets) (numbers_at octets count (drop octets bytes)) in
     sym (take-append-drop octets bytes)
     ∙ (ap (λ (xs : List ℕ). xs ++ drop octets bytes) (sym first)
-    ∙ (ap (λ (xs : List ℕ). big_bytes octets (big_number octets bytes) ++ xs) (others ∙ ap (λ (xs : List ℕ). numbers ++ xs) behind)
+    ∙ (ap (λ (xs : List ℕ). big_bytes octets (big_number octets bytes) ++ xs) (others ∙ ap (λ (xs : List ℕ). numbers ++ xs) after)
     ∙ sym (append_assoc (big_bytes octets (big_number octets bytes)) numbers (drop (suc count * octets) bytes))))

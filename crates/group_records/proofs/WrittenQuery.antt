@@ -8,15 +8,15 @@ use Rattle.inner_datagrams.specs.Checksum.{internet_sum_of, IsRight}
 use Rattle.source_filter.specs.declared.query.QueryFields.{QueryFields}
 use Rattle.group_records.specs.declared.family.Family.{Family}
 use Rattle.group_records.specs.declared.family.Family.TheVariants.{V4, V6}
-use Rattle.group_records.specs.Query.{IsGeneralQuery, every_group, most_code, query_least, query_type, query_with_sum, written_query}
-use Rattle.group_records.proofs.Summed.{IsRight-summed}
+use Rattle.group_records.specs.Query.{IsGeneralQuery, every_group, greatest_code, least_query_length, query_type, query_with_sum, written_query}
+use Rattle.group_records.proofs.MessageSums.{IsRight-summed}
 
-pub length-query_with_sum : (checksum : ℕ) (family : Family) (fields : QueryFields) → length (query_with_sum checksum family fields) ≡ query_least family
+pub length-query_with_sum : (checksum : ℕ) (family : Family) (fields : QueryFields) → length (query_with_sum checksum family fields) ≡ least_query_length family
 length-query_with_sum checksum V4 fields = refl
 length-query_with_sum checksum V6 fields = refl
 
 pub length-written_query : (family : Family) (pseudo_header : List ℕ) (fields : QueryFields)
-    → length (written_query family pseudo_header fields) ≡ query_least family
+    → length (written_query family pseudo_header fields) ≡ least_query_length family
 unfolding written_query
 length-written_query family pseudo_header fields =
     length-query_with_sum (internet_sum_of (pseudo_header ++ query_with_sum 0 family fields)) family fields
@@ -31,7 +31,7 @@ IsRight-written_query V6 pseudo_header fields even small =
 
 -- each field of a written query stands at its place
 pub IsGeneralQuery-written_query : (family : Family) (pseudo_header : List ℕ) (fields : QueryFields) → length pseudo_header % 2 ≡ 0
-    → AreOctets (pseudo_header ++ query_with_sum 0 family fields) → fields.max_code ≤ most_code family → fields.robustness ≤ 7
+    → AreOctets (pseudo_header ++ query_with_sum 0 family fields) → fields.max_code ≤ greatest_code family → fields.robustness ≤ 7
     → IsGeneralQuery family pseudo_header fields (written_query family pseudo_header fields)
 unfolding written_query
 IsGeneralQuery-written_query V4 pseudo_header fields even small code_fits robustness_fits = record {

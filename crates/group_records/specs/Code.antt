@@ -15,9 +15,11 @@ abbrev pub mantissa_bits : Family → ℕ
 mantissa_bits V4 = 4
 mantissa_bits V6 = 12
 
+-- those bits of a code
 abbrev pub mantissa_of : Family → ℕ → ℕ
 mantissa_of family code = code % 2 ^ mantissa_bits family
 
+-- the three bits above them
 abbrev pub exponent_of : Family → ℕ → ℕ
 exponent_of family code = code / 2 ^ mantissa_bits family % 8
 

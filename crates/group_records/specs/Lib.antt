@@ -1,6 +1,6 @@
 pub mod Family
 pub mod Code
-pub mod Carried
+pub mod CarriedRecord
 pub mod Report
 pub mod Reading
 pub mod Query

@@ -1,7 +1,8 @@
 -- Which octets are a query, and the first fault of those that are none (RFC 3376, section 4.1;
 -- RFC 3810, section 5.1).
-use Rattle.std.specs.Prelude.{◌≡◌, ℕ, ◌+◌, ◌*◌, ◌/◌, ◌%◌, ◌≤◌, ◌==◌, nat_lt, ⊤, Bool, false, List, [], ◌∷◌, ◌++◌, length, drop, slice_index, Option, Some, None, Result, if◌then◌else◌}
+use Rattle.std.specs.Prelude.{◌≡◌, ℕ, ◌+◌, ◌*◌, ◌/◌, ◌%◌, ◌≤◌, ◌==◌, nat_lt, not, ⊤, Bool, false, List, [], ◌∷◌, ◌++◌, length, drop, slice_index, Option, Result}
 use Rattle.byteorder.specs.Endian.{big_bytes, big_number}
+use Rattle.contract_words.specs.Conditions.{Conditions, first_holding, unless}
 use Rattle.inner_datagrams.specs.Checksum.{internet_sum_of, IsRight}
 use Rattle.source_filter.specs.declared.fault.ReportFault.{ReportFault}
 use Rattle.source_filter.specs.declared.fault.ReportFault.TheVariants.{Short, Kind, OldReport, Sum, RecordShort, SourceShort}
@@ -10,7 +11,7 @@ use Rattle.source_filter.specs.declared.query.QueryRead.{QueryRead}
 use Rattle.group_records.specs.declared.family.Family.{Family}
 use Rattle.group_records.specs.declared.family.Family.TheVariants.{V4, V6}
 use Rattle.group_records.specs.Family.{width, address_in}
-use Rattle.group_records.specs.Reading.{fault_or, reading_by, sum_fault}
+use Rattle.group_records.specs.Reading.{source_count, wrong_sum}
 
 -- the type of a membership query
 abbrev pub query_type : Family → ℕ
@@ -18,43 +19,47 @@ query_type V4 = 0x11
 query_type V6 = 0x82
 
 -- the octets before the group
-abbrev pub group_place : Family → ℕ
-group_place V4 = 4
-group_place V6 = 8
+abbrev pub group_offset : Family → ℕ
+group_offset V4 = 4
+group_offset V6 = 8
 
 -- the time within which a listener answers, as its code
 abbrev pub max_code_of : Family → List ℕ → ℕ
 max_code_of V4 payload = slice_index payload 1
 max_code_of V6 payload = big_number 2 (drop 4 payload)
 
+-- the group's address as a number
 abbrev pub group_number : Family → List ℕ → ℕ
-group_number family payload = big_number (width family) (drop (group_place family) payload)
+group_number family payload = big_number (width family) (drop (group_offset family) payload)
 
 -- what follows the group: four reserved bits, the flag S and the robustness variable of three bits,
 -- the interval's code, the number of sources, and the sources
-abbrev pub behind_group : Family → List ℕ → List ℕ
-behind_group family payload = drop (group_place family + width family) payload
+abbrev pub after_group : Family → List ℕ → List ℕ
+after_group family payload = drop (group_offset family + width family) payload
 
+-- the octet with the flag and the robustness variable
 abbrev pub query_flags : Family → List ℕ → ℕ
-query_flags family payload = slice_index (behind_group family payload) 0
+query_flags family payload = slice_index (after_group family payload) 0
 
--- of those flags the robustness variable, and whether S is set
+-- of that octet the robustness variable (RFC 3376, section 4.1.6)
 abbrev pub robustness_in : ℕ → ℕ
 robustness_in flags = flags % 8
 
+-- and whether the flag S is set, to suppress router-side processing (RFC 3376, section 4.1.5)
 abbrev pub suppresses : ℕ → Bool
 suppresses flags = flags / 8 % 2 == 1
 
-abbrev pub asked_sources : Family → List ℕ → ℕ
-asked_sources family payload = big_number 2 (drop 2 (behind_group family payload))
+-- the number of sources that are asked for (RFC 3376, section 4.1.8)
+abbrev pub query_source_count : Family → List ℕ → ℕ
+query_source_count family payload = source_count (after_group family payload)
 
 -- the octets of a query without sources
-abbrev pub query_least : Family → ℕ
-query_least family = group_place family + width family + 4
+abbrev pub least_query_length : Family → ℕ
+least_query_length family = group_offset family + width family + 4
 
 -- and with as many as the payload states
 abbrev pub query_length : Family → List ℕ → ℕ
-query_length family payload = query_least family + asked_sources family payload * width family
+query_length family payload = least_query_length family + query_source_count family payload * width family
 
 -- a query of these values, with all of its sources. These, reserved octets and bits, and what
 -- follows the last source may be any.
@@ -66,8 +71,8 @@ pub record IsQuery (family : Family) (pseudo_header : List ℕ) (query : QueryRe
   pub group : address_in family (group_number family payload) ≡ query.group
   pub suppress : suppresses (query_flags family payload) ≡ query.suppress
   pub robustness : robustness_in (query_flags family payload) ≡ query.fields.robustness
-  pub interval_code : slice_index (behind_group family payload) 1 ≡ query.fields.interval_code
-  pub sources : asked_sources family payload ≡ query.sources
+  pub interval_code : slice_index (after_group family payload) 1 ≡ query.fields.interval_code
+  pub sources : query_source_count family payload ≡ query.sources
 
 -- that query
 abbrev pub query_at : Family → List ℕ → QueryRead
@@ -75,24 +80,25 @@ query_at family payload = record {
   fields = record {
     max_code = max_code_of family payload;
     robustness = robustness_in (query_flags family payload);
-    interval_code = slice_index (behind_group family payload) 1;
+    interval_code = slice_index (after_group family payload) 1;
   };
   suppress = suppresses (query_flags family payload);
   group = address_in family (group_number family payload);
-  sources = asked_sources family payload;
+  sources = query_source_count family payload;
 }
 
 -- a General Query: of every group and no source, and it suppresses nothing
 abbrev pub general_query : Family → QueryFields → QueryRead
 general_query family fields = record { fields = fields; suppress = false; group = address_in family 0; sources = 0 }
 
+-- octets that are one
 abbrev pub IsGeneralQuery : Family → List ℕ → QueryFields → List ℕ → Type 0
 IsGeneralQuery family pseudo_header fields payload = IsQuery family pseudo_header (general_query family fields) payload
 
 -- the greatest code of the time within which a listener answers: it has 8 bits in IGMP, and 16 in MLD
-abbrev pub most_code : Family → ℕ
-most_code V4 = 255
-most_code V6 = 65535
+abbrev pub greatest_code : Family → ℕ
+greatest_code V4 = 255
+greatest_code V6 = 65535
 
 -- the end of the General Query that is written: every group, no flag beside the robustness, and no sources
 abbrev pub every_group : Family → QueryFields → List ℕ
@@ -111,23 +117,26 @@ written_query family pseudo_header fields =
     query_with_sum (internet_sum_of (pseudo_header ++ query_with_sum 0 family fields)) family fields
 
 -- fewer octets than the query takes with its sources
-abbrev pub sources_fault : Family → List ℕ → Option ReportFault
-sources_fault family payload =
-    if nat_lt (length payload) (query_length family payload) then Some (SourceShort 0) else None
+abbrev pub missing_sources : Family → List ℕ → Bool × ReportFault
+missing_sources family payload = (nat_lt (length payload) (query_length family payload), SourceShort 0)
 
--- the first condition that holds: too few octets, another type, a wrong sum, sources that aren't
--- all there
-abbrev pub first_query_fault : Family → List ℕ → List ℕ → Option ReportFault
-first_query_fault family pseudo_header payload =
-    if nat_lt (length payload) (query_least family) then Some (Short (query_least family) (length payload))
-    else (if slice_index payload 0 == query_type family
-    then fault_or (sum_fault pseudo_header payload) (sources_fault family payload)
-    else Some (Kind (slice_index payload 0)))
+-- what is wrong with a query, in order: too few octets, another type, a wrong sum, sources that aren't all
+-- there (RFC 3376, section 4.1; RFC 3810, section 5.1)
+abbrev pub query_faults : Family → List ℕ → List ℕ → Conditions ReportFault
+query_faults family pseudo_header payload =
+    (nat_lt (length payload) (least_query_length family), Short (least_query_length family) (length payload))
+    ∷ (not (slice_index payload 0 == query_type family), Kind (slice_index payload 0))
+    ∷ wrong_sum pseudo_header payload
+    ∷ missing_sources family payload
+    ∷ []
 
--- the values of the query that the payload is, or its first fault
-abbrev pub query_of : Family → List ℕ → List ℕ → Result QueryRead ReportFault
-query_of family pseudo_header payload =
-    reading_by (first_query_fault family pseudo_header payload) (query_at family payload)
+-- the first of these that holds
+unfoldable pub first_query_fault : Family → List ℕ → List ℕ → Option ReportFault
+first_query_fault family pseudo_header payload = first_holding (query_faults family pseudo_header payload)
+
+-- the values of the query that the payload is, unless there is a first fault
+unfoldable pub query_of : Family → List ℕ → List ℕ → Result QueryRead ReportFault
+query_of family pseudo_header payload = unless (first_query_fault family pseudo_header payload) (query_at family payload)
 
 -- a fault that a query may have: no older version of it is told apart, and it has no records but
 -- one list of sources

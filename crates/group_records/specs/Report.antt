@@ -5,16 +5,16 @@ use Rattle.byteorder.specs.Endian.{big_number}
 use Rattle.inner_datagrams.specs.Checksum.{IsRight}
 use Rattle.source_filter.specs.declared.record.Record.{Record}
 use Rattle.group_records.specs.declared.family.Family.{Family}
-use Rattle.group_records.specs.Carried.{Carried, IsCarried, carried_octets, known_records}
+use Rattle.group_records.specs.CarriedRecord.{CarriedRecord, IsCarriedRecord, record_octets, known_records}
 use Rattle.group_records.specs.Family.{report_type}
 
 -- so many records, one after another; what follows the last may be any
 pub record AreRecords (family : Family) (count : ℕ) (records : List Record) (bytes : List ℕ) : Type 0 where
-  pub carried : List Carried
+  pub carried : List CarriedRecord
   pub rest : List ℕ
   pub number : length carried ≡ count
-  pub lawful : All (IsCarried family) carried
-  pub spelled : bytes ≡ flat_map (carried_octets family) carried ++ rest
+  pub lawful : All (IsCarriedRecord family) carried
+  pub spelled : bytes ≡ flat_map (record_octets family) carried ++ rest
   pub known : records ≡ known_records family carried
 
 -- a report of these records; the reserved octets 1, 4 and 5 may be any

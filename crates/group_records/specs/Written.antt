@@ -61,11 +61,12 @@ abbrev pub report_length : Family → List Record → ℕ
 report_length family records =
     8 + sum_by (λ group_record. head_length family + length group_record.sources * width family) records
 
--- the number of an address fits its octets, and so do those of all addresses of a record
+-- the number of an address fits its octets
 abbrev pub FitsOctets : Ip → Type 0
 FitsOctets (Address4 number) = number < 256 ^ 4
 FitsOctets (Address6 number) = number < 256 ^ 16
 
+-- and so do those of all addresses of a record
 pub record HasFittingAddresses (group_record : Record) : Type 0 where
   pub group : FitsOctets group_record.group
   pub sources : All FitsOctets group_record.sources

@@ -1,8 +1,11 @@
+//! The codes of times, both ways. It must not know in which field a code stands.
+
 ghost use Rattle.std.specs.Prelude.{◌≡◌, ◌<◌, ◌≤◌, ◌^◌, ℕ, IfSome, Some};
 ghost use Rattle.group_records.specs.Code.{code_count, code_value, code_with, mantissa_bits, mantissa_of};
 
 use crate::family::Family;
 
+// How many codes there are.
 fn code_count(family: Family) -> u32
     ensures { result ≡ code_count family }
 {
@@ -12,6 +15,7 @@ fn code_count(family: Family) -> u32
     }
 }
 
+// How many bits a mantissa has.
 fn mantissa_bits(family: Family) -> u32
     ensures value { result ≡ mantissa_bits family }
     ensures most { result ≤ 12 }
@@ -29,6 +33,7 @@ fn mantissa_of(family: Family, number: u32) -> u32
     number & ((1 << mantissa_bits(family)) - 1)
 }
 
+// The code of the upper half that has this exponent and this mantissa.
 fn code_with(family: Family, exponent: u32, mantissa: u32) -> u16
     requires exponent { exponent < 8 }
     requires mantissa { mantissa < 2 ^ mantissa_bits family }

@@ -1,3 +1,5 @@
+//! What the two address families differ in. It must not know what a message says.
+
 ghost use Rattle.std.specs.Prelude.{◌≡◌, ◌≤◌, length};
 ghost use Rattle.byteorder.specs.Endian.{big_number};
 ghost use Rattle.group_records.specs.Family.{address_in, is_old_report, report_type, width};
@@ -14,6 +16,7 @@ pub enum Family {
     V6,
 }
 
+// The octets of an address.
 pub fn width(family: Family) -> usize
     ensures value { result ≡ width family }
     ensures most { result ≤ 16 }
@@ -35,6 +38,7 @@ pub fn address_at(family: Family, octets: &[u8]) -> Ip
     }
 }
 
+// The type of a membership report.
 pub fn report_type(family: Family) -> u8
     ensures { result ≡ report_type family }
 {
@@ -44,6 +48,7 @@ pub fn report_type(family: Family) -> u8
     }
 }
 
+// The type of a report of an older version of the protocol.
 pub fn is_old_report(family: Family, kind: u8) -> bool
     ensures { result ≡ is_old_report family kind }
 {

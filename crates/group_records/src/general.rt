@@ -1,8 +1,10 @@
+//! A General Query is written here. It must not know how a query is read.
+
 ghost use Rattle.std.specs.Prelude.{◌≡◌, ◌≤◌, ◌%◌, ◌∷◌, ◌++◌, [], length, IfOk};
 ghost use Rattle.byteorder.specs.Endian.{big_bytes};
 ghost use Rattle.group_records.specs.declared.family.Family.TheVariants.{V4, V6};
 ghost use Rattle.group_records.specs.Family.{address_in};
-ghost use Rattle.group_records.specs.Query.{IsGeneralQuery, most_code, query_least, query_type, query_with_sum, written_query};
+ghost use Rattle.group_records.specs.Query.{IsGeneralQuery, greatest_code, least_query_length, query_type, query_with_sum, written_query};
 
 use crate::family::Family;
 use crate::query::query_type;
@@ -21,13 +23,14 @@ fn no_group(family: Family) -> Ip
     }
 }
 
-// The octets before the group, with a zero in place of the checksum.
+// The octets of IGMP before the group, with a zero in place of the checksum.
 fn head4(max_code: u8) -> [u8; 4]
     ensures { result ≡ query_type V4 ∷ max_code ∷ 0 ∷ 0 ∷ [] }
 {
     [query_type(Family::V4), max_code, 0, 0]
 }
 
+// Those of MLD.
 fn head6(max_code: u16) -> [u8; 8]
     ensures { result ≡ query_type V6 ∷ 0 ∷ 0 ∷ 0 ∷ big_bytes 2 max_code ++ 0 ∷ 0 ∷ [] }
 {
@@ -41,7 +44,7 @@ fn unsummed_query(
     family: Family,
     fields: &QueryFields,
 ) -> Result<Vec<u8>, AllocError>
-    requires { fields.now.max_code ≤ most_code family }
+    requires { fields.now.max_code ≤ greatest_code family }
     ensures { IfOk result (λ octets. octets.items ≡ query_with_sum 0 family fields.now) }
 {
     let mut octets = Vec::new(alloc);
@@ -68,12 +71,12 @@ pub fn write_query(
 ) -> Result<Bytes, AllocError>
     requires pseudo_header_even { length pseudo_header.now % 2 ≡ 0 }
     requires pseudo_header_most { length pseudo_header.now ≤ 65535 }
-    requires code { fields.now.max_code ≤ most_code family }
+    requires code { fields.now.max_code ≤ greatest_code family }
     requires robustness { fields.now.robustness ≤ 7 }
 
     ensures written { IfOk result (λ bytes.
         bytes ≡ written_query family pseudo_header.now fields.now) }
-    ensures length { IfOk result (λ bytes. length bytes ≡ query_least family) }
+    ensures length { IfOk result (λ bytes. length bytes ≡ least_query_length family) }
     ensures read_back { IfOk result (IsGeneralQuery family pseudo_header.now fields.now) }
 {
     let mut octets = unsummed_query(alloc, family, fields)?;

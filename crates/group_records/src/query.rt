@@ -1,7 +1,10 @@
-ghost use Rattle.std.specs.Prelude.{◌≡◌, ◌≤◌, ◌%◌, length, IfOk, IfErr, Ok, Err, MatchResult, None, Some};
+//! A query is read here. It must not know what is answered to one.
+
+ghost use Rattle.std.specs.Prelude.{◌≡◌, ◌≤◌, ◌%◌, [], ◌∷◌, length, IfOk, IfErr, Ok, Err, MatchResult, None, Some};
 ghost use Rattle.source_filter.specs.declared.query.QueryRead.{QueryRead as QueryReadValue};
 ghost use Rattle.source_filter.specs.declared.fault.ReportFault.{ReportFault as ReportFaultValue};
-ghost use Rattle.group_records.specs.Query.{IsQuery, IsQueryFault, first_query_fault, group_place, max_code_of, query_at, query_of, query_least, query_length, query_type, robustness_in, sources_fault, suppresses};
+ghost use Rattle.contract_words.specs.Conditions.{first_holding};
+ghost use Rattle.group_records.specs.Query.{IsQuery, IsQueryFault, first_query_fault, group_offset, max_code_of, query_at, query_of, least_query_length, query_length, query_type, missing_sources, robustness_in, suppresses};
 
 use crate::family::{Family, address_at, width};
 use crate::record::source_count;
@@ -10,6 +13,7 @@ use amt_values::INPUT_LIMIT;
 use byteorder::{BigEndian, ByteOrder};
 use source_filter::{QueryFields, QueryRead, ReportFault};
 
+// The type of a membership query.
 pub fn query_type(family: Family) -> u8
     ensures { result ≡ query_type family }
 {
@@ -19,8 +23,9 @@ pub fn query_type(family: Family) -> u8
     }
 }
 
-fn group_place(family: Family) -> usize
-    ensures value { result ≡ group_place family }
+// The octets before the group.
+fn group_offset(family: Family) -> usize
+    ensures value { result ≡ group_offset family }
     ensures most { result ≤ 8 }
 {
     match family {
@@ -29,15 +34,17 @@ fn group_place(family: Family) -> usize
     }
 }
 
-fn query_least(family: Family) -> usize
-    ensures value { result ≡ query_least family }
+// The octets of a query without sources.
+fn least_query_length(family: Family) -> usize
+    ensures value { result ≡ least_query_length family }
     ensures most { result ≤ 28 }
 {
-    group_place(family) + width(family) + 4
+    group_offset(family) + width(family) + 4
 }
 
+// The code of the time within which a listener answers.
 fn max_code_at(family: Family, payload: &[u8]) -> u16
-    requires { query_least family ≤ length payload.now }
+    requires { least_query_length family ≤ length payload.now }
     ensures { result ≡ max_code_of family payload.now }
 {
     match family {
@@ -49,49 +56,53 @@ fn max_code_at(family: Family, payload: &[u8]) -> u16
     }
 }
 
+// The robustness variable in that octet (RFC 3376, section 4.1.6).
 fn robustness_in(flags: u8) -> u8
     ensures { result ≡ robustness_in flags }
 {
     flags & 7
 }
 
+// Whether the flag S is set in the octet after the group (RFC 3376, section 4.1.5).
 fn suppresses(flags: u8) -> bool
     ensures { result ≡ suppresses flags }
 {
     flags >> 3 & 1 == 1
 }
 
+// The values of the query that stands in the octets.
 fn query_at(family: Family, payload: &[u8]) -> QueryRead
-    requires { query_least family ≤ length payload.now }
+    requires { least_query_length family ≤ length payload.now }
     ensures { result ≡ query_at family payload.now }
 {
-    let (_, group) = payload.split_at(group_place(family));
-    let (_, behind_group) = payload.split_at(group_place(family) + width(family));
-    let flags = behind_group[0];
+    let (_, group) = payload.split_at(group_offset(family));
+    let (_, after_group) = payload.split_at(group_offset(family) + width(family));
+    let flags = after_group[0];
     QueryRead {
         fields: QueryFields {
             max_code: max_code_at(family, payload),
             robustness: robustness_in(flags),
-            interval_code: behind_group[1],
+            interval_code: after_group[1],
         },
         suppress: suppresses(flags),
         group: address_at(family, group),
-        sources: source_count(behind_group),
+        sources: source_count(after_group),
     }
 }
 
 // The octets that the query takes with its sources.
 fn query_length(family: Family, payload: &[u8]) -> usize
-    requires { query_least family ≤ length payload.now }
+    requires { least_query_length family ≤ length payload.now }
     ensures { result ≡ query_length family payload.now }
 {
-    let (_, behind_group) = payload.split_at(group_place(family) + width(family));
-    query_least(family) + usize::from(source_count(behind_group)) * width(family)
+    let (_, after_group) = payload.split_at(group_offset(family) + width(family));
+    least_query_length(family) + usize::from(source_count(after_group)) * width(family)
 }
 
+// The fault that the sources aren't all there.
 fn sources_fault(family: Family, payload: &[u8]) -> Option<ReportFault>
-    requires { query_least family ≤ length payload.now }
-    ensures { result ≡ sources_fault family payload.now }
+    requires { least_query_length family ≤ length payload.now }
+    ensures { result ≡ first_holding (missing_sources family payload.now ∷ []) }
 {
     if payload.len() < query_length(family, payload) {
         return Some(ReportFault::SourceShort(0));
@@ -99,13 +110,15 @@ fn sources_fault(family: Family, payload: &[u8]) -> Option<ReportFault>
     None
 }
 
+// The first fault of a query.
+#[tactic(auto, unfolding(crate::specs::Query::first_query_fault))]
 fn query_fault(family: Family, pseudo_header: &[u8], payload: &[u8]) -> Option<ReportFault>
     requires pseudo_header_even { length pseudo_header.now % 2 ≡ 0 }
     requires pseudo_header_most { length pseudo_header.now ≤ 65535 }
     requires payload_most { length payload.now ≤ INPUT_LIMIT }
     ensures { result ≡ first_query_fault family pseudo_header.now payload.now }
 {
-    let least = query_least(family);
+    let least = least_query_length(family);
     if payload.len() < least {
         return Some(ReportFault::Short(least as u32, payload.len() as u32));
     }
@@ -125,6 +138,7 @@ fn query_fault(family: Family, pseudo_header: &[u8], payload: &[u8]) -> Option<R
 /// RFC 8200, section 8.1. The faults are tried in the order of `ReportFault`; a query of an older
 /// version of the protocol has too few octets. Reserved octets and bits, and what follows the
 /// sources, may be any.
+#[tactic(auto, unfolding(crate::specs::Query::first_query_fault, crate::specs::Query::query_of))]
 pub fn read_query(
     family: Family,
     pseudo_header: &[u8],

@@ -1,13 +1,17 @@
-ghost use Rattle.std.specs.Prelude.{◌≡◌, ◌≤◌, ◌*◌, ◌++◌, length, map, slice_index, is_some, true, IfOk, OnOk, OnErr};
+//! One group record is read here. It must not know the report's head or its sum.
+
+ghost use Rattle.std.specs.Prelude.{◌≡◌, ◌≤◌, ◌*◌, ◌++◌, drop, length, map, slice_index, is_some, true, IfOk, OnOk, OnErr};
+ghost use Rattle.contract_words.specs.Conditions.{first_holding};
 ghost use Rattle.group_records.specs.Family.{address_in, kind_of, width};
-ghost use Rattle.group_records.specs.Carried.{known_record};
-ghost use Rattle.group_records.specs.Reading.{carried_at, head_length, numbers_at, record_fault, record_length, source_count};
+ghost use Rattle.group_records.specs.CarriedRecord.{known_record};
+ghost use Rattle.group_records.specs.Reading.{record_at, head_length, numbers_at, record_faults, record_length, source_count};
 
 use crate::family::{Family, address_at, width};
 use byteorder::{BigEndian, ByteOrder};
 use source_filter::{Ips, Record, RecordKind, Records, ReportFault};
 use std::alloc::{AllocError, Global};
 
+// What a record of this type is about.
 fn kind_of(kind: u8) -> Option<RecordKind>
     ensures { result ≡ kind_of kind }
 {
@@ -42,8 +46,19 @@ pub fn record_length(family: Family, octets: &[u8]) -> usize
     4 + width(family) + sources + auxiliary
 }
 
+// What is left after the record at the head.
+pub fn after_record(family: Family, octets: &[u8]) -> &[u8]
+    requires head { head_length family ≤ length octets.now }
+    requires whole { record_length family octets.now ≤ length octets.now }
+    ensures { result.now ≡ drop (record_length family octets.now) octets.now }
+{
+    let (_, rest) = octets.split_at(record_length(family, octets));
+    rest
+}
+
+// The first fault of the record at the head, which has this number.
 pub fn record_fault(family: Family, index: u32, octets: &[u8]) -> Option<ReportFault>
-    ensures { result ≡ record_fault family index octets.now }
+    ensures { result ≡ first_holding (record_faults family index octets.now) }
 {
     if octets.len() < 4 + width(family) {
         return Some(ReportFault::RecordShort(index));
@@ -54,6 +69,7 @@ pub fn record_fault(family: Family, index: u32, octets: &[u8]) -> Option<ReportF
     None
 }
 
+// So many addresses, one after another.
 fn read_sources(alloc: Global, family: Family, count: u16, octets: &[u8]) -> Result<Ips, AllocError>
     requires { count * width family ≤ length octets.now }
     ensures { IfOk result (λ sources. sources
@@ -81,7 +97,7 @@ pub fn append_record(
     requires whole { record_length family octets.now ≤ length octets.now }
     ensures asks { OnErr result (is_some (kind_of (slice_index octets.now 0)) ≡ true) }
     ensures kept { OnOk result (records.new
-        ≡ records.old ++ known_record family (carried_at family octets.now)) }
+        ≡ records.old ++ known_record family (record_at family octets.now)) }
 {
     let Some(kind) = kind_of(octets[0]) else {
         return Ok(());

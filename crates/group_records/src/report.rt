@@ -1,27 +1,34 @@
-ghost use Rattle.std.specs.Prelude.{◌≡◌, ◌↔◌, ◌≤◌, ◌%◌, List, length, drop, IfOk, Ok, Err, MatchResult, None, Some, true};
+//! A membership report is read here. It must not know the datagram that carries it.
+
+ghost use Rattle.std.specs.Prelude.{◌≡◌, ◌↔◌, ◌≤◌, ◌%◌, [], ◌∷◌, List, length, IfOk, Ok, Err, MatchResult, None, Some, true};
+ghost use Rattle.contract_words.specs.Answer.{Tells};
+ghost use Rattle.contract_words.specs.Conditions.{first_holding};
 ghost use Rattle.source_filter.specs.Record.{item_count};
 ghost use Rattle.source_filter.specs.declared.record.Record.{Record as RecordValue};
 ghost use Rattle.source_filter.specs.declared.fault.ReadFault.TheVariants.{Memory};
 ghost use Rattle.source_filter.specs.declared.fault.ReportFault.{ReportFault as ReportFaultValue};
 ghost use Rattle.group_records.specs.Report.{IsReport, IsSomeReport};
-ghost use Rattle.group_records.specs.Reading.{AsksMemory, Gives, Tells, asks_memory, first_report_fault, report_head_fault, kind_fault, records_reading, report_of, sum_fault};
+ghost use Rattle.group_records.specs.Reading.{AsksMemory, Gives, asks_memory, cause_in, first_report_fault, kind_faults, records_reading, report_head_faults, report_of, wrong_sum};
 
 use crate::family::{Family, is_old_report, report_type};
-use crate::record::{append_record, record_fault, record_length};
+use crate::record::{after_record, append_record, record_fault};
 use amt_values::INPUT_LIMIT;
 use byteorder::{BigEndian, ByteOrder};
 use inner_datagrams::internet_sum_around;
 use source_filter::{ReadFault, Records, ReportFault};
 use std::alloc::Global;
 
-fn kind_fault(family: Family, kind: u8) -> ReportFault
-    ensures { result ≡ kind_fault family kind }
+// The fault of a report's type: it is an older report's, or no report's.
+fn kind_fault(family: Family, kind: u8) -> Option<ReportFault>
+    ensures { result ≡ first_holding (kind_faults family kind) }
 {
     if is_old_report(family, kind) {
-        ReportFault::OldReport(kind)
-    } else {
-        ReportFault::Kind(kind)
+        return Some(ReportFault::OldReport(kind));
     }
+    if kind != report_type(family) {
+        return Some(ReportFault::Kind(kind));
+    }
+    None
 }
 
 // The checksum that is wanted is taken where the sum of all is wrong, and only there: 0000 and ffff
@@ -31,35 +38,36 @@ pub fn sum_fault(pseudo_header: &[u8], payload: &[u8]) -> Option<ReportFault>
     requires pseudo_header_most { length pseudo_header.now ≤ 65535 }
     requires payload_least { 8 ≤ length payload.now }
     requires payload_most { length payload.now ≤ INPUT_LIMIT }
-    ensures { result ≡ sum_fault pseudo_header.now payload.now }
+    ensures { result ≡ first_holding (wrong_sum pseudo_header.now payload.now ∷ []) }
 {
     if internet_sum_around(pseudo_header, &[], payload) == 0 {
         return None;
     }
-    let (front, field_and_back) = payload.split_at(2);
-    let (_, back) = field_and_back.split_at(2);
+    let (prefix, field_and_suffix) = payload.split_at(2);
+    let (_, suffix) = field_and_suffix.split_at(2);
     Some(ReportFault::Sum(
-        internet_sum_around(pseudo_header, front, back),
-        BigEndian::read_u16(field_and_back),
+        internet_sum_around(pseudo_header, prefix, suffix),
+        BigEndian::read_u16(field_and_suffix),
     ))
 }
 
+// The first fault of the first eight octets.
 fn report_head_fault(family: Family, pseudo_header: &[u8], payload: &[u8]) -> Option<ReportFault>
     requires pseudo_header_even { length pseudo_header.now % 2 ≡ 0 }
     requires pseudo_header_most { length pseudo_header.now ≤ 65535 }
     requires payload_most { length payload.now ≤ INPUT_LIMIT }
-    ensures { result ≡ report_head_fault family pseudo_header.now payload.now }
+    ensures { result ≡ first_holding (report_head_faults family pseudo_header.now payload.now) }
 {
     if payload.len() < 8 {
         return Some(ReportFault::Short(8, payload.len() as u32));
     }
-    let kind = payload[0];
-    if kind != report_type(family) {
-        return Some(kind_fault(family, kind));
+    if let Some(fault) = kind_fault(family, payload[0]) {
+        return Some(fault);
     }
     sum_fault(pseudo_header, payload)
 }
 
+// The records of known type among so many, up to the first fault.
 fn read_records(
     alloc: Global,
     family: Family,
@@ -78,12 +86,12 @@ fn read_records(
         let Ok(()) = append_record(alloc, family, left, &mut records) else {
             return Err(ReadFault::Memory);
         };
-        let (_, rest) = left.split_at(record_length(family, left));
-        left = rest;
+        left = after_record(family, left);
     }
     Ok(records)
 }
 
+// The records of a payload, by its first fault.
 #[tactic(auto, unfolding(crate::specs::Reading::first_report_fault, crate::specs::Reading::records_reading, crate::specs::Reading::report_of))]
 fn read(
     alloc: Global,
@@ -145,7 +153,7 @@ pub fn read_report(
 
     ensures refused { MatchResult result
         (λ _. first_report_fault family pseudo_header.now payload.now ≡ None)
-        (Tells (first_report_fault family pseudo_header.now payload.now)) }
+        (λ fault. Tells (first_report_fault family pseudo_header.now payload.now) (cause_in fault)) }
     ensures fault { (fault : ReportFaultValue)
         → first_report_fault family pseudo_header.now payload.now ≡ Some fault
         → Gives result (Err fault) }

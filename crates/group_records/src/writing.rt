@@ -1,3 +1,5 @@
+//! A membership report is written here. It must not know how a report is read.
+
 ghost use Rattle.std.specs.Prelude.{◌≡◌, ◌≤◌, ◌<◌, ◌%◌, ◌∷◌, ◌++◌, length, take, drop, All, IfOk, OnOk};
 ghost use Rattle.std.specs.List.{flat_map};
 ghost use Rattle.byteorder.specs.Endian.{big_bytes};
@@ -18,6 +20,7 @@ use std::alloc::{AllocError, Global};
 /// section 4.2.16).
 pub const REPORT_LIMIT: usize = 1_400;
 
+// The type of a record.
 fn kind_number(kind: RecordKind) -> u8
     ensures { result ≡ kind_number kind }
 {
@@ -31,6 +34,7 @@ fn kind_number(kind: RecordKind) -> u8
     }
 }
 
+// Puts the octets of an address at the end.
 pub fn append_address(address: Ip, octets: &mut Vec<u8>) -> Result<(), AllocError>
     ensures fits { FitsOctets address }
     ensures ok { OnOk result (octets.new.items ≡ octets.old.items ++ address_octets address) }
@@ -41,6 +45,7 @@ pub fn append_address(address: Ip, octets: &mut Vec<u8>) -> Result<(), AllocErro
     }
 }
 
+// Puts those of all sources at the end.
 fn append_sources(sources: &[Ip], octets: &mut Vec<u8>) -> Result<(), AllocError>
     ensures fit { OnOk result (All FitsOctets sources.now) }
     ensures ok { OnOk result (octets.new.items
@@ -61,6 +66,7 @@ fn record_head(kind: RecordKind, count: u16) -> [u8; 4]
     head
 }
 
+// Puts those of a record at the end.
 fn append_written(group_record: &Record, octets: &mut Vec<u8>) -> Result<(), AllocError>
     requires { length group_record.now.sources < 65536 }
     ensures fit { OnOk result (HasFittingAddresses group_record.now) }
@@ -73,6 +79,7 @@ fn append_written(group_record: &Record, octets: &mut Vec<u8>) -> Result<(), All
     append_sources(sources, octets)
 }
 
+// Puts those of all records at the end.
 fn append_all_written(records: &[Record], octets: &mut Vec<u8>) -> Result<(), AllocError>
     requires { All (λ group_record. length group_record.sources < 65536) records.now }
     ensures fit { OnOk result (All HasFittingAddresses records.now) }

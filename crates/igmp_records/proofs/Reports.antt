@@ -3,7 +3,7 @@ use Rattle.std.proofs.Common.{◌≡◌, ◌↔◌, ℕ, List, [], Ok}
 use Rattle.amt_values.specs.Octets.{AreOctets}
 use Rattle.source_filter.specs.declared.record.Record.{Record}
 use Rattle.group_records.specs.declared.family.Family.TheVariants.{V4}
-use Rattle.group_records.proofs.Answered.{report_of-report}
+use Rattle.group_records.proofs.ReportReadings.{report_of-report}
 use Rattle.igmp_records.specs.Report.{IsReport4, report4_of}
 
 -- what is read of a payload is what it is a report of

@@ -31,9 +31,10 @@ AsksMemory4 payload = AsksMemory V4 [] payload
 abbrev pub AreRecords4 : List Record → Type 0
 AreRecords4 records = All (IsOfFamily V4) records
 
--- the one spelling of their report, and its octets
+-- the one spelling of their report
 abbrev pub written_report4 : List Record → List ℕ
 written_report4 records = written_report V4 [] records
 
+-- and its octets
 abbrev pub report_length4 : List Record → ℕ
 report_length4 records = report_length V4 records

@@ -1,3 +1,5 @@
+//! The codes of times of IGMPv3. It must not know MLD.
+
 ghost use Rattle.std.specs.Prelude.{◌≡◌, ◌<◌, ℕ, IfSome, Some};
 ghost use Rattle.igmp_records.specs.Code.{code_value};
 

@@ -14,6 +14,3 @@ mod report;
 pub use code::{code_value4, value_code4};
 pub use query::{read_query4, write_query4};
 pub use report::{read_report4, write_report4};
-
-#[cfg(test)]
-mod tests;

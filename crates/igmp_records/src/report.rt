@@ -1,9 +1,12 @@
+//! Reports of IGMPv3, both ways. It must not know their layout or MLD.
+
 ghost use Rattle.std.specs.Prelude.{◌≡◌, ◌↔◌, ◌≤◌, List, length, IfOk, Ok, Err, MatchResult, None, Some};
 ghost use Rattle.source_filter.specs.Record.{item_count};
 ghost use Rattle.source_filter.specs.declared.record.Record.{Record as RecordValue};
 ghost use Rattle.source_filter.specs.declared.fault.ReadFault.TheVariants.{Memory};
 ghost use Rattle.source_filter.specs.declared.fault.ReportFault.{ReportFault as ReportFaultValue};
-ghost use Rattle.group_records.specs.Reading.{Gives, Tells};
+ghost use Rattle.contract_words.specs.Answer.{Tells};
+ghost use Rattle.group_records.specs.Reading.{Gives, cause_in};
 ghost use Rattle.igmp_records.specs.Report.{AreRecords4, AsksMemory4, IsReport4, IsSomeReport4, first_report_fault4, report4_of, report_length4, written_report4};
 
 use amt_values::{Bytes, INPUT_LIMIT};
@@ -32,7 +35,7 @@ pub fn read_report4(alloc: Global, payload: &[u8]) -> Result<Records, ReadFault>
 
     ensures refused { MatchResult result
         (λ _. first_report_fault4 payload.now ≡ None)
-        (Tells (first_report_fault4 payload.now)) }
+        (λ fault. Tells (first_report_fault4 payload.now) (cause_in fault)) }
     ensures fault { (fault : ReportFaultValue) → first_report_fault4 payload.now ≡ Some fault
         → Gives result (Err fault) }
     ensures memory { result ≡ Err Memory → AsksMemory4 payload.now }

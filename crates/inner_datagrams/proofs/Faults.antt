@@ -3,16 +3,17 @@ use Rattle.std.proofs.Common.{◌≡◌, ℕ, ◌≤◌, List, ◌∷◌, ◌++�
 use Rattle.std.proofs.lemmas.Bool.{eqb-true, ne_eqb}
 use Rattle.amt_values.specs.declared.address.Ip.{Ip}
 use Rattle.amt_values.specs.declared.address.Ip.TheVariants.{V4, V6}
+use Rattle.contract_words.specs.Conditions.{Conditions, first_holding}
 use Rattle.inner_datagrams.specs.Header.{ip_version}
 use Rattle.inner_datagrams.specs.Inner.{IsInner, IsInner4, IsInner6}
-use Rattle.inner_datagrams.specs.Fault.{Conditions, first_holding, first_inner_fault, version_faults, faults4, faults6}
+use Rattle.inner_datagrams.specs.Fault.{first_inner_fault, version_faults, faults4, faults6}
 use Rattle.inner_datagrams.specs.Reading.{HasParts, inner_at, inner4_at, inner6_at, payload_of, payload_start}
 use Rattle.inner_datagrams.specs.declared.inner.Inner.{Inner}
 use Rattle.inner_datagrams.specs.declared.inner.InnerFault.{InnerFault}
 use Rattle.inner_datagrams.specs.declared.inner.InnerFault.TheVariants.{Version, ShortHeader}
-use Rattle.inner_datagrams.proofs.Conditions.{skipped}
+use Rattle.contract_words.proofs.ConditionLaws.{skipped}
 use Rattle.inner_datagrams.proofs.Lawful4.{inner4_of_no_fault, no_fault_of_inner4}
-use Rattle.inner_datagrams.proofs.Lawful6.{IsBehind-follows, inner6_of_no_fault, no_fault_of_inner6}
+use Rattle.inner_datagrams.proofs.Lawful6.{HasWholeHeaders-follows, inner6_of_no_fault, no_fault_of_inner6}
 use Rattle.inner_datagrams.proofs.Payloads.{payload_whole}
 
 -- these parts are those of an inner datagram
@@ -23,9 +24,9 @@ pub version4 : (version : ℕ) → not (eqb version 4 || eqb version 6) ≡ fals
 version4 version one not_six = eqb-true version 4 (grind arith)
 
 -- where no condition on the version holds, the first fault is that of the conditions after it
-behind_version : (bytes : List ℕ) (rest : Conditions InnerFault) → first_holding (version_faults bytes ++ rest) ≡ None
+after_version : (bytes : List ℕ) (rest : Conditions InnerFault) → first_holding (version_faults bytes ++ rest) ≡ None
     → (not (eqb (ip_version bytes) 4 || eqb (ip_version bytes) 6) ≡ false) × (first_holding rest ≡ None)
-behind_version bytes rest none =
+after_version bytes rest none =
     let other = not (eqb (ip_version bytes) 4 || eqb (ip_version bytes) 6) in
     let version = Version (ip_version bytes) in
     let some = skipped (eqb (length bytes) 0) (ShortHeader 20 0) ((other, version) ∷ rest) none in
@@ -34,9 +35,9 @@ behind_version bytes rest none =
 inner_by_version : (six : Bool) (bytes : List ℕ) → eqb (ip_version bytes) 6 ≡ six
     → first_holding (version_faults bytes ++ cond six (faults6 bytes) (faults4 bytes)) ≡ None
     → IsInnerAt (cond six (inner6_at bytes) (inner4_at bytes)) bytes
-inner_by_version true bytes test none = inner6_of_no_fault bytes (eqb-true _ _ test) (behind_version bytes (faults6 bytes) none).1
+inner_by_version true bytes test none = inner6_of_no_fault bytes (eqb-true _ _ test) (after_version bytes (faults6 bytes) none).1
 inner_by_version false bytes test none =
-    let known = behind_version bytes (faults4 bytes) none in
+    let known = after_version bytes (faults4 bytes) none in
     inner4_of_no_fault bytes (version4 _ known.0 test) known.1
 
 -- bytes with no fault are the inner datagram that stands in them
@@ -77,7 +78,7 @@ parts6 source destination payload bytes h =
     record {
       comes_from = ap (λ (n : ℕ). V6 n) h.comes_from;
       goes_to = ap (λ (n : ℕ). V6 n) h.goes_to;
-      carries = payload_whole _ bytes ∙ (IsBehind-follows payload bytes h.whole_header h.follows).carries;
+      carries = payload_whole _ bytes ∙ (HasWholeHeaders-follows payload bytes h.whole_header h.follows).carries;
     }
 
 pub IsLawful-inner : (source destination : Ip) (payload bytes : List ℕ) → IsInner source destination payload bytes
@@ -91,7 +92,7 @@ IsLawful-inner (V4 source) (V4 destination) payload bytes h =
 IsLawful-inner (V6 source) (V6 destination) payload bytes h =
     record {
       none = no_fault6 source destination payload bytes h;
-      within = rw h.version (IsBehind-follows payload bytes h.whole_header h.follows).within;
+      within = rw h.version (HasWholeHeaders-follows payload bytes h.whole_header h.follows).within;
       parts = rw h.version (parts6 source destination payload bytes h);
     }
 IsLawful-inner (V4 source) (V6 destination) payload bytes h = absurd h

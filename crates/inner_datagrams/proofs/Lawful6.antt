@@ -1,12 +1,13 @@
 -- IPv6: bytes have no fault after their version exactly where they are an inner datagram.
 use Rattle.std.proofs.Common.{◌≡◌, ◌⊎◌, inl, inr, ℕ, ◌≤◌, List, length, drop, ltb, eqb, cond, Bool, true, false, ◌&&◌, None, refl, sym, arith}
 use Rattle.std.proofs.lemmas.Bool.{le-ltb, ltb-false, eqb-true}
+use Rattle.contract_words.specs.Conditions.{first_holding}
 use Rattle.inner_datagrams.specs.Header.{ip_version}
 use Rattle.inner_datagrams.specs.Header6.{next_header, has_hop_by_hop, hop_by_hop_next, hop_by_hop_end, headers_end6, last_next_header, source_number6, destination_number6}
 use Rattle.inner_datagrams.specs.Inner.{FollowsHeader, FollowsHopByHop, IsInner6}
-use Rattle.inner_datagrams.specs.Fault.{first_holding, faults6}
+use Rattle.inner_datagrams.specs.Fault.{faults6}
 use Rattle.inner_datagrams.specs.Reading.{payload_of}
-use Rattle.inner_datagrams.proofs.Conditions.{NoneHolds-of, first_holding-none, holds_not, skips_same}
+use Rattle.contract_words.proofs.ConditionLaws.{NoneHolds-of, first_holding-none, holds_not, skips_same}
 use Rattle.inner_datagrams.proofs.Payloads.{payload_whole}
 
 -- with a hop-by-hop header or without one, ICMPv6 follows the headers
@@ -15,14 +16,14 @@ follows_by : (hop : Bool) (payload bytes : List ℕ) → eqb (next_header bytes)
     → cond hop (hop_by_hop_next bytes) (next_header bytes) ≡ 58
     → payload ≡ drop (cond hop (hop_by_hop_end bytes) 40) bytes
     → FollowsHeader payload bytes ⊎ FollowsHopByHop payload bytes
-follows_by true payload bytes test whole kind behind = inr (
+follows_by true payload bytes test whole kind after = inr (
     record {
       announced = eqb-true _ _ test;
       whole_options = ltb-false _ _ whole;
       protocol = kind;
-      carries = sym behind;
+      carries = sym after;
     })
-follows_by false payload bytes test whole kind behind = inl (record { protocol = kind; carries = sym behind })
+follows_by false payload bytes test whole kind after = inl (record { protocol = kind; carries = sym after })
 
 pub inner6_of_no_fault : (bytes : List ℕ) → ip_version bytes ≡ 6 → first_holding (faults6 bytes) ≡ None
     → IsInner6 (source_number6 bytes) (destination_number6 bytes) (payload_of (headers_end6 bytes) (length bytes) bytes) bytes
@@ -38,16 +39,16 @@ inner6_of_no_fault bytes version none =
     }
 
 -- where ICMPv6 follows the headers, these are there whole
-pub record IsBehind (payload bytes : List ℕ) : Type 0 where
+pub record HasWholeHeaders (payload bytes : List ℕ) : Type 0 where
   pub least_options : (has_hop_by_hop bytes && ltb (length bytes) 48) ≡ false
   pub whole_options : (has_hop_by_hop bytes && ltb (length bytes) (hop_by_hop_end bytes)) ≡ false
   pub kind : last_next_header bytes ≡ 58
   pub within : headers_end6 bytes ≤ length bytes
   pub carries : drop (headers_end6 bytes) bytes ≡ payload
 
-pub IsBehind-follows : (payload bytes : List ℕ) → 40 ≤ length bytes → FollowsHeader payload bytes ⊎ FollowsHopByHop payload bytes
-    → IsBehind payload bytes
-IsBehind-follows payload bytes header (inl h) =
+pub HasWholeHeaders-follows : (payload bytes : List ℕ) → 40 ≤ length bytes → FollowsHeader payload bytes ⊎ FollowsHopByHop payload bytes
+    → HasWholeHeaders payload bytes
+HasWholeHeaders-follows payload bytes header (inl h) =
     record {
       least_options = rw h.protocol refl;
       whole_options = rw h.protocol refl;
@@ -55,7 +56,7 @@ IsBehind-follows payload bytes header (inl h) =
       within = rw h.protocol header;
       carries = rw h.protocol h.carries;
     }
-IsBehind-follows payload bytes header (inr h) =
+HasWholeHeaders-follows payload bytes header (inr h) =
     let end = h.whole_options in
     record {
       least_options = rw h.announced (le-ltb (length bytes) 48 (omega arith));
@@ -68,11 +69,11 @@ IsBehind-follows payload bytes header (inr h) =
 pub no_fault_of_inner6 : (source destination : ℕ) (payload bytes : List ℕ) → IsInner6 source destination payload bytes
     → first_holding (faults6 bytes) ≡ None
 no_fault_of_inner6 source destination payload bytes h =
-    let behind = IsBehind-follows payload bytes h.whole_header h.follows in
+    let after = HasWholeHeaders-follows payload bytes h.whole_header h.follows in
     first_holding-none (faults6 bytes) (
       le-ltb _ _ h.whole_header,
       (
         skips_same _ _ h.whole_datagram,
-        (behind.least_options, (behind.whole_options, rw behind.kind (refl, (refl, (refl, tt))))),
+        (after.least_options, (after.whole_options, rw after.kind (refl, (refl, (refl, tt))))),
       ),
     )

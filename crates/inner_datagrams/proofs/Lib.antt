@@ -1,4 +1,3 @@
-pub mod Conditions
 pub mod Faults
 pub mod Heads
 pub mod Lawful4

@@ -29,5 +29,5 @@ sum_by-pairs (high ∷ low ∷ rest) (suc k) half =
 pub sum_of_pairs : (bytes : List ℕ) (pairs : List (List ℕ)) (odd : List ℕ) (n total : ℕ)
     → pairs ≡ first_chunks 2 (length bytes / 2) bytes → odd ≡ drop (length bytes / 2 * 2) bytes
     → length pairs ≤ n → total ≡ sum_by word_of (take n pairs) → total + slice_index odd 0 * 256 ≡ sum (words bytes)
-sum_of_pairs bytes pairs odd n total front back all total_is =
-    let whole = sum_by-pairs bytes (length bytes / 2) refl in rw (total_is, take_all n pairs all, front, back) whole
+sum_of_pairs bytes pairs odd n total prefix suffix all total_is =
+    let whole = sum_by-pairs bytes (length bytes / 2) refl in rw (total_is, take_all n pairs all, prefix, suffix) whole

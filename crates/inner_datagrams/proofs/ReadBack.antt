@@ -1,4 +1,4 @@
--- A written datagram is read back.
+-- A written datagram is read suffix.
 use Rattle.std.proofs.Common.{◌≡◌, ℕ, ◌+◌, ◌^◌, ◌<◌, ◌≤◌, List, [], ◌∷◌, ◌++◌, length, drop, inr, refl, sym, subst, ap, ◌∙◌, arith, rules}
 use Rattle.byteorder.specs.Endian.{big_bytes}
 use Rattle.byteorder.specs.Numbers.{big_number-reads_back}
@@ -16,8 +16,8 @@ use Rattle.inner_datagrams.proofs.RightSum.{IsRight-filled}
 abbrev before_sum : ℕ → List ℕ
 before_sum total_length = 0x46 ∷ 0xc0 ∷ big_bytes 2 total_length ++ 0 ∷ 0 ∷ 0 ∷ 0 ∷ [] ++ 1 ∷ 2 ∷ []
 
-abbrev behind_sum : ℕ → ℕ → List ℕ
-behind_sum source destination = big_bytes 4 source ++ big_bytes 4 destination ++ 0x94 ∷ 4 ∷ 0 ∷ 0 ∷ []
+abbrev after_sum : ℕ → ℕ → List ℕ
+after_sum source destination = big_bytes 4 source ++ big_bytes 4 destination ++ 0x94 ∷ 4 ∷ 0 ∷ 0 ∷ []
 
 AreOctets-header4_with_sum : (total_length source destination : ℕ) → AreOctets (header4_with_sum 0 total_length source destination)
 AreOctets-header4_with_sum total_length source destination =
@@ -25,7 +25,7 @@ AreOctets-header4_with_sum total_length source destination =
 
 IsRight-header4 : (total_length source destination : ℕ) → IsRight (header4 total_length source destination)
 IsRight-header4 total_length source destination =
-    IsRight-filled (before_sum total_length) (behind_sum source destination) 5 refl (AreOctets-header4_with_sum total_length source destination)
+    IsRight-filled (before_sum total_length) (after_sum source destination) 5 refl (AreOctets-header4_with_sum total_length source destination)
 
 -- each field of a written IPv4 datagram stands at its place
 pub IsInner4-written_inner4 : (source destination : ℕ) (payload : List ℕ) → source < 2 ^ 32 → destination < 2 ^ 32 → length payload ≤ 60000

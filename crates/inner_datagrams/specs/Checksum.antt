@@ -24,6 +24,6 @@ internet_sum_of bytes = 65535 - ones_sum (words bytes)
 abbrev pub IsRight : List ℕ → Type 0
 IsRight bytes = ones_sum (words bytes) ≡ 65535
 
--- the same as a test
-abbrev pub is_right : List ℕ → Bool
-is_right bytes = ones_sum (words bytes) == 65535
+-- that they do, as a test
+abbrev pub has_right_sum : List ℕ → Bool
+has_right_sum bytes = ones_sum (words bytes) == 65535

@@ -1,19 +1,11 @@
 -- The first fault of bytes that are no inner datagram.
-use Rattle.std.specs.Prelude.{ℕ, ◌==◌, ◌&&◌, ◌||◌, nat_lt, not, Bool, List, [], ◌∷◌, ◌++◌, length, Option, Some, None, if◌then◌else◌}
-use Rattle.inner_datagrams.specs.Checksum.{internet_sum_of, is_right}
+use Rattle.std.specs.Prelude.{ℕ, ◌==◌, ◌&&◌, ◌||◌, nat_lt, not, Bool, List, [], ◌∷◌, ◌++◌, length, Option, if◌then◌else◌}
+use Rattle.contract_words.specs.Conditions.{Conditions, first_holding}
+use Rattle.inner_datagrams.specs.Checksum.{internet_sum_of, has_right_sum}
 use Rattle.inner_datagrams.specs.Header.{ip_version, header_words, header_octets, header_of, total_length, fragment_bits, protocol_number, header_sum, with_zero_sum}
 use Rattle.inner_datagrams.specs.Header6.{whole_length6, has_hop_by_hop, hop_by_hop_end, last_next_header}
 use Rattle.inner_datagrams.specs.declared.inner.InnerFault.{InnerFault}
 use Rattle.inner_datagrams.specs.declared.inner.InnerFault.TheVariants.{Version, ShortHeader, HeaderLength, TotalLength, HeaderSum, Fragment, Protocol, Extension}
-
--- conditions in the order in which they are tried, each with the fault that it tells
-abbrev pub Conditions : Type 0 → Type 0
-Conditions Fault = List (Bool × Fault)
-
--- the fault of the first condition that holds
-abbrev pub first_holding : {Fault : Type 0} → Conditions Fault → Option Fault
-first_holding [] = None
-first_holding (condition ∷ rest) = if condition.0 then Some condition.1 else first_holding rest
 
 -- no version, or one that isn't read (RFC 791, section 3.1; RFC 8200, section 3)
 abbrev pub version_faults : List ℕ → Conditions InnerFault
@@ -41,7 +33,7 @@ length_faults bytes = header_length_faults bytes ++ wrong_total bytes ∷ []
 -- the header's words don't add up (RFC 791, section 3.1)
 abbrev pub wrong_header_sum : List ℕ → Bool × InnerFault
 wrong_header_sum bytes =
-    (not (is_right (header_of bytes)), HeaderSum (internet_sum_of (with_zero_sum (header_of bytes))) (header_sum bytes))
+    (not (has_right_sum (header_of bytes)), HeaderSum (internet_sum_of (with_zero_sum (header_of bytes))) (header_sum bytes))
 
 -- more fragments follow, or others come before
 abbrev pub fragment : List ℕ → Bool × InnerFault

@@ -10,9 +10,11 @@ ip_version bytes = slice_index bytes 0 / 16
 abbrev pub header_words : List ℕ → ℕ
 header_words bytes = slice_index bytes 0 % 16
 
+-- its octets, 4 a word
 abbrev pub header_octets : List ℕ → ℕ
 header_octets bytes = 4 * header_words bytes
 
+-- the octets of the header itself, options included
 abbrev pub header_of : List ℕ → List ℕ
 header_of bytes = take (header_octets bytes) bytes
 
@@ -24,9 +26,11 @@ total_length bytes = big_number 2 (drop 2 bytes)
 abbrev pub fragment_bits : List ℕ → ℕ
 fragment_bits bytes = big_number 2 (drop 6 bytes) % 2 ^ 14
 
+-- the protocol that the payload speaks
 abbrev pub protocol_number : List ℕ → ℕ
 protocol_number bytes = slice_index bytes 9
 
+-- the checksum that the header states
 abbrev pub header_sum : List ℕ → ℕ
 header_sum bytes = big_number 2 (drop 10 bytes)
 
@@ -34,8 +38,10 @@ header_sum bytes = big_number 2 (drop 10 bytes)
 abbrev pub with_zero_sum : List ℕ → List ℕ
 with_zero_sum header = take 10 header ++ 0 ∷ 0 ∷ drop 12 header
 
+-- the source's address as a number
 abbrev pub source_number : List ℕ → ℕ
 source_number bytes = big_number 4 (drop 12 bytes)
 
+-- the destination's address as a number
 abbrev pub destination_number : List ℕ → ℕ
 destination_number bytes = big_number 4 (drop 16 bytes)

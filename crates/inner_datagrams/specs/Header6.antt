@@ -14,9 +14,11 @@ whole_length6 bytes = 40 + payload_length bytes
 abbrev pub next_header : List ℕ → ℕ
 next_header bytes = slice_index bytes 6
 
+-- the source's address as a number
 abbrev pub source_number6 : List ℕ → ℕ
 source_number6 bytes = big_number 16 (drop 8 bytes)
 
+-- the destination's address as a number
 abbrev pub destination_number6 : List ℕ → ℕ
 destination_number6 bytes = big_number 16 (drop 24 bytes)
 

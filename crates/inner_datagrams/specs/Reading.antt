@@ -1,5 +1,5 @@
 -- What is read of bytes: an inner datagram, or their first fault.
-use Rattle.std.specs.Prelude.{◌≡◌, ℕ, ◌-◌, ◌==◌, List, length, take, drop, Option, Some, None, Result, Ok, Err, if◌then◌else◌}
+use Rattle.std.specs.Prelude.{◌≡◌, ℕ, ◌-◌, ◌==◌, List, length, take, drop, if◌then◌else◌}
 use Rattle.amt_values.specs.declared.address.Ip.{Ip}
 use Rattle.amt_values.specs.declared.address.Ip.TheVariants.{V4, V6}
 use Rattle.inner_datagrams.specs.Header.{ip_version, header_octets, source_number, destination_number}
@@ -16,19 +16,21 @@ pub record HasParts (source destination : Ip) (payload bytes : List ℕ) (inner 
   pub goes_to : inner.destination ≡ destination
   pub carries : payload_of inner.start inner.end bytes ≡ payload
 
--- the parts of an IPv4 datagram, and by their places (RFC 791, section 3.1)
+-- an IPv4 datagram of these parts
 abbrev pub parts4 : ℕ → ℕ → ℕ → ℕ → Inner
 parts4 source destination start end =
     record { source = V4 source; destination = V4 destination; start = start; end = end }
 
+-- those parts by their places in the bytes (RFC 791, section 3.1)
 abbrev pub inner4_at : List ℕ → Inner
 inner4_at bytes = parts4 (source_number bytes) (destination_number bytes) (header_octets bytes) (length bytes)
 
--- the parts of an IPv6 datagram, and by their places (RFC 8200, sections 3 and 4.3)
+-- an IPv6 datagram of these parts
 abbrev pub parts6 : ℕ → ℕ → ℕ → ℕ → Inner
 parts6 source destination start end =
     record { source = V6 source; destination = V6 destination; start = start; end = end }
 
+-- those parts by their places in the bytes (RFC 8200, sections 3 and 4.3)
 abbrev pub inner6_at : List ℕ → Inner
 inner6_at bytes = parts6 (source_number6 bytes) (destination_number6 bytes) (headers_end6 bytes) (length bytes)
 
@@ -43,8 +45,3 @@ payload_start bytes = if ip_version bytes == 6 then headers_end6 bytes else head
 -- what a datagram carries, by its version
 abbrev pub payload_in : List ℕ → List ℕ
 payload_in bytes = drop (payload_start bytes) bytes
-
--- the value, where there is no fault
-abbrev pub unless : {Fault A : Type 0} → Option Fault → A → Result A Fault
-unless None value = Ok value
-unless (Some fault) value = Err fault

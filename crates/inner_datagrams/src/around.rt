@@ -1,9 +1,12 @@
+//! The checksum of a message around its own field. It must not know whose field it is.
+
 ghost use Rattle.std.specs.Prelude.{◌≡◌, ◌≤◌, ◌%◌, ◌∷◌, ◌++◌, length};
 ghost use Rattle.inner_datagrams.specs.Checksum.{ones_add, internet_sum_of};
 
 use crate::checksum::internet_sum;
 use amt_values::INPUT_LIMIT;
 
+// One's complement addition of two words.
 fn ones_add(one: u16, other: u16) -> u16
     ensures { result ≡ ones_add one other }
 {
@@ -11,18 +14,18 @@ fn ones_add(one: u16, other: u16) -> u16
     (sum % 0x10000 + sum / 0x10000) as u16
 }
 
-/// The checksum that belongs into a field of two octets between `front` and `back`, after a
+/// The checksum that belongs into a field of two octets between `prefix` and `suffix`, after a
 /// pseudo-header that is summed and not sent (RFC 1071, section 1; RFC 8200, section 8.1).
 ///
 /// The field stands at an even place, so the parts are summed where they stand.
-pub fn internet_sum_around(pseudo_header: &[u8], front: &[u8], back: &[u8]) -> u16
+pub fn internet_sum_around(pseudo_header: &[u8], prefix: &[u8], suffix: &[u8]) -> u16
     requires pseudo_header_even { length pseudo_header.now % 2 ≡ 0 }
     requires pseudo_header_limit { length pseudo_header.now ≤ INPUT_LIMIT }
-    requires front_even { length front.now % 2 ≡ 0 }
-    requires front_limit { length front.now ≤ INPUT_LIMIT }
-    requires back_limit { length back.now ≤ INPUT_LIMIT }
-    ensures { result ≡ internet_sum_of (pseudo_header.now ++ front.now ++ 0 ∷ 0 ∷ back.now) }
+    requires prefix_even { length prefix.now % 2 ≡ 0 }
+    requires prefix_limit { length prefix.now ≤ INPUT_LIMIT }
+    requires suffix_limit { length suffix.now ≤ INPUT_LIMIT }
+    ensures { result ≡ internet_sum_of (pseudo_header.now ++ prefix.now ++ 0 ∷ 0 ∷ suffix.now) }
 {
-    let before = ones_add(!internet_sum(pseudo_header), !internet_sum(front));
-    !ones_add(before, !internet_sum(back))
+    let before = ones_add(!internet_sum(pseudo_header), !internet_sum(prefix));
+    !ones_add(before, !internet_sum(suffix))
 }

@@ -1,5 +1,7 @@
+//! The Internet checksum of octets, and whether it is right. It must not know what they carry.
+
 ghost use Rattle.std.specs.Prelude.{◌≡◌, ◌≤◌, ◌%◌, ◌↔◌, length};
-ghost use Rattle.inner_datagrams.specs.Checksum.{internet_sum_of, is_right};
+ghost use Rattle.inner_datagrams.specs.Checksum.{internet_sum_of, has_right_sum};
 ghost use Rattle.inner_datagrams.specs.Header.{with_zero_sum};
 
 use crate::around::internet_sum_around;
@@ -33,9 +35,9 @@ pub fn internet_sum(bytes: &[u8]) -> u16
 }
 
 // All words, the checksum among them, add up to ffff.
-pub fn is_right(bytes: &[u8]) -> bool
+pub fn has_right_sum(bytes: &[u8]) -> bool
     requires { length bytes.now ≤ INPUT_LIMIT }
-    ensures { result ≡ is_right bytes.now }
+    ensures { result ≡ has_right_sum bytes.now }
 {
     internet_sum(bytes) == 0
 }
@@ -46,7 +48,7 @@ pub fn expected_sum(header: &[u8]) -> u16
     requires most { length header.now ≤ INPUT_LIMIT }
     ensures { result ≡ internet_sum_of (with_zero_sum header.now) }
 {
-    let (front, _) = header.split_at(10);
-    let (_, back) = header.split_at(12);
-    internet_sum_around(&[], front, back)
+    let (prefix, _) = header.split_at(10);
+    let (_, suffix) = header.split_at(12);
+    internet_sum_around(&[], prefix, suffix)
 }

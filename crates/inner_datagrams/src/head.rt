@@ -1,7 +1,8 @@
+//! The source and the group of a native packet. It must not know what the packet carries.
+
 ghost use Rattle.std.specs.Prelude.{◌≡◌, ◌≤◌, ◌∷◌, [], length, Err, IfNone, IfOk, MatchResult, None, Ok, Some};
-ghost use Rattle.inner_datagrams.specs.Fault.{first_holding};
+ghost use Rattle.contract_words.specs.Conditions.{first_holding, unless};
 ghost use Rattle.inner_datagrams.specs.Head.{IsHead, first_head_fault, head4_at, head6_at, head_of, short_header};
-ghost use Rattle.inner_datagrams.specs.Reading.{unless};
 ghost use Rattle.inner_datagrams.specs.declared.head.Head.{Head as HeadValue};
 ghost use Rattle.inner_datagrams.specs.declared.head.HeadFault.{HeadFault as HeadFaultValue};
 
@@ -30,6 +31,7 @@ pub enum HeadFault {
     ShortHeader(u32, u32),
 }
 
+// The fault of fewer octets than a header needs.
 fn short_header(need: u32, bytes: &[u8]) -> Option<HeadFault>
     requires { length bytes.now ≤ INPUT_LIMIT }
     ensures fault { result ≡ first_holding (short_header need bytes.now ∷ []) }
@@ -42,6 +44,7 @@ fn short_header(need: u32, bytes: &[u8]) -> Option<HeadFault>
     None
 }
 
+// The head of these addresses.
 fn head_of(source: Ip, group: Ip) -> Head
     ensures source { result.source ≡ source }
     ensures group { result.group ≡ group }
@@ -49,6 +52,7 @@ fn head_of(source: Ip, group: Ip) -> Head
     Head { source, group }
 }
 
+// The head of an IPv4 packet, if its least header is there.
 fn head4(bytes: &[u8]) -> Result<Head, HeadFault>
     requires { length bytes.now ≤ INPUT_LIMIT }
     ensures { result
@@ -60,6 +64,7 @@ fn head4(bytes: &[u8]) -> Result<Head, HeadFault>
     }
 }
 
+// The head of an IPv6 packet, if its header is there.
 fn head6(bytes: &[u8]) -> Result<Head, HeadFault>
     requires { length bytes.now ≤ INPUT_LIMIT }
     ensures { result
@@ -71,6 +76,7 @@ fn head6(bytes: &[u8]) -> Result<Head, HeadFault>
     }
 }
 
+// The head of a packet of either version.
 #[tactic(auto, unfolding(crate::specs::Head::first_head_fault))]
 fn read_head(bytes: &[u8]) -> Result<Head, HeadFault>
     requires { length bytes.now ≤ INPUT_LIMIT }

@@ -1,3 +1,5 @@
+//! What is read of an inner datagram, and its faults. It must not know how it is read.
+
 use amt_values::Ip;
 
 /// An IP datagram that carries membership messages, read in place.

@@ -1,3 +1,5 @@
+//! IPv4 datagrams with IGMP are written here. It must not know what the payload says.
+
 ghost use Rattle.std.specs.Prelude.{◌≡◌, ◌≤◌, length, IfOk};
 ghost use Rattle.amt_values.specs.declared.address.Ip.TheVariants.{V4};
 ghost use Rattle.inner_datagrams.specs.Inner.{IsInner};
@@ -15,6 +17,7 @@ const HEADER: [u8; 24] = [
     0x46, 0xc0, 0, 0, 0, 0, 0, 0, 1, 2, 0, 0, 0, 0, 0, 0, 0, 0, 0, 0, 0x94, 4, 0, 0,
 ];
 
+// The header with its own checksum.
 fn header4(total_length: u16, source: u32, destination: u32) -> [u8; 24]
     ensures { result ≡ header4 total_length source destination }
 {

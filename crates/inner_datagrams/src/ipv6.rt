@@ -1,3 +1,5 @@
+//! IPv6 datagrams with ICMPv6 are written here. It must not know what the payload says.
+
 ghost use Rattle.std.specs.Prelude.{◌≡◌, ◌≤◌, length, IfOk};
 ghost use Rattle.amt_values.specs.declared.address.Ip.TheVariants.{V6};
 ghost use Rattle.inner_datagrams.specs.Inner.{IsInner};

@@ -1,8 +1,11 @@
+//! An inner datagram of either version is read here. It must not know what the payload says.
+
 ghost use Rattle.std.specs.Prelude.{◌≡◌, ◌≤◌, ℕ, List, length, IfOk, IsOkAnd, MatchResult, None, Some};
 ghost use Rattle.amt_values.specs.declared.address.Ip.{Ip as IpValue};
+ghost use Rattle.contract_words.specs.Conditions.{unless};
 ghost use Rattle.inner_datagrams.specs.Fault.{first_inner_fault};
 ghost use Rattle.inner_datagrams.specs.Inner.{IsInner};
-ghost use Rattle.inner_datagrams.specs.Reading.{HasParts, inner_at, payload_in, payload_of, payload_start, unless};
+ghost use Rattle.inner_datagrams.specs.Reading.{HasParts, inner_at, payload_in, payload_of, payload_start};
 ghost use Rattle.inner_datagrams.specs.Written.{IsWrittenInner, written_headers};
 
 use crate::inner::{Inner, InnerFault};
@@ -11,6 +14,7 @@ use crate::reading6::read_inner6;
 use crate::writing::PAYLOAD_LIMIT;
 use amt_values::INPUT_LIMIT;
 
+// The datagram of either version, or its first fault.
 #[tactic(auto, unfolding(crate::specs::Fault::first_inner_fault))]
 fn read(bytes: &[u8]) -> Result<Inner, InnerFault>
     requires { length bytes.now ≤ INPUT_LIMIT }

@@ -1,9 +1,12 @@
-ghost use Rattle.std.specs.Prelude.{◌≡◌, ◌≤◌, ◌∷◌, ◌++◌, [], length, IfOk};
-ghost use Rattle.inner_datagrams.specs.Fault.{faults4, first_holding, fragment, header_faults, header_length_faults, length_faults, other_protocol, wrong_header_sum, wrong_total};
-ghost use Rattle.inner_datagrams.specs.Header.{header_octets};
-ghost use Rattle.inner_datagrams.specs.Reading.{inner4_at, parts4, unless};
+//! The header of an IPv4 datagram is read here. It must not know IPv6 or the payload.
 
-use crate::checksum::{expected_sum, is_right};
+ghost use Rattle.std.specs.Prelude.{◌≡◌, ◌≤◌, ◌∷◌, ◌++◌, [], length, IfOk};
+ghost use Rattle.contract_words.specs.Conditions.{first_holding, unless};
+ghost use Rattle.inner_datagrams.specs.Fault.{faults4, fragment, header_faults, header_length_faults, length_faults, other_protocol, wrong_header_sum, wrong_total};
+ghost use Rattle.inner_datagrams.specs.Header.{header_octets};
+ghost use Rattle.inner_datagrams.specs.Reading.{inner4_at, parts4};
+
+use crate::checksum::{expected_sum, has_right_sum};
 use crate::fields::{number_at, short_at};
 use crate::inner::{Inner, InnerFault};
 use amt_values::{INPUT_LIMIT, Ip};
@@ -32,6 +35,7 @@ fn stated_header(bytes: &[u8]) -> Result<usize, InnerFault>
     Ok(need as usize)
 }
 
+// The fault that the length of the whole isn't that of the bytes.
 fn total_fault(bytes: &[u8]) -> Option<InnerFault>
     requires least { 20 ≤ length bytes.now }
     requires most { length bytes.now ≤ INPUT_LIMIT }
@@ -61,6 +65,7 @@ fn header_end(bytes: &[u8]) -> Result<usize, InnerFault>
     }
 }
 
+// The fault that the words of the header, which ends there, don't add up.
 fn sum_fault(bytes: &[u8], end: usize) -> Option<InnerFault>
     requires least { 20 ≤ end }
     requires most { end ≤ 60 }
@@ -69,13 +74,14 @@ fn sum_fault(bytes: &[u8], end: usize) -> Option<InnerFault>
     ensures { result ≡ first_holding (wrong_header_sum bytes.now ∷ []) }
 {
     let (header, _) = bytes.split_at(end);
-    if is_right(header) {
+    if has_right_sum(header) {
         return None;
     }
     let want = expected_sum(header);
     Some(InnerFault::HeaderSum(want, short_at(bytes, 10)))
 }
 
+// The fault that more fragments follow or others come before.
 fn fragment_fault(bytes: &[u8]) -> Option<InnerFault>
     requires { 20 ≤ length bytes.now }
     ensures { result ≡ first_holding (fragment bytes.now ∷ []) }
@@ -86,6 +92,7 @@ fn fragment_fault(bytes: &[u8]) -> Option<InnerFault>
     }
 }
 
+// The fault of another protocol than IGMP.
 fn protocol_fault(protocol: u8) -> Option<InnerFault>
     ensures { result ≡ first_holding (other_protocol protocol ∷ []) }
 {
@@ -95,7 +102,7 @@ fn protocol_fault(protocol: u8) -> Option<InnerFault>
     }
 }
 
-// What a header that ends there has against it: a wrong checksum, a fragment, another protocol.
+// The first fault of a header that ends there: a wrong checksum, a fragment, another protocol.
 fn header_fault(bytes: &[u8], end: usize) -> Option<InnerFault>
     requires least { 20 ≤ end }
     requires most { end ≤ 60 }
@@ -112,6 +119,7 @@ fn header_fault(bytes: &[u8], end: usize) -> Option<InnerFault>
     protocol_fault(bytes[9])
 }
 
+// The datagram of these parts.
 fn parts4(source: u32, destination: u32, start: usize, end: usize) -> Inner
     ensures { result ≡ parts4 source destination start end }
 {

@@ -1,12 +1,16 @@
+//! The headers of an IPv6 datagram are read here. It must not know IPv4 or the payload.
+
 ghost use Rattle.std.specs.Prelude.{◌≡◌, ◌≤◌, ◌∷◌, [], length, IfOk};
-ghost use Rattle.inner_datagrams.specs.Fault.{faults6, first_holding, hop_by_hop_faults, length_faults6, next_header_faults, wrong_total6};
+ghost use Rattle.contract_words.specs.Conditions.{first_holding, unless};
+ghost use Rattle.inner_datagrams.specs.Fault.{faults6, hop_by_hop_faults, length_faults6, next_header_faults, wrong_total6};
 ghost use Rattle.inner_datagrams.specs.Header6.{headers_end6, hop_by_hop_end, hop_by_hop_next, last_next_header};
-ghost use Rattle.inner_datagrams.specs.Reading.{inner6_at, parts6, unless};
+ghost use Rattle.inner_datagrams.specs.Reading.{inner6_at, parts6};
 
 use crate::fields::{address_at, short_at};
 use crate::inner::{Inner, InnerFault};
 use amt_values::{INPUT_LIMIT, Ip};
 
+// The fault that the length of the whole isn't that of the bytes.
 fn total_fault(bytes: &[u8]) -> Option<InnerFault>
     requires least { 40 ≤ length bytes.now }
     requires most { length bytes.now ≤ INPUT_LIMIT }
@@ -62,6 +66,7 @@ fn headers(bytes: &[u8]) -> Result<(usize, u8), InnerFault>
     }
 }
 
+// The fault of what follows the headers, where it isn't ICMPv6.
 fn next_header_fault(kind: u8) -> Option<InnerFault>
     ensures { result ≡ first_holding (next_header_faults kind) }
 {
@@ -73,6 +78,7 @@ fn next_header_fault(kind: u8) -> Option<InnerFault>
     }
 }
 
+// The datagram of these parts.
 fn parts6(source: u128, destination: u128, start: usize, end: usize) -> Inner
     ensures { result ≡ parts6 source destination start end }
 {

@@ -63,7 +63,7 @@ type Around = (
 
 const SUMS_AROUND: [Around; 4] = [
     (
-        "a field behind two octets",
+        "a field after two octets",
         &[],
         &[0x11, 0x64],
         &[0, 0, 0, 0, 0, 0, 0, 0],
@@ -86,18 +86,18 @@ const SUMS_AROUND: [Around; 4] = [
     ("the field alone, which is left out", &[], &[], &[], 0xffff),
 ];
 
-fn has_sum_around(pseudo_header: &[u8], front: &[u8], back: &[u8], sum: u16) -> bool {
+fn has_sum_around(pseudo_header: &[u8], prefix: &[u8], suffix: &[u8], sum: u16) -> bool {
     pseudo_header.len() % 2 == 0
         && pseudo_header.len() <= INPUT_LIMIT
-        && front.len() % 2 == 0
-        && front.len() <= INPUT_LIMIT
-        && back.len() <= INPUT_LIMIT
-        && internet_sum_around(pseudo_header, front, back) == sum
+        && prefix.len() % 2 == 0
+        && prefix.len() <= INPUT_LIMIT
+        && suffix.len() <= INPUT_LIMIT
+        && internet_sum_around(pseudo_header, prefix, suffix) == sum
 }
 
 fn assert_sums_around(rt: &impl Abort, rows: &[Around]) {
-    for (what, pseudo_header, front, back, sum) in rows {
-        assert_row(rt, what, has_sum_around(pseudo_header, front, back, *sum));
+    for (what, pseudo_header, prefix, suffix, sum) in rows {
+        assert_row(rt, what, has_sum_around(pseudo_header, prefix, suffix, *sum));
     }
 }
 
@@ -114,7 +114,7 @@ const FAULTS4: [(&str, &[u8], Result<Inner, InnerFault>); 11] = [
         Err(InnerFault::Version(5)),
     ),
     (
-        "a front of the least header",
+        "a prefix of the least header",
         b"\x46\xc0",
         Err(InnerFault::ShortHeader(20, 2)),
     ),
@@ -162,7 +162,7 @@ const FAULTS4: [(&str, &[u8], Result<Inner, InnerFault>); 11] = [
 
 const FAULTS6: [(&str, &[u8], Result<Inner, InnerFault>); 14] = [
     (
-        "a front of the IPv6 header",
+        "a prefix of the IPv6 header",
         b"\x60",
         Err(InnerFault::ShortHeader(40, 1)),
     ),
@@ -197,7 +197,7 @@ const FAULTS6: [(&str, &[u8], Result<Inner, InnerFault>); 14] = [
         Err(InnerFault::Fragment(0)),
     ),
     (
-        "a fragment behind a hop-by-hop header",
+        "a fragment after a hop-by-hop header",
         b"\x60\0\0\0\0\x08\x00\x01\0\0\0\0\0\0\0\0\0\0\0\0\0\0\0\0\0\0\0\0\0\0\0\0\0\0\0\0\0\0\0\0\x2c\x00\x05\x02\0\0\x01\0",
         Err(InnerFault::Fragment(0)),
     ),
@@ -217,7 +217,7 @@ const FAULTS6: [(&str, &[u8], Result<Inner, InnerFault>); 14] = [
         Err(InnerFault::Extension(51)),
     ),
     (
-        "destination options behind a hop-by-hop header",
+        "destination options after a hop-by-hop header",
         b"\x60\0\0\0\0\x08\x00\x01\0\0\0\0\0\0\0\0\0\0\0\0\0\0\0\0\0\0\0\0\0\0\0\0\0\0\0\0\0\0\0\0\x3c\x00\x05\x02\0\0\x01\0",
         Err(InnerFault::Extension(60)),
     ),
@@ -227,7 +227,7 @@ const FAULTS6: [(&str, &[u8], Result<Inner, InnerFault>); 14] = [
         Err(InnerFault::Protocol(17)),
     ),
     (
-        "a datagram of UDP behind a hop-by-hop header",
+        "a datagram of UDP after a hop-by-hop header",
         b"\x60\0\0\0\0\x08\x00\x01\0\0\0\0\0\0\0\0\0\0\0\0\0\0\0\0\0\0\0\0\0\0\0\0\0\0\0\0\0\0\0\0\x11\x00\x05\x02\0\0\x01\0",
         Err(InnerFault::Protocol(17)),
     ),
@@ -308,7 +308,7 @@ const DATAGRAMS: [(&str, &[u8], Result<Inner, InnerFault>); 9] = [
         }),
     ),
     (
-        "a report behind Router Alert",
+        "a report after Router Alert",
         b"\x46\xc0\x00\x28\x00\x00\x00\x00\x01\x02\x39\xf8\x0a\x00\x00\x02\xe0\x00\x00\x16\x94\x04\x00\x00\x22\x00\xeb\xfb\x00\x00\x00\x01\x02\x00\x00\x00\xef\x01\x01\x01",
         Ok(Inner {
             source: Ip::V4(0x0a00_0002),

@@ -1,3 +1,5 @@
+//! Headers and payload as one datagram. It must not know what either of them says.
+
 ghost use Rattle.std.specs.Prelude.{◌≡◌, ◌≤◌, ◌++◌, length, IfOk};
 
 use amt_values::Bytes;

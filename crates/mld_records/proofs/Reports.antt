@@ -3,7 +3,7 @@ use Rattle.std.proofs.Common.{◌≡◌, ◌↔◌, ℕ, List, length, Ok}
 use Rattle.amt_values.specs.Octets.{AreOctets}
 use Rattle.source_filter.specs.declared.record.Record.{Record}
 use Rattle.group_records.specs.declared.family.Family.TheVariants.{V6}
-use Rattle.group_records.proofs.Answered.{report_of-report}
+use Rattle.group_records.proofs.ReportReadings.{report_of-report}
 use Rattle.mld_records.specs.PseudoHeader.{pseudo_header}
 use Rattle.mld_records.specs.Report.{IsReport6, report6_of}
 

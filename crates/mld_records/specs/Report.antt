@@ -37,10 +37,11 @@ AsksMemory6 source destination payload =
 abbrev pub AreRecords6 : List Record → Type 0
 AreRecords6 records = All (IsOfFamily V6) records
 
--- the octets of their report, and its one spelling
+-- the octets of their report
 abbrev pub report_length6 : List Record → ℕ
 report_length6 records = report_length V6 records
 
+-- and its one spelling
 abbrev pub written_report6 : ℕ → ℕ → List Record → List ℕ
 written_report6 source destination records =
     written_report V6 (pseudo_header source destination (report_length6 records)) records

@@ -1,3 +1,5 @@
+//! The codes of times of MLDv2. It must not know IGMP.
+
 ghost use Rattle.std.specs.Prelude.{◌≡◌, ◌<◌, ℕ, IfSome, Some};
 ghost use Rattle.mld_records.specs.Code.{code_value};
 

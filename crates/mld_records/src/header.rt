@@ -1,8 +1,11 @@
+//! The pseudo-header of an MLD message. It must not know the message.
+
 ghost use Rattle.std.specs.Prelude.{◌≡◌};
 ghost use Rattle.mld_records.specs.PseudoHeader.{pseudo_header};
 
 use byteorder::{BigEndian, ByteOrder};
 
+// The number of ICMPv6 as a next header (RFC 4443, section 1).
 const ICMPV6: u8 = 58;
 
 // The pseudo-header of an MLD message of so many octets: it is summed before the message, and not sent.

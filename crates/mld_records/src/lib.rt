@@ -16,6 +16,3 @@ mod report;
 pub use code::{code_value6, value_code6};
 pub use query::{read_query6, write_query6};
 pub use report::{read_report6, write_report6};
-
-#[cfg(test)]
-mod tests;

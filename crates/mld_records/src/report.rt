@@ -1,9 +1,12 @@
+//! Reports of MLDv2, both ways. It must not know their layout or IGMP.
+
 ghost use Rattle.std.specs.Prelude.{◌≡◌, ◌↔◌, ◌≤◌, List, length, IfOk, Ok, Err, MatchResult, None, Some};
 ghost use Rattle.source_filter.specs.Record.{item_count};
 ghost use Rattle.source_filter.specs.declared.record.Record.{Record as RecordValue};
 ghost use Rattle.source_filter.specs.declared.fault.ReadFault.TheVariants.{Memory};
 ghost use Rattle.source_filter.specs.declared.fault.ReportFault.{ReportFault as ReportFaultValue};
-ghost use Rattle.group_records.specs.Reading.{Gives, Tells};
+ghost use Rattle.contract_words.specs.Answer.{Tells};
+ghost use Rattle.group_records.specs.Reading.{Gives, cause_in};
 ghost use Rattle.mld_records.specs.Report.{AreRecords6, AsksMemory6, IsReport6, IsSomeReport6, first_report_fault6, report6_of, report_length6, written_report6};
 
 use crate::header::pseudo_header;
@@ -44,7 +47,7 @@ pub fn read_report6(
 
     ensures refused { MatchResult result
         (λ _. first_report_fault6 source destination payload.now ≡ None)
-        (Tells (first_report_fault6 source destination payload.now)) }
+        (λ fault. Tells (first_report_fault6 source destination payload.now) (cause_in fault)) }
     ensures fault { (fault : ReportFaultValue)
         → first_report_fault6 source destination payload.now ≡ Some fault
         → Gives result (Err fault) }

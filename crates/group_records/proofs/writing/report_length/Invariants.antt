@@ -1,6 +1,6 @@
 use Rattle.std.proofs.Common.{◌≡◌, ◌+◌, take}
 use Rattle.std.specs.List.{sum_by}
-use Rattle.group_records.proofs.Written.{octets_in}
+use Rattle.group_records.proofs.WrittenReport.{octets_in}
 use Rattle.group_records.proofs.writing.report_length.Given as goal
 
 abbrev pub invariant-loop-group_record : goal.invariant-loop-group_record

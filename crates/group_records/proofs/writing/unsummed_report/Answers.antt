@@ -1,5 +1,5 @@
 use Rattle.std.proofs.Common.{arith}
-use Rattle.group_records.proofs.Written.{short-few_records}
+use Rattle.group_records.proofs.WrittenReport.{short-few_records}
 use Rattle.group_records.proofs.writing.unsummed_report.Goals as goal
 
 pub overflow_cast-len : goal.overflow_cast-len

@@ -7,44 +7,46 @@ use Rattle.byteorder.specs.Endian.{big_number, big_bytes}
 use Rattle.byteorder.specs.Numbers.{big_from-lt, big_number-reads_back, length-bytes_high_first}
 use Rattle.amt_values.specs.Octets.{AreOctets}
 use Rattle.amt_values.proofs.NetworkOrder.{AreOctets-drop, AreOctets-take, bytes_high_first-take}
+use Rattle.contract_words.specs.Conditions.{first_holding}
+use Rattle.contract_words.proofs.ConditionLaws.{NoneHolds-of, first_holding-none}
 use Rattle.source_filter.specs.declared.fault.ReportFault.{ReportFault}
 use Rattle.source_filter.specs.declared.fault.ReportFault.TheVariants.{RecordShort, SourceShort}
 use Rattle.group_records.specs.declared.family.Family.{Family}
-use Rattle.group_records.specs.Carried.{Carried, IsCarried, carried_octets}
+use Rattle.group_records.specs.CarriedRecord.{CarriedRecord, IsCarriedRecord, record_octets}
 use Rattle.group_records.specs.Family.{width}
-use Rattle.group_records.specs.Reading.{carried_at, head_length, numbers_at, record_fault, record_length, source_count}
+use Rattle.group_records.specs.Reading.{record_at, head_length, numbers_at, record_faults, record_length, source_count}
 use Rattle.group_records.proofs.Numbers.{drop-past, take-part, length-numbers_at, length-spelled_numbers, numbers_at-fit, numbers_at-spelled, spelled-numbers_at}
 
-same_carried : (one other : Carried) → one.kind ≡ other.kind → one.group ≡ other.group → one.sources ≡ other.sources
+same_carried : (one other : CarriedRecord) → one.kind ≡ other.kind → one.group ≡ other.group → one.sources ≡ other.sources
     → one.auxiliary ≡ other.auxiliary → one ≡ other
 same_carried one other kind group sources auxiliary =
     rw (kind, group, sources, auxiliary) refl
 
 -- the octets of a record, part by part, with what follows it
-abbrev parts : Family → Carried → List ℕ → List ℕ
+abbrev parts : Family → CarriedRecord → List ℕ → List ℕ
 parts family carried rest =
     big_bytes (width family) carried.group ++ (flat_map (big_bytes (width family)) carried.sources ++ (carried.auxiliary ++ rest))
 
-parts-apart : (family : Family) (carried : Carried) (rest : List ℕ)
-    → drop 4 (carried_octets family carried ++ rest) ≡ parts family carried rest
+parts-apart : (family : Family) (carried : CarriedRecord) (rest : List ℕ)
+    → drop 4 (record_octets family carried ++ rest) ≡ parts family carried rest
 parts-apart family carried rest =
     let group = big_bytes (width family) carried.group in
     let sources = flat_map (big_bytes (width family)) carried.sources in
     append_assoc (group ++ sources) carried.auxiliary rest ∙ append_assoc group sources (carried.auxiliary ++ rest)
 
-source_count-spelled : (family : Family) (carried : Carried) (rest : List ℕ) → IsCarried family carried
-    → source_count (carried_octets family carried ++ rest) ≡ length carried.sources
+source_count-spelled : (family : Family) (carried : CarriedRecord) (rest : List ℕ) → IsCarriedRecord family carried
+    → source_count (record_octets family carried ++ rest) ≡ length carried.sources
 source_count-spelled family carried rest lawful =
-    big_number-reads_back 2 (length carried.sources) (drop 4 (carried_octets family carried ++ rest)) (omega (arith, lawful.source_count))
+    big_number-reads_back 2 (length carried.sources) (drop 4 (record_octets family carried ++ rest)) (omega (arith, lawful.source_count))
 
 -- the auxiliary data is as many octets as its words say
-auxiliary-octets : (family : Family) (carried : Carried) → IsCarried family carried
+auxiliary-octets : (family : Family) (carried : CarriedRecord) → IsCarriedRecord family carried
     → length carried.auxiliary / 4 * 4 ≡ length carried.auxiliary
 auxiliary-octets family carried lawful = let words = lawful.auxiliary_words in omega arith
 
-pub length-carried_octets : (family : Family) (carried : Carried) (rest : List ℕ) → IsCarried family carried
-    → length (carried_octets family carried) ≡ record_length family (carried_octets family carried ++ rest)
-length-carried_octets family carried rest lawful =
+pub length-record_octets : (family : Family) (carried : CarriedRecord) (rest : List ℕ) → IsCarriedRecord family carried
+    → length (record_octets family carried) ≡ record_length family (record_octets family carried ++ rest)
+length-record_octets family carried rest lawful =
     let count = source_count-spelled family carried rest lawful in
     let group = length-bytes_high_first (width family) carried.group in
     let sources = length-spelled_numbers (width family) carried.sources in
@@ -53,28 +55,28 @@ length-carried_octets family carried rest lawful =
     let second = length-append (big_bytes (width family) carried.group ++ flat_map (big_bytes (width family)) carried.sources) carried.auxiliary in
     rw count (omega arith)
 
-past_group : (family : Family) (carried : Carried) (rest : List ℕ)
-    → drop (head_length family) (carried_octets family carried ++ rest)
+past_group : (family : Family) (carried : CarriedRecord) (rest : List ℕ)
+    → drop (head_length family) (record_octets family carried ++ rest)
     ≡ flat_map (big_bytes (width family)) carried.sources ++ (carried.auxiliary ++ rest)
 past_group family carried rest =
-    sym (drop-drop (width family) 4 (carried_octets family carried ++ rest))
+    sym (drop-drop (width family) 4 (record_octets family carried ++ rest))
     ∙ (ap (λ (xs : List ℕ). drop (width family) xs) (parts-apart family carried rest)
     ∙ drop-past (width family) (big_bytes (width family) carried.group) _ (length-bytes_high_first (width family) carried.group))
 
-past_sources : (family : Family) (carried : Carried) (rest : List ℕ)
-    → drop (head_length family + length carried.sources * width family) (carried_octets family carried ++ rest)
+past_sources : (family : Family) (carried : CarriedRecord) (rest : List ℕ)
+    → drop (head_length family + length carried.sources * width family) (record_octets family carried ++ rest)
     ≡ carried.auxiliary ++ rest
 past_sources family carried rest =
     let octets = length carried.sources * width family in
-    sym (drop-drop octets (head_length family) (carried_octets family carried ++ rest))
+    sym (drop-drop octets (head_length family) (record_octets family carried ++ rest))
     ∙ (ap (λ (xs : List ℕ). drop octets xs) (past_group family carried rest)
     ∙ drop-past octets (flat_map (big_bytes (width family)) carried.sources) _ (length-spelled_numbers (width family) carried.sources))
 
 -- a record's octets are read as the record
-pub carried_at-spelled : (family : Family) (carried : Carried) (rest : List ℕ) → IsCarried family carried
-    → carried_at family (carried_octets family carried ++ rest) ≡ carried
-carried_at-spelled family carried rest lawful =
-    let bytes = carried_octets family carried ++ rest in
+pub record_at-spelled : (family : Family) (carried : CarriedRecord) (rest : List ℕ) → IsCarriedRecord family carried
+    → record_at family (record_octets family carried ++ rest) ≡ carried
+record_at-spelled family carried rest lawful =
+    let bytes = record_octets family carried ++ rest in
     let count = source_count-spelled family carried rest lawful in
     let group : big_number (width family) (drop 4 bytes) ≡ carried.group =
     ap (λ (xs : List ℕ). big_number (width family) xs) (parts-apart family carried rest)
@@ -87,37 +89,32 @@ carried_at-spelled family carried rest lawful =
     ap (λ (n : ℕ). take (length carried.auxiliary / 4 * 4) (drop (head_length family + n * width family) bytes)) count
     ∙ (ap (λ (xs : List ℕ). take (length carried.auxiliary / 4 * 4) xs) (past_sources family carried rest)
     ∙ take-part (length carried.auxiliary / 4 * 4) carried.auxiliary rest (sym (auxiliary-octets family carried lawful))) in
-    same_carried (carried_at family bytes) carried refl group sources auxiliary
+    same_carried (record_at family bytes) carried refl group sources auxiliary
 
-pub past_record : (family : Family) (carried : Carried) (rest : List ℕ) → IsCarried family carried
-    → drop (record_length family (carried_octets family carried ++ rest)) (carried_octets family carried ++ rest) ≡ rest
+pub past_record : (family : Family) (carried : CarriedRecord) (rest : List ℕ) → IsCarriedRecord family carried
+    → drop (record_length family (record_octets family carried ++ rest)) (record_octets family carried ++ rest) ≡ rest
 past_record family carried rest lawful =
-    drop-past _ (carried_octets family carried) rest (length-carried_octets family carried rest lawful)
+    drop-past _ (record_octets family carried) rest (length-record_octets family carried rest lawful)
 
--- a record that is there in full is no fault
-pub record_fault-none : (family : Family) (index : ℕ) (bytes : List ℕ) → record_length family bytes ≤ length bytes → record_fault family index bytes ≡ None
-record_fault-none family index bytes whole =
+-- a record that is there in full has no fault
+pub record_faults-none : (family : Family) (index : ℕ) (bytes : List ℕ) → record_length family bytes ≤ length bytes
+    → first_holding (record_faults family index bytes) ≡ None
+record_faults-none family index bytes whole =
     let head = le-ltb (length bytes) (head_length family) (omega arith) in
     let all = le-ltb (length bytes) (record_length family bytes) whole in
-    rw (head, all) refl
+    first_holding-none (record_faults family index bytes) (head, (all, tt))
 
-pub record_fault-spelled : (family : Family) (index : ℕ) (carried : Carried) (rest : List ℕ) → IsCarried family carried
-    → record_fault family index (carried_octets family carried ++ rest) ≡ None
-record_fault-spelled family index carried rest lawful =
-    let same = length-carried_octets family carried rest lawful in
-    let both = length-append (carried_octets family carried) rest in
-    record_fault-none family index (carried_octets family carried ++ rest) (omega arith)
-
-pub untaken : (test : Bool) (fault : ReportFault) (later : Option ReportFault) → cond test (Some fault) later ≡ None → (test ≡ false) × (later ≡ None)
-untaken true fault later same = cc
-untaken false fault later same = (refl, same)
+pub record_faults-spelled : (family : Family) (index : ℕ) (carried : CarriedRecord) (rest : List ℕ) → IsCarriedRecord family carried
+    → first_holding (record_faults family index (record_octets family carried ++ rest)) ≡ None
+record_faults-spelled family index carried rest lawful =
+    let same = length-record_octets family carried rest lawful in
+    let both = length-append (record_octets family carried) rest in
+    record_faults-none family index (record_octets family carried ++ rest) (omega arith)
 
 -- where no fault is, the record is there in full
-pub whole_record : (family : Family) (index : ℕ) (bytes : List ℕ) → record_fault family index bytes ≡ None → record_length family bytes ≤ length bytes
+pub whole_record : (family : Family) (index : ℕ) (bytes : List ℕ) → first_holding (record_faults family index bytes) ≡ None → record_length family bytes ≤ length bytes
 whole_record family index bytes none =
-    let past_head = untaken (ltb (length bytes) (head_length family)) (RecordShort index) _ none in
-    let past_all = untaken (ltb (length bytes) (record_length family bytes)) (SourceShort index) None past_head.1 in
-    ltb-false (length bytes) (record_length family bytes) past_all.0
+    let all = NoneHolds-of (record_faults family index bytes) none in ltb-false (length bytes) (record_length family bytes) all.1.0
 
 -- the first two octets, and the rest
 first_two : (bytes : List ℕ) → 2 ≤ length bytes → bytes ≡ slice_index bytes 0 ∷ slice_index bytes 1 ∷ drop 2 bytes
@@ -130,14 +127,14 @@ cut : (n place : ℕ) (bytes : List ℕ) → drop place bytes ≡ take n (drop p
 cut n place bytes = sym (take-append-drop n (drop place bytes)) ∙ ap (λ (xs : List ℕ). take n (drop place bytes) ++ xs) (drop-drop n place bytes)
 
 auxiliary_at-length : (family : Family) (bytes : List ℕ) → record_length family bytes ≤ length bytes
-    → length (carried_at family bytes).auxiliary ≡ slice_index bytes 1 * 4
+    → length (record_at family bytes).auxiliary ≡ slice_index bytes 1 * 4
 auxiliary_at-length family bytes whole =
     let place = head_length family + source_count bytes * width family in
     length-take-le (slice_index bytes 1 * 4) (drop place bytes) (omega (arith, length-drop place bytes))
 
-pub carried_at-lawful : (family : Family) (bytes : List ℕ) → AreOctets bytes → record_length family bytes ≤ length bytes
-    → IsCarried family (carried_at family bytes)
-carried_at-lawful family bytes small whole =
+pub record_at-lawful : (family : Family) (bytes : List ℕ) → AreOctets bytes → record_length family bytes ≤ length bytes
+    → IsCarriedRecord family (record_at family bytes)
+record_at-lawful family bytes small whole =
     let auxiliary = auxiliary_at-length family bytes whole in
     let words = small 1 in
     let place = head_length family + source_count bytes * width family in
@@ -153,22 +150,22 @@ carried_at-lawful family bytes small whole =
     }
 
 -- octets that hold a record in full are its octets, and the rest
-pub spelled-carried_at : (family : Family) (bytes : List ℕ) → AreOctets bytes → record_length family bytes ≤ length bytes
-    → bytes ≡ carried_octets family (carried_at family bytes) ++ drop (record_length family bytes) bytes
-spelled-carried_at family bytes small whole =
+pub spelled-record_at : (family : Family) (bytes : List ℕ) → AreOctets bytes → record_length family bytes ≤ length bytes
+    → bytes ≡ record_octets family (record_at family bytes) ++ drop (record_length family bytes) bytes
+spelled-record_at family bytes small whole =
     let octets = width family in
     let count = source_count bytes in
     let words = slice_index bytes 1 in
     let head = head_length family in
     let place = head + count * octets in
     let rest = drop (record_length family bytes) bytes in
-    let behind_two : 2 ≤ length (drop 2 bytes) = omega (arith, length-drop 2 bytes) in
-    let behind_four : octets ≤ length (drop 4 bytes) = omega (arith, length-drop 4 bytes) in
-    let behind_head : count * octets ≤ length (drop head bytes) = omega (arith, length-drop head bytes) in
-    let count_octets = bytes_high_first-take 2 (drop 2 bytes) behind_two (AreOctets-drop 2 bytes small) in
-    let group_octets = bytes_high_first-take octets (drop 4 bytes) behind_four (AreOctets-drop 4 bytes small) in
-    let sources_octets = spelled-numbers_at octets count (drop head bytes) (AreOctets-drop head bytes small) behind_head in
-    let carried = carried_at family bytes in
+    let after_two : 2 ≤ length (drop 2 bytes) = omega (arith, length-drop 2 bytes) in
+    let after_four : octets ≤ length (drop 4 bytes) = omega (arith, length-drop 4 bytes) in
+    let after_head : count * octets ≤ length (drop head bytes) = omega (arith, length-drop head bytes) in
+    let count_octets = bytes_high_first-take 2 (drop 2 bytes) after_two (AreOctets-drop 2 bytes small) in
+    let group_octets = bytes_high_first-take octets (drop 4 bytes) after_four (AreOctets-drop 4 bytes small) in
+    let sources_octets = spelled-numbers_at octets count (drop head bytes) (AreOctets-drop head bytes small) after_head in
+    let carried = record_at family bytes in
     let auxiliary_cut : drop place bytes ≡ carried.auxiliary ++ rest = cut (words * 4) place bytes in
     let sources_cut : drop head bytes ≡ flat_map (big_bytes octets) carried.sources ++ (carried.auxiliary ++ rest) =
     sources_octets ∙ ap (λ (xs : List ℕ). flat_map (big_bytes octets) carried.sources ++ xs) (drop-drop (count * octets) head bytes ∙ auxiliary_cut) in
@@ -180,9 +177,9 @@ spelled-carried_at family bytes small whole =
     let len = length-numbers_at octets count (drop head bytes) in
     let auxiliary = auxiliary_at-length family bytes whole in
     let stated : length carried.auxiliary / 4 ≡ words = omega arith in
-    let tail : drop 4 (carried_octets family carried ++ rest) ≡ parts family carried rest = parts-apart family carried rest in
+    let tail : drop 4 (record_octets family carried ++ rest) ≡ parts family carried rest = parts-apart family carried rest in
     first_two bytes (omega arith)
     ∙ (ap (λ (xs : List ℕ). slice_index bytes 0 ∷ words ∷ xs)
     (count_cut ∙ ap (λ (xs : List ℕ). big_bytes 2 count ++ xs) (group_cut ∙ sym tail))
-    ∙ (ap (λ (n : ℕ). slice_index bytes 0 ∷ n ∷ (big_bytes 2 count ++ drop 4 (carried_octets family carried ++ rest))) (sym stated)
-    ∙ ap (λ (n : ℕ). slice_index bytes 0 ∷ length carried.auxiliary / 4 ∷ (big_bytes 2 n ++ drop 4 (carried_octets family carried ++ rest))) (sym len)))
+    ∙ (ap (λ (n : ℕ). slice_index bytes 0 ∷ n ∷ (big_bytes 2 count ++ drop 4 (record_octets family carried ++ rest))) (sym stated)
+    ∙ ap (λ (n : ℕ). slice_index bytes 0 ∷ length carried.auxiliary / 4 ∷ (big_bytes 2 n ++ drop 4 (record_octets family carried ++ rest))) (sym len)))

@@ -10,14 +10,14 @@ use Rattle.group_records.specs.declared.family.Family.{Family}
 use Rattle.group_records.specs.Family.{width, address_in, kind_of}
 
 -- the fields of a record, with addresses as numbers
-pub record Carried : Type 0 where
+pub record CarriedRecord : Type 0 where
   pub kind : ℕ
   pub group : ℕ
   pub sources : List ℕ
   pub auxiliary : List ℕ
 
 -- each field fits its octets, and the auxiliary data is whole words of 32 bits
-pub record IsCarried (family : Family) (carried : Carried) : Type 0 where
+pub record IsCarriedRecord (family : Family) (carried : CarriedRecord) : Type 0 where
   pub kind : carried.kind < 256
   pub group : carried.group < 256 ^ width family
   pub sources : All (λ source. source < 256 ^ width family) carried.sources
@@ -27,22 +27,23 @@ pub record IsCarried (family : Family) (carried : Carried) : Type 0 where
   pub auxiliary_octets : AreOctets carried.auxiliary
 
 -- its octets
-abbrev pub carried_octets : Family → Carried → List ℕ
-carried_octets family carried =
+abbrev pub record_octets : Family → CarriedRecord → List ℕ
+record_octets family carried =
     carried.kind ∷ length carried.auxiliary / 4 ∷ big_bytes 2 (length carried.sources)
     ++ big_bytes (width family) carried.group
     ++ flat_map (big_bytes (width family)) carried.sources
     ++ carried.auxiliary
 
-abbrev pub known_by : Option RecordKind → Family → Carried → List Record
-known_by None family carried = []
-known_by (Some kind) family carried =
+-- the record that is about this, or nothing
+abbrev pub record_of_kind : Option RecordKind → Family → CarriedRecord → List Record
+record_of_kind None family carried = []
+record_of_kind (Some kind) family carried =
     record { kind = kind; group = address_in family carried.group; sources = map (address_in family) carried.sources } ∷ []
 
 -- the record, or nothing where its type isn't known
-abbrev pub known_record : Family → Carried → List Record
-known_record family carried = known_by (kind_of carried.kind) family carried
+abbrev pub known_record : Family → CarriedRecord → List Record
+known_record family carried = record_of_kind (kind_of carried.kind) family carried
 
 -- records of unknown type are left out (RFC 3376, section 4.2.12; RFC 3810, section 5.2.12)
-abbrev pub known_records : Family → List Carried → List Record
+abbrev pub known_records : Family → List CarriedRecord → List Record
 known_records family carried = flat_map (known_record family) carried

@@ -17,13 +17,13 @@ use Rattle.source_filter.specs.declared.record.RecordKind.{RecordKind}
 use Rattle.source_filter.specs.declared.record.RecordKind.TheVariants.{IsIn, IsEx, ToIn, ToEx, Allow, Block}
 use Rattle.group_records.specs.declared.family.Family.{Family}
 use Rattle.group_records.specs.declared.family.Family.TheVariants.{V4, V6}
-use Rattle.group_records.specs.Carried.{Carried, IsCarried, carried_octets, known_by, known_record, known_records}
+use Rattle.group_records.specs.CarriedRecord.{CarriedRecord, IsCarriedRecord, record_octets, record_of_kind, known_record, known_records}
 use Rattle.group_records.specs.Family.{address_in, kind_of, report_type, width}
 use Rattle.group_records.specs.Reading.{head_length}
 use Rattle.group_records.specs.Report.{AreRecords, IsReport}
 use Rattle.group_records.specs.Written.{FitsOctets, HasFittingAddresses, IsOfFamily, address_octets, is_of_family, kind_number, report_length, report_with_sum, written_record, written_report}
-use Rattle.group_records.proofs.Few.{width-some}
-use Rattle.group_records.proofs.Summed.{IsRight-summed}
+use Rattle.group_records.proofs.ItemCounts.{width-some}
+use Rattle.group_records.proofs.MessageSums.{IsRight-summed}
 
 abbrev IsOf : Family → Ip → Type 0
 IsOf family address = is_of_family family address ≡ true
@@ -84,7 +84,7 @@ length-sources family (source ∷ sources) are_of =
     rw product (omega (arith, both))
 
 -- the record as it is carried
-abbrev carried_of : Record → Carried
+abbrev carried_of : Record → CarriedRecord
 carried_of group_record = record {
   kind = kind_number group_record.kind;
   group = number_of group_record.group;
@@ -93,18 +93,18 @@ carried_of group_record = record {
 }
 
 written_record-carried : (family : Family) (group_record : Record) → IsOfFamily family group_record
-    → written_record group_record ≡ carried_octets family (carried_of group_record)
+    → written_record group_record ≡ record_octets family (carried_of group_record)
 written_record-carried family group_record of_family =
     let kind = kind_number group_record.kind in
     let count = length-map group_record.sources number_of in
     let group = octets-of_family family group_record.group of_family.group in
     let sources = sources-octets family group_record.sources of_family.sources in
-    let behind = flat_map (big_bytes (width family)) (map number_of group_record.sources) in
+    let after = flat_map (big_bytes (width family)) (map number_of group_record.sources) in
     let first = big_bytes (width family) (number_of group_record.group) in
     ap (λ (xs : List ℕ). (kind ∷ 0 ∷ big_bytes 2 (length group_record.sources) ++ xs) ++ flat_map address_octets group_record.sources) group
     ∙ (ap (λ (xs : List ℕ). (kind ∷ 0 ∷ big_bytes 2 (length group_record.sources) ++ first) ++ xs) sources
-    ∙ (ap (λ (n : ℕ). (kind ∷ 0 ∷ big_bytes 2 n ++ first) ++ behind) (sym count)
-    ∙ sym (append-nil ((kind ∷ 0 ∷ big_bytes 2 (length (map number_of group_record.sources)) ++ first) ++ behind))))
+    ∙ (ap (λ (n : ℕ). (kind ∷ 0 ∷ big_bytes 2 n ++ first) ++ after) (sym count)
+    ∙ sym (append-nil ((kind ∷ 0 ∷ big_bytes 2 (length (map number_of group_record.sources)) ++ first) ++ after))))
 
 kind_of-kind_number : (kind : RecordKind) → kind_of (kind_number kind) ≡ Some kind
 kind_of-kind_number IsIn = refl
@@ -131,12 +131,12 @@ known_record-written : (family : Family) (group_record : Record) → IsOfFamily 
 known_record-written family group_record of_family =
     let group = address_in-number_of family group_record.group of_family.group in
     let sources = sources-read family group_record.sources of_family.sources in
-    ap (λ (kind : Option RecordKind). known_by kind family (carried_of group_record)) (kind_of-kind_number group_record.kind)
+    ap (λ (kind : Option RecordKind). record_of_kind kind family (carried_of group_record)) (kind_of-kind_number group_record.kind)
     ∙ ap (λ (r : Record). r ∷ []) (same_record group_record.kind _ group_record.group _ group_record.sources group sources)
 
-IsCarried-written : (family : Family) (group_record : Record) → IsOfFamily family group_record → HasFittingAddresses group_record
-    → length group_record.sources < 65536 → IsCarried family (carried_of group_record)
-IsCarried-written family group_record of_family fitting few = record {
+IsCarriedRecord-written : (family : Family) (group_record : Record) → IsOfFamily family group_record → HasFittingAddresses group_record
+    → length group_record.sources < 65536 → IsCarriedRecord family (carried_of group_record)
+IsCarriedRecord-written family group_record of_family fitting few = record {
   kind = kind_number-fits group_record.kind;
   group = number_of-fits family group_record.group of_family.group fitting.group;
   sources = sources-fit family group_record.sources of_family.sources fitting.sources;
@@ -157,13 +157,13 @@ length-written_record family group_record of_family =
 
 -- the same of all records
 records-octets : (family : Family) (records : List Record) → All (IsOfFamily family) records
-    → flat_map written_record records ≡ flat_map (carried_octets family) (map carried_of records)
+    → flat_map written_record records ≡ flat_map (record_octets family) (map carried_of records)
 records-octets family [] of_family = refl
 records-octets family (first ∷ others) of_family =
     let here = written_record-carried family first (All-head (IsOfFamily family) first others of_family) in
     let later = records-octets family others (All-tail (IsOfFamily family) first others of_family) in
     ap (λ (xs : List ℕ). xs ++ flat_map written_record others) here
-    ∙ ap (λ (xs : List ℕ). carried_octets family (carried_of first) ++ xs) later
+    ∙ ap (λ (xs : List ℕ). record_octets family (carried_of first) ++ xs) later
 
 records-read : (family : Family) (records : List Record) → All (IsOfFamily family) records
     → known_records family (map carried_of records) ≡ records
@@ -178,11 +178,11 @@ abbrev pub HasFewSources : Record → Type 0
 HasFewSources group_record = length group_record.sources < 65536
 
 records-lawful : (family : Family) (records : List Record) → All (IsOfFamily family) records → All HasFittingAddresses records
-    → All HasFewSources records → All (IsCarried family) (map carried_of records)
-records-lawful family [] of_family fitting few = All-nil (IsCarried family)
+    → All HasFewSources records → All (IsCarriedRecord family) (map carried_of records)
+records-lawful family [] of_family fitting few = All-nil (IsCarriedRecord family)
 records-lawful family (first ∷ others) of_family fitting few =
-    All-cons (IsCarried family) (carried_of first) (map carried_of others)
-    (IsCarried-written family first (All-head (IsOfFamily family) first others of_family) (All-head HasFittingAddresses first others fitting)
+    All-cons (IsCarriedRecord family) (carried_of first) (map carried_of others)
+    (IsCarriedRecord-written family first (All-head (IsOfFamily family) first others of_family) (All-head HasFittingAddresses first others fitting)
     (All-head HasFewSources first others few))
     (records-lawful family others (All-tail (IsOfFamily family) first others of_family) (All-tail HasFittingAddresses first others fitting)
     (All-tail HasFewSources first others few))
@@ -235,7 +235,7 @@ AreRecords-written family records of_family fitting few = record {
   rest = [];
   number = length-map records carried_of;
   lawful = records-lawful family records of_family fitting few;
-  spelled = records-octets family records of_family ∙ sym (append-nil (flat_map (carried_octets family) (map carried_of records)));
+  spelled = records-octets family records of_family ∙ sym (append-nil (flat_map (record_octets family) (map carried_of records)));
   known = sym (records-read family records of_family);
 }
 

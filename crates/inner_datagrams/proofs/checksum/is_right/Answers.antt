@@ -1,9 +1,0 @@
-use Rattle.std.proofs.Common.{rules}
-use Rattle.amt_values.specs.Octets.{AreOctets}
-use Rattle.inner_datagrams.proofs.RightSum.{is_right-zero}
-use Rattle.inner_datagrams.proofs.checksum.is_right.Goals as goal
-
-pub returns : goal.returns
-returns c =
-    let small : AreOctets c.args.bytes.now = search rules in
-    is_right-zero c.args.bytes.now c.internet_sum.result small c.internet_sum.ensures
