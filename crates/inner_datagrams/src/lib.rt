@@ -28,6 +28,3 @@ pub use ipv4::write_inner4;
 pub use ipv6::write_inner6;
 pub use reading::read_inner;
 pub use writing::PAYLOAD_LIMIT;
-
-#[cfg(test)]
-mod tests;

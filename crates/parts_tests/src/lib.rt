@@ -6,6 +6,8 @@
 #![tactic(auto)]
 
 #[cfg(test)]
+mod datagrams;
+#[cfg(test)]
 mod ports;
 #[cfg(test)]
 mod values;

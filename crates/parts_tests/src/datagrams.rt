@@ -1,5 +1,7 @@
-use super::*;
+//! Datagrams that carry membership messages, heads of packets and checksums. It knows public calls alone.
+
 use amt_values::{INPUT_LIMIT, Ip};
+use inner_datagrams::*;
 use std::alloc::{AllocError, Global};
 use std::process::Abort;
 use std::test::Fail;
