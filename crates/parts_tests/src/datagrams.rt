@@ -1,10 +1,9 @@
 //! Datagrams that carry membership messages, heads of packets and checksums. It knows public calls alone.
 
-use amt_values::{INPUT_LIMIT, Ip};
+use amt_values::{Bytes, INPUT_LIMIT, Ip};
 use inner_datagrams::*;
 use std::alloc::{AllocError, Global};
 use std::process::Abort;
-use std::test::Fail;
 
 // A row that does not show what it says ends the test with its name.
 fn assert_row(rt: &impl Abort, what: &str, holds: bool) {
@@ -376,26 +375,32 @@ fn a_datagram_is_read_where_it_stands(rt: HostRuntime) {
     assert_readings(&rt, &DATAGRAMS);
 }
 
+fn is_datagram(written: Result<Bytes, AllocError>, datagram: &[u8]) -> bool {
+    match written {
+        Ok(written) => written.as_slice() == datagram,
+        Err(_) => false,
+    }
+}
+
 // The payload of the datagram is written, and gives the datagram.
 fn is_written4(
     alloc: Global,
     source: u32,
     destination: u32,
     datagram: &[u8],
-) -> Result<bool, AllocError> {
+) -> bool {
     match datagram.split_at_checked(24) {
         Some((_, payload)) if payload.len() <= PAYLOAD_LIMIT => {
-            Ok(write_inner4(alloc, source, destination, payload)?.as_slice() == datagram)
+            is_datagram(write_inner4(alloc, source, destination, payload), datagram)
         }
-        _ => Ok(false),
+        _ => false,
     }
 }
 
 #[test]
-fn an_igmp_message_is_written_with_its_header(rt: HostRuntime) -> Result<(), Fail> {
-    let written = is_written4(rt.alloc(), 0xc000_0201, 0xe000_0001, QUERY4)?;
+fn an_igmp_message_is_written_with_its_header(rt: HostRuntime) {
+    let written = is_written4(rt.alloc(), 0xc000_0201, 0xe000_0001, QUERY4);
     assert_row(&rt, "a query", written);
-    Ok(())
 }
 
 fn is_written6(
@@ -403,24 +408,23 @@ fn is_written6(
     source: u128,
     destination: u128,
     datagram: &[u8],
-) -> Result<bool, AllocError> {
+) -> bool {
     match datagram.split_at_checked(48) {
         Some((_, payload)) if payload.len() <= PAYLOAD_LIMIT => {
-            Ok(write_inner6(alloc, source, destination, payload)?.as_slice() == datagram)
+            is_datagram(write_inner6(alloc, source, destination, payload), datagram)
         }
-        _ => Ok(false),
+        _ => false,
     }
 }
 
 #[test]
-fn an_mld_message_is_written_with_its_headers(rt: HostRuntime) -> Result<(), Fail> {
+fn an_mld_message_is_written_with_its_headers(rt: HostRuntime) {
     let from = 0xfe80_0000_0000_0000_0000_0000_0000_0000;
     let to = 0xff02_0000_0000_0000_0000_0000_0000_0000;
-    let query = is_written6(rt.alloc(), from + 1, to + 1, QUERY6)?;
-    let report = is_written6(rt.alloc(), from + 2, to + 0x16, REPORT6)?;
+    let query = is_written6(rt.alloc(), from + 1, to + 1, QUERY6);
+    let report = is_written6(rt.alloc(), from + 2, to + 0x16, REPORT6);
     assert_row(&rt, "a query", query);
     assert_row(&rt, "a report", report);
-    Ok(())
 }
 
 const HEAD4: Head = Head {
