@@ -16,11 +16,11 @@ use Rattle.endpoint_membership.specs.declared.change.Change.TheVariants.{Reporte
 use Rattle.relay_machine.specs.declared.event.Event.{Event}
 use Rattle.relay_machine.specs.declared.event.Event.TheVariants.{Datagram}
 use Rattle.relay_machine.specs.declared.settings.Settings.{Settings}
-use Rattle.relay_machine.specs.Accepted.{accepted}
+use Rattle.relay_machine.specs.Accepted.{accepted_log}
 use Rattle.relay_machine.specs.Events.{now_of, secrets_of}
 use Rattle.relay_machine.specs.Lawful.{IsLawful}
 use Rattle.relay_machine.specs.Settings.{terms_of}
-use Rattle.relay_machine.specs.Updates.{forwarded}
+use Rattle.relay_machine.specs.Updates.{forwardable_records}
 
 -- the event is an Update of the endpoint: its response MAC is good after these events, it carries a
 -- lawful report of these records, and with those of them that are forwarded what stands is within
@@ -37,7 +37,7 @@ pub record IsAcceptedUpdate (settings : Settings) (first : Secret) (events : Lis
   pub good : IsGood (secrets_of first events) endpoint nonce mac
   pub lawful : IsLawful inner records
   pub within : IsWithin settings.limits
-      (standing_now (terms_of settings) (accepted settings first events ++ Reported endpoint (forwarded records) (now_of events) ∷ []))
+      (standing_now (terms_of settings) (accepted_log settings first events ++ Reported endpoint (forwardable_records records) (now_of events) ∷ []))
 
 -- the event is such an Update, of some endpoint and records
 abbrev pub IsSomeAcceptedUpdate : Settings → Secret → List Event → Event → Type 0
@@ -57,7 +57,7 @@ pub record IsAcceptedTeardown (settings : Settings) (first : Secret) (events : L
   pub source : endpoint_of from ≡ Some sender
   pub spelled : Spells (Teardown mac nonce named) bytes
   pub good : IsGood (secrets_of first events) named nonce mac
-  pub live : is_live named (standing_now (terms_of settings) (accepted settings first events)) ≡ true
+  pub live : is_live named (standing_now (terms_of settings) (accepted_log settings first events)) ≡ true
 
 -- the event is such a Teardown, of some endpoint
 abbrev pub IsSomeAcceptedTeardown : Settings → Secret → List Event → Event → Type 0

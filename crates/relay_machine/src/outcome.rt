@@ -1,3 +1,4 @@
+//! What an event came to, in words that the scripts print.
 use amt_messages::Refused;
 use amt_values::{Ip, Moment};
 use endpoint_membership::LimitFault;
