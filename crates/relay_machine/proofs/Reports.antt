@@ -1,5 +1,5 @@
 -- What the inner octets of an Update are read as.
-use Rattle.std.proofs.Common.{◌≡◌, ◌≤◌, ℕ, List, [], ◌∷◌, length, drop, Bool, true, false, cond, Option, Some, None, Result, Ok, Err, refl, sym, ap, ◌∙◌, arith}
+use Rattle.std.proofs.Common.{◌≡◌, ◌≤◌, ℕ, List, [], ◌∷◌, length, drop, Bool, true, false, cond, Some, None, Result, Ok, Err, refl, sym, ap, ◌∙◌, arith}
 use Rattle.std.proofs.lemmas.List.Sums.{sum_by-cons}
 use Rattle.source_filter.specs.declared.record.Record.{Record}
 use Rattle.source_filter.specs.Record.{item_count}
@@ -9,7 +9,6 @@ use Rattle.inner_datagrams.specs.Fault.{first_inner_fault}
 use Rattle.inner_datagrams.specs.Reading.{inner_at, payload_in, payload_start, unless}
 use Rattle.inner_datagrams.specs.declared.inner.Inner.{Inner as InnerPlace}
 use Rattle.inner_datagrams.specs.declared.inner.InnerFault.{InnerFault}
-use Rattle.relay_machine.specs.declared.outcome.Unlawful.{Unlawful}
 use Rattle.relay_machine.specs.declared.outcome.Unlawful.TheVariants.{Inner, Report}
 use Rattle.relay_machine.specs.Updates.{carried_report, forwardable_records, report_by, report_in}
 

@@ -1,5 +1,5 @@
 -- What a native multicast packet comes to, and who gets a copy (RFC 7450, section 5.3.3).
-use Rattle.std.specs.Prelude.{◌≡◌, ℕ, ◌≤◌, ◌↔◌, nat_lt, Bool, true, false, List, [], length, map, Result, Ok, Err, if◌then◌else◌}
+use Rattle.std.specs.Prelude.{◌≡◌, ℕ, ◌≤◌, ◌↔◌, nat_lt, Bool, true, false, List, length, map, Result, Ok, Err, if◌then◌else◌}
 use Rattle.std.specs.List.{All, Contains}
 use Rattle.amt_values.specs.Group.{is_forwardable}
 use Rattle.amt_values.specs.Order.{tunnel_order}
