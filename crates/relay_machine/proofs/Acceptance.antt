@@ -95,7 +95,7 @@ outcome-cleared settings first events event named teardown =
     teardown.live in (
       ap (λ (answer : EventAnswer). answer.outcome) whole,
       ap (λ (answer : EventAnswer). handed_out (terms_of settings) log answer.entry) whole
-      ∙ ap (λ (test : Bool). if test then Some (Clear named (now_of events)) else None) teardown.live,
+          ∙ ap (λ (test : Bool). if test then Some (Clear named (now_of events)) else None) teardown.live,
     )
 
 -- what came where a datagram is judged to be an accepted Update

@@ -110,7 +110,7 @@ AreCopies-answered settings first events packet head step outcome sends to_copy 
     let sent : step.sends ≡ copies (targets head) packet = sends ∙ ap (λ (read : Result Head Outcome). (answer read).sends) found in
     let came : step.outcome ≡ Copied (length (targets head)) = outcome ∙ ap (λ (read : Result Head Outcome). (answer read).outcome) found in (
       subst (AreCopies (wants_after settings first events head) packet) (sym sent)
-      (copies-are (targets head) packet (wants_after settings first events head) (targets_want lifetime log head.group head.source (now_of events))
-      (IsRising-targets_of lifetime log head.group head.source (now_of events))),
+          (copies-are (targets head) packet (wants_after settings first events head) (targets_want lifetime log head.group head.source (now_of events))
+          (IsRising-targets_of lifetime log head.group head.source (now_of events))),
       came ∙ ap (λ (n : ℕ). Copied n) (sym (ap (λ (all : List OneSend). length all) sent ∙ length-copies (targets head) packet)),
     )

@@ -1,4 +1,4 @@
--- What stands by the accepted log is within the limits, whatever the events.
+-- The memberships by the accepted log are within the limits, whatever the events.
 use Rattle.std.proofs.Common.{◌≡◌, ℕ, max, Bool, true, false, List, [], ◌∷◌, ◌++◌, reverse, filter, Option, Some, None, Result, Ok, Err, if◌then◌else◌, refl, sym, ap, subst, ◌∙◌, arith}
 use Rattle.std.proofs.lemmas.List.{reverse-append}
 use Rattle.amt_values.specs.Endpoint.{endpoint_of}
@@ -41,11 +41,11 @@ use Rattle.relay_machine.specs.Settings.{terms_of}
 use Rattle.relay_machine.specs.Packets.{head_to_copy, targets_at}
 use Rattle.relay_machine.specs.Updates.{forwardable_records, report_in}
 
--- what stands by the log is within the limits
+-- the memberships by the log are within the limits
 abbrev IsLogWithin : Terms → List Change → Type 0
 IsLogWithin terms log = IsWithin terms.limits (standing_now terms log)
 
--- a table that stands for the log
+-- a table that represents the log
 abbrev table_for : Terms → List Change → TableValue
 table_for terms log = record { moment = latest log; limits = terms.limits; lifetime = terms.lifetime; rows = standing_now terms log }
 
@@ -67,8 +67,8 @@ silent_by false records none = refl
 -- where an entry makes no record, the row stays as time leaves it
 row_unconcerned : (lifetime moment : ℕ) (entry : Change) (log : List Change) (rows after : List Kept) (place : Place) → AreRows lifetime moment (reverse log) rows
     → AreRows lifetime moment (reverse (log ++ entry ∷ [])) after → records_at place entry ≡ [] → row_at after place ≡ row_at rows place
-row_unconcerned lifetime moment entry log rows after place before behind none =
-    (subst (λ (past : List Change). AreRows lifetime moment past after) (reverse-append log (entry ∷ [])) behind).each place
+row_unconcerned lifetime moment entry log rows after place before later_rows none =
+    (subst (λ (past : List Change). AreRows lifetime moment past after) (reverse-append log (entry ∷ [])) later_rows).each place
     ∙ (standing-other lifetime moment entry (reverse log) place none ∙ sym (before.each place))
 
 -- by a report that passes no limit
@@ -81,11 +81,11 @@ within-report terms log source records at none within =
     let after = standing_now terms (log ++ entry ∷ []) in
     let before = AreRows-later terms.lifetime (latest log) moment (reverse log) (standing_now terms log) (omega (arith, latest-push log entry))
     (AreRows-standing_rows terms.lifetime (latest log) log) in
-    let behind = AreRows-standing_rows terms.lifetime moment (log ++ entry ∷ []) in
-    IsWithin-report terms.limits source records rows after before.rise behind.rise (IsWithin-filter terms.limits (is_fresh terms.lifetime moment) (standing_now terms log) within) none
-    (λ place apart. row_unconcerned terms.lifetime moment entry log rows after place before behind (rw apart refl))
+    let later_rows = AreRows-standing_rows terms.lifetime moment (log ++ entry ∷ []) in
+    IsWithin-report terms.limits source records rows after before.rise later_rows.rise (IsWithin-filter terms.limits (is_fresh terms.lifetime moment) (standing_now terms log) within) none
+    (λ place apart. row_unconcerned terms.lifetime moment entry log rows after place before later_rows (rw apart refl))
     (λ group kept silent found.
-    sym (row_unconcerned terms.lifetime moment entry log rows after (record { endpoint = source; group = group }) before behind
+    sym (row_unconcerned terms.lifetime moment entry log rows after (record { endpoint = source; group = group }) before later_rows
     (silent_by (same_endpoint source source) (on_group group records) silent)) ∙ found)
 
 within-limit : (terms : Terms) (log : List Change) (source : Tunnel) (records : List Record) (at : ℕ) (passed : Option LimitFault) → limit_passed terms log source records at ≡ passed

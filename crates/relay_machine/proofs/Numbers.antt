@@ -1,10 +1,10 @@
 -- The table of numbers: what holds of each key in the list holds of every key, and the defaults are
 -- lawful.
-use Rattle.std.proofs.Common.{◌≤◌, ◌<◌, ◌+◌, ◌*◌, ℕ, List, [], ◌∷◌, length, take, get_or, refl, sym, subst, arith}
+use Rattle.std.proofs.Common.{◌≤◌, ◌<◌, ◌+◌, ◌*◌, ℕ, List, [], ◌∷◌, length, take, get_or, rules, refl, sym, subst, arith}
 use Rattle.std.proofs.lemmas.List.{take_more}
-use Rattle.std.proofs.lemmas.List.Elements.{All-append, All-cons, All-nil}
+use Rattle.std.proofs.lemmas.List.Elements.{All-append, All-cons, All-from_recursion, All-nil}
 use Rattle.std.proofs.lemmas.Nat.{mul-le}
-use Rattle.std.specs.List.{All}
+use Rattle.std.specs.List.{All, AllByRecursion}
 use Rattle.amt_values.specs.declared.address.Ip.{Ip}
 use Rattle.endpoint_membership.specs.Table.{AreLawful}
 use Rattle.relay_machine.specs.declared.settings.Settings.{Settings}
@@ -28,13 +28,9 @@ All-more P keys i d before within here =
     subst (All P) (sym (take_more keys i d within)) (All-append P (take i keys) (get_or keys i d ∷ []) before (All-cons P (get_or keys i d) [] here (All-nil P)))
 
 numbers-default : (relay : Ip) (key : NumberKey) → IsInRange key ((row_of key).number (default_settings relay))
-numbers-default relay Robustness = record { least = omega arith; most = omega arith }
-numbers-default relay QuerySeconds = record { least = omega arith; most = omega arith }
-numbers-default relay ResponseTenths = record { least = omega arith; most = omega arith }
-numbers-default relay Endpoints = record { least = omega arith; most = omega arith }
-numbers-default relay Groups = record { least = omega arith; most = omega arith }
-numbers-default relay Sources = record { least = omega arith; most = omega arith }
-numbers-default relay PacketLimit = record { least = omega arith; most = omega arith }
+numbers-default relay =
+    let P : NumberKey → Type 0 = λ key. IsInRange key ((row_of key).number (default_settings relay)) in
+    let each : AllByRecursion P NUMBER_KEYS = search rules in All-keys P (All-from_recursion P NUMBER_KEYS each)
 
 pub AreLawful-default : (relay : Ip) → AreLawfulSettings (default_settings relay)
 AreLawful-default relay = record {

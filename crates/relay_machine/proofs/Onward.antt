@@ -241,7 +241,7 @@ RelayAt-rotate relay after settings first events secret at same_settings same_ta
   moment = ap (λ (table : TableValue). table.moment) same_table ∙ (at.moment ∙ sym (now_of-other events (Rotate secret) refl));
 }
 
--- what stands by the log is within the limits, as each relay's table is
+-- the memberships by the log are within the limits, as each relay's table is
 pub IsWithin-events : (relay : Relay) (settings : Settings) (first : Secret) (events : List Event) → RelayAt relay settings first events
     → IsWithin settings.limits (standing_now (terms_of settings) (accepted_log settings first events))
 IsWithin-events relay settings first events at = IsWithin-log (terms_of settings) relay.table (accepted_log settings first events) at.table relay.within

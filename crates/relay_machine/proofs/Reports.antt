@@ -21,9 +21,9 @@ pub report_in-carried : (inner payload : List ℕ) (place : InnerPlace) → firs
     → Ok place ≡ unless (first_inner_fault inner) (inner_at inner) → place.start ≡ payload_start inner → payload ≡ drop place.start inner
     → report_in inner ≡ report_by None (carried_report place.source place.destination payload)
 unfolding report_in
-report_in-carried inner payload place none whole behind same =
+report_in-carried inner payload place none whole starts same =
     let at : place ≡ inner_at inner = let read = rw none at whole in cc read in
-    let carried : payload_in inner ≡ payload = sym (same ∙ ap (λ (start : ℕ). drop start inner) behind) in
+    let carried : payload_in inner ≡ payload = sym (same ∙ ap (λ (start : ℕ). drop start inner) starts) in
     rw (none, carried) (ap (λ (found : InnerPlace). report_by None (carried_report found.source found.destination payload)) (sym at))
 
 -- what a reader answers of what is carried, as the Update's

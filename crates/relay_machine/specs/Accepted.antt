@@ -36,8 +36,8 @@ accepted_log settings first events = accepted_back settings first (reverse event
 abbrev pub entry_of : Settings → Secret → List Event → Event → Option Change
 entry_of settings first events event = entry_after settings first events (accepted_log settings first events) event
 
--- what a step hands out of an entry: all but a clearing of an endpoint at which no group stands, which
--- changes nothing that stands, then or later
+-- what a step hands out of an entry: all but a clearing of an endpoint without a membership, which
+-- changes no membership, then or later
 abbrev pub handed_out : Terms → List Change → Option Change → Option Change
 handed_out terms log None = None
 handed_out terms log (Some (Reported endpoint records at)) = Some (Reported endpoint records at)

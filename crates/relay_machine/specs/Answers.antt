@@ -60,7 +60,7 @@ After relay Fact = (settings : Settings) (first : Secret) (events : List Event) 
 abbrev pub ForLog : Relay → (List Change → Type 0) → Type 0
 ForLog relay Fact = (log : List Change) → StandsFor relay log → Fact log
 
--- what stands after the events
+-- the memberships after the events
 abbrev pub rows_after : Settings → Secret → List Event → List Row
 rows_after settings first events =
     rows_of (membership_interval_ms settings) (now_of events) (accepted_log settings first events)

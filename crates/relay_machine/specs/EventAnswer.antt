@@ -103,7 +103,7 @@ packet_answer targets packet (Ok head) =
 
 -- to an event
 abbrev pub event_answer : Settings → Secrets → ℕ → List Change → Event → EventAnswer
-event_answer settings secrets moment log (Moment told) = entered (Moved (max moment told)) (Mark (max moment told))
+event_answer settings secrets moment log (Moment reported) = entered (Moved (max moment reported)) (Mark (max moment reported))
 event_answer settings secrets moment log (Rotate secret) = quiet Rotated
 event_answer settings secrets moment log (Packet bytes) =
     packet_answer (targets_at (terms_of settings) log moment) bytes (head_to_copy settings.packet_limit bytes)

@@ -43,11 +43,11 @@ pub record IsInRange (key : NumberKey) (number : ℕ) : Type 0 where
   pub least : (row_of key).least ≤ number
   pub most : number ≤ (row_of key).most
 
--- a code of 8 bits stands for the time (RFC 3376, sections 4.1.1 and 4.1.7)
+-- the time has a code of 8 bits (RFC 3376, sections 4.1.1 and 4.1.7)
 abbrev pub HasCode : ℕ → Type 0
 HasCode time = (code : ℕ) × (code < 256) × (code_value code ≡ time)
 
--- a code of 16 bits stands for the time (RFC 3810, section 5.1.3)
+-- the time has a code of 16 bits (RFC 3810, section 5.1.3)
 abbrev pub HasMldCode : ℕ → Type 0
 HasMldCode time = (code : ℕ) × (code < 65536) × (mld_code_value code ≡ time)
 

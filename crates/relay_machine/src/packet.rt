@@ -1,11 +1,10 @@
 //! To whom a packet is copied. It reads the packet's head, and changes nothing.
 ghost use Rattle.std.specs.Prelude.{◌≡◌, ◌≤◌, [], length, IfOk};
-ghost use Rattle.amt_values.specs.Group.{is_forwardable};
 ghost use Rattle.endpoint_membership.specs.Log.{latest};
 ghost use Rattle.endpoint_membership.specs.Table.{IsWithinLimits, Terms};
 ghost use Rattle.relay_machine.specs.EventAnswer.{packet_answer};
 ghost use Rattle.relay_machine.specs.Logs.{Answers, IfOkByEachLog};
-ghost use Rattle.relay_machine.specs.Packets.{by_scope, copies, head_to_copy, targets_at};
+ghost use Rattle.relay_machine.specs.Packets.{copies, head_to_copy, targets_at};
 ghost use Rattle.relay_machine.specs.Settings.{terms_of};
 ghost use Rattle.relay_machine.specs.State.{HasLog};
 
@@ -29,18 +28,13 @@ fn head_to_copy(limit: u32, packet: &[u8]) -> Result<Head, Outcome>
     }
     match packet_head(packet) {
         Err(fault) => Err(Outcome::NotForwarded(NotForwarded::Head(fault))),
-        Ok(head) => in_scope(head),
-    }
-}
-
-// The head, where packets of its group are forwarded.
-fn in_scope(head: Head) -> Result<Head, Outcome>
-    ensures { result ≡ by_scope (is_forwardable head.group) head }
-{
-    if forwardable(&head.group) {
-        Ok(head)
-    } else {
-        Err(Outcome::NotForwarded(NotForwarded::Scope(head.group)))
+        Ok(head) => {
+            if forwardable(&head.group) {
+                Ok(head)
+            } else {
+                Err(Outcome::NotForwarded(NotForwarded::Scope(head.group)))
+            }
+        }
     }
 }
 

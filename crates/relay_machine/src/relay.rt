@@ -20,7 +20,7 @@ use std::alloc::{AllocError, Global};
 ///
 /// Contracts see each of its fields, so where they say that a relay is as before, nothing more was
 /// kept; a cell, of which they see nothing, none of its fields is. What the table keeps is within the
-/// limits, and stands for some log.
+/// limits, and represents some log.
 #[derive(Debug, Drop)]
 pub struct Relay {
     setup: Setup,
@@ -52,9 +52,9 @@ impl Relay {
     ghost use Rattle.relay_machine.specs.Updates.{forwardable_records};
     ghost use Rattle.relay_machine.specs.Settings.{AreLawfulSettings, membership_interval_ms};
 
-    /// A relay at moment 0, whose current secret is this one and at which nothing stands.
+    /// A relay at moment 0, whose current secret is this one, without memberships.
     ///
-    /// Whatever events may come, what stands by their accepted log is within the settings' limits.
+    /// Whatever events may come, the memberships by their accepted log are within the settings' limits.
     pub fn new(alloc: Global, settings: Settings, secret: Secret) -> Result<Relay, AllocError>
         requires { AreLawfulSettings settings }
         ensures stands { IfOk result (λ relay. RelayAt relay settings secret []) }
@@ -77,7 +77,7 @@ impl Relay {
         self.table.now()
     }
 
-    /// What stands, by tunnel endpoint and then by group.
+    /// The memberships, by tunnel endpoint and then by group.
     pub fn rows(&self, alloc: Global) -> Result<Rows, AllocError>
         ensures stands { IfOk result (λ rows. After self.now (λ settings first events.
             rows ≡ rows_after settings first events)) }
@@ -88,7 +88,7 @@ impl Relay {
         self.table.rows(alloc)
     }
 
-    /// How many tunnel endpoints have some group that stands.
+    /// How many tunnel endpoints have a membership.
     pub fn live_endpoints(&self) -> u32
         ensures { After self.now (λ settings first events. result
             ≡ live_count (standing_now (terms_of settings) (accepted_log settings first events))) }
@@ -112,8 +112,8 @@ impl Relay {
             IfOk result (λ _. IsWithin settings.limits (standing_now (terms_of settings)
             (accepted_log settings first (events ++ event.now ∷ []))))) }
 
-        // Whoever appends each entry that is handed out to a log has one that the table represents, as
-        // it does the accepted log: no clearing that isn't handed out is missed.
+        // A replica that appends each entry that is handed out to a log that the table represents has
+        // such a log again: no clearing that isn't handed out is missed.
         ensures published { ForLog self.old (λ log.
             IfOk result (λ step. StandsFor self.new (with_change log step.change))) }
         ensures settings { settings_of self.new ≡ settings_of self.old }

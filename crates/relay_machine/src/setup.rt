@@ -76,15 +76,6 @@ impl Setup {
         write_inner6(alloc, source, ALL_NODES, query.as_slice())
     }
 
-    fn general_query(&self, alloc: Global, v6: bool) -> Result<Bytes, AllocError>
-        ensures { IfOk result (λ inner. inner ≡ general_query self.now.settings v6) }
-    {
-        match v6 {
-            true => self.mld_query(alloc),
-            false => self.igmp_query(alloc),
-        }
-    }
-
     /// The Query that answers a source's Request under this secret, for MLD where `v6` is true.
     pub fn query_for(
         &self,
@@ -99,11 +90,15 @@ impl Setup {
             (λ query. query ≡ query_for self.now.settings secret.now v6 limited source nonce) }
         ensures sendable { IfOk result IsSendable }
     {
+        let inner = match v6 {
+            true => self.mld_query(alloc)?,
+            false => self.igmp_query(alloc)?,
+        };
         Ok(Message::Query {
             limited,
             mac: mac(secret, &source, nonce),
             nonce,
-            inner: self.general_query(alloc, v6)?,
+            inner,
             seen: Some(source),
         })
     }
