@@ -1,3 +1,4 @@
+//! A relay, event by event: outcomes, entries that are handed out, and how much is sent.
 ghost use Rattle.std.specs.Prelude.{◌≤◌, IfOk, length};
 ghost use Rattle.relay_machine.specs.Conditions.{IsEvent};
 
