@@ -1,5 +1,5 @@
 -- An accepted Update gives its outcome and entry, and no other event gives them; an accepted Teardown likewise.
-use Rattle.std.proofs.Common.{◌≡◌, ℕ, nat_lt, Bool, true, false, List, length, Option, Some, None, Result, Ok, Err, if◌then◌else◌, refl, sym, subst, ◌∙◌}
+use Rattle.std.proofs.Common.{◌≡◌, ℕ, nat_lt, Bool, true, false, List, length, Option, Some, None, Result, Ok, Err, if◌then◌else◌, refl, sym, ap, subst, ◌∙◌}
 use Rattle.std.specs.Result.{IfOk}
 use Rattle.amt_values.specs.Endpoint.{endpoint_of}
 use Rattle.amt_values.specs.Group.{is_forwardable}
@@ -33,37 +33,70 @@ use Rattle.relay_machine.specs.declared.outcome.Unlawful.{Unlawful}
 use Rattle.relay_machine.specs.declared.sends.Step.{Step}
 use Rattle.relay_machine.specs.declared.settings.Settings.{Settings}
 use Rattle.relay_machine.specs.Acceptance.{IsAcceptedTeardown, IsAcceptedUpdate, IsSomeAcceptedTeardown, IsSomeAcceptedUpdate}
-use Rattle.relay_machine.specs.Accepted.{accepted, change_of}
-use Rattle.relay_machine.specs.Answers.{judged, outcome_of}
+use Rattle.relay_machine.specs.Accepted.{accepted_log, change_of, handed_out}
+use Rattle.relay_machine.specs.Answers.{answer_of, outcome_of}
+use Rattle.relay_machine.specs.EventAnswer.{EventAnswer, datagram_answer, entered, limited_answer, packet_answer, teardown_answer, update_answer}
 use Rattle.relay_machine.specs.Events.{now_of, secrets_of}
-use Rattle.relay_machine.specs.Packets.{by_head, by_scope, packet_outcome, targets_after}
+use Rattle.relay_machine.specs.Packets.{by_head, by_scope, targets_at}
 use Rattle.relay_machine.specs.Settings.{terms_of}
-use Rattle.relay_machine.specs.Teardowns.{teardown_outcome}
-use Rattle.relay_machine.specs.Updates.{forwarded, limit_outcome, report_in, update_outcome}
+use Rattle.relay_machine.specs.Updates.{forwardable_records, report_in}
 use Rattle.amt_values.proofs.NetworkOrder.{AreOctets-drop}
 use Rattle.relay_machine.proofs.Goodness.{is_good-true}
 use Rattle.relay_machine.proofs.Lawful.{lawful-report_in, report_in-lawful}
 use Rattle.relay_machine.proofs.Limits.{always_within, within-report}
 
--- what the octets of an accepted Update are judged as
+-- the answer to an Update with a good MAC, a lawful report and within the limits
+updated_answer : (settings : Settings) (secrets : Secrets) (moment : ℕ) (log : List Change) (from : Option Tunnel) (reading : Result Message Refused) (source : Tunnel) (mac : Mac48) (nonce : ℕ)
+    (inner : List ℕ) (records : List Record) → from ≡ Some source → reading ≡ Ok (Update mac nonce inner) → is_good secrets source nonce mac ≡ true → report_in inner ≡ Ok records
+    → limit_passed (terms_of settings) log source (forwardable_records records) moment ≡ None
+    → datagram_answer settings secrets moment log from reading ≡ entered Updated (Reported source (forwardable_records records) moment)
+updated_answer settings secrets moment log from reading source mac nonce inner records comes_from read good lawful none =
+    let passed : List Record → Option LimitFault = λ all. limit_passed (terms_of settings) log source all moment in
+    ap (λ (known : Option Tunnel). datagram_answer settings secrets moment log known reading) comes_from
+    ∙ (ap (datagram_answer settings secrets moment log (Some source)) read
+    ∙ (ap (λ (test : Bool). update_answer test (report_in inner) passed source moment) good
+    ∙ (ap (λ (report : Result (List Record) Unlawful). update_answer true report passed source moment) lawful
+    ∙ ap (λ (fault : Option LimitFault). limited_answer fault (Reported source (forwardable_records records) moment)) none)))
+
+-- the answer to a Teardown with a good MAC of an endpoint with some group
+torn_answer : (settings : Settings) (secrets : Secrets) (moment : ℕ) (log : List Change) (from : Option Tunnel) (reading : Result Message Refused) (sender : Tunnel) (mac : Mac48) (nonce : ℕ)
+    (named : Tunnel) → from ≡ Some sender → reading ≡ Ok (Teardown mac nonce named) → is_good secrets named nonce mac ≡ true → is_live named (standing_now (terms_of settings) log) ≡ true
+    → datagram_answer settings secrets moment log from reading ≡ entered TornDown (Clear named moment)
+torn_answer settings secrets moment log from reading sender mac nonce named comes_from read good live =
+    ap (λ (known : Option Tunnel). datagram_answer settings secrets moment log known reading) comes_from
+    ∙ (ap (datagram_answer settings secrets moment log (Some sender)) read
+    ∙ (ap (λ (test : Bool). teardown_answer test (is_live named (standing_now (terms_of settings) log)) named moment) good
+    ∙ ap (λ (test : Bool). teardown_answer true test named moment) live))
+
+-- what an accepted Update comes to, and what is handed out of it
 pub outcome-accepted : (settings : Settings) (first : Secret) (events : List Event) (event : Event) (endpoint : Tunnel) (records : List Record)
     → IsAcceptedUpdate settings first events event endpoint records
-    → (outcome_of settings first events event ≡ Updated) × (change_of settings first events event ≡ Some (Reported endpoint (forwarded records) (now_of events)))
+    → (outcome_of settings first events event ≡ Updated) × (change_of settings first events event ≡ Some (Reported endpoint (forwardable_records records) (now_of events)))
 outcome-accepted settings first events event endpoint records update =
-    let read = spelled_is_read (Update update.mac update.nonce update.inner) update.bytes update.spelled in
-    let good = (is_good-true (secrets_of first events) endpoint update.nonce update.mac).1 update.good in
-    let lawful = report_in-lawful update.inner records update.lawful in
-    let none : limit_passed (terms_of settings) (accepted settings first events) endpoint (forwarded records) (now_of events) ≡ None =
-    none_passed settings.limits endpoint (forwarded records) _ update.within in
-    rw (update.came, update.source, read, good, lawful, none) (refl, refl)
+    let log = accepted_log settings first events in
+    let whole : answer_of settings first events event ≡ entered Updated (Reported endpoint (forwardable_records records) (now_of events)) =
+    ap (answer_of settings first events) update.came
+    ∙ updated_answer settings (secrets_of first events) (now_of events) log (endpoint_of update.from) (message_of update.bytes) endpoint update.mac update.nonce update.inner records update.source
+    (spelled_is_read (Update update.mac update.nonce update.inner) update.bytes update.spelled) ((is_good-true (secrets_of first events) endpoint update.nonce update.mac).1 update.good)
+    (report_in-lawful update.inner records update.lawful) (none_passed settings.limits endpoint (forwardable_records records) _ update.within) in (
+      ap (λ (answer : EventAnswer). answer.outcome) whole,
+      ap (λ (answer : EventAnswer). handed_out (terms_of settings) log answer.entry) whole,
+    )
 
 pub outcome-cleared : (settings : Settings) (first : Secret) (events : List Event) (event : Event) (named : Tunnel)
     → IsAcceptedTeardown settings first events event named
     → (outcome_of settings first events event ≡ TornDown) × (change_of settings first events event ≡ Some (Clear named (now_of events)))
 outcome-cleared settings first events event named teardown =
-    let read = spelled_is_read (Teardown teardown.mac teardown.nonce named) teardown.bytes teardown.spelled in
-    let good = (is_good-true (secrets_of first events) named teardown.nonce teardown.mac).1 teardown.good in
-    rw (teardown.came, teardown.source, read, good, teardown.live) (refl, refl)
+    let log = accepted_log settings first events in
+    let whole : answer_of settings first events event ≡ entered TornDown (Clear named (now_of events)) =
+    ap (answer_of settings first events) teardown.came
+    ∙ torn_answer settings (secrets_of first events) (now_of events) log (endpoint_of teardown.from) (message_of teardown.bytes) teardown.sender teardown.mac teardown.nonce named teardown.source
+    (spelled_is_read (Teardown teardown.mac teardown.nonce named) teardown.bytes teardown.spelled) ((is_good-true (secrets_of first events) named teardown.nonce teardown.mac).1 teardown.good)
+    teardown.live in (
+      ap (λ (answer : EventAnswer). answer.outcome) whole,
+      ap (λ (answer : EventAnswer). handed_out (terms_of settings) log answer.entry) whole
+          ∙ ap (λ (test : Bool). if test then Some (Clear named (now_of events)) else None) teardown.live,
+    )
 
 -- what came where a datagram is judged to be an accepted Update
 record IsUpdateOf (terms : Terms) (secrets : Secrets) (moment : ℕ) (log : List Change) (from : Option Tunnel) (reading : Result Message Refused) : Type 0 where
@@ -76,34 +109,36 @@ record IsUpdateOf (terms : Terms) (secrets : Secrets) (moment : ℕ) (log : List
   read : reading ≡ Ok (Update mac nonce inner)
   good : is_good secrets source nonce mac ≡ true
   lawful : report_in inner ≡ Ok records
-  none : limit_passed terms log source (forwarded records) moment ≡ None
+  none : limit_passed terms log source (forwardable_records records) moment ≡ None
 
-limit-updated : (passed : Option LimitFault) → limit_outcome passed ≡ Updated → passed ≡ None
-limit-updated None same = refl
-limit-updated (Some fault) same = cc
+limit-updated : (passed : Option LimitFault) (change : Change) → (limited_answer passed change).outcome ≡ Updated → passed ≡ None
+limit-updated None change same = refl
+limit-updated (Some fault) change same = cc
 
-update-updated : (good : Bool) (reading : Result (List Record) Unlawful) (passed : List Record → Option LimitFault) → update_outcome good reading passed ≡ Updated
-    → (good ≡ true) × ((records : List Record) × (reading ≡ Ok records) × (passed (forwarded records) ≡ None))
-update-updated false reading passed same = cc
-update-updated true (Err fault) passed same = cc
-update-updated true (Ok records) passed same = (refl, (records, refl, limit-updated (passed (forwarded records)) same))
+update-updated : (good : Bool) (reading : Result (List Record) Unlawful) (passed : List Record → Option LimitFault) (source : Tunnel) (moment : ℕ)
+    → (update_answer good reading passed source moment).outcome ≡ Updated
+    → (good ≡ true) × ((records : List Record) × (reading ≡ Ok records) × (passed (forwardable_records records) ≡ None))
+update-updated false reading passed source moment same = cc
+update-updated true (Err fault) passed source moment same = cc
+update-updated true (Ok records) passed source moment same =
+    (refl, (records, refl, limit-updated (passed (forwardable_records records)) (Reported source (forwardable_records records) moment) same))
 
-teardown-updated : (good live : Bool) → teardown_outcome good live ≡ Updated → ⊥
-teardown-updated false live same = cc
-teardown-updated true true same = cc
-teardown-updated true false same = cc
+teardown-updated : (good live : Bool) (named : Tunnel) (moment : ℕ) → (teardown_answer good live named moment).outcome ≡ Updated → ⊥
+teardown-updated false live named moment same = cc
+teardown-updated true true named moment same = cc
+teardown-updated true false named moment same = cc
 
-judged-updated : (terms : Terms) (secrets : Secrets) (moment : ℕ) (log : List Change) (from : Option Tunnel) (reading : Result Message Refused)
-    → judged terms secrets moment log from reading ≡ Updated → IsUpdateOf terms secrets moment log from reading
-judged-updated terms secrets moment log None reading same = cc
-judged-updated terms secrets moment log (Some source) (Err refusal) same = cc
-judged-updated terms secrets moment log (Some source) (Ok (Discovery nonce)) same = cc
-judged-updated terms secrets moment log (Some source) (Ok (Advertisement nonce relay)) same = cc
-judged-updated terms secrets moment log (Some source) (Ok (Request v6 nonce)) same = cc
-judged-updated terms secrets moment log (Some source) (Ok (Query limited mac nonce inner seen)) same = cc
-judged-updated terms secrets moment log (Some source) (Ok (Multicast packet)) same = cc
-judged-updated terms secrets moment log (Some source) (Ok (Update mac nonce inner)) same =
-    let parts = update-updated (is_good secrets source nonce mac) (report_in inner) (λ (records : List Record). limit_passed terms log source records moment) same in record {
+datagram-updated : (settings : Settings) (secrets : Secrets) (moment : ℕ) (log : List Change) (from : Option Tunnel) (reading : Result Message Refused)
+    → (datagram_answer settings secrets moment log from reading).outcome ≡ Updated → IsUpdateOf (terms_of settings) secrets moment log from reading
+datagram-updated settings secrets moment log None reading same = cc
+datagram-updated settings secrets moment log (Some source) (Err refusal) same = cc
+datagram-updated settings secrets moment log (Some source) (Ok (Discovery nonce)) same = cc
+datagram-updated settings secrets moment log (Some source) (Ok (Advertisement nonce relay)) same = cc
+datagram-updated settings secrets moment log (Some source) (Ok (Request v6 nonce)) same = cc
+datagram-updated settings secrets moment log (Some source) (Ok (Query limited mac nonce inner seen)) same = cc
+datagram-updated settings secrets moment log (Some source) (Ok (Multicast packet)) same = cc
+datagram-updated settings secrets moment log (Some source) (Ok (Update mac nonce inner)) same =
+    let parts = update-updated (is_good secrets source nonce mac) (report_in inner) (λ (records : List Record). limit_passed (terms_of settings) log source records moment) source moment same in record {
       source = source;
       mac = mac;
       nonce = nonce;
@@ -115,8 +150,8 @@ judged-updated terms secrets moment log (Some source) (Ok (Update mac nonce inne
       lawful = parts.1.1;
       none = parts.1.2;
     }
-judged-updated terms secrets moment log (Some source) (Ok (Teardown mac nonce gateway)) same =
-    absurd (teardown-updated (is_good secrets gateway nonce mac) (is_live gateway (standing_now terms log)) same)
+datagram-updated settings secrets moment log (Some source) (Ok (Teardown mac nonce named)) same =
+    absurd (teardown-updated (is_good secrets named nonce mac) (is_live named (standing_now (terms_of settings) log)) named moment same)
 
 -- what came where it is judged to be an accepted Teardown
 record IsTeardownOf (terms : Terms) (secrets : Secrets) (log : List Change) (from : Option Tunnel) (reading : Result Message Refused) : Type 0 where
@@ -129,37 +164,39 @@ record IsTeardownOf (terms : Terms) (secrets : Secrets) (log : List Change) (fro
   good : is_good secrets named nonce mac ≡ true
   live : is_live named (standing_now terms log) ≡ true
 
-limit-torn : (passed : Option LimitFault) → limit_outcome passed ≡ TornDown → ⊥
-limit-torn None same = cc
-limit-torn (Some fault) same = cc
+limit-torn : (passed : Option LimitFault) (change : Change) → (limited_answer passed change).outcome ≡ TornDown → ⊥
+limit-torn None change same = cc
+limit-torn (Some fault) change same = cc
 
-update-torn : (good : Bool) (reading : Result (List Record) Unlawful) (passed : List Record → Option LimitFault) → update_outcome good reading passed ≡ TornDown → ⊥
-update-torn false reading passed same = cc
-update-torn true (Err fault) passed same = cc
-update-torn true (Ok records) passed same = limit-torn (passed (forwarded records)) same
+update-torn : (good : Bool) (reading : Result (List Record) Unlawful) (passed : List Record → Option LimitFault) (source : Tunnel) (moment : ℕ)
+    → (update_answer good reading passed source moment).outcome ≡ TornDown → ⊥
+update-torn false reading passed source moment same = cc
+update-torn true (Err fault) passed source moment same = cc
+update-torn true (Ok records) passed source moment same =
+    limit-torn (passed (forwardable_records records)) (Reported source (forwardable_records records) moment) same
 
-teardown-torn : (good live : Bool) → teardown_outcome good live ≡ TornDown → (good ≡ true) × (live ≡ true)
-teardown-torn false live same = cc
-teardown-torn true true same = (refl, refl)
-teardown-torn true false same = cc
+teardown-torn : (good live : Bool) (named : Tunnel) (moment : ℕ) → (teardown_answer good live named moment).outcome ≡ TornDown → (good ≡ true) × (live ≡ true)
+teardown-torn false live named moment same = cc
+teardown-torn true true named moment same = (refl, refl)
+teardown-torn true false named moment same = cc
 
-judged-torn : (terms : Terms) (secrets : Secrets) (moment : ℕ) (log : List Change) (from : Option Tunnel) (reading : Result Message Refused)
-    → judged terms secrets moment log from reading ≡ TornDown → IsTeardownOf terms secrets log from reading
-judged-torn terms secrets moment log None reading same = cc
-judged-torn terms secrets moment log (Some source) (Err refusal) same = cc
-judged-torn terms secrets moment log (Some source) (Ok (Discovery nonce)) same = cc
-judged-torn terms secrets moment log (Some source) (Ok (Advertisement nonce relay)) same = cc
-judged-torn terms secrets moment log (Some source) (Ok (Request v6 nonce)) same = cc
-judged-torn terms secrets moment log (Some source) (Ok (Query limited mac nonce inner seen)) same = cc
-judged-torn terms secrets moment log (Some source) (Ok (Multicast packet)) same = cc
-judged-torn terms secrets moment log (Some source) (Ok (Update mac nonce inner)) same =
-    absurd (update-torn (is_good secrets source nonce mac) (report_in inner) (λ (records : List Record). limit_passed terms log source records moment) same)
-judged-torn terms secrets moment log (Some source) (Ok (Teardown mac nonce gateway)) same =
-    let parts = teardown-torn (is_good secrets gateway nonce mac) (is_live gateway (standing_now terms log)) same in record {
+datagram-torn : (settings : Settings) (secrets : Secrets) (moment : ℕ) (log : List Change) (from : Option Tunnel) (reading : Result Message Refused)
+    → (datagram_answer settings secrets moment log from reading).outcome ≡ TornDown → IsTeardownOf (terms_of settings) secrets log from reading
+datagram-torn settings secrets moment log None reading same = cc
+datagram-torn settings secrets moment log (Some source) (Err refusal) same = cc
+datagram-torn settings secrets moment log (Some source) (Ok (Discovery nonce)) same = cc
+datagram-torn settings secrets moment log (Some source) (Ok (Advertisement nonce relay)) same = cc
+datagram-torn settings secrets moment log (Some source) (Ok (Request v6 nonce)) same = cc
+datagram-torn settings secrets moment log (Some source) (Ok (Query limited mac nonce inner seen)) same = cc
+datagram-torn settings secrets moment log (Some source) (Ok (Multicast packet)) same = cc
+datagram-torn settings secrets moment log (Some source) (Ok (Update mac nonce inner)) same =
+    absurd (update-torn (is_good secrets source nonce mac) (report_in inner) (λ (records : List Record). limit_passed (terms_of settings) log source records moment) source moment same)
+datagram-torn settings secrets moment log (Some source) (Ok (Teardown mac nonce named)) same =
+    let parts = teardown-torn (is_good secrets named nonce mac) (is_live named (standing_now (terms_of settings) log)) named moment same in record {
       sender = source;
       mac = mac;
       nonce = nonce;
-      named = gateway;
+      named = named;
       comes_from = refl;
       read = refl;
       good = parts.0;
@@ -167,21 +204,21 @@ judged-torn terms secrets moment log (Some source) (Ok (Teardown mac nonce gatew
     }
 
 -- a packet comes to neither
-scope-neither : (forwards : Bool) (head : Head) (targets : Head → List Tunnel)
-    → (packet_outcome targets (by_scope forwards head) ≡ Updated → ⊥) × (packet_outcome targets (by_scope forwards head) ≡ TornDown → ⊥)
-scope-neither true head targets = (λ same. cc, λ same. cc)
-scope-neither false head targets = (λ same. cc, λ same. cc)
+scope-neither : (forwards : Bool) (head : Head) (targets : Head → List Tunnel) (packet : List ℕ)
+    → ((packet_answer targets packet (by_scope forwards head)).outcome ≡ Updated → ⊥) × ((packet_answer targets packet (by_scope forwards head)).outcome ≡ TornDown → ⊥)
+scope-neither true head targets packet = (λ same. cc, λ same. cc)
+scope-neither false head targets packet = (λ same. cc, λ same. cc)
 
-head-neither : (reading : Result Head HeadFault) (targets : Head → List Tunnel)
-    → (packet_outcome targets (by_head reading) ≡ Updated → ⊥) × (packet_outcome targets (by_head reading) ≡ TornDown → ⊥)
-head-neither (Err fault) targets = (λ same. cc, λ same. cc)
-head-neither (Ok head) targets = scope-neither (is_forwardable head.group) head targets
+head-neither : (reading : Result Head HeadFault) (targets : Head → List Tunnel) (packet : List ℕ)
+    → ((packet_answer targets packet (by_head reading)).outcome ≡ Updated → ⊥) × ((packet_answer targets packet (by_head reading)).outcome ≡ TornDown → ⊥)
+head-neither (Err fault) targets packet = (λ same. cc, λ same. cc)
+head-neither (Ok head) targets packet = scope-neither (is_forwardable head.group) head targets packet
 
-pub packet-neither : (big : Bool) (octets : ℕ) (reading : Result Head HeadFault) (targets : Head → List Tunnel)
-    → (packet_outcome targets (if big then Err (TooBig octets) else by_head reading) ≡ Updated → ⊥)
-    × (packet_outcome targets (if big then Err (TooBig octets) else by_head reading) ≡ TornDown → ⊥)
-packet-neither true octets reading targets = (λ same. cc, λ same. cc)
-packet-neither false octets reading targets = head-neither reading targets
+pub packet-neither : (big : Bool) (octets : ℕ) (reading : Result Head HeadFault) (targets : Head → List Tunnel) (packet : List ℕ)
+    → ((packet_answer targets packet (if big then Err (TooBig octets) else by_head reading)).outcome ≡ Updated → ⊥)
+    × ((packet_answer targets packet (if big then Err (TooBig octets) else by_head reading)).outcome ≡ TornDown → ⊥)
+packet-neither true octets reading targets packet = (λ same. cc, λ same. cc)
+packet-neither false octets reading targets packet = head-neither reading targets packet
 
 -- what comes as a datagram is octets
 abbrev pub AreOctetsIn : Event → Type 0
@@ -193,11 +230,11 @@ pub accepted-updated : (settings : Settings) (first : Secret) (events : List Eve
 accepted-updated settings first events (Moment moment) octets same = cc
 accepted-updated settings first events (Rotate secret) octets same = cc
 accepted-updated settings first events (Packet bytes) octets same =
-    absurd ((packet-neither (nat_lt settings.packet_limit (length bytes)) (length bytes) (head_of bytes) (targets_after settings first events)).0 same)
+    absurd ((packet-neither (nat_lt settings.packet_limit (length bytes)) (length bytes) (head_of bytes) (targets_at (terms_of settings) (accepted_log settings first events) (now_of events)) bytes).0 same)
 accepted-updated settings first events (Datagram from bytes) octets same =
     let terms = terms_of settings in
-    let log = accepted settings first events in
-    let update = judged-updated terms (secrets_of first events) (now_of events) log (endpoint_of from) (message_of bytes) same in
+    let log = accepted_log settings first events in
+    let update = datagram-updated settings (secrets_of first events) (now_of events) log (endpoint_of from) (message_of bytes) same in
     let spelled = read_is_spelled bytes (Update update.mac update.nonce update.inner) update.read in
     let small : AreOctets update.inner = subst AreOctets (sym spelled.inner_field) (AreOctets-drop 12 bytes (octets from bytes refl)) in (
       update.source,
@@ -213,7 +250,7 @@ accepted-updated settings first events (Datagram from bytes) octets same =
         spelled = spelled;
         good = (is_good-true (secrets_of first events) update.source update.nonce update.mac).0 update.good;
         lawful = lawful-report_in update.inner update.records small update.lawful;
-        within = within-report terms log update.source (forwarded update.records) (now_of events) update.none (always_within settings first events);
+        within = within-report terms log update.source (forwardable_records update.records) (now_of events) update.none (always_within settings first events);
       },
     )
 
@@ -223,9 +260,9 @@ pub accepted-torn : (settings : Settings) (first : Secret) (events : List Event)
 accepted-torn settings first events (Moment moment) same = cc
 accepted-torn settings first events (Rotate secret) same = cc
 accepted-torn settings first events (Packet bytes) same =
-    absurd ((packet-neither (nat_lt settings.packet_limit (length bytes)) (length bytes) (head_of bytes) (targets_after settings first events)).1 same)
+    absurd ((packet-neither (nat_lt settings.packet_limit (length bytes)) (length bytes) (head_of bytes) (targets_at (terms_of settings) (accepted_log settings first events) (now_of events)) bytes).1 same)
 accepted-torn settings first events (Datagram from bytes) same =
-    let teardown = judged-torn (terms_of settings) (secrets_of first events) (now_of events) (accepted settings first events) (endpoint_of from) (message_of bytes) same in (
+    let teardown = datagram-torn settings (secrets_of first events) (now_of events) (accepted_log settings first events) (endpoint_of from) (message_of bytes) same in (
       teardown.named,
       record {
         from = from;
@@ -245,7 +282,7 @@ accepted-torn settings first events (Datagram from bytes) same =
 pub updated-answered : {E : Type 0} (settings : Settings) (first : Secret) (events : List Event) (event : Event) (endpoint : Tunnel) (records : List Record) (answer : Result Step E)
     → IfOk answer (λ step. step.outcome ≡ outcome_of settings first events event) → IfOk answer (λ step. step.change ≡ change_of settings first events event)
     → IsAcceptedUpdate settings first events event endpoint records
-    → IfOk answer (λ step. (step.outcome ≡ Updated) × (step.change ≡ Some (Reported endpoint (forwarded records) (now_of events))))
+    → IfOk answer (λ step. (step.outcome ≡ Updated) × (step.change ≡ Some (Reported endpoint (forwardable_records records) (now_of events))))
 updated-answered settings first events event endpoint records (Err fault) outcome change update = tt
 updated-answered settings first events event endpoint records (Ok step) outcome change update =
     let accepted_as = outcome-accepted settings first events event endpoint records update in (outcome ∙ accepted_as.0, change ∙ accepted_as.1)

@@ -1,9 +1,10 @@
 pub mod Acceptance
+pub mod Answering
 pub mod Copies
 pub mod Goodness
-pub mod HandedOut
 pub mod Lawful
 pub mod Limits
+pub mod Numbers
 pub mod Onward
 pub mod QuerySizes
 pub mod Reports

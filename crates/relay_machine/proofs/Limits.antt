@@ -1,4 +1,4 @@
--- What stands by the accepted log is within the limits, whatever the events.
+-- The memberships by the accepted log are within the limits, whatever the events.
 use Rattle.std.proofs.Common.{◌≡◌, ℕ, max, Bool, true, false, List, [], ◌∷◌, ◌++◌, reverse, filter, Option, Some, None, Result, Ok, Err, if◌then◌else◌, refl, sym, ap, subst, ◌∙◌, arith}
 use Rattle.std.proofs.lemmas.List.{reverse-append}
 use Rattle.amt_values.specs.Endpoint.{endpoint_of}
@@ -11,12 +11,13 @@ use Rattle.response_mac.specs.declared.secret.Secret.{Secret}
 use Rattle.response_mac.specs.declared.secrets.Secrets.{Secrets}
 use Rattle.response_mac.specs.ResponseMac.{is_good}
 use Rattle.source_filter.specs.declared.record.Record.{Record}
+use Rattle.inner_datagrams.specs.declared.head.Head.{Head}
 use Rattle.endpoint_membership.specs.Kept.{is_fresh}
 use Rattle.endpoint_membership.specs.Limits.{IsWithin}
 use Rattle.endpoint_membership.specs.Log.{latest, records_at}
 use Rattle.endpoint_membership.specs.Own.{on_group}
 use Rattle.endpoint_membership.specs.Place.{Place, same_endpoint}
-use Rattle.endpoint_membership.specs.Rows.{row_at}
+use Rattle.endpoint_membership.specs.Rows.{is_live, row_at}
 use Rattle.endpoint_membership.specs.Table.{AreRows, Holds, TableValue, Terms, limit_passed, standing_now}
 use Rattle.endpoint_membership.specs.declared.change.Change.{Change}
 use Rattle.endpoint_membership.specs.declared.change.Change.TheVariants.{Mark, Reported}
@@ -32,17 +33,19 @@ use Rattle.relay_machine.specs.declared.event.Event.{Event}
 use Rattle.relay_machine.specs.declared.event.Event.TheVariants.{Moment, Datagram, Packet, Rotate}
 use Rattle.relay_machine.specs.declared.outcome.Unlawful.{Unlawful}
 use Rattle.relay_machine.specs.declared.settings.Settings.{Settings}
-use Rattle.relay_machine.specs.Accepted.{accepted, accepted_back, datagram_entry, with_change}
+use Rattle.relay_machine.specs.declared.outcome.Outcome.{Outcome}
+use Rattle.relay_machine.specs.Accepted.{accepted_back, accepted_log, with_change}
+use Rattle.relay_machine.specs.EventAnswer.{datagram_answer, limited_answer, message_answer, packet_answer, teardown_answer, update_answer}
 use Rattle.relay_machine.specs.Events.{now_of, secrets_of}
 use Rattle.relay_machine.specs.Settings.{terms_of}
-use Rattle.relay_machine.specs.Teardowns.{teardown_entry}
-use Rattle.relay_machine.specs.Updates.{forwarded, limit_change, report_in, update_change}
+use Rattle.relay_machine.specs.Packets.{head_to_copy, targets_at}
+use Rattle.relay_machine.specs.Updates.{forwardable_records, report_in}
 
--- what stands by the log is within the limits
+-- the memberships by the log are within the limits
 abbrev IsLogWithin : Terms → List Change → Type 0
 IsLogWithin terms log = IsWithin terms.limits (standing_now terms log)
 
--- a table that stands for the log
+-- a table that represents the log
 abbrev table_for : Terms → List Change → TableValue
 table_for terms log = record { moment = latest log; limits = terms.limits; lifetime = terms.lifetime; rows = standing_now terms log }
 
@@ -64,8 +67,8 @@ silent_by false records none = refl
 -- where an entry makes no record, the row stays as time leaves it
 row_unconcerned : (lifetime moment : ℕ) (entry : Change) (log : List Change) (rows after : List Kept) (place : Place) → AreRows lifetime moment (reverse log) rows
     → AreRows lifetime moment (reverse (log ++ entry ∷ [])) after → records_at place entry ≡ [] → row_at after place ≡ row_at rows place
-row_unconcerned lifetime moment entry log rows after place before behind none =
-    (subst (λ (past : List Change). AreRows lifetime moment past after) (reverse-append log (entry ∷ [])) behind).each place
+row_unconcerned lifetime moment entry log rows after place before later_rows none =
+    (subst (λ (past : List Change). AreRows lifetime moment past after) (reverse-append log (entry ∷ [])) later_rows).each place
     ∙ (standing-other lifetime moment entry (reverse log) place none ∙ sym (before.each place))
 
 -- by a report that passes no limit
@@ -78,42 +81,52 @@ within-report terms log source records at none within =
     let after = standing_now terms (log ++ entry ∷ []) in
     let before = AreRows-later terms.lifetime (latest log) moment (reverse log) (standing_now terms log) (omega (arith, latest-push log entry))
     (AreRows-standing_rows terms.lifetime (latest log) log) in
-    let behind = AreRows-standing_rows terms.lifetime moment (log ++ entry ∷ []) in
-    IsWithin-report terms.limits source records rows after before.ascend behind.ascend (IsWithin-filter terms.limits (is_fresh terms.lifetime moment) (standing_now terms log) within) none
-    (λ place apart. row_unconcerned terms.lifetime moment entry log rows after place before behind (rw apart refl))
+    let later_rows = AreRows-standing_rows terms.lifetime moment (log ++ entry ∷ []) in
+    IsWithin-report terms.limits source records rows after before.ascend later_rows.ascend (IsWithin-filter terms.limits (is_fresh terms.lifetime moment) (standing_now terms log) within) none
+    (λ place apart. row_unconcerned terms.lifetime moment entry log rows after place before later_rows (rw apart refl))
     (λ group kept silent found.
-    sym (row_unconcerned terms.lifetime moment entry log rows after (record { endpoint = source; group = group }) before behind
+    sym (row_unconcerned terms.lifetime moment entry log rows after (record { endpoint = source; group = group }) before later_rows
     (silent_by (same_endpoint source source) (on_group group records) silent)) ∙ found)
 
 within-limit : (terms : Terms) (log : List Change) (source : Tunnel) (records : List Record) (at : ℕ) (passed : Option LimitFault) → limit_passed terms log source records at ≡ passed
-    → IsLogWithin terms log → IsLogWithin terms (with_change log (limit_change passed (Reported source records at)))
+    → IsLogWithin terms log → IsLogWithin terms (with_change log (limited_answer passed (Reported source records at)).entry)
 within-limit terms log source records at None none within = within-report terms log source records at none within
 within-limit terms log source records at (Some fault) passed within = within
 
 within-update : (terms : Terms) (log : List Change) (source : Tunnel) (at : ℕ) (good : Bool) (reading : Result (List Record) Unlawful) → IsLogWithin terms log
-    → IsLogWithin terms (with_change log (update_change good reading (λ records. limit_passed terms log source records at) source at))
+    → IsLogWithin terms (with_change log (update_answer good reading (λ records. limit_passed terms log source records at) source at).entry)
 within-update terms log source at false reading within = within
 within-update terms log source at true (Err fault) within = within
-within-update terms log source at true (Ok records) within = within-limit terms log source (forwarded records) at _ refl within
+within-update terms log source at true (Ok records) within = within-limit terms log source (forwardable_records records) at _ refl within
 
-within-teardown : (terms : Terms) (log : List Change) (endpoint : Tunnel) (at : ℕ) (good : Bool) → IsLogWithin terms log
-    → IsLogWithin terms (with_change log (teardown_entry good endpoint at))
-within-teardown terms log endpoint at false within = within
-within-teardown terms log endpoint at true within = IsWithin-cleared terms.limits terms log endpoint at within
+within-teardown : (terms : Terms) (log : List Change) (endpoint : Tunnel) (at : ℕ) (good live : Bool) → IsLogWithin terms log
+    → IsLogWithin terms (with_change log (teardown_answer good live endpoint at).entry)
+within-teardown terms log endpoint at false live within = within
+within-teardown terms log endpoint at true true within = IsWithin-cleared terms.limits terms log endpoint at within
+within-teardown terms log endpoint at true false within = IsWithin-cleared terms.limits terms log endpoint at within
 
-within-datagram : (terms : Terms) (secrets : Secrets) (at : ℕ) (log : List Change) (source : Option Tunnel) (reading : Result Message Refused) → IsLogWithin terms log
-    → IsLogWithin terms (with_change log (datagram_entry terms secrets at log source reading))
-within-datagram terms secrets at log None reading within = within
-within-datagram terms secrets at log (Some source) (Err refusal) within = within
-within-datagram terms secrets at log (Some source) (Ok (Discovery nonce)) within = within
-within-datagram terms secrets at log (Some source) (Ok (Advertisement nonce relay)) within = within
-within-datagram terms secrets at log (Some source) (Ok (Request v6 nonce)) within = within
-within-datagram terms secrets at log (Some source) (Ok (Query limited mac nonce inner seen)) within = within
-within-datagram terms secrets at log (Some source) (Ok (Update mac nonce inner)) within =
-    within-update terms log source at (is_good secrets source nonce mac) (report_in inner) within
-within-datagram terms secrets at log (Some source) (Ok (Multicast packet)) within = within
-within-datagram terms secrets at log (Some source) (Ok (Teardown mac nonce gateway)) within =
-    within-teardown terms log gateway at (is_good secrets gateway nonce mac) within
+within-message : (settings : Settings) (secrets : Secrets) (at : ℕ) (log : List Change) (source : Tunnel) (message : Message) → IsLogWithin (terms_of settings) log
+    → IsLogWithin (terms_of settings) (with_change log (message_answer settings secrets at log source message).entry)
+within-message settings secrets at log source (Discovery nonce) within = within
+within-message settings secrets at log source (Advertisement nonce relay) within = within
+within-message settings secrets at log source (Request v6 nonce) within = within
+within-message settings secrets at log source (Query limited mac nonce inner seen) within = within
+within-message settings secrets at log source (Update mac nonce inner) within =
+    within-update (terms_of settings) log source at (is_good secrets source nonce mac) (report_in inner) within
+within-message settings secrets at log source (Multicast packet) within = within
+within-message settings secrets at log source (Teardown mac nonce named) within =
+    within-teardown (terms_of settings) log named at (is_good secrets named nonce mac) (is_live named (standing_now (terms_of settings) log)) within
+
+within-datagram : (settings : Settings) (secrets : Secrets) (at : ℕ) (log : List Change) (source : Option Tunnel) (reading : Result Message Refused) → IsLogWithin (terms_of settings) log
+    → IsLogWithin (terms_of settings) (with_change log (datagram_answer settings secrets at log source reading).entry)
+within-datagram settings secrets at log None reading within = within
+within-datagram settings secrets at log (Some source) (Err refusal) within = within
+within-datagram settings secrets at log (Some source) (Ok message) within = within-message settings secrets at log source message within
+
+within-packet : (terms : Terms) (log : List Change) (targets : Head → List Tunnel) (packet : List ℕ) (reading : Result Head Outcome) → IsLogWithin terms log
+    → IsLogWithin terms (with_change log (packet_answer targets packet reading).entry)
+within-packet terms log targets packet (Ok head) within = within
+within-packet terms log targets packet (Err outcome) within = within
 
 within-back : (settings : Settings) (first : Secret) (back : List Event) → IsLogWithin (terms_of settings) (accepted_back settings first back)
 unfolding accepted_back
@@ -121,11 +134,13 @@ within-back settings first [] = record { endpoints = omega arith; groups = λ en
 within-back settings first (Moment moment ∷ earlier) =
     within-mark (terms_of settings) (accepted_back settings first earlier) (max (now_of (reverse earlier)) moment) (within-back settings first earlier)
 within-back settings first (Rotate secret ∷ earlier) = within-back settings first earlier
-within-back settings first (Packet bytes ∷ earlier) = within-back settings first earlier
+within-back settings first (Packet bytes ∷ earlier) =
+    let log = accepted_back settings first earlier in
+    within-packet (terms_of settings) log (targets_at (terms_of settings) log (now_of (reverse earlier))) bytes (head_to_copy settings.packet_limit bytes) (within-back settings first earlier)
 within-back settings first (Datagram from bytes ∷ earlier) =
-    within-datagram (terms_of settings) (secrets_of first (reverse earlier)) (now_of (reverse earlier)) (accepted_back settings first earlier) (endpoint_of from) (message_of bytes)
+    within-datagram settings (secrets_of first (reverse earlier)) (now_of (reverse earlier)) (accepted_back settings first earlier) (endpoint_of from) (message_of bytes)
     (within-back settings first earlier)
 
 pub always_within : (settings : Settings) (first : Secret) (events : List Event)
-    → IsWithin settings.limits (standing_now (terms_of settings) (accepted settings first events))
+    → IsWithin settings.limits (standing_now (terms_of settings) (accepted_log settings first events))
 always_within settings first events = within-back settings first (reverse events)

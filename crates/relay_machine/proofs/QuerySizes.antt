@@ -25,11 +25,11 @@ inner_length_of-general_query settings false = refl
 inner_length_of-general_query settings true = refl
 
 -- so a Query may carry it, with as many octets after it as an endpoint takes
-pub query_may_carry : (inner : List ℕ) (settings : Settings) (v6 : Bool) (behind : ℕ) → behind ≤ 18 → inner ≡ general_query settings v6
-    → (inner_length_of inner ≡ Some (length inner)) × (12 + length inner + behind ≤ 65535)
-query_may_carry inner settings false behind few same =
+pub query_may_carry : (inner : List ℕ) (settings : Settings) (v6 : Bool) (trailing : ℕ) → trailing ≤ 18 → inner ≡ general_query settings v6
+    → (inner_length_of inner ≡ Some (length inner)) × (12 + length inner + trailing ≤ 65535)
+query_may_carry inner settings false trailing few same =
     let size = length-general_query settings false in
     rw same (rw size (inner_length_of-general_query settings false), rw size (omega arith))
-query_may_carry inner settings true behind few same =
+query_may_carry inner settings true trailing few same =
     let size = length-general_query settings true in
     rw same (rw size (inner_length_of-general_query settings true), rw size (omega arith))

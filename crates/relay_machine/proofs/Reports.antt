@@ -1,20 +1,16 @@
 -- What the inner octets of an Update are read as.
-use Rattle.std.proofs.Common.{◌≡◌, ◌≤◌, ℕ, List, [], ◌∷◌, length, drop, Bool, true, false, cond, Option, Some, None, Result, Ok, Err, refl, sym, ap, ◌∙◌, arith}
+use Rattle.std.proofs.Common.{◌≡◌, ◌≤◌, ℕ, List, [], ◌∷◌, length, drop, Bool, true, false, cond, Some, None, Result, Ok, Err, refl, sym, ap, ◌∙◌, arith}
 use Rattle.std.proofs.lemmas.List.Sums.{sum_by-cons}
 use Rattle.source_filter.specs.declared.record.Record.{Record}
 use Rattle.source_filter.specs.Record.{item_count}
 use Rattle.source_filter.specs.declared.fault.ReportFault.{ReportFault}
 use Rattle.amt_values.specs.Group.{is_forwardable}
-use Rattle.amt_values.specs.Tunnel.{Tunnel}
 use Rattle.inner_datagrams.specs.Fault.{first_inner_fault}
 use Rattle.inner_datagrams.specs.Reading.{inner_at, payload_in, payload_start, unless}
 use Rattle.inner_datagrams.specs.declared.inner.Inner.{Inner as InnerPlace}
 use Rattle.inner_datagrams.specs.declared.inner.InnerFault.{InnerFault}
-use Rattle.endpoint_membership.specs.declared.change.Change.TheVariants.{Reported}
-use Rattle.endpoint_membership.specs.declared.limits.LimitFault.{LimitFault}
-use Rattle.relay_machine.specs.declared.outcome.Unlawful.{Unlawful}
 use Rattle.relay_machine.specs.declared.outcome.Unlawful.TheVariants.{Inner, Report}
-use Rattle.relay_machine.specs.Updates.{carried_report, forwarded, limit_change, limit_outcome, report_by, report_in, update_change, update_outcome}
+use Rattle.relay_machine.specs.Updates.{carried_report, forwardable_records, report_by, report_in}
 
 pub report_in-inner : (inner : List ℕ) (fault : InnerFault) → first_inner_fault inner ≡ Some fault → report_in inner ≡ Err (Inner fault)
 unfolding report_in
@@ -25,9 +21,9 @@ pub report_in-carried : (inner payload : List ℕ) (place : InnerPlace) → firs
     → Ok place ≡ unless (first_inner_fault inner) (inner_at inner) → place.start ≡ payload_start inner → payload ≡ drop place.start inner
     → report_in inner ≡ report_by None (carried_report place.source place.destination payload)
 unfolding report_in
-report_in-carried inner payload place none whole behind same =
+report_in-carried inner payload place none whole starts same =
     let at : place ≡ inner_at inner = let read = rw none at whole in cc read in
-    let carried : payload_in inner ≡ payload = sym (same ∙ ap (λ (start : ℕ). drop start inner) behind) in
+    let carried : payload_in inner ≡ payload = sym (same ∙ ap (λ (start : ℕ). drop start inner) starts) in
     rw (none, carried) (ap (λ (found : InnerPlace). report_by None (carried_report found.source found.destination payload)) (sym at))
 
 -- what a reader answers of what is carried, as the Update's
@@ -37,27 +33,17 @@ records-carried reading records read = rw read refl
 pub fault-carried : (reading : Result (List Record) ReportFault) (fault : ReportFault) → reading ≡ Err fault → report_by None reading ≡ Err (Report fault)
 fault-carried reading fault read = rw read refl
 
-forwarded-fewer : (test : Bool) (first : Record) (kept later : List Record) → item_count kept ≤ item_count later
+forwardable-fewer : (test : Bool) (first : Record) (kept later : List Record) → item_count kept ≤ item_count later
     → item_count (cond test (first ∷ kept) kept) ≤ item_count (first ∷ later)
-forwarded-fewer true first kept later few =
+forwardable-fewer true first kept later few =
     let size : Record → ℕ = λ (group_record : Record). length group_record.sources in
     let here = sum_by-cons size first kept in
     let there = sum_by-cons size first later in omega arith
-forwarded-fewer false first kept later few =
+forwardable-fewer false first kept later few =
     let size : Record → ℕ = λ (group_record : Record). length group_record.sources in
     let there = sum_by-cons size first later in omega arith
 
 -- skipping records leaves no more of them
-pub item_count-forwarded : (records : List Record) → item_count (forwarded records) ≤ item_count records
-item_count-forwarded [] = omega arith
-item_count-forwarded (first ∷ later) = forwarded-fewer (is_forwardable first.group) first (forwarded later) later (item_count-forwarded later)
-
--- where records were read, the limits are left to judge
-pub update_outcome-read : (reading : Result (List Record) Unlawful) (records kept : List Record) (passed : List Record → Option LimitFault)
-    → reading ≡ Ok records → kept ≡ forwarded records → limit_outcome (passed kept) ≡ update_outcome true reading passed
-update_outcome-read reading records kept passed read skipped = rw (read, skipped) refl
-
-pub update_change-read : (reading : Result (List Record) Unlawful) (records kept : List Record) (passed : List Record → Option LimitFault) (source : Tunnel) (moment : ℕ)
-    → reading ≡ Ok records → kept ≡ forwarded records
-    → limit_change (passed kept) (Reported source kept moment) ≡ update_change true reading passed source moment
-update_change-read reading records kept passed source moment read skipped = rw (read, skipped) refl
+pub item_count-forwardable : (records : List Record) → item_count (forwardable_records records) ≤ item_count records
+item_count-forwardable [] = omega arith
+item_count-forwardable (first ∷ later) = forwardable-fewer (is_forwardable first.group) first (forwardable_records later) later (item_count-forwardable later)

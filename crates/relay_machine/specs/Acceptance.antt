@@ -1,4 +1,4 @@
--- Which Updates and Teardowns change what stands at a relay (RFC 7450, section 5.3.3).
+-- Which Updates and Teardowns change the memberships at a relay (RFC 7450, section 5.3.3).
 use Rattle.std.specs.Prelude.{◌≡◌, ℕ, true, List, [], ◌∷◌, ◌++◌, Some}
 use Rattle.amt_values.specs.Endpoint.{endpoint_of}
 use Rattle.amt_values.specs.Tunnel.{Tunnel}
@@ -16,15 +16,15 @@ use Rattle.endpoint_membership.specs.declared.change.Change.TheVariants.{Reporte
 use Rattle.relay_machine.specs.declared.event.Event.{Event}
 use Rattle.relay_machine.specs.declared.event.Event.TheVariants.{Datagram}
 use Rattle.relay_machine.specs.declared.settings.Settings.{Settings}
-use Rattle.relay_machine.specs.Accepted.{accepted}
+use Rattle.relay_machine.specs.Accepted.{accepted_log}
 use Rattle.relay_machine.specs.Events.{now_of, secrets_of}
 use Rattle.relay_machine.specs.Lawful.{IsLawful}
 use Rattle.relay_machine.specs.Settings.{terms_of}
-use Rattle.relay_machine.specs.Updates.{forwarded}
+use Rattle.relay_machine.specs.Updates.{forwardable_records}
 
 -- the event is an Update of the endpoint: its response MAC is good after these events, it carries a
--- lawful report of these records, and with those of them that are forwarded what stands is within
--- the limits
+-- lawful report of these records, and with those of them on groups that are forwarded the
+-- memberships are within the limits
 pub record IsAcceptedUpdate (settings : Settings) (first : Secret) (events : List Event) (event : Event) (endpoint : Tunnel) (records : List Record) : Type 0 where
   pub from : Peer
   pub bytes : List ℕ
@@ -37,7 +37,7 @@ pub record IsAcceptedUpdate (settings : Settings) (first : Secret) (events : Lis
   pub good : IsGood (secrets_of first events) endpoint nonce mac
   pub lawful : IsLawful inner records
   pub within : IsWithin settings.limits
-      (standing_now (terms_of settings) (accepted settings first events ++ Reported endpoint (forwarded records) (now_of events) ∷ []))
+      (standing_now (terms_of settings) (accepted_log settings first events ++ Reported endpoint (forwardable_records records) (now_of events) ∷ []))
 
 -- the event is such an Update, of some endpoint and records
 abbrev pub IsSomeAcceptedUpdate : Settings → Secret → List Event → Event → Type 0
@@ -45,8 +45,8 @@ IsSomeAcceptedUpdate settings first events event =
     (endpoint : Tunnel) × (records : List Record) × IsAcceptedUpdate settings first events event endpoint records
 
 -- the event is a Teardown, of whatever endpoint, that names this one: its response MAC is good for
--- the endpoint that it names, at which some group stands. Where none does, the log keeps the clearing
--- too, and nothing that stands changes
+-- the endpoint that it names, which has a membership. Where it has none, the log keeps the clearing too,
+-- and no membership changes
 pub record IsAcceptedTeardown (settings : Settings) (first : Secret) (events : List Event) (event : Event) (named : Tunnel) : Type 0 where
   pub from : Peer
   pub bytes : List ℕ
@@ -57,7 +57,7 @@ pub record IsAcceptedTeardown (settings : Settings) (first : Secret) (events : L
   pub source : endpoint_of from ≡ Some sender
   pub spelled : Spells (Teardown mac nonce named) bytes
   pub good : IsGood (secrets_of first events) named nonce mac
-  pub live : is_live named (standing_now (terms_of settings) (accepted settings first events)) ≡ true
+  pub live : is_live named (standing_now (terms_of settings) (accepted_log settings first events)) ≡ true
 
 -- the event is such a Teardown, of some endpoint
 abbrev pub IsSomeAcceptedTeardown : Settings → Secret → List Event → Event → Type 0

@@ -1,4 +1,4 @@
--- What events leave behind: the moment and the secrets.
+-- The moment and the secrets that events leave.
 use Rattle.std.specs.Prelude.{ℕ, max, List, Option, Some, None}
 use Rattle.std.specs.List.{fold, filter_map}
 use Rattle.response_mac.specs.declared.secret.Secret.{Secret}
@@ -7,7 +7,7 @@ use Rattle.response_mac.specs.ResponseMac.{secrets_after}
 use Rattle.relay_machine.specs.declared.event.Event.{Event}
 use Rattle.relay_machine.specs.declared.event.Event.TheVariants.{Moment, Datagram, Packet, Rotate}
 
--- the moment that an event tells, if it tells one
+-- the moment that an event reports, if it reports one
 abbrev pub moment_in : Event → Option ℕ
 moment_in (Moment moment) = Some moment
 moment_in (Datagram from bytes) = None

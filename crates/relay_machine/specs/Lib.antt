@@ -2,14 +2,13 @@ pub mod Acceptance
 pub mod Accepted
 pub mod Answers
 pub mod Conditions
+pub mod EventAnswer
 pub mod Events
 pub mod Lawful
 pub mod Logs
-pub mod Macs
 pub mod Packets
 pub mod Queries
 pub mod Reading
 pub mod Settings
 pub mod State
-pub mod Teardowns
 pub mod Updates

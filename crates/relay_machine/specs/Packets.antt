@@ -1,5 +1,5 @@
 -- What a native multicast packet comes to, and who gets a copy (RFC 7450, section 5.3.3).
-use Rattle.std.specs.Prelude.{◌≡◌, ℕ, ◌≤◌, ◌↔◌, nat_lt, Bool, true, false, List, [], length, map, Result, Ok, Err, if◌then◌else◌}
+use Rattle.std.specs.Prelude.{◌≡◌, ℕ, ◌≤◌, ◌↔◌, nat_lt, Bool, true, false, List, length, map, Result, Ok, Err, if◌then◌else◌}
 use Rattle.std.specs.List.{All, Contains}
 use Rattle.amt_values.specs.Group.{is_forwardable}
 use Rattle.amt_values.specs.Order.{tunnel_order}
@@ -10,20 +10,13 @@ use Rattle.contract_words.specs.Ascending.{IsAscending}
 use Rattle.inner_datagrams.specs.Head.{IsHead, head_of}
 use Rattle.inner_datagrams.specs.declared.head.Head.{Head}
 use Rattle.inner_datagrams.specs.declared.head.HeadFault.{HeadFault}
-use Rattle.response_mac.specs.declared.secret.Secret.{Secret}
-use Rattle.endpoint_membership.specs.Admission.{is_admitted}
 use Rattle.endpoint_membership.specs.Table.{Terms}
 use Rattle.endpoint_membership.specs.Targets.{targets_of}
 use Rattle.endpoint_membership.specs.declared.change.Change.{Change}
-use Rattle.relay_machine.specs.declared.event.Event.{Event}
 use Rattle.relay_machine.specs.declared.outcome.NotForwarded.TheVariants.{Head as NoHead, Scope}
 use Rattle.relay_machine.specs.declared.outcome.Outcome.{Outcome}
-use Rattle.relay_machine.specs.declared.outcome.Outcome.TheVariants.{Copied, TooBig, NotForwarded}
+use Rattle.relay_machine.specs.declared.outcome.Outcome.TheVariants.{TooBig, NotForwarded}
 use Rattle.relay_machine.specs.declared.sends.OneSend.{OneSend}
-use Rattle.relay_machine.specs.declared.settings.Settings.{Settings}
-use Rattle.relay_machine.specs.Accepted.{accepted}
-use Rattle.relay_machine.specs.Events.{now_of}
-use Rattle.relay_machine.specs.Settings.{membership_interval_ms, terms_of}
 
 -- by its group's scope
 abbrev pub by_scope : Bool → Head → Result Head Outcome
@@ -44,35 +37,15 @@ head_to_copy limit packet = if nat_lt limit (length packet) then Err (TooBig (le
 abbrev pub copies : List Tunnel → List ℕ → List OneSend
 copies targets packet = map (λ endpoint. record { to = endpoint; bytes = spelling_of (Multicast packet) }) targets
 
--- what a packet comes to, where these endpoints want a source in a group
-abbrev pub packet_outcome : (Head → List Tunnel) → Result Head Outcome → Outcome
-packet_outcome targets (Err outcome) = outcome
-packet_outcome targets (Ok head) = Copied (length (targets head))
-
--- what is sent of it
-abbrev pub packet_sends : (Head → List Tunnel) → List ℕ → Result Head Outcome → List OneSend
-packet_sends targets packet (Err outcome) = []
-packet_sends targets packet (Ok head) = copies (targets head) packet
-
 -- the endpoints that want the packet's source in its group at the moment, by the log
 abbrev pub targets_at : Terms → List Change → ℕ → Head → List Tunnel
 targets_at terms log moment head = targets_of terms.lifetime log head.group head.source moment
-
--- and after these events
-abbrev pub targets_after : Settings → Secret → List Event → Head → List Tunnel
-targets_after settings first events = targets_at (terms_of settings) (accepted settings first events) (now_of events)
 
 -- a packet of at most so many octets, with this head, whose group is forwarded
 pub record IsToCopy (limit : ℕ) (head : Head) (packet : List ℕ) : Type 0 where
   pub size : length packet ≤ limit
   pub begins : IsHead head packet
   pub scope : is_forwardable head.group ≡ true
-
--- after these events the newest record of the endpoint that speaks of the packet's source wants it
--- in the packet's group
-abbrev pub wants_after : Settings → Secret → List Event → Head → Tunnel → Bool
-wants_after settings first events head endpoint =
-    is_admitted (membership_interval_ms settings) (accepted settings first events) (record { endpoint = endpoint; group = head.group }) head.source (now_of events)
 
 -- where datagrams go
 abbrev pub receivers : List OneSend → List Tunnel

@@ -2,67 +2,85 @@
 use Rattle.std.specs.Prelude.{◌≡◌, ℕ, ◌+◌, ◌*◌, ◌<◌, ◌≤◌}
 use Rattle.amt_values.specs.declared.address.Ip.{Ip}
 use Rattle.endpoint_membership.specs.Table.{Terms}
-use Rattle.endpoint_membership.specs.declared.limits.Limits.{Limits}
 use Rattle.igmp_records.specs.Code.{code_value}
 use Rattle.mld_records.specs.Code.{code_value as mld_code_value}
+use Rattle.relay_machine.specs.declared.number_key.NumberKey.{NumberKey}
+use Rattle.relay_machine.specs.declared.number_key.NumberKey.TheVariants.{Robustness, QuerySeconds, ResponseTenths, Endpoints, Groups, Sources, PacketLimit}
 use Rattle.relay_machine.specs.declared.settings.Settings.{Settings}
 
--- a code of 8 bits stands for the time (RFC 3376, sections 4.1.1 and 4.1.7)
+-- a setting that is one number: its range, its default, the number in settings, and settings with
+-- another
+pub record NumberRow : Type 0 where
+  pub least : ℕ
+  pub most : ℕ
+  pub default : ℕ
+  pub number : Settings → ℕ
+  pub with : Settings → ℕ → Settings
+
+-- the table of these settings. The robustness isn't zero (RFC 3376, section 8.1), and three bits carry
+-- it (section 4.1.6); the greatest time that a query carries is 31,744 (section 4.1.7; sections 8.2 and
+-- 8.3 have the defaults). A packet has at least an IPv4 header, and with two octets before it fits a
+-- UDP payload
+abbrev pub row_of : NumberKey → NumberRow
+row_of Robustness = record { least = 1; most = 7; default = 2; number = λ s. s.robustness; with = λ s n. record s { robustness = n } }
+row_of QuerySeconds = record { least = 1; most = 31744; default = 125; number = λ s. s.query_seconds; with = λ s n. record s { query_seconds = n } }
+row_of ResponseTenths = record { least = 1; most = 31744; default = 100; number = λ s. s.response_tenths; with = λ s n. record s { response_tenths = n } }
+row_of Endpoints = record { least = 1; most = 65536; default = 1024; number = λ s. s.limits.endpoints; with = λ s n. record s { limits = record s.limits { endpoints = n } } }
+row_of Groups = record { least = 1; most = 256; default = 64; number = λ s. s.limits.groups; with = λ s n. record s { limits = record s.limits { groups = n } } }
+row_of Sources = record { least = 1; most = 64; default = 64; number = λ s. s.limits.sources; with = λ s n. record s { limits = record s.limits { sources = n } } }
+row_of PacketLimit = record { least = 20; most = 65000; default = 1450; number = λ s. s.packet_limit; with = λ s n. record s { packet_limit = n } }
+
+-- the key's number in settings
+abbrev pub number_at : Settings → NumberKey → ℕ
+number_at settings key = (row_of key).number settings
+
+-- settings with this number at the key, and else the same
+abbrev pub with_number : Settings → NumberKey → ℕ → Settings
+with_number settings key number = (row_of key).with settings number
+
+-- the number is in the key's range
+pub record IsInRange (key : NumberKey) (number : ℕ) : Type 0 where
+  pub least : (row_of key).least ≤ number
+  pub most : number ≤ (row_of key).most
+
+-- the time has a code of 8 bits (RFC 3376, sections 4.1.1 and 4.1.7)
 abbrev pub HasCode : ℕ → Type 0
 HasCode time = (code : ℕ) × (code < 256) × (code_value code ≡ time)
 
--- a code of 16 bits stands for the time (RFC 3810, section 5.1.3)
+-- the time has a code of 16 bits (RFC 3810, section 5.1.3)
 abbrev pub HasMldCode : ℕ → Type 0
 HasMldCode time = (code : ℕ) × (code < 65536) × (mld_code_value code ≡ time)
-
--- a time from 1 on that a General Query can carry; 31,744 is the greatest
-pub record IsQueryTime (time : ℕ) : Type 0 where
-  pub least : 1 ≤ time
-  pub most : time ≤ 31744
-  pub has_code : HasCode time
 
 -- a Query Interval in seconds (RFC 3376, section 8.2) and a Query Response Interval in tenths
 -- (section 8.3) that a General Query can carry, and the latter in milliseconds that one of MLD can
 pub record HasQueryTimes (settings : Settings) : Type 0 where
-  pub interval : IsQueryTime settings.query_seconds
-  pub response : IsQueryTime settings.response_tenths
+  pub interval : HasCode settings.query_seconds
+  pub response : HasCode settings.response_tenths
   pub mld_response : HasMldCode (settings.response_tenths * 100)
 
--- limits by which the sources of all rows are at most 16,777,216
-pub record AreLimits (limits : Limits) : Type 0 where
-  pub least_endpoints : 1 ≤ limits.endpoints
-  pub most_endpoints : limits.endpoints ≤ 65536
-  pub least_groups : 1 ≤ limits.groups
-  pub most_groups : limits.groups ≤ 256
-  pub least_sources : 1 ≤ limits.sources
-  pub most_sources : limits.sources ≤ 64
-  pub product : limits.endpoints * limits.groups * limits.sources ≤ 16777216
-
--- no less than the least header of an IP packet; with two octets before it, it fits a UDP payload
-pub record IsPacketLimit (octets : ℕ) : Type 0 where
-  pub least : 20 ≤ octets
-  pub most : octets ≤ 65000
-
--- a robustness that is not zero (RFC 3376, section 8.1) and that three bits carry (section 4.1.6),
--- times that queries carry, and limits
+-- each number in its range, times that queries carry, and limits by which the sources of all rows are
+-- at most 16,777,216
 pub record AreLawfulSettings (settings : Settings) : Type 0 where
-  pub least_robustness : 1 ≤ settings.robustness
-  pub most_robustness : settings.robustness ≤ 7
+  pub numbers : (key : NumberKey) → IsInRange key (number_at settings key)
   pub times : HasQueryTimes settings
-  pub limits : AreLimits settings.limits
-  pub packets : IsPacketLimit settings.packet_limit
+  pub product : settings.limits.endpoints * settings.limits.groups * settings.limits.sources ≤ 16777216
 
--- the defaults of RFC 3376, sections 8.1 to 8.3, and 0.0.0.0 and fe80::1 as the sources of queries
+-- the settings of a relay with this address where nothing else is said: each number is its key's
+-- default (RFC 3376, sections 8.1 to 8.3), and queries come from 0.0.0.0 and fe80::1
 abbrev pub default_settings : Ip → Settings
 default_settings relay = record {
   relay = relay;
   query4 = 0;
   query6 = 0xfe800000000000000000000000000001;
-  robustness = 2;
-  query_seconds = 125;
-  response_tenths = 100;
-  limits = record { endpoints = 1024; groups = 64; sources = 64 };
-  packet_limit = 1450;
+  robustness = (row_of Robustness).default;
+  query_seconds = (row_of QuerySeconds).default;
+  response_tenths = (row_of ResponseTenths).default;
+  limits = record {
+    endpoints = (row_of Endpoints).default;
+    groups = (row_of Groups).default;
+    sources = (row_of Sources).default;
+  };
+  packet_limit = (row_of PacketLimit).default;
 }
 
 -- the Group Membership Interval (RFC 3376, section 8.4), in milliseconds

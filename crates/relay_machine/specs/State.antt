@@ -3,6 +3,6 @@ use Rattle.std.specs.Prelude.{List}
 use Rattle.endpoint_membership.specs.Table.{Holds, TableValue, Terms}
 use Rattle.endpoint_membership.specs.declared.change.Change.{Change}
 
--- the table stands for some log by these terms
+-- the table represents some log by these terms
 abbrev pub HasLog : Terms → TableValue → Type 0
 HasLog terms table = (log : List Change) × Holds terms table log

@@ -1,9 +1,8 @@
--- What an Update carries, and what it comes to (RFC 7450, section 5.3.3).
-use Rattle.std.specs.Prelude.{ℕ, Bool, true, false, List, Option, Some, None, Result, Ok, Err}
+-- What an Update carries (RFC 7450, section 5.1.5).
+use Rattle.std.specs.Prelude.{ℕ, List, Option, Some, None, Result, Ok, Err}
 use Rattle.std.specs.List.{filter}
 use Rattle.amt_values.specs.Address.{number_of}
 use Rattle.amt_values.specs.Group.{is_forwardable}
-use Rattle.amt_values.specs.Tunnel.{Tunnel}
 use Rattle.amt_values.specs.declared.address.Ip.{Ip}
 use Rattle.amt_values.specs.declared.address.Ip.TheVariants.{V4, V6}
 use Rattle.source_filter.specs.declared.record.Record.{Record}
@@ -13,11 +12,6 @@ use Rattle.inner_datagrams.specs.Reading.{inner_at, payload_in}
 use Rattle.inner_datagrams.specs.declared.inner.InnerFault.{InnerFault}
 use Rattle.igmp_records.specs.Report.{report4_of}
 use Rattle.mld_records.specs.Report.{report6_of}
-use Rattle.endpoint_membership.specs.declared.change.Change.{Change}
-use Rattle.endpoint_membership.specs.declared.change.Change.TheVariants.{Reported}
-use Rattle.endpoint_membership.specs.declared.limits.LimitFault.{LimitFault}
-use Rattle.relay_machine.specs.declared.outcome.Outcome.{Outcome}
-use Rattle.relay_machine.specs.declared.outcome.Outcome.TheVariants.{BadMac, Unlawful, Over, Updated}
 use Rattle.relay_machine.specs.declared.outcome.Unlawful.{Unlawful as Fault}
 use Rattle.relay_machine.specs.declared.outcome.Unlawful.TheVariants.{Inner, Report}
 
@@ -40,27 +34,5 @@ report_in inner =
     (carried_report (inner_at inner).source (inner_at inner).destination (payload_in inner))
 
 -- the records on groups that are forwarded; the others are skipped
-abbrev pub forwarded : List Record → List Record
-forwarded records = filter (λ group_record. is_forwardable group_record.group) records
-
-abbrev pub limit_outcome : Option LimitFault → Outcome
-limit_outcome None = Updated
-limit_outcome (Some fault) = Over fault
-
--- the order in which an Update is judged: its MAC, the report in it, and the limits that what would
--- stand with the report passes
-abbrev pub update_outcome : Bool → Result (List Record) Fault → (List Record → Option LimitFault) → Outcome
-update_outcome false reading passed = BadMac
-update_outcome true (Err fault) passed = Unlawful fault
-update_outcome true (Ok records) passed = limit_outcome (passed (forwarded records))
-
-abbrev pub limit_change : Option LimitFault → Change → Option Change
-limit_change None change = Some change
-limit_change (Some fault) change = None
-
--- the entry that an accepted Update of the source makes at a moment
-abbrev pub update_change : Bool → Result (List Record) Fault → (List Record → Option LimitFault) → Tunnel → ℕ → Option Change
-update_change false reading passed source moment = None
-update_change true (Err fault) passed source moment = None
-update_change true (Ok records) passed source moment =
-    limit_change (passed (forwarded records)) (Reported source (forwarded records) moment)
+abbrev pub forwardable_records : List Record → List Record
+forwardable_records records = filter (λ group_record. is_forwardable group_record.group) records

@@ -1,47 +1,33 @@
-ghost use Rattle.std.specs.Prelude.{◌≡◌, ◌≤◌, length, OnErr, None, Ok, Some};
+//! What a datagram comes to: its source, its octets, its type, and the message by its own file.
+ghost use Rattle.std.specs.Prelude.{◌≡◌, ◌≤◌, length, OnErr};
 ghost use Rattle.amt_messages.specs.Conditions.{IsSendable};
 ghost use Rattle.amt_messages.specs.Refusal.{message_of};
 ghost use Rattle.amt_values.specs.Endpoint.{endpoint_of};
 ghost use Rattle.amt_values.specs.Octets.{AreOctets};
 ghost use Rattle.endpoint_membership.specs.Log.{latest};
-ghost use Rattle.endpoint_membership.specs.Table.{Holds, IsWithinLimits};
-ghost use Rattle.relay_machine.specs.Accepted.{datagram_entry, handed_out, with_change};
-ghost use Rattle.relay_machine.specs.Answers.{is_limited, judged, replies};
-ghost use Rattle.relay_machine.specs.Logs.{IfOkByEachLog};
-ghost use Rattle.relay_machine.specs.Macs.{has_good_mac};
+ghost use Rattle.endpoint_membership.specs.Table.{IsWithinLimits};
+ghost use Rattle.relay_machine.specs.EventAnswer.{datagram_answer, message_answer};
+ghost use Rattle.relay_machine.specs.Logs.{Answers};
 ghost use Rattle.relay_machine.specs.Settings.{terms_of};
 
+use crate::discovery::take_discovery;
 use crate::outcome::Outcome;
-use crate::querier::Querier;
-use crate::reply::{advertise, query};
-use crate::report::take_update;
+use crate::request::take_request;
 use crate::sends::Step;
+use crate::setup::Setup;
 use crate::teardown::take_teardown;
+use crate::update::take_update;
 use amt_messages::{DecodeFault, Message, decode};
 use amt_values::{Bytes, Endpoint, Peer};
 use endpoint_membership::Table;
 use response_mac::Secrets;
 use std::alloc::{AllocError, Global};
 
-// Whether a message has the response MAC that it needs. A Teardown's is of the endpoint that it names,
-// whatever its source.
-fn has_good_mac(secrets: &Secrets, source: &Endpoint, message: &Message) -> bool
-    ensures { result ≡ has_good_mac secrets.now source.now message.now }
-{
-    match message {
-        Message::Update { mac, nonce, .. } => secrets.matches(source, *nonce, mac),
-        Message::Teardown {
-            mac,
-            nonce,
-            gateway,
-        } => secrets.matches(gateway, *nonce, mac),
-        _ => true,
-    }
-}
-
-fn answer_message(
+// An Update needs the MAC of its source, and a Teardown that of the endpoint that it names, whatever
+// its source.
+fn take_message(
     alloc: Global,
-    querier: &Querier,
+    setup: &Setup,
     secrets: &Secrets,
     table: &mut Table,
     source: Endpoint,
@@ -49,35 +35,28 @@ fn answer_message(
 ) -> Result<Step, AllocError>
     requires sendable { IsSendable message.now }
     requires within { IsWithinLimits table.old }
-    ensures outcome { IfOkByEachLog (terms_of querier.now.settings) table.old result (λ log step.
-        step.outcome ≡ judged (terms_of querier.now.settings) secrets.now
-        (latest log) log (Some source) (Ok message.now)) }
-    ensures sends { IfOkByEachLog (terms_of querier.now.settings) table.old result (λ log step.
-        step.sends ≡ replies querier.now.settings secrets.now.current
-        (is_limited (terms_of querier.now.settings) log) (Some source) (Ok message.now)) }
-    ensures change { IfOkByEachLog (terms_of querier.now.settings) table.old result (λ log step.
-        step.change ≡ handed_out (terms_of querier.now.settings) log
-        (datagram_entry (terms_of querier.now.settings) secrets.now (latest log) log
-        (Some source) (Ok message.now))) }
-    ensures stands { IfOkByEachLog (terms_of querier.now.settings) table.old result (λ log _.
-        Holds (terms_of querier.now.settings) table.new (with_change log
-        (datagram_entry (terms_of querier.now.settings) secrets.now (latest log) log
-        (Some source) (Ok message.now)))) }
-    ensures published { IfOkByEachLog (terms_of querier.now.settings) table.old result (λ log step.
-        Holds (terms_of querier.now.settings) table.new (with_change log step.change)) }
-    ensures same { IfOkByEachLog (terms_of querier.now.settings) table.old result (λ log step.
-        step.change ≡ None → table.new ≡ table.old) }
+    ensures answers { Answers (terms_of setup.now.settings) table.old table.new result (λ log.
+        message_answer setup.now.settings secrets.now (latest log) log source message.now) }
     ensures err { OnErr result (table.new ≡ table.old) }
     ensures within { IsWithinLimits table.new }
 {
-    let good = has_good_mac(secrets, &source, message);
     match message {
-        Message::Discovery { nonce } => advertise(alloc, querier, source, *nonce),
+        Message::Discovery { nonce } => take_discovery(alloc, setup, source, *nonce),
         Message::Request { v6, nonce } => {
-            query(alloc, querier, secrets, table, source, *v6, *nonce)
+            take_request(alloc, setup, secrets, table, source, *v6, *nonce)
         }
-        Message::Update { inner, .. } => take_update(alloc, table, source, good, inner),
-        Message::Teardown { gateway, .. } => Ok(take_teardown(alloc, table, gateway, good)),
+        Message::Update { mac, nonce, inner } => {
+            let good = secrets.matches(&source, *nonce, mac);
+            take_update(alloc, table, source, good, inner)
+        }
+        Message::Teardown {
+            mac,
+            nonce,
+            gateway,
+        } => {
+            let good = secrets.matches(gateway, *nonce, mac);
+            Ok(take_teardown(alloc, table, *gateway, good))
+        }
         Message::Advertisement { .. } => Ok(Step::quiet(alloc, Outcome::WrongKind(2))),
         Message::Query { .. } => Ok(Step::quiet(alloc, Outcome::WrongKind(4))),
         Message::Multicast { .. } => Ok(Step::quiet(alloc, Outcome::WrongKind(6))),
@@ -85,9 +64,9 @@ fn answer_message(
 }
 
 // What a datagram comes to: its source is judged first, then its octets, then its type.
-pub fn answer(
+pub fn take_datagram(
     alloc: Global,
-    querier: &Querier,
+    setup: &Setup,
     secrets: &Secrets,
     table: &mut Table,
     from: &Peer,
@@ -95,24 +74,9 @@ pub fn answer(
 ) -> Result<Step, AllocError>
     requires size { length bytes.now ≤ 65535 }
     requires within { IsWithinLimits table.old }
-    ensures outcome { IfOkByEachLog (terms_of querier.now.settings) table.old result (λ log step.
-        step.outcome ≡ judged (terms_of querier.now.settings) secrets.now
-        (latest log) log (endpoint_of from.now) (message_of bytes.now)) }
-    ensures sends { IfOkByEachLog (terms_of querier.now.settings) table.old result (λ log step.
-        step.sends ≡ replies querier.now.settings secrets.now.current
-        (is_limited (terms_of querier.now.settings) log) (endpoint_of from.now) (message_of bytes.now)) }
-    ensures change { IfOkByEachLog (terms_of querier.now.settings) table.old result (λ log step.
-        step.change ≡ handed_out (terms_of querier.now.settings) log
-        (datagram_entry (terms_of querier.now.settings) secrets.now (latest log) log
-        (endpoint_of from.now) (message_of bytes.now))) }
-    ensures stands { IfOkByEachLog (terms_of querier.now.settings) table.old result (λ log _.
-        Holds (terms_of querier.now.settings) table.new (with_change log
-        (datagram_entry (terms_of querier.now.settings) secrets.now (latest log) log
-        (endpoint_of from.now) (message_of bytes.now)))) }
-    ensures published { IfOkByEachLog (terms_of querier.now.settings) table.old result (λ log step.
-        Holds (terms_of querier.now.settings) table.new (with_change log step.change)) }
-    ensures same { IfOkByEachLog (terms_of querier.now.settings) table.old result (λ log step.
-        step.change ≡ None → table.new ≡ table.old) }
+    ensures answers { Answers (terms_of setup.now.settings) table.old table.new result (λ log.
+        datagram_answer setup.now.settings secrets.now (latest log) log
+        (endpoint_of from.now) (message_of bytes.now)) }
     ensures err { OnErr result (table.new ≡ table.old) }
     ensures within { IsWithinLimits table.new }
     ensures octets { AreOctets bytes.now }
@@ -124,6 +88,6 @@ pub fn answer(
     match decode(alloc, octets) {
         Err(DecodeFault::Memory) => Err(AllocError),
         Err(DecodeFault::Refused(refusal)) => Ok(Step::quiet(alloc, Outcome::Undecoded(refusal))),
-        Ok(message) => answer_message(alloc, querier, secrets, table, source, &message),
+        Ok(message) => take_message(alloc, setup, secrets, table, source, &message),
     }
 }

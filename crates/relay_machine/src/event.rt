@@ -1,3 +1,4 @@
+//! What happens to a relay.
 use amt_values::{Bytes, Moment, Peer};
 use response_mac::Secret;
 

@@ -2,7 +2,7 @@
 //!
 //! Contract: what the relay answers to an event is a function of its settings, its first secret,
 //! the events before and the event.
-//! What stands in its table is what the accepted log of the events wishes.
+//! Its memberships are what the accepted log of the events implies.
 //! Each packet that may be forwarded goes once, to exactly the endpoints that want it.
 //! It knows no socket, clock or thread: datagrams, packets, moments and secrets come in as events,
 //! and datagrams and entries of the log go out as steps.
@@ -10,22 +10,24 @@
 #![tactic(auto)]
 
 mod datagram;
+mod discovery;
 mod event;
-mod forward;
 mod laws;
+mod number_key;
 mod outcome;
 mod packet;
-mod querier;
 mod relay;
-mod reply;
 mod report;
+mod request;
 mod sends;
 mod settings;
+mod setup;
 mod teardown;
 mod update;
 
 pub use event::Event;
 pub use laws::lawful_reports_are_those_that_are_read;
+pub use number_key::{NUMBER_KEYS, NumberKey, NumberRange};
 pub use outcome::{NotForwarded, Outcome, Unlawful};
 pub use relay::Relay;
 pub use sends::{OneSend, Sends, Step};

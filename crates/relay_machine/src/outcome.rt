@@ -1,3 +1,4 @@
+//! What an event came to, in words that the scripts print.
 use amt_messages::Refused;
 use amt_values::{Ip, Moment};
 use endpoint_membership::LimitFault;
@@ -58,7 +59,7 @@ pub enum Outcome {
     Updated,
     /// Every group of the endpoint that a Teardown names was taken away.
     TornDown,
-    /// A Teardown names an endpoint at which no group stands.
+    /// A Teardown names an endpoint without a membership.
     NoTunnel,
     /// A packet went to so many endpoints: those that want its source in its group (RFC 7450, section
     /// 5.3.3).

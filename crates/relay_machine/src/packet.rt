@@ -1,58 +1,41 @@
-ghost use Rattle.std.specs.Prelude.{◌≡◌, ◌≤◌, [], length, nat_lt, None, IfOk};
-ghost use Rattle.amt_values.specs.Group.{is_forwardable};
-ghost use Rattle.inner_datagrams.specs.Head.{head_of};
+//! To whom a packet is copied. It reads the packet's head, and changes nothing.
+ghost use Rattle.std.specs.Prelude.{◌≡◌, ◌≤◌, [], length, IfOk};
 ghost use Rattle.endpoint_membership.specs.Log.{latest};
 ghost use Rattle.endpoint_membership.specs.Table.{IsWithinLimits, Terms};
-ghost use Rattle.relay_machine.specs.Logs.{IfOkByEachLog};
-ghost use Rattle.relay_machine.specs.Packets.{by_head, by_scope, copies, head_to_copy, packet_outcome, packet_sends, targets_at};
+ghost use Rattle.relay_machine.specs.EventAnswer.{packet_answer};
+ghost use Rattle.relay_machine.specs.Logs.{Answers, IfOkByEachLog};
+ghost use Rattle.relay_machine.specs.Packets.{copies, head_to_copy, targets_at};
 ghost use Rattle.relay_machine.specs.Settings.{terms_of};
 ghost use Rattle.relay_machine.specs.State.{HasLog};
 
 use crate::outcome::{NotForwarded, Outcome};
-use crate::querier::Querier;
 use crate::sends::{OneSend, Sends, Step};
+use crate::setup::Setup;
 use amt_messages::{Message, encode};
 use amt_values::{Bytes, Endpoint, forwardable};
 use endpoint_membership::{Table, Targets};
 use inner_datagrams::{Head, packet_head};
 use std::alloc::{AllocError, Global};
 
-fn is_too_big(limit: u32, packet: &[u8]) -> bool
-    ensures { result ≡ nat_lt limit (length packet.now) }
-{
-    packet.len() > limit as usize
-}
-
-// The head, where packets of its group are forwarded.
-fn in_scope(head: Head) -> Result<Head, Outcome>
-    ensures { result ≡ by_scope (is_forwardable head.group) head }
-{
-    if forwardable(&head.group) {
-        Ok(head)
-    } else {
-        Err(Outcome::NotForwarded(NotForwarded::Scope(head.group)))
-    }
-}
-
-fn head_in_scope(packet: &[u8]) -> Result<Head, Outcome>
-    requires { length packet.now ≤ 65535 }
-    ensures { result ≡ by_head (head_of packet.now) }
-{
-    match packet_head(packet) {
-        Err(fault) => Err(Outcome::NotForwarded(NotForwarded::Head(fault))),
-        Ok(head) => in_scope(head),
-    }
-}
-
-// The source and the group of a packet that is copied.
+// The source and the group of a packet that is copied: it isn't too long, and begins with a head
+// whose group is forwarded.
 fn head_to_copy(limit: u32, packet: &[u8]) -> Result<Head, Outcome>
     requires { length packet.now ≤ 65535 }
     ensures { result ≡ head_to_copy limit packet.now }
 {
-    if is_too_big(limit, packet) {
+    if packet.len() > limit as usize {
         return Err(Outcome::TooBig(packet.len() as u32));
     }
-    head_in_scope(packet)
+    match packet_head(packet) {
+        Err(fault) => Err(Outcome::NotForwarded(NotForwarded::Head(fault))),
+        Ok(head) => {
+            if forwardable(&head.group) {
+                Ok(head)
+            } else {
+                Err(Outcome::NotForwarded(NotForwarded::Scope(head.group)))
+            }
+        }
+    }
 }
 
 // The endpoints that want the source in the group at the table's moment.
@@ -85,27 +68,21 @@ fn copies(alloc: Global, targets: &[Endpoint], packet: &[u8]) -> Result<Sends, A
 
 // What a packet comes to: a copy for each endpoint that wants it. The packet goes as it came: its TTL
 // isn't lowered, and a fragment is copied as any other packet.
-pub fn forward(
+pub fn take_packet(
     alloc: Global,
-    querier: &Querier,
+    setup: &Setup,
     table: &Table,
     packet: &Bytes,
 ) -> Result<Step, AllocError>
     requires within { IsWithinLimits table.now }
-    requires has_log { ∥ HasLog (terms_of querier.now.settings) table.now ∥₁ }
+    requires has_log { ∥ HasLog (terms_of setup.now.settings) table.now ∥₁ }
     requires size { length packet.now ≤ 65535 }
-    ensures outcome { IfOkByEachLog (terms_of querier.now.settings) table.now result (λ log step.
-        step.outcome ≡ packet_outcome
-        (targets_at (terms_of querier.now.settings) log (latest log))
-        (head_to_copy querier.now.settings.packet_limit packet.now)) }
-    ensures sends { IfOkByEachLog (terms_of querier.now.settings) table.now result (λ log step.
-        step.sends ≡ packet_sends
-        (targets_at (terms_of querier.now.settings) log (latest log)) packet.now
-        (head_to_copy querier.now.settings.packet_limit packet.now)) }
-    ensures change { IfOk result (λ step. step.change ≡ None) }
+    ensures { Answers (terms_of setup.now.settings) table.now table.now result (λ log.
+        packet_answer (targets_at (terms_of setup.now.settings) log (latest log)) packet.now
+        (head_to_copy setup.now.settings.packet_limit packet.now)) }
 {
     let packet = packet.as_slice();
-    let head = match head_to_copy(querier.settings.packet_limit, packet) {
+    let head = match head_to_copy(setup.settings.packet_limit, packet) {
         Ok(head) => head,
         Err(outcome) => return Ok(Step::quiet(alloc, outcome)),
     };

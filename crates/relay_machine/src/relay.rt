@@ -1,15 +1,16 @@
+//! The relay as a machine: where it starts, what is read off it, and one step. It knows no message.
 ghost use Rattle.endpoint_membership.specs.Table.{IsWithinLimits};
 ghost use Rattle.relay_machine.specs.Settings.{terms_of};
 ghost use Rattle.relay_machine.specs.State.{HasLog};
 ghost use Rattle.std.proofs.Props.{props};
 
-use crate::datagram::answer;
+use crate::datagram::take_datagram;
 use crate::event::Event;
 use crate::outcome::Outcome;
-use crate::packet::forward;
-use crate::querier::Querier;
+use crate::packet::take_packet;
 use crate::sends::Step;
 use crate::settings::Settings;
+use crate::setup::Setup;
 use amt_values::Moment;
 use endpoint_membership::{Change, Rows, Table};
 use response_mac::{Secret, Secrets};
@@ -19,14 +20,14 @@ use std::alloc::{AllocError, Global};
 ///
 /// Contracts see each of its fields, so where they say that a relay is as before, nothing more was
 /// kept; a cell, of which they see nothing, none of its fields is. What the table keeps is within the
-/// limits, and stands for some log.
+/// limits, and represents some log.
 #[derive(Debug, Drop)]
 pub struct Relay {
-    querier: Querier,
+    setup: Setup,
     secrets: Secrets,
     table: Table,
     ghost within: { IsWithinLimits table } by { Prim.hlevel props },
-    ghost has_log: { ∥ HasLog (terms_of querier.settings) table ∥₁ },
+    ghost has_log: { ∥ HasLog (terms_of setup.settings) table ∥₁ },
 }
 
 impl Relay {
@@ -38,34 +39,31 @@ impl Relay {
     ghost use Rattle.endpoint_membership.specs.Log.{latest};
     ghost use Rattle.endpoint_membership.specs.Rows.{rows_of};
     ghost use Rattle.endpoint_membership.specs.Table.{standing_now};
-    ghost use Rattle.endpoint_membership.specs.declared.change.Change.{Change as Entry};
     ghost use Rattle.endpoint_membership.specs.declared.change.Change.TheVariants.{Clear, Reported};
-    ghost use Rattle.response_mac.specs.declared.secret.Secret.{Secret as SecretValue};
     ghost use Rattle.relay_machine.specs.declared.event.Event.{Event as EventValue};
     ghost use Rattle.relay_machine.specs.declared.event.Event.TheVariants.{Packet};
     ghost use Rattle.relay_machine.specs.declared.outcome.Outcome.TheVariants.{Copied, TornDown, Updated};
-    ghost use Rattle.relay_machine.specs.declared.settings.Settings.{Settings as SettingsValue};
     ghost use Rattle.relay_machine.specs.Acceptance.{IsAcceptedTeardown, IsAcceptedUpdate, IsSomeAcceptedTeardown, IsSomeAcceptedUpdate};
-    ghost use Rattle.relay_machine.specs.Accepted.{accepted, change_of, with_change};
-    ghost use Rattle.relay_machine.specs.Answers.{RelayAt, StandsFor, moment_of, outcome_of, rows_after, sends_of, settings_of};
+    ghost use Rattle.relay_machine.specs.Accepted.{accepted_log, change_of, with_change};
+    ghost use Rattle.relay_machine.specs.Answers.{After, ForLog, RelayAt, StandsFor, moment_of, outcome_of, rows_after, sends_of, settings_of, wants_after};
     ghost use Rattle.relay_machine.specs.Conditions.{IsEvent, IsPayload};
     ghost use Rattle.relay_machine.specs.Events.{now_of};
-    ghost use Rattle.relay_machine.specs.Packets.{AreCopies, IsToCopy, wants_after};
-    ghost use Rattle.relay_machine.specs.Updates.{forwarded};
+    ghost use Rattle.relay_machine.specs.Packets.{AreCopies, IsToCopy};
+    ghost use Rattle.relay_machine.specs.Updates.{forwardable_records};
     ghost use Rattle.relay_machine.specs.Settings.{AreLawfulSettings, membership_interval_ms};
 
-    /// A relay at moment 0, whose current secret is this one and at which nothing stands.
+    /// A relay at moment 0, whose current secret is this one, without memberships.
     ///
-    /// Whatever events may come, what stands by their accepted log is within the settings' limits.
+    /// Whatever events may come, the memberships by their accepted log are within the settings' limits.
     pub fn new(alloc: Global, settings: Settings, secret: Secret) -> Result<Relay, AllocError>
         requires { AreLawfulSettings settings }
         ensures stands { IfOk result (λ relay. RelayAt relay settings secret []) }
         ensures within { (events : List EventValue) → IsWithin settings.limits
-            (standing_now (terms_of settings) (accepted settings secret events)) }
+            (standing_now (terms_of settings) (accepted_log settings secret events)) }
     {
         let table = Table::new(alloc, settings.limits, settings.lifetime_ms())?;
         Ok(Relay {
-            querier: Querier::new(settings),
+            setup: Setup::new(settings),
             secrets: Secrets::new(secret),
             table,
         })
@@ -74,32 +72,26 @@ impl Relay {
     /// The latest moment that was reported to the relay, or 0.
     pub fn now(&self) -> Moment
         ensures value { result ≡ moment_of self.now }
-        ensures latest { (settings : SettingsValue) (first : SecretValue)
-            (events : List EventValue) → RelayAt self.now settings first events
-            → result ≡ now_of events }
+        ensures latest { After self.now (λ settings first events. result ≡ now_of events) }
     {
         self.table.now()
     }
 
-    /// What stands, by tunnel endpoint and then by group.
+    /// The memberships, by tunnel endpoint and then by group.
     pub fn rows(&self, alloc: Global) -> Result<Rows, AllocError>
-        ensures stands { IfOk result (λ rows. (settings : SettingsValue) (first : SecretValue)
-            (events : List EventValue) → RelayAt self.now settings first events
-            → rows ≡ rows_after settings first events) }
-        ensures published { IfOk result (λ rows. (log : List Entry)
-            → StandsFor self.now log
-            → rows ≡ rows_of (membership_interval_ms (settings_of self.now)) (latest log) log) }
+        ensures stands { IfOk result (λ rows. After self.now (λ settings first events.
+            rows ≡ rows_after settings first events)) }
+        ensures published { IfOk result (λ rows. ForLog self.now (λ log.
+            rows ≡ rows_of (membership_interval_ms (settings_of self.now)) (latest log) log)) }
         ensures bounded { IfOk result (AreFew (settings_of self.now).limits) }
     {
         self.table.rows(alloc)
     }
 
-    /// How many tunnel endpoints have some group that stands.
+    /// How many tunnel endpoints have a membership.
     pub fn live_endpoints(&self) -> u32
-        ensures { (settings : SettingsValue) (first : SecretValue)
-            (events : List EventValue) → RelayAt self.now settings first events
-            → result ≡ live_count (standing_now (terms_of settings)
-            (accepted settings first events)) }
+        ensures { After self.now (λ settings first events. result
+            ≡ live_count (standing_now (terms_of settings) (accepted_log settings first events))) }
     {
         self.table.live_endpoints()
     }
@@ -108,71 +100,58 @@ impl Relay {
     /// again.
     pub fn step(&mut self, alloc: Global, event: &Event) -> Result<Step, AllocError>
         requires { IsEvent event.now }
-        ensures outcome { (settings : SettingsValue) (first : SecretValue)
-            (events : List EventValue) → RelayAt self.old settings first events
-            → IfOk result (λ step. step.outcome ≡ outcome_of settings first events event.now) }
-        ensures sends { (settings : SettingsValue) (first : SecretValue)
-            (events : List EventValue) → RelayAt self.old settings first events
-            → IfOk result (λ step. step.sends ≡ sends_of settings first events event.now) }
-        ensures change { (settings : SettingsValue) (first : SecretValue)
-            (events : List EventValue) → RelayAt self.old settings first events
-            → IfOk result (λ step. step.change ≡ change_of settings first events event.now) }
-        ensures next { (settings : SettingsValue) (first : SecretValue)
-            (events : List EventValue) → RelayAt self.old settings first events
-            → IfOk result (λ _. RelayAt self.new settings first (events ++ event.now ∷ [])) }
-        ensures within { (settings : SettingsValue) (first : SecretValue)
-            (events : List EventValue) → RelayAt self.old settings first events
-            → IfOk result (λ _. IsWithin settings.limits (standing_now (terms_of settings)
-            (accepted settings first (events ++ event.now ∷ [])))) }
+        ensures outcome { After self.old (λ settings first events.
+            IfOk result (λ step. step.outcome ≡ outcome_of settings first events event.now)) }
+        ensures sends { After self.old (λ settings first events.
+            IfOk result (λ step. step.sends ≡ sends_of settings first events event.now)) }
+        ensures change { After self.old (λ settings first events.
+            IfOk result (λ step. step.change ≡ change_of settings first events event.now)) }
+        ensures next { After self.old (λ settings first events.
+            IfOk result (λ _. RelayAt self.new settings first (events ++ event.now ∷ []))) }
+        ensures within { After self.old (λ settings first events.
+            IfOk result (λ _. IsWithin settings.limits (standing_now (terms_of settings)
+            (accepted_log settings first (events ++ event.now ∷ []))))) }
 
-        // Whoever appends each entry that is handed out to a log has one for which the table stands,
-        // as it does for the accepted log: no clearing that isn't handed out is missed.
-        ensures published { (log : List Entry) → StandsFor self.old log
-            → IfOk result (λ step. StandsFor self.new (with_change log step.change)) }
+        // A replica that appends each entry that is handed out to a log that the table represents has
+        // such a log again: no clearing that isn't handed out is missed.
+        ensures published { ForLog self.old (λ log.
+            IfOk result (λ step. StandsFor self.new (with_change log step.change))) }
         ensures settings { settings_of self.new ≡ settings_of self.old }
 
         // No datagram but an accepted Update and the Teardown of a live endpoint changes the relay,
         // not even a Request: what is kept for each, as its nonce, could be made to fill the
         // relay's memory by whoever forges sources. No packet changes it.
-        ensures same { (settings : SettingsValue) (first : SecretValue)
-            (events : List EventValue) → RelayAt self.old settings first events
-            → IsPayload event.now
-            → IfOk result (λ step. step.change ≡ None → self.new ≡ self.old) }
+        ensures same { After self.old (λ settings first events. IsPayload event.now
+            → IfOk result (λ step. step.change ≡ None → self.new ≡ self.old)) }
         ensures err { OnErr result (self.new ≡ self.old) }
 
         // An Update of an endpoint under a good MAC, with a lawful report and within the limits, adds
         // the report's records on forwardable groups at the relay's moment, and no other event is
         // `Updated` (RFC 7450, section 5.3.3).
-        ensures updated { (settings : SettingsValue) (first : SecretValue)
-            (events : List EventValue) (endpoint : Tunnel) (records : List RecordValue)
-            → RelayAt self.old settings first events
+        ensures updated { After self.old (λ settings first events.
+            (endpoint : Tunnel) (records : List RecordValue)
             → IsAcceptedUpdate settings first events event.now endpoint records
-            → IfOk result (λ step. (step.outcome ≡ Updated)
-            × (step.change ≡ Some (Reported endpoint (forwarded records) (now_of events)))) }
-        ensures updated_only { (settings : SettingsValue) (first : SecretValue)
-            (events : List EventValue) → RelayAt self.old settings first events
-            → IfOk result (λ step. step.outcome ≡ Updated
-            → IsSomeAcceptedUpdate settings first events event.now) }
+            → IfOk result (λ step. (step.outcome ≡ Updated) × (step.change
+            ≡ Some (Reported endpoint (forwardable_records records) (now_of events))))) }
+        ensures updated_only { After self.old (λ settings first events.
+            IfOk result (λ step. step.outcome ≡ Updated
+            → IsSomeAcceptedUpdate settings first events event.now)) }
 
         // A Teardown clears the endpoint that it names, whatever endpoint it comes from.
-        ensures torn { (settings : SettingsValue) (first : SecretValue)
-            (events : List EventValue) (named : Tunnel) → RelayAt self.old settings first events
+        ensures torn { After self.old (λ settings first events. (named : Tunnel)
             → IsAcceptedTeardown settings first events event.now named
             → IfOk result (λ step. (step.outcome ≡ TornDown)
-            × (step.change ≡ Some (Clear named (now_of events)))) }
-        ensures torn_only { (settings : SettingsValue) (first : SecretValue)
-            (events : List EventValue) → RelayAt self.old settings first events
-            → IfOk result (λ step. step.outcome ≡ TornDown
-            → IsSomeAcceptedTeardown settings first events event.now) }
+            × (step.change ≡ Some (Clear named (now_of events))))) }
+        ensures torn_only { After self.old (λ settings first events.
+            IfOk result (λ step. step.outcome ≡ TornDown
+            → IsSomeAcceptedTeardown settings first events event.now)) }
 
         // A packet with no fault goes once, as it is, to each endpoint whose newest record that
         // speaks of the packet's source wants it (RFC 7450, section 5.3.3), and to no other.
-        ensures copies { (settings : SettingsValue) (first : SecretValue)
-            (events : List EventValue) (packet : List ℕ) (head : Head)
-            → RelayAt self.old settings first events
+        ensures copies { After self.old (λ settings first events. (packet : List ℕ) (head : Head)
             → event.now ≡ Packet packet → IsToCopy settings.packet_limit head packet
             → IfOk result (λ step. AreCopies (wants_after settings first events head) packet step.sends
-            × (step.outcome ≡ Copied (length step.sends))) }
+            × (step.outcome ≡ Copied (length step.sends)))) }
 
         // A moment and a secret take no memory, so time moves on and secrets age whatever is left.
         ensures sure { ¬ IsPayload event.now → IsOk result }
@@ -181,13 +160,13 @@ impl Relay {
             Event::Moment(moment) => {
                 let at = self.table.now().later(moment);
                 self.table.advance(&at);
-                Ok(Step::accepted(alloc, Outcome::Moved(at), Change::Mark { at }))
+                Ok(Step::entered(alloc, Outcome::Moved(at), Change::Mark { at }))
             }
             Event::Datagram { from, bytes } => {
-                let querier = &self.querier;
-                answer(alloc, querier, &self.secrets, &mut self.table, from, bytes)
+                let setup = &self.setup;
+                take_datagram(alloc, setup, &self.secrets, &mut self.table, from, bytes)
             }
-            Event::Packet { bytes } => forward(alloc, &self.querier, &self.table, bytes),
+            Event::Packet { bytes } => take_packet(alloc, &self.setup, &self.table, bytes),
             Event::Rotate(secret) => {
                 self.secrets.rotate(*secret);
                 Ok(Step::quiet(alloc, Outcome::Rotated))

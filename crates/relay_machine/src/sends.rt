@@ -1,6 +1,10 @@
-ghost use Rattle.std.specs.Prelude.{◌≡◌, [], ◌∷◌, ◌++◌, length, None, OnErr, OnOk, Some};
+//! What one event came to: its outcome, the datagrams to send, and the entry that is handed out.
+ghost use Rattle.std.specs.Prelude.{◌≡◌, [], ◌∷◌, ◌++◌, length, IfOk, None, OnErr, OnOk, Some};
+ghost use Rattle.amt_messages.specs.Conditions.{IsSendable};
+ghost use Rattle.amt_messages.specs.Layout.{spelling_of};
 
 use crate::outcome::Outcome;
+use amt_messages::{Message, encode};
 use amt_values::{Bytes, Endpoint};
 use endpoint_membership::Change;
 use std::alloc::{AllocError, Global};
@@ -82,7 +86,7 @@ impl Step {
     }
 
     /// A step that sends nothing and hands out this entry of the accepted log.
-    pub(crate) fn accepted(alloc: Global, outcome: Outcome, change: Change) -> Step
+    pub(crate) fn entered(alloc: Global, outcome: Outcome, change: Change) -> Step
         ensures outcome { result.outcome ≡ outcome }
         ensures sends { result.sends ≡ [] }
         ensures change { result.change ≡ Some change }
@@ -92,5 +96,28 @@ impl Step {
             sends: Sends::new(alloc),
             change: Some(change),
         }
+    }
+
+    /// A step that sends this message and hands out no entry.
+    pub(crate) fn replied(
+        alloc: Global,
+        outcome: Outcome,
+        to: Endpoint,
+        message: &Message,
+    ) -> Result<Step, AllocError>
+        requires { IsSendable message.now }
+        ensures outcome { IfOk result (λ step. step.outcome ≡ outcome) }
+        ensures sends { IfOk result
+            (λ step. step.sends ≡ record { to = to; bytes = spelling_of message.now } ∷ []) }
+        ensures change { IfOk result (λ step. step.change ≡ None) }
+    {
+        let bytes = encode(alloc, message)?;
+        let mut sends = Sends::new(alloc);
+        sends.push(OneSend { to, bytes })?;
+        Ok(Step {
+            outcome,
+            sends,
+            change: None,
+        })
     }
 }

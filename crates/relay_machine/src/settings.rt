@@ -1,12 +1,15 @@
-ghost use Rattle.std.specs.Prelude.{◌≡◌, ◌≤◌, ◌↔◌, IsTrue};
-ghost use Rattle.relay_machine.specs.Settings.{AreLimits, HasMldCode, HasQueryTimes, AreLawfulSettings, IsPacketLimit, IsQueryTime, default_settings, membership_interval_ms};
+//! What a relay is set up with, by the table of numbers. It knows no script and no file that says it.
+ghost use Rattle.std.specs.Prelude.{◌≡◌, ◌≤◌, ◌*◌, ◌↔◌, IsTrue};
+ghost use Rattle.relay_machine.specs.declared.number_key.NumberKey.{NumberKey as Key};
+ghost use Rattle.relay_machine.specs.Settings.{AreLawfulSettings, HasCode, HasMldCode, HasQueryTimes, IsInRange, default_settings, membership_interval_ms, number_at, with_number};
 
+use crate::number_key::{NUMBER_KEYS, NumberKey};
 use amt_values::Ip;
 use endpoint_membership::Limits;
 use igmp_records::value_code4;
 use mld_records::value_code6;
 
-/// What a relay is set up with.
+/// What a relay is set up with. [`NumberKey::range`] has the range and the default of each number.
 #[derive(Clone, Copy, Debug, PartialEq, Eq)]
 pub struct Settings {
     /// The address that Advertisements carry.
@@ -16,19 +19,19 @@ pub struct Settings {
     /// The IPv6 source of General Queries: a link-local address, where hosts are to take them
     /// (RFC 3810, section 5.1.14).
     pub query6: u128,
-    /// The Robustness Variable, 1 to 7: one more than the reports in a row that may be lost without
-    /// harm (RFC 3376, section 8.1).
+    /// The Robustness Variable: one more than the reports in a row that may be lost without harm
+    /// (RFC 3376, section 8.1).
     pub robustness: u8,
-    /// The seconds from one General Query to the next, 1 to 31,744 (RFC 3376, section 8.2).
+    /// The seconds from one General Query to the next (RFC 3376, section 8.2).
     pub query_seconds: u32,
-    /// The tenths of a second within which a listener answers a General Query, 1 to 31,744 (RFC 3376,
-    /// section 8.3).
+    /// The tenths of a second within which a listener answers a General Query (RFC 3376, section
+    /// 8.3).
     pub response_tenths: u32,
-    /// How much the relay keeps: 1 to 65,536 live tunnel endpoints, 1 to 256 groups of one, 1 to 64
-    /// sources of one group, and at most 16,777,216 sources in all.
+    /// How much the relay keeps: live tunnel endpoints, groups of one, sources of one group; and at
+    /// most 16,777,216 sources in all.
     pub limits: Limits,
-    /// The longest packet that is copied, in octets: 20 to 65,000. A packet of more is dropped, since
-    /// the tunnel's datagrams aren't fragmented here.
+    /// The longest packet that is copied, in octets. A packet of more is dropped, since the tunnel's
+    /// datagrams aren't fragmented here.
     pub packet_limit: u32,
 }
 
@@ -43,38 +46,80 @@ impl Settings {
             relay,
             query4: 0,
             query6: 0xfe80_0000_0000_0000_0000_0000_0000_0001,
-            robustness: 2,
-            query_seconds: 125,
-            response_tenths: 100,
+            robustness: NumberKey::Robustness.range().default as u8,
+            query_seconds: NumberKey::QuerySeconds.range().default,
+            response_tenths: NumberKey::ResponseTenths.range().default,
             limits: Limits {
-                endpoints: 1024,
-                groups: 64,
-                sources: 64,
+                endpoints: NumberKey::Endpoints.range().default,
+                groups: NumberKey::Groups.range().default,
+                sources: NumberKey::Sources.range().default,
             },
-            packet_limit: 1450,
+            packet_limit: NumberKey::PacketLimit.range().default,
         }
     }
 
-    /// Whether a relay may have these settings. General Queries carry the robustness in three bits,
-    /// and each time as a code, which not every number has (RFC 3376, sections 4.1.1, 4.1.6, 4.1.7);
-    /// those of MLD carry the response time in milliseconds, by a code of their own (RFC 3810, section
-    /// 5.1.3).
+    /// The key's number.
+    pub fn number(&self, key: NumberKey) -> u32
+        ensures { result ≡ number_at self.now key }
+    {
+        match key {
+            NumberKey::Robustness => u32::from(self.robustness),
+            NumberKey::QuerySeconds => self.query_seconds,
+            NumberKey::ResponseTenths => self.response_tenths,
+            NumberKey::Endpoints => self.limits.endpoints,
+            NumberKey::Groups => self.limits.groups,
+            NumberKey::Sources => self.limits.sources,
+            NumberKey::PacketLimit => self.packet_limit,
+        }
+    }
+
+    /// Sets the key's number, and nothing else.
+    pub fn set_number(&mut self, key: NumberKey, number: u32)
+        requires { IsInRange key number }
+        ensures { self.new ≡ with_number self.old key number }
+    {
+        match key {
+            NumberKey::Robustness => self.robustness = number as u8,
+            NumberKey::QuerySeconds => self.query_seconds = number,
+            NumberKey::ResponseTenths => self.response_tenths = number,
+            NumberKey::Endpoints => self.limits.endpoints = number,
+            NumberKey::Groups => self.limits.groups = number,
+            NumberKey::Sources => self.limits.sources = number,
+            NumberKey::PacketLimit => self.packet_limit = number,
+        }
+    }
+
+    /// Whether a relay may have these settings: each number is in its range, General Queries can carry
+    /// each time as a code, which not every number has (RFC 3376, sections 4.1.1, 4.1.7); those of MLD
+    /// carry the response time in milliseconds, by a code of their own (RFC 3810, section 5.1.3); and
+    /// the product of the limits bounds the memory.
     pub fn lawful(&self) -> bool
         ensures { IsTrue result ↔ AreLawfulSettings self.now }
     {
-        is_robustness(self.robustness)
-            && self.has_query_times()
-            && are_lawful(&self.limits)
-            && is_packet_limit(self.packet_limit)
+        if !self.are_in_range() {
+            return false;
+        }
+        self.has_query_times() && has_lawful_product(&self.limits)
+    }
+
+    fn are_in_range(&self) -> bool
+        ensures { IsTrue result ↔ ((key : Key) → IsInRange key (number_at self.now key)) }
+    {
+        for key in NUMBER_KEYS {
+            if !key.allows(self.number(key)) {
+                return false;
+            }
+        }
+        true
     }
 
     fn has_query_times(&self) -> bool
+        requires { self.now.response_tenths ≤ 31744 }
         ensures { IsTrue result ↔ HasQueryTimes self.now }
     {
-        if !is_query_time(self.query_seconds) || !is_query_time(self.response_tenths) {
-            return false;
-        }
-        has_mld_code(self.response_tenths * 100)
+        has_code(self.query_seconds)
+            && has_code(self.response_tenths)
+            && has_mld_code(self.response_tenths * 100)
     }
 
     /// How long a membership report counts, in milliseconds (RFC 3376, section 8.4).
@@ -86,24 +131,9 @@ impl Settings {
     }
 }
 
-fn is_robustness(robustness: u8) -> bool
-    ensures { IsTrue result ↔ ((1 ≤ robustness) × (robustness ≤ 7)) }
+fn has_code(time: u32) -> bool
+    ensures { IsTrue result ↔ HasCode time }
 {
-    (1..=7).contains(&robustness)
-}
-
-fn is_packet_limit(octets: u32) -> bool
-    ensures { IsTrue result ↔ IsPacketLimit octets }
-{
-    (20..=65000).contains(&octets)
-}
-
-fn is_query_time(time: u32) -> bool
-    ensures { IsTrue result ↔ IsQueryTime time }
-{
-    if time < 1 {
-        return false;
-    }
     value_code4(time).is_some()
 }
 
@@ -113,14 +143,12 @@ fn has_mld_code(time: u32) -> bool
     value_code6(time).is_some()
 }
 
-fn are_lawful(limits: &Limits) -> bool
-    ensures { IsTrue result ↔ AreLimits limits.now }
+fn has_lawful_product(limits: &Limits) -> bool
+    requires endpoints { limits.now.endpoints ≤ 65536 }
+    requires groups { limits.now.groups ≤ 256 }
+    requires sources { limits.now.sources ≤ 64 }
+    ensures { IsTrue result
+        ↔ (limits.now.endpoints * limits.now.groups * limits.now.sources ≤ 16777216) }
 {
-    if !(1..=65536).contains(&limits.endpoints) {
-        return false;
-    }
-    if !(1..=256).contains(&limits.groups) || !(1..=64).contains(&limits.sources) {
-        return false;
-    }
     limits.endpoints * limits.groups * limits.sources <= 16_777_216
 }

@@ -1,3 +1,4 @@
+//! Which settings a relay may have, and its numbers by their keys.
 use super::*;
 use amt_values::Ip;
 use endpoint_membership::Limits;
@@ -104,4 +105,18 @@ fn each_response_time_of_igmp_has_a_code_in_mld(rt: HostRuntime) {
 #[test]
 fn a_report_counts_for_260_seconds_by_default(rt: HostRuntime) {
     assert_eq!(rt; usual().lifetime_ms(), 260_000);
+}
+
+#[test]
+fn a_number_is_set_at_its_key(rt: HostRuntime) {
+    let mut settings = usual();
+    settings.set_number(NumberKey::Groups, 256);
+    assert_eq!(rt; settings.number(NumberKey::Groups), 256);
+    assert_eq!(rt; settings.limits.sources, 64);
+}
+
+#[test]
+fn the_greatest_number_is_in_range_and_the_next_is_not(rt: HostRuntime) {
+    assert!(rt; NumberKey::PacketLimit.allows(65_000));
+    assert!(rt; !NumberKey::PacketLimit.allows(65_001));
 }

@@ -1,3 +1,4 @@
+//! A relay, event by event: outcomes, entries that are handed out, and how much is sent.
 ghost use Rattle.std.specs.Prelude.{◌≤◌, IfOk, length};
 ghost use Rattle.relay_machine.specs.Conditions.{IsEvent};
 
@@ -60,7 +61,7 @@ const SOURCE6: Ip = Ip::V6(0x2001_0db8_0000_0000_0000_0000_0000_0009);
 // What happens; a datagram comes from the gateway, at this port.
 #[derive(Clone, Copy)]
 enum Given {
-    Told(u64),
+    Time(u64),
     Datagram(u16, &'static [u8]),
     Packet(&'static [u8]),
     Drawn(u8),
@@ -195,7 +196,7 @@ fn event_of(rt: &impl Abort, alloc: Global, given: Given) -> Result<Event, Alloc
     ensures { IfOk result IsEvent }
 {
     match given {
-        Given::Told(ms) => Ok(Event::Moment(Moment::new(ms).expect(rt, "a moment"))),
+        Given::Time(ms) => Ok(Event::Moment(Moment::new(ms).expect(rt, "a moment"))),
         Given::Drawn(octet) => Ok(Event::Rotate(Secret([octet; 32]))),
         Given::Packet(octets) => {
             let bytes = payload(rt, alloc, octets)?;
@@ -259,11 +260,11 @@ fn gives(
 }
 
 // At this time; an earlier one changes nothing.
-fn is_told(
+fn is_time(
     rt: &impl Abort,
     alloc: Global,
     relay: &mut Relay,
-    told: u64,
+    reported: u64,
     ms: u64,
 ) -> Result<(), AllocError> {
     let now = Moment::new(ms).expect(rt, "a moment");
@@ -271,7 +272,12 @@ fn is_told(
         rt,
         alloc,
         relay,
-        &(Given::Told(told), Outcome::Moved(now), 0, Entry::Mark(ms)),
+        &(
+            Given::Time(reported),
+            Outcome::Moved(now),
+            0,
+            Entry::Mark(ms),
+        ),
     )?;
     assert_eq!(rt; relay.now(), now);
     Ok(())
@@ -303,7 +309,7 @@ fn are_rows(rt: &impl Abort, rows: &[Row]) {
     }
 }
 
-fn stands(rt: &impl Abort, alloc: Global, relay: &Relay) -> Result<(), AllocError> {
+fn are_members(rt: &impl Abort, alloc: Global, relay: &Relay) -> Result<(), AllocError> {
     let rows = relay.rows(alloc)?;
     are_rows(rt, rows.as_slice());
     Ok(())
@@ -324,12 +330,12 @@ fn goes_through(
 #[test]
 fn each_event_has_its_outcome_and_its_entry(rt: HostRuntime) -> Result<(), Fail> {
     let mut relay = relay(&rt, rt.alloc())?;
-    for (told, ms) in [(1000, 1000), (500, 1000)] {
-        is_told(&rt, rt.alloc(), &mut relay, told, ms)?;
+    for (reported, ms) in [(1000, 1000), (500, 1000)] {
+        is_time(&rt, rt.alloc(), &mut relay, reported, ms)?;
     }
     goes_through(&rt, rt.alloc(), &mut relay, &JOINING)?;
     assert_eq!(rt; relay.live_endpoints(), 1);
-    stands(&rt, rt.alloc(), &relay)?;
+    are_members(&rt, rt.alloc(), &relay)?;
     goes_through(&rt, rt.alloc(), &mut relay, &LEAVING)?;
     Ok(())
 }

@@ -1,52 +1,76 @@
-ghost use Rattle.std.specs.Prelude.{◌≡◌, ◌≤◌, length, IfOk};
+//! What an Update comes to: its MAC, its report, the limits. It knows no datagram and no other message.
+ghost use Rattle.std.specs.Prelude.{◌≡◌, ◌≤◌, length, IfOk, OnErr};
 ghost use Rattle.source_filter.specs.Record.{item_count};
-ghost use Rattle.group_records.specs.Reading.{Gives as Reads};
-ghost use Rattle.relay_machine.specs.Reading.{Gives};
-ghost use Rattle.relay_machine.specs.Updates.{carried_report, report_in};
+ghost use Rattle.endpoint_membership.specs.Log.{latest};
+ghost use Rattle.endpoint_membership.specs.Table.{IsWithinLimits, Terms, limit_passed};
+ghost use Rattle.endpoint_membership.specs.declared.change.Change.TheVariants.{Reported};
+ghost use Rattle.relay_machine.specs.EventAnswer.{limited_answer, update_answer};
+ghost use Rattle.relay_machine.specs.Logs.{Answers};
+ghost use Rattle.relay_machine.specs.Updates.{report_in};
 
-use crate::outcome::Unlawful;
-use amt_values::{Ip, wire16};
-use igmp_records::read_report4;
-use inner_datagrams::{Inner, read_inner};
-use mld_records::read_report6;
-use source_filter::{ReadFault, Records};
-use std::alloc::Global;
+use crate::outcome::Outcome;
+use crate::report::{Unread, forwardable_records, read_report};
+use crate::sends::Step;
+use amt_values::{Bytes, Endpoint};
+use endpoint_membership::{AcceptFault, Change, Table};
+use source_filter::Records;
+use std::alloc::{AllocError, Global};
 
-// Why no records came of an Update.
-#[derive(Clone, Copy, Debug, PartialEq, Eq)]
-pub enum Unread {
-    Unlawful(Unlawful),
-    Memory,
-}
-
-// The records of the membership report that a datagram carries: of MLDv2 over IPv6, whose checksum
-// counts the datagram's addresses, and else of IGMPv3.
-fn read_carried(alloc: Global, place: &Inner, payload: &[u8]) -> Result<Records, ReadFault>
-    requires { length payload.now ≤ 65535 }
-    ensures value { Reads result
-        (carried_report place.now.source place.now.destination payload.now) }
-    ensures few { IfOk result (λ records. item_count records ≤ 65535) }
+// Accepts the records of a source's report at the table's own moment, unless a limit is passed.
+fn accept(
+    alloc: Global,
+    table: &mut Table,
+    source: Endpoint,
+    records: Records,
+) -> Result<Step, AllocError>
+    requires within { IsWithinLimits table.old }
+    requires items { item_count records ≤ 65535 }
+    ensures answers { (terms : Terms) → Answers terms table.old table.new result (λ log.
+        limited_answer (limit_passed terms log source records (latest log))
+        (Reported source records (latest log))) }
+    ensures err { OnErr result (table.new ≡ table.old) }
+    ensures within { IsWithinLimits table.new }
 {
-    match place.source {
-        Ip::V4(_) => read_report4(alloc, payload),
-        Ip::V6(source) => read_report6(alloc, source, wire16(&place.destination), payload),
+    let at = table.now();
+    match table.accept(alloc, &source, &records, &at) {
+        Ok(()) => {
+            let endpoint = source;
+            let reported = Change::Reported {
+                endpoint,
+                records,
+                at,
+            };
+            Ok(Step::entered(alloc, Outcome::Updated, reported))
+        }
+        Err(AcceptFault::Limit(fault)) => Ok(Step::quiet(alloc, Outcome::Over(fault))),
+        Err(AcceptFault::Memory) => Err(AllocError),
     }
 }
 
-// The records of the membership report that the inner octets of an Update carry.
-pub fn read_update(alloc: Global, inner: &[u8]) -> Result<Records, Unread>
-    requires { length inner.now ≤ 65535 }
-    ensures value { Gives result (report_in inner.now) }
-    ensures few { IfOk result (λ records. item_count records ≤ 65535) }
+// What an Update comes to: its MAC is judged first, then the report in it, and then the limits.
+pub fn take_update(
+    alloc: Global,
+    table: &mut Table,
+    source: Endpoint,
+    good: bool,
+    inner: &Bytes,
+) -> Result<Step, AllocError>
+    requires within { IsWithinLimits table.old }
+    requires size { length inner.now ≤ 65535 }
+    ensures answers { (terms : Terms) → Answers terms table.old table.new result (λ log.
+        update_answer good (report_in inner.now)
+        (λ records. limit_passed terms log source records (latest log)) source (latest log)) }
+    ensures err { OnErr result (table.new ≡ table.old) }
+    ensures within { IsWithinLimits table.new }
 {
-    let place = match read_inner(inner) {
-        Ok(place) => place,
-        Err(fault) => return Err(Unread::Unlawful(Unlawful::Inner(fault))),
+    if !good {
+        return Ok(Step::quiet(alloc, Outcome::BadMac));
+    }
+    let records = match read_report(alloc, inner.as_slice()) {
+        Ok(records) => records,
+        Err(Unread::Unlawful(fault)) => return Ok(Step::quiet(alloc, Outcome::Unlawful(fault))),
+        Err(Unread::Memory) => return Err(AllocError),
     };
-    let (_, payload) = inner.split_at(place.start);
-    match read_carried(alloc, &place, payload) {
-        Ok(records) => Ok(records),
-        Err(ReadFault::Report(fault)) => Err(Unread::Unlawful(Unlawful::Report(fault))),
-        Err(ReadFault::Memory) => Err(Unread::Memory),
-    }
+    let records = forwardable_records(alloc, &records)?;
+    accept(alloc, table, source, records)
 }

@@ -1,6 +1,7 @@
 use Rattle.std.proofs.Common.{ℕ, [], subst}
 use Rattle.endpoint_membership.specs.Table.{Holds}
 use Rattle.relay_machine.proofs.Limits.{always_within}
+use Rattle.relay_machine.proofs.Numbers.{AreLawful-settings}
 use Rattle.relay_machine.proofs.Onward.{RelayAt-new}
 use Rattle.relay_machine.proofs.relay.Relay.new.Goals as goal
 
@@ -15,3 +16,6 @@ returns-clause-within c events = always_within c.args.settings c.args.secret eve
 
 pub returns-in_err-table-clause-within : goal.returns-in_err-table-clause-within
 returns-in_err-table-clause-within c events = always_within c.args.settings c.args.secret events
+
+pub new-requires : goal.new-requires
+new-requires c = rw c.lifetime_ms.ensures (AreLawful-settings c.args.settings c.requires)

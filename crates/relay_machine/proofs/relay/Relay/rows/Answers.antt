@@ -1,7 +1,7 @@
 use Rattle.std.proofs.Common.{ℕ, ap, ◌∙◌}
 use Rattle.std.proofs.lemmas.Result.{IfOk-weaker}
 use Rattle.endpoint_membership.specs.Rows.{rows_of}
-use Rattle.relay_machine.specs.Accepted.{accepted}
+use Rattle.relay_machine.specs.Accepted.{accepted_log}
 use Rattle.relay_machine.specs.Answers.{settings_of}
 use Rattle.relay_machine.specs.Settings.{membership_interval_ms, terms_of}
 use Rattle.relay_machine.proofs.Onward.{AreFew-settings, latest-accepted}
@@ -10,7 +10,7 @@ use Rattle.relay_machine.proofs.relay.Relay.rows.Goals as goal
 pub returns-clause-stands : goal.returns-clause-stands
 returns-clause-stands c = IfOk-weaker c.rows.result _ _
     (λ rows shown settings first events at.
-    let log = accepted settings first events in
+    let log = accepted_log settings first events in
     shown (terms_of settings) log at.table
     ∙ ap (λ (moment : ℕ). rows_of (membership_interval_ms settings) moment log) (latest-accepted _ settings first events at)) c.rows.ensures.stands
 

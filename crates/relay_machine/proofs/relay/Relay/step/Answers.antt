@@ -4,14 +4,14 @@ use Rattle.std.proofs.lemmas.Result.{IfOk-weaker}
 use Rattle.amt_values.specs.Octets.{AreOctets}
 use Rattle.endpoint_membership.specs.Table.{Holds}
 use Rattle.endpoint_membership.specs.declared.change.Change.{Change}
-use Rattle.relay_machine.specs.declared.event.Event.TheVariants.{Packet}
-use Rattle.relay_machine.specs.Accepted.{accepted, with_change}
+use Rattle.relay_machine.specs.declared.event.Event.TheVariants.{Datagram, Packet}
+use Rattle.relay_machine.specs.Accepted.{accepted_log, with_change}
 use Rattle.relay_machine.specs.Answers.{settings_of}
 use Rattle.relay_machine.specs.Packets.{IsToCopy}
 use Rattle.relay_machine.specs.Settings.{terms_of}
 use Rattle.relay_machine.proofs.Acceptance.{torn-answered, torn_only-answered, updated-answered, updated_only-answered}
-use Rattle.relay_machine.proofs.Copies.{AreCopies-answered, packet_outcome-after}
-use Rattle.relay_machine.proofs.Onward.{HasLog-answered, IsWithin-events, RelayAt-answered, change-answered, outcome-answered, RelayAt-moment, RelayAt-packet, RelayAt-rotate, StandsFor-accepted, same_relay}
+use Rattle.relay_machine.proofs.Copies.{AreCopies-answered}
+use Rattle.relay_machine.proofs.Onward.{HasLog-answered, IsWithin-events, RelayAt-moment, RelayAt-payload, RelayAt-rotate, StandsFor-accepted, answered-after, same_relay}
 use Rattle.relay_machine.proofs.relay.Relay.step.Goals as goal
 
 pub invariant_of-self : goal.invariant_of-self
@@ -22,8 +22,8 @@ invariant_of-self c = record {
 
 pub invariant_of-self-in-Datagram : goal.invariant_of-self-in-Datagram
 invariant_of-self-in-Datagram c = record {
-  within = c.answer.ensures.within;
-  has_log = HasLog-answered _ _ _ _ c.answer.result c.args.self.now.has_log c.answer.ensures.stands c.answer.ensures.err;
+  within = c.take_datagram.ensures.within;
+  has_log = HasLog-answered _ _ _ _ c.take_datagram.result c.args.self.now.has_log c.take_datagram.ensures.answers c.take_datagram.ensures.err;
 }
 
 pub returns-in-Moment-clause-next : goal.returns-in-Moment-clause-next
@@ -37,74 +37,110 @@ returns-in-Moment-clause-within c settings first events at =
 
 pub returns-in-Moment-clause-published : goal.returns-in-Moment-clause-published
 returns-in-Moment-clause-published c log holds =
-    subst (λ (change : Option Change). Holds (terms_of (settings_of c.args.self.now)) c.advance.new.self (with_change log change)) (sym c.accepted.ensures.change)
+    subst (λ (change : Option Change). Holds (terms_of (settings_of c.args.self.now)) c.advance.new.self (with_change log change)) (sym c.entered.ensures.change)
     (c.advance.ensures.stands (terms_of (settings_of c.args.self.now)) log holds)
 
-pub returns-in-Datagram-clause-same : goal.returns-in-Datagram-clause-same
-returns-in-Datagram-clause-same c settings first events at payload =
-    IfOk-weaker c.answer.result _ _ (λ step same none. same_relay c.args.self.now _ _ _ (same none)) (c.answer.ensures.same (accepted settings first events) (StandsFor-accepted c.args.self.now settings first events at))
-
-pub returns-in-Datagram-clause-next : goal.returns-in-Datagram-clause-next
-returns-in-Datagram-clause-next c settings first events at =
-    rw c.in-Datagram.is (RelayAt-answered _ _ settings first events _ _ c.answer.result at refl refl c.answer.ensures.stands)
-
+-- what is answered to the datagram by the events before it
 pub returns-in-Datagram-clause-outcome : goal.returns-in-Datagram-clause-outcome
 returns-in-Datagram-clause-outcome c settings first events at =
-    rw c.in-Datagram.is (outcome-answered c.args.self.now settings first events c.in-Datagram.from c.in-Datagram.bytes c.answer.result at c.answer.ensures.outcome)
+    rw c.in-Datagram.is (IfOk-weaker c.take_datagram.result _ _ (λ step is. is.outcome)
+    (answered-after c.args.self.now _ settings first events (Datagram c.in-Datagram.from c.in-Datagram.bytes) c.take_datagram.result at c.take_datagram.ensures.answers))
+
+pub returns-in-Datagram-clause-sends : goal.returns-in-Datagram-clause-sends
+returns-in-Datagram-clause-sends c settings first events at =
+    rw c.in-Datagram.is (IfOk-weaker c.take_datagram.result _ _ (λ step is. is.sends)
+    (answered-after c.args.self.now _ settings first events (Datagram c.in-Datagram.from c.in-Datagram.bytes) c.take_datagram.result at c.take_datagram.ensures.answers))
 
 pub returns-in-Datagram-clause-change : goal.returns-in-Datagram-clause-change
 returns-in-Datagram-clause-change c settings first events at =
-    rw c.in-Datagram.is (change-answered c.args.self.now settings first events c.in-Datagram.from c.in-Datagram.bytes c.answer.result at c.answer.ensures.change)
+    rw c.in-Datagram.is (IfOk-weaker c.take_datagram.result _ _ (λ step is. is.change)
+    (answered-after c.args.self.now _ settings first events (Datagram c.in-Datagram.from c.in-Datagram.bytes) c.take_datagram.result at c.take_datagram.ensures.answers))
+
+pub returns-in-Datagram-clause-next : goal.returns-in-Datagram-clause-next
+returns-in-Datagram-clause-next c settings first events at =
+    rw c.in-Datagram.is (IfOk-weaker c.take_datagram.result _ _
+    (λ step is. RelayAt-payload c.args.self.now _ settings first events (Datagram c.in-Datagram.from c.in-Datagram.bytes) at tt refl refl is.stands)
+    (answered-after c.args.self.now _ settings first events (Datagram c.in-Datagram.from c.in-Datagram.bytes) c.take_datagram.result at c.take_datagram.ensures.answers))
+
+pub returns-in-Datagram-clause-within : goal.returns-in-Datagram-clause-within
+returns-in-Datagram-clause-within c settings first events at =
+    IfOk-weaker c.take_datagram.result _ _
+    (λ _ next. IsWithin-events _ settings first (events ++ c.args.event.now ∷ []) next)
+    (returns-in-Datagram-clause-next c settings first events at)
+
+pub returns-in-Datagram-clause-published : goal.returns-in-Datagram-clause-published
+returns-in-Datagram-clause-published c log holds =
+    IfOk-weaker c.take_datagram.result _ _ (λ step is. is.published) (c.take_datagram.ensures.answers log holds)
+
+pub returns-in-Datagram-clause-same : goal.returns-in-Datagram-clause-same
+returns-in-Datagram-clause-same c settings first events at payload =
+    IfOk-weaker c.take_datagram.result _ _ (λ step is none. same_relay c.args.self.now _ _ _ (is.same none))
+    (c.take_datagram.ensures.answers (accepted_log settings first events) (StandsFor-accepted c.args.self.now settings first events at))
 
 pub returns-in-Datagram-clause-updated : goal.returns-in-Datagram-clause-updated
-returns-in-Datagram-clause-updated c settings first events endpoint records at =
-    updated-answered settings first events c.args.event.now endpoint records c.answer.result (returns-in-Datagram-clause-outcome c settings first events at)
+returns-in-Datagram-clause-updated c settings first events at endpoint records =
+    updated-answered settings first events c.args.event.now endpoint records c.take_datagram.result (returns-in-Datagram-clause-outcome c settings first events at)
     (returns-in-Datagram-clause-change c settings first events at)
 
 pub returns-in-Datagram-clause-updated_only : goal.returns-in-Datagram-clause-updated_only
 returns-in-Datagram-clause-updated_only c settings first events at =
-    updated_only-answered settings first events c.args.event.now c.answer.result
-    (λ from bytes same. let is : bytes ≡ c.in-Datagram.bytes = cc in subst AreOctets (sym is) c.answer.ensures.octets) (returns-in-Datagram-clause-outcome c settings first events at)
+    updated_only-answered settings first events c.args.event.now c.take_datagram.result
+    (λ from bytes same. let is : bytes ≡ c.in-Datagram.bytes = cc in subst AreOctets (sym is) c.take_datagram.ensures.octets) (returns-in-Datagram-clause-outcome c settings first events at)
 
 pub returns-in-Datagram-clause-torn : goal.returns-in-Datagram-clause-torn
-returns-in-Datagram-clause-torn c settings first events named at =
-    torn-answered settings first events c.args.event.now named c.answer.result (returns-in-Datagram-clause-outcome c settings first events at)
+returns-in-Datagram-clause-torn c settings first events at named =
+    torn-answered settings first events c.args.event.now named c.take_datagram.result (returns-in-Datagram-clause-outcome c settings first events at)
     (returns-in-Datagram-clause-change c settings first events at)
 
 pub returns-in-Datagram-clause-torn_only : goal.returns-in-Datagram-clause-torn_only
 returns-in-Datagram-clause-torn_only c settings first events at =
-    torn_only-answered settings first events c.args.event.now c.answer.result (returns-in-Datagram-clause-outcome c settings first events at)
+    torn_only-answered settings first events c.args.event.now c.take_datagram.result (returns-in-Datagram-clause-outcome c settings first events at)
 
-pub returns-in-Datagram-clause-within : goal.returns-in-Datagram-clause-within
-returns-in-Datagram-clause-within c settings first events at =
-    IfOk-weaker c.answer.result _ _
-    (λ _ next. IsWithin-events _ settings first (events ++ c.args.event.now ∷ []) next)
-    (returns-in-Datagram-clause-next c settings first events at)
+pub returns-in-Packet-clause-outcome : goal.returns-in-Packet-clause-outcome
+returns-in-Packet-clause-outcome c settings first events at =
+    rw c.in-Packet.is (IfOk-weaker c.take_packet.result _ _ (λ step is. is.outcome)
+    (answered-after c.args.self.now _ settings first events (Packet c.in-Packet.bytes) c.take_packet.result at c.take_packet.ensures))
+
+pub returns-in-Packet-clause-sends : goal.returns-in-Packet-clause-sends
+returns-in-Packet-clause-sends c settings first events at =
+    rw c.in-Packet.is (IfOk-weaker c.take_packet.result _ _ (λ step is. is.sends)
+    (answered-after c.args.self.now _ settings first events (Packet c.in-Packet.bytes) c.take_packet.result at c.take_packet.ensures))
+
+pub returns-in-Packet-clause-change : goal.returns-in-Packet-clause-change
+returns-in-Packet-clause-change c settings first events at =
+    rw c.in-Packet.is (IfOk-weaker c.take_packet.result _ _ (λ step is. is.change)
+    (answered-after c.args.self.now _ settings first events (Packet c.in-Packet.bytes) c.take_packet.result at c.take_packet.ensures))
 
 pub returns-in-Packet-clause-next : goal.returns-in-Packet-clause-next
 returns-in-Packet-clause-next c settings first events at =
-    rw c.in-Packet.is (IfOk-weaker c.forward.result _ _ (λ step none. RelayAt-packet _ _ settings first events _ at refl refl refl) c.forward.ensures.change)
+    rw c.in-Packet.is (IfOk-weaker c.take_packet.result _ _
+    (λ step is. RelayAt-payload c.args.self.now _ settings first events (Packet c.in-Packet.bytes) at tt refl refl is.stands)
+    (answered-after c.args.self.now _ settings first events (Packet c.in-Packet.bytes) c.take_packet.result at c.take_packet.ensures))
 
 pub returns-in-Packet-clause-within : goal.returns-in-Packet-clause-within
 returns-in-Packet-clause-within c settings first events at =
-    IfOk-weaker c.forward.result _ _
+    IfOk-weaker c.take_packet.result _ _
     (λ step next. IsWithin-events _ settings first (events ++ c.args.event.now ∷ []) next)
     (returns-in-Packet-clause-next c settings first events at)
 
+pub returns-in-Packet-clause-published : goal.returns-in-Packet-clause-published
+returns-in-Packet-clause-published c log holds =
+    IfOk-weaker c.take_packet.result _ _ (λ step is. is.published) (c.take_packet.ensures log holds)
+
 pub returns-in-Packet-clause-copies : goal.returns-in-Packet-clause-copies
-returns-in-Packet-clause-copies c settings first events packet head at is to_copy =
+returns-in-Packet-clause-copies c settings first events at packet head is to_copy =
     let same : packet ≡ c.in-Packet.bytes = cc in
-    rw same (AreCopies-answered _ settings first events c.in-Packet.bytes head c.forward.result at c.forward.ensures.outcome c.forward.ensures.sends (subst (IsToCopy settings.packet_limit head) same to_copy))
+    rw same (IfOk-weaker c.take_packet.result _ _
+    (λ step answered. AreCopies-answered settings first events c.in-Packet.bytes head step answered.outcome answered.sends (subst (IsToCopy settings.packet_limit head) same to_copy))
+    (answered-after c.args.self.now _ settings first events (Packet c.in-Packet.bytes) c.take_packet.result at c.take_packet.ensures))
 
 pub returns-in-Packet-clause-updated_only : goal.returns-in-Packet-clause-updated_only
 returns-in-Packet-clause-updated_only c settings first events at =
-    rw c.in-Packet.is (updated_only-answered settings first events (Packet c.in-Packet.bytes) c.forward.result (λ from bytes same. absurd cc)
-    (packet_outcome-after c.args.self.now settings first events c.in-Packet.bytes c.forward.result at c.forward.ensures.outcome))
+    updated_only-answered settings first events c.args.event.now c.take_packet.result (λ from bytes same. absurd cc) (returns-in-Packet-clause-outcome c settings first events at)
 
 pub returns-in-Packet-clause-torn_only : goal.returns-in-Packet-clause-torn_only
 returns-in-Packet-clause-torn_only c settings first events at =
-    rw c.in-Packet.is (torn_only-answered settings first events (Packet c.in-Packet.bytes) c.forward.result
-    (packet_outcome-after c.args.self.now settings first events c.in-Packet.bytes c.forward.result at c.forward.ensures.outcome))
+    torn_only-answered settings first events c.args.event.now c.take_packet.result (returns-in-Packet-clause-outcome c settings first events at)
 
 pub returns-in-Rotate-clause-next : goal.returns-in-Rotate-clause-next
 returns-in-Rotate-clause-next c settings first events at =

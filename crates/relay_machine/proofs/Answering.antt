@@ -1,0 +1,106 @@
+-- That a step is an answer of the table.
+use Rattle.std.proofs.Common.{◌≡◌, ◌++◌, ◌∷◌, ℕ, max, Bool, true, false, List, [], Option, Some, None, Result, Ok, refl, sym, ap, subst, ◌∙◌, arith}
+use Rattle.amt_values.specs.Tunnel.{Tunnel}
+use Rattle.source_filter.specs.declared.record.Record.{Record}
+use Rattle.endpoint_membership.specs.Log.{latest}
+use Rattle.endpoint_membership.specs.Rows.{is_live, standing_rows}
+use Rattle.endpoint_membership.specs.Table.{Holds, TableValue, Terms, limit_passed, standing_now}
+use Rattle.endpoint_membership.specs.declared.change.Change.{Change}
+use Rattle.endpoint_membership.specs.declared.change.Change.TheVariants.{Clear, Reported}
+use Rattle.endpoint_membership.specs.declared.limits.LimitFault.{LimitFault}
+use Rattle.relay_machine.specs.declared.outcome.Outcome.TheVariants.{NoTunnel, Over, TornDown, Updated}
+use Rattle.relay_machine.specs.declared.outcome.Unlawful.{Unlawful}
+use Rattle.relay_machine.specs.declared.sends.Step.{Step}
+use Rattle.relay_machine.specs.Accepted.{handed_out, with_change}
+use Rattle.relay_machine.specs.EventAnswer.{EventAnswer, entered, limited_answer, quiet, teardown_answer, update_answer}
+use Rattle.relay_machine.specs.Logs.{IsAnswered}
+use Rattle.relay_machine.specs.Updates.{forwardable_records}
+
+-- where nothing is entered, nothing is handed out and the table stays
+pub answered-unchanged : (terms : Terms) (before after : TableValue) (log : List Change) (answer : EventAnswer) (step : Step) → Holds terms before log → after ≡ before → answer.entry ≡ None
+    → step.outcome ≡ answer.outcome → step.sends ≡ answer.sends → step.change ≡ None → IsAnswered terms before after log answer step
+answered-unchanged terms before after log answer step holds same none outcome sends unchanged =
+    let held = subst (λ (table : TableValue). Holds terms table log) (sym same) holds in
+    let with : Option Change → Type 0 = λ change. Holds terms after (with_change log change) in record {
+      outcome = outcome;
+      sends = sends;
+      change = unchanged ∙ sym (ap (handed_out terms log) none);
+      stands = subst with (sym none) held;
+      published = subst with (sym unchanged) held;
+      same = λ _. same;
+    }
+
+-- where an entry is made and handed out
+pub answered-entered : (terms : Terms) (before after : TableValue) (log : List Change) (answer : EventAnswer) (entry : Change) (step : Step) → answer.entry ≡ Some entry
+    → handed_out terms log (Some entry) ≡ Some entry → Holds terms after (log ++ entry ∷ []) → step.outcome ≡ answer.outcome → step.sends ≡ answer.sends
+    → step.change ≡ Some entry → IsAnswered terms before after log answer step
+answered-entered terms before after log answer entry step made whole holds outcome sends changed =
+    let with : Option Change → Type 0 = λ change. Holds terms after (with_change log change) in record {
+      outcome = outcome;
+      sends = sends;
+      change = changed ∙ sym (ap (handed_out terms log) made ∙ whole);
+      stands = subst with (sym made) holds;
+      published = subst with (sym changed) holds;
+      same = λ none. absurd (let both : Some entry ≡ None = sym changed ∙ none in cc);
+    }
+
+-- an Update whose report passes no limit
+pub answered-accepted : (terms : Terms) (before after : TableValue) (log : List Change) (source : Tunnel) (records : List Record) (at : ℕ) (step : Step) → at ≡ latest log
+    → limit_passed terms log source records at ≡ None → Holds terms after (log ++ Reported source records at ∷ []) → step.outcome ≡ Updated → step.sends ≡ []
+    → step.change ≡ Some (Reported source records at)
+    → IsAnswered terms before after log (limited_answer (limit_passed terms log source records (latest log)) (Reported source records (latest log))) step
+answered-accepted terms before after log source records at step now passed holds outcome sends changed =
+    subst (λ (m : ℕ). IsAnswered terms before after log (limited_answer (limit_passed terms log source records m) (Reported source records m)) step) now
+    (subst (λ (fault : Option LimitFault). IsAnswered terms before after log (limited_answer fault (Reported source records at)) step) (sym passed)
+    (answered-entered terms before after log (entered Updated (Reported source records at)) (Reported source records at) step refl refl holds outcome sends changed))
+
+-- one whose report passes a limit
+pub answered-over : (terms : Terms) (before after : TableValue) (log : List Change) (source : Tunnel) (records : List Record) (at : ℕ) (fault : LimitFault) (step : Step) → at ≡ latest log
+    → limit_passed terms log source records at ≡ Some fault → Holds terms before log → after ≡ before → step.outcome ≡ Over fault → step.sends ≡ [] → step.change ≡ None
+    → IsAnswered terms before after log (limited_answer (limit_passed terms log source records (latest log)) (Reported source records (latest log))) step
+answered-over terms before after log source records at fault step now passed holds same outcome sends unchanged =
+    subst (λ (m : ℕ). IsAnswered terms before after log (limited_answer (limit_passed terms log source records m) (Reported source records m)) step) now
+    (subst (λ (known : Option LimitFault). IsAnswered terms before after log (limited_answer known (Reported source records at)) step) (sym passed)
+    (answered-unchanged terms before after log (quiet (Over fault)) step holds same refl outcome sends unchanged))
+
+-- where records were read, the limits are left to judge
+pub answered-read : (terms : Terms) (before after : TableValue) (log : List Change) (reading : Result (List Record) Unlawful) (records kept : List Record)
+    (passed : List Record → Option LimitFault) (source : Tunnel) (moment : ℕ) (step : Step) → reading ≡ Ok records → kept ≡ forwardable_records records
+    → IsAnswered terms before after log (limited_answer (passed kept) (Reported source kept moment)) step
+    → IsAnswered terms before after log (update_answer true reading passed source moment) step
+answered-read terms before after log reading records kept passed source moment step read skipped answered =
+    subst (λ (known : Result (List Record) Unlawful). IsAnswered terms before after log (update_answer true known passed source moment) step) (sym read)
+    (subst (λ (all : List Record). IsAnswered terms before after log (limited_answer (passed all) (Reported source all moment)) step) skipped answered)
+
+-- whether an endpoint is live at the log's own moment
+pub live_now : (terms : Terms) (log : List Change) (endpoint : Tunnel) (at : ℕ) (live : Bool) → at ≡ latest log
+    → live ≡ is_live endpoint (standing_rows terms.lifetime (max at (latest log)) log) → is_live endpoint (standing_now terms log) ≡ live
+live_now terms log endpoint at live now found =
+    sym (found ∙ ap (λ (moment : ℕ). is_live endpoint (standing_rows terms.lifetime moment log)) (omega (arith, now)))
+
+-- a Teardown of an endpoint with some group
+pub answered-torn : (terms : Terms) (before after : TableValue) (log : List Change) (named : Tunnel) (at : ℕ) (live : Bool) (step : Step) → at ≡ latest log → live ≡ true
+    → live ≡ is_live named (standing_rows terms.lifetime (max at (latest log)) log) → Holds terms after (log ++ Clear named at ∷ []) → step.outcome ≡ TornDown → step.sends ≡ []
+    → step.change ≡ Some (Clear named at) → IsAnswered terms before after log (teardown_answer true (is_live named (standing_now terms log)) named (latest log)) step
+answered-torn terms before after log named at live step now is_so found holds outcome sends changed =
+    let is : is_live named (standing_now terms log) ≡ true = live_now terms log named at live now found ∙ is_so in
+    subst (λ (m : ℕ). IsAnswered terms before after log (teardown_answer true (is_live named (standing_now terms log)) named m) step) now
+    (subst (λ (test : Bool). IsAnswered terms before after log (teardown_answer true test named at) step) (sym is)
+    (answered-entered terms before after log (entered TornDown (Clear named at)) (Clear named at) step refl (rw is refl) holds outcome sends changed))
+
+-- one of an endpoint with none: the clearing is entered, and changes nothing
+pub answered-no_tunnel : (terms : Terms) (before after : TableValue) (log : List Change) (named : Tunnel) (at : ℕ) (live : Bool) (step : Step) → at ≡ latest log → live ≡ false
+    → live ≡ is_live named (standing_rows terms.lifetime (max at (latest log)) log) → Holds terms after (log ++ Clear named at ∷ []) → Holds terms before log → after ≡ before
+    → step.outcome ≡ NoTunnel → step.sends ≡ [] → step.change ≡ None
+    → IsAnswered terms before after log (teardown_answer true (is_live named (standing_now terms log)) named (latest log)) step
+answered-no_tunnel terms before after log named at live step now is_so found holds held same outcome sends unchanged =
+    let is : is_live named (standing_now terms log) ≡ false = live_now terms log named at live now found ∙ is_so in
+    subst (λ (m : ℕ). IsAnswered terms before after log (teardown_answer true (is_live named (standing_now terms log)) named m) step) now
+    (subst (λ (test : Bool). IsAnswered terms before after log (teardown_answer true test named at) step) (sym is) (record {
+      outcome = outcome;
+      sends = sends;
+      change = rw is unchanged;
+      stands = holds;
+      published = subst (λ (change : Option Change). Holds terms after (with_change log change)) (sym unchanged) (subst (λ (table : TableValue). Holds terms table log) (sym same) held);
+      same = λ _. same;
+    }))

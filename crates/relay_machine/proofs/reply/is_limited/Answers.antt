@@ -1,8 +1,0 @@
-use Rattle.std.proofs.Common.{ℕ, nat_le, ap}
-use Rattle.relay_machine.specs.Settings.{terms_of}
-use Rattle.relay_machine.proofs.reply.is_limited.Goals as goal
-
-pub returns : goal.returns
-returns c log holds =
-    let settings = c.args.querier.now.settings in
-    ap (λ (live : ℕ). nat_le settings.limits.endpoints live) (c.live_endpoints.ensures (terms_of settings) log holds)

@@ -1,0 +1,28 @@
+//! What a Discovery is answered. It knows neither table nor secret.
+ghost use Rattle.std.specs.Prelude.{◌≡◌, [], ◌∷◌, IfOk, None};
+ghost use Rattle.endpoint_membership.specs.Table.{TableValue, Terms};
+ghost use Rattle.relay_machine.specs.EventAnswer.{replied};
+ghost use Rattle.relay_machine.specs.Logs.{Answers};
+
+use crate::outcome::Outcome;
+use crate::sends::Step;
+use crate::setup::Setup;
+use amt_messages::Message;
+use amt_values::Endpoint;
+use std::alloc::{AllocError, Global};
+
+// A Discovery is answered with its nonce and the relay's address.
+pub fn take_discovery(
+    alloc: Global,
+    setup: &Setup,
+    source: Endpoint,
+    nonce: u32,
+) -> Result<Step, AllocError>
+    ensures { (terms : Terms) (table : TableValue) → Answers terms table table result
+        (λ log. replied Outcome.Advertised source
+        (Message.Advertisement nonce setup.now.settings.relay)) }
+{
+    let relay = setup.settings.relay;
+    let advertisement = Message::Advertisement { nonce, relay };
+    Step::replied(alloc, Outcome::Advertised, source, &advertisement)
+}

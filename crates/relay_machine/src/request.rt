@@ -1,0 +1,44 @@
+//! What a Request is answered. Nothing of it is kept.
+ghost use Rattle.std.specs.Prelude.{◌≡◌, IfOk};
+ghost use Rattle.endpoint_membership.specs.Table.{IsWithinLimits};
+ghost use Rattle.relay_machine.specs.EventAnswer.{is_limited, replied};
+ghost use Rattle.relay_machine.specs.Logs.{Answers, ByEachLog};
+ghost use Rattle.relay_machine.specs.Queries.{query_for};
+ghost use Rattle.relay_machine.specs.Settings.{terms_of};
+
+use crate::outcome::Outcome;
+use crate::sends::Step;
+use crate::setup::Setup;
+use amt_values::Endpoint;
+use endpoint_membership::Table;
+use response_mac::Secrets;
+use std::alloc::{AllocError, Global};
+
+fn is_limited(setup: &Setup, table: &Table) -> bool
+    requires { IsWithinLimits table.now }
+    ensures { ByEachLog (terms_of setup.now.settings) table.now
+        (λ log. result ≡ is_limited (terms_of setup.now.settings) log) }
+{
+    table.live_endpoints() >= setup.settings.limits.endpoints
+}
+
+// A Request is answered with a Query of the family that it asks for, under the current secret.
+pub fn take_request(
+    alloc: Global,
+    setup: &Setup,
+    secrets: &Secrets,
+    table: &Table,
+    source: Endpoint,
+    v6: bool,
+    nonce: u32,
+) -> Result<Step, AllocError>
+    requires { IsWithinLimits table.now }
+    ensures { Answers (terms_of setup.now.settings) table.now table.now result
+        (λ log. replied (Outcome.Queried v6 (is_limited (terms_of setup.now.settings) log)) source
+        (query_for setup.now.settings secrets.now.current v6
+        (is_limited (terms_of setup.now.settings) log) source nonce)) }
+{
+    let limited = is_limited(setup, table);
+    let query = setup.query_for(alloc, &secrets.current, v6, limited, source, nonce)?;
+    Step::replied(alloc, Outcome::Queried { v6, limited }, source, &query)
+}
