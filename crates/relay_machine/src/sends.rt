@@ -1,14 +1,14 @@
 //! What one event came to: its outcome, the datagrams to send, and the entry that is handed out.
-ghost use Rattle.std.specs.Prelude.{◌≡◌, [], ◌∷◌, ◌++◌, length, IfOk, None, OnErr, OnOk, Some};
+ghost use Rattle.std.specs.Prelude.{◌≡◌, [], ◌∷◌, IfOk, None, Some};
 ghost use Rattle.amt_messages.specs.Conditions.{IsSendable};
 ghost use Rattle.amt_messages.specs.Layout.{spelling_of};
 
 use crate::outcome::Outcome;
 use amt_messages::{Message, encode};
 use amt_values::{Bytes, Endpoint};
+use contract_words::Items;
 use endpoint_membership::Change;
 use std::alloc::{AllocError, Global};
-use std::marker::Model;
 
 /// A datagram to send.
 #[derive(Debug, Drop)]
@@ -18,49 +18,7 @@ pub struct OneSend {
 }
 
 /// Datagrams to send, in order.
-#[derive(Debug, Drop)]
-pub struct Sends {
-    sends: Vec<OneSend>,
-}
-
-impl Model for Sends {
-    ghost use Rattle.std.specs.Prelude.{List};
-    ghost use Rattle.relay_machine.specs.declared.sends.OneSend.{OneSend};
-
-    ghost Value = { List OneSend };
-
-    ghost view = { λ s. s.sends.items };
-}
-
-impl Sends {
-    pub fn new(alloc: Global) -> Self
-        ensures { result ≡ [] }
-    {
-        Sends {
-            sends: Vec::new(alloc),
-        }
-    }
-
-    pub fn as_slice(&self) -> &[OneSend]
-        ensures { result.now ≡ self.now }
-    {
-        self.sends.as_slice()
-    }
-
-    pub fn len(&self) -> usize
-        ensures { result ≡ length self.now }
-    {
-        self.sends.len()
-    }
-
-    pub fn push(&mut self, send: OneSend) -> Result<(), AllocError>
-        ensures ok { OnOk result (self.new ≡ self.old ++ send ∷ []) }
-        ensures err { OnErr result (self.new ≡ self.old) }
-    {
-        self.sends.push(send)?;
-        Ok(())
-    }
-}
+pub type Sends = Items<OneSend>;
 
 /// What one event came to, what is to be sent, and the entry of the accepted log that is handed out:
 /// the one that the event added, but for a clearing of an endpoint at which no group stood.
