@@ -5,8 +5,8 @@ use Rattle.amt_values.specs.declared.address.Ip.TheVariants.{V4}
 use Rattle.amt_values.specs.Order.{ip_order}
 use Rattle.contract_words.specs.Ascending.{difference}
 use Rattle.source_filter.proofs.Compared.{compared}
-use Rattle.endpoint_membership.proofs.Listing.{IsReduced, IsReduced-more, reduced}
-use Rattle.endpoint_membership.proofs.wish.remove_all.Goals as goal
+use Rattle.source_filter.proofs.SourceSets.{IsReduced, IsReduced-more, reduced}
+use Rattle.source_filter.proofs.mutable.remove_all.Goals as goal
 
 pub loop-source-preserved : goal.loop-source-preserved
 loop-source-preserved c =

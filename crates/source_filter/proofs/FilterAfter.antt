@@ -3,7 +3,7 @@ use Rattle.std.proofs.Common.{◌≡◌, Bool, true, false, not, ◌&&◌, ◌||
 use Rattle.amt_values.specs.declared.address.Ip.{Ip}
 use Rattle.amt_values.specs.Order.{ip_order}
 use Rattle.amt_values.proofs.Orders.{ip_order-total, ip_order-exact}
-use Rattle.source_filter.specs.Filter.{FilterValue, admits, admits_by, applied, mode_after, ascending_sources, sources_after}
+use Rattle.source_filter.specs.Filter.{FilterValue, admits, admits_by, filter_after, mode_after, ascending_sources, sources_after}
 use Rattle.source_filter.specs.Record.{is_full, lists, says, says_by, speaks}
 use Rattle.contract_words.specs.Ascending.{IsAscending, has}
 use Rattle.source_filter.specs.declared.mode.Mode.{Mode}
@@ -20,8 +20,8 @@ IsAscending-sources_after Block Include old listed ascends = IsAscending-filter 
 IsAscending-sources_after Block Exclude old listed ascends = IsAscending-ascending ip_order-total (old ++ listed)
 IsAscending-sources_after full mode old listed ascends = IsAscending-ascending ip_order-total listed
 
-pub IsAscending-applied : (filter : FilterValue) (change : Record) → IsAscending ip_order filter.sources → IsAscending ip_order (applied filter change).sources
-IsAscending-applied filter change ascends = IsAscending-sources_after change.kind filter.mode filter.sources change.sources ascends
+pub IsAscending-filter_after : (filter : FilterValue) (change : Record) → IsAscending ip_order filter.sources → IsAscending ip_order (filter_after filter change).sources
+IsAscending-filter_after filter change ascends = IsAscending-sources_after change.kind filter.mode filter.sources change.sources ascends
 
 added : (was listed : Bool) → (was || listed) ≡ (if listed then true else was)
 added true true = refl
@@ -62,17 +62,17 @@ admitted Allow Exclude old listed source = ap not (has-difference ip_order-exact
 admitted Block Include old listed source = has-difference ip_order-exact old listed source ∙ removed (lists old source) (lists listed source)
 admitted Block Exclude old listed source = ap not (has-union ip_order-total old listed source) ∙ excluded (lists old source) (lists listed source)
 
-pub admits-applied : (filter : FilterValue) (change : Record) (source : Ip) → admits (applied filter change) source ≡ (if speaks change source then says change source else admits filter source)
-admits-applied filter change source = admitted change.kind filter.mode filter.sources change.sources source
+pub admits-filter_after : (filter : FilterValue) (change : Record) (source : Ip) → admits (filter_after filter change) source ≡ (if speaks change source then says change source else admits filter source)
+admits-filter_after filter change source = admitted change.kind filter.mode filter.sources change.sources source
 
-pub said : (filter : FilterValue) (change : Record) (after : FilterValue) → after ≡ applied filter change → (source : Ip) → speaks change source ≡ true
+pub admits-named : (filter : FilterValue) (change : Record) (after : FilterValue) → after ≡ filter_after filter change → (source : Ip) → speaks change source ≡ true
     → admits after source ≡ says change source
-said filter change after is source told =
-    ap (λ (f : FilterValue). admits f source) is ∙ admits-applied filter change source
+admits-named filter change after is source told =
+    ap (λ (f : FilterValue). admits f source) is ∙ admits-filter_after filter change source
     ∙ ap (λ t. if t then says change source else admits filter source) told
 
-pub unsaid : (filter : FilterValue) (change : Record) (after : FilterValue) → after ≡ applied filter change → (source : Ip) → speaks change source ≡ false
+pub admits-others : (filter : FilterValue) (change : Record) (after : FilterValue) → after ≡ filter_after filter change → (source : Ip) → speaks change source ≡ false
     → admits after source ≡ admits filter source
-unsaid filter change after is source untold =
-    ap (λ (f : FilterValue). admits f source) is ∙ admits-applied filter change source
+admits-others filter change after is source untold =
+    ap (λ (f : FilterValue). admits f source) is ∙ admits-filter_after filter change source
     ∙ ap (λ t. if t then says change source else admits filter source) untold

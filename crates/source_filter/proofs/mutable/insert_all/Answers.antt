@@ -5,8 +5,8 @@ use Rattle.amt_values.specs.declared.address.Ip.TheVariants.{V4}
 use Rattle.amt_values.specs.Order.{ip_order}
 use Rattle.contract_words.specs.Ascending.{union}
 use Rattle.source_filter.proofs.Compared.{compared}
-use Rattle.endpoint_membership.proofs.Listing.{IsUnited, IsUnited-more, united}
-use Rattle.endpoint_membership.proofs.wish.insert_all.Goals as goal
+use Rattle.source_filter.proofs.SourceSets.{IsUnited, IsUnited-more, united}
+use Rattle.source_filter.proofs.mutable.insert_all.Goals as goal
 
 pub loop-source-preserved : goal.loop-source-preserved
 loop-source-preserved c =
