@@ -1,4 +1,4 @@
--- What entries do to rows that stand for a log.
+-- What entries do to memberships that stand for a log.
 use Rattle.std.proofs.Common.{◌≡◌, ℕ, ◌≤◌, Bool, true, false, cond, not, ◌&&◌, List, [], ◌∷◌, ◌++◌, filter, Option, Some, None, refl, sym, ap, ◌∙◌, arith, inl, inr}
 use Rattle.std.specs.List.{AllByRecursion}
 use Rattle.std.specs.List.Sorted.{IsStrictlySortedBy}
@@ -30,7 +30,7 @@ use Rattle.endpoint_membership.proofs.MembershipIn.{membership_in-append, member
 use Rattle.endpoint_membership.proofs.EndpointGroupOrder.{same_endpoint_group-is}
 use Rattle.endpoint_membership.proofs.MembershipAt.{membership_at-clear, membership_at-later, membership_at-other}
 
--- as time passes, the rows that are still fresh stand
+-- as time passes, the memberships that are still fresh last
 pub AreMembershipsAt-later : (lifetime moment later : ℕ) (past : List Change) (rows : List Membership) → moment ≤ later → AreMembershipsAt lifetime moment past rows
     → AreMembershipsAt lifetime later past (filter (is_fresh lifetime later) rows)
 AreMembershipsAt-later lifetime moment later past rows onward are = record {
@@ -40,7 +40,7 @@ AreMembershipsAt-later lifetime moment later past rows onward are = record {
       ∙ sym (membership_at-later lifetime moment later past endpoint_group onward);
 }
 
--- an entry that makes no record anywhere changes no row
+-- an entry that makes no record anywhere changes no membership
 pub AreMembershipsAt-other : (lifetime moment : ℕ) (entry : Change) (past : List Change) (rows : List Membership) → ((endpoint_group : EndpointGroup) → records_at endpoint_group entry ≡ [])
     → AreMembershipsAt lifetime moment past rows → AreMembershipsAt lifetime moment (entry ∷ past) rows
 AreMembershipsAt-other lifetime moment entry past rows none are =
@@ -64,7 +64,7 @@ cleared_by : (here : Bool) (before after : Option Membership) → (here ≡ true
 cleared_by true before after none same = sym (none refl)
 cleared_by false before after none same = sym (same refl)
 
--- a clearing takes away the endpoint's rows
+-- a clearing takes away the endpoint's memberships
 pub AreMembershipsAt-clear : (lifetime at : ℕ) (endpoint : Tunnel) (past : List Change) (rows : List Membership)
     → AreMembershipsAt lifetime (latest (Clear endpoint at ∷ past)) past rows
     → AreMembershipsAt lifetime (latest (Clear endpoint at ∷ past)) (Clear endpoint at ∷ past) (filter (is_of_another endpoint) rows)
@@ -79,7 +79,7 @@ AreMembershipsAt-clear lifetime at endpoint past rows are =
           (λ apart. membership_at-other lifetime moment (Clear endpoint at) past endpoint_group (rw apart refl));
     }
 
--- all rows are of endpoints before this one, of this one, or of later ones
+-- all memberships are of endpoints before this one, of this one, or of later ones
 abbrev pub AreBefore : Tunnel → List Membership → Type 0
 AreBefore endpoint rows = AllByRecursion (λ membership. tunnel_order membership.endpoint endpoint ≡ Less) rows
 
@@ -92,7 +92,7 @@ same_back one other = (eq_by_cmp_equiv tunnel_order-total).symm one other
 pub same_endpoint-exact : (one other : Tunnel) → same_endpoint one other ≡ true → one ≡ other
 same_endpoint-exact one other same = tells_apart tunnel_order-exact one other same
 
--- a place of the endpoint has no row among rows of earlier or later endpoints
+-- a pair of the endpoint has no membership among memberships of earlier or later endpoints
 apart_by : (one other : Tunnel) (group : Ip) (membership : Membership) → one ≡ other → same_endpoint other membership.endpoint ≡ false → same_endpoint_group (record { endpoint = one; group = group }) (endpoint_group_of membership) ≡ false
 apart_by one other group membership same apart = same_endpoint_group-is (record { endpoint = one; group = group }) (endpoint_group_of membership)
     ∙ ap (λ (test : Bool). test && same_group group membership.group) (ap (λ (endpoint : Tunnel). same_endpoint endpoint membership.endpoint) same ∙ apart)
@@ -109,7 +109,7 @@ membership_in-following endpoint (membership ∷ rest) endpoint_group following 
     let apart = apart_by endpoint_group.endpoint endpoint endpoint_group.group membership same (ap is_eq following.0) in
     rw apart (membership_in-following endpoint rest endpoint_group following.1 same)
 
--- a place of another endpoint has no row among the endpoint's
+-- a pair of another endpoint has no membership among the endpoint's
 pub membership_in-of : (endpoint : Tunnel) (rows : List Membership) (endpoint_group : EndpointGroup) → AreOf endpoint rows → same_endpoint endpoint_group.endpoint endpoint ≡ false → membership_in rows endpoint_group ≡ None
 membership_in-of endpoint [] endpoint_group of apart = refl
 membership_in-of endpoint (membership ∷ rest) endpoint_group of apart =
@@ -134,7 +134,7 @@ pub IsAscending-back : (xs ys : List Membership) → IsAscending membership_orde
 IsAscending-back [] ys ascends = ascends
 IsAscending-back (x ∷ xs) ys ascends = IsAscending-back xs ys (sorted_tail membership_order x (xs ++ ys) ascends)
 
--- rows of an endpoint stand after rows of earlier endpoints
+-- memberships of an endpoint stand after memberships of earlier endpoints
 before_of : (endpoint : Tunnel) (membership : Membership) (ys : List Membership) → tunnel_order membership.endpoint endpoint ≡ Less → AreOf endpoint ys → AllByRecursion (λ later. membership_order membership later ≡ Less) ys
 before_of endpoint membership [] before of = tt
 before_of endpoint membership (later ∷ ys) before of =
@@ -160,7 +160,7 @@ IsAscending-of_following endpoint [] following first second of later = second
 IsAscending-of_following endpoint (membership ∷ own) following first second of later =
     (both_all (λ other. membership_order membership other ≡ Less) own following first.0 (of_following endpoint membership following of.0 later), IsAscending-of_following endpoint own following first.1 second of.1 later)
 
--- rows before an endpoint's, rows of the endpoint and rows after it ascend together
+-- memberships before an endpoint's, memberships of the endpoint and memberships after it ascend together
 pub IsAscending-three : (endpoint : Tunnel) (before own following : List Membership) → IsAscending membership_order before → IsAscending membership_order own → IsAscending membership_order following
     → AreBefore endpoint before → AreOf endpoint own → AreFollowing endpoint following → IsAscending membership_order (before ++ (own ++ following))
 unfolding IsStrictlySortedBy
@@ -171,7 +171,7 @@ IsAscending-three endpoint (membership ∷ before) own following first second th
   IsAscending-three endpoint before own following first.1 second third earlier.1 of later,
 )
 
--- rows in three parts: of earlier endpoints, of this one, and of later ones
+-- memberships in three parts: of earlier endpoints, of this one, and of later ones
 pub record IsParted (endpoint : Tunnel) (rows before own following : List Membership) : Type 0 where
   pub whole : rows ≡ before ++ (own ++ following)
   pub earlier : AreBefore endpoint before
@@ -201,7 +201,7 @@ membership_in-others endpoint before own other following endpoint_group of other
     ∙ sym (membership_in-append other following endpoint_group))
     ∙ sym (membership_in-append before (other ++ following) endpoint_group)
 
--- a report replaces the endpoint's rows by what stands there then
+-- a report replaces the endpoint's memberships by those by the log with it
 pub AreMembershipsAt-report : (lifetime moment at : ℕ) (endpoint : Tunnel) (records : List Record) (past : List Change) (rows before own following replaced : List Membership)
     → moment ≤ latest (Reported endpoint records at ∷ past) → AreMembershipsAt lifetime moment past rows
     → IsParted endpoint rows before own following → IsAscending membership_order replaced → AreOf endpoint replaced

@@ -1,4 +1,4 @@
--- The rows of an endpoint after its report are what stands there by the log with the report.
+-- The memberships of an endpoint after its report are those by the log with the report.
 use Rattle.std.proofs.Common.{◌≡◌, ℕ, ◌≤◌, ◌<◌, true, if◌then◌else◌, List, [], ◌∷◌, ◌++◌, filter, Option, Some, None, refl, sym, ap, subst, ◌∙◌}
 use Rattle.std.specs.Ordering.{is_eq}
 use Rattle.std.proofs.lemmas.Cmp.{tied_itself}
@@ -30,7 +30,7 @@ endpoint_group endpoint group = record { endpoint = endpoint; group = group }
 abbrev made : Mode → List Ip → FilterValue
 made mode sources = record { mode = mode; sources = sources }
 
--- a row that was made by a wish is made by it again
+-- a membership that was made by a filter is made by it again
 renewed_again : (endpoint : Tunnel) (group : Ip) (mode : Mode) (sources : List Ip) (renewed : ℕ)
     → membership_of_renewed endpoint group (renewed_filter_of (membership_of (endpoint_group endpoint group) (made mode sources) renewed)) ≡ membership_of (endpoint_group endpoint group) (made mode sources) renewed
 renewed_again endpoint group Exclude sources renewed = refl
@@ -56,7 +56,7 @@ row_by endpoint group moment (first ∷ later) filter renewed found is =
     ap (membership_of_renewed endpoint group) (renewed_filter_after_all-is moment first later (renewed_filter_of found))
     ∙ ap (λ (before : FilterValue). membership_of (endpoint_group endpoint group) (filter_after_all before (first ∷ later)) moment) (filter_or_nothing-in found)
 
--- what the endpoint's wishes make of its rows is what stands by the log with the report
+-- the endpoint's filters make the memberships by the log with the report
 pub own_membership : (lifetime moment at : ℕ) (endpoint : Tunnel) (records : List Record) (past : List Change) (rows : List Membership) (group : Ip) → 0 < lifetime
     → moment ≤ latest (Reported endpoint records at ∷ past) → AreMembershipsAt lifetime moment past rows
     → membership_of_renewed endpoint group (renewed_filter_after_all (latest (Reported endpoint records at ∷ past)) (on_group group records)
@@ -71,7 +71,7 @@ own_membership lifetime moment at endpoint records past rows group some onward a
     ∙ row_by endpoint group now (on_group group records) _ _ before refl
     ∙ sym (membership_at-report lifetime at endpoint records past here some (ap is_eq (tied_itself tunnel_order-total endpoint)))
 
--- the rows of the endpoint are what stands at its places
+-- the memberships of the endpoint are those of its pairs
 pub own_at : (lifetime moment at : ℕ) (endpoint : Tunnel) (records : List Record) (past : List Change) (rows own : List Membership) → 0 < lifetime
     → moment ≤ latest (Reported endpoint records at ∷ past) → AreMembershipsAt lifetime moment past rows → AreOwn lifetime (latest (Reported endpoint records at ∷ past)) endpoint records rows own
     → (here : EndpointGroup) → same_endpoint here.endpoint endpoint ≡ true
@@ -81,7 +81,7 @@ own_at lifetime moment at endpoint records past rows own some onward are owned h
     ap (membership_in own) exact ∙ owned.each here.group ∙ own_membership lifetime moment at endpoint records past rows here.group some onward are
     ∙ ap (membership_at lifetime (latest (Reported endpoint records at ∷ past)) (Reported endpoint records at ∷ past)) (sym exact)
 
--- the rows with those of the endpoint replaced stand for the log with the report
+-- the memberships with those of the endpoint replaced stand for the log with the report
 pub AreMembershipsAt-reported : (lifetime moment at : ℕ) (endpoint : Tunnel) (records : List Record) (past : List Change) (rows own : List Membership) → 0 < lifetime
     → moment ≤ latest (Reported endpoint records at ∷ past) → AreMembershipsAt lifetime moment past rows → AreOwn lifetime (latest (Reported endpoint records at ∷ past)) endpoint records rows own
     → AreMembershipsAt lifetime (latest (Reported endpoint records at ∷ past)) (Reported endpoint records at ∷ past)

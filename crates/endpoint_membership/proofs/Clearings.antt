@@ -1,4 +1,4 @@
--- A clearing of an endpoint at which nothing stands changes nothing, then or later.
+-- A clearing of an endpoint with no membership changes nothing, then or later.
 use Rattle.std.proofs.Common.{◌≡◌, ℕ, ◌≤◌, ◌<◌, max, Bool, false, not, ◌&&◌, ◌||◌, List, [], ◌∷◌, ◌++◌, reverse, map, filter, Option, None, refl, sym, ap, subst, ◌∙◌, arith, inl, inr}
 use Rattle.std.proofs.lemmas.Bool.{cases_Bool}
 use Rattle.std.proofs.lemmas.List.{append_assoc, reverse-append, reverse-reverse}
@@ -24,7 +24,7 @@ use Rattle.endpoint_membership.proofs.MembershipAt.{filter_in, membership_at-cle
 use Rattle.endpoint_membership.proofs.AfterEntries.{same_back, same_endpoint-exact}
 use Rattle.endpoint_membership.proofs.WithinLimits.{IsWithin-filter}
 
--- by two logs the same stands at the place from now on
+-- by two logs the pair has the same membership from now on
 abbrev AreAlike : ℕ → EndpointGroup → List Change → List Change → Type 0
 AreAlike lifetime endpoint_group one other =
     (latest one ≡ latest other) × ((moment : ℕ) → latest one ≤ moment → membership_at lifetime moment one endpoint_group ≡ membership_at lifetime moment other endpoint_group)
@@ -91,7 +91,7 @@ reverse-around log later entry =
     ∙ ap (λ (newer : List Change). newer ++ reverse log) (reverse-append (entry ∷ []) later)
     ∙ append_assoc (reverse later) (entry ∷ []) (reverse log)
 
--- where nothing stands at an endpoint, its clearing changes nothing that stands
+-- where an endpoint has no membership, its clearing changes none
 pub membership_at-unless_cleared : (lifetime : ℕ) (log later : List Change) (endpoint : Tunnel) (at moment : ℕ) (endpoint_group : EndpointGroup) → 0 < lifetime
     → HasNoMembership lifetime (max at (latest log)) log endpoint → latest (log ++ Clear endpoint at ∷ later) ≤ moment
     → membership_at lifetime moment (reverse (log ++ Clear endpoint at ∷ later)) endpoint_group ≡ membership_at lifetime moment (reverse (log ++ Mark at ∷ later)) endpoint_group
@@ -104,7 +104,7 @@ membership_at-unless_cleared lifetime log later endpoint at moment endpoint_grou
     ∙ alike.1 moment (omega (arith, latest_one, onward))
     ∙ sym (ap (λ (past : List Change). membership_at lifetime moment past endpoint_group) (reverse-around log later (Mark at)))
 
--- an endpoint that isn't live has no row
+-- an endpoint that isn't live has no membership
 unseen : (endpoint : Tunnel) (group : Ip) (rows : List Membership) → is_live endpoint rows ≡ false → membership_in rows (at_group endpoint group) ≡ None
 unseen endpoint group [] none = refl
 unseen endpoint group (membership ∷ rest) none = elim (cases_Bool (same_endpoint membership.endpoint endpoint)) [
@@ -114,7 +114,7 @@ unseen endpoint group (membership ∷ rest) none = elim (cases_Bool (same_endpoi
       rw elsewhere (unseen endpoint group rest (ap (λ (test : Bool). test || is_live endpoint rest) (sym apart) ∙ none))
 ]
 
--- where an endpoint isn't live, its clearing changes no row
+-- where an endpoint isn't live, its clearing changes no membership
 pub rows-unless_cleared : (lifetime : ℕ) (log later : List Change) (endpoint : Tunnel) (at moment : ℕ) → 0 < lifetime
     → is_live endpoint (memberships_at lifetime (max at (latest log)) log) ≡ false
     → latest (log ++ Clear endpoint at ∷ later) ≤ moment
@@ -128,7 +128,7 @@ rows-unless_cleared lifetime log later endpoint at moment some none onward =
           (λ group. sym (before.each (at_group endpoint group)) ∙ unseen endpoint group (memberships_at lifetime (max at (latest log)) log) none) onward;
     }))
 
--- rows of other endpoints are all left
+-- memberships of other endpoints are all left
 others_left : (endpoint : Tunnel) (rows : List Membership) → is_live endpoint rows ≡ false → filter (is_of_another endpoint) rows ≡ rows
 others_left endpoint [] none = refl
 others_left endpoint (membership ∷ rest) none = elim (cases_Bool (same_endpoint membership.endpoint endpoint)) [
@@ -136,14 +136,14 @@ others_left endpoint (membership ∷ rest) none = elim (cases_Bool (same_endpoin
   | inr apart ↦ rw apart (ap (λ (rows : List Membership). membership ∷ rows) (others_left endpoint rest (ap (λ (test : Bool). test || is_live endpoint rest) (sym apart) ∙ none)))
 ]
 
--- where no time passes, a table from which no row is taken is as it was
+-- where no time passes, a table from which no membership is taken is as it was
 pub none_cleared : (settings : TableSettings) (table : TableValue) (log : List Change) (endpoint : Tunnel) (at moment : ℕ) (fresh rows : List Membership) → moment ≡ max table.moment at
     → fresh ≡ filter (is_fresh table.lifetime moment) table.rows → rows ≡ filter (is_of_another endpoint) fresh → Holds settings table log → at ≤ latest log
     → is_live endpoint fresh ≡ false → table_of moment table.limits table.lifetime rows ≡ table
 none_cleared settings table log endpoint at moment fresh rows is left gone holds before none =
     ap (table_of moment table.limits table.lifetime) (gone ∙ others_left endpoint fresh none) ∙ no_later settings table log at moment fresh is left holds before
 
--- what stands after a clearing is within all limits that it was within before
+-- memberships after a clearing are within all limits that they were within before
 pub IsWithin-cleared : (limits : Limits) (settings : TableSettings) (log : List Change) (endpoint : Tunnel) (at : ℕ) → IsWithin limits (memberships_now settings log)
     → IsWithin limits (memberships_now settings (log ++ Clear endpoint at ∷ []))
 IsWithin-cleared limits settings log endpoint at within =

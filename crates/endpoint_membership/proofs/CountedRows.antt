@@ -50,7 +50,7 @@ has_more : (passes : Bool) (membership : Membership) (some rest : List Membershi
 has_more true membership some rest endpoint more listed = either (same_endpoint endpoint membership.endpoint) _ _ more listed
 has_more false membership some rest endpoint more listed = or_right (same_endpoint endpoint membership.endpoint) _ (more listed)
 
--- the endpoints of filtered rows are endpoints of the rows
+-- the endpoints of filtered memberships are endpoints of the memberships
 has-endpoints-filter : (test : Membership → Bool) (rows : List Membership) (endpoint : Tunnel) → has tunnel_order (endpoints (filter test rows)) endpoint ≡ true
     → has tunnel_order (endpoints rows) endpoint ≡ true
 has-endpoints-filter test [] endpoint listed = listed

@@ -1,4 +1,4 @@
--- The order of places is total and tells all places apart.
+-- The order of pairs is total and tells all pairs apart.
 use Rattle.std.proofs.Common.{◌≡◌, ◌&&◌, refl, ap, ◌∙◌}
 use Rattle.std.specs.Cmp.{IsTotalOrder}
 use Rattle.std.specs.Ordering.{is_eq, ordering_then}

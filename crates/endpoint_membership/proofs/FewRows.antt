@@ -1,4 +1,4 @@
--- Rows within the limits are few: a product of the limits bounds them.
+-- Memberships within the limits are few: a product of the limits bounds them.
 use Rattle.std.proofs.Common.{◌≡◌, ℕ, ◌+◌, ◌*◌, ◌≤◌, Bool, true, false, cond, ◌||◌, List, [], ◌∷◌, length, map, sum_by, refl, ◌∙◌, arith}
 use Rattle.std.specs.List.{AllByRecursion}
 use Rattle.std.proofs.Math.Nat.{mul-le-mul, suc-mul}
@@ -19,12 +19,12 @@ use Rattle.endpoint_membership.specs.declared.limits.Limits.{Limits}
 one_if : Bool → ℕ
 one_if test = cond test 1 0
 
--- how many of the endpoints are the row's
+-- how many of the endpoints are the membership's
 hits : List Tunnel → Membership → ℕ
 hits [] membership = 0
 hits (endpoint ∷ rest) membership = one_if (same_endpoint membership.endpoint endpoint) + hits rest membership
 
--- the rows of the endpoints, counted one endpoint after the other
+-- the memberships of the endpoints, counted one endpoint after the other
 total : List Tunnel → List Membership → ℕ
 total [] rows = 0
 total (endpoint ∷ rest) rows = group_count endpoint rows + total rest rows
@@ -49,7 +49,7 @@ hits-some [] membership listed = cc
 hits-some (endpoint ∷ rest) membership listed =
     hits_by (same_endpoint membership.endpoint endpoint) (has tunnel_order rest membership.endpoint) (hits rest membership) (hits-some rest membership) listed
 
--- no row is left out where each row's endpoint is among them
+-- no membership is left out where each membership's endpoint is among them
 length-total : (endpoints : List Tunnel) (rows : List Membership) → AllByRecursion (λ membership. has tunnel_order endpoints membership.endpoint ≡ true) rows → length rows ≤ total endpoints rows
 length-total endpoints [] listed = omega arith
 length-total endpoints (membership ∷ rest) listed =
@@ -67,7 +67,7 @@ or_true : (here some : Bool) → some ≡ true → (here || some) ≡ true
 or_true true some is = refl
 or_true false some is = is
 
--- what lists the endpoints of some rows lists them with one endpoint more
+-- what lists the endpoints of some memberships lists them with one endpoint more
 All-more : (endpoint : Tunnel) (endpoints : List Tunnel) (rows : List Membership) → AllByRecursion (λ membership. has tunnel_order endpoints membership.endpoint ≡ true) rows
     → AllByRecursion (λ membership. has tunnel_order (endpoint ∷ endpoints) membership.endpoint ≡ true) rows
 All-more endpoint endpoints [] each = tt
@@ -91,7 +91,7 @@ rows-few limits rows within =
     let most : live_count rows * limits.groups ≤ limits.endpoints * limits.groups = mul-le-mul within.endpoints (omega arith) in
     omega arith
 
--- the sources of the rows as they are shown
+-- the sources of the memberships as they are shown
 abbrev sources_in : List Membership → ℕ
 sources_in rows = sum_by (λ row. length row.filter.sources) (map row_of rows)
 

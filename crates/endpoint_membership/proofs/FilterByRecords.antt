@@ -1,4 +1,4 @@
--- Applying records one by one leaves what they wish together.
+-- Applying records one by one leaves the filter that they make together.
 use Rattle.std.proofs.Common.{◌≡◌, Bool, true, false, not, ◌&&◌, ◌||◌, if◌then◌else◌, List, [], ◌∷◌, ◌++◌, reverse, filter, refl, sym, ap, ◌∙◌}
 use Rattle.std.proofs.lemmas.Grind.{reverse_onto}
 use Rattle.std.proofs.lemmas.List.{append_assoc}
@@ -115,7 +115,7 @@ sources-filter_by_records records =
 abbrev made : Mode → List Ip → FilterValue
 made mode sources = record { mode = mode; sources = sources }
 
--- the filter that records leave is what they wish
+-- the filter that records leave is the group's filter by the definitions
 pub filter_by_records-is : (records : List Record) → filter_by_records records ≡ filter_of records
 filter_by_records-is records =
     ap (λ (mode : Mode). made mode (filter_by_records records).sources) (mode-filter_by_records records)

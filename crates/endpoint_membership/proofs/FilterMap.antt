@@ -1,4 +1,4 @@
--- The groups of one endpoint, as a map of wishes and as rows.
+-- The groups of one endpoint, as a map of filters and as memberships.
 use Rattle.std.proofs.Common.{◌≡◌, ℕ, Bool, true, false, cond, ◌&&◌, List, [], ◌∷◌, ◌++◌, filter, Option, Some, None, refl, sym, ap, subst, ◌∙◌, append-nil}
 use Rattle.std.specs.BTreeMap.{BTreeMap, Updates, get, is_at}
 use Rattle.std.specs.List.{AllByRecursion, cons_option, filter_map}
@@ -54,7 +54,7 @@ only_false : (test : Bool) → false ≡ (test && false)
 only_false true = refl
 only_false false = refl
 
--- one more wish makes one more row, or none
+-- one more filter makes one more membership, or none
 pub one_more_membership : (endpoint : Tunnel) (done : List (Ip × RenewedFilter)) (group : Ip) (renewed_filter : RenewedFilter) (rows more : List Membership) → wants_any renewed_filter.filter ≡ true → rows ≡ filter_map (membership_of_entry endpoint) done
     → more ≡ rows ++ made endpoint group renewed_filter.filter renewed_filter.renewed ∷ [] → more ≡ filter_map (membership_of_entry endpoint) (done ++ (group, renewed_filter) ∷ [])
 one_more_membership endpoint done group renewed_filter rows more stands so_far pushed =
@@ -66,7 +66,7 @@ pub no_more_memberships : (endpoint : Tunnel) (done : List (Ip × RenewedFilter)
 no_more_memberships endpoint done group renewed_filter rows falls so_far =
     so_far ∙ sym (filter_map-append (membership_of_entry endpoint) done ((group, renewed_filter) ∷ []) ∙ rw falls (append-nil (filter_map (membership_of_entry endpoint) done)))
 
--- a map after its group's wish was replaced
+-- a map after its group's filter was replaced
 pub one_applied : (group : Ip) (group_record : Record) (moment : ℕ) (before after : Option RenewedFilter) (key : Bool) → key ≡ same_group group group_record.group
     → after ≡ cond key (renewed_filter_after moment group_record before) before → after ≡ renewed_filter_after_all moment (on_group group (group_record ∷ [])) before
 one_applied group group_record moment before after true here is = rw (sym here) is
@@ -88,7 +88,7 @@ last_of : (P : Membership → Type 0) (xs : List Membership) (last : Membership)
 last_of P [] last each = each.0
 last_of P (x ∷ xs) last each = last_of P xs last each.1
 
--- rows before a later one are not of its place
+-- memberships before a later one are not of its pair
 not_earlier : (xs : List Membership) (membership : Membership) (at : EndpointGroup) → IsAscending membership_order (xs ++ membership ∷ []) → at ≡ endpoint_group_of membership → membership_in xs at ≡ None
 not_earlier [] membership at ascends here = refl
 not_earlier (first ∷ xs) membership at ascends here =
@@ -108,7 +108,7 @@ reordered true true f = only_true f
 reordered true false f = only_false f
 reordered false g f = refl
 
--- what is wished with one row more
+-- what is wanted with one membership more
 pub one_more_filter : (lifetime moment : ℕ) (endpoint : Tunnel) (xs : List Membership) (membership : Membership) (group : Ip) → IsAscending membership_order (xs ++ membership ∷ [])
     → renewed_filter_of (only (is_fresh lifetime moment) (membership_in (xs ++ membership ∷ []) (endpoint_group endpoint group)))
     ≡ cond (is_own lifetime moment endpoint membership && same_group membership.group group) (renewed_filter_of (Some membership)) (renewed_filter_of (only (is_fresh lifetime moment) (membership_in xs (endpoint_group endpoint group))))
@@ -125,7 +125,7 @@ one_more_filter lifetime moment endpoint xs membership group ascends =
     ∙ ap (λ (test : Bool). same_endpoint membership.endpoint endpoint && test) (same_group-back group membership.group))
     ∙ reordered (same_endpoint membership.endpoint endpoint) (same_group membership.group group) fresh)
 
--- the wishes of rows after one row more, of the endpoint or not
+-- the filters of memberships after one membership more, of the endpoint or not
 pub more_found : (lifetime moment : ℕ) (endpoint : Tunnel) (xs : List Membership) (membership : Membership) (group : Ip) (before after : Option RenewedFilter) (own : Bool)
     → IsAscending membership_order (xs ++ membership ∷ []) → is_own lifetime moment endpoint membership ≡ own
     → before ≡ renewed_filter_of (only (is_fresh lifetime moment) (membership_in xs (endpoint_group endpoint group)))
@@ -150,7 +150,7 @@ set_by : (same : Bool) (group_record : Record) (moment : ℕ) (old before : Opti
 set_by true group_record moment old before is = ap (renewed_filter_after moment group_record) (is refl)
 set_by false group_record moment old before is = refl
 
--- the wish of the record's own group is the one that the record changes
+-- the filter of the record's own group is the one that the record changes
 pub set_here : (key group : Ip) (group_record : Record) (moment : ℕ) (filters : BTreeMap Ip RenewedFilter) (old : Option RenewedFilter) → old ≡ get ip_order filters key
     → cond (same_group key group) (renewed_filter_after moment group_record old) (get ip_order filters group)
     ≡ cond (same_group key group) (renewed_filter_after moment group_record (get ip_order filters group)) (get ip_order filters group)
@@ -186,7 +186,7 @@ AreAfter-filters endpoint group (entry ∷ rest) before =
     AreAfter-cons_option (endpoint_group endpoint group) (endpoint_group endpoint entry.0) (membership_of_entry endpoint entry) (filter_map (membership_of_entry endpoint) rest) (its_endpoint_group endpoint entry)
     (endpoint_group_by_group endpoint group entry.0 ∙ before.0) (AreAfter-filters endpoint group rest before.1)
 
--- the rows of a map's wishes ascend
+-- the memberships of a map's filters ascend
 pub IsAscending-filters : (endpoint : Tunnel) (entries : List (Ip × RenewedFilter)) → IsStrictlySortedBy ip_order (keys_of entries) → IsAscending membership_order (filter_map (membership_of_entry endpoint) entries)
 unfolding IsStrictlySortedBy
 IsAscending-filters endpoint [] sorted = tt
@@ -201,7 +201,7 @@ renewed_found true endpoint group key renewed_filter later rest same none is =
     rw (none refl) (or_none (membership_of_entry endpoint (key, renewed_filter))) ∙ ap (λ (at : Ip). membership_of_entry endpoint (at, renewed_filter)) (sym (same refl))
 renewed_found false endpoint group key renewed_filter later rest same none is = is
 
--- the row of a group is what its wish makes
+-- the membership of a group is what its filter makes
 pub membership_in-filters : (endpoint : Tunnel) (entries : List (Ip × RenewedFilter)) (group : Ip) → IsStrictlySortedBy ip_order (keys_of entries)
     → membership_in (filter_map (membership_of_entry endpoint) entries) (endpoint_group endpoint group) ≡ membership_of_renewed endpoint group (lookup (is_at (ip_order group)) entries)
 membership_in-filters endpoint [] group sorted = refl

@@ -42,12 +42,12 @@ reverse-push log entry = reverse-append log (entry ∷ [])
 abbrev pub table_of : ℕ → Limits → ℕ → List Membership → TableValue
 table_of moment limits lifetime rows = record { moment = moment; limits = limits; lifetime = lifetime; rows = rows }
 
--- no entry, no row
+-- no entry, no membership
 pub Holds-new : (limits : Limits) (lifetime : ℕ) → Holds (record { limits = limits; lifetime = lifetime }) (table_of 0 limits lifetime []) []
 unfolding IsStrictlySortedBy
 Holds-new limits lifetime = record { limits = refl; lifetime = refl; moment = refl; rows = record { ascend = tt; each = λ endpoint_group. refl } }
 
--- rows by the log with an entry, from rows by the log turned round
+-- memberships by the log with an entry, from memberships by the log turned round
 held : (settings : TableSettings) (table : TableValue) (log : List Change) (entry : Change) (moment : ℕ) (rows : List Membership) → Holds settings table log → moment ≡ max table.moment (brought entry)
     → AreMembershipsAt settings.lifetime (latest (entry ∷ reverse log)) (entry ∷ reverse log) rows → Holds settings (table_of moment table.limits table.lifetime rows) (log ++ entry ∷ [])
 held settings table log entry moment rows holds is are =
@@ -62,7 +62,7 @@ held settings table log entry moment rows holds is are =
           (subst (λ (past : List Change). AreMembershipsAt settings.lifetime (latest (entry ∷ reverse log)) past rows) (sym (reverse-push log entry)) are);
     }
 
--- the rows that are fresh at a later moment
+-- the memberships that are fresh at a later moment
 fresh_rows : (settings : TableSettings) (table : TableValue) (log : List Change) (entry : Change) (moment : ℕ) → Holds settings table log → moment ≡ max table.moment (brought entry)
     → AreMembershipsAt settings.lifetime (latest (entry ∷ reverse log)) (reverse log) (filter (is_fresh table.lifetime moment) table.rows)
 fresh_rows settings table log entry moment holds is =
@@ -92,7 +92,7 @@ Holds-clear settings table log endpoint at moment fresh rows is left gone holds 
     held settings table log entry moment rows holds is
     (subst (AreMembershipsAt settings.lifetime now (entry ∷ reverse log)) (sym gone) (AreMembershipsAt-clear settings.lifetime at endpoint (reverse log) fresh here))
 
--- the rows that are left at a later moment are the rows by the log then
+-- the memberships that are left at a later moment are the memberships by the log then
 pub fresh_are : (settings : TableSettings) (table : TableValue) (log : List Change) (at moment : ℕ) → moment ≡ max table.moment at → Holds settings table log
     → filter (is_fresh table.lifetime moment) table.rows ≡ memberships_at settings.lifetime (max at (latest log)) log
 fresh_are settings table log at moment is holds =
@@ -102,7 +102,7 @@ fresh_are settings table log at moment is holds =
     rows_are settings.lifetime (max at (latest log)) log rows
     (subst (λ (later : ℕ). AreMembershipsAt settings.lifetime later (reverse log) rows) now (fresh_rows settings table log (Mark at) moment holds is))
 
--- the rows that count at the table's own moment are all that stand now
+-- the memberships that count at the table's own moment are all that there are now
 pub rows_now : (settings : TableSettings) (table : TableValue) (log : List Change) → Holds settings table log → filter (is_counted table.lifetime table.moment None) table.rows ≡ memberships_now settings log
 rows_now settings table log holds =
     fresh_are settings table log 0 table.moment (omega arith) holds ∙ ap (λ (moment : ℕ). memberships_at settings.lifetime moment log) (omega arith)
@@ -111,7 +111,7 @@ pub IsAscending-none : IsAscending membership_order []
 unfolding IsStrictlySortedBy
 IsAscending-none = tt
 
--- a report, with the rows that its records leave in the place of the endpoint's
+-- a report, with the memberships that its records leave in the place of the endpoint's
 pub Holds-report : (settings : TableSettings) (table : TableValue) (log : List Change) (endpoint : Tunnel) (records : List Record) (at moment : ℕ) (own rows : List Membership) → 0 < table.lifetime
     → moment ≡ max table.moment at → AreOwn table.lifetime moment endpoint records table.rows own → rows ≡ replaced table.lifetime moment endpoint table.rows own
     → Holds settings table log → Holds settings (table_of moment table.limits table.lifetime rows) (log ++ Reported endpoint records at ∷ [])
@@ -129,7 +129,7 @@ Holds-report settings table log endpoint records at moment own rows some is owne
     (subst (AreMembershipsAt settings.lifetime (latest (entry ∷ past)) (entry ∷ past)) (sym put_here)
     (AreMembershipsAt-reported settings.lifetime (latest log) at endpoint records past table.rows own (omega arith) (omega arith) holds.rows owned_here))
 
--- the limit that a report passes is judged by the rows that stand with it
+-- the limit that a report passes is found by the memberships that there are with it
 pub passed_is : (settings : TableSettings) (table : TableValue) (log : List Change) (endpoint : Tunnel) (records : List Record) (at : ℕ) → Holds settings table (log ++ Reported endpoint records at ∷ [])
     → limit_passed settings log endpoint records at ≡ first_limit table.limits endpoint records table.rows
 passed_is settings table log endpoint records at holds =
@@ -143,14 +143,14 @@ IsWithin-log settings table log holds within =
     subst (IsWithin settings.limits) (rows_are settings.lifetime (latest log) log table.rows holds.rows)
     (subst (λ (limits : Limits). IsWithin limits table.rows) holds.limits within)
 
--- where a limit is passed, what would stand isn't within the limits
+-- where a limit is passed, the memberships with the report aren't within the limits
 pub unfit : (settings : TableSettings) (log : List Change) (endpoint : Tunnel) (records : List Record) (at : ℕ) (fault : LimitFault) → limit_passed settings log endpoint records at ≡ Some fault
     → IsWithin settings.limits (memberships_now settings (log ++ Reported endpoint records at ∷ [])) → ⊥
 unfit settings log endpoint records at fault passed within =
     let none = none_passed settings.limits endpoint records (memberships_now settings (log ++ Reported endpoint records at ∷ [])) within in
     cc
 
--- a table that stands for a log has only fresh rows, so where no time passes nothing changes
+-- a table that stands for a log has only fresh memberships, so where no time passes nothing changes
 pub no_later : (settings : TableSettings) (table : TableValue) (log : List Change) (at moment : ℕ) (rows : List Membership) → moment ≡ max table.moment at → rows ≡ filter (is_fresh table.lifetime moment) table.rows
     → Holds settings table log → at ≤ latest log → table_of moment table.limits table.lifetime rows ≡ table
 no_later settings table log at moment rows is fresh holds before =

@@ -1,4 +1,4 @@
--- The limits that a report's rows pass, by the rows of its endpoint and the number of other live endpoints.
+-- The limits that a report's memberships pass, by the memberships of its endpoint and the number of other live endpoints.
 use Rattle.std.proofs.Common.{◌≡◌, ℕ, ◌+◌, nat_lt, Bool, true, false, cond, not, ◌&&◌, ◌||◌, if◌then◌else◌, List, [], ◌∷◌, ◌++◌, filter, length, map, Option, Some, None, refl, sym, ap, ◌∙◌, arith}
 use Rattle.std.specs.List.{AllByRecursion, find, list_any}
 use Rattle.std.specs.Option.{option_or}
@@ -26,7 +26,7 @@ use Rattle.endpoint_membership.proofs.LimitOrder.{first_limit-by}
 use Rattle.endpoint_membership.proofs.ThreeParts.{is_of, parted}
 use Rattle.endpoint_membership.proofs.AfterEntries.{AreBefore, AreFollowing, IsParted, same_back, same_endpoint-exact}
 
--- no row is of the endpoint
+-- no membership is of the endpoint
 abbrev AreNotOf : Tunnel → List Membership → Type 0
 AreNotOf endpoint rows = AllByRecursion (λ membership. same_endpoint membership.endpoint endpoint ≡ false) rows
 
@@ -171,7 +171,7 @@ both_none before following endpoint none nothing =
     endpoints-two before following endpoint
     ∙ ap (λ (test : Bool). test || has tunnel_order (endpoints_of following) endpoint) (has-none endpoint before none) ∙ has-none endpoint following nothing
 
--- one more endpoint is live where it has rows
+-- one more endpoint is live where it has memberships
 live-three : (endpoint : Tunnel) (before own following : List Membership) → AreNotOf endpoint before → AreOf endpoint own → AreNotOf endpoint following
     → live_count (before ++ (own ++ following)) ≡ live_count (before ++ following) + (if is_empty own then 0 else 1)
 live-three endpoint before [] following none of nothing = omega arith
@@ -207,7 +207,7 @@ counted_own lifetime moment endpoint [] of = refl
 counted_own lifetime moment endpoint (membership ∷ rest) of =
     uncounted_by (is_fresh lifetime moment membership) (same_endpoint membership.endpoint endpoint) membership _ of.0 (counted_own lifetime moment endpoint rest of.1)
 
--- the rows of other endpoints that still count
+-- the memberships of other endpoints that still count
 others_are : (lifetime moment : ℕ) (endpoint : Tunnel) (rows before own following : List Membership) → IsParted endpoint rows before own following
     → filter (is_counted lifetime moment (Some endpoint)) rows ≡ filter (is_fresh lifetime moment) before ++ filter (is_fresh lifetime moment) following
 others_are lifetime moment endpoint rows before own following parts =
@@ -218,7 +218,7 @@ others_are lifetime moment endpoint rows before own following parts =
     ∙ counted_before lifetime moment endpoint following (AreNotOf-following endpoint following parts.later))
     ∙ ap (λ (prefix : List Membership). prefix ++ filter (is_fresh lifetime moment) following) (counted_before lifetime moment endpoint before (AreNotOf-before endpoint before parts.earlier))
 
--- the limits that the rows pass, as the code judges them
+-- the limits that the memberships pass, as the code finds it
 pub first_limit_is : (lifetime moment : ℕ) (limits : Limits) (endpoint : Tunnel) (records : List Record) (rows own : List Membership) → IsAscending membership_order rows → AreOf endpoint own
     → filter (is_fresh lifetime moment) own ≡ own
     → first_limit limits endpoint records (filter (is_fresh lifetime moment) (earlier endpoint rows ++ (own ++ later endpoint rows)))

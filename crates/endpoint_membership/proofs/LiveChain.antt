@@ -1,4 +1,4 @@
--- How a place's live chain goes on as entries come and time passes.
+-- How a pair's live chain goes on as entries come and time passes.
 use Rattle.std.proofs.Common.{◌≡◌, ℕ, ◌+◌, ◌≤◌, ◌<◌, Bool, true, false, cond, ltb, not, List, [], ◌∷◌, ◌++◌, refl, arith, inl, inr}
 use Rattle.std.proofs.lemmas.Bool.{cases_Bool, ltb-true, lt-ltb}
 use Rattle.source_filter.specs.declared.record.Record.{Record}
@@ -6,7 +6,7 @@ use Rattle.endpoint_membership.specs.declared.change.Change.{Change}
 use Rattle.endpoint_membership.specs.Log.{latest, records_at, is_empty, concerns, live_chain, renewed_at}
 use Rattle.endpoint_membership.specs.EndpointGroup.{EndpointGroup}
 
--- an entry that makes no record at the place changes nothing there
+-- an entry that makes no record on the pair changes nothing there
 pub live_chain-other : (lifetime : ℕ) (endpoint_group : EndpointGroup) (moment : ℕ) (entry : Change) (past : List Change) → records_at endpoint_group entry ≡ []
     → live_chain lifetime endpoint_group moment (entry ∷ past) ≡ live_chain lifetime endpoint_group moment past
 live_chain-other lifetime endpoint_group moment entry past none = rw none refl
@@ -15,7 +15,7 @@ pub renewed_at-other : (endpoint_group : EndpointGroup) (entry : Change) (past :
     → renewed_at endpoint_group (entry ∷ past) ≡ renewed_at endpoint_group past
 renewed_at-other endpoint_group entry past none = rw none refl
 
--- an entry that makes a record renews the place
+-- an entry that makes a record renews the pair
 pub renewed_at-entry : (endpoint_group : EndpointGroup) (entry : Change) (past : List Change) → concerns endpoint_group entry ≡ true → renewed_at endpoint_group (entry ∷ past) ≡ latest (entry ∷ past)
 renewed_at-entry endpoint_group entry past some = rw some refl
 

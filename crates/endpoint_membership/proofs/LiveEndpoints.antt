@@ -1,4 +1,4 @@
--- Counting live endpoints from row to row.
+-- Counting live endpoints from membership to membership.
 use Rattle.std.proofs.Common.{◌≡◌, ℕ, ◌+◌, Bool, true, false, ◌||◌, if◌then◌else◌, List, [], ◌∷◌, ◌++◌, filter, length, Option, Some, None, refl, sym, ap, subst, ◌∙◌, arith}
 use Rattle.std.specs.List.{AllByRecursion}
 use Rattle.std.specs.Option.{option_or}
@@ -25,7 +25,7 @@ pub last_of-push : (rows : List Membership) (membership : Membership) → last_o
 last_of-push [] membership = refl
 last_of-push (first ∷ rows) membership = ap (λ (last : Option Tunnel). option_or last (Some first.endpoint)) (last_of-push rows membership)
 
--- nothing lies between two rows of one endpoint but its rows
+-- nothing lies between two memberships of one endpoint but its memberships
 between_by : (first second : Ordering) (one two three : Membership) → tunnel_order one.endpoint two.endpoint ≡ first → tunnel_order two.endpoint three.endpoint ≡ second
     → membership_order one two ≡ Less → membership_order two three ≡ Less → one.endpoint ≡ three.endpoint → two.endpoint ≡ three.endpoint
 between_by Equal second one two three is goes before after same = sym (tunnel_order-exact one.endpoint two.endpoint is) ∙ same
@@ -63,7 +63,7 @@ seen_last_by true first membership (second ∷ rows) is ascends seen onward =
     let here : same_endpoint membership.endpoint second.endpoint ≡ true = ap (same_endpoint membership.endpoint) same ∙ ap is_eq (tied_itself tunnel_order-total membership.endpoint) in
     ends_same (last_of (second ∷ rows)) first.endpoint membership.endpoint (onward (rw here refl))
 
--- an endpoint that was seen is that of the last row
+-- an endpoint that was seen is that of the last membership
 seen_last : (rows : List Membership) (membership : Membership) → IsAscending membership_order (rows ++ membership ∷ []) → has tunnel_order (endpoints_of rows) membership.endpoint ≡ true → ends_with (last_of rows) membership.endpoint ≡ true
 seen_last [] membership ascends seen = cc
 seen_last (first ∷ rows) membership ascends seen =
@@ -78,7 +78,7 @@ last_seen_by : (last : Option Tunnel) (first endpoint : Tunnel) (more : Bool) �
 last_seen_by None first endpoint more onward ends = rw (same_back endpoint first, ends) refl
 last_seen_by (Some last) first endpoint more onward ends = rw (onward ends) (or_true (same_endpoint endpoint first))
 
--- the endpoint of the last row was seen
+-- the endpoint of the last membership was seen
 last_seen : (rows : List Membership) (endpoint : Tunnel) → ends_with (last_of rows) endpoint ≡ true → has tunnel_order (endpoints_of rows) endpoint ≡ true
 last_seen [] endpoint ends = cc
 last_seen (first ∷ rows) endpoint ends = last_seen_by (last_of rows) first.endpoint endpoint (has tunnel_order (endpoints_of rows) endpoint) (last_seen rows endpoint) ends
@@ -126,7 +126,7 @@ counted_by false rows membership seen =
     let longer = length-placed_new membership.endpoint (ascending tunnel_order some) (has-ascending tunnel_order-total some membership.endpoint ∙ seen) in
     omega (arith, whole, longer)
 
--- one more row makes one more live endpoint, unless the last row is of the same endpoint
+-- one more membership makes one more live endpoint, unless the last membership is of the same endpoint
 pub live_count-push : (rows : List Membership) (membership : Membership) → IsAscending membership_order (rows ++ membership ∷ [])
     → live_count (rows ++ membership ∷ []) ≡ live_count rows + (if ends_with (last_of rows) membership.endpoint then 0 else 1)
 live_count-push rows membership ascends =
@@ -139,7 +139,7 @@ filter-push_yes test rows membership passes = filter-append test rows (membershi
 pub filter-push_no : (test : Membership → Bool) (rows : List Membership) (membership : Membership) → test membership ≡ false → filter test (rows ++ membership ∷ []) ≡ filter test rows
 filter-push_no test rows membership fails = filter-append test rows (membership ∷ []) ∙ rw fails (append-nil (filter test rows))
 
--- one more row that counts
+-- one more membership that counts
 pub more_live : (test : Membership → Bool) (rows : List Membership) (membership : Membership) (count step : ℕ) (last : Option Tunnel) → IsAscending membership_order (rows ++ membership ∷ []) → test membership ≡ true
     → count ≡ live_count (filter test rows) → last ≡ last_of (filter test rows) → step ≡ (if ends_with last membership.endpoint then 0 else 1)
     → count + step ≡ live_count (filter test (rows ++ membership ∷ []))

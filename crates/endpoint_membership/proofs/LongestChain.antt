@@ -1,4 +1,4 @@
--- The live chain holds the records of the longest unbroken prefix of a place's renewals.
+-- The live chain holds the records of the longest unbroken prefix of a pair's renewals.
 use Rattle.std.proofs.Common.{◌≡◌, ℕ, ◌+◌, ◌≤◌, Bool, true, false, cond, ltb, List, [], ◌∷◌, ◌++◌, length, refl, sym, ap, subst, arith, inl, inr}
 use Rattle.std.proofs.lemmas.Bool.{cases_Bool, ltb-true, lt-ltb}
 use Rattle.source_filter.specs.declared.record.Record.{Record}

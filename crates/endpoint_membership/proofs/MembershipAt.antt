@@ -1,4 +1,4 @@
--- What stands at a place as entries come and time passes.
+-- The membership of a pair as entries come and time passes.
 use Rattle.std.proofs.Common.{◌≡◌, ℕ, ◌+◌, ◌≤◌, ◌<◌, Bool, true, false, cond, ltb, not, if◌then◌else◌, List, [], ◌∷◌, ◌++◌, reverse, filter, Option, Some, None, refl, sym, ap, ◌∙◌}
 use Rattle.std.proofs.lemmas.Grind.{reverse_onto}
 use Rattle.amt_values.specs.declared.address.Ip.{Ip}
@@ -19,7 +19,7 @@ use Rattle.endpoint_membership.specs.GroupFilter.{filter_of}
 use Rattle.endpoint_membership.proofs.LiveChain.{live_chain-entry, live_chain-later, live_chain-other, renewed_at-entry, renewed_at-other}
 use Rattle.endpoint_membership.proofs.FilterByRecords.{filter_by_records, filter_by_records-append, filter_by_records-is}
 
--- the filter of a row, and of a place where none stands
+-- the filter of a membership, and of a pair where there is none
 abbrev pub filter_in : Option Membership → FilterValue
 filter_in None = nothing
 filter_in (Some membership) = membership.filter
@@ -35,7 +35,7 @@ filter_in-made endpoint_group Include (source ∷ sources) renewed = refl
 pub filter_in-membership : (endpoint_group : EndpointGroup) (filter : FilterValue) (renewed : ℕ) → filter_in (membership_of endpoint_group filter renewed) ≡ filter
 filter_in-membership endpoint_group filter renewed = filter_in-made endpoint_group filter.mode filter.sources renewed
 
--- what stands, by applying records
+-- the membership, by applying records
 pub membership_at-is : (lifetime moment : ℕ) (past : List Change) (endpoint_group : EndpointGroup)
     → membership_at lifetime moment past endpoint_group ≡ membership_of endpoint_group (filter_by_records (live_chain lifetime endpoint_group moment past)) (renewed_at endpoint_group past)
 membership_at-is lifetime moment past endpoint_group =
@@ -67,14 +67,14 @@ membership_at-later lifetime moment later past endpoint_group onward =
     ∙ fresh_made lifetime later endpoint_group before.mode before.sources renewed fresh refl
     ∙ ap (only (is_fresh lifetime later)) (sym (membership_at-is lifetime moment past endpoint_group))
 
--- an entry that makes no record at the place changes nothing there
+-- an entry that makes no record of the pair changes nothing there
 pub membership_at-other : (lifetime moment : ℕ) (entry : Change) (past : List Change) (endpoint_group : EndpointGroup) → records_at endpoint_group entry ≡ []
     → membership_at lifetime moment (entry ∷ past) endpoint_group ≡ membership_at lifetime moment past endpoint_group
 membership_at-other lifetime moment entry past endpoint_group none =
     ap (λ (records : List Record). membership_of endpoint_group (filter_of records) (renewed_at endpoint_group (entry ∷ past))) (live_chain-other lifetime endpoint_group moment entry past none)
     ∙ ap (λ (renewed : ℕ). membership_of endpoint_group (filter_of (live_chain lifetime endpoint_group moment past)) renewed) (renewed_at-other endpoint_group entry past none)
 
--- an entry that makes records applies them to what stands, and renews it
+-- an entry that makes records applies them to the membership, and renews it
 pub membership_at-entry : (lifetime : ℕ) (entry : Change) (past : List Change) (endpoint_group : EndpointGroup) (records : List Record) → 0 < lifetime
     → records_at endpoint_group entry ≡ reverse records → concerns endpoint_group entry ≡ true
     → membership_at lifetime (latest (entry ∷ past)) (entry ∷ past) endpoint_group
@@ -95,7 +95,7 @@ left_by : (fresh : Bool) (group : Ip) (older : List Record) → filter_by_record
 left_by true group older = refl
 left_by false group older = refl
 
--- nothing stands at a cleared endpoint
+-- a cleared endpoint has no membership
 pub membership_at-clear : (lifetime at : ℕ) (endpoint : Tunnel) (past : List Change) (endpoint_group : EndpointGroup) → same_endpoint endpoint_group.endpoint endpoint ≡ true
     → membership_at lifetime (latest (Clear endpoint at ∷ past)) (Clear endpoint at ∷ past) endpoint_group ≡ None
 membership_at-clear lifetime at endpoint past endpoint_group same =

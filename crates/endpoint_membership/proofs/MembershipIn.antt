@@ -1,4 +1,4 @@
--- The row of a place in lists of rows that ascend.
+-- The membership of a pair in lists of memberships that ascend.
 use Rattle.std.proofs.Common.{◌≡◌, Bool, true, false, cond, List, [], ◌∷◌, ◌++◌, filter, Option, Some, None, unwrap_or, refl, sym, ap, ◌∙◌}
 use Rattle.std.specs.List.{AllByRecursion}
 use Rattle.std.specs.Option.{option_or}
@@ -16,14 +16,14 @@ use Rattle.endpoint_membership.specs.EndpointGroup.{EndpointGroup, endpoint_grou
 use Rattle.endpoint_membership.specs.Memberships.{membership_in}
 use Rattle.endpoint_membership.proofs.EndpointGroupOrder.{membership_order-total, endpoint_group_order-exact, endpoint_group_order-total}
 
--- the place comes before all of the rows
+-- the pair comes before all of the memberships
 abbrev pub AreAfter : EndpointGroup → List Membership → Type 0
 AreAfter endpoint_group rows = AllByRecursion (λ membership. endpoint_group_order endpoint_group (endpoint_group_of membership) ≡ Less) rows
 
 pub membership_in-append : (xs ys : List Membership) (endpoint_group : EndpointGroup) → membership_in (xs ++ ys) endpoint_group ≡ option_or (membership_in xs endpoint_group) (membership_in ys endpoint_group)
 membership_in-append xs ys endpoint_group = find-append (λ membership. same_endpoint_group endpoint_group (endpoint_group_of membership)) xs ys
 
--- no row of a place that comes before all rows
+-- no membership of a pair that comes before all memberships
 pub membership_in-after : (endpoint_group : EndpointGroup) (rows : List Membership) → AreAfter endpoint_group rows → membership_in rows endpoint_group ≡ None
 membership_in-after endpoint_group [] after = refl
 membership_in-after endpoint_group (membership ∷ rest) after = rw after.0 (membership_in-after endpoint_group rest after.1)
@@ -37,7 +37,7 @@ same_endpoint_group-exact one other same = tells_apart endpoint_group_order-exac
 after_rest : (membership : Membership) (rest : List Membership) → IsAscending membership_order (membership ∷ rest) → AreAfter (endpoint_group_of membership) rest
 after_rest membership rest ascends = sorted_head membership_order membership rest ascends
 
--- none of the later rows is of the first one's place
+-- none of the later memberships is of the first one's pair
 none_later : (membership : Membership) (rest : List Membership) (endpoint_group : EndpointGroup) → IsAscending membership_order (membership ∷ rest) → same_endpoint_group endpoint_group (endpoint_group_of membership) ≡ true → membership_in rest endpoint_group ≡ None
 none_later membership rest endpoint_group ascends same =
     let here = same_endpoint_group-exact endpoint_group (endpoint_group_of membership) same in rw here (membership_in-after (endpoint_group_of membership) rest (after_rest membership rest ascends))
@@ -54,7 +54,7 @@ membership_in-cond : (passes : Bool) (membership : Membership) (rest : List Memb
 membership_in-cond true membership rest endpoint_group = refl
 membership_in-cond false membership rest endpoint_group = refl
 
--- a row is left where it passes the test
+-- a membership is left where it passes the test
 pub membership_in-filter : (test : Membership → Bool) (rows : List Membership) (endpoint_group : EndpointGroup) → IsAscending membership_order rows → membership_in (filter test rows) endpoint_group ≡ only test (membership_in rows endpoint_group)
 membership_in-filter test [] endpoint_group ascends = refl
 membership_in-filter test (membership ∷ rest) endpoint_group ascends =
@@ -72,7 +72,7 @@ AreAfter-earlier earlier endpoint_group (membership ∷ rest) before after =
 membership_in-first : (membership : Membership) (rest : List Membership) → membership_in (membership ∷ rest) (endpoint_group_of membership) ≡ Some membership
 membership_in-first membership rest = rw (same_itself (endpoint_group_of membership)) refl
 
--- the first rows are of one place, since each list has the row of the other's first place
+-- the first memberships are of one pair, since each list has the membership of the other's first pair
 not_before : (one other : Membership) (xs ys : List Membership) → IsAscending membership_order (other ∷ ys) → membership_in (one ∷ xs) (endpoint_group_of one) ≡ membership_in (other ∷ ys) (endpoint_group_of one)
     → membership_order one other ≡ Less → ⊥
 not_before one other xs ys ascends same less =
@@ -88,7 +88,7 @@ rest_by : (here : Bool) (one : Membership) (found later : Option Membership) →
 rest_by true one found later none nothing same = none refl ∙ sym (nothing refl)
 rest_by false one found later none nothing same = same
 
--- after equal first rows each place has the same row
+-- after equal first memberships each pair has the same membership
 same_following : (one other : Membership) (xs ys : List Membership) → IsAscending membership_order (one ∷ xs) → IsAscending membership_order (other ∷ ys) → one ≡ other
     → ((endpoint_group : EndpointGroup) → membership_in (one ∷ xs) endpoint_group ≡ membership_in (other ∷ ys) endpoint_group) → (endpoint_group : EndpointGroup) → membership_in xs endpoint_group ≡ membership_in ys endpoint_group
 same_following one other xs ys first second equal same endpoint_group =
@@ -105,7 +105,7 @@ same_first Equal one other xs ys is first second same =
 same_first Greater one other xs ys is first second same =
     absurd (not_before other one ys xs first (sym (same (endpoint_group_of other))) (membership_order-total.antisymm other one ∙ ap ordering_reverse is))
 
--- rows that ascend are the same where each place has the same row
+-- memberships that ascend are the same where each pair has the same membership
 pub same_rows : (xs ys : List Membership) → IsAscending membership_order xs → IsAscending membership_order ys → ((endpoint_group : EndpointGroup) → membership_in xs endpoint_group ≡ membership_in ys endpoint_group) → xs ≡ ys
 same_rows [] [] first second same = refl
 same_rows [] (other ∷ ys) first second same = let some = membership_in-first other ys in let none = same (endpoint_group_of other) in absurd cc

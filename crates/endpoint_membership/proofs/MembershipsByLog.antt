@@ -1,4 +1,4 @@
--- The rows by the log are exactly what stands.
+-- The list of memberships by the log has exactly the membership of each pair.
 use Rattle.std.proofs.Common.{◌≡◌, ℕ, ◌+◌, Bool, true, false, cond, ltb, not, ◌&&◌, ◌||◌, List, [], ◌∷◌, ◌++◌, reverse, Option, Some, None, unwrap_or, refl, sym, ap, ◌∙◌, inl, inr}
 use Rattle.std.specs.List.{AllByRecursion, cons_option, filter_map}
 use Rattle.std.specs.List.Sorted.{IsStrictlySortedBy}
@@ -23,7 +23,7 @@ use Rattle.endpoint_membership.proofs.EndpointGroupOrder.{endpoint_group_order-t
 use Rattle.endpoint_membership.proofs.MembershipAt.{membership_at-is}
 use Rattle.endpoint_membership.proofs.FilterByRecords.{filter_by_records}
 
--- what a function of places gives is a row of the place
+-- what a function of pairs gives is a membership of the pair
 abbrev GivesItsEndpointGroup : (EndpointGroup → Option Membership) → Type 0
 GivesItsEndpointGroup given = (endpoint_group : EndpointGroup) (membership : Membership) → given endpoint_group ≡ Some membership → endpoint_group_of membership ≡ endpoint_group
 
@@ -59,7 +59,7 @@ endpoint_group_by true true given at endpoint_group same = rw (same refl) (twice
 endpoint_group_by true false given at endpoint_group same = rw (same refl) (or_none (given at))
 endpoint_group_by false listed given at endpoint_group same = refl
 
--- the row of a place is what the function gives of it, where it is one of the places
+-- the membership of a pair is what the function gives of it, where it is one of the pairs
 membership_in-filter_map : (given : EndpointGroup → Option Membership) → GivesItsEndpointGroup given → (endpoint_groups : List EndpointGroup) (endpoint_group : EndpointGroup)
     → membership_in (filter_map given endpoint_groups) endpoint_group ≡ cond (has endpoint_group_order endpoint_groups endpoint_group) (given endpoint_group) None
 membership_in-filter_map given its [] endpoint_group = refl
@@ -118,7 +118,7 @@ cleared_by true true endpoint_group chained other none = refl
 cleared_by true false endpoint_group chained other none = refl
 cleared_by false fresh endpoint_group chained other none = none
 
--- nothing is wanted where no report names the place
+-- nothing is wanted where no report names the pair
 unnamed : (lifetime moment : ℕ) (past : List Change) (endpoint_group : EndpointGroup) → has endpoint_group_order (endpoint_groups_in past) endpoint_group ≡ false → filter_by_records (live_chain lifetime endpoint_group moment past) ≡ nothing
 unnamed lifetime moment [] endpoint_group none = refl
 unnamed lifetime moment (Reported endpoint records at ∷ older) endpoint_group none =
@@ -130,7 +130,7 @@ unnamed lifetime moment (Clear endpoint at ∷ older) endpoint_group none =
     (live_chain lifetime endpoint_group (latest (Clear endpoint at ∷ older)) older) (live_chain lifetime endpoint_group moment older) (unnamed lifetime moment older endpoint_group none)
 unnamed lifetime moment (Mark at ∷ older) endpoint_group none = unnamed lifetime moment older endpoint_group none
 
--- nothing stands where no report names the place
+-- there is no membership where no report names the pair
 pub bare : (lifetime moment : ℕ) (past : List Change) (endpoint_group : EndpointGroup) → has endpoint_group_order (endpoint_groups_in past) endpoint_group ≡ false → membership_at lifetime moment past endpoint_group ≡ None
 bare lifetime moment past endpoint_group none =
     membership_at-is lifetime moment past endpoint_group ∙ ap (λ (filter : FilterValue). membership_of endpoint_group filter (renewed_at endpoint_group past)) (unnamed lifetime moment past endpoint_group none)
@@ -150,7 +150,7 @@ AreMembershipsAt-memberships_at lifetime moment log =
           ∙ listed_by (has endpoint_group_order endpoint_groups endpoint_group) (membership_at lifetime moment past endpoint_group) (bare lifetime moment past endpoint_group);
     }
 
--- rows that are what stands are the rows by the log
+-- memberships that are those of each pair are the memberships by the log
 pub rows_are : (lifetime moment : ℕ) (log : List Change) (rows : List Membership) → AreMembershipsAt lifetime moment (reverse log) rows → rows ≡ memberships_at lifetime moment log
 rows_are lifetime moment log rows are =
     let by_log = AreMembershipsAt-memberships_at lifetime moment log in

@@ -1,4 +1,4 @@
--- What holds of each place's row holds of all rows; and how many sources and groups a report can bring.
+-- What holds of each pair's membership holds of all; and how many sources and groups a report can bring.
 use Rattle.std.proofs.Common.{◌≡◌, ℕ, ◌+◌, ◌≤◌, Bool, true, false, cond, not, ◌&&◌, ◌||◌, List, [], ◌∷◌, ◌++◌, length, map, filter, Option, Some, None, is_some, sum_by, unwrap_or, refl, sym, ap, ◌∙◌, subst, arith, length-append}
 use Rattle.std.specs.List.{AllByRecursion, find}
 use Rattle.std.specs.List.Sorted.{IsStrictlySortedBy}
@@ -34,7 +34,7 @@ use Rattle.endpoint_membership.proofs.EndpointGroupOrder.{endpoint_group_order-t
 membership_in-first : (membership : Membership) (rest : List Membership) → membership_in (membership ∷ rest) (endpoint_group_of membership) ≡ Some membership
 membership_in-first membership rest = rw (ap is_eq (tied_itself endpoint_group_order-total (endpoint_group_of membership))) refl
 
--- a later row is found among all rows: the first row is of another place
+-- a later membership is found among all memberships: the first membership is of another pair
 found_more : (membership one : Membership) (rest : List Membership) (endpoint_group : EndpointGroup) (here : Bool) → same_endpoint_group endpoint_group (endpoint_group_of membership) ≡ here → IsAscending membership_order (membership ∷ rest) → membership_in rest endpoint_group ≡ Some one
     → cond here (Some membership) (membership_in rest endpoint_group) ≡ Some one
 found_more membership one rest endpoint_group true same ascends found =
@@ -96,7 +96,7 @@ sum_by-on_group group records =
 abbrev groups_of : List Membership → List Ip
 groups_of rows = map (λ membership. membership.group) rows
 
--- the rows of an endpoint
+-- the memberships of an endpoint
 abbrev rows_at : Tunnel → List Membership → List Membership
 rows_at endpoint rows = filter (λ membership. same_endpoint membership.endpoint endpoint) rows
 
@@ -116,7 +116,7 @@ same_turned : (endpoint : Tunnel) (group : Ip) (membership : Membership) → sam
 same_turned endpoint group membership = same_endpoint_group-is (at endpoint group) (endpoint_group_of membership)
     ∙ ap (λ (test : Bool). test && same_group group membership.group) ((eq_by_cmp_equiv tunnel_order-total).symm endpoint membership.endpoint)
 
--- a place has a row where its group is one of the endpoint's
+-- a pair has a membership where its group is one of the endpoint's
 is_some-membership_in : (endpoint : Tunnel) (rows : List Membership) (group : Ip) → is_some (membership_in rows (at endpoint group)) ≡ has ip_order (groups_of (rows_at endpoint rows)) group
 is_some-membership_in endpoint [] group = refl
 is_some-membership_in endpoint (membership ∷ rest) group =
@@ -137,7 +137,7 @@ above_group endpoint membership [] here of above = tt
 above_group endpoint membership (later ∷ own) here of above =
     (sym (by_group membership later (here ∙ sym (tells_apart tunnel_order-exact later.endpoint endpoint of.0))) ∙ above.0, above_group endpoint membership own here of.1 above.1)
 
--- the groups of an endpoint ascend with its rows
+-- the groups of an endpoint ascend with its memberships
 IsAscending-groups : (endpoint : Tunnel) (own : List Membership) → AreOf endpoint own → IsAscending membership_order own → IsAscending ip_order (groups_of own)
 unfolding IsStrictlySortedBy
 IsAscending-groups endpoint [] of ascends = tt
@@ -153,7 +153,7 @@ listed_by true was_there true some is = refl
 listed_by true was_there false some is = refl
 listed_by false was_there before some is = cc
 
--- a group of the rows after a report was one of the endpoint's, or a record is on it
+-- a group of the memberships after a report was one of the endpoint's, or a record is on it
 there_or_reported : (endpoint : Tunnel) (records : List Record) (rows own : List Membership) → AreOf endpoint own
     → ((group : Ip) (membership : Membership) → membership_in own (at endpoint group) ≡ Some membership
     → (has ip_order (map (λ (one : Record). one.group) records) group || is_some (membership_in rows (at endpoint group))) ≡ true)
@@ -181,7 +181,7 @@ found_here : (P : Membership → Type 0) (passes : Bool) (one membership : Membe
 found_here P true one membership later first rest found = subst P (sym (ap (λ (each : Option Membership). unwrap_or each one) found)) first
 found_here P false one membership later first rest found = rest found
 
--- what holds of all rows holds of the one that is found
+-- what holds of all memberships holds of the one that is found
 pub All-find : (P : Membership → Type 0) (test : Membership → Bool) (rows : List Membership) (membership : Membership) → AllByRecursion P rows → Some membership ≡ find test rows → P membership
 All-find P test [] membership all found = cc
 All-find P test (one ∷ rest) membership all found = found_here P (test one) one membership (find test rest) all.0 (All-find P test rest membership all.1) found

@@ -1,4 +1,4 @@
--- What the rows of an endpoint after its report may be, whatever log the rows before stood for.
+-- What the memberships of an endpoint after its report may be, whatever log the memberships before stood for.
 use Rattle.std.proofs.Common.{◌≡◌, ℕ, ◌+◌, ◌≤◌, ◌<◌, ◌^◌, Bool, true, false, cond, ◌||◌, if◌then◌else◌, List, [], ◌∷◌, ◌++◌, filter, length, map, Option, Some, None, is_some, sum_by, unwrap_or, refl, sym, ap, subst, ◌∙◌, arith}
 use Rattle.std.specs.List.{AllByRecursion, find, list_any}
 use Rattle.std.proofs.lemmas.Bool.{lt-ltb}
@@ -41,7 +41,7 @@ endpoint_group endpoint group = record { endpoint = endpoint; group = group }
 abbrev made : Tunnel → Ip → FilterValue → ℕ → Membership
 made endpoint group filter renewed = record { endpoint = endpoint; group = group; filter = filter; renewed = renewed }
 
--- the row of a wish has its filter and its renewal
+-- the membership of a filter has its filter and its renewal
 record IsRowOf (endpoint : Tunnel) (group : Ip) (renewed_filter : Option RenewedFilter) (membership : Membership) : Type 0 where
   filter : membership.filter ≡ filter_or_nothing renewed_filter
   renewed : (one : RenewedFilter) → renewed_filter ≡ Some one → membership.renewed ≡ one.renewed
@@ -56,7 +56,7 @@ row_is endpoint group (Some renewed_filter) membership found =
       some = refl;
     }
 
--- the row of an old row's wish is the old row
+-- the membership of an old membership's filter is the old membership
 old_row : (endpoint : Tunnel) (group : Ip) (found : Option Membership) (membership : Membership) → ((one : Membership) → found ≡ Some one → endpoint_group endpoint group ≡ endpoint_group_of one)
     → membership_of_renewed endpoint group (renewed_filter_of found) ≡ Some membership → found ≡ Some membership
 old_row endpoint group None membership its row = cc
@@ -77,7 +77,7 @@ only_found : (test : Membership → Bool) (found : Option Membership) (membershi
 only_found test None membership passed = passed
 only_found test (Some one) membership passed = ap Some (membership_by (test one) one membership passed)
 
--- the rows that the wishes of these rows make at a place, old or reported
+-- the memberships that the filters of these memberships make of a pair, old or reported
 record IsOwnRow (lifetime moment : ℕ) (endpoint : Tunnel) (records : List Record) (found : Option Membership) (group : Ip) (membership : Membership) : Type 0 where
   fresh : is_fresh lifetime moment membership ≡ true
   size : length membership.filter.sources ≤ length (filter_or_nothing (renewed_filter_of found)).sources + sum_by (λ (one : Record). length one.sources) (on_group group records)
@@ -127,7 +127,7 @@ filter_all : (test : Membership → Bool) (rows : List Membership) → AllByRecu
 filter_all test [] each = refl
 filter_all test (membership ∷ rest) each = rw each.0 (ap (λ (more : List Membership). membership ∷ more) (filter_all test rest each.1))
 
--- all of the endpoint's rows are fresh
+-- all of the endpoint's memberships are fresh
 pub own_fresh : (lifetime moment : ℕ) (endpoint : Tunnel) (records : List Record) (rows own : List Membership) → 0 < lifetime → AreOwn lifetime moment endpoint records rows own
     → filter (is_fresh lifetime moment) own ≡ own
 own_fresh lifetime moment endpoint records rows own some owned =
@@ -140,7 +140,7 @@ renewed_size limits test rows at within None is = omega arith
 renewed_size limits test rows at within (Some membership) is =
     All-at (λ (one : Membership). size one ≤ limits.sources) rows at membership within.sources (only_found test (membership_in rows at) membership (sym is))
 
--- no row of the endpoint has more sources than an old one and the report together
+-- no membership of the endpoint has more sources than an old one and the report together
 pub own_sizes : (limits : Limits) (lifetime moment : ℕ) (endpoint : Tunnel) (records : List Record) (rows own : List Membership) → 0 < lifetime → AreOwn lifetime moment endpoint records rows own
     → IsWithin limits rows → AllByRecursion (λ membership. size membership ≤ limits.sources + item_count records) own
 own_sizes limits lifetime moment endpoint records rows own some owned within =
@@ -175,7 +175,7 @@ own_few lifetime moment endpoint records rows own some ascends owned =
     (λ silent. is_some-found (membership_in rows (endpoint_group endpoint group)) membership (only_found (is_fresh lifetime moment) (membership_in rows (endpoint_group endpoint group)) membership
     ((own_row lifetime moment endpoint records rows own group membership some owned found).old (on_none group records (sym (has-groups records group) ∙ silent))))))
 
--- rows within the limits stay so by a report that passes none
+-- memberships within the limits stay so by a report that passes none
 pub IsWithin-replaced : (limits : Limits) (lifetime moment : ℕ) (endpoint : Tunnel) (records : List Record) (rows own : List Membership) → 0 < lifetime → IsAscending membership_order rows
     → AreOwn lifetime moment endpoint records rows own → IsWithin limits rows → first_limit limits endpoint records (replaced lifetime moment endpoint rows own) ≡ None
     → IsWithin limits (replaced lifetime moment endpoint rows own)
@@ -193,7 +193,7 @@ IsWithin-replaced limits lifetime moment endpoint records rows own some ascends 
     (sym (membership_in-three endpoint (earlier endpoint rows) own (later endpoint rows) (endpoint_group endpoint group) parts.earlier parts.later (ap is_eq (tied_itself tunnel_order-total endpoint)))
     ∙ only_found test (membership_in all (endpoint_group endpoint group)) membership (sym (membership_in-filter test all (endpoint_group endpoint group) ascend) ∙ found))).old silent)
 
--- the first limit that a report passes, as the code judges it by the endpoint's rows
+-- the first limit that a report passes, as the code finds it by the endpoint's memberships
 abbrev pub limit_by_own : ℕ → ℕ → Limits → Tunnel → List Record → List Membership → List Membership → Option LimitFault
 limit_by_own lifetime moment limits endpoint records rows own =
     limit_by limits (length own) (live_count (filter (is_counted lifetime moment (Some endpoint)) rows) + (if is_empty own then 0 else 1)) (find (is_over limits.sources records) own)

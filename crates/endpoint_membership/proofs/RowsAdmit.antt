@@ -1,4 +1,4 @@
--- The row of a place lets in what the newest records say.
+-- The membership of a pair lets in what the newest records say.
 use Rattle.std.proofs.Common.{◌≡◌, ℕ, ◌≤◌, max, false, List, reverse, Option, Some, None, sym, ap, ◌∙◌, arith}
 use Rattle.amt_values.specs.declared.address.Ip.{Ip}
 use Rattle.source_filter.specs.Filter.{FilterValue, admits}
@@ -25,12 +25,12 @@ admits-membership_at lifetime log endpoint_group source moment found onward is =
     ∙ admits-filter_by_records chain source
     ∙ ap (λ (later : ℕ). records_admit (live_chain lifetime endpoint_group later past) source) (onward_is moment (latest log) onward)
 
--- what a row lets in
+-- what a membership lets in
 pub admits-row : (lifetime : ℕ) (log : List Change) (endpoint_group : EndpointGroup) (source : Ip) (moment : ℕ) (membership : Membership) → latest log ≤ moment
     → membership_at lifetime moment (reverse log) endpoint_group ≡ Some membership → admits membership.filter source ≡ is_admitted lifetime log endpoint_group source moment
 admits-row lifetime log endpoint_group source moment membership onward is = admits-membership_at lifetime log endpoint_group source moment (Some membership) onward is
 
--- nothing is let in where no row stands
+-- nothing is let in where there is none
 pub admits-none : (lifetime : ℕ) (log : List Change) (endpoint_group : EndpointGroup) (source : Ip) (moment : ℕ) → latest log ≤ moment
     → membership_at lifetime moment (reverse log) endpoint_group ≡ None → is_admitted lifetime log endpoint_group source moment ≡ false
 admits-none lifetime log endpoint_group source moment onward is = sym (admits-membership_at lifetime log endpoint_group source moment None onward is)

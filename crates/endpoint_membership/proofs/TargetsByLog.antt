@@ -1,4 +1,4 @@
--- The endpoints that want a packet, by the rows and by the log.
+-- The endpoints that want a packet, by the memberships and by the log.
 use Rattle.std.proofs.Common.{◌≡◌, ℕ, ◌≤◌, ◌<◌, ◌↔◌, max, Bool, true, false, cond, ◌&&◌, ◌||◌, List, [], ◌∷◌, ◌++◌, reverse, filter, length, Option, Some, None, is_some, Contains, refl, sym, ap, ◌∙◌, arith, inl, inr}
 use Rattle.std.specs.List.{AllByRecursion}
 use Rattle.std.specs.List.Sorted.{IsStrictlySortedBy}
@@ -40,7 +40,7 @@ use Rattle.endpoint_membership.proofs.MembershipAt.{membership_at-later}
 abbrev at : Tunnel → Ip → EndpointGroup
 at endpoint group = record { endpoint = endpoint; group = group }
 
--- all rows are of the group
+-- all memberships are of the group
 abbrev AreOn : Ip → List Membership → Type 0
 AreOn group rows = AllByRecursion (λ membership. same_group membership.group group ≡ true) rows
 
@@ -61,7 +61,7 @@ AreOn-targets lifetime moment group source (membership ∷ rest) =
 same_group-exact : (one other : Ip) → same_group one other ≡ true → one ≡ other
 same_group-exact one other same = tells_apart ip_order-exact one other same
 
--- of rows of one group, the earlier one is of the earlier endpoint
+-- of memberships of one group, the earlier one is of the earlier endpoint
 less_by : (first second : Ordering) → second ≡ Equal → ordering_then first second ≡ Less → first ≡ Less
 less_by Less second tied less = refl
 less_by Equal second tied less = cc
@@ -83,7 +83,7 @@ unfolding IsStrictlySortedBy
 IsAscending-endpoints group [] on ascends = tt
 IsAscending-endpoints group (membership ∷ rows) on ascends = (less_each group membership rows on.0 on.1 ascends.0, IsAscending-endpoints group rows on.1 ascends.1)
 
--- the endpoints of the rows that let a packet in ascend
+-- the endpoints of the memberships that let a packet in ascend
 pub IsAscending-targets : (lifetime moment : ℕ) (group source : Ip) (rows : List Membership) → IsAscending membership_order rows → IsAscending tunnel_order (targets_in lifetime moment group source rows)
 IsAscending-targets lifetime moment group source rows ascends =
     let test = is_target lifetime moment group source in
@@ -97,7 +97,7 @@ length-targets lifetime moment group source rows ascends =
     (ascending-fixed tunnel_order-total tunnel_order-exact (targets_in lifetime moment group source rows) (IsAscending-targets lifetime moment group source rows ascends)) in
     omega (arith, once, live_count-filter test rows)
 
--- before the last row of the rows there is room for its endpoint
+-- before the last membership there is room for its endpoint
 pub room_left : (test : Membership → Bool) (rows before following : List Membership) (membership : Membership) → rows ≡ (before ++ membership ∷ []) ++ following → test membership ≡ true
     → length (endpoints_of (filter test before)) < length (endpoints_of (filter test rows))
 room_left test rows before following membership whole passes =
@@ -121,7 +121,7 @@ and_yes false b given = refl
 group_back : (one other : Ip) → same_group one other ≡ same_group other one
 group_back one other = (eq_by_cmp_equiv ip_order-total).symm one other
 
--- among rows of a group an endpoint is seen where its place has a row
+-- among memberships of a group an endpoint is seen where its pair has a membership
 has-endpoints : (group : Ip) (rows : List Membership) (endpoint : Tunnel) → AreOn group rows → has tunnel_order (endpoints_of rows) endpoint ≡ is_some (membership_in rows (at endpoint group))
 has-endpoints group [] endpoint on = refl
 has-endpoints group (membership ∷ rows) endpoint on =
@@ -162,7 +162,7 @@ admitted_later : (lifetime : ℕ) (log : List Change) (endpoint_group : Endpoint
     → is_admitted lifetime log endpoint_group source (max moment (latest log)) ≡ is_admitted lifetime log endpoint_group source moment
 admitted_later lifetime log endpoint_group source moment = rw (later_again moment (latest log)) refl
 
--- a row that stands lets the packet in exactly where the newest record that speaks wants it
+-- a membership lets the packet in exactly where the newest record that applies wants it
 target_by : (lifetime : ℕ) (log : List Change) (group source : Ip) (moment : ℕ) (endpoint : Tunnel) (found : Option Membership)
     → membership_at lifetime (latest log) (reverse log) (at endpoint group) ≡ found
     → is_some (only (is_target lifetime (max moment (latest log)) group source) found) ≡ is_admitted lifetime log (at endpoint group) source (max moment (latest log))
@@ -186,7 +186,7 @@ target_by lifetime log group source moment endpoint (Some membership) is =
           ∙ sym (admits-none lifetime log endpoint_group source later forward (stands ∙ rw old refl))
     ]
 
--- the rows let a packet in exactly where it is wanted by the log
+-- the memberships let a packet in exactly where it is wanted by the log
 has-wanted : (lifetime : ℕ) (log : List Change) (group source : Ip) (moment : ℕ) (rows : List Membership) (endpoint : Tunnel) → AreMembershipsAt lifetime (latest log) (reverse log) rows
     → has tunnel_order (targets_in lifetime (max moment (latest log)) group source rows) endpoint ≡ is_admitted lifetime log (at endpoint group) source moment
 has-wanted lifetime log group source moment rows endpoint are =
@@ -210,7 +210,7 @@ endpoint_groups_of-none endpoint (first ∷ later) endpoint_group apart =
     let away = same_endpoint_group-is endpoint_group (at endpoint first.group) ∙ ap (λ (test : Bool). test && same_group endpoint_group.group first.group) apart in
     or_neither (same_endpoint_group endpoint_group (at endpoint first.group)) (has endpoint_group_order (endpoint_groups_of endpoint later) endpoint_group) away (endpoint_groups_of-none endpoint later endpoint_group apart)
 
--- no report of an endpoint names a place of it
+-- no report of an endpoint names a pair of it
 endpoint_groups_in-none : (past : List Change) (endpoint_group : EndpointGroup) → has tunnel_order (endpoints_in past) endpoint_group.endpoint ≡ false → has endpoint_group_order (endpoint_groups_in past) endpoint_group ≡ false
 endpoint_groups_in-none [] endpoint_group none = refl
 endpoint_groups_in-none (Reported endpoint records at_moment ∷ older) endpoint_group none =
@@ -286,7 +286,7 @@ pub targets_want : (lifetime : ℕ) (log : List Change) (group source : Ip) (mom
 targets_want lifetime log group source moment endpoint =
     Contains-has (targets_of lifetime log group source moment) endpoint (is_admitted lifetime log (at endpoint group) source moment) (has-targets_of lifetime log group source moment endpoint)
 
--- the targets by the rows of a table are those by its log
+-- the targets by the memberships of a table are those by its log
 pub targets_are : (settings : TableSettings) (table : TableValue) (log : List Change) (group source : Ip) (moment later : ℕ) → later ≡ max table.moment moment → Holds settings table log
     → targets_in table.lifetime later group source table.rows ≡ targets_of settings.lifetime log group source moment
 targets_are settings table log group source moment later is holds =

@@ -1,4 +1,4 @@
--- Rows that ascend fall into three parts: of earlier endpoints, of one endpoint, and of later ones.
+-- Memberships that ascend fall into three parts: of earlier endpoints, of one endpoint, and of later ones.
 use Rattle.std.proofs.Common.{◌≡◌, ℕ, suc, ◌+◌, ◌≤◌, Bool, cond, not, List, [], ◌∷◌, ◌++◌, take, drop, filter, refl, sym, ap, subst, ◌∙◌, arith}
 use Rattle.std.specs.List.{splice}
 use Rattle.std.specs.Ordering.{is_eq, is_lt, ordering_reverse, ordering_then}
@@ -25,7 +25,7 @@ take_first n membership rest = ap (λ (more : ℕ). take more (membership ∷ re
 drop_first : (n : ℕ) (membership : Membership) (rest : List Membership) → drop (1 + n) (membership ∷ rest) ≡ drop n rest
 drop_first n membership rest = ap (λ (more : ℕ). drop more (membership ∷ rest)) (one_more n)
 
--- the rows of the endpoint
+-- the memberships of the endpoint
 abbrev pub is_of : Tunnel → Membership → Bool
 is_of endpoint membership = same_endpoint membership.endpoint endpoint
 
@@ -43,18 +43,18 @@ following_by Less endpoint membership other is following after = tunnel_order-to
 following_by Equal endpoint membership other is following after = ap (tunnel_order endpoint) (sym (tunnel_order-exact membership.endpoint other.endpoint is)) ∙ following
 following_by Greater endpoint membership other is following after = absurd (not_less_by (tunnel_order membership.endpoint other.endpoint) (ip_order membership.group other.group) after is)
 
--- what comes after a row of a later endpoint is of later endpoints
+-- what comes after a membership of a later endpoint is of later endpoints
 AreFollowing-after : (endpoint : Tunnel) (membership : Membership) (rows : List Membership) → tunnel_order endpoint membership.endpoint ≡ Less → AreAfter (endpoint_group_of membership) rows → AreFollowing endpoint rows
 AreFollowing-after endpoint membership [] following after = tt
 AreFollowing-after endpoint membership (other ∷ rest) following after =
     (following_by (tunnel_order membership.endpoint other.endpoint) endpoint membership other refl following after.0, AreFollowing-after endpoint membership rest following after.1)
 
--- no row of these is of an earlier endpoint, or of this one
+-- no membership of these is of an earlier endpoint, or of this one
 none_of : (endpoint : Tunnel) (rows : List Membership) → AreFollowing endpoint rows → filter (is_of endpoint) rows ≡ []
 none_of endpoint [] following = refl
 none_of endpoint (membership ∷ rest) following = rw (tunnel_order-total.antisymm membership.endpoint endpoint, following.0) (none_of endpoint rest following.1)
 
--- what is left to show of rows of which none is of an earlier endpoint
+-- what is left to show of memberships of which none is of an earlier endpoint
 pub record IsTail (endpoint : Tunnel) (rows : List Membership) : Type 0 where
   pub start : start_of endpoint rows ≡ 0
   pub whole : rows ≡ filter (is_of endpoint) rows ++ later endpoint rows
@@ -93,7 +93,7 @@ tail_by Equal endpoint membership other rest is same after ascends onward =
 tail_by Greater endpoint membership other rest is same after ascends onward =
     absurd (not_less_by (tunnel_order membership.endpoint other.endpoint) (ip_order membership.group other.group) after is)
 
--- after a row of the endpoint stand more of its rows, and then those of later endpoints
+-- after a membership of the endpoint stand more of its memberships, and then those of later endpoints
 tail_after : (endpoint : Tunnel) (membership : Membership) (rest : List Membership) → tunnel_order membership.endpoint endpoint ≡ Equal → AreAfter (endpoint_group_of membership) rest → IsAscending membership_order rest → IsTail endpoint rest
 tail_after endpoint membership [] same after ascends = record { start = refl; whole = refl; of = tt; following = tt }
 tail_after endpoint membership (other ∷ rest) same after ascends =
@@ -122,7 +122,7 @@ parted_by Greater endpoint membership rest is ascends parted =
     IsParted-tail endpoint (membership ∷ rest)
     (IsTail-following endpoint membership rest (tunnel_order-total.antisymm endpoint membership.endpoint ∙ ap ordering_reverse is) (sorted_head membership_order membership rest ascends))
 
--- rows that ascend fall into these parts
+-- memberships that ascend fall into these parts
 pub parted : (endpoint : Tunnel) (rows : List Membership) → IsAscending membership_order rows → IsParted endpoint rows (earlier endpoint rows) (filter (is_of endpoint) rows) (later endpoint rows)
 parted endpoint [] ascends = record { whole = refl; earlier = tt; of = tt; later = tt }
 parted endpoint (membership ∷ rest) ascends =
@@ -134,19 +134,19 @@ start_before_end_by Less start end before = omega arith
 start_before_end_by Equal start end before = omega arith
 start_before_end_by Greater start end before = omega arith
 
--- the endpoint's rows end where they start, or after that
+-- the endpoint's memberships end where they start, or after that
 pub start_before_end : (endpoint : Tunnel) (rows : List Membership) → start_of endpoint rows ≤ end_of endpoint rows
 start_before_end endpoint [] = omega arith
 start_before_end endpoint (membership ∷ rest) =
     rw (tunnel_order-total.antisymm endpoint membership.endpoint)
     (start_before_end_by (tunnel_order membership.endpoint endpoint) (start_of endpoint rest) (end_of endpoint rest) (start_before_end endpoint rest))
 
--- other rows in the place of the endpoint's
+-- other memberships in the place of the endpoint's
 pub spliced_is : (endpoint : Tunnel) (rows items own : List Membership) (start end : ℕ) → start ≡ start_of endpoint rows → end ≡ end_of endpoint rows → items ≡ own
     → splice rows start end items ≡ earlier endpoint rows ++ (own ++ later endpoint rows)
 spliced_is endpoint rows items own start end starts ends same = rw (starts, ends, same) refl
 
--- rows ascend with other rows of the endpoint in the place of its rows
+-- memberships ascend with other memberships of the endpoint in the place of its memberships
 pub IsAscending-replaced : (endpoint : Tunnel) (rows own : List Membership) → IsAscending membership_order rows → IsAscending membership_order own → AreOf endpoint own
     → IsAscending membership_order (earlier endpoint rows ++ (own ++ later endpoint rows))
 IsAscending-replaced endpoint rows own ascends ascend of =

@@ -1,4 +1,4 @@
--- When rows stay within the limits: after a filter, and after a report that passes no limit.
+-- When memberships stay within the limits: after a filter, and after a report that passes no limit.
 use Rattle.std.proofs.Common.{◌≡◌, ℕ, ◌≤◌, Bool, true, false, cond, ltb, ◌&&◌, ◌||◌, List, [], ◌∷◌, length, filter, Option, Some, None, refl, sym, ap, ◌∙◌, subst, arith, inl, inr}
 use Rattle.std.specs.List.{AllByRecursion, find, list_any}
 use Rattle.std.proofs.lemmas.Bool.{and_right, cases_Bool, le-ltb, ltb-false}
@@ -46,14 +46,14 @@ none_wide limits endpoint records (membership ∷ rest) each =
     let passes = and_right reported (ltb limits.sources (size membership)) (le-ltb limits.sources (size membership) each.0) in
     rw passes (none_wide limits endpoint records rest each.1)
 
--- rows within the limits pass none
+-- memberships within the limits pass none
 pub none_passed : (limits : Limits) (endpoint : Tunnel) (records : List Record) (rows : List Membership) → IsWithin limits rows → first_limit limits endpoint records rows ≡ None
 none_passed limits endpoint records rows within =
     first_limit-by limits endpoint records rows
     ∙ ap (limit_by limits (group_count endpoint rows) (live_count rows)) (none_wide limits endpoint records rows within.sources)
     ∙ rw (le-ltb limits.groups (group_count endpoint rows) (within.groups endpoint), le-ltb limits.endpoints (live_count rows) within.endpoints) refl
 
--- what is known of rows that pass no limit
+-- what is known of memberships that pass no limit
 record PassesNone (limits : Limits) (groups endpoints : ℕ) (found : Option Membership) : Type 0 where
   none_wide : found ≡ None
   few_groups : groups ≤ limits.groups
@@ -77,7 +77,7 @@ fails_first : (here : Bool) (membership : Membership) (later : Option Membership
 fails_first true membership later none = cc
 fails_first false membership later none = (refl, none)
 
--- no row passes a test by which none is found
+-- no membership passes a test by which none is found
 All-fail : (test : Membership → Bool) (rows : List Membership) → find test rows ≡ None → AllByRecursion (λ membership. test membership ≡ false) rows
 All-fail test [] none = tt
 All-fail test (membership ∷ rest) none =
@@ -88,7 +88,7 @@ its_by : (here : Bool) (first membership : Membership) (later : Option Membershi
 its_by true first membership later endpoint_group same more found = let is : first ≡ membership = cc in same refl ∙ ap endpoint_group_of is
 its_by false first membership later endpoint_group same more found = more found
 
--- the row of a place is of the place
+-- the membership of a pair is of the pair
 pub its_endpoint_group : (rows : List Membership) (endpoint_group : EndpointGroup) (membership : Membership) → membership_in rows endpoint_group ≡ Some membership → endpoint_group ≡ endpoint_group_of membership
 its_endpoint_group [] endpoint_group membership found = cc
 its_endpoint_group (first ∷ rest) endpoint_group membership found =
@@ -110,14 +110,14 @@ at endpoint group = record { endpoint = endpoint; group = group }
 at_endpoint : (endpoint : Tunnel) (endpoint_group : EndpointGroup) → same_endpoint endpoint_group.endpoint endpoint ≡ true → endpoint_group ≡ at endpoint endpoint_group.group
 at_endpoint endpoint endpoint_group same = ap (λ (one : Tunnel). at one endpoint_group.group) (tells_apart tunnel_order-exact endpoint_group.endpoint endpoint same)
 
--- a place of one endpoint has no row among those of another
+-- a pair of one endpoint has no membership among those of another
 only_elsewhere : (found : Option Membership) (endpoint : Tunnel) (endpoint_group : EndpointGroup) → ((membership : Membership) → found ≡ Some membership → endpoint_group ≡ endpoint_group_of membership) → same_endpoint endpoint_group.endpoint endpoint ≡ false
     → only (λ membership. same_endpoint membership.endpoint endpoint) found ≡ None
 only_elsewhere None endpoint endpoint_group its apart = refl
 only_elsewhere (Some membership) endpoint endpoint_group its apart =
     let elsewhere = sym (ap (λ (one : EndpointGroup). same_endpoint one.endpoint endpoint) (its membership refl)) ∙ apart in rw elsewhere refl
 
--- an endpoint whose places have the rows that they had has as many groups as it had
+-- an endpoint whose pairs have the memberships that they had has as many groups as it had
 same_count : (endpoint other : Tunnel) (rows after : List Membership) → IsAscending membership_order rows → IsAscending membership_order after → same_endpoint other endpoint ≡ false
     → ((endpoint_group : EndpointGroup) → same_endpoint endpoint_group.endpoint endpoint ≡ false → membership_in after endpoint_group ≡ membership_in rows endpoint_group) → group_count other after ≡ group_count other rows
 same_count endpoint other rows after first second apart same =
@@ -138,7 +138,7 @@ narrow_by true true wide first second none = none
 narrow_by true false wide first second none = cc
 narrow_by false reported wide first second none = cc
 
--- a row that is found after a report has at most as many sources as allowed: it is an old one, or a reported one that isn't too wide
+-- a membership that is found after a report has at most as many sources as allowed: it is an old one, or a reported one that isn't too wide
 narrow : (limits : Limits) (endpoint : Tunnel) (records : List Record) (rows after : List Membership) → IsWithin limits rows → find (is_too_wide limits endpoint records) after ≡ None
     → ((endpoint_group : EndpointGroup) → same_endpoint endpoint_group.endpoint endpoint ≡ false → membership_in after endpoint_group ≡ membership_in rows endpoint_group)
     → ((group : Ip) (membership : Membership) → on_group group records ≡ [] → membership_in after (at endpoint group) ≡ Some membership → membership_in rows (at endpoint group) ≡ Some membership)
@@ -162,7 +162,7 @@ narrow limits endpoint records rows after within none others silent endpoint_gro
       ]
     ]
 
--- a report that passes no limit leaves rows within the limits
+-- a report that passes no limit leaves memberships within the limits
 pub IsWithin-report : (limits : Limits) (endpoint : Tunnel) (records : List Record) (rows after : List Membership) → IsAscending membership_order rows → IsAscending membership_order after
     → IsWithin limits rows → first_limit limits endpoint records after ≡ None
     → ((endpoint_group : EndpointGroup) → same_endpoint endpoint_group.endpoint endpoint ≡ false → membership_in after endpoint_group ≡ membership_in rows endpoint_group)

@@ -1,4 +1,4 @@
--- The live chain of a place, said of the whole log. As in Log, a log that is read here is turned
+-- The live chain of a pair, said of the whole log. As in Log, a log that is read here is turned
 -- round: its newest entry stands first.
 use Rattle.std.specs.Prelude.{◌≡◌, ℕ, ◌+◌, ◌≤◌, ◌<◌, List, [], ◌∷◌, ◌++◌, length, if◌then◌else◌}
 use Rattle.source_filter.specs.declared.record.Record.{Record}
@@ -6,12 +6,12 @@ use Rattle.endpoint_membership.specs.Log.{concerns, latest, records_at}
 use Rattle.endpoint_membership.specs.EndpointGroup.{EndpointGroup}
 use Rattle.endpoint_membership.specs.declared.change.Change.{Change}
 
--- an entry that renews the membership of a place: its moment, and its records there, newest first
+-- an entry that renews the membership of a pair: its moment, and its records on the pair, newest first
 pub record Renewal : Type 0 where
   pub moment : ℕ
   pub records : List Record
 
--- the entries that concern the place; an entry's moment is the latest one of the log up to it
+-- the entries that concern the pair; an entry's moment is the latest one of the log up to it
 abbrev pub renewals : EndpointGroup → List Change → List Renewal
 renewals endpoint_group [] = []
 renewals endpoint_group (entry ∷ older) =
@@ -30,7 +30,7 @@ abbrev pub records_of : List Renewal → List Record
 records_of [] = []
 records_of (newest ∷ older) = newest.records ++ records_of older
 
--- The records are those of a prefix, which are the newest renewals of the place. The prefix is
+-- The records are those of a prefix, which are the newest renewals of the pair. The prefix is
 -- unbroken, and no longer prefix is.
 pub record IsLongestChain (lifetime : ℕ) (endpoint_group : EndpointGroup) (moment : ℕ) (past : List Change) (records : List Record) : Type 0 where
   pub prefix : List Renewal

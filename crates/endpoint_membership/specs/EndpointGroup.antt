@@ -1,4 +1,5 @@
--- An endpoint and a group: of each pair the log says whether there is a membership.
+-- An endpoint and a group, a pair in comments: for each pair the log says whether the endpoint has a
+-- membership in the group.
 use Rattle.std.specs.Prelude.{Bool}
 use Rattle.std.specs.Ordering.{on, then_cmp, eq_by_cmp}
 use Rattle.std.specs.declared.cmp.Ordering.{Ordering}

@@ -26,22 +26,23 @@ latest (entry ∷ rest) = max (brought entry) (latest rest)
 abbrev pub leaving : Ip → Record
 leaving group = record { kind = ToIn; group = group; sources = [] }
 
--- the records that an entry makes at a place, newest first; a clearing leaves every group
+-- the records that an entry makes on a pair, newest first; a clearing leaves every group
 abbrev pub records_at : EndpointGroup → Change → List Record
 records_at endpoint_group (Reported endpoint records at) =
     if same_endpoint endpoint_group.endpoint endpoint then reverse (filter (λ group_record. same_group endpoint_group.group group_record.group) records) else []
 records_at endpoint_group (Clear endpoint at) = if same_endpoint endpoint_group.endpoint endpoint then leaving endpoint_group.group ∷ [] else []
 records_at endpoint_group (Mark at) = []
 
+-- the list has no item
 abbrev pub is_empty : {X : Type 0} → List X → Bool
 is_empty [] = true
 is_empty (x ∷ xs) = false
 
--- the entry makes a record at the place
+-- the entry makes a record on the pair
 abbrev pub concerns : EndpointGroup → Change → Bool
 concerns endpoint_group entry = not (is_empty (records_at endpoint_group entry))
 
--- The records at the place that still count at a moment not before the latest, newest first. Each
+-- The records on the pair that still count at a moment not before the latest, newest first. Each
 -- entry renews the membership for a lifetime, the Group Membership Interval of RFC 3376, section
 -- 8.4: an entry counts where it was made less than a lifetime before the next one that counts, and
 -- the last one less than a lifetime before the moment.
@@ -52,7 +53,7 @@ live_chain lifetime endpoint_group moment (entry ∷ older) =
     then (if nat_lt moment (latest (entry ∷ older) + lifetime) then records_at endpoint_group entry ++ live_chain lifetime endpoint_group (latest (entry ∷ older)) older else [])
     else live_chain lifetime endpoint_group moment older
 
--- the moment of the newest entry that concerns the place, or 0
+-- the moment of the newest entry that concerns the pair, or 0
 abbrev pub renewed_at : EndpointGroup → List Change → ℕ
 renewed_at endpoint_group [] = 0
 renewed_at endpoint_group (entry ∷ older) = if concerns endpoint_group entry then latest (entry ∷ older) else renewed_at endpoint_group older

@@ -27,7 +27,12 @@ pub struct RenewedFilter {
     pub renewed: Moment,
 }
 
-fn is_own(membership: &StoredMembership, endpoint: &Endpoint, moment: Moment, lifetime_ms: u64) -> bool
+fn is_own(
+    membership: &StoredMembership,
+    endpoint: &Endpoint,
+    moment: Moment,
+    lifetime_ms: u64,
+) -> bool
     requires { lifetime_ms ≤ 1000000000 }
     ensures { result ≡ is_own lifetime_ms moment endpoint.now membership.now }
 {
@@ -35,8 +40,12 @@ fn is_own(membership: &StoredMembership, endpoint: &Endpoint, moment: Moment, li
 }
 
 // The filter of a membership, and when it was renewed.
-fn renewed_filter_of(alloc: Global, membership: &StoredMembership) -> Result<RenewedFilter, AllocError>
-    ensures { IfOk result (λ renewed_filter. renewed_filter_of (Some membership.now) ≡ Some renewed_filter) }
+fn renewed_filter_of(
+    alloc: Global,
+    membership: &StoredMembership,
+) -> Result<RenewedFilter, AllocError>
+    ensures { IfOk result
+        (λ renewed_filter. renewed_filter_of (Some membership.now) ≡ Some renewed_filter) }
 {
     Ok(RenewedFilter {
         filter: MutableFilter::of_filter(alloc, membership.filter())?,
@@ -45,7 +54,11 @@ fn renewed_filter_of(alloc: Global, membership: &StoredMembership) -> Result<Ren
 }
 
 // Puts this filter in the place of the group's.
-fn set_filter(filters: &mut BTreeMap<Ip, RenewedFilter>, group: Ip, renewed_filter: RenewedFilter) -> Result<(), AllocError>
+fn set_filter(
+    filters: &mut BTreeMap<Ip, RenewedFilter>,
+    group: Ip,
+    renewed_filter: RenewedFilter,
+) -> Result<(), AllocError>
     ensures { OnOk result ((other : Address) → get ip_order filters.new other
         ≡ (if same_group group other then Some renewed_filter else get ip_order filters.old other)) }
 {
@@ -71,7 +84,11 @@ fn filters_before(
     let mut filters = BTreeMap::new(alloc);
     for membership in rows {
         if is_own(membership, endpoint, moment, lifetime_ms) {
-            set_filter(&mut filters, membership.group(), renewed_filter_of(alloc, membership)?)?;
+            set_filter(
+                &mut filters,
+                membership.group(),
+                renewed_filter_of(alloc, membership)?,
+            )?;
         }
     }
     Ok(filters)
@@ -86,7 +103,8 @@ fn apply_record(
     moment: Moment,
 ) -> Result<(), AllocError>
     ensures { OnOk result ((group : Address) → get ip_order filters.new group
-        ≡ renewed_filter_after_all moment (on_group group (group_record.now ∷ [])) (get ip_order filters.old group)) }
+        ≡ renewed_filter_after_all moment (on_group group (group_record.now ∷ []))
+        (get ip_order filters.old group)) }
 {
     let mut renewed_filter = match filters.remove(&group_record.group) {
         Some(renewed_filter) => renewed_filter,
@@ -108,7 +126,8 @@ fn apply_records(
     moment: Moment,
 ) -> Result<(), AllocError>
     ensures { OnOk result ((group : Address) → get ip_order filters.new group
-        ≡ renewed_filter_after_all moment (on_group group records.now) (get ip_order filters.old group)) }
+        ≡ renewed_filter_after_all moment (on_group group records.now)
+        (get ip_order filters.old group)) }
 {
     for group_record in records {
         apply_record(alloc, filters, group_record, moment)?;
@@ -149,7 +168,8 @@ fn memberships_of_filters(
     endpoint: &Endpoint,
     filters: BTreeMap<Ip, RenewedFilter>,
 ) -> Result<Vec<StoredMembership>, AllocError>
-    ensures rows { IfOk result (λ rows. rows.items ≡ filter_map (membership_of_entry endpoint.now) filters.entries) }
+    ensures rows { IfOk result
+        (λ rows. rows.items ≡ filter_map (membership_of_entry endpoint.now) filters.entries) }
     ensures ordered { OnOk result (IsOrdered ip_order filters) }
 {
     let mut rows = Vec::with_capacity(alloc, filters.len())?;

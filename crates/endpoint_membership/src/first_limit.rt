@@ -8,8 +8,8 @@ ghost use Rattle.endpoint_membership.specs.EndpointMemberships.{is_over, limit_b
 ghost use Rattle.endpoint_membership.specs.Limits.{count_conditions, size};
 ghost use Rattle.endpoint_membership.specs.EndpointGroup.{same_group};
 
-use crate::stored::StoredMembership;
 use crate::limits::{LimitFault, Limits};
+use crate::stored::StoredMembership;
 use amt_values::Ip;
 use source_filter::Record;
 
@@ -33,10 +33,15 @@ fn is_over(membership: &StoredMembership, records: &[Record], most: u32) -> bool
     membership.filter().sources().len() > most as usize && is_reported(records, &membership.group())
 }
 
-fn find_over<'a>(own: &'a [StoredMembership], records: &[Record], most: u32) -> Option<&'a StoredMembership>
+fn find_over<'a>(
+    own: &'a [StoredMembership],
+    records: &[Record],
+    most: u32,
+) -> Option<&'a StoredMembership>
     ensures { option_copied result ≡ find (is_over most records.now) own.now }
 {
-    own.iter().find(|membership| is_over(membership, records, most))
+    own.iter()
+        .find(|membership| is_over(membership, records, most))
 }
 
 fn count_passed(limits: &Limits, groups: usize, live: usize) -> Option<LimitFault>

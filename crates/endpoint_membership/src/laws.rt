@@ -15,31 +15,34 @@ ghost use Rattle.endpoint_membership.specs.declared.change.Change.{Change};
 ghost use Rattle.endpoint_membership.specs.declared.change.Change.TheVariants.{Clear, Mark};
 ghost use Rattle.endpoint_membership.specs.Membership.{Membership};
 
-/// A membership lasts as long as reports renew it in time (RFC 3376, section 8.4): what counts of a
-/// place is the longest run of its newest renewals in which no gap, and none up to the moment, is as
-/// long as a lifetime.
+/// A membership lasts as long as reports renew it in time (RFC 3376, section 8.4): what counts of an
+/// endpoint in a group is the longest run of its newest renewals in which no gap, and none up to the
+/// moment, is as long as a lifetime.
 pub fn live_chains_are_longest()
     ensures { (lifetime : ℕ) (endpoint_group : EndpointGroup) (moment : ℕ) (log : List Change)
         → let past = reverse log in
-        IsLongestChain lifetime endpoint_group moment past (live_chain lifetime endpoint_group moment past) }
+        IsLongestChain lifetime endpoint_group moment past
+        (live_chain lifetime endpoint_group moment past) }
 {}
 
-/// A row lets in a source exactly where the newest record that speaks of the source wants it (RFC
-/// 3376, section 4.2.12), so keeping a filter instead of the records loses nothing. Where no row
-/// stands, no source is wanted.
+/// A row lets in a source exactly where the newest record that applies to the source wants it (RFC
+/// 3376, section 4.2.12), so keeping a filter instead of the records loses nothing. Where there
+/// is no row, no source is wanted.
 pub fn rows_admit_by_the_newest_record()
-    ensures row { (lifetime : ℕ) (log : List Change) (endpoint_group : EndpointGroup) (source : Ip) (moment : ℕ)
+    ensures row { (lifetime : ℕ) (log : List Change) (endpoint_group : EndpointGroup)
+        (source : Ip) (moment : ℕ)
         (membership : Membership)
         → latest log ≤ moment
         → membership_at lifetime moment (reverse log) endpoint_group ≡ Some membership
         → admits membership.filter source ≡ is_admitted lifetime log endpoint_group source moment }
-    ensures no_row { (lifetime : ℕ) (log : List Change) (endpoint_group : EndpointGroup) (source : Ip) (moment : ℕ)
+    ensures no_row { (lifetime : ℕ) (log : List Change) (endpoint_group : EndpointGroup)
+        (source : Ip) (moment : ℕ)
         → latest log ≤ moment
         → membership_at lifetime moment (reverse log) endpoint_group ≡ None
         → is_admitted lifetime log endpoint_group source moment ≡ false }
 {}
 
-/// A packet is copied to an endpoint exactly where the newest record that speaks of its source
+/// A packet is copied to an endpoint exactly where the newest record that applies to its source
 /// wants it (RFC 3376, section 4.2.12), and once to each: the targets are in their order, with no
 /// repeats.
 pub fn targets_are_those_that_want()
@@ -52,11 +55,11 @@ pub fn targets_are_those_that_want()
         → IsAscending tunnel_order (targets_of lifetime log group source moment) }
 {}
 
-/// A clearing of an endpoint at which nothing stands needs no place in the log: with no more than
-/// its moment there the same stands from then on, whatever is accepted later. `Table::clear` tells
-/// whether its endpoint was live.
+/// A clearing of an endpoint with no membership needs no entry in the log: with no more than its
+/// moment there the memberships are the same from then on, whatever is accepted later. `Table::clear`
+/// answers whether its endpoint was live.
 pub fn clearings_change_nothing_where_none_is_live()
-    ensures membership_at { (lifetime : ℕ) (log later : List Change) (endpoint : Tunnel) (at moment : ℕ)
+    ensures membership { (lifetime : ℕ) (log later : List Change) (endpoint : Tunnel) (at moment : ℕ)
         (endpoint_group : EndpointGroup)
         → 0 < lifetime
         → HasNoMembership lifetime (max at (latest log)) log endpoint

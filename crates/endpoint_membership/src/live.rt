@@ -10,7 +10,12 @@ ghost use Rattle.endpoint_membership.specs.Membership.{membership_order};
 use crate::stored::StoredMembership;
 use amt_values::{Endpoint, Moment};
 
-fn is_counted(membership: &StoredMembership, besides: &Option<Endpoint>, moment: Moment, lifetime_ms: u64) -> bool
+fn is_counted(
+    membership: &StoredMembership,
+    besides: &Option<Endpoint>,
+    moment: Moment,
+    lifetime_ms: u64,
+) -> bool
     requires { lifetime_ms ≤ 1000000000 }
     ensures { result ≡ is_counted lifetime_ms moment besides.now membership.now }
 {

@@ -57,7 +57,11 @@ impl StoredMemberships {
     }
 
     /// Puts these memberships in the place of the endpoint's.
-    pub fn replace(&mut self, endpoint: &Endpoint, own: Vec<StoredMembership>) -> Result<(), AllocError>
+    pub fn replace(
+        &mut self,
+        endpoint: &Endpoint,
+        own: Vec<StoredMembership>,
+    ) -> Result<(), AllocError>
         ensures ok { OnOk result (self.new ≡
             earlier endpoint.now self.old ++ (own.items ++ later endpoint.now self.old)) }
         ensures err { OnErr result (self.new ≡ self.old) }
@@ -104,7 +108,11 @@ fn end_of(rows: &[StoredMembership], endpoint: &Endpoint) -> usize
         .count()
 }
 
-fn replace(rows: &mut Vec<StoredMembership>, endpoint: &Endpoint, own: Vec<StoredMembership>) -> Result<(), AllocError>
+fn replace(
+    rows: &mut Vec<StoredMembership>,
+    endpoint: &Endpoint,
+    own: Vec<StoredMembership>,
+) -> Result<(), AllocError>
     ensures ok { OnOk result (rows.new.items ≡
         earlier endpoint.now rows.old.items ++ (own.items ++ later endpoint.now rows.old.items)) }
     ensures err { OnErr result (rows.new.items ≡ rows.old.items) }

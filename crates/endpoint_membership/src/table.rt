@@ -1,4 +1,4 @@
-//! The membership table. It must not know messages, sockets or clocks, nor what stores its memberships.
+//! The membership table. It must not know messages, sockets or clocks.
 
 ghost use Rattle.std.specs.Prelude.{◌≡◌, ◌<◌, ◌≤◌, ◌↔◌, ◌+◌, ◌^◌, [], ◌∷◌, ◌++◌, max, true, false, length, Some, None, Contains, IfOk, OnOk, if◌then◌else◌};
 ghost use Rattle.std.specs.List.{AllByRecursion, filter, find};
@@ -16,12 +16,12 @@ ghost use Rattle.endpoint_membership.specs.Table.{ForLog, Holds, IsWithinLimits,
 ghost use Rattle.endpoint_membership.specs.Targets.{targets_of};
 ghost use Rattle.endpoint_membership.specs.declared.change.Change.TheVariants.{Clear, Mark, Reported};
 
+use crate::after_report::memberships_after;
 use crate::first_limit::limit_passed;
-use crate::stored::StoredMembership;
 use crate::limits::{AcceptFault, LimitFault, Limits};
 use crate::live::{count_live, one_unless};
-use crate::after_report::memberships_after;
 use crate::row::{Rows, show};
+use crate::stored::StoredMembership;
 use crate::stored_list::{StoredMemberships, is_live};
 use crate::targets::{Targets, collect_targets};
 use amt_values::{Endpoint, Ip, Moment};
@@ -92,7 +92,8 @@ impl Table {
 
     /// Lets time pass: what was not renewed in time ends.
     pub fn advance(&mut self, at: &Moment)
-        ensures stands { ForLog self.old (λ settings log. Holds settings self.new (log ++ Mark at.now ∷ [])) }
+        ensures stands { ForLog self.old (λ settings log.
+            Holds settings self.new (log ++ Mark at.now ∷ [])) }
         ensures same { ForLog self.old (λ settings log. at.now ≤ latest log → self.new ≡ self.old) }
         ensures within { IsWithinLimits self.old → IsWithinLimits self.new }
     {
@@ -102,9 +103,13 @@ impl Table {
 
     /// Takes away the endpoint's groups; whether it was live.
     pub fn clear(&mut self, endpoint: &Endpoint, at: &Moment) -> bool
-        ensures live { ForLog self.old (λ settings log. result ≡ is_live endpoint.now (memberships_at settings.lifetime (max at.now (latest log)) log)) }
-        ensures stands { ForLog self.old (λ settings log. Holds settings self.new (log ++ Clear endpoint.now at.now ∷ [])) }
-        ensures same { ForLog self.old (λ settings log. at.now ≤ latest log → result ≡ false → self.new ≡ self.old) }
+        ensures live { ForLog self.old (λ settings log.
+            result ≡ is_live endpoint.now
+            (memberships_at settings.lifetime (max at.now (latest log)) log)) }
+        ensures stands { ForLog self.old (λ settings log.
+            Holds settings self.new (log ++ Clear endpoint.now at.now ∷ [])) }
+        ensures same { ForLog self.old (λ settings log.
+            at.now ≤ latest log → result ≡ false → self.new ≡ self.old) }
         ensures within { IsWithinLimits self.old → IsWithinLimits self.new }
     {
         self.moment = self.moment.later(at);
@@ -117,7 +122,8 @@ impl Table {
     /// How many endpoints have some membership.
     pub fn live_endpoints(&self) -> u32
         requires { IsWithinLimits self.now }
-        ensures { ForLog self.now (λ settings log. result ≡ live_count (memberships_now settings log)) }
+        ensures { ForLog self.now (λ settings log.
+            result ≡ live_count (memberships_now settings log)) }
     {
         count_live(self.rows.as_slice(), &None, self.moment, self.lifetime_ms) as u32
     }
@@ -136,8 +142,10 @@ impl Table {
     /// many endpoints as the limits allow is always enough.
     pub fn admitting_into(&self, group: &Ip, source: &Ip, at: &Moment, out: &mut Targets)
         requires room { live_count self.now.rows ≤ out.old.room }
-        ensures targets { ForLog self.now (λ settings log. out.new.endpoints ≡ targets_of settings.lifetime log group.now source.now at.now) }
-        ensures exactly { ForLog self.now (λ settings log. (endpoint : Tunnel) → Contains out.new.endpoints endpoint
+        ensures targets { ForLog self.now (λ settings log.
+            out.new.endpoints ≡ targets_of settings.lifetime log group.now source.now at.now) }
+        ensures exactly { ForLog self.now (λ settings log. (endpoint : Tunnel)
+            → Contains out.new.endpoints endpoint
             ↔ (is_admitted settings.lifetime log (record { endpoint = endpoint; group = group.now })
             source.now at.now ≡ true)) }
         ensures ascending { IsAscending tunnel_order out.new.endpoints }
@@ -167,14 +175,8 @@ impl Table {
         ensures { IfOk result (λ own. AreOwn self.now.lifetime moment endpoint.now records.now
             self.now.rows own.items) }
     {
-        memberships_after(
-            alloc,
-            self.rows.as_slice(),
-            endpoint,
-            records,
-            moment,
-            self.lifetime_ms,
-        )
+        let rows = self.rows.as_slice();
+        memberships_after(alloc, rows, endpoint, records, moment, self.lifetime_ms)
     }
 
     // The first limit that a report passes, if these are its endpoint's memberships afterwards.
@@ -205,7 +207,7 @@ impl Table {
 
     /// Applies the records of a report in their order, or none of them.
     ///
-    /// The limits are tried on the memberships that there would be afterwards: first the size of the
+    /// The limits are tried on the memberships that there would be afterwards: first the sizes of
     /// reported groups, then the endpoint's groups, then the live endpoints. A report that passes a
     /// limit lets time pass and changes nothing else.
     pub fn accept(
@@ -217,17 +219,26 @@ impl Table {
     ) -> Result<(), AcceptFault>
         requires within { IsWithinLimits self.old }
         requires items { item_count records.now ≤ 16777216 }
-        ensures passes { ForLog self.old (λ settings log. OnOk result (limit_passed settings log endpoint.now records.now at.now ≡ None)) }
-        ensures stands { ForLog self.old (λ settings log. OnOk result (Holds settings self.new (log ++ Reported endpoint.now records.now at.now ∷ []))) }
+        ensures passes { ForLog self.old (λ settings log.
+            OnOk result (limit_passed settings log endpoint.now records.now at.now ≡ None)) }
+        ensures stands { ForLog self.old (λ settings log. OnOk result (
+            Holds settings self.new (log ++ Reported endpoint.now records.now at.now ∷ []))) }
 
-        ensures limit { ForLog self.old (λ settings log. OnLimit result (λ fault. limit_passed settings log endpoint.now records.now at.now ≡ Some fault)) }
-        ensures marks { ForLog self.old (λ settings log. OnLimit result (λ _. Holds settings self.new (log ++ Mark at.now ∷ []))) }
-        ensures same { ForLog self.old (λ settings log. at.now ≤ latest log → OnLimit result (λ _. self.new ≡ self.old)) }
+        ensures limit { ForLog self.old (λ settings log. OnLimit result (λ fault.
+            limit_passed settings log endpoint.now records.now at.now ≡ Some fault)) }
+        ensures marks { ForLog self.old (λ settings log.
+            OnLimit result (λ _. Holds settings self.new (log ++ Mark at.now ∷ []))) }
+        ensures same { ForLog self.old (λ settings log.
+            at.now ≤ latest log → OnLimit result (λ _. self.new ≡ self.old)) }
         ensures memory { OnMemory result (self.new ≡ self.old) }
 
         ensures within { IsWithinLimits self.new }
-        ensures fits { ForLog self.old (λ settings log. OnOk result (IsWithin settings.limits (memberships_now settings (log ++ Reported endpoint.now records.now at.now ∷ [])))) }
-        ensures fits_not { ForLog self.old (λ settings log. OnLimit result (λ _. IsWithin settings.limits (memberships_now settings (log ++ Reported endpoint.now records.now at.now ∷ [])) → ⊥)) }
+        ensures fits { ForLog self.old (λ settings log. OnOk result (
+            IsWithin settings.limits (memberships_now settings
+            (log ++ Reported endpoint.now records.now at.now ∷ [])))) }
+        ensures fits_not { ForLog self.old (λ settings log. OnLimit result (λ _.
+            IsWithin settings.limits (memberships_now settings
+            (log ++ Reported endpoint.now records.now at.now ∷ [])) → ⊥)) }
     {
         let moment = self.moment.later(at);
         let own = match self.own_after(alloc, endpoint, records, moment) {

@@ -10,7 +10,8 @@ use std::marker::Model;
 
 /// Who gets a copy of a packet.
 ///
-/// The room for the endpoints is taken once, so that no packet waits for memory or is lost without it.
+/// The room for the endpoints is taken once, so that no packet waits for memory or is lost without
+/// it.
 #[derive(Debug, Drop)]
 pub struct Targets {
     endpoints: Vec<Endpoint>,
@@ -65,7 +66,13 @@ impl Targets {
     }
 }
 
-fn is_target(membership: &StoredMembership, group: &Ip, source: &Ip, moment: Moment, lifetime_ms: u64) -> bool
+fn is_target(
+    membership: &StoredMembership,
+    group: &Ip,
+    source: &Ip,
+    moment: Moment,
+    lifetime_ms: u64,
+) -> bool
     requires { lifetime_ms ≤ 1000000000 }
     ensures { result ≡ is_target lifetime_ms moment group.now source.now membership.now }
 {

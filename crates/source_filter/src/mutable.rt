@@ -103,7 +103,10 @@ impl MutableFilter {
 
     // A whole filter in the place of the old one.
     fn set(&mut self, mode: Mode, listed: &[Ip]) -> Result<(), AllocError>
-        ensures { OnOk result (self.new ≡ record { mode = mode; sources = ascending_sources listed.now }) }
+        ensures { OnOk result (self.new ≡ record {
+          mode = mode;
+          sources = ascending_sources listed.now;
+        }) }
     {
         self.mode = mode;
         self.sources.clear();

@@ -1,9 +1,11 @@
-// What records wish by the definitions: each speaks for itself. They stand newest first.
+//! What records make of a group's filter by the definitions: each speaks for itself, and they stand
+//! newest first. It must not know endpoints or moments.
+
 ghost use Rattle.std.specs.Prelude.{◌≡◌, Some, None, if◌then◌else◌, IfOk};
 ghost use Rattle.std.specs.List.{filter};
 ghost use Rattle.source_filter.specs.Record.{is_full, lists, says, speaks};
-ghost use Rattle.endpoint_membership.specs.Rows.{is_standing};
-ghost use Rattle.endpoint_membership.specs.Wishes.{admitted, excludes, is_counted, is_excluding, named, wish_of};
+ghost use Rattle.source_filter.specs.Filter.{wants_any};
+ghost use Rattle.endpoint_membership.specs.GroupFilter.{records_admit, excludes, is_counted_source, is_excluding, named_sources, filter_of};
 
 use amt_values::Ip;
 use source_filter::{Filter, Mode, Record, RecordKind};
@@ -30,7 +32,7 @@ fn lists(sources: &[Ip], source: &Ip) -> bool
     sources.iter().any(|listed| source == listed)
 }
 
-// What a record says of a source, where it speaks of it.
+// What a record says of a source, where it applies to it.
 fn word_on(group_record: &Record, source: &Ip) -> Option<bool>
     ensures { result ≡ (if speaks group_record.now source.now
         then Some (says group_record.now source.now) else None) }
@@ -45,7 +47,7 @@ fn word_on(group_record: &Record, source: &Ip) -> Option<bool>
 }
 
 pub fn is_admitted(records: &[Record], source: &Ip) -> bool
-    ensures { result ≡ admitted records.now source.now }
+    ensures { result ≡ records_admit records.now source.now }
 {
     match records.split_first() {
         None => false,
@@ -71,14 +73,14 @@ fn excludes(records: &[Record]) -> bool
     }
 }
 
-fn is_counted(records: &[Record], source: &Ip) -> bool
-    ensures { result ≡ is_counted records.now source.now }
+fn is_counted_source(records: &[Record], source: &Ip) -> bool
+    ensures { result ≡ is_counted_source records.now source.now }
 {
     excludes(records) != is_admitted(records, source)
 }
 
-fn named(alloc: Global, records: &[Record]) -> Result<Vec<Ip>, AllocError>
-    ensures { IfOk result (λ sources. sources.items ≡ named records.now) }
+fn named_sources(alloc: Global, records: &[Record]) -> Result<Vec<Ip>, AllocError>
+    ensures { IfOk result (λ sources. sources.items ≡ named_sources records.now) }
 {
     let mut sources = Vec::new(alloc);
     for group_record in records {
@@ -88,32 +90,32 @@ fn named(alloc: Global, records: &[Record]) -> Result<Vec<Ip>, AllocError>
 }
 
 fn counted(alloc: Global, records: &[Record], sources: &[Ip]) -> Result<Vec<Ip>, AllocError>
-    ensures { IfOk result (λ found. found.items ≡ filter (is_counted records.now) sources.now) }
+    ensures { IfOk result (λ found. found.items ≡ filter (is_counted_source records.now) sources.now) }
 {
     let mut found = Vec::new(alloc);
     for source in sources {
-        if is_counted(records, source) {
+        if is_counted_source(records, source) {
             found.push(*source)?;
         }
     }
     Ok(found)
 }
 
-pub fn wish_of(alloc: Global, records: &[Record]) -> Result<Filter, AllocError>
-    ensures { IfOk result (λ filter. filter ≡ wish_of records.now) }
+pub fn filter_of(alloc: Global, records: &[Record]) -> Result<Filter, AllocError>
+    ensures { IfOk result (λ filter. filter ≡ filter_of records.now) }
 {
     let mode = if excludes(records) {
         Mode::Exclude
     } else {
         Mode::Include
     };
-    let sources = named(alloc, records)?;
+    let sources = named_sources(alloc, records)?;
     let sources = counted(alloc, records, sources.as_slice())?;
     Filter::new(alloc, mode, sources.as_slice())
 }
 
-pub fn is_standing(filter: &Filter) -> bool
-    ensures { result ≡ is_standing filter.now }
+pub fn wants_any(filter: &Filter) -> bool
+    ensures { result ≡ wants_any filter.now }
 {
     match filter.mode() {
         Mode::Include => !filter.sources().is_empty(),

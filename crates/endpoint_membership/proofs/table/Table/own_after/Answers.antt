@@ -8,5 +8,5 @@ use Rattle.endpoint_membership.proofs.table.Table.own_after.Goals as goal
 pub returns : goal.returns
 returns c =
     subst (λ (table : TableValue). IfOk c.memberships_after.result (λ own. AreOwn table.lifetime c.args.moment c.args.endpoint.now c.args.records.now table.rows own.items)) c.self.view_is
-    (subst (λ (rows : List Membership). IfOk c.memberships_after.result (λ own. AreOwn c.self.inside.lifetime_ms c.args.moment c.args.endpoint.now c.args.records.now rows own.items)) c.as_slice.ensures
-    (c.memberships_after.ensures (subst (IsAscending membership_order) (sym c.as_slice.ensures) c.self.invariant.1)))
+    (subst (λ (rows : List Membership). IfOk c.memberships_after.result (λ own. AreOwn c.self.inside.lifetime_ms c.args.moment c.args.endpoint.now c.args.records.now rows own.items)) c.as_slice-rows.ensures
+    (c.memberships_after.ensures (subst (IsAscending membership_order) (sym c.as_slice-rows.ensures) c.self.invariant.1)))
