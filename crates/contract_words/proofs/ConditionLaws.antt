@@ -1,6 +1,8 @@
 -- Conditions of which none holds, the first of two lists of conditions, and the value that is read where
 -- none holds.
-use Rattle.std.proofs.Common.{◌≡◌, ℕ, [], ◌∷◌, ◌++◌, Bool, true, false, not, eqb, Option, None, Some, Ok, Err, refl, sym, ap, ◌∙◌, arith}
+use Rattle.std.proofs.Common.{◌≡◌, ℕ, List, [], ◌∷◌, ◌++◌, map, Bool, true, false, cond, not, eqb, Option, None, Some, Ok, Err, refl, sym, ap, ◌∙◌, arith}
+use Rattle.std.specs.List.{find}
+use Rattle.std.specs.Option.{option_map}
 use Rattle.std.proofs.lemmas.Bool.{eqb-true, not-false}
 use Rattle.contract_words.specs.Conditions.{Conditions, NoneHolds, first_holding, first_of, unless}
 
@@ -50,6 +52,17 @@ pub first_holding-here : {Cause : Type 0} (conditions more : Conditions Cause) (
     → first_holding (conditions ++ more) ≡ Some cause
 first_holding-here conditions more cause some =
     first_holding-append conditions more ∙ ap (λ first. first_of first (first_holding more)) some
+
+first_holding-map_step : {A Cause : Type 0} (passes : Bool) (cause : A → Cause) (x : A) (rest : Conditions Cause) (found : Option A) → first_holding rest ≡ option_map cause found
+    → first_holding ((passes, cause x) ∷ rest) ≡ option_map cause (cond passes (Some x) found)
+first_holding-map_step true cause x rest found same = refl
+first_holding-map_step false cause x rest found same = same
+
+-- a condition for each item: the cause of the first item that passes
+pub first_holding-map : {A Cause : Type 0} (test : A → Bool) (cause : A → Cause) (xs : List A) → first_holding (map (λ x. (test x, cause x)) xs) ≡ option_map cause (find test xs)
+first_holding-map test cause [] = refl
+first_holding-map test cause (x ∷ xs) =
+    first_holding-map_step (test x) cause x (map (λ each. (test each, cause each)) xs) (find test xs) (first_holding-map test cause xs)
 
 pub holds_not : (a b : ℕ) → not (eqb a b) ≡ false → a ≡ b
 holds_not a b none = eqb-true a b (not-false _ none)

@@ -1,11 +1,12 @@
 pub mod Admission
 pub mod Chain
-pub mod Kept
+pub mod EndpointGroup
+pub mod EndpointMemberships
+pub mod GroupFilter
 pub mod Limits
 pub mod Log
-pub mod Own
-pub mod Place
-pub mod Rows
+pub mod Membership
+pub mod Memberships
+pub mod Stored
 pub mod Table
 pub mod Targets
-pub mod Wishes

@@ -7,7 +7,7 @@ use Rattle.std.specs.List.{filter}
 use Rattle.amt_values.specs.declared.address.Ip.{Ip}
 use Rattle.source_filter.specs.declared.record.Record.{Record}
 use Rattle.source_filter.specs.declared.record.RecordKind.TheVariants.{ToIn}
-use Rattle.endpoint_membership.specs.Place.{Place, same_endpoint, same_group}
+use Rattle.endpoint_membership.specs.EndpointGroup.{EndpointGroup, same_endpoint, same_group}
 use Rattle.endpoint_membership.specs.declared.change.Change.{Change}
 use Rattle.endpoint_membership.specs.declared.change.Change.TheVariants.{Reported, Clear, Mark}
 
@@ -26,33 +26,34 @@ latest (entry ∷ rest) = max (brought entry) (latest rest)
 abbrev pub leaving : Ip → Record
 leaving group = record { kind = ToIn; group = group; sources = [] }
 
--- the records that an entry makes at a place, newest first; a clearing leaves every group
-abbrev pub records_at : Place → Change → List Record
-records_at place (Reported endpoint records at) =
-    if same_endpoint place.endpoint endpoint then reverse (filter (λ group_record. same_group place.group group_record.group) records) else []
-records_at place (Clear endpoint at) = if same_endpoint place.endpoint endpoint then leaving place.group ∷ [] else []
-records_at place (Mark at) = []
+-- the records that an entry makes on a pair, newest first; a clearing leaves every group
+abbrev pub records_at : EndpointGroup → Change → List Record
+records_at endpoint_group (Reported endpoint records at) =
+    if same_endpoint endpoint_group.endpoint endpoint then reverse (filter (λ group_record. same_group endpoint_group.group group_record.group) records) else []
+records_at endpoint_group (Clear endpoint at) = if same_endpoint endpoint_group.endpoint endpoint then leaving endpoint_group.group ∷ [] else []
+records_at endpoint_group (Mark at) = []
 
+-- the list has no item
 abbrev pub is_empty : {X : Type 0} → List X → Bool
 is_empty [] = true
 is_empty (x ∷ xs) = false
 
--- the entry makes a record at the place
-abbrev pub concerns : Place → Change → Bool
-concerns place entry = not (is_empty (records_at place entry))
+-- the entry makes a record on the pair
+abbrev pub concerns : EndpointGroup → Change → Bool
+concerns endpoint_group entry = not (is_empty (records_at endpoint_group entry))
 
--- The records at the place that still count at a moment not before the latest, newest first. Each
+-- The records on the pair that still count at a moment not before the latest, newest first. Each
 -- entry renews the membership for a lifetime, the Group Membership Interval of RFC 3376, section
 -- 8.4: an entry counts where it was made less than a lifetime before the next one that counts, and
 -- the last one less than a lifetime before the moment.
-abbrev pub live_chain : ℕ → Place → ℕ → List Change → List Record
-live_chain lifetime place moment [] = []
-live_chain lifetime place moment (entry ∷ older) =
-    if concerns place entry
-    then (if nat_lt moment (latest (entry ∷ older) + lifetime) then records_at place entry ++ live_chain lifetime place (latest (entry ∷ older)) older else [])
-    else live_chain lifetime place moment older
+abbrev pub live_chain : ℕ → EndpointGroup → ℕ → List Change → List Record
+live_chain lifetime endpoint_group moment [] = []
+live_chain lifetime endpoint_group moment (entry ∷ older) =
+    if concerns endpoint_group entry
+    then (if nat_lt moment (latest (entry ∷ older) + lifetime) then records_at endpoint_group entry ++ live_chain lifetime endpoint_group (latest (entry ∷ older)) older else [])
+    else live_chain lifetime endpoint_group moment older
 
--- the moment of the newest entry that concerns the place, or 0
-abbrev pub renewed_at : Place → List Change → ℕ
-renewed_at place [] = 0
-renewed_at place (entry ∷ older) = if concerns place entry then latest (entry ∷ older) else renewed_at place older
+-- the moment of the newest entry that concerns the pair, or 0
+abbrev pub renewed_at : EndpointGroup → List Change → ℕ
+renewed_at endpoint_group [] = 0
+renewed_at endpoint_group (entry ∷ older) = if concerns endpoint_group entry then latest (entry ∷ older) else renewed_at endpoint_group older

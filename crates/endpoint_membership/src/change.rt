@@ -1,3 +1,5 @@
+//! Entries of the log. It must not know what they mean.
+
 use amt_values::{Endpoint, Moment};
 use source_filter::Records;
 

@@ -5,41 +5,44 @@ ghost use Rattle.amt_values.specs.Order.{tunnel_order};
 ghost use Rattle.amt_values.specs.Tunnel.{Tunnel};
 ghost use Rattle.source_filter.specs.Filter.{admits};
 ghost use Rattle.contract_words.specs.Ascending.{IsAscending};
-ghost use Rattle.endpoint_membership.specs.Admission.{NothingStands, is_admitted};
+ghost use Rattle.endpoint_membership.specs.Admission.{HasNoMembership, is_admitted};
 ghost use Rattle.endpoint_membership.specs.Chain.{IsLongestChain};
 ghost use Rattle.endpoint_membership.specs.Log.{latest, live_chain};
-ghost use Rattle.endpoint_membership.specs.Place.{Place};
-ghost use Rattle.endpoint_membership.specs.Rows.{is_live, rows_of, standing, standing_rows};
+ghost use Rattle.endpoint_membership.specs.EndpointGroup.{EndpointGroup};
+ghost use Rattle.endpoint_membership.specs.Memberships.{is_live, rows_of, membership_at, memberships_at};
 ghost use Rattle.endpoint_membership.specs.Targets.{targets_of};
 ghost use Rattle.endpoint_membership.specs.declared.change.Change.{Change};
 ghost use Rattle.endpoint_membership.specs.declared.change.Change.TheVariants.{Clear, Mark};
-ghost use Rattle.endpoint_membership.specs.declared.kept.Kept.{Kept};
+ghost use Rattle.endpoint_membership.specs.Membership.{Membership};
 
-/// A membership lasts as long as reports renew it in time (RFC 3376, section 8.4): what counts of a
-/// place is the longest run of its newest renewals in which no gap, and none up to the moment, is as
-/// long as a lifetime.
+/// A membership lasts as long as reports renew it in time (RFC 3376, section 8.4): what counts of an
+/// endpoint in a group is the longest run of its newest renewals in which no gap, and none up to the
+/// moment, is as long as a lifetime.
 pub fn live_chains_are_longest()
-    ensures { (lifetime : ℕ) (place : Place) (moment : ℕ) (log : List Change)
+    ensures { (lifetime : ℕ) (endpoint_group : EndpointGroup) (moment : ℕ) (log : List Change)
         → let past = reverse log in
-        IsLongestChain lifetime place moment past (live_chain lifetime place moment past) }
+        IsLongestChain lifetime endpoint_group moment past
+        (live_chain lifetime endpoint_group moment past) }
 {}
 
-/// A row lets in a source exactly where the newest record that speaks of the source wants it (RFC
-/// 3376, section 4.2.12), so keeping a filter instead of the records loses nothing. Where no row
-/// stands, no source is wanted.
+/// A row lets in a source exactly where the newest record that applies to the source wants it (RFC
+/// 3376, section 4.2.12), so keeping a filter instead of the records loses nothing. Where there
+/// is no row, no source is wanted.
 pub fn rows_admit_by_the_newest_record()
-    ensures row { (lifetime : ℕ) (log : List Change) (place : Place) (source : Ip) (moment : ℕ)
-        (kept : Kept)
+    ensures row { (lifetime : ℕ) (log : List Change) (endpoint_group : EndpointGroup)
+        (source : Ip) (moment : ℕ)
+        (membership : Membership)
         → latest log ≤ moment
-        → standing lifetime moment (reverse log) place ≡ Some kept
-        → admits kept.filter source ≡ is_admitted lifetime log place source moment }
-    ensures no_row { (lifetime : ℕ) (log : List Change) (place : Place) (source : Ip) (moment : ℕ)
+        → membership_at lifetime moment (reverse log) endpoint_group ≡ Some membership
+        → admits membership.filter source ≡ is_admitted lifetime log endpoint_group source moment }
+    ensures no_row { (lifetime : ℕ) (log : List Change) (endpoint_group : EndpointGroup)
+        (source : Ip) (moment : ℕ)
         → latest log ≤ moment
-        → standing lifetime moment (reverse log) place ≡ None
-        → is_admitted lifetime log place source moment ≡ false }
+        → membership_at lifetime moment (reverse log) endpoint_group ≡ None
+        → is_admitted lifetime log endpoint_group source moment ≡ false }
 {}
 
-/// A packet is copied to an endpoint exactly where the newest record that speaks of its source
+/// A packet is copied to an endpoint exactly where the newest record that applies to its source
 /// wants it (RFC 3376, section 4.2.12), and once to each: the targets are in their order, with no
 /// repeats.
 pub fn targets_are_those_that_want()
@@ -52,20 +55,20 @@ pub fn targets_are_those_that_want()
         → IsAscending tunnel_order (targets_of lifetime log group source moment) }
 {}
 
-/// A clearing of an endpoint at which nothing stands needs no place in the log: with no more than
-/// its moment there the same stands from then on, whatever is accepted later. `Table::clear` tells
-/// whether its endpoint was live.
+/// A clearing of an endpoint with no membership needs no entry in the log: with no more than its
+/// moment there the memberships are the same from then on, whatever is accepted later. `Table::clear`
+/// answers whether its endpoint was live.
 pub fn clearings_change_nothing_where_none_is_live()
-    ensures standing { (lifetime : ℕ) (log later : List Change) (endpoint : Tunnel) (at moment : ℕ)
-        (place : Place)
+    ensures membership { (lifetime : ℕ) (log later : List Change) (endpoint : Tunnel) (at moment : ℕ)
+        (endpoint_group : EndpointGroup)
         → 0 < lifetime
-        → NothingStands lifetime (max at (latest log)) log endpoint
+        → HasNoMembership lifetime (max at (latest log)) log endpoint
         → latest (log ++ Clear endpoint at ∷ later) ≤ moment
-        → standing lifetime moment (reverse (log ++ Clear endpoint at ∷ later)) place
-        ≡ standing lifetime moment (reverse (log ++ Mark at ∷ later)) place }
+        → membership_at lifetime moment (reverse (log ++ Clear endpoint at ∷ later)) endpoint_group
+        ≡ membership_at lifetime moment (reverse (log ++ Mark at ∷ later)) endpoint_group }
     ensures rows { (lifetime : ℕ) (log later : List Change) (endpoint : Tunnel) (at moment : ℕ)
         → 0 < lifetime
-        → is_live endpoint (standing_rows lifetime (max at (latest log)) log) ≡ false
+        → is_live endpoint (memberships_at lifetime (max at (latest log)) log) ≡ false
         → latest (log ++ Clear endpoint at ∷ later) ≤ moment
         → rows_of lifetime moment (log ++ Clear endpoint at ∷ later)
         ≡ rows_of lifetime moment (log ++ Mark at ∷ later) }

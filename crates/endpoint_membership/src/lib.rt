@@ -1,23 +1,22 @@
 //! What every tunnel endpoint wants: the membership table of a relay.
 //!
-//! Contract: a table stands for the whole log of accepted entries, so its rows are what the log's
-//! live records wish, whatever calls made them.
+//! Contract: a table stands for the whole log of accepted entries, so its memberships are what the
+//! log's live records want, whatever calls made them.
 //! It knows no message, socket or clock.
 //! Standard: RFC 7450, section 5.3; RFC 3376, sections 3.2, 4.2.12 and 8.4.
 #![tactic(auto)]
 
+mod after_report;
 mod change;
-mod judge;
-mod kept;
+mod first_limit;
 mod laws;
 mod limits;
 mod live;
-mod own;
 mod row;
-mod sweep;
+mod stored;
+mod stored_list;
 mod table;
 mod targets;
-mod wish;
 
 pub use change::Change;
 pub use laws::{

@@ -1,11 +1,13 @@
+//! How much a table may keep, and what a report passes. It must not know how memberships are kept.
+
 use amt_values::Ip;
 
 /// How much a table keeps; each is at most 16,777,216.
 #[derive(Clone, Copy, Debug, PartialEq, Eq)]
 pub struct Limits {
-    /// Endpoints at which some group stands.
+    /// Endpoints with some membership.
     pub endpoints: u32,
-    /// Groups that stand at one endpoint.
+    /// Groups of one endpoint.
     pub groups: u32,
     /// Listed sources of one group at one endpoint.
     pub sources: u32,
@@ -16,7 +18,7 @@ pub struct Limits {
 pub enum LimitFault {
     /// The least reported group with too many sources, and how many it would list.
     Sources(Ip, u32),
-    /// How many groups would stand at the endpoint.
+    /// How many groups the endpoint would have.
     Groups(u32),
     /// How many endpoints would be live.
     Endpoints(u32),

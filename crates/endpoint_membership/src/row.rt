@@ -1,13 +1,15 @@
-ghost use Rattle.std.specs.Prelude.{◌≡◌, map, IfOk};
-ghost use Rattle.endpoint_membership.specs.Rows.{shown};
+//! Memberships as they are shown. It must not know how a table stores them.
 
-use crate::kept::Kept;
+ghost use Rattle.std.specs.Prelude.{◌≡◌, map, IfOk};
+ghost use Rattle.endpoint_membership.specs.Memberships.{row_of};
+
+use crate::stored::StoredMembership;
 use amt_values::{Endpoint, Ip};
 use contract_words::Items;
 use source_filter::{Filter, copy_filter};
 use std::alloc::{AllocError, Global};
 
-/// A group that stands at an endpoint.
+/// The membership of an endpoint in a group.
 #[derive(Debug, Drop)]
 pub struct Row {
     pub endpoint: Endpoint,
@@ -18,23 +20,23 @@ pub struct Row {
 /// Rows, by endpoint and then by group.
 pub type Rows = Items<Row>;
 
-fn shown(alloc: Global, kept: &Kept) -> Result<Row, AllocError>
-    ensures { IfOk result (λ row. row ≡ shown kept.now) }
+fn row_of(alloc: Global, membership: &StoredMembership) -> Result<Row, AllocError>
+    ensures { IfOk result (λ row. row ≡ row_of membership.now) }
 {
     Ok(Row {
-        endpoint: kept.endpoint,
-        group: kept.group,
-        filter: copy_filter(alloc, &kept.filter)?,
+        endpoint: membership.endpoint(),
+        group: membership.group(),
+        filter: copy_filter(alloc, membership.filter())?,
     })
 }
 
-// Rows as they are shown, in their order.
-pub fn show(alloc: Global, rows: &[Kept]) -> Result<Rows, AllocError>
-    ensures { IfOk result (λ all. all ≡ map shown rows.now) }
+// Memberships as rows, in their order.
+pub fn show(alloc: Global, rows: &[StoredMembership]) -> Result<Rows, AllocError>
+    ensures { IfOk result (λ all. all ≡ map row_of rows.now) }
 {
     let mut all = Rows::new(alloc);
-    for kept in rows {
-        all.push(shown(alloc, kept)?)?;
+    for membership in rows {
+        all.push(row_of(alloc, membership)?)?;
     }
     Ok(all)
 }

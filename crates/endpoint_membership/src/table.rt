@@ -1,57 +1,58 @@
-ghost use Rattle.std.specs.Prelude.{◌≡◌, ◌<◌, ◌≤◌, ◌↔◌, ◌+◌, ◌^◌, [], ◌∷◌, ◌++◌, List, max, true, false, length, Some, None, Contains, IfOk, OnOk, if◌then◌else◌};
+//! The membership table. It must not know messages, sockets or clocks.
+
+ghost use Rattle.std.specs.Prelude.{◌≡◌, ◌<◌, ◌≤◌, ◌↔◌, ◌+◌, ◌^◌, [], ◌∷◌, ◌++◌, max, true, false, length, Some, None, Contains, IfOk, OnOk, if◌then◌else◌};
 ghost use Rattle.std.specs.List.{AllByRecursion, filter, find};
 ghost use Rattle.amt_values.specs.Order.{tunnel_order};
 ghost use Rattle.amt_values.specs.Tunnel.{Tunnel};
 ghost use Rattle.source_filter.specs.Record.{item_count};
 ghost use Rattle.contract_words.specs.Ascending.{IsAscending};
 ghost use Rattle.endpoint_membership.specs.Admission.{is_admitted};
-ghost use Rattle.endpoint_membership.specs.Kept.{is_counted};
-ghost use Rattle.endpoint_membership.specs.Limits.{AreFew, IsWithin, fault_by, live_count, size};
+ghost use Rattle.endpoint_membership.specs.Stored.{is_counted};
+ghost use Rattle.endpoint_membership.specs.Limits.{AreFew, IsWithin, live_count, size};
+ghost use Rattle.endpoint_membership.specs.EndpointMemberships.{limit_by, AreOwn, is_over};
 ghost use Rattle.endpoint_membership.specs.Log.{is_empty, latest};
-ghost use Rattle.endpoint_membership.specs.Own.{AreOwn, is_over};
-ghost use Rattle.endpoint_membership.specs.Rows.{is_live, rows_of, standing_rows};
-ghost use Rattle.endpoint_membership.specs.Table.{Holds, IsWithinLimits, OnLimit, OnMemory, Terms, limit_passed, standing_now};
+ghost use Rattle.endpoint_membership.specs.Memberships.{is_live, rows_of, memberships_at};
+ghost use Rattle.endpoint_membership.specs.Table.{ForLog, Holds, IsWithinLimits, OnLimit, OnMemory, limit_passed, memberships_now};
 ghost use Rattle.endpoint_membership.specs.Targets.{targets_of};
-ghost use Rattle.endpoint_membership.specs.declared.change.Change.{Change as Entry};
 ghost use Rattle.endpoint_membership.specs.declared.change.Change.TheVariants.{Clear, Mark, Reported};
 
-use crate::judge::limit_passed;
-use crate::kept::Kept;
+use crate::after_report::memberships_after;
+use crate::first_limit::limit_passed;
 use crate::limits::{AcceptFault, LimitFault, Limits};
 use crate::live::{count_live, one_unless};
-use crate::own::own_rows;
 use crate::row::{Rows, show};
-use crate::sweep::{KeptRows, is_live};
+use crate::stored::StoredMembership;
+use crate::stored_list::{StoredMemberships, is_live};
 use crate::targets::{Targets, collect_targets};
 use amt_values::{Endpoint, Ip, Moment};
 use source_filter::Records;
 use std::alloc::{AllocError, Global};
 use std::marker::Model;
 
-/// The groups that stand at each tunnel endpoint of a relay.
+/// The memberships of each tunnel endpoint of a relay.
 ///
-/// A group stands from an accepted record by which something is wanted of it until a lifetime has
-/// passed with no further record. Each call first moves the table to the later of its own moment
-/// and the one that it is given.
+/// A membership lasts from an accepted record by which something is wanted of its group until one
+/// lifetime passes without another record, or a record or a clearing ends it. Each call first moves
+/// the table to the later of its own moment and the one that it is given.
 #[derive(Debug, Drop)]
 pub struct Table {
     moment: Moment,
     limits: Limits,
     lifetime_ms: u64,
     // By endpoint, then group.
-    rows: KeptRows,
+    rows: StoredMemberships,
 }
 
 impl Model for Table {
     ghost use Rattle.contract_words.specs.Ascending.{IsAscending};
-    ghost use Rattle.endpoint_membership.specs.Rows.{kept_order};
+    ghost use Rattle.endpoint_membership.specs.Membership.{membership_order};
     ghost use Rattle.endpoint_membership.specs.Table.{AreLawful, TableValue};
 
     ghost Value = { TableValue };
 
     ghost view = { λ t. record { moment = t.moment; limits = t.limits; lifetime = t.lifetime_ms; rows = t.rows } };
 
-    ghost invariant = { λ t. AreLawful t.limits t.lifetime_ms × IsAscending kept_order t.rows };
+    ghost invariant = { λ t. AreLawful t.limits t.lifetime_ms × IsAscending membership_order t.rows };
 
     // Nothing is kept beside what contracts see.
     ghost inverse = { λ v. record { moment = v.moment; limits = v.limits; lifetime_ms = v.lifetime; rows = v.rows } };
@@ -70,15 +71,14 @@ impl Table {
             moment: Moment::new(0).unwrap(),
             limits,
             lifetime_ms,
-            rows: KeptRows::new(alloc),
+            rows: StoredMemberships::new(alloc),
         })
     }
 
     /// The latest moment of all calls.
     pub fn now(&self) -> Moment
         ensures value { result ≡ self.now.moment }
-        ensures latest { (terms : Terms) (log : List Entry) → Holds terms self.now log
-            → result ≡ latest log }
+        ensures latest { ForLog self.now (λ settings log. result ≡ latest log) }
     {
         self.moment
     }
@@ -92,10 +92,9 @@ impl Table {
 
     /// Lets time pass: what was not renewed in time ends.
     pub fn advance(&mut self, at: &Moment)
-        ensures stands { (terms : Terms) (log : List Entry) → Holds terms self.old log
-            → Holds terms self.new (log ++ Mark at.now ∷ []) }
-        ensures same { (terms : Terms) (log : List Entry) → Holds terms self.old log
-            → at.now ≤ latest log → self.new ≡ self.old }
+        ensures stands { ForLog self.old (λ settings log.
+            Holds settings self.new (log ++ Mark at.now ∷ [])) }
+        ensures same { ForLog self.old (λ settings log. at.now ≤ latest log → self.new ≡ self.old) }
         ensures within { IsWithinLimits self.old → IsWithinLimits self.new }
     {
         self.moment = self.moment.later(at);
@@ -104,12 +103,13 @@ impl Table {
 
     /// Takes away the endpoint's groups; whether it was live.
     pub fn clear(&mut self, endpoint: &Endpoint, at: &Moment) -> bool
-        ensures live { (terms : Terms) (log : List Entry) → Holds terms self.old log
-            → result ≡ is_live endpoint.now (standing_rows terms.lifetime (max at.now (latest log)) log) }
-        ensures stands { (terms : Terms) (log : List Entry) → Holds terms self.old log
-            → Holds terms self.new (log ++ Clear endpoint.now at.now ∷ []) }
-        ensures same { (terms : Terms) (log : List Entry) → Holds terms self.old log
-            → at.now ≤ latest log → result ≡ false → self.new ≡ self.old }
+        ensures live { ForLog self.old (λ settings log.
+            result ≡ is_live endpoint.now
+            (memberships_at settings.lifetime (max at.now (latest log)) log)) }
+        ensures stands { ForLog self.old (λ settings log.
+            Holds settings self.new (log ++ Clear endpoint.now at.now ∷ [])) }
+        ensures same { ForLog self.old (λ settings log.
+            at.now ≤ latest log → result ≡ false → self.new ≡ self.old) }
         ensures within { IsWithinLimits self.old → IsWithinLimits self.new }
     {
         self.moment = self.moment.later(at);
@@ -119,23 +119,22 @@ impl Table {
         live
     }
 
-    /// How many endpoints have some group that stands.
+    /// How many endpoints have some membership.
     pub fn live_endpoints(&self) -> u32
         requires { IsWithinLimits self.now }
-        ensures { (terms : Terms) (log : List Entry) → Holds terms self.now log
-            → result ≡ live_count (standing_now terms log) }
+        ensures { ForLog self.now (λ settings log.
+            result ≡ live_count (memberships_now settings log)) }
     {
         count_live(self.rows.as_slice(), &None, self.moment, self.lifetime_ms) as u32
     }
 
-    /// What stands, by endpoint and then by group.
+    /// The memberships, by endpoint and then by group.
     pub fn rows(&self, alloc: Global) -> Result<Rows, AllocError>
-        ensures stands { IfOk result (λ rows. (terms : Terms) (log : List Entry)
-            → Holds terms self.now log → rows ≡ rows_of terms.lifetime (latest log) log) }
+        ensures stands { IfOk result (λ rows. ForLog self.now (λ settings log.
+            rows ≡ rows_of settings.lifetime (latest log) log)) }
         ensures bounded { IsWithinLimits self.now → IfOk result (AreFew self.now.limits) }
     {
-        let rows = show(alloc, self.rows.as_slice())?;
-        Ok(rows)
+        show(alloc, self.rows.as_slice())
     }
 
     /// Who gets a copy of a packet from the source to the group, at the later of the table's moment
@@ -143,12 +142,12 @@ impl Table {
     /// many endpoints as the limits allow is always enough.
     pub fn admitting_into(&self, group: &Ip, source: &Ip, at: &Moment, out: &mut Targets)
         requires room { live_count self.now.rows ≤ out.old.room }
-        ensures targets { (terms : Terms) (log : List Entry) → Holds terms self.now log
-            → out.new.endpoints ≡ targets_of terms.lifetime log group.now source.now at.now }
-        ensures exactly { (terms : Terms) (log : List Entry) → Holds terms self.now log
-            → (endpoint : Tunnel) → Contains out.new.endpoints endpoint
-            ↔ (is_admitted terms.lifetime log (record { endpoint = endpoint; group = group.now })
-            source.now at.now ≡ true) }
+        ensures targets { ForLog self.now (λ settings log.
+            out.new.endpoints ≡ targets_of settings.lifetime log group.now source.now at.now) }
+        ensures exactly { ForLog self.now (λ settings log. (endpoint : Tunnel)
+            → Contains out.new.endpoints endpoint
+            ↔ (is_admitted settings.lifetime log (record { endpoint = endpoint; group = group.now })
+            source.now at.now ≡ true)) }
         ensures ascending { IsAscending tunnel_order out.new.endpoints }
 
         ensures room { out.new.room ≡ out.old.room }
@@ -165,40 +164,33 @@ impl Table {
         );
     }
 
-    // The endpoint's rows after a report at the moment.
+    // The endpoint's memberships after a report at the moment.
     fn own_after(
         &self,
         alloc: Global,
         endpoint: &Endpoint,
         records: &Records,
         moment: Moment,
-    ) -> Result<Vec<Kept>, AllocError>
+    ) -> Result<Vec<StoredMembership>, AllocError>
         ensures { IfOk result (λ own. AreOwn self.now.lifetime moment endpoint.now records.now
             self.now.rows own.items) }
     {
-        let after = own_rows(
-            alloc,
-            self.rows.as_slice(),
-            endpoint,
-            records,
-            moment,
-            self.lifetime_ms,
-        )?;
-        Ok(after)
+        let rows = self.rows.as_slice();
+        memberships_after(alloc, rows, endpoint, records, moment, self.lifetime_ms)
     }
 
-    // The first limit that a report passes, if these are its endpoint's rows afterwards.
+    // The first limit that a report passes, if these are its endpoint's memberships afterwards.
     fn limit_passed(
         &self,
         endpoint: &Endpoint,
         records: &Records,
-        own: &[Kept],
+        own: &[StoredMembership],
         moment: Moment,
     ) -> Option<LimitFault>
         requires within { IsWithinLimits self.now }
         requires groups { length own.now < 2 ^ 32 }
-        requires sources { AllByRecursion (λ kept. size kept < 2 ^ 32) own.now }
-        ensures { result ≡ fault_by self.now.limits (length own.now)
+        requires sources { AllByRecursion (λ membership. size membership < 2 ^ 32) own.now }
+        ensures { result ≡ limit_by self.now.limits (length own.now)
             (live_count (filter (is_counted self.now.lifetime moment (Some endpoint.now)) self.now.rows)
             + (if is_empty own.now then 0 else 1))
             (find (is_over self.now.limits.sources records.now) own.now) }
@@ -215,9 +207,9 @@ impl Table {
 
     /// Applies the records of a report in their order, or none of them.
     ///
-    /// Only the rows that would stand afterwards are judged: first the size of the reported groups,
-    /// then the endpoint's groups, then the live endpoints. A report that passes a limit lets time
-    /// pass and changes nothing else.
+    /// The limits are tried on the memberships that there would be afterwards: first the sizes of
+    /// reported groups, then the endpoint's groups, then the live endpoints. A report that passes a
+    /// limit lets time pass and changes nothing else.
     pub fn accept(
         &mut self,
         alloc: Global,
@@ -227,24 +219,26 @@ impl Table {
     ) -> Result<(), AcceptFault>
         requires within { IsWithinLimits self.old }
         requires items { item_count records.now ≤ 16777216 }
-        ensures passes { (terms : Terms) (log : List Entry) → Holds terms self.old log
-            → OnOk result (limit_passed terms log endpoint.now records.now at.now ≡ None) }
-        ensures stands { (terms : Terms) (log : List Entry) → Holds terms self.old log
-            → OnOk result (Holds terms self.new (log ++ Reported endpoint.now records.now at.now ∷ [])) }
+        ensures passes { ForLog self.old (λ settings log.
+            OnOk result (limit_passed settings log endpoint.now records.now at.now ≡ None)) }
+        ensures stands { ForLog self.old (λ settings log. OnOk result (
+            Holds settings self.new (log ++ Reported endpoint.now records.now at.now ∷ []))) }
 
-        ensures limit { (terms : Terms) (log : List Entry) → Holds terms self.old log
-            → OnLimit result (λ fault. limit_passed terms log endpoint.now records.now at.now ≡ Some fault) }
-        ensures marks { (terms : Terms) (log : List Entry) → Holds terms self.old log
-            → OnLimit result (λ _. Holds terms self.new (log ++ Mark at.now ∷ [])) }
-        ensures same { (terms : Terms) (log : List Entry) → Holds terms self.old log
-            → at.now ≤ latest log → OnLimit result (λ _. self.new ≡ self.old) }
+        ensures limit { ForLog self.old (λ settings log. OnLimit result (λ fault.
+            limit_passed settings log endpoint.now records.now at.now ≡ Some fault)) }
+        ensures marks { ForLog self.old (λ settings log.
+            OnLimit result (λ _. Holds settings self.new (log ++ Mark at.now ∷ []))) }
+        ensures same { ForLog self.old (λ settings log.
+            at.now ≤ latest log → OnLimit result (λ _. self.new ≡ self.old)) }
         ensures memory { OnMemory result (self.new ≡ self.old) }
 
         ensures within { IsWithinLimits self.new }
-        ensures fits { (terms : Terms) (log : List Entry) → Holds terms self.old log
-            → OnOk result (IsWithin terms.limits (standing_now terms (log ++ Reported endpoint.now records.now at.now ∷ []))) }
-        ensures fits_not { (terms : Terms) (log : List Entry) → Holds terms self.old log
-            → OnLimit result (λ _. IsWithin terms.limits (standing_now terms (log ++ Reported endpoint.now records.now at.now ∷ [])) → ⊥) }
+        ensures fits { ForLog self.old (λ settings log. OnOk result (
+            IsWithin settings.limits (memberships_now settings
+            (log ++ Reported endpoint.now records.now at.now ∷ [])))) }
+        ensures fits_not { ForLog self.old (λ settings log. OnLimit result (λ _.
+            IsWithin settings.limits (memberships_now settings
+            (log ++ Reported endpoint.now records.now at.now ∷ [])) → ⊥)) }
     {
         let moment = self.moment.later(at);
         let own = match self.own_after(alloc, endpoint, records, moment) {

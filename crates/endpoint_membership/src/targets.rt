@@ -1,15 +1,17 @@
-ghost use Rattle.std.specs.Prelude.{◌≡◌, ◌<◌, ◌≤◌, [], ◌∷◌, ◌++◌, length, IfOk};
-ghost use Rattle.endpoint_membership.specs.Kept.{is_target, targets_in};
+//! Which endpoints get a copy of a packet. It must not know the log, or what a packet is.
 
-use crate::kept::Kept;
+ghost use Rattle.std.specs.Prelude.{◌≡◌, ◌<◌, ◌≤◌, [], ◌∷◌, ◌++◌, length, IfOk};
+ghost use Rattle.endpoint_membership.specs.Stored.{is_target, targets_in};
+
+use crate::stored::StoredMembership;
 use amt_values::{Endpoint, Ip, Moment};
 use std::alloc::{AllocError, Global};
 use std::marker::Model;
 
 /// Who gets a copy of a packet.
 ///
-/// The room for the endpoints is taken once, so that no packet has to wait for memory or is lost by
-/// want of it.
+/// The room for the endpoints is taken once, so that no packet waits for memory or is lost without
+/// it.
 #[derive(Debug, Drop)]
 pub struct Targets {
     endpoints: Vec<Endpoint>,
@@ -64,17 +66,25 @@ impl Targets {
     }
 }
 
-fn is_target(kept: &Kept, group: &Ip, source: &Ip, moment: Moment, lifetime_ms: u64) -> bool
+fn is_target(
+    membership: &StoredMembership,
+    group: &Ip,
+    source: &Ip,
+    moment: Moment,
+    lifetime_ms: u64,
+) -> bool
     requires { lifetime_ms ≤ 1000000000 }
-    ensures { result ≡ is_target lifetime_ms moment group.now source.now kept.now }
+    ensures { result ≡ is_target lifetime_ms moment group.now source.now membership.now }
 {
-    kept.group == *group && kept.is_fresh(moment, lifetime_ms) && kept.filter.admits(source)
+    membership.group() == *group
+        && membership.is_fresh(moment, lifetime_ms)
+        && membership.filter().admits(source)
 }
 
-// Replaces what is in `out` by the endpoints of the rows that let the packet in. At one endpoint a
-// group has one row, so no endpoint comes twice.
+// Replaces what is in `out` by the endpoints of the memberships that let the packet in. An endpoint
+// has one membership in a group, so none comes twice.
 pub fn collect_targets(
-    rows: &[Kept],
+    rows: &[StoredMembership],
     group: &Ip,
     source: &Ip,
     moment: Moment,
@@ -89,9 +99,9 @@ pub fn collect_targets(
     ensures room { out.new.room ≡ out.old.room }
 {
     out.clear();
-    for kept in rows {
-        if is_target(kept, group, source, moment, lifetime_ms) {
-            out.push(kept.endpoint);
+    for membership in rows {
+        if is_target(membership, group, source, moment, lifetime_ms) {
+            out.push(membership.endpoint());
         }
     }
 }

@@ -1,35 +1,36 @@
-// The rows of a small log by the definitions alone: no filter is applied to a record, and no table
-// runs along. Tests compare a table with it.
+//! The rows of a small log by the definitions alone: no filter is applied to a record. It must not know
+//! the table that tests compare with it.
+
 ghost use Rattle.std.specs.Prelude.{◌≡◌, ◌<◌, ◌≤◌, ◌^◌, ◌++◌, reverse, IfOk, OnOk};
 ghost use Rattle.std.specs.List.{filter};
 ghost use Rattle.std.specs.Option.{option_map};
 ghost use Rattle.contract_words.specs.Ascending.{ascending};
 ghost use Rattle.endpoint_membership.specs.Log.{brought, latest, leaving, live_chain, records_at};
-ghost use Rattle.endpoint_membership.specs.Place.{place_order, same_group};
-ghost use Rattle.endpoint_membership.specs.Rows.{places_in, places_of, rows_of, shown, standing};
+ghost use Rattle.endpoint_membership.specs.EndpointGroup.{endpoint_group_order, same_group};
+ghost use Rattle.endpoint_membership.specs.Memberships.{endpoint_groups_in, endpoint_groups_of, rows_of, row_of, membership_at};
 
 mod wants;
-mod wishes;
+mod group_filter;
 
 use amt_values::{Endpoint, Ip, Moment};
 use endpoint_membership::{Change, Row, Rows};
-use source_filter::{Ips, Record, RecordKind, Records};
+use source_filter::{Ips, Record, RecordKind, Records, copy_record};
 use std::alloc::{AllocError, Global};
 use std::marker::Model;
 pub use wants::slow_targets;
-use wishes::{is_standing, wish_of};
+use group_filter::{wants_any, filter_of};
 
-/// Where a group may stand, by endpoint and then by group.
+/// An endpoint and a group, ordered by endpoint and then by group.
 #[derive(Clone, Copy, Debug, PartialEq, Eq, PartialOrd, Ord)]
-struct Spot {
+struct EndpointAndGroup {
     endpoint: Endpoint,
     group: Ip,
 }
 
-impl Model for Spot {
-    ghost use Rattle.endpoint_membership.specs.Place.{Place};
+impl Model for EndpointAndGroup {
+    ghost use Rattle.endpoint_membership.specs.EndpointGroup.{EndpointGroup};
 
-    ghost Value = { Place };
+    ghost Value = { EndpointGroup };
 
     ghost view = { λ s. record { endpoint = s.endpoint; group = s.group } };
 
@@ -57,16 +58,6 @@ fn latest_ms(log: &[Change]) -> u64
     }
 }
 
-fn copied(alloc: Global, group_record: &Record) -> Result<Record, AllocError>
-    ensures { IfOk result (λ copy. copy ≡ group_record.now) }
-{
-    Ok(Record {
-        kind: group_record.kind,
-        group: group_record.group,
-        sources: Ips::copied(alloc, group_record.sources.as_slice())?,
-    })
-}
-
 fn leaving(alloc: Global, group: Ip) -> Record
     ensures { result ≡ leaving group }
 {
@@ -91,14 +82,14 @@ fn add_on_group(
         return Ok(());
     };
     if *group == newest.group {
-        found.push(copied(alloc, newest)?)?;
+        found.push(copy_record(alloc, newest)?)?;
     }
     add_on_group(alloc, found, group, older)
 }
 
-// The records that an entry makes at a place, newest first.
-fn made_at(alloc: Global, spot: &Spot, entry: &Change) -> Result<Records, AllocError>
-    ensures { IfOk result (λ records. records ≡ records_at spot.now entry.now) }
+// The records that an entry makes of the endpoint on the group, newest first.
+fn made_at(alloc: Global, endpoint_group: &EndpointAndGroup, entry: &Change) -> Result<Records, AllocError>
+    ensures { IfOk result (λ records. records ≡ records_at endpoint_group.now entry.now) }
 {
     let mut made = Records::new(alloc);
     match entry {
@@ -107,13 +98,13 @@ fn made_at(alloc: Global, spot: &Spot, entry: &Change) -> Result<Records, AllocE
             records,
             ..
         } => {
-            if spot.endpoint == *endpoint {
-                add_on_group(alloc, &mut made, &spot.group, records.as_slice())?;
+            if endpoint_group.endpoint == *endpoint {
+                add_on_group(alloc, &mut made, &endpoint_group.group, records.as_slice())?;
             }
         }
         Change::Clear { endpoint, .. } => {
-            if spot.endpoint == *endpoint {
-                made.push(leaving(alloc, spot.group))?;
+            if endpoint_group.endpoint == *endpoint {
+                made.push(leaving(alloc, endpoint_group.group))?;
             }
         }
         Change::Mark { .. } => {}
@@ -125,7 +116,7 @@ fn add_all(alloc: Global, found: &mut Records, more: &Records) -> Result<(), All
     ensures { OnOk result (found.new ≡ found.old ++ more.now) }
 {
     for group_record in more.as_slice() {
-        found.push(copied(alloc, group_record)?)?;
+        found.push(copy_record(alloc, group_record)?)?;
     }
     Ok(())
 }
@@ -135,62 +126,63 @@ fn add_live(
     alloc: Global,
     found: &mut Records,
     lifetime_ms: u64,
-    spot: &Spot,
+    endpoint_group: &EndpointAndGroup,
     moment_ms: u64,
     log: &[Change],
 ) -> Result<(), AllocError>
     requires { lifetime_ms ≤ 1000000000 }
     ensures { OnOk result (found.new ≡ found.old
-        ++ live_chain lifetime_ms spot.now moment_ms (reverse log.now)) }
+        ++ live_chain lifetime_ms endpoint_group.now moment_ms (reverse log.now)) }
 {
     let Some((entry, older)) = log.split_last() else {
         return Ok(());
     };
-    let made = made_at(alloc, spot, entry)?;
+    let made = made_at(alloc, endpoint_group, entry)?;
     if made.as_slice().is_empty() {
-        return add_live(alloc, found, lifetime_ms, spot, moment_ms, older);
+        return add_live(alloc, found, lifetime_ms, endpoint_group, moment_ms, older);
     }
     let entry_ms = latest_ms(log);
     if entry_ms + lifetime_ms <= moment_ms {
         return Ok(());
     }
     add_all(alloc, found, &made)?;
-    add_live(alloc, found, lifetime_ms, spot, entry_ms, older)
+    add_live(alloc, found, lifetime_ms, endpoint_group, entry_ms, older)
 }
 
-fn row_at(
+fn slow_row(
     alloc: Global,
     lifetime_ms: u64,
     moment: &Moment,
     log: &[Change],
-    spot: &Spot,
+    endpoint_group: &EndpointAndGroup,
 ) -> Result<Option<Row>, AllocError>
     requires { lifetime_ms ≤ 1000000000 }
     ensures { IfOk result (λ row. row
-        ≡ option_map shown (standing lifetime_ms moment.now (reverse log.now) spot.now)) }
+        ≡ option_map row_of (membership_at lifetime_ms moment.now (reverse log.now) endpoint_group.now)) }
 {
     let mut records = Records::new(alloc);
-    add_live(alloc, &mut records, lifetime_ms, spot, moment.ms(), log)?;
-    let filter = wish_of(alloc, records.as_slice())?;
-    if !is_standing(&filter) {
+    add_live(alloc, &mut records, lifetime_ms, endpoint_group, moment.ms(), log)?;
+    let filter = filter_of(alloc, records.as_slice())?;
+    if !wants_any(&filter) {
         return Ok(None);
     }
     Ok(Some(Row {
-        endpoint: spot.endpoint,
-        group: spot.group,
+        endpoint: endpoint_group.endpoint,
+        group: endpoint_group.group,
         filter,
     }))
 }
 
-fn add_places_of(
-    found: &mut Vec<Spot>,
+fn add_endpoint_groups_of(
+    found: &mut Vec<EndpointAndGroup>,
     endpoint: &Endpoint,
     records: &[Record],
 ) -> Result<(), AllocError>
-    ensures { OnOk result (found.new.items ≡ found.old.items ++ places_of endpoint.now records.now) }
+    ensures { OnOk result (found.new.items
+        ≡ found.old.items ++ endpoint_groups_of endpoint.now records.now) }
 {
     for group_record in records {
-        found.push(Spot {
+        found.push(EndpointAndGroup {
             endpoint: *endpoint,
             group: group_record.group,
         })?;
@@ -198,9 +190,10 @@ fn add_places_of(
     Ok(())
 }
 
-// Adds the places that reports name, from the newest report on.
-fn add_places(found: &mut Vec<Spot>, log: &[Change]) -> Result<(), AllocError>
-    ensures { OnOk result (found.new.items ≡ found.old.items ++ places_in (reverse log.now)) }
+// Adds the endpoints and groups that reports name, from the newest report on.
+fn add_endpoint_groups(found: &mut Vec<EndpointAndGroup>, log: &[Change]) -> Result<(), AllocError>
+    ensures { OnOk result (found.new.items
+        ≡ found.old.items ++ endpoint_groups_in (reverse log.now)) }
 {
     let Some((entry, older)) = log.split_last() else {
         return Ok(());
@@ -210,17 +203,18 @@ fn add_places(found: &mut Vec<Spot>, log: &[Change]) -> Result<(), AllocError>
             endpoint,
             records,
             ..
-        } => add_places_of(found, endpoint, records.as_slice())?,
+        } => add_endpoint_groups_of(found, endpoint, records.as_slice())?,
         Change::Clear { .. } | Change::Mark { .. } => {}
     }
-    add_places(found, older)
+    add_endpoint_groups(found, older)
 }
 
-fn places(alloc: Global, log: &[Change]) -> Result<Vec<Spot>, AllocError>
-    ensures { IfOk result (λ found. found.items ≡ ascending place_order (places_in (reverse log.now))) }
+fn endpoint_groups(alloc: Global, log: &[Change]) -> Result<Vec<EndpointAndGroup>, AllocError>
+    ensures { IfOk result (λ found. found.items
+        ≡ ascending endpoint_group_order (endpoint_groups_in (reverse log.now))) }
 {
     let mut found = Vec::new(alloc);
-    add_places(&mut found, log)?;
+    add_endpoint_groups(&mut found, log)?;
     found.sort_unstable();
     found.dedup();
     Ok(found)
@@ -237,8 +231,8 @@ pub fn slow_rows(
     ensures { IfOk result (λ rows. rows ≡ rows_of lifetime_ms moment.now log.now) }
 {
     let mut rows = Rows::new(alloc);
-    for spot in places(alloc, log)?.as_slice() {
-        if let Some(row) = row_at(alloc, lifetime_ms, moment, log, spot)? {
+    for endpoint_group in endpoint_groups(alloc, log)?.as_slice() {
+        if let Some(row) = slow_row(alloc, lifetime_ms, moment, log, endpoint_group)? {
             rows.push(row)?;
         }
     }

@@ -1,3 +1,5 @@
+//! Worked examples of calls, each by a table of steps.
+
 mod fixtures;
 mod long;
 mod packets;
@@ -10,9 +12,8 @@ use endpoint_membership::Limits;
 use fixtures::{CHANNEL, GROUP, LIFETIME_MS, ONE, ONE_GROUP, ONE_SOURCE, OTHER, TWO, WIDE};
 use source_filter::Mode::{Exclude, Include};
 use source_filter::RecordKind::{Allow, Block, IsEx, ToEx, ToIn};
-use std::test::Fail;
 use steps::Step::{Advance, Clear, Live, Now, Report, Rows};
-use steps::{Step, run};
+use steps::{Step, runs};
 
 const ALL_SOURCES: [Step<'static>; 3] = [
     Report(7, &[(IsEx, GROUP, &[])], 0, Ok(())),
@@ -27,10 +28,9 @@ const ALL_SOURCES_OF_A_CHANNEL: [Step<'static>; 3] = [
 ];
 
 #[test]
-fn a_report_of_all_sources_leaves_one_row(rt: HostRuntime) -> Result<(), Fail> {
-    run(&rt, rt.alloc(), &WIDE, &ALL_SOURCES)?;
-    run(&rt, rt.alloc(), &WIDE, &ALL_SOURCES_OF_A_CHANNEL)?;
-    Ok(())
+fn a_report_of_all_sources_leaves_one_row(rt: HostRuntime) {
+    assert!(rt; runs(&rt, rt.alloc(), &WIDE, &ALL_SOURCES));
+    assert!(rt; runs(&rt, rt.alloc(), &WIDE, &ALL_SOURCES_OF_A_CHANNEL));
 }
 
 const RECORDS_IN_ORDER: [Step<'static>; 2] = [
@@ -48,9 +48,8 @@ const RECORDS_IN_ORDER: [Step<'static>; 2] = [
 ];
 
 #[test]
-fn records_of_one_report_count_in_their_order(rt: HostRuntime) -> Result<(), Fail> {
-    run(&rt, rt.alloc(), &WIDE, &RECORDS_IN_ORDER)?;
-    Ok(())
+fn records_of_one_report_count_in_their_order(rt: HostRuntime) {
+    assert!(rt; runs(&rt, rt.alloc(), &WIDE, &RECORDS_IN_ORDER));
 }
 
 const NOT_RENEWED: [Step<'static>; 5] = [
@@ -71,10 +70,9 @@ const RENEWED: [Step<'static>; 6] = [
 ];
 
 #[test]
-fn a_group_ends_a_lifetime_after_its_last_renewal(rt: HostRuntime) -> Result<(), Fail> {
-    run(&rt, rt.alloc(), &WIDE, &NOT_RENEWED)?;
-    run(&rt, rt.alloc(), &WIDE, &RENEWED)?;
-    Ok(())
+fn a_group_ends_a_lifetime_after_its_last_renewal(rt: HostRuntime) {
+    assert!(rt; runs(&rt, rt.alloc(), &WIDE, &NOT_RENEWED));
+    assert!(rt; runs(&rt, rt.alloc(), &WIDE, &RENEWED));
 }
 
 const TWO_ENDPOINTS: Limits = Limits {
@@ -94,9 +92,8 @@ const THREE_ENDPOINTS: [Step<'static>; 7] = [
 ];
 
 #[test]
-fn a_third_endpoint_waits_until_one_has_expired(rt: HostRuntime) -> Result<(), Fail> {
-    run(&rt, rt.alloc(), &TWO_ENDPOINTS, &THREE_ENDPOINTS)?;
-    Ok(())
+fn a_third_endpoint_waits_until_one_has_expired(rt: HostRuntime) {
+    assert!(rt; runs(&rt, rt.alloc(), &TWO_ENDPOINTS, &THREE_ENDPOINTS));
 }
 
 const TWO_GROUPS: [Step<'static>; 5] = [
@@ -108,9 +105,8 @@ const TWO_GROUPS: [Step<'static>; 5] = [
 ];
 
 #[test]
-fn groups_are_counted_after_the_whole_report(rt: HostRuntime) -> Result<(), Fail> {
-    run(&rt, rt.alloc(), &ONE_GROUP, &TWO_GROUPS)?;
-    Ok(())
+fn groups_are_counted_after_the_whole_report(rt: HostRuntime) {
+    assert!(rt; runs(&rt, rt.alloc(), &ONE_GROUP, &TWO_GROUPS));
 }
 
 const TWO_WIDE_GROUPS: [Step<'static>; 3] = [
@@ -134,9 +130,8 @@ const TWO_WIDE_GROUPS: [Step<'static>; 3] = [
 ];
 
 #[test]
-fn the_least_group_with_too_many_sources_is_named(rt: HostRuntime) -> Result<(), Fail> {
-    run(&rt, rt.alloc(), &ONE_SOURCE, &TWO_WIDE_GROUPS)?;
-    Ok(())
+fn the_least_group_with_too_many_sources_is_named(rt: HostRuntime) {
+    assert!(rt; runs(&rt, rt.alloc(), &ONE_SOURCE, &TWO_WIDE_GROUPS));
 }
 
 const ENDED_GROUPS: [Step<'static>; 7] = [
@@ -150,9 +145,8 @@ const ENDED_GROUPS: [Step<'static>; 7] = [
 ];
 
 #[test]
-fn a_record_of_nothing_and_a_clearing_end_groups(rt: HostRuntime) -> Result<(), Fail> {
-    run(&rt, rt.alloc(), &WIDE, &ENDED_GROUPS)?;
-    Ok(())
+fn a_record_of_nothing_and_a_clearing_end_groups(rt: HostRuntime) {
+    assert!(rt; runs(&rt, rt.alloc(), &WIDE, &ENDED_GROUPS));
 }
 
 const EARLIER_MOMENT: [Step<'static>; 5] = [
@@ -164,7 +158,6 @@ const EARLIER_MOMENT: [Step<'static>; 5] = [
 ];
 
 #[test]
-fn a_moment_that_goes_backwards_is_the_last_one(rt: HostRuntime) -> Result<(), Fail> {
-    run(&rt, rt.alloc(), &WIDE, &EARLIER_MOMENT)?;
-    Ok(())
+fn a_moment_that_goes_backwards_is_the_last_one(rt: HostRuntime) {
+    assert!(rt; runs(&rt, rt.alloc(), &WIDE, &EARLIER_MOMENT));
 }

@@ -1,2 +1,3 @@
-pub mod Applied
+pub mod FilterAfter
 pub mod Compared
+pub mod SourceSets

@@ -1,6 +1,6 @@
 -- Filters of one group (RFC 3376, section 3.2), and what a group record of the same listener makes
 -- of them (section 4.2.12).
-use Rattle.std.specs.Prelude.{Bool, not, List, []}
+use Rattle.std.specs.Prelude.{Bool, true, false, not, List, [], ◌∷◌}
 use Rattle.amt_values.specs.declared.address.Ip.{Ip}
 use Rattle.amt_values.specs.Order.{ip_order}
 use Rattle.source_filter.specs.Record.{lists}
@@ -24,6 +24,15 @@ admits_by Exclude listed = not listed
 -- the filter lets the source in
 abbrev pub admits : FilterValue → Ip → Bool
 admits filter source = admits_by filter.mode (lists filter.sources source)
+
+-- some source is wanted: INCLUDE of nothing is no membership (RFC 3376, section 3.1)
+abbrev pub wants_any_by : Mode → List Ip → Bool
+wants_any_by Include [] = false
+wants_any_by Include (source ∷ more) = true
+wants_any_by Exclude sources = true
+
+abbrev pub wants_any : FilterValue → Bool
+wants_any filter = wants_any_by filter.mode filter.sources
 
 -- a group of which nothing is wanted
 abbrev pub nothing : FilterValue
@@ -54,8 +63,8 @@ sources_after Block Include old listed = difference ip_order old listed
 sources_after Block Exclude old listed = union ip_order old listed
 
 -- the filter after the record
-abbrev pub applied : FilterValue → Record → FilterValue
-applied filter group_record = record {
+abbrev pub filter_after : FilterValue → Record → FilterValue
+filter_after filter group_record = record {
   mode = mode_after group_record.kind filter.mode;
   sources = sources_after group_record.kind filter.mode filter.sources group_record.sources;
 }

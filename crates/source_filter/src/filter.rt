@@ -1,3 +1,5 @@
+//! Filters of one group. It must not know lists of records, endpoints or moments.
+
 ghost use Rattle.std.specs.Prelude.{◌≡◌, true, false, IfOk};
 ghost use Rattle.amt_values.specs.Order.{ip_order};
 ghost use Rattle.amt_values.specs.declared.address.Ip.{Ip};
@@ -6,14 +8,16 @@ ghost use Rattle.contract_words.specs.Ascending.{IsAscending};
 
 use crate::ips::{Ips, ascending_ips};
 use crate::mode::Mode;
-use crate::record::{Record, RecordKind};
+use crate::mutable::MutableFilter;
+use crate::record::Record;
 use amt_values::Ip;
 use std::alloc::{AllocError, Global};
 use std::marker::Model;
 
 /// What is wanted of one group: a mode and the sources that it speaks of (RFC 3376, section 3.2).
 ///
-/// The sources ascend, and each is listed once, so equal wishes of one mode are equal filters.
+/// The sources ascend, and each is listed once, so filters of one mode that want the same sources are
+/// equal.
 #[derive(Debug, Drop)]
 pub struct Filter {
     mode: Mode,
@@ -35,9 +39,8 @@ impl Model for Filter {
 }
 
 impl Filter {
-    ghost use Rattle.source_filter.specs.Filter.{admits, applied, ascending_sources};
+    ghost use Rattle.source_filter.specs.Filter.{admits, ascending_sources, filter_after};
     ghost use Rattle.source_filter.specs.Record.{says, speaks};
-    ghost use Rattle.contract_words.specs.Ascending.{difference, union};
 
     /// A filter of these sources, in any order and with any repeats.
     pub fn new(alloc: Global, mode: Mode, sources: &[Ip]) -> Result<Filter, AllocError>
@@ -79,7 +82,7 @@ impl Filter {
     /// The filter of a listener after one of its group records: what the record types of RFC 3376,
     /// section 4.2.12, say of it, at once.
     pub fn apply(&self, alloc: Global, change: &Record) -> Result<Filter, AllocError>
-        ensures table { IfOk result (λ after. after ≡ applied self.now change.now) }
+        ensures table { IfOk result (λ after. after ≡ filter_after self.now change.now) }
         ensures says { IfOk result
             (λ after. (source : Ip) → speaks change.now source ≡ true
             → admits after source ≡ says change.now source) }
@@ -87,59 +90,26 @@ impl Filter {
             (λ after. (source : Ip) → speaks change.now source ≡ false
             → admits after source ≡ admits self.now source) }
     {
-        self.changed(alloc, change)
+        self.filter_after(alloc, change)
     }
 
     // The table alone. What `apply` says besides follows from it, whichever cell it was.
-    fn changed(&self, alloc: Global, change: &Record) -> Result<Filter, AllocError>
-        ensures { IfOk result (λ after. after ≡ applied self.now change.now) }
+    fn filter_after(&self, alloc: Global, change: &Record) -> Result<Filter, AllocError>
+        ensures { IfOk result (λ after. after ≡ filter_after self.now change.now) }
     {
-        let listed = change.sources.as_slice();
-        match change.kind {
-            RecordKind::IsIn | RecordKind::ToIn => Filter::new(alloc, Mode::Include, listed),
-            RecordKind::IsEx | RecordKind::ToEx => Filter::new(alloc, Mode::Exclude, listed),
-            RecordKind::Allow => match self.mode {
-                Mode::Include => self.listing(alloc, listed),
-                Mode::Exclude => self.without(alloc, listed),
-            },
-            RecordKind::Block => match self.mode {
-                Mode::Include => self.without(alloc, listed),
-                Mode::Exclude => self.listing(alloc, listed),
-            },
-        }
+        let mut after = MutableFilter::of_filter(alloc, self)?;
+        after.apply(change)?;
+        Filter::of_mutable(alloc, &after)
     }
 
-    // The filter with these sources on its list too.
-    fn listing(&self, alloc: Global, sources: &[Ip]) -> Result<Filter, AllocError>
-        ensures mode { IfOk result (λ after. after.mode ≡ self.now.mode) }
-        ensures sources { IfOk result
-            (λ after. after.sources ≡ union ip_order self.now.sources sources.now) }
+    /// The filter that records made.
+    pub fn of_mutable(alloc: Global, filter: &MutableFilter) -> Result<Filter, AllocError>
+        ensures { IfOk result (λ copy. copy ≡ filter.now) }
     {
-        let mut listed = Vec::from_slice(alloc, self.sources.as_slice())?;
-        listed.extend_from_slice(sources)?;
+        let sources = Ips::from(filter.sources(alloc)?);
         Ok(Filter {
-            mode: self.mode,
-            sources: ascending_ips(listed),
-        })
-    }
-
-    // The filter with none of these sources on its list.
-    fn without(&self, alloc: Global, sources: &[Ip]) -> Result<Filter, AllocError>
-        ensures mode { IfOk result (λ after. after.mode ≡ self.now.mode) }
-        ensures sources { IfOk result
-            (λ after. after.sources ≡ difference ip_order self.now.sources sources.now) }
-    {
-        let removed = ascending_ips(Vec::from_slice(alloc, sources)?);
-        let mut kept = Ips::new(alloc);
-        for source in self.sources.as_slice() {
-            if is_among(removed.as_slice(), source) {
-                continue;
-            }
-            kept.push(*source)?;
-        }
-        Ok(Filter {
-            mode: self.mode,
-            sources: kept,
+            mode: filter.mode(),
+            sources,
         })
     }
 }

@@ -1,12 +1,13 @@
-// The endpoints that want a packet, by the definitions.
+//! The endpoints that want a packet, by the definitions. It must not know a table.
+
 ghost use Rattle.std.specs.Prelude.{◌≡◌, ◌≤◌, ◌++◌, IfOk, OnOk};
 ghost use Rattle.amt_values.specs.Order.{tunnel_order};
 ghost use Rattle.contract_words.specs.Ascending.{ascending};
 ghost use Rattle.endpoint_membership.specs.Admission.{is_admitted};
 ghost use Rattle.endpoint_membership.specs.Targets.{endpoints_in, targets_of};
 
-use super::wishes::is_admitted;
-use super::{Spot, add_live, latest_ms};
+use super::group_filter::is_admitted;
+use super::{EndpointAndGroup, add_live, latest_ms};
 use amt_values::{Endpoint, Ip, Moment};
 use endpoint_membership::Change;
 use source_filter::Records;
@@ -40,17 +41,17 @@ fn wants(
     alloc: Global,
     lifetime_ms: u64,
     log: &[Change],
-    spot: &Spot,
+    endpoint_group: &EndpointAndGroup,
     source: &Ip,
     moment: &Moment,
 ) -> Result<bool, AllocError>
     requires { lifetime_ms ≤ 1000000000 }
     ensures { IfOk result
-        (λ wanted. wanted ≡ is_admitted lifetime_ms log.now spot.now source.now moment.now) }
+        (λ wanted. wanted ≡ is_admitted lifetime_ms log.now endpoint_group.now source.now moment.now) }
 {
     let moment_ms = moment.ms().max(latest_ms(log));
     let mut records = Records::new(alloc);
-    add_live(alloc, &mut records, lifetime_ms, spot, moment_ms, log)?;
+    add_live(alloc, &mut records, lifetime_ms, endpoint_group, moment_ms, log)?;
     Ok(is_admitted(records.as_slice(), source))
 }
 
@@ -70,11 +71,11 @@ pub fn slow_targets(
     let endpoints = reporters(alloc, log)?;
     let mut found = Vec::new(alloc);
     for endpoint in endpoints.as_slice() {
-        let spot = Spot {
+        let endpoint_group = EndpointAndGroup {
             endpoint: *endpoint,
             group: *group,
         };
-        if wants(alloc, lifetime_ms, log, &spot, source, moment)? {
+        if wants(alloc, lifetime_ms, log, &endpoint_group, source, moment)? {
             found.push(*endpoint)?;
         }
     }

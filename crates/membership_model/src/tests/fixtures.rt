@@ -1,4 +1,5 @@
-// What the tests share.
+//! What the tests share: limits, addresses, records and rows as tests write them.
+
 ghost use Rattle.std.specs.Prelude.{◌≡◌, ◌≤◌, IfOk, true};
 ghost use Rattle.source_filter.specs.Record.{item_count};
 ghost use Rattle.endpoint_membership.specs.Table.{IsWithinLimits};
@@ -43,7 +44,7 @@ pub const TWO: Ip = Ip::V4(0xc633_6402);
 pub const THREE: Ip = Ip::V4(0xc633_6403);
 
 // A record as tests write it: kind, group and sources.
-pub type Told<'a> = (RecordKind, Ip, &'a [Ip]);
+pub type RecordRow<'a> = (RecordKind, Ip, &'a [Ip]);
 
 // A row as tests write it: host, group, mode and sources.
 pub type Wanted<'a> = (u8, Ip, Mode, &'a [Ip]);
@@ -57,18 +58,18 @@ pub fn moment(rt: &impl Abort, ms: u64) -> Moment {
     Moment::new(ms).expect(rt, "moments are below 2^62")
 }
 
-pub fn record_of(alloc: Global, told: &Told) -> Result<Record, AllocError> {
+pub fn record_of(alloc: Global, row: &RecordRow) -> Result<Record, AllocError> {
     Ok(Record {
-        kind: told.0,
-        group: told.1,
-        sources: Ips::copied(alloc, told.2)?,
+        kind: row.0,
+        group: row.1,
+        sources: Ips::copied(alloc, row.2)?,
     })
 }
 
-fn records_of(alloc: Global, told: &[Told]) -> Result<Records, AllocError> {
+fn records_of(alloc: Global, record_rows: &[RecordRow]) -> Result<Records, AllocError> {
     let mut records = Records::new(alloc);
-    for one in told {
-        records.push(record_of(alloc, one)?)?;
+    for row in record_rows {
+        records.push(record_of(alloc, row)?)?;
     }
     Ok(records)
 }
@@ -103,13 +104,13 @@ pub fn report(
     alloc: Global,
     table: &mut Table,
     host: u8,
-    told: &[Told],
+    record_rows: &[RecordRow],
     at_ms: u64,
 ) -> Result<(), AcceptFault>
     requires { IsWithinLimits table.old }
     ensures { IsWithinLimits table.new }
 {
-    let Ok(records) = records_of(alloc, told) else {
+    let Ok(records) = records_of(alloc, record_rows) else {
         return Err(AcceptFault::Memory);
     };
     assert!(rt; are_few(&records));

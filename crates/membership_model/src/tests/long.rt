@@ -1,9 +1,10 @@
-// Reports of several hundred records.
+//! Reports of several hundred records.
+
 ghost use Rattle.std.specs.Prelude.{◌≡◌, length};
 ghost use Rattle.endpoint_membership.specs.Table.{IsWithinLimits};
 
 use super::fixtures::{
-    CHANNEL, GROUP, OTHER, Told, WIDE, are_few, assert_rows, assert_slow_rows, endpoint, moment,
+    CHANNEL, GROUP, OTHER, RecordRow, WIDE, are_few, assert_rows, assert_slow_rows, endpoint, moment,
     record_of, report, table,
 };
 use super::random::Words;
@@ -14,7 +15,6 @@ use source_filter::RecordKind::{Allow, Block, IsEx, ToEx, ToIn};
 use source_filter::{Mode, RecordKind, Records};
 use std::alloc::{AllocError, Global};
 use std::process::Abort;
-use std::test::Fail;
 
 const COUNT: u32 = 400;
 
@@ -38,13 +38,13 @@ fn report_each(
     requires { IsWithinLimits table.old }
     ensures { IsWithinLimits table.new }
 {
-    let mut told: Vec<Told> = Vec::new(alloc);
+    let mut record_rows: Vec<RecordRow> = Vec::new(alloc);
     for source in sources.chunks(1) {
-        if told.push((kind, GROUP, source)).is_err() {
+        if record_rows.push((kind, GROUP, source)).is_err() {
             return Err(AcceptFault::Memory);
         }
     }
-    report(rt, alloc, table, 7, told.as_slice(), 0)
+    report(rt, alloc, table, 7, record_rows.as_slice(), 0)
 }
 
 // The same, and then the endpoint has this one row.
@@ -83,13 +83,16 @@ fn assert_sums(
     Ok(())
 }
 
-#[test]
-fn records_of_one_source_each_add_up_on_their_group(rt: HostRuntime) -> Result<(), Fail> {
-    let ascending = sources(rt.alloc(), 1)?;
-    let scattered = sources(rt.alloc(), 7)?;
+fn assert_all_sums(rt: &impl Abort, alloc: Global) -> Result<(), AllocError> {
+    let ascending = sources(alloc, 1)?;
+    let scattered = sources(alloc, 7)?;
     assert!(rt; ascending.len() == 400);
-    assert_sums(&rt, rt.alloc(), ascending.as_slice(), scattered.as_slice())?;
-    Ok(())
+    assert_sums(rt, alloc, ascending.as_slice(), scattered.as_slice())
+}
+
+#[test]
+fn records_of_one_source_each_add_up_on_their_group(rt: HostRuntime) {
+    assert!(rt; assert_all_sums(&rt, rt.alloc()).is_ok());
 }
 
 // Few records set a mode, so that many changes stand on each other.
@@ -158,7 +161,6 @@ fn assert_all_long(rt: &impl Abort, alloc: Global) -> Result<(), AllocError> {
 }
 
 #[test]
-fn long_reports_leave_the_rows_of_the_definitions(rt: HostRuntime) -> Result<(), Fail> {
-    assert_all_long(&rt, rt.alloc())?;
-    Ok(())
+fn long_reports_leave_the_rows_of_the_definitions(rt: HostRuntime) {
+    assert!(rt; assert_all_long(&rt, rt.alloc()).is_ok());
 }

@@ -1,17 +1,17 @@
-// Who gets the packets of a source to a group.
+//! Who gets the packets of a source to a group.
+
 ghost use Rattle.std.specs.Prelude.{◌≡◌, ◌≤◌};
 ghost use Rattle.endpoint_membership.specs.Limits.{live_count};
 ghost use Rattle.endpoint_membership.specs.Table.{IsWithinLimits};
 
 use super::fixtures::{CHANNEL, GROUP, ONE, OTHER, THREE, TWO, endpoint, moment};
 use super::steps::Step::{Packets, Report};
-use super::steps::{Step, run};
+use super::steps::{Step, runs};
 use amt_values::Ip;
 use endpoint_membership::{Limits, Table, Targets};
 use source_filter::RecordKind::{Allow, IsEx};
 use std::alloc::{AllocError, Global};
 use std::process::Abort;
-use std::test::Fail;
 
 // A packet by group and source, the moment at which it comes, the hosts that get a copy, and what
 // it shows.
@@ -97,7 +97,6 @@ const THREE_REPORTS: [Step<'static>; 4] = [
 ];
 
 #[test]
-fn packets_go_to_the_endpoints_that_want_them(rt: HostRuntime) -> Result<(), Fail> {
-    run(&rt, rt.alloc(), &THREE_ENDPOINTS, &THREE_REPORTS)?;
-    Ok(())
+fn packets_go_to_the_endpoints_that_want_them(rt: HostRuntime) {
+    assert!(rt; runs(&rt, rt.alloc(), &THREE_ENDPOINTS, &THREE_REPORTS));
 }

@@ -1,5 +1,6 @@
-// Small logs of random calls: after each call the table has the rows that the definitions give, and
-// packets go where the definitions send them.
+//! Small logs of random calls: after each call the table has the rows that the definitions give, and
+//! packets go where the definitions send them.
+
 ghost use Rattle.std.specs.Prelude.{◌≡◌, ◌<◌, ◌≤◌, ◌^◌};
 ghost use Rattle.endpoint_membership.specs.Limits.{live_count};
 ghost use Rattle.endpoint_membership.specs.Table.{IsWithinLimits};
@@ -14,7 +15,6 @@ use endpoint_membership::{AcceptFault, Change, LimitFault, Limits, Row, Rows, Ta
 use source_filter::{RecordKind, Records, copy_records};
 use std::alloc::{AllocError, Global};
 use std::process::Abort;
-use std::test::Fail;
 
 const ONE_ENDPOINT: Limits = Limits {
     endpoints: 1,
@@ -83,7 +83,7 @@ fn is_too_wide(row: &Row, endpoint: &Endpoint, records: &Records, limits: &Limit
     let reported = records
         .as_slice()
         .iter()
-        .any(|told| told.group == row.group);
+        .any(|group_record| group_record.group == row.group);
     row.endpoint == *endpoint && reported && row.filter.sources().len() > limits.sources as usize
 }
 
@@ -333,7 +333,7 @@ fn paused(rt: &impl Abort, words: &mut Words, from_ms: u64) -> Moment
     Moment::new(from_ms + random_pause(words)).expect(rt, "the logs are short")
 }
 
-// One random call, which some times tells a moment that is over; the latest moment after it.
+// One random call, at times of a moment that is over; the latest moment after it.
 fn assert_call(
     rt: &impl Abort,
     alloc: Global,
@@ -392,12 +392,15 @@ fn assert_logs(
     Ok(())
 }
 
-#[test]
-fn random_calls_leave_the_rows_of_the_definitions(rt: HostRuntime) -> Result<(), Fail> {
+fn assert_all_logs(rt: &impl Abort, alloc: Global) -> Result<(), AllocError> {
     let mut words = Words { state: 1 };
-    assert_logs(&rt, rt.alloc(), &mut words, 180, &WIDE)?;
-    assert_logs(&rt, rt.alloc(), &mut words, 60, &ONE_ENDPOINT)?;
-    assert_logs(&rt, rt.alloc(), &mut words, 60, &ONE_GROUP)?;
-    assert_logs(&rt, rt.alloc(), &mut words, 60, &ONE_SOURCE)?;
-    Ok(())
+    assert_logs(rt, alloc, &mut words, 180, &WIDE)?;
+    assert_logs(rt, alloc, &mut words, 60, &ONE_ENDPOINT)?;
+    assert_logs(rt, alloc, &mut words, 60, &ONE_GROUP)?;
+    assert_logs(rt, alloc, &mut words, 60, &ONE_SOURCE)
+}
+
+#[test]
+fn random_calls_leave_the_rows_of_the_definitions(rt: HostRuntime) {
+    assert!(rt; assert_all_logs(&rt, rt.alloc()).is_ok());
 }

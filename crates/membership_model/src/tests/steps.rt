@@ -1,8 +1,9 @@
-// Calls of a table as a list.
+//! Calls of a table as a list.
+
 ghost use Rattle.std.specs.Prelude.{◌≤◌};
 ghost use Rattle.endpoint_membership.specs.Table.{IsWithinLimits};
 
-use super::fixtures::{Told, Wanted, assert_rows, endpoint, moment, report, table};
+use super::fixtures::{RecordRow, Wanted, assert_rows, endpoint, moment, report, table};
 use super::packets::{Packet, assert_packets};
 use endpoint_membership::{AcceptFault, Limits, Table};
 use std::alloc::{AllocError, Global};
@@ -10,7 +11,7 @@ use std::process::Abort;
 
 pub enum Step<'a> {
     // The host's endpoint reports these records at the moment, and this is the answer.
-    Report(u8, &'a [Told<'a>], u64, Result<(), AcceptFault>),
+    Report(u8, &'a [RecordRow<'a>], u64, Result<(), AcceptFault>),
     // The host's endpoint leaves at the moment; whether it was live.
     Clear(u8, u64, bool),
     // Time passes to the moment.
@@ -30,14 +31,14 @@ fn assert_report(
     alloc: Global,
     table: &mut Table,
     host: u8,
-    told: &[Told],
+    record_rows: &[RecordRow],
     at_ms: u64,
     wanted: &Result<(), AcceptFault>,
 )
     requires { IsWithinLimits table.old }
     ensures { IsWithinLimits table.new }
 {
-    let answer = report(rt, alloc, table, host, told, at_ms);
+    let answer = report(rt, alloc, table, host, record_rows, at_ms);
     assert_eq!(rt; answer, *wanted, "host {host} at {at_ms}");
 }
 
@@ -54,8 +55,8 @@ fn take(rt: &impl Abort, alloc: Global, table: &mut Table, step: &Step) -> Resul
     ensures { IsWithinLimits table.new }
 {
     match step {
-        Step::Report(host, told, at_ms, answer) => {
-            assert_report(rt, alloc, table, *host, told, *at_ms, answer);
+        Step::Report(host, record_rows, at_ms, answer) => {
+            assert_report(rt, alloc, table, *host, record_rows, *at_ms, answer);
         }
         Step::Clear(host, at_ms, was_live) => assert_clear(rt, table, *host, *at_ms, *was_live),
         Step::Advance(at_ms) => table.advance(&moment(rt, *at_ms)),
@@ -68,7 +69,7 @@ fn take(rt: &impl Abort, alloc: Global, table: &mut Table, step: &Step) -> Resul
 }
 
 // Takes the steps in their order, from an empty table on.
-pub fn run(
+fn run(
     rt: &impl Abort,
     alloc: Global,
     limits: &Limits,
@@ -83,4 +84,13 @@ pub fn run(
         take(rt, alloc, &mut table, step)?;
     }
     Ok(())
+}
+
+// Whether the steps can be taken; each asserts its own answer.
+pub fn runs(rt: &impl Abort, alloc: Global, limits: &Limits, steps: &[Step]) -> bool
+    requires endpoints { limits.now.endpoints ≤ 1000 }
+    requires groups { limits.now.groups ≤ 1000 }
+    requires sources { limits.now.sources ≤ 1000 }
+{
+    run(rt, alloc, limits, steps).is_ok()
 }

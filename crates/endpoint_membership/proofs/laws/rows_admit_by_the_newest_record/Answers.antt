@@ -1,4 +1,4 @@
-use Rattle.endpoint_membership.proofs.Speaking.{admits-none, admits-row}
+use Rattle.endpoint_membership.proofs.RowsAdmit.{admits-none, admits-row}
 use Rattle.endpoint_membership.proofs.laws.rows_admit_by_the_newest_record.Goals as goal
 
 pub returns-clause-row : goal.returns-clause-row

@@ -1,4 +1,4 @@
-use Rattle.endpoint_membership.proofs.Wanting.{IsAscending-targets_of, targets_want}
+use Rattle.endpoint_membership.proofs.TargetsByLog.{IsAscending-targets_of, targets_want}
 use Rattle.endpoint_membership.proofs.laws.targets_are_those_that_want.Goals as goal
 
 pub returns-clause-wanted : goal.returns-clause-wanted

@@ -2,35 +2,35 @@ use Rattle.std.proofs.Common.{List, length, sym, ap, subst, ◌∙◌, arith}
 use Rattle.amt_values.specs.Order.{tunnel_order}
 use Rattle.amt_values.specs.Tunnel.{Tunnel}
 use Rattle.contract_words.specs.Ascending.{IsAscending, has}
-use Rattle.endpoint_membership.specs.declared.kept.Kept.{Kept}
+use Rattle.endpoint_membership.specs.Membership.{Membership}
 use Rattle.endpoint_membership.specs.Admission.{is_admitted}
-use Rattle.endpoint_membership.specs.Kept.{targets_in}
+use Rattle.endpoint_membership.specs.Stored.{targets_in}
 use Rattle.endpoint_membership.specs.Limits.{live_count}
 use Rattle.endpoint_membership.specs.Table.{Holds, TableValue}
-use Rattle.endpoint_membership.proofs.Wanting.{Contains-has, IsAscending-targets, has-targets_of, length-targets, targets_are}
+use Rattle.endpoint_membership.proofs.TargetsByLog.{Contains-has, IsAscending-targets, has-targets_of, length-targets, targets_are}
 use Rattle.endpoint_membership.proofs.table.Table.admitting_into.Goals as goal
 
 pub collect_targets-requires-clause-room : goal.collect_targets-requires-clause-room
 collect_targets-requires-clause-room c =
     let lifetime = c.self.inside.lifetime_ms in
     let few = length-targets lifetime c.later-later.result c.args.group.now c.args.source.now c.self.inside.rows c.self.invariant.1 in
-    let same = ap (λ (rows : List Kept). length (targets_in lifetime c.later-later.result c.args.group.now c.args.source.now rows)) c.as_slice.ensures in
+    let same = ap (λ (rows : List Membership). length (targets_in lifetime c.later-later.result c.args.group.now c.args.source.now rows)) c.as_slice.ensures in
     let live = ap (λ (table : TableValue). live_count table.rows) c.self.view_is in
     let room = c.requires.room in
     omega arith
 
 pub returns-clause-targets : goal.returns-clause-targets
-returns-clause-targets c terms log holds =
-    let inside = subst (λ (table : TableValue). Holds terms table log) (sym c.self.view_is) holds in
+returns-clause-targets c settings log holds =
+    let inside = subst (λ (table : TableValue). Holds settings table log) (sym c.self.view_is) holds in
     c.collect_targets.ensures.endpoints
     ∙ ap (targets_in c.self.inside.lifetime_ms c.later-later.result c.args.group.now c.args.source.now) c.as_slice.ensures
-    ∙ targets_are terms _ log c.args.group.now c.args.source.now c.args.at.now c.later-later.result c.later-later.ensures inside
+    ∙ targets_are settings _ log c.args.group.now c.args.source.now c.args.at.now c.later-later.result c.later-later.ensures inside
 
 pub returns-clause-exactly : goal.returns-clause-exactly
-returns-clause-exactly c terms log holds endpoint =
-    Contains-has c.collect_targets.new.out.endpoints endpoint (is_admitted terms.lifetime log (record { endpoint = endpoint; group = c.args.group.now }) c.args.source.now c.args.at.now)
-    (ap (λ (endpoints : List Tunnel). has tunnel_order endpoints endpoint) (returns-clause-targets c terms log holds)
-    ∙ has-targets_of terms.lifetime log c.args.group.now c.args.source.now c.args.at.now endpoint)
+returns-clause-exactly c settings log holds endpoint =
+    Contains-has c.collect_targets.new.out.endpoints endpoint (is_admitted settings.lifetime log (record { endpoint = endpoint; group = c.args.group.now }) c.args.source.now c.args.at.now)
+    (ap (λ (endpoints : List Tunnel). has tunnel_order endpoints endpoint) (returns-clause-targets c settings log holds)
+    ∙ has-targets_of settings.lifetime log c.args.group.now c.args.source.now c.args.at.now endpoint)
 
 pub returns-clause-ascending : goal.returns-clause-ascending
 returns-clause-ascending c =

@@ -1,25 +1,24 @@
 use Rattle.std.proofs.Common.{◌∙◌, sym, subst}
 use Rattle.contract_words.specs.Ascending.{IsAscending}
 use Rattle.contract_words.proofs.AscendingLaws.{IsAscending-filter}
-use Rattle.endpoint_membership.specs.Kept.{is_fresh}
+use Rattle.endpoint_membership.specs.Membership.{is_fresh, membership_order}
 use Rattle.endpoint_membership.specs.Limits.{IsWithin}
-use Rattle.endpoint_membership.specs.Rows.{kept_order}
 use Rattle.endpoint_membership.specs.Table.{Holds, IsWithinLimits, TableValue}
-use Rattle.endpoint_membership.proofs.Held.{Holds-mark, no_later}
-use Rattle.endpoint_membership.proofs.Within.{IsWithin-filter}
+use Rattle.endpoint_membership.proofs.HoldsAfter.{Holds-mark, no_later}
+use Rattle.endpoint_membership.proofs.WithinLimits.{IsWithin-filter}
 use Rattle.endpoint_membership.proofs.table.Table.advance.Goals as goal
 
 pub invariant_of-self : goal.invariant_of-self
 invariant_of-self c = (
   c.self.invariant.0,
-  subst (IsAscending kept_order) (sym c.purge.ensures)
-      (IsAscending-filter kept_order (is_fresh c.self.inside.lifetime_ms c.later-self-inside.result) c.self.inside.rows c.self.invariant.1),
+  subst (IsAscending membership_order) (sym c.purge.ensures)
+      (IsAscending-filter membership_order (is_fresh c.self.inside.lifetime_ms c.later-self-inside.result) c.self.inside.rows c.self.invariant.1),
 )
 
 pub returns-clause-stands : goal.returns-clause-stands
-returns-clause-stands c terms log holds =
-    let inside = subst (λ (table : TableValue). Holds terms table log) (sym c.self.view_is) holds in
-    Holds-mark terms _ log c.args.at.now c.later-self-inside.result c.purge.new.self c.later-self-inside.ensures c.purge.ensures inside
+returns-clause-stands c settings log holds =
+    let inside = subst (λ (table : TableValue). Holds settings table log) (sym c.self.view_is) holds in
+    Holds-mark settings _ log c.args.at.now c.later-self-inside.result c.purge.new.self c.later-self-inside.ensures c.purge.ensures inside
 
 pub returns-clause-within : goal.returns-clause-within
 returns-clause-within c within =
@@ -27,6 +26,6 @@ returns-clause-within c within =
     subst (IsWithin c.self.inside.limits) (sym c.purge.ensures) (IsWithin-filter c.self.inside.limits (is_fresh c.self.inside.lifetime_ms c.later-self-inside.result) c.self.inside.rows inside)
 
 pub returns-clause-same : goal.returns-clause-same
-returns-clause-same c terms log holds before =
-    let inside = subst (λ (table : TableValue). Holds terms table log) (sym c.self.view_is) holds in
-    no_later terms _ log c.args.at.now c.later-self-inside.result c.purge.new.self c.later-self-inside.ensures c.purge.ensures inside before ∙ c.self.view_is
+returns-clause-same c settings log holds before =
+    let inside = subst (λ (table : TableValue). Holds settings table log) (sym c.self.view_is) holds in
+    no_later settings _ log c.args.at.now c.later-self-inside.result c.purge.new.self c.later-self-inside.ensures c.purge.ensures inside before ∙ c.self.view_is

@@ -1,31 +1,32 @@
 use Rattle.std.proofs.Common.{sym, ap, subst, ◌∙◌}
 use Rattle.contract_words.specs.Ascending.{IsAscending}
 use Rattle.contract_words.proofs.AscendingLaws.{IsAscending-filter}
-use Rattle.endpoint_membership.specs.Kept.{is_besides, is_fresh}
+use Rattle.endpoint_membership.specs.Stored.{is_of_another}
+use Rattle.endpoint_membership.specs.Membership.{is_fresh, membership_order}
 use Rattle.endpoint_membership.specs.Limits.{IsWithin}
-use Rattle.endpoint_membership.specs.Rows.{is_live, kept_order}
+use Rattle.endpoint_membership.specs.Memberships.{is_live}
 use Rattle.endpoint_membership.specs.Table.{Holds, IsWithinLimits, TableValue}
 use Rattle.endpoint_membership.proofs.Clearings.{none_cleared}
-use Rattle.endpoint_membership.proofs.Held.{Holds-clear, fresh_are}
-use Rattle.endpoint_membership.proofs.Within.{IsWithin-filter}
+use Rattle.endpoint_membership.proofs.HoldsAfter.{Holds-clear, fresh_are}
+use Rattle.endpoint_membership.proofs.WithinLimits.{IsWithin-filter}
 use Rattle.endpoint_membership.proofs.table.Table.clear.Goals as goal
 
 pub invariant_of-self : goal.invariant_of-self
 invariant_of-self c =
-    let fresh = subst (IsAscending kept_order) (sym c.purge.ensures)
-    (IsAscending-filter kept_order (is_fresh c.self.inside.lifetime_ms c.later-self-inside.result) c.self.inside.rows c.self.invariant.1) in
-    (c.self.invariant.0, subst (IsAscending kept_order) (sym c.drop_endpoint.ensures) (IsAscending-filter kept_order (is_besides c.args.endpoint.now) c.purge.new.self fresh))
+    let fresh = subst (IsAscending membership_order) (sym c.purge.ensures)
+    (IsAscending-filter membership_order (is_fresh c.self.inside.lifetime_ms c.later-self-inside.result) c.self.inside.rows c.self.invariant.1) in
+    (c.self.invariant.0, subst (IsAscending membership_order) (sym c.drop_endpoint.ensures) (IsAscending-filter membership_order (is_of_another c.args.endpoint.now) c.purge.new.self fresh))
 
 pub returns-clause-live : goal.returns-clause-live
-returns-clause-live c terms log holds =
-    let inside = subst (λ (table : TableValue). Holds terms table log) (sym c.self.view_is) holds in
+returns-clause-live c settings log holds =
+    let inside = subst (λ (table : TableValue). Holds settings table log) (sym c.self.view_is) holds in
     c.is_live-live.ensures ∙ ap (is_live c.args.endpoint.now) (c.as_slice.ensures ∙ c.purge.ensures
-    ∙ fresh_are terms _ log c.args.at.now c.later-self-inside.result c.later-self-inside.ensures inside)
+    ∙ fresh_are settings _ log c.args.at.now c.later-self-inside.result c.later-self-inside.ensures inside)
 
 pub returns-clause-stands : goal.returns-clause-stands
-returns-clause-stands c terms log holds =
-    let inside = subst (λ (table : TableValue). Holds terms table log) (sym c.self.view_is) holds in
-    Holds-clear terms _ log c.args.endpoint.now c.args.at.now c.later-self-inside.result c.purge.new.self c.drop_endpoint.new.self
+returns-clause-stands c settings log holds =
+    let inside = subst (λ (table : TableValue). Holds settings table log) (sym c.self.view_is) holds in
+    Holds-clear settings _ log c.args.endpoint.now c.args.at.now c.later-self-inside.result c.purge.new.self c.drop_endpoint.new.self
     c.later-self-inside.ensures c.purge.ensures c.drop_endpoint.ensures inside
 
 pub returns-clause-within : goal.returns-clause-within
@@ -33,11 +34,11 @@ returns-clause-within c within =
     let inside = subst IsWithinLimits (sym c.self.view_is) within in
     let limits = c.self.inside.limits in
     let fresh = subst (IsWithin limits) (sym c.purge.ensures) (IsWithin-filter limits (is_fresh c.self.inside.lifetime_ms c.later-self-inside.result) c.self.inside.rows inside) in
-    subst (IsWithin limits) (sym c.drop_endpoint.ensures) (IsWithin-filter limits (is_besides c.args.endpoint.now) c.purge.new.self fresh)
+    subst (IsWithin limits) (sym c.drop_endpoint.ensures) (IsWithin-filter limits (is_of_another c.args.endpoint.now) c.purge.new.self fresh)
 
 pub returns-clause-same : goal.returns-clause-same
-returns-clause-same c terms log holds before none =
-    let inside = subst (λ (table : TableValue). Holds terms table log) (sym c.self.view_is) holds in
+returns-clause-same c settings log holds before none =
+    let inside = subst (λ (table : TableValue). Holds settings table log) (sym c.self.view_is) holds in
     let fresh = sym (ap (is_live c.args.endpoint.now) c.as_slice.ensures) ∙ sym c.is_live-live.ensures ∙ none in
-    none_cleared terms _ log c.args.endpoint.now c.args.at.now c.later-self-inside.result c.purge.new.self c.drop_endpoint.new.self
+    none_cleared settings _ log c.args.endpoint.now c.args.at.now c.later-self-inside.result c.purge.new.self c.drop_endpoint.new.self
     c.later-self-inside.ensures c.purge.ensures c.drop_endpoint.ensures inside before fresh ∙ c.self.view_is

@@ -1,17 +1,16 @@
 use Rattle.std.proofs.Common.{List, ℕ, rules, sym, subst, ◌≡◌, []}
 use Rattle.contract_words.specs.Ascending.{IsAscending}
-use Rattle.endpoint_membership.specs.declared.kept.Kept.{Kept}
-use Rattle.endpoint_membership.specs.Rows.{kept_order}
-use Rattle.endpoint_membership.specs.Table.{Holds, Terms}
-use Rattle.endpoint_membership.proofs.Held.{Holds-new, IsAscending-none, table_of}
+use Rattle.endpoint_membership.specs.Membership.{Membership, membership_order}
+use Rattle.endpoint_membership.specs.Table.{Holds, TableSettings}
+use Rattle.endpoint_membership.proofs.HoldsAfter.{Holds-new, IsAscending-none, table_of}
 use Rattle.endpoint_membership.proofs.table.Table.new.Goals as goal
 
 pub invariant_of-result : goal.invariant_of-result
-invariant_of-result c = (c.requires, subst (IsAscending kept_order) (sym c.new-2.ensures) IsAscending-none)
+invariant_of-result c = (c.requires, subst (IsAscending membership_order) (sym c.new-2.ensures) IsAscending-none)
 
 pub returns-clause-stands : goal.returns-clause-stands
 returns-clause-stands c =
-    let terms : Terms = record { limits = c.args.limits; lifetime = c.args.lifetime_ms } in
+    let settings : TableSettings = record { limits = c.args.limits; lifetime = c.args.lifetime_ms } in
     let start : c.unwrap.result ≡ 0 = search rules in
-    subst (λ (moment : ℕ). Holds terms (table_of moment c.args.limits c.args.lifetime_ms c.new-2.result) []) (sym start)
-    (subst (λ (rows : List Kept). Holds terms (table_of 0 c.args.limits c.args.lifetime_ms rows) []) (sym c.new-2.ensures) (Holds-new c.args.limits c.args.lifetime_ms))
+    subst (λ (moment : ℕ). Holds settings (table_of moment c.args.limits c.args.lifetime_ms c.new-2.result) []) (sym start)
+    (subst (λ (rows : List Membership). Holds settings (table_of 0 c.args.limits c.args.lifetime_ms rows) []) (sym c.new-2.ensures) (Holds-new c.args.limits c.args.lifetime_ms))

@@ -1,11 +1,12 @@
-use Rattle.std.proofs.Common.{subst}
-use Rattle.endpoint_membership.specs.Own.{AreOwn}
+use Rattle.std.proofs.Common.{List, IfOk, sym, subst}
+use Rattle.contract_words.specs.Ascending.{IsAscending}
+use Rattle.endpoint_membership.specs.EndpointMemberships.{AreOwn}
+use Rattle.endpoint_membership.specs.Membership.{Membership, membership_order}
 use Rattle.endpoint_membership.specs.Table.{TableValue}
-use Rattle.endpoint_membership.proofs.Owning.{owned_rows}
 use Rattle.endpoint_membership.proofs.table.Table.own_after.Goals as goal
 
 pub returns : goal.returns
 returns c =
-    subst (λ (table : TableValue). AreOwn table.lifetime c.args.moment c.args.endpoint.now c.args.records.now table.rows c.in_ok-after.after.items) c.self.view_is
-    (owned_rows c.self.inside.lifetime_ms c.args.moment c.args.endpoint.now c.args.records.now _ _ c.in_ok-after.after.items c.as_slice.ensures
-    c.self.invariant.1 c.in_ok-after.ensures.ascends c.in_ok-after.ensures.of c.in_ok-after.ensures.each)
+    subst (λ (table : TableValue). IfOk c.memberships_after.result (λ own. AreOwn table.lifetime c.args.moment c.args.endpoint.now c.args.records.now table.rows own.items)) c.self.view_is
+    (subst (λ (rows : List Membership). IfOk c.memberships_after.result (λ own. AreOwn c.self.inside.lifetime_ms c.args.moment c.args.endpoint.now c.args.records.now rows own.items)) c.as_slice-rows.ensures
+    (c.memberships_after.ensures (subst (IsAscending membership_order) (sym c.as_slice-rows.ensures) c.self.invariant.1)))

@@ -1,18 +1,20 @@
-use Rattle.std.proofs.Common.{map, sym, ap, subst, ◌∙◌}
+use Rattle.std.proofs.Common.{◌≡◌, map, sym, ap, subst, ◌∙◌}
+use Rattle.std.proofs.lemmas.Result.{IfOk-weaker}
 use Rattle.endpoint_membership.specs.Limits.{AreFew}
 use Rattle.endpoint_membership.specs.Log.{latest}
-use Rattle.endpoint_membership.specs.Rows.{shown}
-use Rattle.endpoint_membership.specs.Table.{Holds, TableValue}
-use Rattle.endpoint_membership.proofs.ByLog.{rows_are}
-use Rattle.endpoint_membership.proofs.Few.{AreFew-shown}
+use Rattle.endpoint_membership.specs.Memberships.{row_of, rows_of}
+use Rattle.endpoint_membership.specs.Table.{ForLog, Holds, TableValue}
+use Rattle.endpoint_membership.proofs.FewRows.{AreFew-row_of}
+use Rattle.endpoint_membership.proofs.MembershipsByLog.{rows_are}
 use Rattle.endpoint_membership.proofs.table.Table.rows.Goals as goal
 
 pub returns-clause-stands : goal.returns-clause-stands
-returns-clause-stands c terms log holds =
-    let inside = subst (λ (table : TableValue). Holds terms table log) (sym c.self.view_is) holds in
-    c.in_ok-rows.ensures ∙ ap (map shown) (c.as_slice.ensures ∙ rows_are terms.lifetime (latest log) log c.self.inside.rows inside.rows)
+returns-clause-stands c =
+    IfOk-weaker c.show.result (λ rows. rows ≡ map row_of c.as_slice.result.now) (λ rows. ForLog c.args.self.now (λ settings log. rows ≡ rows_of settings.lifetime (latest log) log)) (λ rows is settings log holds.
+    let inside = subst (λ (table : TableValue). Holds settings table log) (sym c.self.view_is) holds in
+    is ∙ ap (map row_of) (c.as_slice.ensures ∙ rows_are settings.lifetime (latest log) log c.self.inside.rows inside.rows)) c.show.ensures
 
 pub returns-clause-bounded : goal.returns-clause-bounded
 returns-clause-bounded c within =
-    let kept = c.as_slice.ensures ∙ ap (λ (table : TableValue). table.rows) c.self.view_is in
-    subst (AreFew c.args.self.now.limits) (sym (c.in_ok-rows.ensures ∙ ap (map shown) kept)) (AreFew-shown c.args.self.now.limits c.args.self.now.rows within)
+    let stored = c.as_slice.ensures ∙ ap (λ (table : TableValue). table.rows) c.self.view_is in
+    IfOk-weaker c.show.result (λ rows. rows ≡ map row_of c.as_slice.result.now) (AreFew c.args.self.now.limits) (λ rows is. subst (AreFew c.args.self.now.limits) (sym (is ∙ ap (map row_of) stored)) (AreFew-row_of c.args.self.now.limits c.args.self.now.rows within)) c.show.ensures

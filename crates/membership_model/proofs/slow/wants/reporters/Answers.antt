@@ -5,7 +5,7 @@ use Rattle.amt_values.specs.Tunnel.{Tunnel}
 use Rattle.amt_values.proofs.Orders.{tunnel_order-exact, tunnel_order-total}
 use Rattle.contract_words.specs.Ascending.{ascending}
 use Rattle.contract_words.proofs.Sorting.{ascending-sorted}
-use Rattle.endpoint_membership.specs.Place.{same_endpoint}
+use Rattle.endpoint_membership.specs.EndpointGroup.{same_endpoint}
 use Rattle.endpoint_membership.specs.Targets.{endpoints_in}
 use Rattle.membership_model.proofs.slow.wants.reporters.Goals as goal
 

@@ -1,0 +1,91 @@
+-- The memberships of an endpoint after its report are those by the log with the report.
+use Rattle.std.proofs.Common.{◌≡◌, ℕ, ◌≤◌, ◌<◌, true, if◌then◌else◌, List, [], ◌∷◌, ◌++◌, filter, Option, Some, None, refl, sym, ap, subst, ◌∙◌}
+use Rattle.std.specs.Ordering.{is_eq}
+use Rattle.std.proofs.lemmas.Cmp.{tied_itself}
+use Rattle.std.proofs.lemmas.Map.Views.{tells_apart}
+use Rattle.amt_values.specs.declared.address.Ip.{Ip}
+use Rattle.amt_values.specs.Tunnel.{Tunnel}
+use Rattle.amt_values.proofs.Orders.{tunnel_order-exact, tunnel_order-total}
+use Rattle.source_filter.specs.Filter.{FilterValue}
+use Rattle.source_filter.specs.declared.mode.Mode.{Mode}
+use Rattle.source_filter.specs.declared.mode.Mode.TheVariants.{Include, Exclude}
+use Rattle.source_filter.specs.declared.record.Record.{Record}
+use Rattle.endpoint_membership.specs.declared.change.Change.{Change}
+use Rattle.endpoint_membership.specs.declared.change.Change.TheVariants.{Reported}
+use Rattle.endpoint_membership.specs.Membership.{Membership, is_fresh}
+use Rattle.endpoint_membership.specs.Stored.{earlier, later, only}
+use Rattle.endpoint_membership.specs.Log.{is_empty, latest}
+use Rattle.endpoint_membership.specs.declared.after_report.RenewedFilter.{RenewedFilter}
+use Rattle.endpoint_membership.specs.EndpointMemberships.{AreOwn, filter_after_all, filter_or_nothing, on_group, membership_of_renewed, renewed_filter_after, renewed_filter_after_all, renewed_filter_of}
+use Rattle.endpoint_membership.specs.EndpointGroup.{EndpointGroup, same_endpoint}
+use Rattle.endpoint_membership.specs.Memberships.{membership_of, membership_in, membership_at}
+use Rattle.endpoint_membership.specs.Table.{AreMembershipsAt}
+use Rattle.endpoint_membership.proofs.ThreeParts.{is_of, parted}
+use Rattle.endpoint_membership.proofs.MembershipAt.{filter_in, membership_at-later, membership_at-report}
+use Rattle.endpoint_membership.proofs.AfterEntries.{AreMembershipsAt-report}
+
+abbrev endpoint_group : Tunnel → Ip → EndpointGroup
+endpoint_group endpoint group = record { endpoint = endpoint; group = group }
+
+abbrev made : Mode → List Ip → FilterValue
+made mode sources = record { mode = mode; sources = sources }
+
+-- a membership that was made by a filter is made by it again
+renewed_again : (endpoint : Tunnel) (group : Ip) (mode : Mode) (sources : List Ip) (renewed : ℕ)
+    → membership_of_renewed endpoint group (renewed_filter_of (membership_of (endpoint_group endpoint group) (made mode sources) renewed)) ≡ membership_of (endpoint_group endpoint group) (made mode sources) renewed
+renewed_again endpoint group Exclude sources renewed = refl
+renewed_again endpoint group Include [] renewed = refl
+renewed_again endpoint group Include (source ∷ sources) renewed = refl
+
+filter_or_nothing-in : (found : Option Membership) → filter_or_nothing (renewed_filter_of found) ≡ filter_in found
+filter_or_nothing-in None = refl
+filter_or_nothing-in (Some membership) = refl
+
+-- records one by one leave the filter of them all, renewed
+pub renewed_filter_after_all-is : (moment : ℕ) (first : Record) (later : List Record) (renewed_filter : Option RenewedFilter)
+    → renewed_filter_after_all moment (first ∷ later) renewed_filter ≡ Some (record { filter = filter_after_all (filter_or_nothing renewed_filter) (first ∷ later); renewed = moment })
+renewed_filter_after_all-is moment first [] renewed_filter = refl
+renewed_filter_after_all-is moment first (second ∷ later) renewed_filter = renewed_filter_after_all-is moment second later (renewed_filter_after moment first renewed_filter)
+
+row_by : (endpoint : Tunnel) (group : Ip) (moment : ℕ) (on : List Record) (filter : FilterValue) (renewed : ℕ) (found : Option Membership) → found ≡ membership_of (endpoint_group endpoint group) filter renewed
+    → membership_of_renewed endpoint group (renewed_filter_after_all moment on (renewed_filter_of found))
+    ≡ (if is_empty on then found else membership_of (endpoint_group endpoint group) (filter_after_all (filter_in found) on) moment)
+row_by endpoint group moment [] filter renewed found is =
+    subst (λ (one : Option Membership). membership_of_renewed endpoint group (renewed_filter_of one) ≡ one) (sym is) (renewed_again endpoint group filter.mode filter.sources renewed)
+row_by endpoint group moment (first ∷ later) filter renewed found is =
+    ap (membership_of_renewed endpoint group) (renewed_filter_after_all-is moment first later (renewed_filter_of found))
+    ∙ ap (λ (before : FilterValue). membership_of (endpoint_group endpoint group) (filter_after_all before (first ∷ later)) moment) (filter_or_nothing-in found)
+
+-- the endpoint's filters make the memberships by the log with the report
+pub own_membership : (lifetime moment at : ℕ) (endpoint : Tunnel) (records : List Record) (past : List Change) (rows : List Membership) (group : Ip) → 0 < lifetime
+    → moment ≤ latest (Reported endpoint records at ∷ past) → AreMembershipsAt lifetime moment past rows
+    → membership_of_renewed endpoint group (renewed_filter_after_all (latest (Reported endpoint records at ∷ past)) (on_group group records)
+    (renewed_filter_of (only (is_fresh lifetime (latest (Reported endpoint records at ∷ past))) (membership_in rows (endpoint_group endpoint group)))))
+    ≡ membership_at lifetime (latest (Reported endpoint records at ∷ past)) (Reported endpoint records at ∷ past) (endpoint_group endpoint group)
+own_membership lifetime moment at endpoint records past rows group some onward are =
+    let now = latest (Reported endpoint records at ∷ past) in
+    let here = endpoint_group endpoint group in
+    let before = membership_at lifetime now past here in
+    let found = ap (only (is_fresh lifetime now)) (are.each here) ∙ sym (membership_at-later lifetime moment now past here onward) in
+    ap (λ (one : Option Membership). membership_of_renewed endpoint group (renewed_filter_after_all now (on_group group records) (renewed_filter_of one))) found
+    ∙ row_by endpoint group now (on_group group records) _ _ before refl
+    ∙ sym (membership_at-report lifetime at endpoint records past here some (ap is_eq (tied_itself tunnel_order-total endpoint)))
+
+-- the memberships of the endpoint are those of its pairs
+pub own_at : (lifetime moment at : ℕ) (endpoint : Tunnel) (records : List Record) (past : List Change) (rows own : List Membership) → 0 < lifetime
+    → moment ≤ latest (Reported endpoint records at ∷ past) → AreMembershipsAt lifetime moment past rows → AreOwn lifetime (latest (Reported endpoint records at ∷ past)) endpoint records rows own
+    → (here : EndpointGroup) → same_endpoint here.endpoint endpoint ≡ true
+    → membership_in own here ≡ membership_at lifetime (latest (Reported endpoint records at ∷ past)) (Reported endpoint records at ∷ past) here
+own_at lifetime moment at endpoint records past rows own some onward are owned here same =
+    let exact = ap (λ (one : Tunnel). endpoint_group one here.group) (tells_apart tunnel_order-exact here.endpoint endpoint same) in
+    ap (membership_in own) exact ∙ owned.each here.group ∙ own_membership lifetime moment at endpoint records past rows here.group some onward are
+    ∙ ap (membership_at lifetime (latest (Reported endpoint records at ∷ past)) (Reported endpoint records at ∷ past)) (sym exact)
+
+-- the memberships with those of the endpoint replaced stand for the log with the report
+pub AreMembershipsAt-reported : (lifetime moment at : ℕ) (endpoint : Tunnel) (records : List Record) (past : List Change) (rows own : List Membership) → 0 < lifetime
+    → moment ≤ latest (Reported endpoint records at ∷ past) → AreMembershipsAt lifetime moment past rows → AreOwn lifetime (latest (Reported endpoint records at ∷ past)) endpoint records rows own
+    → AreMembershipsAt lifetime (latest (Reported endpoint records at ∷ past)) (Reported endpoint records at ∷ past)
+    (filter (is_fresh lifetime (latest (Reported endpoint records at ∷ past))) (earlier endpoint rows ++ (own ++ later endpoint rows)))
+AreMembershipsAt-reported lifetime moment at endpoint records past rows own some onward are owned =
+    AreMembershipsAt-report lifetime moment at endpoint records past rows (earlier endpoint rows) (filter (is_of endpoint) rows) (later endpoint rows) own onward are
+    (parted endpoint rows are.ascend) owned.ascends owned.of (own_at lifetime moment at endpoint records past rows own some onward are owned)

@@ -1,0 +1,68 @@
+-- Lists that ascend have no repeats, so their lengths count; and a filter raises no count.
+use Rattle.std.proofs.Common.{◌≡◌, ◌+◌, ◌≤◌, suc, Bool, true, false, cond, not, ◌||◌, List, [], ◌∷◌, length, map, filter, refl, sym, ◌∙◌, arith}
+use Rattle.std.specs.Cmp.{IsTotalOrder}
+use Rattle.std.specs.Ordering.{eq_by_cmp, is_eq, match_ordering}
+use Rattle.std.specs.declared.cmp.Ordering.{Ordering}
+use Rattle.std.specs.declared.cmp.Ordering.TheVariants.{Less, Equal, Greater}
+use Rattle.std.proofs.lemmas.Bool.{or_parts, or_right}
+use Rattle.std.proofs.lemmas.Cmp.{eq_by_cmp_equiv}
+use Rattle.std.proofs.lemmas.List.Filters.{sum_by-filter_both}
+use Rattle.std.proofs.lemmas.Map.Keys.{IsDistinct-from_sorted}
+use Rattle.std.proofs.lemmas.Map.Lookups.{CmpEqualImpliesEq}
+use Rattle.std.proofs.lemmas.Map.Made.{length-le_from_is_member}
+use Rattle.amt_values.specs.Order.{tunnel_order}
+use Rattle.amt_values.specs.Tunnel.{Tunnel}
+use Rattle.amt_values.proofs.Orders.{tunnel_order-exact, tunnel_order-total}
+use Rattle.contract_words.specs.Ascending.{IsAscending, has, placed, ascending}
+use Rattle.contract_words.proofs.AscendingLaws.{IsAscending-ascending, has-ascending}
+use Rattle.endpoint_membership.specs.Limits.{group_count, live_count}
+use Rattle.endpoint_membership.specs.EndpointGroup.{same_endpoint}
+use Rattle.endpoint_membership.specs.Membership.{Membership}
+
+-- a set has at most the items of a set that contains it
+pub length-within : {K : Type 0} (order : K → K → Ordering) → IsTotalOrder order → CmpEqualImpliesEq order → (xs ys : List K) → IsAscending order xs → IsAscending order ys
+    → ((s : K) → has order xs s ≡ true → has order ys s ≡ true) → length xs ≤ length ys
+length-within order total exact xs ys first second each = length-le_from_is_member (eq_by_cmp_equiv total) xs ys (IsDistinct-from_sorted order xs first) each
+
+length-placed_by : {K : Type 0} (order : K → K → Ordering) (o : Ordering) (x y : K) (ys : List K) → is_eq o ≡ false → length (placed order x ys) ≡ length ys + 1
+    → length (match_ordering o (x ∷ y ∷ ys) (y ∷ ys) (y ∷ placed order x ys)) ≡ suc (length ys) + 1
+length-placed_by order Less x y ys apart more = omega arith
+length-placed_by order Equal x y ys apart more = cc
+length-placed_by order Greater x y ys apart more = omega arith
+
+-- a new item makes a set longer by one
+pub length-placed-new : {K : Type 0} (order : K → K → Ordering) (x : K) (xs : List K) → has order xs x ≡ false → length (placed order x xs) ≡ length xs + 1
+length-placed-new order x [] none = refl
+length-placed-new order x (y ∷ ys) none =
+    let both = or_parts (eq_by_cmp order x y) (has order ys x) none in
+    length-placed_by order (order x y) x y ys both.0 (length-placed-new order x ys both.1)
+
+abbrev endpoints : List Membership → List Tunnel
+endpoints rows = map (λ membership. membership.endpoint) rows
+
+either : (here some rest : Bool) → (some ≡ true → rest ≡ true) → (here || some) ≡ true → (here || rest) ≡ true
+either true some rest more is = refl
+either false some rest more is = more is
+
+has_more : (passes : Bool) (membership : Membership) (some rest : List Membership) (endpoint : Tunnel)
+    → (has tunnel_order (endpoints some) endpoint ≡ true → has tunnel_order (endpoints rest) endpoint ≡ true)
+    → has tunnel_order (endpoints (cond passes (membership ∷ some) some)) endpoint ≡ true → has tunnel_order (endpoints (membership ∷ rest)) endpoint ≡ true
+has_more true membership some rest endpoint more listed = either (same_endpoint endpoint membership.endpoint) _ _ more listed
+has_more false membership some rest endpoint more listed = or_right (same_endpoint endpoint membership.endpoint) _ (more listed)
+
+-- the endpoints of filtered memberships are endpoints of the memberships
+has-endpoints-filter : (test : Membership → Bool) (rows : List Membership) (endpoint : Tunnel) → has tunnel_order (endpoints (filter test rows)) endpoint ≡ true
+    → has tunnel_order (endpoints rows) endpoint ≡ true
+has-endpoints-filter test [] endpoint listed = listed
+has-endpoints-filter test (membership ∷ rest) endpoint listed = has_more (test membership) membership (filter test rest) rest endpoint (has-endpoints-filter test rest endpoint) listed
+
+pub live_count-filter : (test : Membership → Bool) (rows : List Membership) → live_count (filter test rows) ≤ live_count rows
+live_count-filter test rows =
+    let some = endpoints (filter test rows) in
+    let all = endpoints rows in
+    length-within tunnel_order tunnel_order-total tunnel_order-exact (ascending tunnel_order some) (ascending tunnel_order all) (IsAscending-ascending tunnel_order-total some) (IsAscending-ascending tunnel_order-total all)
+    (λ endpoint listed. has-ascending tunnel_order-total all endpoint ∙ has-endpoints-filter test rows endpoint (sym (has-ascending tunnel_order-total some endpoint) ∙ listed))
+
+pub group_count-filter : (test : Membership → Bool) (endpoint : Tunnel) (rows : List Membership) → group_count endpoint (filter test rows) ≤ group_count endpoint rows
+group_count-filter test endpoint rows =
+    omega (arith, sum_by-filter_both test (λ (membership : Membership). not (test membership)) (λ (membership : Membership). refl) (λ (membership : Membership). cond (same_endpoint membership.endpoint endpoint) 1 0) rows)

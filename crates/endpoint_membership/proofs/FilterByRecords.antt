@@ -1,0 +1,130 @@
+-- Applying records one by one leaves the filter that they make together.
+use Rattle.std.proofs.Common.{◌≡◌, Bool, true, false, not, ◌&&◌, ◌||◌, if◌then◌else◌, List, [], ◌∷◌, ◌++◌, reverse, filter, refl, sym, ap, ◌∙◌}
+use Rattle.std.proofs.lemmas.Grind.{reverse_onto}
+use Rattle.std.proofs.lemmas.List.{append_assoc}
+use Rattle.amt_values.specs.declared.address.Ip.{Ip}
+use Rattle.amt_values.specs.Order.{ip_order}
+use Rattle.amt_values.proofs.Orders.{ip_order-total, ip_order-exact}
+use Rattle.source_filter.specs.Filter.{FilterValue, admits, admits_by, filter_after, mode_after, nothing, sources_after}
+use Rattle.source_filter.specs.Record.{is_full, lists, says, speaks}
+use Rattle.contract_words.specs.Ascending.{IsAscending}
+use Rattle.source_filter.specs.declared.mode.Mode.{Mode}
+use Rattle.source_filter.specs.declared.mode.Mode.TheVariants.{Include, Exclude}
+use Rattle.source_filter.specs.declared.record.Record.{Record}
+use Rattle.source_filter.specs.declared.record.RecordKind.{RecordKind}
+use Rattle.source_filter.specs.declared.record.RecordKind.TheVariants.{IsIn, IsEx, ToIn, ToEx, Allow, Block}
+use Rattle.source_filter.proofs.FilterAfter.{IsAscending-filter_after, admits-filter_after, lists-ascending}
+use Rattle.contract_words.proofs.AscendingLaws.{IsAscending-ascending, has-append, has-difference, has-filter, has-union, same_ascending}
+use Rattle.endpoint_membership.specs.EndpointMemberships.{filter_after_all}
+use Rattle.endpoint_membership.specs.GroupFilter.{records_admit, counted_sources, excludes, is_counted_source, is_excluding, named_sources, filter_of}
+
+-- the filter that records leave, newest first
+abbrev pub filter_by_records : List Record → FilterValue
+filter_by_records [] = nothing
+filter_by_records (newest ∷ older) = filter_after (filter_by_records older) newest
+
+abbrev mode_by : Bool → Mode
+mode_by excluding = if excluding then Exclude else Include
+
+mode_after-mode_by : (kind : RecordKind) (before : Bool) → mode_after kind (mode_by before) ≡ mode_by (if is_full kind then is_excluding kind else before)
+mode_after-mode_by IsIn before = refl
+mode_after-mode_by IsEx before = refl
+mode_after-mode_by ToIn before = refl
+mode_after-mode_by ToEx before = refl
+mode_after-mode_by Allow before = refl
+mode_after-mode_by Block before = refl
+
+mode-filter_by_records : (records : List Record) → (filter_by_records records).mode ≡ mode_by (excludes records)
+mode-filter_by_records [] = refl
+mode-filter_by_records (newest ∷ older) = ap (mode_after newest.kind) (mode-filter_by_records older) ∙ mode_after-mode_by newest.kind (excludes older)
+
+pub admits-filter_by_records : (records : List Record) (source : Ip) → admits (filter_by_records records) source ≡ records_admit records source
+admits-filter_by_records [] source = refl
+admits-filter_by_records (newest ∷ older) source =
+    admits-filter_after (filter_by_records older) newest source ∙ ap (λ (before : Bool). if speaks newest source then says newest source else before) (admits-filter_by_records older source)
+
+IsAscending-filter_by_records : (records : List Record) → IsAscending ip_order (filter_by_records records).sources
+IsAscending-filter_by_records [] = IsAscending-ascending ip_order-total []
+IsAscending-filter_by_records (newest ∷ older) = IsAscending-filter_after (filter_by_records older) newest (IsAscending-filter_by_records older)
+
+counted_by : (excluding listed wanted : Bool) → admits_by (mode_by excluding) listed ≡ wanted → listed ≡ (if excluding then not wanted else wanted)
+counted_by true true wanted says = ap not says
+counted_by true false wanted says = ap not says
+counted_by false listed wanted says = says
+
+lists-filter_by_records : (records : List Record) (source : Ip) → lists (filter_by_records records).sources source ≡ is_counted_source records source
+lists-filter_by_records records source =
+    let says = admits-filter_by_records records source in
+    counted_by (excludes records) (lists (filter_by_records records).sources source) (records_admit records source) (rw (mode-filter_by_records records) at says)
+
+either_right : (a b : Bool) → a ≡ true → (b || a) ≡ true
+either_right a true given = refl
+either_right a false given = given
+
+turned : (a b : Bool) → (a || b) ≡ true → (b || a) ≡ true
+turned true b given = either_right true b refl
+turned false true given = refl
+turned false false given = given
+
+first_of_both : (a b c : Bool) → (a && b) ≡ true → (c || a) ≡ true
+first_of_both true b c both = either_right true c refl
+first_of_both false b c both = cc
+
+from_either : (kind : RecordKind) (mode : Mode) (old listed : List Ip) (source : Ip) → lists (sources_after kind mode old listed) source ≡ true
+    → (lists listed source || lists old source) ≡ true
+from_either Allow Include old listed source given =
+    turned (lists old source) (lists listed source) (sym (has-union ip_order-total old listed source) ∙ given)
+from_either Allow Exclude old listed source given =
+    first_of_both (lists old source) (not (lists listed source)) (lists listed source) (sym (has-difference ip_order-exact old listed source) ∙ given)
+from_either Block Include old listed source given =
+    first_of_both (lists old source) (not (lists listed source)) (lists listed source) (sym (has-difference ip_order-exact old listed source) ∙ given)
+from_either Block Exclude old listed source given =
+    turned (lists old source) (lists listed source) (sym (has-union ip_order-total old listed source) ∙ given)
+from_either full mode old listed source given =
+    turned (lists old source) (lists listed source) (either_right (lists listed source) (lists old source) (sym (lists-ascending listed source) ∙ given))
+
+either_onward : (a b c : Bool) → (b ≡ true → c ≡ true) → (a || b) ≡ true → (a || c) ≡ true
+either_onward true b c onward given = refl
+either_onward false b c onward given = onward given
+
+-- only a named source is listed
+lists-named_sources : (records : List Record) (source : Ip) → lists (filter_by_records records).sources source ≡ true → lists (named_sources records) source ≡ true
+lists-named_sources [] source given = given
+lists-named_sources (newest ∷ older) source given =
+    has-append ip_order newest.sources (named_sources older) source
+    ∙ either_onward (lists newest.sources source) (lists (filter_by_records older).sources source) (lists (named_sources older) source) (lists-named_sources older source)
+    (from_either newest.kind (filter_by_records older).mode (filter_by_records older).sources newest.sources source given)
+
+within_by : (a b : Bool) → (b ≡ true → a ≡ true) → b ≡ (a && b)
+within_by a true within = rw (within refl) refl
+within_by true false within = refl
+within_by false false within = refl
+
+lists-counted_sources : (records : List Record) (source : Ip) → lists (filter_by_records records).sources source ≡ lists (counted_sources records) source
+lists-counted_sources records source =
+    lists-filter_by_records records source
+    ∙ within_by (lists (named_sources records) source) (is_counted_source records source) (λ counted. lists-named_sources records source (lists-filter_by_records records source ∙ counted))
+    ∙ sym (has-filter ip_order-exact (is_counted_source records) (named_sources records) source)
+    ∙ sym (lists-ascending (filter (is_counted_source records) (named_sources records)) source)
+
+sources-filter_by_records : (records : List Record) → (filter_by_records records).sources ≡ counted_sources records
+sources-filter_by_records records =
+    same_ascending ip_order-total ip_order-exact (filter_by_records records).sources (counted_sources records)
+    (IsAscending-filter_by_records records) (IsAscending-ascending ip_order-total (filter (is_counted_source records) (named_sources records))) (lists-counted_sources records)
+
+abbrev made : Mode → List Ip → FilterValue
+made mode sources = record { mode = mode; sources = sources }
+
+-- the filter that records leave is the group's filter by the definitions
+pub filter_by_records-is : (records : List Record) → filter_by_records records ≡ filter_of records
+filter_by_records-is records =
+    ap (λ (mode : Mode). made mode (filter_by_records records).sources) (mode-filter_by_records records)
+    ∙ ap (λ (sources : List Ip). made (mode_by (excludes records)) sources) (sources-filter_by_records records)
+
+-- records on top of others, turned round
+pub filter_by_records-append : (records older : List Record) → filter_by_records (reverse records ++ older) ≡ filter_after_all (filter_by_records older) records
+filter_by_records-append [] older = refl
+filter_by_records-append (first ∷ later) older =
+    ap (λ (turned_round : List Record). filter_by_records (turned_round ++ older)) (reverse_onto later first [])
+    ∙ ap filter_by_records (append_assoc (reverse later) (first ∷ []) older)
+    ∙ filter_by_records-append later (first ∷ older)

@@ -1,0 +1,161 @@
+-- Tables that stand for a log, and what each call leaves.
+use Rattle.std.proofs.Common.{◌≤◌, ◌≡◌, ℕ, ◌<◌, max, List, [], ◌∷◌, ◌++◌, reverse, filter, Some, None, refl, sym, ap, subst, ◌∙◌, arith}
+use Rattle.std.specs.List.Sorted.{IsStrictlySortedBy}
+use Rattle.std.proofs.lemmas.List.{reverse-append}
+use Rattle.amt_values.specs.Tunnel.{Tunnel}
+use Rattle.contract_words.specs.Ascending.{IsAscending}
+use Rattle.source_filter.specs.declared.record.Record.{Record}
+use Rattle.endpoint_membership.specs.declared.change.Change.{Change}
+use Rattle.endpoint_membership.specs.declared.change.Change.TheVariants.{Reported, Clear, Mark}
+use Rattle.endpoint_membership.specs.Membership.{Membership, is_fresh, membership_order}
+use Rattle.endpoint_membership.specs.declared.limits.LimitFault.{LimitFault}
+use Rattle.endpoint_membership.specs.declared.limits.Limits.{Limits}
+use Rattle.endpoint_membership.specs.Stored.{is_of_another, is_counted}
+use Rattle.endpoint_membership.specs.Limits.{IsWithin, first_limit}
+use Rattle.endpoint_membership.specs.Log.{brought, latest}
+use Rattle.endpoint_membership.specs.EndpointMemberships.{AreOwn}
+use Rattle.endpoint_membership.specs.Memberships.{memberships_at}
+use Rattle.endpoint_membership.specs.Table.{AreMembershipsAt, Holds, IsWithinLimits, TableValue, TableSettings, limit_passed, memberships_now}
+use Rattle.endpoint_membership.proofs.MembershipsByLog.{rows_are}
+use Rattle.endpoint_membership.proofs.ReportFits.{replaced}
+use Rattle.endpoint_membership.proofs.AfterReport.{AreMembershipsAt-reported}
+use Rattle.endpoint_membership.proofs.AfterEntries.{AreMembershipsAt-clear, AreMembershipsAt-later, AreMembershipsAt-other}
+use Rattle.endpoint_membership.proofs.WithinLimits.{none_passed}
+
+latest-append : (xs ys : List Change) → latest (xs ++ ys) ≡ max (latest xs) (latest ys)
+latest-append [] ys = omega arith
+latest-append (entry ∷ xs) ys = omega (arith, latest-append xs ys)
+
+-- the latest moment with one entry more
+pub latest-push : (log : List Change) (entry : Change) → latest (log ++ entry ∷ []) ≡ max (brought entry) (latest log)
+latest-push log entry = omega (arith, latest-append log (entry ∷ []))
+
+-- a log turned round has the same latest moment
+pub latest-reverse : (log : List Change) → latest (reverse log) ≡ latest log
+latest-reverse [] = refl
+latest-reverse (entry ∷ rest) =
+    ap latest (reverse-append (entry ∷ []) rest) ∙ omega (arith, latest-append (reverse rest) (entry ∷ []), latest-reverse rest)
+
+pub reverse-push : (log : List Change) (entry : Change) → reverse (log ++ entry ∷ []) ≡ entry ∷ reverse log
+reverse-push log entry = reverse-append log (entry ∷ [])
+
+abbrev pub table_of : ℕ → Limits → ℕ → List Membership → TableValue
+table_of moment limits lifetime rows = record { moment = moment; limits = limits; lifetime = lifetime; rows = rows }
+
+-- no entry, no membership
+pub Holds-new : (limits : Limits) (lifetime : ℕ) → Holds (record { limits = limits; lifetime = lifetime }) (table_of 0 limits lifetime []) []
+unfolding IsStrictlySortedBy
+Holds-new limits lifetime = record { limits = refl; lifetime = refl; moment = refl; rows = record { ascend = tt; each = λ endpoint_group. refl } }
+
+-- memberships by the log with an entry, from memberships by the log turned round
+held : (settings : TableSettings) (table : TableValue) (log : List Change) (entry : Change) (moment : ℕ) (rows : List Membership) → Holds settings table log → moment ≡ max table.moment (brought entry)
+    → AreMembershipsAt settings.lifetime (latest (entry ∷ reverse log)) (entry ∷ reverse log) rows → Holds settings (table_of moment table.limits table.lifetime rows) (log ++ entry ∷ [])
+held settings table log entry moment rows holds is are =
+    let later = latest-push log entry in
+    let turned = latest-reverse log in
+    let same = holds.moment in
+    let now : latest (entry ∷ reverse log) ≡ latest (log ++ entry ∷ []) = omega arith in record {
+      limits = holds.limits;
+      lifetime = holds.lifetime;
+      moment = omega arith;
+      rows = subst (λ (at : ℕ). AreMembershipsAt settings.lifetime at (reverse (log ++ entry ∷ [])) rows) now
+          (subst (λ (past : List Change). AreMembershipsAt settings.lifetime (latest (entry ∷ reverse log)) past rows) (sym (reverse-push log entry)) are);
+    }
+
+-- the memberships that are fresh at a later moment
+fresh_rows : (settings : TableSettings) (table : TableValue) (log : List Change) (entry : Change) (moment : ℕ) → Holds settings table log → moment ≡ max table.moment (brought entry)
+    → AreMembershipsAt settings.lifetime (latest (entry ∷ reverse log)) (reverse log) (filter (is_fresh table.lifetime moment) table.rows)
+fresh_rows settings table log entry moment holds is =
+    let turned = latest-reverse log in
+    let same = holds.moment in
+    let now : latest (entry ∷ reverse log) ≡ moment = omega arith in
+    subst (λ (lifetime : ℕ). AreMembershipsAt settings.lifetime (latest (entry ∷ reverse log)) (reverse log) (filter (is_fresh lifetime moment) table.rows)) (sym holds.lifetime)
+    (subst (λ (at : ℕ). AreMembershipsAt settings.lifetime (latest (entry ∷ reverse log)) (reverse log) (filter (is_fresh settings.lifetime at) table.rows)) now
+    (AreMembershipsAt-later settings.lifetime (latest log) (latest (entry ∷ reverse log)) (reverse log) table.rows (omega arith) holds.rows))
+
+-- time passes
+pub Holds-mark : (settings : TableSettings) (table : TableValue) (log : List Change) (at moment : ℕ) (rows : List Membership) → moment ≡ max table.moment at → rows ≡ filter (is_fresh table.lifetime moment) table.rows
+    → Holds settings table log → Holds settings (table_of moment table.limits table.lifetime rows) (log ++ Mark at ∷ [])
+Holds-mark settings table log at moment rows is fresh holds =
+    held settings table log (Mark at) moment rows holds is
+    (AreMembershipsAt-other settings.lifetime (latest (Mark at ∷ reverse log)) (Mark at) (reverse log) rows (λ endpoint_group. refl)
+    (subst (AreMembershipsAt settings.lifetime (latest (Mark at ∷ reverse log)) (reverse log)) (sym fresh) (fresh_rows settings table log (Mark at) moment holds is)))
+
+-- an endpoint leaves every group
+pub Holds-clear : (settings : TableSettings) (table : TableValue) (log : List Change) (endpoint : Tunnel) (at moment : ℕ) (fresh rows : List Membership) → moment ≡ max table.moment at
+    → fresh ≡ filter (is_fresh table.lifetime moment) table.rows → rows ≡ filter (is_of_another endpoint) fresh
+    → Holds settings table log → Holds settings (table_of moment table.limits table.lifetime rows) (log ++ Clear endpoint at ∷ [])
+Holds-clear settings table log endpoint at moment fresh rows is left gone holds =
+    let entry = Clear endpoint at in
+    let now = latest (entry ∷ reverse log) in
+    let here = subst (AreMembershipsAt settings.lifetime now (reverse log)) (sym left) (fresh_rows settings table log entry moment holds is) in
+    held settings table log entry moment rows holds is
+    (subst (AreMembershipsAt settings.lifetime now (entry ∷ reverse log)) (sym gone) (AreMembershipsAt-clear settings.lifetime at endpoint (reverse log) fresh here))
+
+-- the memberships that are left at a later moment are the memberships by the log then
+pub fresh_are : (settings : TableSettings) (table : TableValue) (log : List Change) (at moment : ℕ) → moment ≡ max table.moment at → Holds settings table log
+    → filter (is_fresh table.lifetime moment) table.rows ≡ memberships_at settings.lifetime (max at (latest log)) log
+fresh_are settings table log at moment is holds =
+    let rows = filter (is_fresh table.lifetime moment) table.rows in
+    let turned = latest-reverse log in
+    let now : latest (Mark at ∷ reverse log) ≡ max at (latest log) = omega arith in
+    rows_are settings.lifetime (max at (latest log)) log rows
+    (subst (λ (later : ℕ). AreMembershipsAt settings.lifetime later (reverse log) rows) now (fresh_rows settings table log (Mark at) moment holds is))
+
+-- the memberships that count at the table's own moment are all that there are now
+pub rows_now : (settings : TableSettings) (table : TableValue) (log : List Change) → Holds settings table log → filter (is_counted table.lifetime table.moment None) table.rows ≡ memberships_now settings log
+rows_now settings table log holds =
+    fresh_are settings table log 0 table.moment (omega arith) holds ∙ ap (λ (moment : ℕ). memberships_at settings.lifetime moment log) (omega arith)
+
+pub IsAscending-none : IsAscending membership_order []
+unfolding IsStrictlySortedBy
+IsAscending-none = tt
+
+-- a report, with the memberships that its records leave in the place of the endpoint's
+pub Holds-report : (settings : TableSettings) (table : TableValue) (log : List Change) (endpoint : Tunnel) (records : List Record) (at moment : ℕ) (own rows : List Membership) → 0 < table.lifetime
+    → moment ≡ max table.moment at → AreOwn table.lifetime moment endpoint records table.rows own → rows ≡ replaced table.lifetime moment endpoint table.rows own
+    → Holds settings table log → Holds settings (table_of moment table.limits table.lifetime rows) (log ++ Reported endpoint records at ∷ [])
+Holds-report settings table log endpoint records at moment own rows some is owned put holds =
+    let entry = Reported endpoint records at in
+    let past = reverse log in
+    let turned = latest-reverse log in
+    let same = holds.moment in
+    let long = holds.lifetime in
+    let now : moment ≡ latest (entry ∷ past) = omega arith in
+    let owned_here = subst (λ (lifetime : ℕ). AreOwn lifetime (latest (entry ∷ past)) endpoint records table.rows own) long
+    (subst (λ (later : ℕ). AreOwn table.lifetime later endpoint records table.rows own) now owned) in
+    let put_here = put ∙ ap (λ (lifetime : ℕ). replaced lifetime moment endpoint table.rows own) long ∙ ap (λ (later : ℕ). replaced settings.lifetime later endpoint table.rows own) now in
+    held settings table log entry moment rows holds is
+    (subst (AreMembershipsAt settings.lifetime (latest (entry ∷ past)) (entry ∷ past)) (sym put_here)
+    (AreMembershipsAt-reported settings.lifetime (latest log) at endpoint records past table.rows own (omega arith) (omega arith) holds.rows owned_here))
+
+-- the limit that a report passes is found by the memberships that there are with it
+pub passed_is : (settings : TableSettings) (table : TableValue) (log : List Change) (endpoint : Tunnel) (records : List Record) (at : ℕ) → Holds settings table (log ++ Reported endpoint records at ∷ [])
+    → limit_passed settings log endpoint records at ≡ first_limit table.limits endpoint records table.rows
+passed_is settings table log endpoint records at holds =
+    let entries = log ++ Reported endpoint records at ∷ [] in
+    ap (first_limit settings.limits endpoint records) (sym (rows_are settings.lifetime (latest entries) entries table.rows holds.rows))
+    ∙ ap (λ (limits : Limits). first_limit limits endpoint records table.rows) (sym holds.limits)
+
+-- what a table keeps within its limits is within them by the log
+pub IsWithin-log : (settings : TableSettings) (table : TableValue) (log : List Change) → Holds settings table log → IsWithinLimits table → IsWithin settings.limits (memberships_now settings log)
+IsWithin-log settings table log holds within =
+    subst (IsWithin settings.limits) (rows_are settings.lifetime (latest log) log table.rows holds.rows)
+    (subst (λ (limits : Limits). IsWithin limits table.rows) holds.limits within)
+
+-- where a limit is passed, the memberships with the report aren't within the limits
+pub unfit : (settings : TableSettings) (log : List Change) (endpoint : Tunnel) (records : List Record) (at : ℕ) (fault : LimitFault) → limit_passed settings log endpoint records at ≡ Some fault
+    → IsWithin settings.limits (memberships_now settings (log ++ Reported endpoint records at ∷ [])) → ⊥
+unfit settings log endpoint records at fault passed within =
+    let none = none_passed settings.limits endpoint records (memberships_now settings (log ++ Reported endpoint records at ∷ [])) within in
+    cc
+
+-- a table that stands for a log has only fresh memberships, so where no time passes nothing changes
+pub no_later : (settings : TableSettings) (table : TableValue) (log : List Change) (at moment : ℕ) (rows : List Membership) → moment ≡ max table.moment at → rows ≡ filter (is_fresh table.lifetime moment) table.rows
+    → Holds settings table log → at ≤ latest log → table_of moment table.limits table.lifetime rows ≡ table
+no_later settings table log at moment rows is fresh holds before =
+    let same = holds.moment in
+    let still : moment ≡ table.moment = omega arith in
+    let all = fresh ∙ fresh_are settings table log at moment is holds
+    ∙ ap (λ (later : ℕ). memberships_at settings.lifetime later log) (omega arith) ∙ sym (rows_are settings.lifetime (latest log) log table.rows holds.rows) in
+    ap (λ (at_last : ℕ). table_of at_last table.limits table.lifetime rows) still ∙ ap (table_of table.moment table.limits table.lifetime) all

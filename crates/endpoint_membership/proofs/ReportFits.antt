@@ -1,0 +1,227 @@
+-- What the memberships of an endpoint after its report may be, whatever log the memberships before stood for.
+use Rattle.std.proofs.Common.{◌≡◌, ℕ, ◌+◌, ◌≤◌, ◌<◌, ◌^◌, Bool, true, false, cond, ◌||◌, if◌then◌else◌, List, [], ◌∷◌, ◌++◌, filter, length, map, Option, Some, None, is_some, sum_by, unwrap_or, refl, sym, ap, subst, ◌∙◌, arith}
+use Rattle.std.specs.List.{AllByRecursion, find, list_any}
+use Rattle.std.proofs.lemmas.Bool.{lt-ltb}
+use Rattle.std.specs.Ordering.{is_eq}
+use Rattle.std.proofs.lemmas.Cmp.{tied_itself}
+use Rattle.std.proofs.lemmas.Map.Views.{tells_apart}
+use Rattle.amt_values.specs.declared.address.Ip.{Ip}
+use Rattle.amt_values.specs.Order.{ip_order}
+use Rattle.amt_values.specs.Tunnel.{Tunnel}
+use Rattle.amt_values.proofs.Orders.{tunnel_order-exact, tunnel_order-total}
+use Rattle.source_filter.specs.Filter.{FilterValue}
+use Rattle.source_filter.specs.Record.{item_count}
+use Rattle.contract_words.specs.Ascending.{IsAscending, has}
+use Rattle.source_filter.specs.declared.record.Record.{Record}
+use Rattle.contract_words.proofs.AscendingLaws.{IsAscending-filter}
+use Rattle.endpoint_membership.specs.Membership.{Membership, is_fresh, membership_order, endpoint_group_of}
+use Rattle.endpoint_membership.specs.declared.limits.LimitFault.{LimitFault}
+use Rattle.endpoint_membership.specs.declared.limits.Limits.{Limits}
+use Rattle.endpoint_membership.specs.Stored.{earlier, is_counted, later, only}
+use Rattle.endpoint_membership.specs.Limits.{IsWithin, first_limit, group_count, live_count, size}
+use Rattle.endpoint_membership.specs.EndpointMemberships.{limit_by, AreOf, AreOwn, filter_or_nothing, is_over, on_group, membership_of_renewed, renewed_filter_after_all, renewed_filter_of}
+use Rattle.endpoint_membership.specs.Log.{is_empty}
+use Rattle.endpoint_membership.specs.declared.after_report.RenewedFilter.{RenewedFilter}
+use Rattle.endpoint_membership.specs.EndpointGroup.{EndpointGroup, same_endpoint, same_group}
+use Rattle.source_filter.specs.Filter.{wants_any}
+use Rattle.endpoint_membership.specs.Memberships.{membership_in}
+use Rattle.endpoint_membership.specs.Table.{AreLawful}
+use Rattle.endpoint_membership.proofs.ReportBounds.{All-at, All-from_membership_in, few_groups, sources-filter_after_all, sum_by-on_group}
+use Rattle.endpoint_membership.proofs.MembershipsByLog.{membership_by}
+use Rattle.endpoint_membership.proofs.LimitByOwn.{first_limit_is}
+use Rattle.endpoint_membership.proofs.MembershipIn.{membership_in-filter}
+use Rattle.endpoint_membership.proofs.ThreeParts.{IsAscending-replaced, is_of, parted}
+use Rattle.endpoint_membership.proofs.AfterReport.{renewed_filter_after_all-is}
+use Rattle.endpoint_membership.proofs.AfterEntries.{membership_in-others, membership_in-three}
+use Rattle.endpoint_membership.proofs.WithinLimits.{IsWithin-filter, IsWithin-report, its_endpoint_group, on_none}
+
+abbrev endpoint_group : Tunnel → Ip → EndpointGroup
+endpoint_group endpoint group = record { endpoint = endpoint; group = group }
+
+abbrev made : Tunnel → Ip → FilterValue → ℕ → Membership
+made endpoint group filter renewed = record { endpoint = endpoint; group = group; filter = filter; renewed = renewed }
+
+-- the membership of a filter has its filter and its renewal
+record IsRowOf (endpoint : Tunnel) (group : Ip) (renewed_filter : Option RenewedFilter) (membership : Membership) : Type 0 where
+  filter : membership.filter ≡ filter_or_nothing renewed_filter
+  renewed : (one : RenewedFilter) → renewed_filter ≡ Some one → membership.renewed ≡ one.renewed
+  some : is_some renewed_filter ≡ true
+
+row_is : (endpoint : Tunnel) (group : Ip) (renewed_filter : Option RenewedFilter) (membership : Membership) → membership_of_renewed endpoint group renewed_filter ≡ Some membership → IsRowOf endpoint group renewed_filter membership
+row_is endpoint group None membership found = cc
+row_is endpoint group (Some renewed_filter) membership found =
+    let is = membership_by (wants_any renewed_filter.filter) (made endpoint group renewed_filter.filter renewed_filter.renewed) membership found in record {
+      filter = ap (λ (one : Membership). one.filter) (sym is);
+      renewed = λ one same. ap (λ (each : Membership). each.renewed) (sym is) ∙ ap (λ (each : Option RenewedFilter). (unwrap_or each one).renewed) same;
+      some = refl;
+    }
+
+-- the membership of an old membership's filter is the old membership
+old_row : (endpoint : Tunnel) (group : Ip) (found : Option Membership) (membership : Membership) → ((one : Membership) → found ≡ Some one → endpoint_group endpoint group ≡ endpoint_group_of one)
+    → membership_of_renewed endpoint group (renewed_filter_of found) ≡ Some membership → found ≡ Some membership
+old_row endpoint group None membership its row = cc
+old_row endpoint group (Some one) membership its row =
+    let here = its one refl in
+    ap Some (ap (λ (at : EndpointGroup). made at.endpoint at.group one.filter one.renewed) (sym here)
+    ∙ membership_by (wants_any one.filter) (made endpoint group one.filter one.renewed) membership row)
+
+passes_by : (passes : Bool) (one membership : Membership) (test : Membership → Bool) → test one ≡ passes → cond passes (Some one) None ≡ Some membership → test membership ≡ true
+passes_by true one membership test is passed = ap test (sym (membership_by true one membership passed)) ∙ is
+passes_by false one membership test is passed = cc
+
+passes_only : (test : Membership → Bool) (found : Option Membership) (membership : Membership) → only test found ≡ Some membership → test membership ≡ true
+passes_only test None membership passed = cc
+passes_only test (Some one) membership passed = passes_by (test one) one membership test refl passed
+
+only_found : (test : Membership → Bool) (found : Option Membership) (membership : Membership) → only test found ≡ Some membership → found ≡ Some membership
+only_found test None membership passed = passed
+only_found test (Some one) membership passed = ap Some (membership_by (test one) one membership passed)
+
+-- the memberships that the filters of these memberships make of a pair, old or reported
+record IsOwnRow (lifetime moment : ℕ) (endpoint : Tunnel) (records : List Record) (found : Option Membership) (group : Ip) (membership : Membership) : Type 0 where
+  fresh : is_fresh lifetime moment membership ≡ true
+  size : length membership.filter.sources ≤ length (filter_or_nothing (renewed_filter_of found)).sources + sum_by (λ (one : Record). length one.sources) (on_group group records)
+  old : on_group group records ≡ [] → found ≡ Some membership
+
+own_row_by : (lifetime moment : ℕ) (endpoint : Tunnel) (records : List Record) (rows : List Membership) (group : Ip) (membership : Membership) (on : List Record) → 0 < lifetime
+    → on ≡ on_group group records → membership_of_renewed endpoint group (renewed_filter_after_all moment on (renewed_filter_of (only (is_fresh lifetime moment) (membership_in rows (endpoint_group endpoint group))))) ≡ Some membership
+    → IsOwnRow lifetime moment endpoint records (only (is_fresh lifetime moment) (membership_in rows (endpoint_group endpoint group))) group membership
+own_row_by lifetime moment endpoint records rows group membership [] some on row =
+    let found = only (is_fresh lifetime moment) (membership_in rows (endpoint_group endpoint group)) in
+    let its : (one : Membership) → found ≡ Some one → endpoint_group endpoint group ≡ endpoint_group_of one = λ one given. its_endpoint_group rows (endpoint_group endpoint group) one (only_found (is_fresh lifetime moment) (membership_in rows (endpoint_group endpoint group)) one given) in
+    let old = old_row endpoint group found membership its row in
+    let sizes = ap (λ (sources : List Ip). length sources) (ap (λ (filter : FilterValue). filter.sources) (row_is endpoint group (renewed_filter_of found) membership row).filter) in record {
+      fresh = passes_only (is_fresh lifetime moment) (membership_in rows (endpoint_group endpoint group)) membership old;
+      size = omega arith;
+      old = λ none. old;
+    }
+own_row_by lifetime moment endpoint records rows group membership (first ∷ later) some on row =
+    let found = only (is_fresh lifetime moment) (membership_in rows (endpoint_group endpoint group)) in
+    let is = renewed_filter_after_all-is moment first later (renewed_filter_of found) in
+    let row_is_of = row_is endpoint group (renewed_filter_after_all moment (first ∷ later) (renewed_filter_of found)) membership row in
+    let renewed = row_is_of.renewed _ is in
+    let filter = row_is_of.filter ∙ ap filter_or_nothing is in
+    let sizes = ap (λ (sources : List Ip). length sources) (ap (λ (one : FilterValue). one.sources) filter) in
+    let most = sources-filter_after_all (filter_or_nothing (renewed_filter_of found)) (first ∷ later) in
+    let same = ap (sum_by (λ (one : Record). length one.sources)) on in record {
+      fresh = lt-ltb _ _ (omega arith);
+      size = omega arith;
+      old = λ none. let wrong = on ∙ none in absurd cc;
+    }
+
+own_row : (lifetime moment : ℕ) (endpoint : Tunnel) (records : List Record) (rows own : List Membership) (group : Ip) (membership : Membership) → 0 < lifetime → AreOwn lifetime moment endpoint records rows own
+    → membership_in own (endpoint_group endpoint group) ≡ Some membership → IsOwnRow lifetime moment endpoint records (only (is_fresh lifetime moment) (membership_in rows (endpoint_group endpoint group))) group membership
+own_row lifetime moment endpoint records rows own group membership some owned found =
+    own_row_by lifetime moment endpoint records rows group membership (on_group group records) some refl (sym (owned.each group) ∙ found)
+
+abbrev pub replaced : ℕ → ℕ → Tunnel → List Membership → List Membership → List Membership
+replaced lifetime moment endpoint rows own = filter (is_fresh lifetime moment) (earlier endpoint rows ++ (own ++ later endpoint rows))
+
+own_endpoint_group : (endpoint : Tunnel) (own : List Membership) (at : EndpointGroup) (membership : Membership) → AreOf endpoint own → membership_in own at ≡ Some membership → at ≡ endpoint_group endpoint at.group
+own_endpoint_group endpoint own at membership of found =
+    let here = its_endpoint_group own at membership found in
+    let same = All-at (λ (one : Membership). same_endpoint one.endpoint endpoint ≡ true) own at membership of found in
+    ap (λ (one : Tunnel). endpoint_group one at.group) (ap (λ (one : EndpointGroup). one.endpoint) here ∙ tells_apart tunnel_order-exact membership.endpoint endpoint same)
+
+filter_all : (test : Membership → Bool) (rows : List Membership) → AllByRecursion (λ membership. test membership ≡ true) rows → filter test rows ≡ rows
+filter_all test [] each = refl
+filter_all test (membership ∷ rest) each = rw each.0 (ap (λ (more : List Membership). membership ∷ more) (filter_all test rest each.1))
+
+-- all of the endpoint's memberships are fresh
+pub own_fresh : (lifetime moment : ℕ) (endpoint : Tunnel) (records : List Record) (rows own : List Membership) → 0 < lifetime → AreOwn lifetime moment endpoint records rows own
+    → filter (is_fresh lifetime moment) own ≡ own
+own_fresh lifetime moment endpoint records rows own some owned =
+    filter_all (is_fresh lifetime moment) own (All-from_membership_in (λ (membership : Membership). is_fresh lifetime moment membership ≡ true) own owned.ascends
+    (λ at membership found. (own_row lifetime moment endpoint records rows own at.group membership some owned (ap (membership_in own) (sym (own_endpoint_group endpoint own at membership owned.of found)) ∙ found)).fresh))
+
+renewed_size : (limits : Limits) (test : Membership → Bool) (rows : List Membership) (at : EndpointGroup) → IsWithin limits rows → (found : Option Membership) → found ≡ only test (membership_in rows at)
+    → length (filter_or_nothing (renewed_filter_of found)).sources ≤ limits.sources
+renewed_size limits test rows at within None is = omega arith
+renewed_size limits test rows at within (Some membership) is =
+    All-at (λ (one : Membership). size one ≤ limits.sources) rows at membership within.sources (only_found test (membership_in rows at) membership (sym is))
+
+-- no membership of the endpoint has more sources than an old one and the report together
+pub own_sizes : (limits : Limits) (lifetime moment : ℕ) (endpoint : Tunnel) (records : List Record) (rows own : List Membership) → 0 < lifetime → AreOwn lifetime moment endpoint records rows own
+    → IsWithin limits rows → AllByRecursion (λ membership. size membership ≤ limits.sources + item_count records) own
+own_sizes limits lifetime moment endpoint records rows own some owned within =
+    All-from_membership_in (λ (membership : Membership). size membership ≤ limits.sources + item_count records) own owned.ascends
+    (λ at membership found.
+    let test = is_fresh lifetime moment in
+    let here = endpoint_group endpoint at.group in
+    let row = own_row lifetime moment endpoint records rows own at.group membership some owned (ap (membership_in own) (sym (own_endpoint_group endpoint own at membership owned.of found)) ∙ found) in
+    let before = renewed_size limits test rows here within (only test (membership_in rows here)) refl in
+    let added = sum_by-on_group at.group records in
+    let most = row.size in
+    omega arith)
+
+is_some-found : (found : Option Membership) (membership : Membership) → found ≡ Some membership → is_some found ≡ true
+is_some-found None membership found = cc
+is_some-found (Some one) membership found = refl
+
+has-groups : (records : List Record) (group : Ip) → has ip_order (map (λ (one : Record). one.group) records) group ≡ list_any (λ one. same_group group one.group) records
+has-groups [] group = refl
+has-groups (first ∷ later) group = ap (λ (more : Bool). same_group group first.group || more) (has-groups later group)
+
+reported_or_old : (reported : Bool) (old : Bool) → (reported ≡ false → old ≡ true) → (reported || old) ≡ true
+reported_or_old true old either = refl
+reported_or_old false old either = either refl
+
+-- each group of the endpoint stood before or is reported
+pub own_few : (lifetime moment : ℕ) (endpoint : Tunnel) (records : List Record) (rows own : List Membership) → 0 < lifetime → IsAscending membership_order rows → AreOwn lifetime moment endpoint records rows own
+    → length own ≤ group_count endpoint rows + length records
+own_few lifetime moment endpoint records rows own some ascends owned =
+    few_groups endpoint records rows own ascends owned.ascends owned.of
+    (λ group membership found. reported_or_old (has ip_order (map (λ (one : Record). one.group) records) group) (is_some (membership_in rows (endpoint_group endpoint group)))
+    (λ silent. is_some-found (membership_in rows (endpoint_group endpoint group)) membership (only_found (is_fresh lifetime moment) (membership_in rows (endpoint_group endpoint group)) membership
+    ((own_row lifetime moment endpoint records rows own group membership some owned found).old (on_none group records (sym (has-groups records group) ∙ silent))))))
+
+-- memberships within the limits stay so by a report that passes none
+pub IsWithin-replaced : (limits : Limits) (lifetime moment : ℕ) (endpoint : Tunnel) (records : List Record) (rows own : List Membership) → 0 < lifetime → IsAscending membership_order rows
+    → AreOwn lifetime moment endpoint records rows own → IsWithin limits rows → first_limit limits endpoint records (replaced lifetime moment endpoint rows own) ≡ None
+    → IsWithin limits (replaced lifetime moment endpoint rows own)
+IsWithin-replaced limits lifetime moment endpoint records rows own some ascends owned within none =
+    let test = is_fresh lifetime moment in
+    let parts = parted endpoint rows ascends in
+    let all = earlier endpoint rows ++ (own ++ later endpoint rows) in
+    let ascend = IsAscending-replaced endpoint rows own ascends owned.ascends owned.of in
+    IsWithin-report limits endpoint records (filter test rows) (filter test all) (IsAscending-filter membership_order test rows ascends) (IsAscending-filter membership_order test all ascend) (IsWithin-filter limits test rows within) none
+    (λ at apart. membership_in-filter test all at ascend
+    ∙ ap (only test) (membership_in-others endpoint (earlier endpoint rows) own (filter (is_of endpoint) rows) (later endpoint rows) at owned.of parts.of apart ∙ ap (λ (whole : List Membership). membership_in whole at) (sym parts.whole))
+    ∙ sym (membership_in-filter test rows at ascends))
+    (λ group membership silent found. membership_in-filter test rows (endpoint_group endpoint group) ascends
+    ∙ (own_row lifetime moment endpoint records rows own group membership some owned
+    (sym (membership_in-three endpoint (earlier endpoint rows) own (later endpoint rows) (endpoint_group endpoint group) parts.earlier parts.later (ap is_eq (tied_itself tunnel_order-total endpoint)))
+    ∙ only_found test (membership_in all (endpoint_group endpoint group)) membership (sym (membership_in-filter test all (endpoint_group endpoint group) ascend) ∙ found))).old silent)
+
+-- the first limit that a report passes, as the code finds it by the endpoint's memberships
+abbrev pub limit_by_own : ℕ → ℕ → Limits → Tunnel → List Record → List Membership → List Membership → Option LimitFault
+limit_by_own lifetime moment limits endpoint records rows own =
+    limit_by limits (length own) (live_count (filter (is_counted lifetime moment (Some endpoint)) rows) + (if is_empty own then 0 else 1)) (find (is_over limits.sources records) own)
+
+pub first_limit_found : (lifetime moment : ℕ) (limits : Limits) (endpoint : Tunnel) (records : List Record) (rows own slice : List Membership) (result : Option LimitFault) → 0 < lifetime → IsAscending membership_order rows
+    → AreOwn lifetime moment endpoint records rows own → slice ≡ own → result ≡ limit_by_own lifetime moment limits endpoint records rows slice
+    → first_limit limits endpoint records (replaced lifetime moment endpoint rows own) ≡ result
+first_limit_found lifetime moment limits endpoint records rows own slice result some ascends owned same is =
+    first_limit_is lifetime moment limits endpoint records rows own ascends owned.of (own_fresh lifetime moment endpoint records rows own some owned)
+    ∙ ap (limit_by_own lifetime moment limits endpoint records rows) (sym same) ∙ sym is
+
+All-below : (bound most : ℕ) (rows : List Membership) → bound < most → AllByRecursion (λ membership. size membership ≤ bound) rows → AllByRecursion (λ membership. size membership < most) rows
+All-below bound most [] less each = tt
+All-below bound most (membership ∷ rest) less each = (let first = each.0 in omega arith, All-below bound most rest less each.1)
+
+-- sizes and numbers that fit 32 bits, from lawful limits and a report of so many items
+pub sizes_fit : (limits : Limits) (lifetime moment : ℕ) (endpoint : Tunnel) (records : List Record) (rows own slice : List Membership) → AreLawful limits lifetime → IsWithin limits rows → item_count records ≤ 16777216
+    → AreOwn lifetime moment endpoint records rows own → slice ≡ own → AllByRecursion (λ membership. size membership < 2 ^ 32) slice
+sizes_fit limits lifetime moment endpoint records rows own slice lawful within items owned same =
+    let most = lawful.sources in
+    subst (AllByRecursion (λ (membership : Membership). size membership < 2 ^ 32)) (sym same)
+    (All-below (limits.sources + item_count records) (2 ^ 32) own (omega arith) (own_sizes limits lifetime moment endpoint records rows own lawful.some_time owned within))
+
+pub groups_fit : (limits : Limits) (lifetime moment : ℕ) (endpoint : Tunnel) (records : List Record) (rows own slice : List Membership) → AreLawful limits lifetime → IsAscending membership_order rows → IsWithin limits rows
+    → item_count records ≤ 16777216 → AreOwn lifetime moment endpoint records rows own → slice ≡ own → length slice < 2 ^ 32
+groups_fit limits lifetime moment endpoint records rows own slice lawful ascends within items owned same =
+    let few = own_few lifetime moment endpoint records rows own lawful.some_time ascends owned in
+    let most = within.groups endpoint in
+    let bound = lawful.groups in
+    let long = ap (λ (all : List Membership). length all) same in
+    omega arith

@@ -1,0 +1,10 @@
+use Rattle.std.proofs.Common.{◌≡◌, take}
+use Rattle.std.specs.BTreeMap.{get}
+use Rattle.amt_values.specs.declared.address.Ip.{Ip}
+use Rattle.amt_values.specs.Order.{ip_order}
+use Rattle.endpoint_membership.specs.EndpointMemberships.{on_group, renewed_filter_after_all}
+use Rattle.endpoint_membership.proofs.after_report.apply_records.Given as goal
+
+abbrev pub invariant-loop-group_record : goal.invariant-loop-group_record
+invariant-loop-group_record l = (group : Ip)
+    → get ip_order l.filters group ≡ renewed_filter_after_all l.moment (on_group group (take l.group_record-index l.records)) (get ip_order l.initial.filters group)

@@ -1,0 +1,29 @@
+-- An endpoint and a group, a pair in comments: for each pair the log says whether the endpoint has a
+-- membership in the group.
+use Rattle.std.specs.Prelude.{Bool}
+use Rattle.std.specs.Ordering.{on, then_cmp, eq_by_cmp}
+use Rattle.std.specs.declared.cmp.Ordering.{Ordering}
+use Rattle.amt_values.specs.declared.address.Ip.{Ip}
+use Rattle.amt_values.specs.Order.{ip_order, tunnel_order}
+use Rattle.amt_values.specs.Tunnel.{Tunnel}
+
+-- a tunnel endpoint and a group that it may be a member of
+pub record EndpointGroup : Type 0 where
+  pub endpoint : Tunnel
+  pub group : Ip
+
+-- by endpoint, then group
+abbrev pub endpoint_group_order : EndpointGroup → EndpointGroup → Ordering
+endpoint_group_order = then_cmp (on (λ one. one.endpoint) tunnel_order) (on (λ one. one.group) ip_order)
+
+-- the endpoints are one
+abbrev pub same_endpoint : Tunnel → Tunnel → Bool
+same_endpoint one other = eq_by_cmp tunnel_order one other
+
+-- the groups are one
+abbrev pub same_group : Ip → Ip → Bool
+same_group one other = eq_by_cmp ip_order one other
+
+-- both are one
+abbrev pub same_endpoint_group : EndpointGroup → EndpointGroup → Bool
+same_endpoint_group one other = eq_by_cmp endpoint_group_order one other

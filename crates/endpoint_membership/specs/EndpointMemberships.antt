@@ -1,0 +1,89 @@
+-- The memberships of one endpoint after its report, as a table finds them. No public contract says
+-- these words.
+use Rattle.std.specs.Prelude.{◌≡◌, ℕ, Bool, true, List, [], ◌∷◌, Option, Some, None, ◌&&◌, length, nat_lt}
+use Rattle.std.specs.List.{AllByRecursion, filter, list_any}
+use Rattle.std.specs.Option.{option_map}
+use Rattle.amt_values.specs.declared.address.Ip.{Ip}
+use Rattle.amt_values.specs.Tunnel.{Tunnel}
+use Rattle.contract_words.specs.Ascending.{IsAscending}
+use Rattle.contract_words.specs.Conditions.{first_holding, first_of}
+use Rattle.source_filter.specs.Filter.{FilterValue, filter_after, nothing}
+use Rattle.source_filter.specs.declared.record.Record.{Record}
+use Rattle.endpoint_membership.specs.EndpointGroup.{same_endpoint, same_group}
+use Rattle.endpoint_membership.specs.Limits.{count_conditions, size}
+use Rattle.endpoint_membership.specs.Membership.{Membership, is_fresh, membership_order}
+use Rattle.endpoint_membership.specs.Memberships.{membership_in, membership_of}
+use Rattle.endpoint_membership.specs.Stored.{only}
+use Rattle.endpoint_membership.specs.declared.after_report.RenewedFilter.{RenewedFilter}
+use Rattle.endpoint_membership.specs.declared.limits.LimitFault.{LimitFault}
+use Rattle.endpoint_membership.specs.declared.limits.LimitFault.TheVariants.{Sources}
+use Rattle.endpoint_membership.specs.declared.limits.Limits.{Limits}
+
+-- the filter after records, oldest first
+abbrev pub filter_after_all : FilterValue → List Record → FilterValue
+filter_after_all filter [] = filter
+filter_after_all filter (group_record ∷ later) = filter_after_all (filter_after filter group_record) later
+
+-- the records of a report on a group
+abbrev pub on_group : Ip → List Record → List Record
+on_group group records = filter (λ group_record. same_group group group_record.group) records
+
+-- a membership of the endpoint that counts at the moment
+abbrev pub is_own : ℕ → ℕ → Tunnel → Membership → Bool
+is_own lifetime moment endpoint membership = same_endpoint membership.endpoint endpoint && is_fresh lifetime moment membership
+
+-- the filter of a membership, and when it was renewed
+abbrev pub renewed_filter_of : Option Membership → Option RenewedFilter
+renewed_filter_of None = None
+renewed_filter_of (Some membership) = Some (record { filter = membership.filter; renewed = membership.renewed })
+
+-- the filter, and nothing where there is none
+abbrev pub filter_or_nothing : Option RenewedFilter → FilterValue
+filter_or_nothing None = nothing
+filter_or_nothing (Some renewed_filter) = renewed_filter.filter
+
+-- a group's filter after a record on the group
+abbrev pub renewed_filter_after : ℕ → Record → Option RenewedFilter → Option RenewedFilter
+renewed_filter_after moment group_record before =
+    Some (record { filter = filter_after (filter_or_nothing before) group_record; renewed = moment })
+
+-- a group's filter after records on the group, oldest first
+abbrev pub renewed_filter_after_all : ℕ → List Record → Option RenewedFilter → Option RenewedFilter
+renewed_filter_after_all moment [] before = before
+renewed_filter_after_all moment (group_record ∷ later) before =
+    renewed_filter_after_all moment later (renewed_filter_after moment group_record before)
+
+-- the membership that an entry of a map of filters makes, where something is wanted
+abbrev pub membership_of_entry : Tunnel → Ip × RenewedFilter → Option Membership
+membership_of_entry endpoint entry = membership_of (record { endpoint = endpoint; group = entry.0 }) entry.1.filter entry.1.renewed
+
+-- the membership that a filter of the group makes, if there is one
+abbrev pub membership_of_renewed : Tunnel → Ip → Option RenewedFilter → Option Membership
+membership_of_renewed endpoint group None = None
+membership_of_renewed endpoint group (Some renewed_filter) = membership_of_entry endpoint (group, renewed_filter)
+
+-- all are of the endpoint
+abbrev pub AreOf : Tunnel → List Membership → Type 0
+AreOf endpoint rows = AllByRecursion (λ membership. same_endpoint membership.endpoint endpoint ≡ true) rows
+
+-- a membership in a reported group with more sources than allowed
+abbrev pub is_over : ℕ → List Record → Membership → Bool
+is_over most records membership =
+    nat_lt most (length membership.filter.sources) && list_any (λ group_record. same_group membership.group group_record.group) records
+
+-- the limit that a membership passes which has too many sources
+abbrev pub width_fault : Membership → LimitFault
+width_fault membership = Sources membership.group (size membership)
+
+-- the first limit that is passed: by the membership that has too many sources, if there is one, or
+-- by the numbers of groups and endpoints
+abbrev pub limit_by : Limits → ℕ → ℕ → Option Membership → Option LimitFault
+limit_by limits groups endpoints wide = first_of (option_map width_fault wide) (first_holding (count_conditions limits groups endpoints))
+
+-- the memberships of an endpoint after its report, from all memberships before it
+pub record AreOwn (lifetime moment : ℕ) (endpoint : Tunnel) (records : List Record) (rows own : List Membership) : Type 0 where
+  pub ascends : IsAscending membership_order own
+  pub of : AreOf endpoint own
+  pub each : (group : Ip) → membership_in own (record { endpoint = endpoint; group = group })
+      ≡ membership_of_renewed endpoint group (renewed_filter_after_all moment (on_group group records)
+      (renewed_filter_of (only (is_fresh lifetime moment) (membership_in rows (record { endpoint = endpoint; group = group })))))

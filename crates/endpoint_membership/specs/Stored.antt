@@ -1,0 +1,73 @@
+-- Memberships as a table stores them: an ascending list. No public contract says these words.
+use Rattle.std.specs.Prelude.{ℕ, not, Bool, true, false, ◌&&◌, List, [], ◌∷◌, map, take, drop, Option, Some, None, if◌then◌else◌}
+use Rattle.std.specs.List.{filter, prefix_len}
+use Rattle.std.specs.Option.{option_or}
+use Rattle.std.specs.Ordering.{is_lt}
+use Rattle.amt_values.specs.declared.address.Ip.{Ip}
+use Rattle.amt_values.specs.Order.{tunnel_order}
+use Rattle.amt_values.specs.Tunnel.{Tunnel}
+use Rattle.source_filter.specs.Filter.{admits}
+use Rattle.endpoint_membership.specs.EndpointGroup.{same_endpoint, same_group}
+use Rattle.endpoint_membership.specs.Membership.{Membership, is_fresh}
+
+-- a membership where it passes the test
+abbrev pub only : (Membership → Bool) → Option Membership → Option Membership
+only test None = None
+only test (Some membership) = if test membership then Some membership else None
+
+-- a membership of another endpoint
+abbrev pub is_of_another : Tunnel → Membership → Bool
+is_of_another endpoint membership = not (same_endpoint membership.endpoint endpoint)
+
+-- its endpoint comes before this one
+abbrev pub is_before : Tunnel → Membership → Bool
+is_before endpoint membership = is_lt (tunnel_order membership.endpoint endpoint)
+
+-- its endpoint comes after this one
+abbrev pub is_after : Tunnel → Membership → Bool
+is_after endpoint membership = is_lt (tunnel_order endpoint membership.endpoint)
+
+-- the number of memberships before the endpoint's
+abbrev pub start_of : Tunnel → List Membership → ℕ
+start_of endpoint rows = prefix_len (is_before endpoint) rows
+
+-- the number of memberships before those of later endpoints
+abbrev pub end_of : Tunnel → List Membership → ℕ
+end_of endpoint rows = prefix_len (λ membership. not (is_after endpoint membership)) rows
+
+-- the memberships of earlier endpoints
+abbrev pub earlier : Tunnel → List Membership → List Membership
+earlier endpoint rows = take (start_of endpoint rows) rows
+
+-- the memberships of later endpoints
+abbrev pub later : Tunnel → List Membership → List Membership
+later endpoint rows = drop (end_of endpoint rows) rows
+
+-- of another endpoint than this one, if one is named
+abbrev pub is_other : Option Tunnel → Membership → Bool
+is_other None membership = true
+is_other (Some endpoint) membership = is_of_another endpoint membership
+
+-- a membership that counts at the moment, of another endpoint than this one, if one is named
+abbrev pub is_counted : ℕ → ℕ → Option Tunnel → Membership → Bool
+is_counted lifetime moment besides membership = is_other besides membership && is_fresh lifetime moment membership
+
+-- the endpoint of the last one
+abbrev pub last_of : List Membership → Option Tunnel
+last_of [] = None
+last_of (membership ∷ rest) = option_or (last_of rest) (Some membership.endpoint)
+
+-- the last one is of the endpoint
+abbrev pub ends_with : Option Tunnel → Tunnel → Bool
+ends_with None endpoint = false
+ends_with (Some last) endpoint = same_endpoint last endpoint
+
+-- a membership in the group that counts at the moment and lets the source in
+abbrev pub is_target : ℕ → ℕ → Ip → Ip → Membership → Bool
+is_target lifetime moment group source membership =
+    (same_group membership.group group && is_fresh lifetime moment membership) && admits membership.filter source
+
+-- the endpoints of such memberships
+abbrev pub targets_in : ℕ → ℕ → Ip → Ip → List Membership → List Tunnel
+targets_in lifetime moment group source rows =
+    map (λ membership. membership.endpoint) (filter (is_target lifetime moment group source) rows)

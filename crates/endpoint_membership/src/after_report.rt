@@ -1,0 +1,205 @@
+//! The memberships of an endpoint after its report. It must not know the log, the limits or other
+//! endpoints.
+
+ghost use Rattle.std.specs.Prelude.{◌≡◌, ◌≤◌, [], ◌∷◌, IfOk, OnOk, Some, if◌then◌else◌};
+ghost use Rattle.std.specs.BTreeMap.{BTreeMap as Map, get, IsOrdered};
+ghost use Rattle.std.specs.List.{filter_map};
+ghost use Rattle.amt_values.specs.declared.address.Ip.{Ip as Address};
+ghost use Rattle.amt_values.specs.Order.{ip_order};
+ghost use Rattle.contract_words.specs.Ascending.{IsAscending};
+ghost use Rattle.endpoint_membership.specs.Membership.{is_fresh, membership_order};
+ghost use Rattle.endpoint_membership.specs.Stored.{only};
+ghost use Rattle.endpoint_membership.specs.EndpointMemberships.{AreOwn, is_own, membership_of_entry, on_group, renewed_filter_after_all, renewed_filter_of};
+ghost use Rattle.source_filter.specs.Filter.{wants_any};
+ghost use Rattle.endpoint_membership.specs.EndpointGroup.{same_group};
+ghost use Rattle.endpoint_membership.specs.Memberships.{membership_in};
+
+use crate::stored::StoredMembership;
+use amt_values::{Endpoint, Ip, Moment};
+use source_filter::{Filter, MutableFilter, Record, Records};
+use std::alloc::{AllocError, Global};
+use std::collections::BTreeMap;
+
+/// A group's filter while the records of a report are applied, and when it was last renewed.
+#[derive(Debug, Drop)]
+pub struct RenewedFilter {
+    pub filter: MutableFilter,
+    pub renewed: Moment,
+}
+
+fn is_own(
+    membership: &StoredMembership,
+    endpoint: &Endpoint,
+    moment: Moment,
+    lifetime_ms: u64,
+) -> bool
+    requires { lifetime_ms ≤ 1000000000 }
+    ensures { result ≡ is_own lifetime_ms moment endpoint.now membership.now }
+{
+    membership.is_of(endpoint) && membership.is_fresh(moment, lifetime_ms)
+}
+
+// The filter of a membership, and when it was renewed.
+fn renewed_filter_of(
+    alloc: Global,
+    membership: &StoredMembership,
+) -> Result<RenewedFilter, AllocError>
+    ensures { IfOk result
+        (λ renewed_filter. renewed_filter_of (Some membership.now) ≡ Some renewed_filter) }
+{
+    Ok(RenewedFilter {
+        filter: MutableFilter::of_filter(alloc, membership.filter())?,
+        renewed: membership.renewed(),
+    })
+}
+
+// Puts this filter in the place of the group's.
+fn set_filter(
+    filters: &mut BTreeMap<Ip, RenewedFilter>,
+    group: Ip,
+    renewed_filter: RenewedFilter,
+) -> Result<(), AllocError>
+    ensures { OnOk result ((other : Address) → get ip_order filters.new other
+        ≡ (if same_group group other then Some renewed_filter else get ip_order filters.old other)) }
+{
+    match filters.insert(group, renewed_filter) {
+        Ok(_) => Ok(()),
+        Err(_) => Err(AllocError),
+    }
+}
+
+// What the endpoint wants of each group before a report.
+fn filters_before(
+    alloc: Global,
+    rows: &[StoredMembership],
+    endpoint: &Endpoint,
+    moment: Moment,
+    lifetime_ms: u64,
+) -> Result<BTreeMap<Ip, RenewedFilter>, AllocError>
+    requires { lifetime_ms ≤ 1000000000 }
+    ensures { IfOk result (λ filters. IsAscending membership_order rows.now → (group : Address)
+        → get ip_order filters group ≡ renewed_filter_of (only (is_fresh lifetime_ms moment)
+        (membership_in rows.now (record { endpoint = endpoint.now; group = group })))) }
+{
+    let mut filters = BTreeMap::new(alloc);
+    for membership in rows {
+        if is_own(membership, endpoint, moment, lifetime_ms) {
+            set_filter(
+                &mut filters,
+                membership.group(),
+                renewed_filter_of(alloc, membership)?,
+            )?;
+        }
+    }
+    Ok(filters)
+}
+
+// Applies one record to the filter of its group, which is out of the map meanwhile: after an error
+// the filter is lost, and the map is of no more use.
+fn apply_record(
+    alloc: Global,
+    filters: &mut BTreeMap<Ip, RenewedFilter>,
+    group_record: &Record,
+    moment: Moment,
+) -> Result<(), AllocError>
+    ensures { OnOk result ((group : Address) → get ip_order filters.new group
+        ≡ renewed_filter_after_all moment (on_group group (group_record.now ∷ []))
+        (get ip_order filters.old group)) }
+{
+    let mut renewed_filter = match filters.remove(&group_record.group) {
+        Some(renewed_filter) => renewed_filter,
+        None => RenewedFilter {
+            filter: MutableFilter::new(alloc),
+            renewed: moment,
+        },
+    };
+    renewed_filter.filter.apply(group_record)?;
+    renewed_filter.renewed = moment;
+    set_filter(filters, group_record.group, renewed_filter)
+}
+
+// Applies records in their order.
+fn apply_records(
+    alloc: Global,
+    filters: &mut BTreeMap<Ip, RenewedFilter>,
+    records: &[Record],
+    moment: Moment,
+) -> Result<(), AllocError>
+    ensures { OnOk result ((group : Address) → get ip_order filters.new group
+        ≡ renewed_filter_after_all moment (on_group group records.now)
+        (get ip_order filters.old group)) }
+{
+    for group_record in records {
+        apply_record(alloc, filters, group_record, moment)?;
+    }
+    Ok(())
+}
+
+fn wants_any(renewed_filter: &RenewedFilter) -> bool
+    ensures { result ≡ wants_any renewed_filter.now.filter }
+{
+    renewed_filter.filter.wants_any()
+}
+
+fn membership_of(
+    alloc: Global,
+    endpoint: &Endpoint,
+    group: Ip,
+    renewed_filter: &RenewedFilter,
+) -> Result<StoredMembership, AllocError>
+    ensures { IfOk result (λ membership. membership ≡ record {
+      endpoint = endpoint.now;
+      group = group;
+      filter = renewed_filter.now.filter;
+      renewed = renewed_filter.now.renewed;
+    }) }
+{
+    Ok(StoredMembership::new(
+        *endpoint,
+        group,
+        Filter::of_mutable(alloc, &renewed_filter.filter)?,
+        renewed_filter.renewed,
+    ))
+}
+
+// The memberships that filters make, by group.
+fn memberships_of_filters(
+    alloc: Global,
+    endpoint: &Endpoint,
+    filters: BTreeMap<Ip, RenewedFilter>,
+) -> Result<Vec<StoredMembership>, AllocError>
+    ensures rows { IfOk result
+        (λ rows. rows.items ≡ filter_map (membership_of_entry endpoint.now) filters.entries) }
+    ensures ordered { OnOk result (IsOrdered ip_order filters) }
+{
+    let mut rows = Vec::with_capacity(alloc, filters.len())?;
+    for (group, renewed_filter) in filters {
+        if wants_any(&renewed_filter) {
+            rows.push(membership_of(alloc, endpoint, group, &renewed_filter)?)?;
+        }
+    }
+    Ok(rows)
+}
+
+// The memberships of the endpoint after its records, by group.
+//
+// A report may hold thousands of records of one source each on one group, and anyone may send it.
+// So records change sets in place, and each list is made once, at the end: a report costs the table's
+// memberships and, with n for the endpoint's sources and those of the report and its records,
+// n log n steps, however the sources are spread over records.
+pub fn memberships_after(
+    alloc: Global,
+    rows: &[StoredMembership],
+    endpoint: &Endpoint,
+    records: &Records,
+    moment: Moment,
+    lifetime_ms: u64,
+) -> Result<Vec<StoredMembership>, AllocError>
+    requires { lifetime_ms ≤ 1000000000 }
+    ensures { IsAscending membership_order rows.now → IfOk result (λ own.
+        AreOwn lifetime_ms moment endpoint.now records.now rows.now own.items) }
+{
+    let mut filters = filters_before(alloc, rows, endpoint, moment, lifetime_ms)?;
+    apply_records(alloc, &mut filters, records.as_slice(), moment)?;
+    memberships_of_filters(alloc, endpoint, filters)
+}

@@ -1,0 +1,82 @@
+//! The first limit that a report passes. It must not know the log, or how a report is applied.
+
+ghost use Rattle.std.specs.Prelude.{◌≡◌, ◌<◌, ◌^◌, length};
+ghost use Rattle.std.specs.List.{AllByRecursion, find, list_any};
+ghost use Rattle.std.specs.Option.{option_copied};
+ghost use Rattle.contract_words.specs.Conditions.{first_holding};
+ghost use Rattle.endpoint_membership.specs.EndpointMemberships.{is_over, limit_by};
+ghost use Rattle.endpoint_membership.specs.Limits.{count_conditions, size};
+ghost use Rattle.endpoint_membership.specs.EndpointGroup.{same_group};
+
+use crate::limits::{LimitFault, Limits};
+use crate::stored::StoredMembership;
+use amt_values::Ip;
+use source_filter::Record;
+
+fn is_on(group_record: &Record, group: &Ip) -> bool
+    ensures { result ≡ same_group group.now group_record.now.group }
+{
+    *group == group_record.group
+}
+
+fn is_reported(records: &[Record], group: &Ip) -> bool
+    ensures { result ≡ list_any (λ group_record. same_group group.now group_record.group) records.now }
+{
+    records
+        .iter()
+        .any(|group_record| is_on(group_record, group))
+}
+
+fn is_over(membership: &StoredMembership, records: &[Record], most: u32) -> bool
+    ensures { result ≡ is_over most records.now membership.now }
+{
+    membership.filter().sources().len() > most as usize && is_reported(records, &membership.group())
+}
+
+fn find_over<'a>(
+    own: &'a [StoredMembership],
+    records: &[Record],
+    most: u32,
+) -> Option<&'a StoredMembership>
+    ensures { option_copied result ≡ find (is_over most records.now) own.now }
+{
+    own.iter()
+        .find(|membership| is_over(membership, records, most))
+}
+
+fn count_passed(limits: &Limits, groups: usize, live: usize) -> Option<LimitFault>
+    requires groups { groups < 2 ^ 32 }
+    requires endpoints { live < 2 ^ 32 }
+    ensures { result ≡ first_holding (count_conditions limits.now groups live) }
+{
+    if groups > limits.groups as usize {
+        return Some(LimitFault::Groups(groups as u32));
+    }
+    if live > limits.endpoints as usize {
+        return Some(LimitFault::Endpoints(live as u32));
+    }
+    None
+}
+
+// The first limit that a report passes, by the memberships of its endpoint afterwards and the number
+// of live endpoints.
+pub fn limit_passed(
+    limits: &Limits,
+    own: &[StoredMembership],
+    records: &[Record],
+    live: usize,
+) -> Option<LimitFault>
+    requires groups { length own.now < 2 ^ 32 }
+    requires endpoints { live < 2 ^ 32 }
+    requires sources { AllByRecursion (λ membership. size membership < 2 ^ 32) own.now }
+    ensures { result ≡ limit_by limits.now (length own.now) live
+        (find (is_over limits.now.sources records.now) own.now) }
+{
+    match find_over(own, records, limits.sources) {
+        Some(membership) => Some(LimitFault::Sources(
+            membership.group(),
+            membership.filter().sources().len() as u32,
+        )),
+        None => count_passed(limits, own.len(), live),
+    }
+}
