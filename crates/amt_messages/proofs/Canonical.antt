@@ -9,7 +9,7 @@ use Rattle.byteorder.specs.Endian.{big_number, big_bytes}
 use Rattle.amt_values.proofs.NetworkOrder.{AreOctets-drop, bytes_high_first-big_from, bytes_high_first-take}
 use Rattle.amt_values.specs.Octets.{AreOctets}
 use Rattle.amt_values.specs.Address.{is_mapped}
-use Rattle.amt_values.specs.Tunnel.{Tunnel}
+use Rattle.amt_values.specs.EndpointValue.{EndpointValue}
 use Rattle.amt_values.specs.declared.address.Ip.TheVariants.{V4, V6}
 use Rattle.amt_values.specs.declared.mac.Mac48.{Mac48}
 use Rattle.amt_messages.specs.declared.message.Message.{Message}
@@ -99,7 +99,7 @@ query_flags-of octet false false l_flag g_flag reserved =
     omega arith
 
 -- the gateway's port and address are all that follows the inner datagram
-seen_behind : (endpoint : Tunnel) (inner : ℕ) (bytes : List ℕ) → AreOctets bytes → length bytes ≡ 12 + inner + 18
+seen_behind : (endpoint : EndpointValue) (inner : ℕ) (bytes : List ℕ) → AreOctets bytes → length bytes ≡ 12 + inner + 18
     → endpoint ≡ gateway_at inner bytes → is_mapped (gateway_address inner bytes) ≡ false → drop (12 + inner) bytes ≡ seen_octets (Some endpoint)
 seen_behind endpoint inner bytes small octets names form =
     let port_there : 2 ≤ length (drop (12 + inner) bytes) = omega (arith, length-drop (12 + inner) bytes) in
@@ -107,8 +107,8 @@ seen_behind endpoint inner bytes small octets names form =
     let port = bytes_high_first-take 2 (drop (12 + inner) bytes) port_there (AreOctets-drop (12 + inner) bytes small) in
     let address = bytes_high_first-big_from 16 (drop (14 + inner) bytes) len (AreOctets-drop (14 + inner) bytes small) in
     let place : 12 + inner + 2 ≡ 14 + inner = omega arith in
-    let one_form : endpoint.address ≡ gateway_address inner bytes = ap (λ (t : Tunnel). t.address) names ∙ rw form refl in
-    let port_is : endpoint.port ≡ gateway_port inner bytes = ap (λ (t : Tunnel). t.port) names in
+    let one_form : endpoint.address ≡ gateway_address inner bytes = ap (λ (t : EndpointValue). t.address) names ∙ rw form refl in
+    let port_is : endpoint.port ≡ gateway_port inner bytes = ap (λ (t : EndpointValue). t.port) names in
     cut 2 (12 + inner) bytes
     ∙ (ap (λ (xs : List ℕ). xs ++ drop (12 + inner + 2) bytes) (sym port ∙ ap (λ (n : ℕ). big_bytes 2 n) (sym port_is))
     ∙ ap (λ (xs : List ℕ). big_bytes 2 endpoint.port ++ xs)
@@ -130,7 +130,7 @@ query_parts mac nonce inner tail bytes small enough mac_field nonce_field inner_
     ∙ (ap (λ (xs : List ℕ). xs ++ drop 8 bytes) (sym mac_field) ∙ ap (λ (xs : List ℕ). mac.0 ++ xs) two) in
     one ∙ sym (append_assoc (mac.0 ++ big_bytes 4 nonce) inner tail ∙ append_assoc mac.0 (big_bytes 4 nonce) (inner ++ tail))
 
-canonical_query : (limited : Bool) (mac : Mac48) (nonce : ℕ) (inner : List ℕ) (seen : Option Tunnel) (bytes : List ℕ) → AreOctets bytes
+canonical_query : (limited : Bool) (mac : Mac48) (nonce : ℕ) (inner : List ℕ) (seen : Option EndpointValue) (bytes : List ℕ) → AreOctets bytes
     → IsQuery limited (is_some seen) mac nonce inner bytes → slice_index bytes 1 / 4 ≡ 0 → 12 + length inner ≤ length bytes
     → drop (12 + length inner) bytes ≡ seen_octets seen → bytes ≡ spelling_of (Query limited mac nonce inner seen)
 canonical_query limited mac nonce inner seen bytes small h reserved enough behind =

@@ -1,7 +1,7 @@
 -- Reading by the refusals and the places of fields is the relation between octets and messages.
 use Rattle.std.proofs.Common.{◌≡◌, ℕ, ◌+◌, ◌/◌, ◌%◌, ◌<◌, ◌≤◌, List, [], ◌∷◌, length, take, drop, slice_index, Bool, true, false, Option, Some, None, Ok, refl, sym, ap, ◌∙◌, arith, length-drop, cond}
 use Rattle.std.proofs.lemmas.Bool.{le-ltb}
-use Rattle.amt_values.specs.Tunnel.{Tunnel}
+use Rattle.amt_values.specs.EndpointValue.{EndpointValue}
 use Rattle.amt_values.specs.declared.address.Ip.TheVariants.{V4, V6}
 use Rattle.amt_values.specs.declared.mac.Mac48.{Mac48}
 use Rattle.amt_messages.specs.declared.message.Message.{Message}
@@ -49,7 +49,7 @@ query_unrefused : (named : Bool) (inner : ℕ) (bytes : List ℕ) → has_flag 0
 query_unrefused named inner bytes flag octets states enough =
     rw (le-ltb (length bytes) 12 enough, states, flag, octets) (length_refusal-same (query_length named inner))
 
-spelled_query : (limited named : Bool) (mac : Mac48) (nonce : ℕ) (inner : List ℕ) (seen : Option Tunnel) (bytes : List ℕ)
+spelled_query : (limited named : Bool) (mac : Mac48) (nonce : ℕ) (inner : List ℕ) (seen : Option EndpointValue) (bytes : List ℕ)
     → IsQuery limited named mac nonce inner bytes → cond named (Some (gateway_at (length inner) bytes)) None ≡ seen
     → 12 + length inner ≤ length bytes
     → message_of bytes ≡ Ok (Query limited mac nonce inner seen)
@@ -86,7 +86,7 @@ spelled_is_read (Query limited mac nonce inner None) bytes h =
     spelled_query limited false mac nonce inner None bytes h refl (omega arith)
 spelled_is_read (Query limited mac nonce inner (Some endpoint)) bytes h =
     let octets = h.0.kind.octets in
-    spelled_query limited true mac nonce inner (Some endpoint) bytes h.0 (ap (λ (e : Tunnel). Some e) (sym h.1)) (omega arith)
+    spelled_query limited true mac nonce inner (Some endpoint) bytes h.0 (ap (λ (e : EndpointValue). Some e) (sym h.1)) (omega arith)
 spelled_is_read (Update mac nonce inner) bytes h =
     let octets = h.kind.octets in
     let first = first_refusal-kind 5 bytes (omega arith) (omega arith) h.kind.first in

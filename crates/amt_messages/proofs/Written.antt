@@ -7,7 +7,7 @@ use Rattle.byteorder.specs.Numbers.{big_number-reads_back}
 use Rattle.amt_values.proofs.NetworkOrder.{big_from-bytes_high_first}
 use Rattle.amt_values.specs.Address.{is_mapped}
 use Rattle.amt_values.specs.Endpoint.{endpoint_named}
-use Rattle.amt_values.specs.Tunnel.{Tunnel}
+use Rattle.amt_values.specs.EndpointValue.{EndpointValue}
 use Rattle.amt_values.specs.declared.address.Ip.TheVariants.{V4, V6}
 use Rattle.amt_values.specs.declared.mac.Mac48.{Mac48}
 use Rattle.amt_messages.specs.declared.message.Message.{Message}
@@ -118,12 +118,12 @@ address_again : (address : ℕ) → address < 2 ^ 128 → big_number 16 (big_byt
 address_again address small = big_from-bytes_high_first 16 address small
 
 -- an endpoint in its one form is named by its address and port
-endpoint_named-again : (endpoint : Tunnel) (address port : ℕ) → address ≡ endpoint.address → port ≡ endpoint.port
+endpoint_named-again : (endpoint : EndpointValue) (address port : ℕ) → address ≡ endpoint.address → port ≡ endpoint.port
     → is_mapped endpoint.address ≡ false → endpoint ≡ endpoint_named address port
 endpoint_named-again endpoint address port same_address same_port form = rw (same_address, same_port, form) refl
 
 -- the spelling of a Query is canonical
-pub query_is_canonical : (limited : Bool) (mac : Mac48) (nonce : ℕ) (inner : List ℕ) (seen : Option Tunnel) → length mac.0 ≡ 6 → nonce < 2 ^ 32
+pub query_is_canonical : (limited : Bool) (mac : Mac48) (nonce : ℕ) (inner : List ℕ) (seen : Option EndpointValue) → length mac.0 ≡ 6 → nonce < 2 ^ 32
     → IsSeen seen → inner_length_of inner ≡ Some (length inner)
     → IsCanonical (Query limited mac nonce inner seen) (spelling_of (Query limited mac nonce inner seen))
 query_is_canonical limited mac nonce inner None six small form whole = record {
@@ -156,7 +156,7 @@ multicast_is_canonical packet = record {
 }
 
 -- what is written of a Teardown, with no inner datagram before its endpoint
-teardown_written : (mac : Mac48) (nonce : ℕ) (gateway : Tunnel) → length mac.0 ≡ 6 → nonce < 2 ^ 32 → IsSeen (Some gateway)
+teardown_written : (mac : Mac48) (nonce : ℕ) (gateway : EndpointValue) → length mac.0 ≡ 6 → nonce < 2 ^ 32 → IsSeen (Some gateway)
     → IsCanonical (Teardown mac nonce gateway) (7 ∷ 0 ∷ (mac.0 ++ big_bytes 4 nonce ++ [] ++ seen_octets (Some gateway)))
 teardown_written mac nonce gateway six small form =
     let tail = seen_octets (Some gateway) in
@@ -176,7 +176,7 @@ teardown_written mac nonce gateway six small form =
     }
 
 -- the spelling of a Teardown is canonical
-pub teardown_is_canonical : (mac : Mac48) (nonce : ℕ) (gateway : Tunnel) → length mac.0 ≡ 6 → nonce < 2 ^ 32 → IsSeen (Some gateway)
+pub teardown_is_canonical : (mac : Mac48) (nonce : ℕ) (gateway : EndpointValue) → length mac.0 ≡ 6 → nonce < 2 ^ 32 → IsSeen (Some gateway)
     → IsCanonical (Teardown mac nonce gateway) (spelling_of (Teardown mac nonce gateway))
 teardown_is_canonical mac nonce gateway six small form =
     let no_inner = append-nil (mac.0 ++ big_bytes 4 nonce) in

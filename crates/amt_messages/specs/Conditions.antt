@@ -2,7 +2,7 @@
 use Rattle.std.specs.Prelude.{◌≡◌, ◌+◌, ◌<◌, ◌≤◌, ◌^◌, false, length, Option, Some, None}
 use Rattle.amt_values.specs.Octets.{AreOctets}
 use Rattle.amt_values.specs.Address.{is_mapped}
-use Rattle.amt_values.specs.Tunnel.{Tunnel}
+use Rattle.amt_values.specs.EndpointValue.{EndpointValue}
 use Rattle.amt_values.specs.declared.address.Ip.{Ip}
 use Rattle.amt_values.specs.declared.address.Ip.TheVariants.{V4, V6}
 use Rattle.amt_values.specs.declared.mac.Mac48.{Mac48}
@@ -21,7 +21,7 @@ abbrev pub IsMac : Mac48 → Type 0
 IsMac mac = (length mac.0 ≡ 6) × AreOctets mac.0
 
 -- what was seen of a gateway, if anything, is an endpoint in its one form
-abbrev pub IsSeen : Option Tunnel → Type 0
+abbrev pub IsSeen : Option EndpointValue → Type 0
 IsSeen None = Unit {0}
 IsSeen (Some endpoint) = (endpoint.address < 2 ^ 128) × (endpoint.port < 2 ^ 16) × (is_mapped endpoint.address ≡ false)
 

@@ -3,7 +3,7 @@ use Rattle.std.specs.Prelude.{◌≡◌, ℕ, ◌+◌, ◌/◌, ◌==◌, Bool, 
 use Rattle.std.specs.Int.{bit_at}
 use Rattle.amt_values.specs.Address.{is_mapped}
 use Rattle.amt_values.specs.Endpoint.{endpoint_named}
-use Rattle.amt_values.specs.Tunnel.{Tunnel}
+use Rattle.amt_values.specs.EndpointValue.{EndpointValue}
 use Rattle.amt_values.specs.declared.address.Ip.{Ip}
 use Rattle.amt_values.specs.declared.address.Ip.TheVariants.{V4, V6}
 use Rattle.amt_values.specs.declared.mac.Mac48.{Mac48}
@@ -64,7 +64,7 @@ abbrev pub gateway_address : ℕ → List ℕ → ℕ
 gateway_address inner bytes = big_number 16 (drop (14 + inner) bytes)
 
 -- the endpoint that they name
-abbrev pub gateway_at : ℕ → List ℕ → Tunnel
+abbrev pub gateway_at : ℕ → List ℕ → EndpointValue
 gateway_at inner bytes = endpoint_named (gateway_address inner bytes) (gateway_port inner bytes)
 
 -- one reserved octet, the MAC, the nonce, and the inner datagram, which is all the rest
@@ -81,7 +81,7 @@ pub record IsMulticast (packet bytes : List ℕ) : Type 0 where
   pub packet_field : packet ≡ drop 2 bytes
 
 -- one reserved octet, the MAC, the nonce, and the gateway's port and address (RFC 7450, section 5.1.7)
-pub record IsTeardown (mac : Mac48) (nonce : ℕ) (gateway : Tunnel) (bytes : List ℕ) : Type 0 where
+pub record IsTeardown (mac : Mac48) (nonce : ℕ) (gateway : EndpointValue) (bytes : List ℕ) : Type 0 where
   pub kind : IsOfKind 7 30 bytes
   pub mac_field : mac.0 ≡ take 6 (drop 2 bytes)
   pub nonce_field : nonce ≡ big_number 4 (drop 8 bytes)
@@ -141,7 +141,7 @@ abbrev pub query_flags : Bool → Bool → ℕ
 query_flags limited named = (if limited then 2 else 0) + (if named then 1 else 0)
 
 -- the octets of a gateway's port and address, where they stand in a Query or a Teardown
-abbrev pub seen_octets : Option Tunnel → List ℕ
+abbrev pub seen_octets : Option EndpointValue → List ℕ
 seen_octets None = []
 seen_octets (Some endpoint) = big_bytes 2 endpoint.port ++ big_bytes 16 endpoint.address
 

@@ -1,7 +1,7 @@
 -- The first refusal of octets, the message where there is none, and what may be answered.
 use Rattle.std.specs.Prelude.{◌≡◌, ℕ, ◌/◌, ◌%◌, ◌==◌, nat_lt, nat_le, not, ◌||◌, Bool, List, [], ◌∷◌, length, drop, take, slice_index, Option, Some, None, unwrap_or, Result, Ok, Err, if◌then◌else◌}
 use Rattle.byteorder.specs.Endian.{big_number}
-use Rattle.amt_values.specs.Tunnel.{Tunnel}
+use Rattle.amt_values.specs.EndpointValue.{EndpointValue}
 use Rattle.amt_values.specs.declared.address.Ip.{Ip}
 use Rattle.amt_values.specs.declared.address.Ip.TheVariants.{V4, V6}
 use Rattle.amt_messages.specs.Inner.{inner_length_of}
@@ -88,7 +88,7 @@ abbrev pub request_at : List ℕ → Message
 request_at bytes = Request (has_flag 0 bytes) (big_number 4 (drop 4 bytes))
 
 -- what a Query says of the gateway, after an inner datagram of so many octets
-abbrev pub seen_at : ℕ → List ℕ → Option Tunnel
+abbrev pub seen_at : ℕ → List ℕ → Option EndpointValue
 seen_at inner bytes = if has_flag 0 bytes then Some (gateway_at inner bytes) else None
 
 -- with an inner datagram of so many octets

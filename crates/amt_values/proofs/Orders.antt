@@ -8,8 +8,8 @@ use Rattle.std.proofs.lemmas.Cmp.{nat_cmp_total, on_total, then_total}
 use Rattle.std.proofs.lemmas.Map.Lookups.{CmpEqualImpliesEq, exact_unsigned}
 use Rattle.amt_values.specs.declared.address.Ip.{Ip}
 use Rattle.amt_values.specs.declared.address.Ip.TheVariants.{V4, V6}
-use Rattle.amt_values.specs.Order.{ip_order, tunnel_order}
-use Rattle.amt_values.specs.Tunnel.{Tunnel}
+use Rattle.amt_values.specs.Order.{ip_order, endpoint_order}
+use Rattle.amt_values.specs.EndpointValue.{EndpointValue}
 
 antisymm-ip_order : (x y : Ip) → ip_order x y ≡ ordering_reverse (ip_order y x)
 antisymm-ip_order (V4 one) (V4 other) = nat_cmp_total.antisymm one other
@@ -43,8 +43,8 @@ ip_order-exact (V4 one) (V6 other) same = cc
 ip_order-exact (V6 one) (V4 other) same = cc
 ip_order-exact (V6 one) (V6 other) same = ap V6 (exact_unsigned one other same)
 
-pub tunnel_order-total : IsTotalOrder tunnel_order
-tunnel_order-total = then_total (on_total (λ (tunnel : Tunnel). tunnel.address) nat_cmp_total) (on_total (λ (tunnel : Tunnel). tunnel.port) nat_cmp_total)
+pub endpoint_order-total : IsTotalOrder endpoint_order
+endpoint_order-total = then_total (on_total (λ (tunnel : EndpointValue). tunnel.address) nat_cmp_total) (on_total (λ (tunnel : EndpointValue). tunnel.port) nat_cmp_total)
 
 -- where two orders find no difference, neither does
 pub both_tied : (first second : Ordering) → ordering_then first second ≡ Equal → (first ≡ Equal) × (second ≡ Equal)
@@ -52,11 +52,11 @@ both_tied Less second tied = cc
 both_tied Equal second tied = (refl, tied)
 both_tied Greater second tied = cc
 
-abbrev tunnel : ℕ → ℕ → Tunnel
+abbrev tunnel : ℕ → ℕ → EndpointValue
 tunnel address port = record { address = address; port = port }
 
-pub tunnel_order-exact : CmpEqualImpliesEq tunnel_order
-tunnel_order-exact one other same =
+pub endpoint_order-exact : CmpEqualImpliesEq endpoint_order
+endpoint_order-exact one other same =
     let both = both_tied (nat_cmp one.address other.address) (nat_cmp one.port other.port) same in
     ap (λ (address : ℕ). tunnel address one.port) (exact_unsigned one.address other.address both.0)
     ∙ ap (λ (port : ℕ). tunnel other.address port) (exact_unsigned one.port other.port both.1)

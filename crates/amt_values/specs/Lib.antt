@@ -7,4 +7,4 @@ pub mod Numeral
 pub mod Octets
 pub mod Order
 pub mod Text
-pub mod Tunnel
+pub mod EndpointValue

@@ -4,7 +4,7 @@ use Rattle.std.specs.declared.cmp.Ordering.{Ordering}
 use Rattle.std.specs.declared.cmp.Ordering.TheVariants.{Less, Greater}
 use Rattle.amt_values.specs.declared.address.Ip.{Ip}
 use Rattle.amt_values.specs.declared.address.Ip.TheVariants.{V4, V6}
-use Rattle.amt_values.specs.Tunnel.{Tunnel}
+use Rattle.amt_values.specs.EndpointValue.{EndpointValue}
 
 -- IPv4 before IPv6, then by number
 abbrev pub ip_order : Ip → Ip → Ordering
@@ -14,5 +14,5 @@ ip_order (V6 one) (V4 other) = Greater
 ip_order (V6 one) (V6 other) = nat_cmp one other
 
 -- by address, then port
-abbrev pub tunnel_order : Tunnel → Tunnel → Ordering
-tunnel_order = then_cmp (on (λ tunnel. tunnel.address) nat_cmp) (on (λ tunnel. tunnel.port) nat_cmp)
+abbrev pub endpoint_order : EndpointValue → EndpointValue → Ordering
+endpoint_order = then_cmp (on (λ tunnel. tunnel.address) nat_cmp) (on (λ tunnel. tunnel.port) nat_cmp)

@@ -19,9 +19,9 @@ pub struct Endpoint {
 impl Model for Endpoint {
     ghost use Rattle.std.specs.Prelude.{◌≡◌, false};
     ghost use Rattle.amt_values.specs.Address.{is_mapped};
-    ghost use Rattle.amt_values.specs.Tunnel.{Tunnel};
+    ghost use Rattle.amt_values.specs.EndpointValue.{EndpointValue};
 
-    ghost Value = { Tunnel };
+    ghost Value = { EndpointValue };
 
     ghost view = { λ e. record { address = e.address; port = e.port } };
 

@@ -3,7 +3,7 @@
 ghost use Rattle.std.specs.Prelude.{◌≡◌};
 ghost use Rattle.std.specs.Cmp.{IsTotalOrder};
 ghost use Rattle.std.specs.declared.cmp.Ordering.TheVariants.{Equal};
-ghost use Rattle.amt_values.specs.Order.{ip_order, tunnel_order};
+ghost use Rattle.amt_values.specs.Order.{ip_order, endpoint_order};
 
 use crate::address::Ip;
 use crate::endpoint::Endpoint;
@@ -20,8 +20,8 @@ pub fn order_of_ips(one: &Ip, other: &Ip) -> Ordering
 
 /// The order of endpoints, which is that of `<`: by address, then port.
 pub fn order_of_endpoints(one: &Endpoint, other: &Endpoint) -> Ordering
-    ensures value { result ≡ tunnel_order one.now other.now }
-    ensures total { IsTotalOrder tunnel_order }
+    ensures value { result ≡ endpoint_order one.now other.now }
+    ensures total { IsTotalOrder endpoint_order }
     ensures exact { result ≡ Equal → one.now ≡ other.now }
 {
     one.cmp(other)

@@ -10,9 +10,9 @@ use Rattle.std.proofs.lemmas.Cmp.{eq_by_cmp_equiv}
 use Rattle.std.proofs.lemmas.Map.Keys.{sorted_tail}
 use Rattle.std.proofs.lemmas.Map.Views.{tells_apart}
 use Rattle.amt_values.specs.declared.address.Ip.{Ip}
-use Rattle.amt_values.specs.Order.{tunnel_order}
-use Rattle.amt_values.specs.Tunnel.{Tunnel}
-use Rattle.amt_values.proofs.Orders.{tunnel_order-exact, tunnel_order-total}
+use Rattle.amt_values.specs.Order.{endpoint_order}
+use Rattle.amt_values.specs.EndpointValue.{EndpointValue}
+use Rattle.amt_values.proofs.Orders.{endpoint_order-exact, endpoint_order-total}
 use Rattle.contract_words.specs.Ascending.{IsAscending}
 use Rattle.source_filter.specs.declared.record.Record.{Record}
 use Rattle.contract_words.proofs.AscendingLaws.{IsAscending-filter}
@@ -54,7 +54,7 @@ turned : (here : Bool) (membership : Membership) → cond (not here) (Some membe
 turned true membership = refl
 turned false membership = refl
 
-only_besides : (one : Option Membership) (endpoint : Tunnel) (endpoint_group : EndpointGroup) → ((membership : Membership) → one ≡ Some membership → endpoint_group_of membership ≡ endpoint_group)
+only_besides : (one : Option Membership) (endpoint : EndpointValue) (endpoint_group : EndpointGroup) → ((membership : Membership) → one ≡ Some membership → endpoint_group_of membership ≡ endpoint_group)
     → only (is_of_another endpoint) one ≡ cond (same_endpoint endpoint_group.endpoint endpoint) None one
 only_besides None endpoint endpoint_group its = either_way None (same_endpoint endpoint_group.endpoint endpoint)
 only_besides (Some membership) endpoint endpoint_group its =
@@ -65,7 +65,7 @@ cleared_by true before after none same = sym (none refl)
 cleared_by false before after none same = sym (same refl)
 
 -- a clearing takes away the endpoint's memberships
-pub AreMembershipsAt-clear : (lifetime at : ℕ) (endpoint : Tunnel) (past : List Change) (rows : List Membership)
+pub AreMembershipsAt-clear : (lifetime at : ℕ) (endpoint : EndpointValue) (past : List Change) (rows : List Membership)
     → AreMembershipsAt lifetime (latest (Clear endpoint at ∷ past)) past rows
     → AreMembershipsAt lifetime (latest (Clear endpoint at ∷ past)) (Clear endpoint at ∷ past) (filter (is_of_another endpoint) rows)
 AreMembershipsAt-clear lifetime at endpoint past rows are =
@@ -80,37 +80,37 @@ AreMembershipsAt-clear lifetime at endpoint past rows are =
     }
 
 -- all memberships are of endpoints before this one, of this one, or of later ones
-abbrev pub AreBefore : Tunnel → List Membership → Type 0
-AreBefore endpoint rows = AllByRecursion (λ membership. tunnel_order membership.endpoint endpoint ≡ Less) rows
+abbrev pub AreBefore : EndpointValue → List Membership → Type 0
+AreBefore endpoint rows = AllByRecursion (λ membership. endpoint_order membership.endpoint endpoint ≡ Less) rows
 
-abbrev pub AreFollowing : Tunnel → List Membership → Type 0
-AreFollowing endpoint rows = AllByRecursion (λ membership. tunnel_order endpoint membership.endpoint ≡ Less) rows
+abbrev pub AreFollowing : EndpointValue → List Membership → Type 0
+AreFollowing endpoint rows = AllByRecursion (λ membership. endpoint_order endpoint membership.endpoint ≡ Less) rows
 
-pub same_back : (one other : Tunnel) → same_endpoint one other ≡ same_endpoint other one
-same_back one other = (eq_by_cmp_equiv tunnel_order-total).symm one other
+pub same_back : (one other : EndpointValue) → same_endpoint one other ≡ same_endpoint other one
+same_back one other = (eq_by_cmp_equiv endpoint_order-total).symm one other
 
-pub same_endpoint-exact : (one other : Tunnel) → same_endpoint one other ≡ true → one ≡ other
-same_endpoint-exact one other same = tells_apart tunnel_order-exact one other same
+pub same_endpoint-exact : (one other : EndpointValue) → same_endpoint one other ≡ true → one ≡ other
+same_endpoint-exact one other same = tells_apart endpoint_order-exact one other same
 
 -- a pair of the endpoint has no membership among memberships of earlier or later endpoints
-apart_by : (one other : Tunnel) (group : Ip) (membership : Membership) → one ≡ other → same_endpoint other membership.endpoint ≡ false → same_endpoint_group (record { endpoint = one; group = group }) (endpoint_group_of membership) ≡ false
+apart_by : (one other : EndpointValue) (group : Ip) (membership : Membership) → one ≡ other → same_endpoint other membership.endpoint ≡ false → same_endpoint_group (record { endpoint = one; group = group }) (endpoint_group_of membership) ≡ false
 apart_by one other group membership same apart = same_endpoint_group-is (record { endpoint = one; group = group }) (endpoint_group_of membership)
-    ∙ ap (λ (test : Bool). test && same_group group membership.group) (ap (λ (endpoint : Tunnel). same_endpoint endpoint membership.endpoint) same ∙ apart)
+    ∙ ap (λ (test : Bool). test && same_group group membership.group) (ap (λ (endpoint : EndpointValue). same_endpoint endpoint membership.endpoint) same ∙ apart)
 
-membership_in-before : (endpoint : Tunnel) (rows : List Membership) (endpoint_group : EndpointGroup) → AreBefore endpoint rows → endpoint_group.endpoint ≡ endpoint → membership_in rows endpoint_group ≡ None
+membership_in-before : (endpoint : EndpointValue) (rows : List Membership) (endpoint_group : EndpointGroup) → AreBefore endpoint rows → endpoint_group.endpoint ≡ endpoint → membership_in rows endpoint_group ≡ None
 membership_in-before endpoint [] endpoint_group before same = refl
 membership_in-before endpoint (membership ∷ rest) endpoint_group before same =
     let apart = apart_by endpoint_group.endpoint endpoint endpoint_group.group membership same (same_back endpoint membership.endpoint ∙ ap is_eq before.0) in
     rw apart (membership_in-before endpoint rest endpoint_group before.1 same)
 
-membership_in-following : (endpoint : Tunnel) (rows : List Membership) (endpoint_group : EndpointGroup) → AreFollowing endpoint rows → endpoint_group.endpoint ≡ endpoint → membership_in rows endpoint_group ≡ None
+membership_in-following : (endpoint : EndpointValue) (rows : List Membership) (endpoint_group : EndpointGroup) → AreFollowing endpoint rows → endpoint_group.endpoint ≡ endpoint → membership_in rows endpoint_group ≡ None
 membership_in-following endpoint [] endpoint_group following same = refl
 membership_in-following endpoint (membership ∷ rest) endpoint_group following same =
     let apart = apart_by endpoint_group.endpoint endpoint endpoint_group.group membership same (ap is_eq following.0) in
     rw apart (membership_in-following endpoint rest endpoint_group following.1 same)
 
 -- a pair of another endpoint has no membership among the endpoint's
-pub membership_in-of : (endpoint : Tunnel) (rows : List Membership) (endpoint_group : EndpointGroup) → AreOf endpoint rows → same_endpoint endpoint_group.endpoint endpoint ≡ false → membership_in rows endpoint_group ≡ None
+pub membership_in-of : (endpoint : EndpointValue) (rows : List Membership) (endpoint_group : EndpointGroup) → AreOf endpoint rows → same_endpoint endpoint_group.endpoint endpoint ≡ false → membership_in rows endpoint_group ≡ None
 membership_in-of endpoint [] endpoint_group of apart = refl
 membership_in-of endpoint (membership ∷ rest) endpoint_group of apart =
     let here = same_endpoint-exact membership.endpoint endpoint of.0 in
@@ -135,25 +135,25 @@ IsAscending-back [] ys ascends = ascends
 IsAscending-back (x ∷ xs) ys ascends = IsAscending-back xs ys (sorted_tail membership_order x (xs ++ ys) ascends)
 
 -- memberships of an endpoint stand after memberships of earlier endpoints
-before_of : (endpoint : Tunnel) (membership : Membership) (ys : List Membership) → tunnel_order membership.endpoint endpoint ≡ Less → AreOf endpoint ys → AllByRecursion (λ later. membership_order membership later ≡ Less) ys
+before_of : (endpoint : EndpointValue) (membership : Membership) (ys : List Membership) → endpoint_order membership.endpoint endpoint ≡ Less → AreOf endpoint ys → AllByRecursion (λ later. membership_order membership later ≡ Less) ys
 before_of endpoint membership [] before of = tt
 before_of endpoint membership (later ∷ ys) before of =
-    let here = ap (tunnel_order membership.endpoint) (same_endpoint-exact later.endpoint endpoint of.0) ∙ before in
+    let here = ap (endpoint_order membership.endpoint) (same_endpoint-exact later.endpoint endpoint of.0) ∙ before in
     (rw here refl, before_of endpoint membership ys before of.1)
 
-before_following : (endpoint : Tunnel) (membership : Membership) (ys : List Membership) → tunnel_order membership.endpoint endpoint ≡ Less → AreFollowing endpoint ys → AllByRecursion (λ later. membership_order membership later ≡ Less) ys
+before_following : (endpoint : EndpointValue) (membership : Membership) (ys : List Membership) → endpoint_order membership.endpoint endpoint ≡ Less → AreFollowing endpoint ys → AllByRecursion (λ later. membership_order membership later ≡ Less) ys
 before_following endpoint membership [] before following = tt
 before_following endpoint membership (later ∷ ys) before following =
-    let here = tunnel_order-total.trans membership.endpoint endpoint later.endpoint before following.0 in
+    let here = endpoint_order-total.trans membership.endpoint endpoint later.endpoint before following.0 in
     (rw here refl, before_following endpoint membership ys before following.1)
 
-of_following : (endpoint : Tunnel) (membership : Membership) (ys : List Membership) → same_endpoint membership.endpoint endpoint ≡ true → AreFollowing endpoint ys → AllByRecursion (λ later. membership_order membership later ≡ Less) ys
+of_following : (endpoint : EndpointValue) (membership : Membership) (ys : List Membership) → same_endpoint membership.endpoint endpoint ≡ true → AreFollowing endpoint ys → AllByRecursion (λ later. membership_order membership later ≡ Less) ys
 of_following endpoint membership [] of following = tt
 of_following endpoint membership (later ∷ ys) of following =
-    let here = ap (λ (one : Tunnel). tunnel_order one later.endpoint) (same_endpoint-exact membership.endpoint endpoint of) ∙ following.0 in
+    let here = ap (λ (one : EndpointValue). endpoint_order one later.endpoint) (same_endpoint-exact membership.endpoint endpoint of) ∙ following.0 in
     (rw here refl, of_following endpoint membership ys of following.1)
 
-IsAscending-of_following : (endpoint : Tunnel) (own following : List Membership) → IsAscending membership_order own → IsAscending membership_order following → AreOf endpoint own → AreFollowing endpoint following
+IsAscending-of_following : (endpoint : EndpointValue) (own following : List Membership) → IsAscending membership_order own → IsAscending membership_order following → AreOf endpoint own → AreFollowing endpoint following
     → IsAscending membership_order (own ++ following)
 unfolding IsStrictlySortedBy
 IsAscending-of_following endpoint [] following first second of later = second
@@ -161,7 +161,7 @@ IsAscending-of_following endpoint (membership ∷ own) following first second of
     (both_all (λ other. membership_order membership other ≡ Less) own following first.0 (of_following endpoint membership following of.0 later), IsAscending-of_following endpoint own following first.1 second of.1 later)
 
 -- memberships before an endpoint's, memberships of the endpoint and memberships after it ascend together
-pub IsAscending-three : (endpoint : Tunnel) (before own following : List Membership) → IsAscending membership_order before → IsAscending membership_order own → IsAscending membership_order following
+pub IsAscending-three : (endpoint : EndpointValue) (before own following : List Membership) → IsAscending membership_order before → IsAscending membership_order own → IsAscending membership_order following
     → AreBefore endpoint before → AreOf endpoint own → AreFollowing endpoint following → IsAscending membership_order (before ++ (own ++ following))
 unfolding IsStrictlySortedBy
 IsAscending-three endpoint [] own following first second third earlier of later = IsAscending-of_following endpoint own following second third of later
@@ -172,7 +172,7 @@ IsAscending-three endpoint (membership ∷ before) own following first second th
 )
 
 -- memberships in three parts: of earlier endpoints, of this one, and of later ones
-pub record IsParted (endpoint : Tunnel) (rows before own following : List Membership) : Type 0 where
+pub record IsParted (endpoint : EndpointValue) (rows before own following : List Membership) : Type 0 where
   pub whole : rows ≡ before ++ (own ++ following)
   pub earlier : AreBefore endpoint before
   pub of : AreOf endpoint own
@@ -182,7 +182,7 @@ or_none : (found : Option Membership) → option_or found None ≡ found
 or_none None = refl
 or_none (Some membership) = refl
 
-pub membership_in-three : (endpoint : Tunnel) (before own following : List Membership) (endpoint_group : EndpointGroup) → AreBefore endpoint before → AreFollowing endpoint following → same_endpoint endpoint_group.endpoint endpoint ≡ true
+pub membership_in-three : (endpoint : EndpointValue) (before own following : List Membership) (endpoint_group : EndpointGroup) → AreBefore endpoint before → AreFollowing endpoint following → same_endpoint endpoint_group.endpoint endpoint ≡ true
     → membership_in (before ++ (own ++ following)) endpoint_group ≡ membership_in own endpoint_group
 membership_in-three endpoint before own following endpoint_group earlier later same =
     let here = same_endpoint-exact endpoint_group.endpoint endpoint same in
@@ -192,7 +192,7 @@ membership_in-three endpoint before own following endpoint_group earlier later s
     ∙ ap (option_or (membership_in own endpoint_group)) (membership_in-following endpoint following endpoint_group later here)
     ∙ or_none (membership_in own endpoint_group)
 
-pub membership_in-others : (endpoint : Tunnel) (before own other following : List Membership) (endpoint_group : EndpointGroup) → AreOf endpoint own → AreOf endpoint other → same_endpoint endpoint_group.endpoint endpoint ≡ false
+pub membership_in-others : (endpoint : EndpointValue) (before own other following : List Membership) (endpoint_group : EndpointGroup) → AreOf endpoint own → AreOf endpoint other → same_endpoint endpoint_group.endpoint endpoint ≡ false
     → membership_in (before ++ (own ++ following)) endpoint_group ≡ membership_in (before ++ (other ++ following)) endpoint_group
 membership_in-others endpoint before own other following endpoint_group of others apart =
     membership_in-append before (own ++ following) endpoint_group
@@ -202,7 +202,7 @@ membership_in-others endpoint before own other following endpoint_group of other
     ∙ sym (membership_in-append before (other ++ following) endpoint_group)
 
 -- a report replaces the endpoint's memberships by those by the log with it
-pub AreMembershipsAt-report : (lifetime moment at : ℕ) (endpoint : Tunnel) (records : List Record) (past : List Change) (rows before own following replaced : List Membership)
+pub AreMembershipsAt-report : (lifetime moment at : ℕ) (endpoint : EndpointValue) (records : List Record) (past : List Change) (rows before own following replaced : List Membership)
     → moment ≤ latest (Reported endpoint records at ∷ past) → AreMembershipsAt lifetime moment past rows
     → IsParted endpoint rows before own following → IsAscending membership_order replaced → AreOf endpoint replaced
     → ((endpoint_group : EndpointGroup) → same_endpoint endpoint_group.endpoint endpoint ≡ true

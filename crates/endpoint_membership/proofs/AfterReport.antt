@@ -4,8 +4,8 @@ use Rattle.std.specs.Ordering.{is_eq}
 use Rattle.std.proofs.lemmas.Cmp.{tied_itself}
 use Rattle.std.proofs.lemmas.Map.Views.{tells_apart}
 use Rattle.amt_values.specs.declared.address.Ip.{Ip}
-use Rattle.amt_values.specs.Tunnel.{Tunnel}
-use Rattle.amt_values.proofs.Orders.{tunnel_order-exact, tunnel_order-total}
+use Rattle.amt_values.specs.EndpointValue.{EndpointValue}
+use Rattle.amt_values.proofs.Orders.{endpoint_order-exact, endpoint_order-total}
 use Rattle.source_filter.specs.Filter.{FilterValue}
 use Rattle.source_filter.specs.declared.mode.Mode.{Mode}
 use Rattle.source_filter.specs.declared.mode.Mode.TheVariants.{Include, Exclude}
@@ -24,14 +24,14 @@ use Rattle.endpoint_membership.proofs.ThreeParts.{is_of, parted}
 use Rattle.endpoint_membership.proofs.MembershipAt.{filter_in, membership_at-later, membership_at-report}
 use Rattle.endpoint_membership.proofs.AfterEntries.{AreMembershipsAt-report}
 
-abbrev endpoint_group : Tunnel → Ip → EndpointGroup
+abbrev endpoint_group : EndpointValue → Ip → EndpointGroup
 endpoint_group endpoint group = record { endpoint = endpoint; group = group }
 
 abbrev made : Mode → List Ip → FilterValue
 made mode sources = record { mode = mode; sources = sources }
 
 -- a membership that was made by a filter is made by it again
-renewed_again : (endpoint : Tunnel) (group : Ip) (mode : Mode) (sources : List Ip) (renewed : ℕ)
+renewed_again : (endpoint : EndpointValue) (group : Ip) (mode : Mode) (sources : List Ip) (renewed : ℕ)
     → membership_of_renewed endpoint group (renewed_filter_of (membership_of (endpoint_group endpoint group) (made mode sources) renewed)) ≡ membership_of (endpoint_group endpoint group) (made mode sources) renewed
 renewed_again endpoint group Exclude sources renewed = refl
 renewed_again endpoint group Include [] renewed = refl
@@ -47,7 +47,7 @@ pub renewed_filter_after_all-is : (moment : ℕ) (first : Record) (later : List 
 renewed_filter_after_all-is moment first [] renewed_filter = refl
 renewed_filter_after_all-is moment first (second ∷ later) renewed_filter = renewed_filter_after_all-is moment second later (renewed_filter_after moment first renewed_filter)
 
-row_by : (endpoint : Tunnel) (group : Ip) (moment : ℕ) (on : List Record) (filter : FilterValue) (renewed : ℕ) (found : Option Membership) → found ≡ membership_of (endpoint_group endpoint group) filter renewed
+row_by : (endpoint : EndpointValue) (group : Ip) (moment : ℕ) (on : List Record) (filter : FilterValue) (renewed : ℕ) (found : Option Membership) → found ≡ membership_of (endpoint_group endpoint group) filter renewed
     → membership_of_renewed endpoint group (renewed_filter_after_all moment on (renewed_filter_of found))
     ≡ (if is_empty on then found else membership_of (endpoint_group endpoint group) (filter_after_all (filter_in found) on) moment)
 row_by endpoint group moment [] filter renewed found is =
@@ -57,7 +57,7 @@ row_by endpoint group moment (first ∷ later) filter renewed found is =
     ∙ ap (λ (before : FilterValue). membership_of (endpoint_group endpoint group) (filter_after_all before (first ∷ later)) moment) (filter_or_nothing-in found)
 
 -- the endpoint's filters make the memberships by the log with the report
-pub own_membership : (lifetime moment at : ℕ) (endpoint : Tunnel) (records : List Record) (past : List Change) (rows : List Membership) (group : Ip) → 0 < lifetime
+pub own_membership : (lifetime moment at : ℕ) (endpoint : EndpointValue) (records : List Record) (past : List Change) (rows : List Membership) (group : Ip) → 0 < lifetime
     → moment ≤ latest (Reported endpoint records at ∷ past) → AreMembershipsAt lifetime moment past rows
     → membership_of_renewed endpoint group (renewed_filter_after_all (latest (Reported endpoint records at ∷ past)) (on_group group records)
     (renewed_filter_of (only (is_fresh lifetime (latest (Reported endpoint records at ∷ past))) (membership_in rows (endpoint_group endpoint group)))))
@@ -69,20 +69,20 @@ own_membership lifetime moment at endpoint records past rows group some onward a
     let found = ap (only (is_fresh lifetime now)) (are.each here) ∙ sym (membership_at-later lifetime moment now past here onward) in
     ap (λ (one : Option Membership). membership_of_renewed endpoint group (renewed_filter_after_all now (on_group group records) (renewed_filter_of one))) found
     ∙ row_by endpoint group now (on_group group records) _ _ before refl
-    ∙ sym (membership_at-report lifetime at endpoint records past here some (ap is_eq (tied_itself tunnel_order-total endpoint)))
+    ∙ sym (membership_at-report lifetime at endpoint records past here some (ap is_eq (tied_itself endpoint_order-total endpoint)))
 
 -- the memberships of the endpoint are those of its pairs
-pub own_at : (lifetime moment at : ℕ) (endpoint : Tunnel) (records : List Record) (past : List Change) (rows own : List Membership) → 0 < lifetime
+pub own_at : (lifetime moment at : ℕ) (endpoint : EndpointValue) (records : List Record) (past : List Change) (rows own : List Membership) → 0 < lifetime
     → moment ≤ latest (Reported endpoint records at ∷ past) → AreMembershipsAt lifetime moment past rows → AreOwn lifetime (latest (Reported endpoint records at ∷ past)) endpoint records rows own
     → (here : EndpointGroup) → same_endpoint here.endpoint endpoint ≡ true
     → membership_in own here ≡ membership_at lifetime (latest (Reported endpoint records at ∷ past)) (Reported endpoint records at ∷ past) here
 own_at lifetime moment at endpoint records past rows own some onward are owned here same =
-    let exact = ap (λ (one : Tunnel). endpoint_group one here.group) (tells_apart tunnel_order-exact here.endpoint endpoint same) in
+    let exact = ap (λ (one : EndpointValue). endpoint_group one here.group) (tells_apart endpoint_order-exact here.endpoint endpoint same) in
     ap (membership_in own) exact ∙ owned.each here.group ∙ own_membership lifetime moment at endpoint records past rows here.group some onward are
     ∙ ap (membership_at lifetime (latest (Reported endpoint records at ∷ past)) (Reported endpoint records at ∷ past)) (sym exact)
 
 -- the memberships with those of the endpoint replaced stand for the log with the report
-pub AreMembershipsAt-reported : (lifetime moment at : ℕ) (endpoint : Tunnel) (records : List Record) (past : List Change) (rows own : List Membership) → 0 < lifetime
+pub AreMembershipsAt-reported : (lifetime moment at : ℕ) (endpoint : EndpointValue) (records : List Record) (past : List Change) (rows own : List Membership) → 0 < lifetime
     → moment ≤ latest (Reported endpoint records at ∷ past) → AreMembershipsAt lifetime moment past rows → AreOwn lifetime (latest (Reported endpoint records at ∷ past)) endpoint records rows own
     → AreMembershipsAt lifetime (latest (Reported endpoint records at ∷ past)) (Reported endpoint records at ∷ past)
     (filter (is_fresh lifetime (latest (Reported endpoint records at ∷ past))) (earlier endpoint rows ++ (own ++ later endpoint rows)))

@@ -3,7 +3,7 @@ use Rattle.std.proofs.Common.{◌≡◌, ℕ, ◌≤◌, ◌<◌, max, Bool, fal
 use Rattle.std.proofs.lemmas.Bool.{cases_Bool}
 use Rattle.std.proofs.lemmas.List.{append_assoc, reverse-append, reverse-reverse}
 use Rattle.amt_values.specs.declared.address.Ip.{Ip}
-use Rattle.amt_values.specs.Tunnel.{Tunnel}
+use Rattle.amt_values.specs.EndpointValue.{EndpointValue}
 use Rattle.source_filter.specs.declared.record.Record.{Record}
 use Rattle.endpoint_membership.specs.declared.change.Change.{Change}
 use Rattle.endpoint_membership.specs.declared.change.Change.TheVariants.{Clear, Mark}
@@ -69,11 +69,11 @@ alike_all lifetime endpoint_group one other (entry ∷ newer) some alike =
     let same = ap (max (brought entry)) older.0 in
     alike_later lifetime endpoint_group (entry ∷ (newer ++ one)) (entry ∷ (newer ++ other)) same (alike_now lifetime endpoint_group (newer ++ one) (newer ++ other) entry some older same)
 
-abbrev at_group : Tunnel → Ip → EndpointGroup
+abbrev at_group : EndpointValue → Ip → EndpointGroup
 at_group endpoint group = record { endpoint = endpoint; group = group }
 
 -- a clearing of nothing and a mark are alike
-alike_cleared : (lifetime : ℕ) (endpoint_group : EndpointGroup) (endpoint : Tunnel) (at : ℕ) (past : List Change)
+alike_cleared : (lifetime : ℕ) (endpoint_group : EndpointGroup) (endpoint : EndpointValue) (at : ℕ) (past : List Change)
     → ((group : Ip) → membership_at lifetime (max at (latest past)) past (at_group endpoint group) ≡ None)
     → AreAlike lifetime endpoint_group (Clear endpoint at ∷ past) (Mark at ∷ past)
 alike_cleared lifetime endpoint_group endpoint at past none =
@@ -81,7 +81,7 @@ alike_cleared lifetime endpoint_group endpoint at past none =
     let marked = membership_at-other lifetime moment (Mark at) past endpoint_group refl in
     alike_later lifetime endpoint_group (Clear endpoint at ∷ past) (Mark at ∷ past) refl (elim (cases_Bool (same_endpoint endpoint_group.endpoint endpoint)) [
       | inl here ↦ membership_at-clear lifetime at endpoint past endpoint_group here
-          ∙ sym (marked ∙ ap (λ (one : Tunnel). membership_at lifetime moment past (at_group one endpoint_group.group)) (same_endpoint-exact endpoint_group.endpoint endpoint here) ∙ none endpoint_group.group)
+          ∙ sym (marked ∙ ap (λ (one : EndpointValue). membership_at lifetime moment past (at_group one endpoint_group.group)) (same_endpoint-exact endpoint_group.endpoint endpoint here) ∙ none endpoint_group.group)
       | inr apart ↦ membership_at-other lifetime moment (Clear endpoint at) past endpoint_group (rw apart refl) ∙ sym marked
     ])
 
@@ -92,7 +92,7 @@ reverse-around log later entry =
     ∙ append_assoc (reverse later) (entry ∷ []) (reverse log)
 
 -- where an endpoint has no membership, its clearing changes none
-pub membership_at-unless_cleared : (lifetime : ℕ) (log later : List Change) (endpoint : Tunnel) (at moment : ℕ) (endpoint_group : EndpointGroup) → 0 < lifetime
+pub membership_at-unless_cleared : (lifetime : ℕ) (log later : List Change) (endpoint : EndpointValue) (at moment : ℕ) (endpoint_group : EndpointGroup) → 0 < lifetime
     → HasNoMembership lifetime (max at (latest log)) log endpoint → latest (log ++ Clear endpoint at ∷ later) ≤ moment
     → membership_at lifetime moment (reverse (log ++ Clear endpoint at ∷ later)) endpoint_group ≡ membership_at lifetime moment (reverse (log ++ Mark at ∷ later)) endpoint_group
 membership_at-unless_cleared lifetime log later endpoint at moment endpoint_group some none onward =
@@ -105,7 +105,7 @@ membership_at-unless_cleared lifetime log later endpoint at moment endpoint_grou
     ∙ sym (ap (λ (past : List Change). membership_at lifetime moment past endpoint_group) (reverse-around log later (Mark at)))
 
 -- an endpoint that isn't live has no membership
-unseen : (endpoint : Tunnel) (group : Ip) (rows : List Membership) → is_live endpoint rows ≡ false → membership_in rows (at_group endpoint group) ≡ None
+unseen : (endpoint : EndpointValue) (group : Ip) (rows : List Membership) → is_live endpoint rows ≡ false → membership_in rows (at_group endpoint group) ≡ None
 unseen endpoint group [] none = refl
 unseen endpoint group (membership ∷ rest) none = elim (cases_Bool (same_endpoint membership.endpoint endpoint)) [
   | inl here ↦ let wrong = ap (λ (test : Bool). test || is_live endpoint rest) (sym here) ∙ none in absurd cc
@@ -115,7 +115,7 @@ unseen endpoint group (membership ∷ rest) none = elim (cases_Bool (same_endpoi
 ]
 
 -- where an endpoint isn't live, its clearing changes no membership
-pub rows-unless_cleared : (lifetime : ℕ) (log later : List Change) (endpoint : Tunnel) (at moment : ℕ) → 0 < lifetime
+pub rows-unless_cleared : (lifetime : ℕ) (log later : List Change) (endpoint : EndpointValue) (at moment : ℕ) → 0 < lifetime
     → is_live endpoint (memberships_at lifetime (max at (latest log)) log) ≡ false
     → latest (log ++ Clear endpoint at ∷ later) ≤ moment
     → rows_of lifetime moment (log ++ Clear endpoint at ∷ later) ≡ rows_of lifetime moment (log ++ Mark at ∷ later)
@@ -129,7 +129,7 @@ rows-unless_cleared lifetime log later endpoint at moment some none onward =
     }))
 
 -- memberships of other endpoints are all left
-others_left : (endpoint : Tunnel) (rows : List Membership) → is_live endpoint rows ≡ false → filter (is_of_another endpoint) rows ≡ rows
+others_left : (endpoint : EndpointValue) (rows : List Membership) → is_live endpoint rows ≡ false → filter (is_of_another endpoint) rows ≡ rows
 others_left endpoint [] none = refl
 others_left endpoint (membership ∷ rest) none = elim (cases_Bool (same_endpoint membership.endpoint endpoint)) [
   | inl here ↦ let wrong = ap (λ (test : Bool). test || is_live endpoint rest) (sym here) ∙ none in absurd cc
@@ -137,14 +137,14 @@ others_left endpoint (membership ∷ rest) none = elim (cases_Bool (same_endpoin
 ]
 
 -- where no time passes, a table from which no membership is taken is as it was
-pub none_cleared : (settings : TableSettings) (table : TableValue) (log : List Change) (endpoint : Tunnel) (at moment : ℕ) (fresh rows : List Membership) → moment ≡ max table.moment at
+pub none_cleared : (settings : TableSettings) (table : TableValue) (log : List Change) (endpoint : EndpointValue) (at moment : ℕ) (fresh rows : List Membership) → moment ≡ max table.moment at
     → fresh ≡ filter (is_fresh table.lifetime moment) table.rows → rows ≡ filter (is_of_another endpoint) fresh → Holds settings table log → at ≤ latest log
     → is_live endpoint fresh ≡ false → table_of moment table.limits table.lifetime rows ≡ table
 none_cleared settings table log endpoint at moment fresh rows is left gone holds before none =
     ap (table_of moment table.limits table.lifetime) (gone ∙ others_left endpoint fresh none) ∙ no_later settings table log at moment fresh is left holds before
 
 -- memberships after a clearing are within all limits that they were within before
-pub IsWithin-cleared : (limits : Limits) (settings : TableSettings) (log : List Change) (endpoint : Tunnel) (at : ℕ) → IsWithin limits (memberships_now settings log)
+pub IsWithin-cleared : (limits : Limits) (settings : TableSettings) (log : List Change) (endpoint : EndpointValue) (at : ℕ) → IsWithin limits (memberships_now settings log)
     → IsWithin limits (memberships_now settings (log ++ Clear endpoint at ∷ []))
 IsWithin-cleared limits settings log endpoint at within =
     let before = memberships_now settings log in

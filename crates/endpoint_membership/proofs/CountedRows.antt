@@ -10,9 +10,9 @@ use Rattle.std.proofs.lemmas.List.Filters.{sum_by-filter_both}
 use Rattle.std.proofs.lemmas.Map.Keys.{IsDistinct-from_sorted}
 use Rattle.std.proofs.lemmas.Map.Lookups.{CmpEqualImpliesEq}
 use Rattle.std.proofs.lemmas.Map.Made.{length-le_from_is_member}
-use Rattle.amt_values.specs.Order.{tunnel_order}
-use Rattle.amt_values.specs.Tunnel.{Tunnel}
-use Rattle.amt_values.proofs.Orders.{tunnel_order-exact, tunnel_order-total}
+use Rattle.amt_values.specs.Order.{endpoint_order}
+use Rattle.amt_values.specs.EndpointValue.{EndpointValue}
+use Rattle.amt_values.proofs.Orders.{endpoint_order-exact, endpoint_order-total}
 use Rattle.contract_words.specs.Ascending.{IsAscending, has, placed, ascending}
 use Rattle.contract_words.proofs.AscendingLaws.{IsAscending-ascending, has-ascending}
 use Rattle.endpoint_membership.specs.Limits.{group_count, live_count}
@@ -37,22 +37,22 @@ length-placed-new order x (y ∷ ys) none =
     let both = or_parts (eq_by_cmp order x y) (has order ys x) none in
     length-placed_by order (order x y) x y ys both.0 (length-placed-new order x ys both.1)
 
-abbrev endpoints : List Membership → List Tunnel
+abbrev endpoints : List Membership → List EndpointValue
 endpoints rows = map (λ membership. membership.endpoint) rows
 
 either : (here some rest : Bool) → (some ≡ true → rest ≡ true) → (here || some) ≡ true → (here || rest) ≡ true
 either true some rest more is = refl
 either false some rest more is = more is
 
-has_more : (passes : Bool) (membership : Membership) (some rest : List Membership) (endpoint : Tunnel)
-    → (has tunnel_order (endpoints some) endpoint ≡ true → has tunnel_order (endpoints rest) endpoint ≡ true)
-    → has tunnel_order (endpoints (cond passes (membership ∷ some) some)) endpoint ≡ true → has tunnel_order (endpoints (membership ∷ rest)) endpoint ≡ true
+has_more : (passes : Bool) (membership : Membership) (some rest : List Membership) (endpoint : EndpointValue)
+    → (has endpoint_order (endpoints some) endpoint ≡ true → has endpoint_order (endpoints rest) endpoint ≡ true)
+    → has endpoint_order (endpoints (cond passes (membership ∷ some) some)) endpoint ≡ true → has endpoint_order (endpoints (membership ∷ rest)) endpoint ≡ true
 has_more true membership some rest endpoint more listed = either (same_endpoint endpoint membership.endpoint) _ _ more listed
 has_more false membership some rest endpoint more listed = or_right (same_endpoint endpoint membership.endpoint) _ (more listed)
 
 -- the endpoints of filtered memberships are endpoints of the memberships
-has-endpoints-filter : (test : Membership → Bool) (rows : List Membership) (endpoint : Tunnel) → has tunnel_order (endpoints (filter test rows)) endpoint ≡ true
-    → has tunnel_order (endpoints rows) endpoint ≡ true
+has-endpoints-filter : (test : Membership → Bool) (rows : List Membership) (endpoint : EndpointValue) → has endpoint_order (endpoints (filter test rows)) endpoint ≡ true
+    → has endpoint_order (endpoints rows) endpoint ≡ true
 has-endpoints-filter test [] endpoint listed = listed
 has-endpoints-filter test (membership ∷ rest) endpoint listed = has_more (test membership) membership (filter test rest) rest endpoint (has-endpoints-filter test rest endpoint) listed
 
@@ -60,9 +60,9 @@ pub live_count-filter : (test : Membership → Bool) (rows : List Membership) �
 live_count-filter test rows =
     let some = endpoints (filter test rows) in
     let all = endpoints rows in
-    length-within tunnel_order tunnel_order-total tunnel_order-exact (ascending tunnel_order some) (ascending tunnel_order all) (IsAscending-ascending tunnel_order-total some) (IsAscending-ascending tunnel_order-total all)
-    (λ endpoint listed. has-ascending tunnel_order-total all endpoint ∙ has-endpoints-filter test rows endpoint (sym (has-ascending tunnel_order-total some endpoint) ∙ listed))
+    length-within endpoint_order endpoint_order-total endpoint_order-exact (ascending endpoint_order some) (ascending endpoint_order all) (IsAscending-ascending endpoint_order-total some) (IsAscending-ascending endpoint_order-total all)
+    (λ endpoint listed. has-ascending endpoint_order-total all endpoint ∙ has-endpoints-filter test rows endpoint (sym (has-ascending endpoint_order-total some endpoint) ∙ listed))
 
-pub group_count-filter : (test : Membership → Bool) (endpoint : Tunnel) (rows : List Membership) → group_count endpoint (filter test rows) ≤ group_count endpoint rows
+pub group_count-filter : (test : Membership → Bool) (endpoint : EndpointValue) (rows : List Membership) → group_count endpoint (filter test rows) ≤ group_count endpoint rows
 group_count-filter test endpoint rows =
     omega (arith, sum_by-filter_both test (λ (membership : Membership). not (test membership)) (λ (membership : Membership). refl) (λ (membership : Membership). cond (same_endpoint membership.endpoint endpoint) 1 0) rows)

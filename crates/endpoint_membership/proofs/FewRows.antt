@@ -5,9 +5,9 @@ use Rattle.std.proofs.Math.Nat.{mul-le-mul, suc-mul}
 use Rattle.std.proofs.lemmas.Cmp.{eq_by_cmp_equiv}
 use Rattle.std.proofs.lemmas.List.{length-map}
 use Rattle.std.proofs.lemmas.List.Sums.{sum_by-cons}
-use Rattle.amt_values.specs.Order.{tunnel_order}
-use Rattle.amt_values.specs.Tunnel.{Tunnel}
-use Rattle.amt_values.proofs.Orders.{tunnel_order-total}
+use Rattle.amt_values.specs.Order.{endpoint_order}
+use Rattle.amt_values.specs.EndpointValue.{EndpointValue}
+use Rattle.amt_values.proofs.Orders.{endpoint_order-total}
 use Rattle.contract_words.specs.Ascending.{has, ascending}
 use Rattle.contract_words.proofs.AscendingLaws.{has-ascending}
 use Rattle.endpoint_membership.specs.Limits.{AreFew, IsWithin, group_count, live_count, size}
@@ -20,20 +20,20 @@ one_if : Bool → ℕ
 one_if test = cond test 1 0
 
 -- how many of the endpoints are the membership's
-hits : List Tunnel → Membership → ℕ
+hits : List EndpointValue → Membership → ℕ
 hits [] membership = 0
 hits (endpoint ∷ rest) membership = one_if (same_endpoint membership.endpoint endpoint) + hits rest membership
 
 -- the memberships of the endpoints, counted one endpoint after the other
-total : List Tunnel → List Membership → ℕ
+total : List EndpointValue → List Membership → ℕ
 total [] rows = 0
 total (endpoint ∷ rest) rows = group_count endpoint rows + total rest rows
 
-group_count-cons : (endpoint : Tunnel) (membership : Membership) (rest : List Membership) → group_count endpoint (membership ∷ rest) ≡ one_if (same_endpoint membership.endpoint endpoint) + group_count endpoint rest
+group_count-cons : (endpoint : EndpointValue) (membership : Membership) (rest : List Membership) → group_count endpoint (membership ∷ rest) ≡ one_if (same_endpoint membership.endpoint endpoint) + group_count endpoint rest
 unfolding one_if
 group_count-cons endpoint membership rest = sum_by-cons _ membership rest
 
-total-cons : (endpoints : List Tunnel) (membership : Membership) (rest : List Membership) → total endpoints (membership ∷ rest) ≡ hits endpoints membership + total endpoints rest
+total-cons : (endpoints : List EndpointValue) (membership : Membership) (rest : List Membership) → total endpoints (membership ∷ rest) ≡ hits endpoints membership + total endpoints rest
 unfolding total hits
 total-cons [] membership rest = refl
 total-cons (endpoint ∷ others) membership rest = omega (arith, group_count-cons endpoint membership rest, total-cons others membership rest)
@@ -43,24 +43,24 @@ unfolding one_if
 hits_by true some more rest is = omega arith
 hits_by false some more rest is = omega (arith, rest is)
 
-hits-some : (endpoints : List Tunnel) (membership : Membership) → has tunnel_order endpoints membership.endpoint ≡ true → 1 ≤ hits endpoints membership
+hits-some : (endpoints : List EndpointValue) (membership : Membership) → has endpoint_order endpoints membership.endpoint ≡ true → 1 ≤ hits endpoints membership
 unfolding hits
 hits-some [] membership listed = cc
 hits-some (endpoint ∷ rest) membership listed =
-    hits_by (same_endpoint membership.endpoint endpoint) (has tunnel_order rest membership.endpoint) (hits rest membership) (hits-some rest membership) listed
+    hits_by (same_endpoint membership.endpoint endpoint) (has endpoint_order rest membership.endpoint) (hits rest membership) (hits-some rest membership) listed
 
 -- no membership is left out where each membership's endpoint is among them
-length-total : (endpoints : List Tunnel) (rows : List Membership) → AllByRecursion (λ membership. has tunnel_order endpoints membership.endpoint ≡ true) rows → length rows ≤ total endpoints rows
+length-total : (endpoints : List EndpointValue) (rows : List Membership) → AllByRecursion (λ membership. has endpoint_order endpoints membership.endpoint ≡ true) rows → length rows ≤ total endpoints rows
 length-total endpoints [] listed = omega arith
 length-total endpoints (membership ∷ rest) listed =
     omega (arith, total-cons endpoints membership rest, hits-some endpoints membership listed.0, length-total endpoints rest listed.1)
 
-total-few : (most : ℕ) (endpoints : List Tunnel) (rows : List Membership) → ((endpoint : Tunnel) → group_count endpoint rows ≤ most) → total endpoints rows ≤ length endpoints * most
+total-few : (most : ℕ) (endpoints : List EndpointValue) (rows : List Membership) → ((endpoint : EndpointValue) → group_count endpoint rows ≤ most) → total endpoints rows ≤ length endpoints * most
 unfolding total
 total-few most [] rows few = omega arith
 total-few most (endpoint ∷ rest) rows few = omega (arith, few endpoint, total-few most rest rows few, suc-mul (length rest) most)
 
-abbrev endpoints_of : List Membership → List Tunnel
+abbrev endpoints_of : List Membership → List EndpointValue
 endpoints_of rows = map (λ (membership : Membership). membership.endpoint) rows
 
 or_true : (here some : Bool) → some ≡ true → (here || some) ≡ true
@@ -68,24 +68,24 @@ or_true true some is = refl
 or_true false some is = is
 
 -- what lists the endpoints of some memberships lists them with one endpoint more
-All-more : (endpoint : Tunnel) (endpoints : List Tunnel) (rows : List Membership) → AllByRecursion (λ membership. has tunnel_order endpoints membership.endpoint ≡ true) rows
-    → AllByRecursion (λ membership. has tunnel_order (endpoint ∷ endpoints) membership.endpoint ≡ true) rows
+All-more : (endpoint : EndpointValue) (endpoints : List EndpointValue) (rows : List Membership) → AllByRecursion (λ membership. has endpoint_order endpoints membership.endpoint ≡ true) rows
+    → AllByRecursion (λ membership. has endpoint_order (endpoint ∷ endpoints) membership.endpoint ≡ true) rows
 All-more endpoint endpoints [] each = tt
 All-more endpoint endpoints (membership ∷ rest) each = (or_true (same_endpoint membership.endpoint endpoint) _ each.0, All-more endpoint endpoints rest each.1)
 
-All-own : (rows : List Membership) → AllByRecursion (λ membership. has tunnel_order (endpoints_of rows) membership.endpoint ≡ true) rows
+All-own : (rows : List Membership) → AllByRecursion (λ membership. has endpoint_order (endpoints_of rows) membership.endpoint ≡ true) rows
 All-own [] = tt
 All-own (membership ∷ rest) =
-    (rw ((eq_by_cmp_equiv tunnel_order-total).refl membership.endpoint) refl, All-more membership.endpoint (endpoints_of rest) rest (All-own rest))
+    (rw ((eq_by_cmp_equiv endpoint_order-total).refl membership.endpoint) refl, All-more membership.endpoint (endpoints_of rest) rest (All-own rest))
 
-All-ascending : (endpoints : List Tunnel) (rows : List Membership) → AllByRecursion (λ membership. has tunnel_order endpoints membership.endpoint ≡ true) rows
-    → AllByRecursion (λ membership. has tunnel_order (ascending tunnel_order endpoints) membership.endpoint ≡ true) rows
+All-ascending : (endpoints : List EndpointValue) (rows : List Membership) → AllByRecursion (λ membership. has endpoint_order endpoints membership.endpoint ≡ true) rows
+    → AllByRecursion (λ membership. has endpoint_order (ascending endpoint_order endpoints) membership.endpoint ≡ true) rows
 All-ascending endpoints [] each = tt
-All-ascending endpoints (membership ∷ rest) each = (has-ascending tunnel_order-total endpoints membership.endpoint ∙ each.0, All-ascending endpoints rest each.1)
+All-ascending endpoints (membership ∷ rest) each = (has-ascending endpoint_order-total endpoints membership.endpoint ∙ each.0, All-ascending endpoints rest each.1)
 
 rows-few : (limits : Limits) (rows : List Membership) → IsWithin limits rows → length rows ≤ limits.endpoints * limits.groups
 rows-few limits rows within =
-    let live = ascending tunnel_order (endpoints_of rows) in
+    let live = ascending endpoint_order (endpoints_of rows) in
     let counted = length-total live rows (All-ascending (endpoints_of rows) rows (All-own rows)) in
     let few = total-few limits.groups live rows within.groups in
     let most : live_count rows * limits.groups ≤ limits.endpoints * limits.groups = mul-le-mul within.endpoints (omega arith) in

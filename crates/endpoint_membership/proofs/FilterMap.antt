@@ -14,8 +14,8 @@ use Rattle.std.proofs.lemmas.Map.Keys.{sorted_head, sorted_tail}
 use Rattle.std.proofs.lemmas.Map.Views.{tells_apart}
 use Rattle.amt_values.specs.declared.address.Ip.{Ip}
 use Rattle.amt_values.specs.Order.{ip_order}
-use Rattle.amt_values.specs.Tunnel.{Tunnel}
-use Rattle.amt_values.proofs.Orders.{ip_order-exact, ip_order-total, tunnel_order-total}
+use Rattle.amt_values.specs.EndpointValue.{EndpointValue}
+use Rattle.amt_values.proofs.Orders.{ip_order-exact, ip_order-total, endpoint_order-total}
 use Rattle.source_filter.specs.Filter.{FilterValue}
 use Rattle.contract_words.specs.Ascending.{IsAscending}
 use Rattle.source_filter.specs.declared.record.Record.{Record}
@@ -33,14 +33,14 @@ use Rattle.endpoint_membership.proofs.EndpointGroupOrder.{membership_order-total
 pub same_group-back : (one other : Ip) → same_group one other ≡ same_group other one
 same_group-back one other = (eq_by_cmp_equiv ip_order-total).symm one other
 
-abbrev endpoint_group : Tunnel → Ip → EndpointGroup
+abbrev endpoint_group : EndpointValue → Ip → EndpointGroup
 endpoint_group endpoint group = record { endpoint = endpoint; group = group }
 
-abbrev pub made : Tunnel → Ip → FilterValue → ℕ → Membership
+abbrev pub made : EndpointValue → Ip → FilterValue → ℕ → Membership
 made endpoint group filter renewed = record { endpoint = endpoint; group = group; filter = filter; renewed = renewed }
 
-same_endpoint-back : (one other : Tunnel) → same_endpoint one other ≡ same_endpoint other one
-same_endpoint-back one other = (eq_by_cmp_equiv tunnel_order-total).symm one other
+same_endpoint-back : (one other : EndpointValue) → same_endpoint one other ≡ same_endpoint other one
+same_endpoint-back one other = (eq_by_cmp_equiv endpoint_order-total).symm one other
 
 or_none : (found : Option Membership) → option_or found None ≡ found
 or_none None = refl
@@ -55,13 +55,13 @@ only_false true = refl
 only_false false = refl
 
 -- one more filter makes one more membership, or none
-pub one_more_membership : (endpoint : Tunnel) (done : List (Ip × RenewedFilter)) (group : Ip) (renewed_filter : RenewedFilter) (rows more : List Membership) → wants_any renewed_filter.filter ≡ true → rows ≡ filter_map (membership_of_entry endpoint) done
+pub one_more_membership : (endpoint : EndpointValue) (done : List (Ip × RenewedFilter)) (group : Ip) (renewed_filter : RenewedFilter) (rows more : List Membership) → wants_any renewed_filter.filter ≡ true → rows ≡ filter_map (membership_of_entry endpoint) done
     → more ≡ rows ++ made endpoint group renewed_filter.filter renewed_filter.renewed ∷ [] → more ≡ filter_map (membership_of_entry endpoint) (done ++ (group, renewed_filter) ∷ [])
 one_more_membership endpoint done group renewed_filter rows more stands so_far pushed =
     pushed ∙ ap (λ (before : List Membership). before ++ made endpoint group renewed_filter.filter renewed_filter.renewed ∷ []) so_far
     ∙ sym (filter_map-append (membership_of_entry endpoint) done ((group, renewed_filter) ∷ []) ∙ rw stands refl)
 
-pub no_more_memberships : (endpoint : Tunnel) (done : List (Ip × RenewedFilter)) (group : Ip) (renewed_filter : RenewedFilter) (rows : List Membership) → wants_any renewed_filter.filter ≡ false → rows ≡ filter_map (membership_of_entry endpoint) done
+pub no_more_memberships : (endpoint : EndpointValue) (done : List (Ip × RenewedFilter)) (group : Ip) (renewed_filter : RenewedFilter) (rows : List Membership) → wants_any renewed_filter.filter ≡ false → rows ≡ filter_map (membership_of_entry endpoint) done
     → rows ≡ filter_map (membership_of_entry endpoint) (done ++ (group, renewed_filter) ∷ [])
 no_more_memberships endpoint done group renewed_filter rows falls so_far =
     so_far ∙ sym (filter_map-append (membership_of_entry endpoint) done ((group, renewed_filter) ∷ []) ∙ rw falls (append-nil (filter_map (membership_of_entry endpoint) done)))
@@ -109,7 +109,7 @@ reordered true false f = only_false f
 reordered false g f = refl
 
 -- what is wanted with one membership more
-pub one_more_filter : (lifetime moment : ℕ) (endpoint : Tunnel) (xs : List Membership) (membership : Membership) (group : Ip) → IsAscending membership_order (xs ++ membership ∷ [])
+pub one_more_filter : (lifetime moment : ℕ) (endpoint : EndpointValue) (xs : List Membership) (membership : Membership) (group : Ip) → IsAscending membership_order (xs ++ membership ∷ [])
     → renewed_filter_of (only (is_fresh lifetime moment) (membership_in (xs ++ membership ∷ []) (endpoint_group endpoint group)))
     ≡ cond (is_own lifetime moment endpoint membership && same_group membership.group group) (renewed_filter_of (Some membership)) (renewed_filter_of (only (is_fresh lifetime moment) (membership_in xs (endpoint_group endpoint group))))
 one_more_filter lifetime moment endpoint xs membership group ascends =
@@ -126,7 +126,7 @@ one_more_filter lifetime moment endpoint xs membership group ascends =
     ∙ reordered (same_endpoint membership.endpoint endpoint) (same_group membership.group group) fresh)
 
 -- the filters of memberships after one membership more, of the endpoint or not
-pub more_found : (lifetime moment : ℕ) (endpoint : Tunnel) (xs : List Membership) (membership : Membership) (group : Ip) (before after : Option RenewedFilter) (own : Bool)
+pub more_found : (lifetime moment : ℕ) (endpoint : EndpointValue) (xs : List Membership) (membership : Membership) (group : Ip) (before after : Option RenewedFilter) (own : Bool)
     → IsAscending membership_order (xs ++ membership ∷ []) → is_own lifetime moment endpoint membership ≡ own
     → before ≡ renewed_filter_of (only (is_fresh lifetime moment) (membership_in xs (endpoint_group endpoint group)))
     → after ≡ cond (own && same_group membership.group group) (renewed_filter_of (Some membership)) before
@@ -162,24 +162,24 @@ pub put_back : (same : Bool) (renewed_filter absent before : Option RenewedFilte
 put_back true renewed_filter absent before = refl
 put_back false renewed_filter absent before = refl
 
-its_endpoint_group : (endpoint : Tunnel) (entry : Ip × RenewedFilter) (membership : Membership) → membership_of_entry endpoint entry ≡ Some membership → endpoint_group_of membership ≡ endpoint_group endpoint entry.0
+its_endpoint_group : (endpoint : EndpointValue) (entry : Ip × RenewedFilter) (membership : Membership) → membership_of_entry endpoint entry ≡ Some membership → endpoint_group_of membership ≡ endpoint_group endpoint entry.0
 its_endpoint_group endpoint entry membership given =
     ap endpoint_group_of (sym (membership_by (wants_any entry.1.filter) (made endpoint entry.0 entry.1.filter entry.1.renewed) membership given))
 
-AreOf-cons_option : (endpoint : Tunnel) (one : Option Membership) (rest : List Membership) → ((membership : Membership) → one ≡ Some membership → membership.endpoint ≡ endpoint) → AreOf endpoint rest → AreOf endpoint (cons_option one rest)
+AreOf-cons_option : (endpoint : EndpointValue) (one : Option Membership) (rest : List Membership) → ((membership : Membership) → one ≡ Some membership → membership.endpoint ≡ endpoint) → AreOf endpoint rest → AreOf endpoint (cons_option one rest)
 AreOf-cons_option endpoint None rest its of = of
-AreOf-cons_option endpoint (Some membership) rest its of = (ap (λ (one : Tunnel). same_endpoint one endpoint) (its membership refl) ∙ ap is_eq (tied_itself tunnel_order-total endpoint), of)
+AreOf-cons_option endpoint (Some membership) rest its of = (ap (λ (one : EndpointValue). same_endpoint one endpoint) (its membership refl) ∙ ap is_eq (tied_itself endpoint_order-total endpoint), of)
 
-pub AreOf-filters : (endpoint : Tunnel) (entries : List (Ip × RenewedFilter)) → AreOf endpoint (filter_map (membership_of_entry endpoint) entries)
+pub AreOf-filters : (endpoint : EndpointValue) (entries : List (Ip × RenewedFilter)) → AreOf endpoint (filter_map (membership_of_entry endpoint) entries)
 AreOf-filters endpoint [] = tt
 AreOf-filters endpoint (entry ∷ rest) =
     AreOf-cons_option endpoint (membership_of_entry endpoint entry) (filter_map (membership_of_entry endpoint) rest)
     (λ membership given. ap (λ (at : EndpointGroup). at.endpoint) (its_endpoint_group endpoint entry membership given)) (AreOf-filters endpoint rest)
 
-endpoint_group_by_group : (endpoint : Tunnel) (one other : Ip) → endpoint_group_order (endpoint_group endpoint one) (endpoint_group endpoint other) ≡ ip_order one other
-endpoint_group_by_group endpoint one other = rw (tied_itself tunnel_order-total endpoint) refl
+endpoint_group_by_group : (endpoint : EndpointValue) (one other : Ip) → endpoint_group_order (endpoint_group endpoint one) (endpoint_group endpoint other) ≡ ip_order one other
+endpoint_group_by_group endpoint one other = rw (tied_itself endpoint_order-total endpoint) refl
 
-AreAfter-filters : (endpoint : Tunnel) (group : Ip) (entries : List (Ip × RenewedFilter)) → AllByRecursion (λ later. ip_order group later ≡ Less) (keys_of entries)
+AreAfter-filters : (endpoint : EndpointValue) (group : Ip) (entries : List (Ip × RenewedFilter)) → AllByRecursion (λ later. ip_order group later ≡ Less) (keys_of entries)
     → AreAfter (endpoint_group endpoint group) (filter_map (membership_of_entry endpoint) entries)
 AreAfter-filters endpoint group [] before = tt
 AreAfter-filters endpoint group (entry ∷ rest) before =
@@ -187,14 +187,14 @@ AreAfter-filters endpoint group (entry ∷ rest) before =
     (endpoint_group_by_group endpoint group entry.0 ∙ before.0) (AreAfter-filters endpoint group rest before.1)
 
 -- the memberships of a map's filters ascend
-pub IsAscending-filters : (endpoint : Tunnel) (entries : List (Ip × RenewedFilter)) → IsStrictlySortedBy ip_order (keys_of entries) → IsAscending membership_order (filter_map (membership_of_entry endpoint) entries)
+pub IsAscending-filters : (endpoint : EndpointValue) (entries : List (Ip × RenewedFilter)) → IsStrictlySortedBy ip_order (keys_of entries) → IsAscending membership_order (filter_map (membership_of_entry endpoint) entries)
 unfolding IsStrictlySortedBy
 IsAscending-filters endpoint [] sorted = tt
 IsAscending-filters endpoint (entry ∷ rest) sorted =
     IsAscending-cons_option (endpoint_group endpoint entry.0) (membership_of_entry endpoint entry) (filter_map (membership_of_entry endpoint) rest) (its_endpoint_group endpoint entry)
     (AreAfter-filters endpoint entry.0 rest sorted.0) (IsAscending-filters endpoint rest sorted.1)
 
-renewed_found : (here : Bool) (endpoint : Tunnel) (group key : Ip) (renewed_filter : RenewedFilter) (later : Option RenewedFilter) (rest : Option Membership) → (here ≡ true → group ≡ key) → (here ≡ true → rest ≡ None)
+renewed_found : (here : Bool) (endpoint : EndpointValue) (group key : Ip) (renewed_filter : RenewedFilter) (later : Option RenewedFilter) (rest : Option Membership) → (here ≡ true → group ≡ key) → (here ≡ true → rest ≡ None)
     → rest ≡ membership_of_renewed endpoint group later
     → cond here (option_or (membership_of_entry endpoint (key, renewed_filter)) rest) rest ≡ membership_of_renewed endpoint group (cond here (Some renewed_filter) later)
 renewed_found true endpoint group key renewed_filter later rest same none is =
@@ -202,7 +202,7 @@ renewed_found true endpoint group key renewed_filter later rest same none is =
 renewed_found false endpoint group key renewed_filter later rest same none is = is
 
 -- the membership of a group is what its filter makes
-pub membership_in-filters : (endpoint : Tunnel) (entries : List (Ip × RenewedFilter)) (group : Ip) → IsStrictlySortedBy ip_order (keys_of entries)
+pub membership_in-filters : (endpoint : EndpointValue) (entries : List (Ip × RenewedFilter)) (group : Ip) → IsStrictlySortedBy ip_order (keys_of entries)
     → membership_in (filter_map (membership_of_entry endpoint) entries) (endpoint_group endpoint group) ≡ membership_of_renewed endpoint group (lookup (is_at (ip_order group)) entries)
 membership_in-filters endpoint [] group sorted = refl
 membership_in-filters endpoint (entry ∷ rest) group sorted =

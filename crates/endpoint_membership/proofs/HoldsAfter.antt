@@ -2,7 +2,7 @@
 use Rattle.std.proofs.Common.{◌≤◌, ◌≡◌, ℕ, ◌<◌, max, List, [], ◌∷◌, ◌++◌, reverse, filter, Some, None, refl, sym, ap, subst, ◌∙◌, arith}
 use Rattle.std.specs.List.Sorted.{IsStrictlySortedBy}
 use Rattle.std.proofs.lemmas.List.{reverse-append}
-use Rattle.amt_values.specs.Tunnel.{Tunnel}
+use Rattle.amt_values.specs.EndpointValue.{EndpointValue}
 use Rattle.contract_words.specs.Ascending.{IsAscending}
 use Rattle.source_filter.specs.declared.record.Record.{Record}
 use Rattle.endpoint_membership.specs.declared.change.Change.{Change}
@@ -82,7 +82,7 @@ Holds-mark settings table log at moment rows is fresh holds =
     (subst (AreMembershipsAt settings.lifetime (latest (Mark at ∷ reverse log)) (reverse log)) (sym fresh) (fresh_rows settings table log (Mark at) moment holds is)))
 
 -- an endpoint leaves every group
-pub Holds-clear : (settings : TableSettings) (table : TableValue) (log : List Change) (endpoint : Tunnel) (at moment : ℕ) (fresh rows : List Membership) → moment ≡ max table.moment at
+pub Holds-clear : (settings : TableSettings) (table : TableValue) (log : List Change) (endpoint : EndpointValue) (at moment : ℕ) (fresh rows : List Membership) → moment ≡ max table.moment at
     → fresh ≡ filter (is_fresh table.lifetime moment) table.rows → rows ≡ filter (is_of_another endpoint) fresh
     → Holds settings table log → Holds settings (table_of moment table.limits table.lifetime rows) (log ++ Clear endpoint at ∷ [])
 Holds-clear settings table log endpoint at moment fresh rows is left gone holds =
@@ -112,7 +112,7 @@ unfolding IsStrictlySortedBy
 IsAscending-none = tt
 
 -- a report, with the memberships that its records leave in the place of the endpoint's
-pub Holds-report : (settings : TableSettings) (table : TableValue) (log : List Change) (endpoint : Tunnel) (records : List Record) (at moment : ℕ) (own rows : List Membership) → 0 < table.lifetime
+pub Holds-report : (settings : TableSettings) (table : TableValue) (log : List Change) (endpoint : EndpointValue) (records : List Record) (at moment : ℕ) (own rows : List Membership) → 0 < table.lifetime
     → moment ≡ max table.moment at → AreOwn table.lifetime moment endpoint records table.rows own → rows ≡ replaced table.lifetime moment endpoint table.rows own
     → Holds settings table log → Holds settings (table_of moment table.limits table.lifetime rows) (log ++ Reported endpoint records at ∷ [])
 Holds-report settings table log endpoint records at moment own rows some is owned put holds =
@@ -130,7 +130,7 @@ Holds-report settings table log endpoint records at moment own rows some is owne
     (AreMembershipsAt-reported settings.lifetime (latest log) at endpoint records past table.rows own (omega arith) (omega arith) holds.rows owned_here))
 
 -- the limit that a report passes is found by the memberships that there are with it
-pub passed_is : (settings : TableSettings) (table : TableValue) (log : List Change) (endpoint : Tunnel) (records : List Record) (at : ℕ) → Holds settings table (log ++ Reported endpoint records at ∷ [])
+pub passed_is : (settings : TableSettings) (table : TableValue) (log : List Change) (endpoint : EndpointValue) (records : List Record) (at : ℕ) → Holds settings table (log ++ Reported endpoint records at ∷ [])
     → limit_passed settings log endpoint records at ≡ first_limit table.limits endpoint records table.rows
 passed_is settings table log endpoint records at holds =
     let entries = log ++ Reported endpoint records at ∷ [] in
@@ -144,7 +144,7 @@ IsWithin-log settings table log holds within =
     (subst (λ (limits : Limits). IsWithin limits table.rows) holds.limits within)
 
 -- where a limit is passed, the memberships with the report aren't within the limits
-pub unfit : (settings : TableSettings) (log : List Change) (endpoint : Tunnel) (records : List Record) (at : ℕ) (fault : LimitFault) → limit_passed settings log endpoint records at ≡ Some fault
+pub unfit : (settings : TableSettings) (log : List Change) (endpoint : EndpointValue) (records : List Record) (at : ℕ) (fault : LimitFault) → limit_passed settings log endpoint records at ≡ Some fault
     → IsWithin settings.limits (memberships_now settings (log ++ Reported endpoint records at ∷ [])) → ⊥
 unfit settings log endpoint records at fault passed within =
     let none = none_passed settings.limits endpoint records (memberships_now settings (log ++ Reported endpoint records at ∷ [])) within in

@@ -1,7 +1,7 @@
 -- The first limit in the order of the conditions is that of the first membership that is too wide, or of the numbers.
 use Rattle.std.proofs.Common.{◌≡◌, List, Option, ap, ◌∙◌}
 use Rattle.std.specs.List.{find}
-use Rattle.amt_values.specs.Tunnel.{Tunnel}
+use Rattle.amt_values.specs.EndpointValue.{EndpointValue}
 use Rattle.contract_words.specs.Conditions.{first_holding, first_of}
 use Rattle.contract_words.proofs.ConditionLaws.{first_holding-append, first_holding-map}
 use Rattle.source_filter.specs.declared.record.Record.{Record}
@@ -11,7 +11,7 @@ use Rattle.endpoint_membership.specs.EndpointMemberships.{limit_by, width_fault}
 use Rattle.endpoint_membership.specs.Limits.{count_conditions, first_limit, group_count, is_too_wide, live_count, width_conditions}
 use Rattle.endpoint_membership.specs.Membership.{Membership}
 
-pub first_limit-by : (limits : Limits) (endpoint : Tunnel) (records : List Record) (rows : List Membership)
+pub first_limit-by : (limits : Limits) (endpoint : EndpointValue) (records : List Record) (rows : List Membership)
     → first_limit limits endpoint records rows ≡ limit_by limits (group_count endpoint rows) (live_count rows) (find (is_too_wide limits endpoint records) rows)
 first_limit-by limits endpoint records rows =
     let counts = count_conditions limits (group_count endpoint rows) (live_count rows) in

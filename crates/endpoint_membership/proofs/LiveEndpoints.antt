@@ -9,9 +9,9 @@ use Rattle.std.proofs.lemmas.Cmp.{tied_itself}
 use Rattle.std.proofs.lemmas.List.{append-nil, map-append}
 use Rattle.std.proofs.lemmas.List.Elements.{filter-append}
 use Rattle.std.proofs.lemmas.Map.Keys.{sorted_head, sorted_tail}
-use Rattle.amt_values.specs.Order.{ip_order, tunnel_order}
-use Rattle.amt_values.specs.Tunnel.{Tunnel}
-use Rattle.amt_values.proofs.Orders.{tunnel_order-exact, tunnel_order-total}
+use Rattle.amt_values.specs.Order.{ip_order, endpoint_order}
+use Rattle.amt_values.specs.EndpointValue.{EndpointValue}
+use Rattle.amt_values.proofs.Orders.{endpoint_order-exact, endpoint_order-total}
 use Rattle.contract_words.specs.Ascending.{IsAscending, has, placed, ascending}
 use Rattle.contract_words.proofs.AscendingLaws.{IsAscending-filter, IsAscending-placed, IsAscending-ascending, has-append, has-placed, has-ascending, same_ascending}
 use Rattle.endpoint_membership.specs.Membership.{Membership, membership_order}
@@ -23,16 +23,16 @@ use Rattle.endpoint_membership.proofs.AfterEntries.{same_back, same_endpoint-exa
 
 pub last_of-push : (rows : List Membership) (membership : Membership) → last_of (rows ++ membership ∷ []) ≡ Some membership.endpoint
 last_of-push [] membership = refl
-last_of-push (first ∷ rows) membership = ap (λ (last : Option Tunnel). option_or last (Some first.endpoint)) (last_of-push rows membership)
+last_of-push (first ∷ rows) membership = ap (λ (last : Option EndpointValue). option_or last (Some first.endpoint)) (last_of-push rows membership)
 
 -- nothing lies between two memberships of one endpoint but its memberships
-between_by : (first second : Ordering) (one two three : Membership) → tunnel_order one.endpoint two.endpoint ≡ first → tunnel_order two.endpoint three.endpoint ≡ second
+between_by : (first second : Ordering) (one two three : Membership) → endpoint_order one.endpoint two.endpoint ≡ first → endpoint_order two.endpoint three.endpoint ≡ second
     → membership_order one two ≡ Less → membership_order two three ≡ Less → one.endpoint ≡ three.endpoint → two.endpoint ≡ three.endpoint
-between_by Equal second one two three is goes before after same = sym (tunnel_order-exact one.endpoint two.endpoint is) ∙ same
-between_by Less Equal one two three is goes before after same = tunnel_order-exact two.endpoint three.endpoint goes
+between_by Equal second one two three is goes before after same = sym (endpoint_order-exact one.endpoint two.endpoint is) ∙ same
+between_by Less Equal one two three is goes before after same = endpoint_order-exact two.endpoint three.endpoint goes
 between_by Less Less one two three is goes before after same =
-    let onward = tunnel_order-total.trans one.endpoint two.endpoint three.endpoint is goes in
-    let tied = ap (tunnel_order one.endpoint) (sym same) ∙ tied_itself tunnel_order-total one.endpoint in
+    let onward = endpoint_order-total.trans one.endpoint two.endpoint three.endpoint is goes in
+    let tied = ap (endpoint_order one.endpoint) (sym same) ∙ tied_itself endpoint_order-total one.endpoint in
     absurd cc
 between_by Less Greater one two three is goes before after same = let wrong = ap (λ (o : Ordering). ordering_then o (ip_order two.group three.group)) (sym goes) ∙ after in absurd cc
 between_by Greater second one two three is goes before after same = let wrong = ap (λ (o : Ordering). ordering_then o (ip_order one.group two.group)) (sym is) ∙ before in absurd cc
@@ -41,7 +41,7 @@ last_in : (P : Membership → Type 0) (rows : List Membership) (membership : Mem
 last_in P [] membership each = each.0
 last_in P (first ∷ rows) membership each = last_in P rows membership each.1
 
-ends_same : (last : Option Tunnel) (first endpoint : Tunnel) → ends_with last endpoint ≡ true → ends_with (option_or last (Some first)) endpoint ≡ true
+ends_same : (last : Option EndpointValue) (first endpoint : EndpointValue) → ends_with last endpoint ≡ true → ends_with (option_or last (Some first)) endpoint ≡ true
 ends_same None first endpoint ends = cc
 ends_same (Some last) first endpoint ends = ends
 
@@ -50,21 +50,21 @@ either_true true b either = λ no. cc
 either_true false b either = λ no. either
 
 seen_last_by : (here : Bool) (first membership : Membership) (rows : List Membership) → same_endpoint membership.endpoint first.endpoint ≡ here
-    → IsAscending membership_order (first ∷ (rows ++ membership ∷ [])) → has tunnel_order (endpoints_of (first ∷ rows)) membership.endpoint ≡ true
-    → (has tunnel_order (endpoints_of rows) membership.endpoint ≡ true → ends_with (last_of rows) membership.endpoint ≡ true) → ends_with (last_of (first ∷ rows)) membership.endpoint ≡ true
+    → IsAscending membership_order (first ∷ (rows ++ membership ∷ [])) → has endpoint_order (endpoints_of (first ∷ rows)) membership.endpoint ≡ true
+    → (has endpoint_order (endpoints_of rows) membership.endpoint ≡ true → ends_with (last_of rows) membership.endpoint ≡ true) → ends_with (last_of (first ∷ rows)) membership.endpoint ≡ true
 seen_last_by false first membership rows is ascends seen onward =
-    ends_same (last_of rows) first.endpoint membership.endpoint (onward (either_true (same_endpoint membership.endpoint first.endpoint) (has tunnel_order (endpoints_of rows) membership.endpoint) seen is))
+    ends_same (last_of rows) first.endpoint membership.endpoint (onward (either_true (same_endpoint membership.endpoint first.endpoint) (has endpoint_order (endpoints_of rows) membership.endpoint) seen is))
 seen_last_by true first membership [] is ascends seen onward = same_back first.endpoint membership.endpoint ∙ is
 seen_last_by true first membership (second ∷ rows) is ascends seen onward =
     let after = sorted_head membership_order first (second ∷ rows ++ membership ∷ []) ascends in
     let before = last_in (λ (later : Membership). membership_order second later ≡ Less) rows membership (sorted_head membership_order second (rows ++ membership ∷ []) (sorted_tail membership_order first (second ∷ rows ++ membership ∷ []) ascends)) in
-    let same = between_by (tunnel_order first.endpoint second.endpoint) (tunnel_order second.endpoint membership.endpoint) first second membership refl refl after.0 before
+    let same = between_by (endpoint_order first.endpoint second.endpoint) (endpoint_order second.endpoint membership.endpoint) first second membership refl refl after.0 before
     (sym (same_endpoint-exact membership.endpoint first.endpoint is)) in
-    let here : same_endpoint membership.endpoint second.endpoint ≡ true = ap (same_endpoint membership.endpoint) same ∙ ap is_eq (tied_itself tunnel_order-total membership.endpoint) in
+    let here : same_endpoint membership.endpoint second.endpoint ≡ true = ap (same_endpoint membership.endpoint) same ∙ ap is_eq (tied_itself endpoint_order-total membership.endpoint) in
     ends_same (last_of (second ∷ rows)) first.endpoint membership.endpoint (onward (rw here refl))
 
 -- an endpoint that was seen is that of the last membership
-seen_last : (rows : List Membership) (membership : Membership) → IsAscending membership_order (rows ++ membership ∷ []) → has tunnel_order (endpoints_of rows) membership.endpoint ≡ true → ends_with (last_of rows) membership.endpoint ≡ true
+seen_last : (rows : List Membership) (membership : Membership) → IsAscending membership_order (rows ++ membership ∷ []) → has endpoint_order (endpoints_of rows) membership.endpoint ≡ true → ends_with (last_of rows) membership.endpoint ≡ true
 seen_last [] membership ascends seen = cc
 seen_last (first ∷ rows) membership ascends seen =
     seen_last_by (same_endpoint membership.endpoint first.endpoint) first membership rows refl ascends seen (seen_last rows membership (sorted_tail membership_order first (rows ++ membership ∷ []) ascends))
@@ -73,15 +73,15 @@ or_true : (a : Bool) → (a || true) ≡ true
 or_true true = refl
 or_true false = refl
 
-last_seen_by : (last : Option Tunnel) (first endpoint : Tunnel) (more : Bool) → (ends_with last endpoint ≡ true → more ≡ true) → ends_with (option_or last (Some first)) endpoint ≡ true
+last_seen_by : (last : Option EndpointValue) (first endpoint : EndpointValue) (more : Bool) → (ends_with last endpoint ≡ true → more ≡ true) → ends_with (option_or last (Some first)) endpoint ≡ true
     → (same_endpoint endpoint first || more) ≡ true
 last_seen_by None first endpoint more onward ends = rw (same_back endpoint first, ends) refl
 last_seen_by (Some last) first endpoint more onward ends = rw (onward ends) (or_true (same_endpoint endpoint first))
 
 -- the endpoint of the last membership was seen
-last_seen : (rows : List Membership) (endpoint : Tunnel) → ends_with (last_of rows) endpoint ≡ true → has tunnel_order (endpoints_of rows) endpoint ≡ true
+last_seen : (rows : List Membership) (endpoint : EndpointValue) → ends_with (last_of rows) endpoint ≡ true → has endpoint_order (endpoints_of rows) endpoint ≡ true
 last_seen [] endpoint ends = cc
-last_seen (first ∷ rows) endpoint ends = last_seen_by (last_of rows) first.endpoint endpoint (has tunnel_order (endpoints_of rows) endpoint) (last_seen rows endpoint) ends
+last_seen (first ∷ rows) endpoint ends = last_seen_by (last_of rows) first.endpoint endpoint (has endpoint_order (endpoints_of rows) endpoint) (last_seen rows endpoint) ends
 
 same_test : (a b : Bool) → (a ≡ true → b ≡ true) → (b ≡ true → a ≡ true) → a ≡ b
 same_test true b onward back = sym (onward refl)
@@ -97,33 +97,33 @@ known : (a b : Bool) → (a ≡ true → b ≡ true) → (a || b) ≡ b
 known true b given = sym (given refl)
 known false b given = refl
 
-members : (rows : List Membership) (membership : Membership) (one : Tunnel) → has tunnel_order (endpoints_of (rows ++ membership ∷ [])) one ≡ (same_endpoint one membership.endpoint || has tunnel_order (endpoints_of rows) one)
+members : (rows : List Membership) (membership : Membership) (one : EndpointValue) → has endpoint_order (endpoints_of (rows ++ membership ∷ [])) one ≡ (same_endpoint one membership.endpoint || has endpoint_order (endpoints_of rows) one)
 members rows membership one =
-    ap (λ (all : List Tunnel). has tunnel_order all one) (map-append (λ (each : Membership). each.endpoint) rows (membership ∷ []))
-    ∙ has-append tunnel_order (endpoints_of rows) (membership.endpoint ∷ []) one
-    ∙ moved (has tunnel_order (endpoints_of rows) one) (same_endpoint one membership.endpoint)
+    ap (λ (all : List EndpointValue). has endpoint_order all one) (map-append (λ (each : Membership). each.endpoint) rows (membership ∷ []))
+    ∙ has-append endpoint_order (endpoints_of rows) (membership.endpoint ∷ []) one
+    ∙ moved (has endpoint_order (endpoints_of rows) one) (same_endpoint one membership.endpoint)
 
-counted_by : (seen : Bool) (rows : List Membership) (membership : Membership) → has tunnel_order (endpoints_of rows) membership.endpoint ≡ seen
+counted_by : (seen : Bool) (rows : List Membership) (membership : Membership) → has endpoint_order (endpoints_of rows) membership.endpoint ≡ seen
     → live_count (rows ++ membership ∷ []) ≡ live_count rows + (if seen then 0 else 1)
 counted_by true rows membership seen =
     let all = endpoints_of (rows ++ membership ∷ []) in
     let some = endpoints_of rows in
-    let same = same_ascending tunnel_order-total tunnel_order-exact (ascending tunnel_order all) (ascending tunnel_order some) (IsAscending-ascending tunnel_order-total all) (IsAscending-ascending tunnel_order-total some)
-    (λ one. has-ascending tunnel_order-total all one ∙ members rows membership one
-    ∙ known (same_endpoint one membership.endpoint) (has tunnel_order some one) (λ here. ap (has tunnel_order some) (same_endpoint-exact one membership.endpoint here) ∙ seen)
-    ∙ sym (has-ascending tunnel_order-total some one)) in
-    let whole = ap (λ (tunnels : List Tunnel). length tunnels) same in
+    let same = same_ascending endpoint_order-total endpoint_order-exact (ascending endpoint_order all) (ascending endpoint_order some) (IsAscending-ascending endpoint_order-total all) (IsAscending-ascending endpoint_order-total some)
+    (λ one. has-ascending endpoint_order-total all one ∙ members rows membership one
+    ∙ known (same_endpoint one membership.endpoint) (has endpoint_order some one) (λ here. ap (has endpoint_order some) (same_endpoint-exact one membership.endpoint here) ∙ seen)
+    ∙ sym (has-ascending endpoint_order-total some one)) in
+    let whole = ap (λ (tunnels : List EndpointValue). length tunnels) same in
     omega (arith, whole)
 counted_by false rows membership seen =
     let all = endpoints_of (rows ++ membership ∷ []) in
     let some = endpoints_of rows in
-    let same = same_ascending tunnel_order-total tunnel_order-exact (ascending tunnel_order all) (placed tunnel_order membership.endpoint (ascending tunnel_order some))
-    (IsAscending-ascending tunnel_order-total all) (IsAscending-placed tunnel_order-total membership.endpoint (ascending tunnel_order some) (IsAscending-ascending tunnel_order-total some))
-    (λ one. has-ascending tunnel_order-total all one ∙ members rows membership one
-    ∙ sym (has-placed tunnel_order-total membership.endpoint (ascending tunnel_order some) one
-    ∙ ap (λ (test : Bool). same_endpoint one membership.endpoint || test) (has-ascending tunnel_order-total some one))) in
-    let whole = ap (λ (tunnels : List Tunnel). length tunnels) same in
-    let longer = length-placed_new membership.endpoint (ascending tunnel_order some) (has-ascending tunnel_order-total some membership.endpoint ∙ seen) in
+    let same = same_ascending endpoint_order-total endpoint_order-exact (ascending endpoint_order all) (placed endpoint_order membership.endpoint (ascending endpoint_order some))
+    (IsAscending-ascending endpoint_order-total all) (IsAscending-placed endpoint_order-total membership.endpoint (ascending endpoint_order some) (IsAscending-ascending endpoint_order-total some))
+    (λ one. has-ascending endpoint_order-total all one ∙ members rows membership one
+    ∙ sym (has-placed endpoint_order-total membership.endpoint (ascending endpoint_order some) one
+    ∙ ap (λ (test : Bool). same_endpoint one membership.endpoint || test) (has-ascending endpoint_order-total some one))) in
+    let whole = ap (λ (tunnels : List EndpointValue). length tunnels) same in
+    let longer = length-placed_new membership.endpoint (ascending endpoint_order some) (has-ascending endpoint_order-total some membership.endpoint ∙ seen) in
     omega (arith, whole, longer)
 
 -- one more membership makes one more live endpoint, unless the last membership is of the same endpoint
@@ -131,7 +131,7 @@ pub live_count-push : (rows : List Membership) (membership : Membership) → IsA
     → live_count (rows ++ membership ∷ []) ≡ live_count rows + (if ends_with (last_of rows) membership.endpoint then 0 else 1)
 live_count-push rows membership ascends =
     counted_by (ends_with (last_of rows) membership.endpoint) rows membership
-    (same_test (has tunnel_order (endpoints_of rows) membership.endpoint) (ends_with (last_of rows) membership.endpoint) (seen_last rows membership ascends) (last_seen rows membership.endpoint))
+    (same_test (has endpoint_order (endpoints_of rows) membership.endpoint) (ends_with (last_of rows) membership.endpoint) (seen_last rows membership ascends) (last_seen rows membership.endpoint))
 
 pub filter-push_yes : (test : Membership → Bool) (rows : List Membership) (membership : Membership) → test membership ≡ true → filter test (rows ++ membership ∷ []) ≡ filter test rows ++ membership ∷ []
 filter-push_yes test rows membership passes = filter-append test rows (membership ∷ []) ∙ rw passes refl
@@ -140,12 +140,12 @@ pub filter-push_no : (test : Membership → Bool) (rows : List Membership) (memb
 filter-push_no test rows membership fails = filter-append test rows (membership ∷ []) ∙ rw fails (append-nil (filter test rows))
 
 -- one more membership that counts
-pub more_live : (test : Membership → Bool) (rows : List Membership) (membership : Membership) (count step : ℕ) (last : Option Tunnel) → IsAscending membership_order (rows ++ membership ∷ []) → test membership ≡ true
+pub more_live : (test : Membership → Bool) (rows : List Membership) (membership : Membership) (count step : ℕ) (last : Option EndpointValue) → IsAscending membership_order (rows ++ membership ∷ []) → test membership ≡ true
     → count ≡ live_count (filter test rows) → last ≡ last_of (filter test rows) → step ≡ (if ends_with last membership.endpoint then 0 else 1)
     → count + step ≡ live_count (filter test (rows ++ membership ∷ []))
 more_live test rows membership count step last ascends passes so_far ends is =
     let whole = filter-push_yes test rows membership passes in
     let more = live_count-push (filter test rows) membership (subst (IsAscending membership_order) whole (IsAscending-filter membership_order test (rows ++ membership ∷ []) ascends)) in
-    let stepped = is ∙ ap (λ (one : Option Tunnel). if ends_with one membership.endpoint then 0 else 1) ends in
+    let stepped = is ∙ ap (λ (one : Option EndpointValue). if ends_with one membership.endpoint then 0 else 1) ends in
     let longer = ap live_count whole in
     omega (arith, so_far, more, stepped, longer)

@@ -2,7 +2,7 @@
 use Rattle.std.proofs.Common.{◌≡◌, ℕ, ◌+◌, ◌≤◌, ◌<◌, Bool, true, false, cond, ltb, not, if◌then◌else◌, List, [], ◌∷◌, ◌++◌, reverse, filter, Option, Some, None, refl, sym, ap, ◌∙◌}
 use Rattle.std.proofs.lemmas.Grind.{reverse_onto}
 use Rattle.amt_values.specs.declared.address.Ip.{Ip}
-use Rattle.amt_values.specs.Tunnel.{Tunnel}
+use Rattle.amt_values.specs.EndpointValue.{EndpointValue}
 use Rattle.source_filter.specs.Filter.{FilterValue, nothing}
 use Rattle.source_filter.specs.declared.mode.Mode.{Mode}
 use Rattle.source_filter.specs.declared.mode.Mode.TheVariants.{Include, Exclude}
@@ -96,7 +96,7 @@ left_by true group older = refl
 left_by false group older = refl
 
 -- a cleared endpoint has no membership
-pub membership_at-clear : (lifetime at : ℕ) (endpoint : Tunnel) (past : List Change) (endpoint_group : EndpointGroup) → same_endpoint endpoint_group.endpoint endpoint ≡ true
+pub membership_at-clear : (lifetime at : ℕ) (endpoint : EndpointValue) (past : List Change) (endpoint_group : EndpointGroup) → same_endpoint endpoint_group.endpoint endpoint ≡ true
     → membership_at lifetime (latest (Clear endpoint at ∷ past)) (Clear endpoint at ∷ past) endpoint_group ≡ None
 membership_at-clear lifetime at endpoint past endpoint_group same =
     let moment = latest (Clear endpoint at ∷ past) in
@@ -114,7 +114,7 @@ nonempty-reverse : (records : List Record) → is_empty (reverse records) ≡ is
 nonempty-reverse [] = refl
 nonempty-reverse (first ∷ later) = ap is_empty (reverse_onto later first []) ∙ nonempty_end (reverse later) first
 
-reported_by : (lifetime at : ℕ) (endpoint : Tunnel) (records : List Record) (past : List Change) (endpoint_group : EndpointGroup) (on : List Record) → 0 < lifetime
+reported_by : (lifetime at : ℕ) (endpoint : EndpointValue) (records : List Record) (past : List Change) (endpoint_group : EndpointGroup) (on : List Record) → 0 < lifetime
     → on ≡ on_group endpoint_group.group records → same_endpoint endpoint_group.endpoint endpoint ≡ true
     → membership_at lifetime (latest (Reported endpoint records at ∷ past)) (Reported endpoint records at ∷ past) endpoint_group
     ≡ (if is_empty on then membership_at lifetime (latest (Reported endpoint records at ∷ past)) past endpoint_group
@@ -126,7 +126,7 @@ reported_by lifetime at endpoint records past endpoint_group (first ∷ later) s
     (rw same (ap (λ (found : List Record). not (is_empty (reverse found))) (sym is) ∙ ap not (nonempty-reverse (first ∷ later))))
 
 -- a report of the endpoint applies its records on the group, and renews it where there is one
-pub membership_at-report : (lifetime at : ℕ) (endpoint : Tunnel) (records : List Record) (past : List Change) (endpoint_group : EndpointGroup) → 0 < lifetime
+pub membership_at-report : (lifetime at : ℕ) (endpoint : EndpointValue) (records : List Record) (past : List Change) (endpoint_group : EndpointGroup) → 0 < lifetime
     → same_endpoint endpoint_group.endpoint endpoint ≡ true
     → membership_at lifetime (latest (Reported endpoint records at ∷ past)) (Reported endpoint records at ∷ past) endpoint_group
     ≡ (if is_empty (on_group endpoint_group.group records) then membership_at lifetime (latest (Reported endpoint records at ∷ past)) past endpoint_group

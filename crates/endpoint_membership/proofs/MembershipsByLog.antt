@@ -5,7 +5,7 @@ use Rattle.std.specs.List.Sorted.{IsStrictlySortedBy}
 use Rattle.std.specs.Option.{option_or}
 use Rattle.std.specs.declared.cmp.Ordering.TheVariants.{Less}
 use Rattle.std.proofs.lemmas.Bool.{cases_Bool}
-use Rattle.amt_values.specs.Tunnel.{Tunnel}
+use Rattle.amt_values.specs.EndpointValue.{EndpointValue}
 use Rattle.source_filter.specs.Filter.{FilterValue, nothing}
 use Rattle.contract_words.specs.Ascending.{IsAscending, has, ascending}
 use Rattle.source_filter.specs.declared.record.Record.{Record}
@@ -96,7 +96,7 @@ either_part : (a b : Bool) → (a || b) ≡ false → (a ≡ false) × (b ≡ fa
 either_part true b none = cc
 either_part false b none = (refl, none)
 
-on_group-none : (endpoint : Tunnel) (records : List Record) (endpoint_group : EndpointGroup) → same_endpoint endpoint_group.endpoint endpoint ≡ true → has endpoint_group_order (endpoint_groups_of endpoint records) endpoint_group ≡ false
+on_group-none : (endpoint : EndpointValue) (records : List Record) (endpoint_group : EndpointGroup) → same_endpoint endpoint_group.endpoint endpoint ≡ true → has endpoint_group_order (endpoint_groups_of endpoint records) endpoint_group ≡ false
     → on_group endpoint_group.group records ≡ []
 on_group-none endpoint [] endpoint_group same none = refl
 on_group-none endpoint (first ∷ later) endpoint_group same none =
@@ -105,7 +105,7 @@ on_group-none endpoint (first ∷ later) endpoint_group same none =
     ap (λ (test : Bool). test && same_group endpoint_group.group first.group) (sym same) ∙ sym (same_endpoint_group-is endpoint_group (record { endpoint = endpoint; group = first.group })) ∙ both.0 in
     rw apart (on_group-none endpoint later endpoint_group same both.1)
 
-records_at-none : (endpoint : Tunnel) (records : List Record) (at : ℕ) (endpoint_group : EndpointGroup) → has endpoint_group_order (endpoint_groups_of endpoint records) endpoint_group ≡ false
+records_at-none : (endpoint : EndpointValue) (records : List Record) (at : ℕ) (endpoint_group : EndpointGroup) → has endpoint_group_order (endpoint_groups_of endpoint records) endpoint_group ≡ false
     → records_at endpoint_group (Reported endpoint records at) ≡ []
 records_at-none endpoint records at endpoint_group none = elim (cases_Bool (same_endpoint endpoint_group.endpoint endpoint)) [
   | inl same ↦ rw (same, on_group-none endpoint records endpoint_group same none) refl

@@ -13,8 +13,8 @@ use Rattle.std.proofs.lemmas.Map.Made.{length-le_from_is_member}
 use Rattle.std.proofs.lemmas.Map.Views.{tells_apart}
 use Rattle.amt_values.specs.declared.address.Ip.{Ip}
 use Rattle.amt_values.specs.Order.{ip_order}
-use Rattle.amt_values.specs.Tunnel.{Tunnel}
-use Rattle.amt_values.proofs.Orders.{ip_order-total, tunnel_order-exact, tunnel_order-total}
+use Rattle.amt_values.specs.EndpointValue.{EndpointValue}
+use Rattle.amt_values.proofs.Orders.{ip_order-total, endpoint_order-exact, endpoint_order-total}
 use Rattle.source_filter.specs.Filter.{FilterValue, filter_after, sources_after}
 use Rattle.contract_words.specs.Ascending.{IsAscending, has, ascending}
 use Rattle.source_filter.specs.declared.mode.Mode.{Mode}
@@ -97,13 +97,13 @@ abbrev groups_of : List Membership → List Ip
 groups_of rows = map (λ membership. membership.group) rows
 
 -- the memberships of an endpoint
-abbrev rows_at : Tunnel → List Membership → List Membership
+abbrev rows_at : EndpointValue → List Membership → List Membership
 rows_at endpoint rows = filter (λ membership. same_endpoint membership.endpoint endpoint) rows
 
-length-groups : (endpoint : Tunnel) (rows : List Membership) → length (groups_of (rows_at endpoint rows)) ≡ group_count endpoint rows
+length-groups : (endpoint : EndpointValue) (rows : List Membership) → length (groups_of (rows_at endpoint rows)) ≡ group_count endpoint rows
 length-groups endpoint rows = length-map (rows_at endpoint rows) (λ (membership : Membership). membership.group) ∙ length-filter (λ (membership : Membership). same_endpoint membership.endpoint endpoint) rows
 
-abbrev at : Tunnel → Ip → EndpointGroup
+abbrev at : EndpointValue → Ip → EndpointGroup
 at endpoint group = record { endpoint = endpoint; group = group }
 
 found_by : (here same : Bool) (membership : Membership) (later : Option Membership) (rest : List Membership) (group : Ip) → same_group group membership.group ≡ same → is_some later ≡ has ip_order (groups_of rest) group
@@ -112,37 +112,37 @@ found_by true true membership later rest group is more = rw is refl
 found_by true false membership later rest group is more = rw is more
 found_by false same membership later rest group is more = more
 
-same_turned : (endpoint : Tunnel) (group : Ip) (membership : Membership) → same_endpoint_group (at endpoint group) (endpoint_group_of membership) ≡ (same_endpoint membership.endpoint endpoint && same_group group membership.group)
+same_turned : (endpoint : EndpointValue) (group : Ip) (membership : Membership) → same_endpoint_group (at endpoint group) (endpoint_group_of membership) ≡ (same_endpoint membership.endpoint endpoint && same_group group membership.group)
 same_turned endpoint group membership = same_endpoint_group-is (at endpoint group) (endpoint_group_of membership)
-    ∙ ap (λ (test : Bool). test && same_group group membership.group) ((eq_by_cmp_equiv tunnel_order-total).symm endpoint membership.endpoint)
+    ∙ ap (λ (test : Bool). test && same_group group membership.group) ((eq_by_cmp_equiv endpoint_order-total).symm endpoint membership.endpoint)
 
 -- a pair has a membership where its group is one of the endpoint's
-is_some-membership_in : (endpoint : Tunnel) (rows : List Membership) (group : Ip) → is_some (membership_in rows (at endpoint group)) ≡ has ip_order (groups_of (rows_at endpoint rows)) group
+is_some-membership_in : (endpoint : EndpointValue) (rows : List Membership) (group : Ip) → is_some (membership_in rows (at endpoint group)) ≡ has ip_order (groups_of (rows_at endpoint rows)) group
 is_some-membership_in endpoint [] group = refl
 is_some-membership_in endpoint (membership ∷ rest) group =
     let later = membership_in rest (at endpoint group) in
     ap (λ (test : Bool). is_some (cond test (Some membership) later)) (same_turned endpoint group membership)
     ∙ found_by (same_endpoint membership.endpoint endpoint) (same_group group membership.group) membership later (rows_at endpoint rest) group refl (is_some-membership_in endpoint rest group)
 
-rows_at-own : (endpoint : Tunnel) (own : List Membership) → AreOf endpoint own → rows_at endpoint own ≡ own
+rows_at-own : (endpoint : EndpointValue) (own : List Membership) → AreOf endpoint own → rows_at endpoint own ≡ own
 rows_at-own endpoint [] of = refl
 rows_at-own endpoint (membership ∷ own) of = rw of.0 (ap (λ (rest : List Membership). membership ∷ rest) (rows_at-own endpoint own of.1))
 
 by_group : (one other : Membership) → one.endpoint ≡ other.endpoint → membership_order one other ≡ ip_order one.group other.group
-by_group one other same = rw (same, tied_itself tunnel_order-total other.endpoint) refl
+by_group one other same = rw (same, tied_itself endpoint_order-total other.endpoint) refl
 
-above_group : (endpoint : Tunnel) (membership : Membership) (own : List Membership) → membership.endpoint ≡ endpoint → AreOf endpoint own → AllByRecursion (λ (later : Membership). membership_order membership later ≡ Less) own
+above_group : (endpoint : EndpointValue) (membership : Membership) (own : List Membership) → membership.endpoint ≡ endpoint → AreOf endpoint own → AllByRecursion (λ (later : Membership). membership_order membership later ≡ Less) own
     → AllByRecursion (λ (group : Ip). ip_order membership.group group ≡ Less) (groups_of own)
 above_group endpoint membership [] here of above = tt
 above_group endpoint membership (later ∷ own) here of above =
-    (sym (by_group membership later (here ∙ sym (tells_apart tunnel_order-exact later.endpoint endpoint of.0))) ∙ above.0, above_group endpoint membership own here of.1 above.1)
+    (sym (by_group membership later (here ∙ sym (tells_apart endpoint_order-exact later.endpoint endpoint of.0))) ∙ above.0, above_group endpoint membership own here of.1 above.1)
 
 -- the groups of an endpoint ascend with its memberships
-IsAscending-groups : (endpoint : Tunnel) (own : List Membership) → AreOf endpoint own → IsAscending membership_order own → IsAscending ip_order (groups_of own)
+IsAscending-groups : (endpoint : EndpointValue) (own : List Membership) → AreOf endpoint own → IsAscending membership_order own → IsAscending ip_order (groups_of own)
 unfolding IsStrictlySortedBy
 IsAscending-groups endpoint [] of ascends = tt
 IsAscending-groups endpoint (membership ∷ own) of ascends =
-    (above_group endpoint membership own (tells_apart tunnel_order-exact membership.endpoint endpoint of.0) of.1 ascends.0, IsAscending-groups endpoint own of.1 ascends.1)
+    (above_group endpoint membership own (tells_apart endpoint_order-exact membership.endpoint endpoint of.0) of.1 ascends.0, IsAscending-groups endpoint own of.1 ascends.1)
 
 given_by : (X : Type 0) (found : Option Membership) → is_some found ≡ true → ((membership : Membership) → found ≡ Some membership → X) → X
 given_by X None some given = cc
@@ -154,7 +154,7 @@ listed_by true was_there false some is = refl
 listed_by false was_there before some is = cc
 
 -- a group of the memberships after a report was one of the endpoint's, or a record is on it
-there_or_reported : (endpoint : Tunnel) (records : List Record) (rows own : List Membership) → AreOf endpoint own
+there_or_reported : (endpoint : EndpointValue) (records : List Record) (rows own : List Membership) → AreOf endpoint own
     → ((group : Ip) (membership : Membership) → membership_in own (at endpoint group) ≡ Some membership
     → (has ip_order (map (λ (one : Record). one.group) records) group || is_some (membership_in rows (at endpoint group))) ≡ true)
     → (group : Ip) → has ip_order (groups_of own) group ≡ true → has ip_order (groups_of (rows_at endpoint rows) ++ map (λ (one : Record). one.group) records) group ≡ true
@@ -166,7 +166,7 @@ there_or_reported endpoint records rows own of each group stands =
     ∙ listed_by (has ip_order reported group) (is_some (membership_in rows (at endpoint group))) (has ip_order was_there group) (each group membership is) (is_some-membership_in endpoint rows group))
 
 -- a report brings at most a group for each record
-pub few_groups : (endpoint : Tunnel) (records : List Record) (rows own : List Membership) → IsAscending membership_order rows → IsAscending membership_order own → AreOf endpoint own
+pub few_groups : (endpoint : EndpointValue) (records : List Record) (rows own : List Membership) → IsAscending membership_order rows → IsAscending membership_order own → AreOf endpoint own
     → ((group : Ip) (membership : Membership) → membership_in own (record { endpoint = endpoint; group = group }) ≡ Some membership
     → (has ip_order (map (λ (one : Record). one.group) records) group || is_some (membership_in rows (record { endpoint = endpoint; group = group }))) ≡ true)
     → length own ≤ group_count endpoint rows + length records

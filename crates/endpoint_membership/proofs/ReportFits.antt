@@ -7,8 +7,8 @@ use Rattle.std.proofs.lemmas.Cmp.{tied_itself}
 use Rattle.std.proofs.lemmas.Map.Views.{tells_apart}
 use Rattle.amt_values.specs.declared.address.Ip.{Ip}
 use Rattle.amt_values.specs.Order.{ip_order}
-use Rattle.amt_values.specs.Tunnel.{Tunnel}
-use Rattle.amt_values.proofs.Orders.{tunnel_order-exact, tunnel_order-total}
+use Rattle.amt_values.specs.EndpointValue.{EndpointValue}
+use Rattle.amt_values.proofs.Orders.{endpoint_order-exact, endpoint_order-total}
 use Rattle.source_filter.specs.Filter.{FilterValue}
 use Rattle.source_filter.specs.Record.{item_count}
 use Rattle.contract_words.specs.Ascending.{IsAscending, has}
@@ -35,19 +35,19 @@ use Rattle.endpoint_membership.proofs.AfterReport.{renewed_filter_after_all-is}
 use Rattle.endpoint_membership.proofs.AfterEntries.{membership_in-others, membership_in-three}
 use Rattle.endpoint_membership.proofs.WithinLimits.{IsWithin-filter, IsWithin-report, its_endpoint_group, on_none}
 
-abbrev endpoint_group : Tunnel → Ip → EndpointGroup
+abbrev endpoint_group : EndpointValue → Ip → EndpointGroup
 endpoint_group endpoint group = record { endpoint = endpoint; group = group }
 
-abbrev made : Tunnel → Ip → FilterValue → ℕ → Membership
+abbrev made : EndpointValue → Ip → FilterValue → ℕ → Membership
 made endpoint group filter renewed = record { endpoint = endpoint; group = group; filter = filter; renewed = renewed }
 
 -- the membership of a filter has its filter and its renewal
-record IsRowOf (endpoint : Tunnel) (group : Ip) (renewed_filter : Option RenewedFilter) (membership : Membership) : Type 0 where
+record IsRowOf (endpoint : EndpointValue) (group : Ip) (renewed_filter : Option RenewedFilter) (membership : Membership) : Type 0 where
   filter : membership.filter ≡ filter_or_nothing renewed_filter
   renewed : (one : RenewedFilter) → renewed_filter ≡ Some one → membership.renewed ≡ one.renewed
   some : is_some renewed_filter ≡ true
 
-row_is : (endpoint : Tunnel) (group : Ip) (renewed_filter : Option RenewedFilter) (membership : Membership) → membership_of_renewed endpoint group renewed_filter ≡ Some membership → IsRowOf endpoint group renewed_filter membership
+row_is : (endpoint : EndpointValue) (group : Ip) (renewed_filter : Option RenewedFilter) (membership : Membership) → membership_of_renewed endpoint group renewed_filter ≡ Some membership → IsRowOf endpoint group renewed_filter membership
 row_is endpoint group None membership found = cc
 row_is endpoint group (Some renewed_filter) membership found =
     let is = membership_by (wants_any renewed_filter.filter) (made endpoint group renewed_filter.filter renewed_filter.renewed) membership found in record {
@@ -57,7 +57,7 @@ row_is endpoint group (Some renewed_filter) membership found =
     }
 
 -- the membership of an old membership's filter is the old membership
-old_row : (endpoint : Tunnel) (group : Ip) (found : Option Membership) (membership : Membership) → ((one : Membership) → found ≡ Some one → endpoint_group endpoint group ≡ endpoint_group_of one)
+old_row : (endpoint : EndpointValue) (group : Ip) (found : Option Membership) (membership : Membership) → ((one : Membership) → found ≡ Some one → endpoint_group endpoint group ≡ endpoint_group_of one)
     → membership_of_renewed endpoint group (renewed_filter_of found) ≡ Some membership → found ≡ Some membership
 old_row endpoint group None membership its row = cc
 old_row endpoint group (Some one) membership its row =
@@ -78,12 +78,12 @@ only_found test None membership passed = passed
 only_found test (Some one) membership passed = ap Some (membership_by (test one) one membership passed)
 
 -- the memberships that the filters of these memberships make of a pair, old or reported
-record IsOwnRow (lifetime moment : ℕ) (endpoint : Tunnel) (records : List Record) (found : Option Membership) (group : Ip) (membership : Membership) : Type 0 where
+record IsOwnRow (lifetime moment : ℕ) (endpoint : EndpointValue) (records : List Record) (found : Option Membership) (group : Ip) (membership : Membership) : Type 0 where
   fresh : is_fresh lifetime moment membership ≡ true
   size : length membership.filter.sources ≤ length (filter_or_nothing (renewed_filter_of found)).sources + sum_by (λ (one : Record). length one.sources) (on_group group records)
   old : on_group group records ≡ [] → found ≡ Some membership
 
-own_row_by : (lifetime moment : ℕ) (endpoint : Tunnel) (records : List Record) (rows : List Membership) (group : Ip) (membership : Membership) (on : List Record) → 0 < lifetime
+own_row_by : (lifetime moment : ℕ) (endpoint : EndpointValue) (records : List Record) (rows : List Membership) (group : Ip) (membership : Membership) (on : List Record) → 0 < lifetime
     → on ≡ on_group group records → membership_of_renewed endpoint group (renewed_filter_after_all moment on (renewed_filter_of (only (is_fresh lifetime moment) (membership_in rows (endpoint_group endpoint group))))) ≡ Some membership
     → IsOwnRow lifetime moment endpoint records (only (is_fresh lifetime moment) (membership_in rows (endpoint_group endpoint group))) group membership
 own_row_by lifetime moment endpoint records rows group membership [] some on row =
@@ -109,26 +109,26 @@ own_row_by lifetime moment endpoint records rows group membership (first ∷ lat
       old = λ none. let wrong = on ∙ none in absurd cc;
     }
 
-own_row : (lifetime moment : ℕ) (endpoint : Tunnel) (records : List Record) (rows own : List Membership) (group : Ip) (membership : Membership) → 0 < lifetime → AreOwn lifetime moment endpoint records rows own
+own_row : (lifetime moment : ℕ) (endpoint : EndpointValue) (records : List Record) (rows own : List Membership) (group : Ip) (membership : Membership) → 0 < lifetime → AreOwn lifetime moment endpoint records rows own
     → membership_in own (endpoint_group endpoint group) ≡ Some membership → IsOwnRow lifetime moment endpoint records (only (is_fresh lifetime moment) (membership_in rows (endpoint_group endpoint group))) group membership
 own_row lifetime moment endpoint records rows own group membership some owned found =
     own_row_by lifetime moment endpoint records rows group membership (on_group group records) some refl (sym (owned.each group) ∙ found)
 
-abbrev pub replaced : ℕ → ℕ → Tunnel → List Membership → List Membership → List Membership
+abbrev pub replaced : ℕ → ℕ → EndpointValue → List Membership → List Membership → List Membership
 replaced lifetime moment endpoint rows own = filter (is_fresh lifetime moment) (earlier endpoint rows ++ (own ++ later endpoint rows))
 
-own_endpoint_group : (endpoint : Tunnel) (own : List Membership) (at : EndpointGroup) (membership : Membership) → AreOf endpoint own → membership_in own at ≡ Some membership → at ≡ endpoint_group endpoint at.group
+own_endpoint_group : (endpoint : EndpointValue) (own : List Membership) (at : EndpointGroup) (membership : Membership) → AreOf endpoint own → membership_in own at ≡ Some membership → at ≡ endpoint_group endpoint at.group
 own_endpoint_group endpoint own at membership of found =
     let here = its_endpoint_group own at membership found in
     let same = All-at (λ (one : Membership). same_endpoint one.endpoint endpoint ≡ true) own at membership of found in
-    ap (λ (one : Tunnel). endpoint_group one at.group) (ap (λ (one : EndpointGroup). one.endpoint) here ∙ tells_apart tunnel_order-exact membership.endpoint endpoint same)
+    ap (λ (one : EndpointValue). endpoint_group one at.group) (ap (λ (one : EndpointGroup). one.endpoint) here ∙ tells_apart endpoint_order-exact membership.endpoint endpoint same)
 
 filter_all : (test : Membership → Bool) (rows : List Membership) → AllByRecursion (λ membership. test membership ≡ true) rows → filter test rows ≡ rows
 filter_all test [] each = refl
 filter_all test (membership ∷ rest) each = rw each.0 (ap (λ (more : List Membership). membership ∷ more) (filter_all test rest each.1))
 
 -- all of the endpoint's memberships are fresh
-pub own_fresh : (lifetime moment : ℕ) (endpoint : Tunnel) (records : List Record) (rows own : List Membership) → 0 < lifetime → AreOwn lifetime moment endpoint records rows own
+pub own_fresh : (lifetime moment : ℕ) (endpoint : EndpointValue) (records : List Record) (rows own : List Membership) → 0 < lifetime → AreOwn lifetime moment endpoint records rows own
     → filter (is_fresh lifetime moment) own ≡ own
 own_fresh lifetime moment endpoint records rows own some owned =
     filter_all (is_fresh lifetime moment) own (All-from_membership_in (λ (membership : Membership). is_fresh lifetime moment membership ≡ true) own owned.ascends
@@ -141,7 +141,7 @@ renewed_size limits test rows at within (Some membership) is =
     All-at (λ (one : Membership). size one ≤ limits.sources) rows at membership within.sources (only_found test (membership_in rows at) membership (sym is))
 
 -- no membership of the endpoint has more sources than an old one and the report together
-pub own_sizes : (limits : Limits) (lifetime moment : ℕ) (endpoint : Tunnel) (records : List Record) (rows own : List Membership) → 0 < lifetime → AreOwn lifetime moment endpoint records rows own
+pub own_sizes : (limits : Limits) (lifetime moment : ℕ) (endpoint : EndpointValue) (records : List Record) (rows own : List Membership) → 0 < lifetime → AreOwn lifetime moment endpoint records rows own
     → IsWithin limits rows → AllByRecursion (λ membership. size membership ≤ limits.sources + item_count records) own
 own_sizes limits lifetime moment endpoint records rows own some owned within =
     All-from_membership_in (λ (membership : Membership). size membership ≤ limits.sources + item_count records) own owned.ascends
@@ -167,7 +167,7 @@ reported_or_old true old either = refl
 reported_or_old false old either = either refl
 
 -- each group of the endpoint stood before or is reported
-pub own_few : (lifetime moment : ℕ) (endpoint : Tunnel) (records : List Record) (rows own : List Membership) → 0 < lifetime → IsAscending membership_order rows → AreOwn lifetime moment endpoint records rows own
+pub own_few : (lifetime moment : ℕ) (endpoint : EndpointValue) (records : List Record) (rows own : List Membership) → 0 < lifetime → IsAscending membership_order rows → AreOwn lifetime moment endpoint records rows own
     → length own ≤ group_count endpoint rows + length records
 own_few lifetime moment endpoint records rows own some ascends owned =
     few_groups endpoint records rows own ascends owned.ascends owned.of
@@ -176,7 +176,7 @@ own_few lifetime moment endpoint records rows own some ascends owned =
     ((own_row lifetime moment endpoint records rows own group membership some owned found).old (on_none group records (sym (has-groups records group) ∙ silent))))))
 
 -- memberships within the limits stay so by a report that passes none
-pub IsWithin-replaced : (limits : Limits) (lifetime moment : ℕ) (endpoint : Tunnel) (records : List Record) (rows own : List Membership) → 0 < lifetime → IsAscending membership_order rows
+pub IsWithin-replaced : (limits : Limits) (lifetime moment : ℕ) (endpoint : EndpointValue) (records : List Record) (rows own : List Membership) → 0 < lifetime → IsAscending membership_order rows
     → AreOwn lifetime moment endpoint records rows own → IsWithin limits rows → first_limit limits endpoint records (replaced lifetime moment endpoint rows own) ≡ None
     → IsWithin limits (replaced lifetime moment endpoint rows own)
 IsWithin-replaced limits lifetime moment endpoint records rows own some ascends owned within none =
@@ -190,15 +190,15 @@ IsWithin-replaced limits lifetime moment endpoint records rows own some ascends 
     ∙ sym (membership_in-filter test rows at ascends))
     (λ group membership silent found. membership_in-filter test rows (endpoint_group endpoint group) ascends
     ∙ (own_row lifetime moment endpoint records rows own group membership some owned
-    (sym (membership_in-three endpoint (earlier endpoint rows) own (later endpoint rows) (endpoint_group endpoint group) parts.earlier parts.later (ap is_eq (tied_itself tunnel_order-total endpoint)))
+    (sym (membership_in-three endpoint (earlier endpoint rows) own (later endpoint rows) (endpoint_group endpoint group) parts.earlier parts.later (ap is_eq (tied_itself endpoint_order-total endpoint)))
     ∙ only_found test (membership_in all (endpoint_group endpoint group)) membership (sym (membership_in-filter test all (endpoint_group endpoint group) ascend) ∙ found))).old silent)
 
 -- the first limit that a report passes, as the code finds it by the endpoint's memberships
-abbrev pub limit_by_own : ℕ → ℕ → Limits → Tunnel → List Record → List Membership → List Membership → Option LimitFault
+abbrev pub limit_by_own : ℕ → ℕ → Limits → EndpointValue → List Record → List Membership → List Membership → Option LimitFault
 limit_by_own lifetime moment limits endpoint records rows own =
     limit_by limits (length own) (live_count (filter (is_counted lifetime moment (Some endpoint)) rows) + (if is_empty own then 0 else 1)) (find (is_over limits.sources records) own)
 
-pub first_limit_found : (lifetime moment : ℕ) (limits : Limits) (endpoint : Tunnel) (records : List Record) (rows own slice : List Membership) (result : Option LimitFault) → 0 < lifetime → IsAscending membership_order rows
+pub first_limit_found : (lifetime moment : ℕ) (limits : Limits) (endpoint : EndpointValue) (records : List Record) (rows own slice : List Membership) (result : Option LimitFault) → 0 < lifetime → IsAscending membership_order rows
     → AreOwn lifetime moment endpoint records rows own → slice ≡ own → result ≡ limit_by_own lifetime moment limits endpoint records rows slice
     → first_limit limits endpoint records (replaced lifetime moment endpoint rows own) ≡ result
 first_limit_found lifetime moment limits endpoint records rows own slice result some ascends owned same is =
@@ -210,14 +210,14 @@ All-below bound most [] less each = tt
 All-below bound most (membership ∷ rest) less each = (let first = each.0 in omega arith, All-below bound most rest less each.1)
 
 -- sizes and numbers that fit 32 bits, from lawful limits and a report of so many items
-pub sizes_fit : (limits : Limits) (lifetime moment : ℕ) (endpoint : Tunnel) (records : List Record) (rows own slice : List Membership) → AreLawful limits lifetime → IsWithin limits rows → item_count records ≤ 16777216
+pub sizes_fit : (limits : Limits) (lifetime moment : ℕ) (endpoint : EndpointValue) (records : List Record) (rows own slice : List Membership) → AreLawful limits lifetime → IsWithin limits rows → item_count records ≤ 16777216
     → AreOwn lifetime moment endpoint records rows own → slice ≡ own → AllByRecursion (λ membership. size membership < 2 ^ 32) slice
 sizes_fit limits lifetime moment endpoint records rows own slice lawful within items owned same =
     let most = lawful.sources in
     subst (AllByRecursion (λ (membership : Membership). size membership < 2 ^ 32)) (sym same)
     (All-below (limits.sources + item_count records) (2 ^ 32) own (omega arith) (own_sizes limits lifetime moment endpoint records rows own lawful.some_time owned within))
 
-pub groups_fit : (limits : Limits) (lifetime moment : ℕ) (endpoint : Tunnel) (records : List Record) (rows own slice : List Membership) → AreLawful limits lifetime → IsAscending membership_order rows → IsWithin limits rows
+pub groups_fit : (limits : Limits) (lifetime moment : ℕ) (endpoint : EndpointValue) (records : List Record) (rows own slice : List Membership) → AreLawful limits lifetime → IsAscending membership_order rows → IsWithin limits rows
     → item_count records ≤ 16777216 → AreOwn lifetime moment endpoint records rows own → slice ≡ own → length slice < 2 ^ 32
 groups_fit limits lifetime moment endpoint records rows own slice lawful ascends within items owned same =
     let few = own_few lifetime moment endpoint records rows own lawful.some_time ascends owned in

@@ -11,9 +11,9 @@ use Rattle.std.proofs.lemmas.List.{length-append, length-map, reverse-append}
 use Rattle.std.proofs.lemmas.List.Elements.{filter-append}
 use Rattle.std.proofs.lemmas.Map.Views.{Contains-from_any, list_any-from_Contains, tells_apart}
 use Rattle.amt_values.specs.declared.address.Ip.{Ip}
-use Rattle.amt_values.specs.Order.{ip_order, tunnel_order}
-use Rattle.amt_values.specs.Tunnel.{Tunnel}
-use Rattle.amt_values.proofs.Orders.{ip_order-exact, ip_order-total, tunnel_order-exact, tunnel_order-total}
+use Rattle.amt_values.specs.Order.{ip_order, endpoint_order}
+use Rattle.amt_values.specs.EndpointValue.{EndpointValue}
+use Rattle.amt_values.proofs.Orders.{ip_order-exact, ip_order-total, endpoint_order-exact, endpoint_order-total}
 use Rattle.source_filter.specs.Filter.{admits}
 use Rattle.contract_words.specs.Ascending.{IsAscending, has, ascending}
 use Rattle.source_filter.specs.declared.record.Record.{Record}
@@ -37,7 +37,7 @@ use Rattle.endpoint_membership.proofs.EndpointGroupOrder.{same_endpoint_group-is
 use Rattle.endpoint_membership.proofs.RowsAdmit.{admits-none, admits-row}
 use Rattle.endpoint_membership.proofs.MembershipAt.{membership_at-later}
 
-abbrev at : Tunnel → Ip → EndpointGroup
+abbrev at : EndpointValue → Ip → EndpointGroup
 at endpoint group = record { endpoint = endpoint; group = group }
 
 -- all memberships are of the group
@@ -67,24 +67,24 @@ less_by Less second tied less = refl
 less_by Equal second tied less = cc
 less_by Greater second tied less = cc
 
-less_endpoint : (group : Ip) (one other : Membership) → same_group one.group group ≡ true → same_group other.group group ≡ true → membership_order one other ≡ Less → tunnel_order one.endpoint other.endpoint ≡ Less
+less_endpoint : (group : Ip) (one other : Membership) → same_group one.group group ≡ true → same_group other.group group ≡ true → membership_order one other ≡ Less → endpoint_order one.endpoint other.endpoint ≡ Less
 less_endpoint group one other first second less =
     let same = same_group-exact one.group group first ∙ sym (same_group-exact other.group group second) in
     let tied = ap (ip_order one.group) (sym same) ∙ tied_itself ip_order-total one.group in
-    less_by (tunnel_order one.endpoint other.endpoint) (ip_order one.group other.group) tied less
+    less_by (endpoint_order one.endpoint other.endpoint) (ip_order one.group other.group) tied less
 
 less_each : (group : Ip) (one : Membership) (rows : List Membership) → same_group one.group group ≡ true → AreOn group rows → AllByRecursion (λ later. membership_order one later ≡ Less) rows
-    → AllByRecursion (λ later. tunnel_order one.endpoint later ≡ Less) (endpoints_of rows)
+    → AllByRecursion (λ later. endpoint_order one.endpoint later ≡ Less) (endpoints_of rows)
 less_each group one [] here on after = tt
 less_each group one (next ∷ rows) here on after = (less_endpoint group one next here on.0 after.0, less_each group one rows here on.1 after.1)
 
-IsAscending-endpoints : (group : Ip) (rows : List Membership) → AreOn group rows → IsAscending membership_order rows → IsAscending tunnel_order (endpoints_of rows)
+IsAscending-endpoints : (group : Ip) (rows : List Membership) → AreOn group rows → IsAscending membership_order rows → IsAscending endpoint_order (endpoints_of rows)
 unfolding IsStrictlySortedBy
 IsAscending-endpoints group [] on ascends = tt
 IsAscending-endpoints group (membership ∷ rows) on ascends = (less_each group membership rows on.0 on.1 ascends.0, IsAscending-endpoints group rows on.1 ascends.1)
 
 -- the endpoints of the memberships that let a packet in ascend
-pub IsAscending-targets : (lifetime moment : ℕ) (group source : Ip) (rows : List Membership) → IsAscending membership_order rows → IsAscending tunnel_order (targets_in lifetime moment group source rows)
+pub IsAscending-targets : (lifetime moment : ℕ) (group source : Ip) (rows : List Membership) → IsAscending membership_order rows → IsAscending endpoint_order (targets_in lifetime moment group source rows)
 IsAscending-targets lifetime moment group source rows ascends =
     let test = is_target lifetime moment group source in
     IsAscending-endpoints group (filter test rows) (AreOn-targets lifetime moment group source rows) (IsAscending-filter membership_order test rows ascends)
@@ -93,8 +93,8 @@ IsAscending-targets lifetime moment group source rows ascends =
 pub length-targets : (lifetime moment : ℕ) (group source : Ip) (rows : List Membership) → IsAscending membership_order rows → length (targets_in lifetime moment group source rows) ≤ live_count rows
 length-targets lifetime moment group source rows ascends =
     let test = is_target lifetime moment group source in
-    let once = ap (λ (all : List Tunnel). length all)
-    (ascending-fixed tunnel_order-total tunnel_order-exact (targets_in lifetime moment group source rows) (IsAscending-targets lifetime moment group source rows ascends)) in
+    let once = ap (λ (all : List EndpointValue). length all)
+    (ascending-fixed endpoint_order-total endpoint_order-exact (targets_in lifetime moment group source rows) (IsAscending-targets lifetime moment group source rows ascends)) in
     omega (arith, once, live_count-filter test rows)
 
 -- before the last membership there is room for its endpoint
@@ -122,16 +122,16 @@ group_back : (one other : Ip) → same_group one other ≡ same_group other one
 group_back one other = (eq_by_cmp_equiv ip_order-total).symm one other
 
 -- among memberships of a group an endpoint is seen where its pair has a membership
-has-endpoints : (group : Ip) (rows : List Membership) (endpoint : Tunnel) → AreOn group rows → has tunnel_order (endpoints_of rows) endpoint ≡ is_some (membership_in rows (at endpoint group))
+has-endpoints : (group : Ip) (rows : List Membership) (endpoint : EndpointValue) → AreOn group rows → has endpoint_order (endpoints_of rows) endpoint ≡ is_some (membership_in rows (at endpoint group))
 has-endpoints group [] endpoint on = refl
 has-endpoints group (membership ∷ rows) endpoint on =
     let here = same_endpoint_group-is (at endpoint group) (endpoint_group_of membership)
     ∙ and_yes (same_endpoint endpoint membership.endpoint) (same_group group membership.group) (group_back group membership.group ∙ on.0) in
-    seen_by (same_endpoint endpoint membership.endpoint) membership (membership_in rows (at endpoint group)) (has tunnel_order (endpoints_of rows) endpoint) (has-endpoints group rows endpoint on.1)
+    seen_by (same_endpoint endpoint membership.endpoint) membership (membership_in rows (at endpoint group)) (has endpoint_order (endpoints_of rows) endpoint) (has-endpoints group rows endpoint on.1)
     ∙ ap (λ (test : Bool). is_some (cond test (Some membership) (membership_in rows (at endpoint group)))) (sym here)
 
-has-targets : (lifetime moment : ℕ) (group source : Ip) (rows : List Membership) (endpoint : Tunnel) → IsAscending membership_order rows
-    → has tunnel_order (targets_in lifetime moment group source rows) endpoint ≡ is_some (only (is_target lifetime moment group source) (membership_in rows (at endpoint group)))
+has-targets : (lifetime moment : ℕ) (group source : Ip) (rows : List Membership) (endpoint : EndpointValue) → IsAscending membership_order rows
+    → has endpoint_order (targets_in lifetime moment group source rows) endpoint ≡ is_some (only (is_target lifetime moment group source) (membership_in rows (at endpoint group)))
 has-targets lifetime moment group source rows endpoint ascends =
     let test = is_target lifetime moment group source in
     has-endpoints group (filter test rows) endpoint (AreOn-targets lifetime moment group source rows)
@@ -163,7 +163,7 @@ admitted_later : (lifetime : ℕ) (log : List Change) (endpoint_group : Endpoint
 admitted_later lifetime log endpoint_group source moment = rw (later_again moment (latest log)) refl
 
 -- a membership lets the packet in exactly where the newest record that applies wants it
-target_by : (lifetime : ℕ) (log : List Change) (group source : Ip) (moment : ℕ) (endpoint : Tunnel) (found : Option Membership)
+target_by : (lifetime : ℕ) (log : List Change) (group source : Ip) (moment : ℕ) (endpoint : EndpointValue) (found : Option Membership)
     → membership_at lifetime (latest log) (reverse log) (at endpoint group) ≡ found
     → is_some (only (is_target lifetime (max moment (latest log)) group source) found) ≡ is_admitted lifetime log (at endpoint group) source (max moment (latest log))
 target_by lifetime log group source moment endpoint None is =
@@ -187,8 +187,8 @@ target_by lifetime log group source moment endpoint (Some membership) is =
     ]
 
 -- the memberships let a packet in exactly where it is wanted by the log
-has-wanted : (lifetime : ℕ) (log : List Change) (group source : Ip) (moment : ℕ) (rows : List Membership) (endpoint : Tunnel) → AreMembershipsAt lifetime (latest log) (reverse log) rows
-    → has tunnel_order (targets_in lifetime (max moment (latest log)) group source rows) endpoint ≡ is_admitted lifetime log (at endpoint group) source moment
+has-wanted : (lifetime : ℕ) (log : List Change) (group source : Ip) (moment : ℕ) (rows : List Membership) (endpoint : EndpointValue) → AreMembershipsAt lifetime (latest log) (reverse log) rows
+    → has endpoint_order (targets_in lifetime (max moment (latest log)) group source rows) endpoint ≡ is_admitted lifetime log (at endpoint group) source moment
 has-wanted lifetime log group source moment rows endpoint are =
     let later = max moment (latest log) in
     has-targets lifetime later group source rows endpoint are.ascend
@@ -204,17 +204,17 @@ or_neither : (a b : Bool) → a ≡ false → b ≡ false → (a || b) ≡ false
 or_neither true b first second = cc
 or_neither false b first second = second
 
-endpoint_groups_of-none : (endpoint : Tunnel) (records : List Record) (endpoint_group : EndpointGroup) → same_endpoint endpoint_group.endpoint endpoint ≡ false → has endpoint_group_order (endpoint_groups_of endpoint records) endpoint_group ≡ false
+endpoint_groups_of-none : (endpoint : EndpointValue) (records : List Record) (endpoint_group : EndpointGroup) → same_endpoint endpoint_group.endpoint endpoint ≡ false → has endpoint_group_order (endpoint_groups_of endpoint records) endpoint_group ≡ false
 endpoint_groups_of-none endpoint [] endpoint_group apart = refl
 endpoint_groups_of-none endpoint (first ∷ later) endpoint_group apart =
     let away = same_endpoint_group-is endpoint_group (at endpoint first.group) ∙ ap (λ (test : Bool). test && same_group endpoint_group.group first.group) apart in
     or_neither (same_endpoint_group endpoint_group (at endpoint first.group)) (has endpoint_group_order (endpoint_groups_of endpoint later) endpoint_group) away (endpoint_groups_of-none endpoint later endpoint_group apart)
 
 -- no report of an endpoint names a pair of it
-endpoint_groups_in-none : (past : List Change) (endpoint_group : EndpointGroup) → has tunnel_order (endpoints_in past) endpoint_group.endpoint ≡ false → has endpoint_group_order (endpoint_groups_in past) endpoint_group ≡ false
+endpoint_groups_in-none : (past : List Change) (endpoint_group : EndpointGroup) → has endpoint_order (endpoints_in past) endpoint_group.endpoint ≡ false → has endpoint_group_order (endpoint_groups_in past) endpoint_group ≡ false
 endpoint_groups_in-none [] endpoint_group none = refl
 endpoint_groups_in-none (Reported endpoint records at_moment ∷ older) endpoint_group none =
-    let both = or_false_parts (same_endpoint endpoint_group.endpoint endpoint) (has tunnel_order (endpoints_in older) endpoint_group.endpoint) none in
+    let both = or_false_parts (same_endpoint endpoint_group.endpoint endpoint) (has endpoint_order (endpoints_in older) endpoint_group.endpoint) none in
     has-append endpoint_group_order (endpoint_groups_of endpoint records) (endpoint_groups_in older) endpoint_group
     ∙ or_neither (has endpoint_group_order (endpoint_groups_of endpoint records) endpoint_group) (has endpoint_group_order (endpoint_groups_in older) endpoint_group)
     (endpoint_groups_of-none endpoint records endpoint_group both.0) (endpoint_groups_in-none older endpoint_group both.1)
@@ -223,7 +223,7 @@ endpoint_groups_in-none (Mark at_moment ∷ older) endpoint_group none = endpoin
 
 endpoints_in-append : (xs ys : List Change) → endpoints_in (xs ++ ys) ≡ endpoints_in xs ++ endpoints_in ys
 endpoints_in-append [] ys = refl
-endpoints_in-append (Reported endpoint records at_moment ∷ xs) ys = ap (λ (rest : List Tunnel). endpoint ∷ rest) (endpoints_in-append xs ys)
+endpoints_in-append (Reported endpoint records at_moment ∷ xs) ys = ap (λ (rest : List EndpointValue). endpoint ∷ rest) (endpoints_in-append xs ys)
 endpoints_in-append (Clear endpoint at_moment ∷ xs) ys = endpoints_in-append xs ys
 endpoints_in-append (Mark at_moment ∷ xs) ys = endpoints_in-append xs ys
 
@@ -234,19 +234,19 @@ swapped false true = refl
 swapped false false = refl
 
 -- a log turned round has reports of the same endpoints
-has-reverse : (log : List Change) (endpoint : Tunnel) → has tunnel_order (endpoints_in (reverse log)) endpoint ≡ has tunnel_order (endpoints_in log) endpoint
+has-reverse : (log : List Change) (endpoint : EndpointValue) → has endpoint_order (endpoints_in (reverse log)) endpoint ≡ has endpoint_order (endpoints_in log) endpoint
 has-reverse [] endpoint = refl
 has-reverse (entry ∷ rest) endpoint =
-    ap (λ (past : List Change). has tunnel_order (endpoints_in past) endpoint) (reverse-append (entry ∷ []) rest)
-    ∙ ap (λ (all : List Tunnel). has tunnel_order all endpoint) (endpoints_in-append (reverse rest) (entry ∷ []))
-    ∙ has-append tunnel_order (endpoints_in (reverse rest)) (endpoints_in (entry ∷ [])) endpoint
-    ∙ ap (λ (test : Bool). test || has tunnel_order (endpoints_in (entry ∷ [])) endpoint) (has-reverse rest endpoint)
-    ∙ swapped (has tunnel_order (endpoints_in rest) endpoint) (has tunnel_order (endpoints_in (entry ∷ [])) endpoint)
-    ∙ sym (has-append tunnel_order (endpoints_in (entry ∷ [])) (endpoints_in rest) endpoint)
-    ∙ ap (λ (all : List Tunnel). has tunnel_order all endpoint) (sym (endpoints_in-append (entry ∷ []) rest))
+    ap (λ (past : List Change). has endpoint_order (endpoints_in past) endpoint) (reverse-append (entry ∷ []) rest)
+    ∙ ap (λ (all : List EndpointValue). has endpoint_order all endpoint) (endpoints_in-append (reverse rest) (entry ∷ []))
+    ∙ has-append endpoint_order (endpoints_in (reverse rest)) (endpoints_in (entry ∷ [])) endpoint
+    ∙ ap (λ (test : Bool). test || has endpoint_order (endpoints_in (entry ∷ [])) endpoint) (has-reverse rest endpoint)
+    ∙ swapped (has endpoint_order (endpoints_in rest) endpoint) (has endpoint_order (endpoints_in (entry ∷ [])) endpoint)
+    ∙ sym (has-append endpoint_order (endpoints_in (entry ∷ [])) (endpoints_in rest) endpoint)
+    ∙ ap (λ (all : List EndpointValue). has endpoint_order all endpoint) (sym (endpoints_in-append (entry ∷ []) rest))
 
 -- an endpoint with no report wants nothing
-unreported : (lifetime : ℕ) (log : List Change) (group source : Ip) (moment : ℕ) (endpoint : Tunnel) → has tunnel_order (endpoints_in log) endpoint ≡ false
+unreported : (lifetime : ℕ) (log : List Change) (group source : Ip) (moment : ℕ) (endpoint : EndpointValue) → has endpoint_order (endpoints_in log) endpoint ≡ false
     → is_admitted lifetime log (at endpoint group) source moment ≡ false
 unreported lifetime log group source moment endpoint none =
     let later = max moment (latest log) in
@@ -258,30 +258,30 @@ known_by : (listed wanted : Bool) → (listed ≡ false → wanted ≡ false) �
 known_by true wanted none = refl
 known_by false wanted none = sym (none refl)
 
-pub has-targets_of : (lifetime : ℕ) (log : List Change) (group source : Ip) (moment : ℕ) (endpoint : Tunnel)
-    → has tunnel_order (targets_of lifetime log group source moment) endpoint ≡ is_admitted lifetime log (at endpoint group) source moment
+pub has-targets_of : (lifetime : ℕ) (log : List Change) (group source : Ip) (moment : ℕ) (endpoint : EndpointValue)
+    → has endpoint_order (targets_of lifetime log group source moment) endpoint ≡ is_admitted lifetime log (at endpoint group) source moment
 unfolding targets_of
 has-targets_of lifetime log group source moment endpoint =
-    let wanted = λ (one : Tunnel). is_admitted lifetime log (at one group) source moment in
-    has-filter tunnel_order-exact wanted (ascending tunnel_order (endpoints_in log)) endpoint
-    ∙ ap (λ (test : Bool). test && wanted endpoint) (has-ascending tunnel_order-total (endpoints_in log) endpoint)
-    ∙ known_by (has tunnel_order (endpoints_in log) endpoint) (wanted endpoint) (unreported lifetime log group source moment endpoint)
+    let wanted = λ (one : EndpointValue). is_admitted lifetime log (at one group) source moment in
+    has-filter endpoint_order-exact wanted (ascending endpoint_order (endpoints_in log)) endpoint
+    ∙ ap (λ (test : Bool). test && wanted endpoint) (has-ascending endpoint_order-total (endpoints_in log) endpoint)
+    ∙ known_by (has endpoint_order (endpoints_in log) endpoint) (wanted endpoint) (unreported lifetime log group source moment endpoint)
 
 -- the targets by the log ascend
-pub IsAscending-targets_of : (lifetime : ℕ) (log : List Change) (group source : Ip) (moment : ℕ) → IsAscending tunnel_order (targets_of lifetime log group source moment)
+pub IsAscending-targets_of : (lifetime : ℕ) (log : List Change) (group source : Ip) (moment : ℕ) → IsAscending endpoint_order (targets_of lifetime log group source moment)
 unfolding targets_of
 IsAscending-targets_of lifetime log group source moment =
-    IsAscending-filter tunnel_order (λ (one : Tunnel). is_admitted lifetime log (at one group) source moment) (ascending tunnel_order (endpoints_in log)) (IsAscending-ascending tunnel_order-total (endpoints_in log))
+    IsAscending-filter endpoint_order (λ (one : EndpointValue). is_admitted lifetime log (at one group) source moment) (ascending endpoint_order (endpoints_in log)) (IsAscending-ascending endpoint_order-total (endpoints_in log))
 
 -- a list has an endpoint where the test finds it
-pub Contains-has : (endpoints : List Tunnel) (endpoint : Tunnel) (wanted : Bool) → has tunnel_order endpoints endpoint ≡ wanted → Contains endpoints endpoint ↔ (wanted ≡ true)
+pub Contains-has : (endpoints : List EndpointValue) (endpoint : EndpointValue) (wanted : Bool) → has endpoint_order endpoints endpoint ≡ wanted → Contains endpoints endpoint ↔ (wanted ≡ true)
 Contains-has endpoints endpoint wanted is = (
-  (λ among. sym is ∙ list_any-from_Contains (eq_by_cmp_equiv tunnel_order-total) endpoint endpoints among),
-  (λ given. Contains-from_any (λ (one other : Tunnel). tells_apart tunnel_order-exact one other) endpoint endpoints (is ∙ given)),
+  (λ among. sym is ∙ list_any-from_Contains (eq_by_cmp_equiv endpoint_order-total) endpoint endpoints among),
+  (λ given. Contains-from_any (λ (one other : EndpointValue). tells_apart endpoint_order-exact one other) endpoint endpoints (is ∙ given)),
 )
 
 -- exactly those that want the packet are targets
-pub targets_want : (lifetime : ℕ) (log : List Change) (group source : Ip) (moment : ℕ) (endpoint : Tunnel)
+pub targets_want : (lifetime : ℕ) (log : List Change) (group source : Ip) (moment : ℕ) (endpoint : EndpointValue)
     → Contains (targets_of lifetime log group source moment) endpoint ↔ (is_admitted lifetime log (record { endpoint = endpoint; group = group }) source moment ≡ true)
 targets_want lifetime log group source moment endpoint =
     Contains-has (targets_of lifetime log group source moment) endpoint (is_admitted lifetime log (at endpoint group) source moment) (has-targets_of lifetime log group source moment endpoint)
@@ -296,6 +296,6 @@ targets_are settings table log group source moment later is holds =
     let by_log = targets_of settings.lifetime log group source moment in
     ap (λ (lifetime : ℕ). targets_in lifetime later group source table.rows) holds.lifetime
     ∙ ap (λ (one : ℕ). targets_in settings.lifetime one group source table.rows) turned
-    ∙ same_ascending tunnel_order-total tunnel_order-exact by_rows by_log
+    ∙ same_ascending endpoint_order-total endpoint_order-exact by_rows by_log
     (IsAscending-targets settings.lifetime (max moment (latest log)) group source table.rows holds.rows.ascend) (IsAscending-targets_of settings.lifetime log group source moment)
     (λ endpoint. has-wanted settings.lifetime log group source moment table.rows endpoint holds.rows ∙ sym (has-targets_of settings.lifetime log group source moment endpoint))

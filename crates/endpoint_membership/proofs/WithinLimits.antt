@@ -6,8 +6,8 @@ use Rattle.std.proofs.lemmas.Cmp.{eq_by_cmp_equiv}
 use Rattle.std.proofs.lemmas.List.Sums.{length-filter}
 use Rattle.std.proofs.lemmas.Map.Views.{tells_apart}
 use Rattle.amt_values.specs.declared.address.Ip.{Ip}
-use Rattle.amt_values.specs.Tunnel.{Tunnel}
-use Rattle.amt_values.proofs.Orders.{tunnel_order-exact, tunnel_order-total}
+use Rattle.amt_values.specs.EndpointValue.{EndpointValue}
+use Rattle.amt_values.proofs.Orders.{endpoint_order-exact, endpoint_order-total}
 use Rattle.contract_words.specs.Ascending.{IsAscending}
 use Rattle.source_filter.specs.declared.record.Record.{Record}
 use Rattle.contract_words.proofs.AscendingLaws.{IsAscending-filter}
@@ -38,7 +38,7 @@ IsWithin-filter limits test rows within = record {
   sources = All-filter (λ (membership : Membership). size membership ≤ limits.sources) test rows within.sources;
 }
 
-none_wide : (limits : Limits) (endpoint : Tunnel) (records : List Record) (rows : List Membership) → AllByRecursion (λ membership. size membership ≤ limits.sources) rows
+none_wide : (limits : Limits) (endpoint : EndpointValue) (records : List Record) (rows : List Membership) → AllByRecursion (λ membership. size membership ≤ limits.sources) rows
     → find (is_too_wide limits endpoint records) rows ≡ None
 none_wide limits endpoint records [] each = refl
 none_wide limits endpoint records (membership ∷ rest) each =
@@ -47,7 +47,7 @@ none_wide limits endpoint records (membership ∷ rest) each =
     rw passes (none_wide limits endpoint records rest each.1)
 
 -- memberships within the limits pass none
-pub none_passed : (limits : Limits) (endpoint : Tunnel) (records : List Record) (rows : List Membership) → IsWithin limits rows → first_limit limits endpoint records rows ≡ None
+pub none_passed : (limits : Limits) (endpoint : EndpointValue) (records : List Record) (rows : List Membership) → IsWithin limits rows → first_limit limits endpoint records rows ≡ None
 none_passed limits endpoint records rows within =
     first_limit-by limits endpoint records rows
     ∙ ap (limit_by limits (group_count endpoint rows) (live_count rows)) (none_wide limits endpoint records rows within.sources)
@@ -67,7 +67,7 @@ PassesNone_by limits groups endpoints None false true first second none = let so
 PassesNone_by limits groups endpoints None false false first second none =
     record { none_wide = refl; few_groups = ltb-false limits.groups groups first; few_endpoints = ltb-false limits.endpoints endpoints second }
 
-passes_none : (limits : Limits) (endpoint : Tunnel) (records : List Record) (rows : List Membership) → first_limit limits endpoint records rows ≡ None
+passes_none : (limits : Limits) (endpoint : EndpointValue) (records : List Record) (rows : List Membership) → first_limit limits endpoint records rows ≡ None
     → PassesNone limits (group_count endpoint rows) (live_count rows) (find (is_too_wide limits endpoint records) rows)
 passes_none limits endpoint records rows none =
     PassesNone_by limits (group_count endpoint rows) (live_count rows) (find (is_too_wide limits endpoint records) rows)
@@ -104,28 +104,28 @@ on_none group [] none = refl
 on_none group (first ∷ later) none =
     on_first (same_group group first.group) first (on_group group later) (list_any (λ (one : Record). same_group group one.group) later) (on_none group later) none
 
-abbrev at : Tunnel → Ip → EndpointGroup
+abbrev at : EndpointValue → Ip → EndpointGroup
 at endpoint group = record { endpoint = endpoint; group = group }
 
-at_endpoint : (endpoint : Tunnel) (endpoint_group : EndpointGroup) → same_endpoint endpoint_group.endpoint endpoint ≡ true → endpoint_group ≡ at endpoint endpoint_group.group
-at_endpoint endpoint endpoint_group same = ap (λ (one : Tunnel). at one endpoint_group.group) (tells_apart tunnel_order-exact endpoint_group.endpoint endpoint same)
+at_endpoint : (endpoint : EndpointValue) (endpoint_group : EndpointGroup) → same_endpoint endpoint_group.endpoint endpoint ≡ true → endpoint_group ≡ at endpoint endpoint_group.group
+at_endpoint endpoint endpoint_group same = ap (λ (one : EndpointValue). at one endpoint_group.group) (tells_apart endpoint_order-exact endpoint_group.endpoint endpoint same)
 
 -- a pair of one endpoint has no membership among those of another
-only_elsewhere : (found : Option Membership) (endpoint : Tunnel) (endpoint_group : EndpointGroup) → ((membership : Membership) → found ≡ Some membership → endpoint_group ≡ endpoint_group_of membership) → same_endpoint endpoint_group.endpoint endpoint ≡ false
+only_elsewhere : (found : Option Membership) (endpoint : EndpointValue) (endpoint_group : EndpointGroup) → ((membership : Membership) → found ≡ Some membership → endpoint_group ≡ endpoint_group_of membership) → same_endpoint endpoint_group.endpoint endpoint ≡ false
     → only (λ membership. same_endpoint membership.endpoint endpoint) found ≡ None
 only_elsewhere None endpoint endpoint_group its apart = refl
 only_elsewhere (Some membership) endpoint endpoint_group its apart =
     let elsewhere = sym (ap (λ (one : EndpointGroup). same_endpoint one.endpoint endpoint) (its membership refl)) ∙ apart in rw elsewhere refl
 
 -- an endpoint whose pairs have the memberships that they had has as many groups as it had
-same_count : (endpoint other : Tunnel) (rows after : List Membership) → IsAscending membership_order rows → IsAscending membership_order after → same_endpoint other endpoint ≡ false
+same_count : (endpoint other : EndpointValue) (rows after : List Membership) → IsAscending membership_order rows → IsAscending membership_order after → same_endpoint other endpoint ≡ false
     → ((endpoint_group : EndpointGroup) → same_endpoint endpoint_group.endpoint endpoint ≡ false → membership_in after endpoint_group ≡ membership_in rows endpoint_group) → group_count other after ≡ group_count other rows
 same_count endpoint other rows after first second apart same =
     let test = λ (membership : Membership). same_endpoint membership.endpoint other in
     let each : (endpoint_group : EndpointGroup) → only test (membership_in after endpoint_group) ≡ only test (membership_in rows endpoint_group) = λ endpoint_group. elim (cases_Bool (same_endpoint endpoint_group.endpoint endpoint)) [
       | inl here ↦
-          let elsewhere : same_endpoint endpoint_group.endpoint other ≡ false = ap (λ (one : Tunnel). same_endpoint one other) (tells_apart tunnel_order-exact endpoint_group.endpoint endpoint here)
-          ∙ (eq_by_cmp_equiv tunnel_order-total).symm endpoint other ∙ apart in
+          let elsewhere : same_endpoint endpoint_group.endpoint other ≡ false = ap (λ (one : EndpointValue). same_endpoint one other) (tells_apart endpoint_order-exact endpoint_group.endpoint endpoint here)
+          ∙ (eq_by_cmp_equiv endpoint_order-total).symm endpoint other ∙ apart in
           only_elsewhere (membership_in after endpoint_group) other endpoint_group (its_endpoint_group after endpoint_group) elsewhere ∙ sym (only_elsewhere (membership_in rows endpoint_group) other endpoint_group (its_endpoint_group rows endpoint_group) elsewhere)
       | inr away ↦ ap (only test) (same endpoint_group away)
     ] in
@@ -139,7 +139,7 @@ narrow_by true false wide first second none = cc
 narrow_by false reported wide first second none = cc
 
 -- a membership that is found after a report has at most as many sources as allowed: it is an old one, or a reported one that isn't too wide
-narrow : (limits : Limits) (endpoint : Tunnel) (records : List Record) (rows after : List Membership) → IsWithin limits rows → find (is_too_wide limits endpoint records) after ≡ None
+narrow : (limits : Limits) (endpoint : EndpointValue) (records : List Record) (rows after : List Membership) → IsWithin limits rows → find (is_too_wide limits endpoint records) after ≡ None
     → ((endpoint_group : EndpointGroup) → same_endpoint endpoint_group.endpoint endpoint ≡ false → membership_in after endpoint_group ≡ membership_in rows endpoint_group)
     → ((group : Ip) (membership : Membership) → on_group group records ≡ [] → membership_in after (at endpoint group) ≡ Some membership → membership_in rows (at endpoint group) ≡ Some membership)
     → (endpoint_group : EndpointGroup) (membership : Membership) → membership_in after endpoint_group ≡ Some membership → size membership ≤ limits.sources
@@ -163,7 +163,7 @@ narrow limits endpoint records rows after within none others silent endpoint_gro
     ]
 
 -- a report that passes no limit leaves memberships within the limits
-pub IsWithin-report : (limits : Limits) (endpoint : Tunnel) (records : List Record) (rows after : List Membership) → IsAscending membership_order rows → IsAscending membership_order after
+pub IsWithin-report : (limits : Limits) (endpoint : EndpointValue) (records : List Record) (rows after : List Membership) → IsAscending membership_order rows → IsAscending membership_order after
     → IsWithin limits rows → first_limit limits endpoint records after ≡ None
     → ((endpoint_group : EndpointGroup) → same_endpoint endpoint_group.endpoint endpoint ≡ false → membership_in after endpoint_group ≡ membership_in rows endpoint_group)
     → ((group : Ip) (membership : Membership) → on_group group records ≡ [] → membership_in after (record { endpoint = endpoint; group = group }) ≡ Some membership
@@ -173,7 +173,7 @@ IsWithin-report limits endpoint records rows after first second within none othe
     let passes = passes_none limits endpoint records after none in record {
       endpoints = passes.few_endpoints;
       groups = λ other. elim (cases_Bool (same_endpoint other endpoint)) [
-        | inl same ↦ subst (λ (one : Tunnel). group_count one after ≤ limits.groups) (sym (tells_apart tunnel_order-exact other endpoint same)) passes.few_groups
+        | inl same ↦ subst (λ (one : EndpointValue). group_count one after ≤ limits.groups) (sym (tells_apart endpoint_order-exact other endpoint same)) passes.few_groups
         | inr apart ↦ subst (λ (groups : ℕ). groups ≤ limits.groups) (sym (same_count endpoint other rows after first second apart others)) (within.groups other)
       ];
       sources = All-from_membership_in (λ (membership : Membership). size membership ≤ limits.sources) after second (narrow limits endpoint records rows after within passes.none_wide others silent);

@@ -4,21 +4,21 @@ use Rattle.std.specs.Prelude.{Bool}
 use Rattle.std.specs.Ordering.{on, then_cmp, eq_by_cmp}
 use Rattle.std.specs.declared.cmp.Ordering.{Ordering}
 use Rattle.amt_values.specs.declared.address.Ip.{Ip}
-use Rattle.amt_values.specs.Order.{ip_order, tunnel_order}
-use Rattle.amt_values.specs.Tunnel.{Tunnel}
+use Rattle.amt_values.specs.Order.{ip_order, endpoint_order}
+use Rattle.amt_values.specs.EndpointValue.{EndpointValue}
 
 -- a tunnel endpoint and a group that it may be a member of
 pub record EndpointGroup : Type 0 where
-  pub endpoint : Tunnel
+  pub endpoint : EndpointValue
   pub group : Ip
 
 -- by endpoint, then group
 abbrev pub endpoint_group_order : EndpointGroup → EndpointGroup → Ordering
-endpoint_group_order = then_cmp (on (λ one. one.endpoint) tunnel_order) (on (λ one. one.group) ip_order)
+endpoint_group_order = then_cmp (on (λ one. one.endpoint) endpoint_order) (on (λ one. one.group) ip_order)
 
 -- the endpoints are one
-abbrev pub same_endpoint : Tunnel → Tunnel → Bool
-same_endpoint one other = eq_by_cmp tunnel_order one other
+abbrev pub same_endpoint : EndpointValue → EndpointValue → Bool
+same_endpoint one other = eq_by_cmp endpoint_order one other
 
 -- the groups are one
 abbrev pub same_group : Ip → Ip → Bool

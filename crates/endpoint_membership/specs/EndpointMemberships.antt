@@ -4,7 +4,7 @@ use Rattle.std.specs.Prelude.{◌≡◌, ℕ, Bool, true, List, [], ◌∷◌, O
 use Rattle.std.specs.List.{AllByRecursion, filter, list_any}
 use Rattle.std.specs.Option.{option_map}
 use Rattle.amt_values.specs.declared.address.Ip.{Ip}
-use Rattle.amt_values.specs.Tunnel.{Tunnel}
+use Rattle.amt_values.specs.EndpointValue.{EndpointValue}
 use Rattle.contract_words.specs.Ascending.{IsAscending}
 use Rattle.contract_words.specs.Conditions.{first_holding, first_of}
 use Rattle.source_filter.specs.Filter.{FilterValue, filter_after, nothing}
@@ -29,7 +29,7 @@ abbrev pub on_group : Ip → List Record → List Record
 on_group group records = filter (λ group_record. same_group group group_record.group) records
 
 -- a membership of the endpoint that counts at the moment
-abbrev pub is_own : ℕ → ℕ → Tunnel → Membership → Bool
+abbrev pub is_own : ℕ → ℕ → EndpointValue → Membership → Bool
 is_own lifetime moment endpoint membership = same_endpoint membership.endpoint endpoint && is_fresh lifetime moment membership
 
 -- the filter of a membership, and when it was renewed
@@ -54,16 +54,16 @@ renewed_filter_after_all moment (group_record ∷ later) before =
     renewed_filter_after_all moment later (renewed_filter_after moment group_record before)
 
 -- the membership that an entry of a map of filters makes, where something is wanted
-abbrev pub membership_of_entry : Tunnel → Ip × RenewedFilter → Option Membership
+abbrev pub membership_of_entry : EndpointValue → Ip × RenewedFilter → Option Membership
 membership_of_entry endpoint entry = membership_of (record { endpoint = endpoint; group = entry.0 }) entry.1.filter entry.1.renewed
 
 -- the membership that a filter of the group makes, if there is one
-abbrev pub membership_of_renewed : Tunnel → Ip → Option RenewedFilter → Option Membership
+abbrev pub membership_of_renewed : EndpointValue → Ip → Option RenewedFilter → Option Membership
 membership_of_renewed endpoint group None = None
 membership_of_renewed endpoint group (Some renewed_filter) = membership_of_entry endpoint (group, renewed_filter)
 
 -- all are of the endpoint
-abbrev pub AreOf : Tunnel → List Membership → Type 0
+abbrev pub AreOf : EndpointValue → List Membership → Type 0
 AreOf endpoint rows = AllByRecursion (λ membership. same_endpoint membership.endpoint endpoint ≡ true) rows
 
 -- a membership in a reported group with more sources than allowed
@@ -81,7 +81,7 @@ abbrev pub limit_by : Limits → ℕ → ℕ → Option Membership → Option Li
 limit_by limits groups endpoints wide = first_of (option_map width_fault wide) (first_holding (count_conditions limits groups endpoints))
 
 -- the memberships of an endpoint after its report, from all memberships before it
-pub record AreOwn (lifetime moment : ℕ) (endpoint : Tunnel) (records : List Record) (rows own : List Membership) : Type 0 where
+pub record AreOwn (lifetime moment : ℕ) (endpoint : EndpointValue) (records : List Record) (rows own : List Membership) : Type 0 where
   pub ascends : IsAscending membership_order own
   pub of : AreOf endpoint own
   pub each : (group : Ip) → membership_in own (record { endpoint = endpoint; group = group })

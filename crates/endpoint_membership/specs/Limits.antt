@@ -1,8 +1,8 @@
 -- The limits of a membership table: each keeps hosts from claiming the relay's memory.
 use Rattle.std.specs.Prelude.{ℕ, ◌*◌, ◌≤◌, nat_lt, Bool, List, [], ◌∷◌, ◌++◌, length, map, sum_by, Option, ◌&&◌}
 use Rattle.std.specs.List.{list_any, count_by, AllByRecursion}
-use Rattle.amt_values.specs.Order.{tunnel_order}
-use Rattle.amt_values.specs.Tunnel.{Tunnel}
+use Rattle.amt_values.specs.Order.{endpoint_order}
+use Rattle.amt_values.specs.EndpointValue.{EndpointValue}
 use Rattle.contract_words.specs.Ascending.{ascending}
 use Rattle.contract_words.specs.Conditions.{Conditions, first_holding}
 use Rattle.source_filter.specs.declared.record.Record.{Record}
@@ -14,12 +14,12 @@ use Rattle.endpoint_membership.specs.declared.limits.Limits.{Limits}
 use Rattle.endpoint_membership.specs.declared.row.Row.{Row}
 
 -- the number of groups of the endpoint
-abbrev pub group_count : Tunnel → List Membership → ℕ
+abbrev pub group_count : EndpointValue → List Membership → ℕ
 group_count endpoint rows = count_by (λ membership. same_endpoint membership.endpoint endpoint) rows
 
 -- the number of different endpoints
 abbrev pub live_count : List Membership → ℕ
-live_count rows = length (ascending tunnel_order (map (λ membership. membership.endpoint) rows))
+live_count rows = length (ascending endpoint_order (map (λ membership. membership.endpoint) rows))
 
 -- the number of listed sources
 abbrev pub size : Membership → ℕ
@@ -28,7 +28,7 @@ size membership = length membership.filter.sources
 -- the memberships are at most the limits
 pub record IsWithin (limits : Limits) (rows : List Membership) : Type 0 where
   pub endpoints : live_count rows ≤ limits.endpoints
-  pub groups : (endpoint : Tunnel) → group_count endpoint rows ≤ limits.groups
+  pub groups : (endpoint : EndpointValue) → group_count endpoint rows ≤ limits.groups
   pub sources : AllByRecursion (λ membership. size membership ≤ limits.sources) rows
 
 -- the limits bound how many rows there are, and how many sources they list together
@@ -37,7 +37,7 @@ pub record AreFew (limits : Limits) (all : List Row) : Type 0 where
   pub sources : sum_by (λ row. length row.filter.sources) all ≤ (limits.endpoints * limits.groups) * limits.sources
 
 -- a membership of the endpoint in a group that a record is on, with more sources than allowed
-abbrev pub is_too_wide : Limits → Tunnel → List Record → Membership → Bool
+abbrev pub is_too_wide : Limits → EndpointValue → List Record → Membership → Bool
 is_too_wide limits endpoint records membership =
     (same_endpoint membership.endpoint endpoint && list_any (λ group_record. same_group membership.group group_record.group) records)
     && nat_lt limits.sources (size membership)
@@ -53,10 +53,10 @@ count_conditions limits groups endpoints =
 
 -- The limits that memberships may pass after a report of the endpoint, in the order in which they are
 -- tried: the sources of each reported group, by group; the endpoint's groups; the live endpoints.
-abbrev pub limit_conditions : Limits → Tunnel → List Record → List Membership → Conditions LimitFault
+abbrev pub limit_conditions : Limits → EndpointValue → List Record → List Membership → Conditions LimitFault
 limit_conditions limits endpoint records rows =
     width_conditions (is_too_wide limits endpoint records) rows ++ count_conditions limits (group_count endpoint rows) (live_count rows)
 
 -- the first limit that memberships pass after a report of the endpoint
-abbrev pub first_limit : Limits → Tunnel → List Record → List Membership → Option LimitFault
+abbrev pub first_limit : Limits → EndpointValue → List Record → List Membership → Option LimitFault
 first_limit limits endpoint records rows = first_holding (limit_conditions limits endpoint records rows)

@@ -3,13 +3,13 @@ use Rattle.std.specs.Prelude.{ℕ, ◌+◌, nat_lt, Bool}
 use Rattle.std.specs.Ordering.{on}
 use Rattle.std.specs.declared.cmp.Ordering.{Ordering}
 use Rattle.amt_values.specs.declared.address.Ip.{Ip}
-use Rattle.amt_values.specs.Tunnel.{Tunnel}
+use Rattle.amt_values.specs.EndpointValue.{EndpointValue}
 use Rattle.source_filter.specs.Filter.{FilterValue}
 use Rattle.endpoint_membership.specs.EndpointGroup.{EndpointGroup, endpoint_group_order}
 
 -- what an endpoint wants of a group, and the moment at which its membership was last renewed
 pub record Membership : Type 0 where
-  pub endpoint : Tunnel
+  pub endpoint : EndpointValue
   pub group : Ip
   pub filter : FilterValue
   pub renewed : ℕ

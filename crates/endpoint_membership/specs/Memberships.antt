@@ -1,7 +1,7 @@
 -- Which memberships there are, by the log alone.
 use Rattle.std.specs.Prelude.{ℕ, Bool, List, [], ◌∷◌, ◌++◌, reverse, map, Option, Some, None, if◌then◌else◌}
 use Rattle.std.specs.List.{filter_map, find, list_any}
-use Rattle.amt_values.specs.Tunnel.{Tunnel}
+use Rattle.amt_values.specs.EndpointValue.{EndpointValue}
 use Rattle.contract_words.specs.Ascending.{ascending}
 use Rattle.source_filter.specs.Filter.{FilterValue, wants_any}
 use Rattle.source_filter.specs.declared.record.Record.{Record}
@@ -27,7 +27,7 @@ membership_at lifetime moment past endpoint_group =
     membership_of endpoint_group (filter_of (live_chain lifetime endpoint_group moment past)) (renewed_at endpoint_group past)
 
 -- the endpoint with each group that records name
-abbrev pub endpoint_groups_of : Tunnel → List Record → List EndpointGroup
+abbrev pub endpoint_groups_of : EndpointValue → List Record → List EndpointGroup
 endpoint_groups_of endpoint records = map (λ group_record. record { endpoint = endpoint; group = group_record.group }) records
 
 -- the endpoints and groups that the reports name
@@ -55,5 +55,5 @@ abbrev pub rows_of : ℕ → ℕ → List Change → List Row
 rows_of lifetime moment log = map row_of (memberships_at lifetime moment log)
 
 -- one of these is the endpoint's
-abbrev pub is_live : Tunnel → List Membership → Bool
+abbrev pub is_live : EndpointValue → List Membership → Bool
 is_live endpoint rows = list_any (λ membership. same_endpoint membership.endpoint endpoint) rows

@@ -4,8 +4,8 @@ use Rattle.std.specs.List.{filter, prefix_len}
 use Rattle.std.specs.Option.{option_or}
 use Rattle.std.specs.Ordering.{is_lt}
 use Rattle.amt_values.specs.declared.address.Ip.{Ip}
-use Rattle.amt_values.specs.Order.{tunnel_order}
-use Rattle.amt_values.specs.Tunnel.{Tunnel}
+use Rattle.amt_values.specs.Order.{endpoint_order}
+use Rattle.amt_values.specs.EndpointValue.{EndpointValue}
 use Rattle.source_filter.specs.Filter.{admits}
 use Rattle.endpoint_membership.specs.EndpointGroup.{same_endpoint, same_group}
 use Rattle.endpoint_membership.specs.Membership.{Membership, is_fresh}
@@ -16,49 +16,49 @@ only test None = None
 only test (Some membership) = if test membership then Some membership else None
 
 -- a membership of another endpoint
-abbrev pub is_of_another : Tunnel → Membership → Bool
+abbrev pub is_of_another : EndpointValue → Membership → Bool
 is_of_another endpoint membership = not (same_endpoint membership.endpoint endpoint)
 
 -- its endpoint comes before this one
-abbrev pub is_before : Tunnel → Membership → Bool
-is_before endpoint membership = is_lt (tunnel_order membership.endpoint endpoint)
+abbrev pub is_before : EndpointValue → Membership → Bool
+is_before endpoint membership = is_lt (endpoint_order membership.endpoint endpoint)
 
 -- its endpoint comes after this one
-abbrev pub is_after : Tunnel → Membership → Bool
-is_after endpoint membership = is_lt (tunnel_order endpoint membership.endpoint)
+abbrev pub is_after : EndpointValue → Membership → Bool
+is_after endpoint membership = is_lt (endpoint_order endpoint membership.endpoint)
 
 -- the number of memberships before the endpoint's
-abbrev pub start_of : Tunnel → List Membership → ℕ
+abbrev pub start_of : EndpointValue → List Membership → ℕ
 start_of endpoint rows = prefix_len (is_before endpoint) rows
 
 -- the number of memberships before those of later endpoints
-abbrev pub end_of : Tunnel → List Membership → ℕ
+abbrev pub end_of : EndpointValue → List Membership → ℕ
 end_of endpoint rows = prefix_len (λ membership. not (is_after endpoint membership)) rows
 
 -- the memberships of earlier endpoints
-abbrev pub earlier : Tunnel → List Membership → List Membership
+abbrev pub earlier : EndpointValue → List Membership → List Membership
 earlier endpoint rows = take (start_of endpoint rows) rows
 
 -- the memberships of later endpoints
-abbrev pub later : Tunnel → List Membership → List Membership
+abbrev pub later : EndpointValue → List Membership → List Membership
 later endpoint rows = drop (end_of endpoint rows) rows
 
 -- of another endpoint than this one, if one is named
-abbrev pub is_other : Option Tunnel → Membership → Bool
+abbrev pub is_other : Option EndpointValue → Membership → Bool
 is_other None membership = true
 is_other (Some endpoint) membership = is_of_another endpoint membership
 
 -- a membership that counts at the moment, of another endpoint than this one, if one is named
-abbrev pub is_counted : ℕ → ℕ → Option Tunnel → Membership → Bool
+abbrev pub is_counted : ℕ → ℕ → Option EndpointValue → Membership → Bool
 is_counted lifetime moment besides membership = is_other besides membership && is_fresh lifetime moment membership
 
 -- the endpoint of the last one
-abbrev pub last_of : List Membership → Option Tunnel
+abbrev pub last_of : List Membership → Option EndpointValue
 last_of [] = None
 last_of (membership ∷ rest) = option_or (last_of rest) (Some membership.endpoint)
 
 -- the last one is of the endpoint
-abbrev pub ends_with : Option Tunnel → Tunnel → Bool
+abbrev pub ends_with : Option EndpointValue → EndpointValue → Bool
 ends_with None endpoint = false
 ends_with (Some last) endpoint = same_endpoint last endpoint
 
@@ -68,6 +68,6 @@ is_target lifetime moment group source membership =
     (same_group membership.group group && is_fresh lifetime moment membership) && admits membership.filter source
 
 -- the endpoints of such memberships
-abbrev pub targets_in : ℕ → ℕ → Ip → Ip → List Membership → List Tunnel
+abbrev pub targets_in : ℕ → ℕ → Ip → Ip → List Membership → List EndpointValue
 targets_in lifetime moment group source rows =
     map (λ membership. membership.endpoint) (filter (is_target lifetime moment group source) rows)

@@ -1,6 +1,6 @@
 -- What a membership table stands for.
 use Rattle.std.specs.Prelude.{◌≡◌, ℕ, ◌≤◌, ◌++◌, ◌∷◌, [], List, Option, Result, Ok, Err, reverse}
-use Rattle.amt_values.specs.Tunnel.{Tunnel}
+use Rattle.amt_values.specs.EndpointValue.{EndpointValue}
 use Rattle.contract_words.specs.Ascending.{IsAscending}
 use Rattle.source_filter.specs.declared.record.Record.{Record}
 use Rattle.endpoint_membership.specs.EndpointGroup.{EndpointGroup}
@@ -64,7 +64,7 @@ pub record AreLawful (limits : Limits) (lifetime : ℕ) : Type 0 where
   pub sources : limits.sources ≤ 16777216
 
 -- the limit that a report passes, by the log with the report
-abbrev pub limit_passed : TableSettings → List Change → Tunnel → List Record → ℕ → Option LimitFault
+abbrev pub limit_passed : TableSettings → List Change → EndpointValue → List Record → ℕ → Option LimitFault
 limit_passed settings log endpoint records at =
     first_limit settings.limits endpoint records (memberships_now settings (log ++ Reported endpoint records at ∷ []))
 

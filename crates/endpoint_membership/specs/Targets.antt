@@ -2,15 +2,15 @@
 use Rattle.std.specs.Prelude.{ℕ, List, [], ◌∷◌}
 use Rattle.std.specs.List.{filter}
 use Rattle.amt_values.specs.declared.address.Ip.{Ip}
-use Rattle.amt_values.specs.Order.{tunnel_order}
-use Rattle.amt_values.specs.Tunnel.{Tunnel}
+use Rattle.amt_values.specs.Order.{endpoint_order}
+use Rattle.amt_values.specs.EndpointValue.{EndpointValue}
 use Rattle.contract_words.specs.Ascending.{ascending}
 use Rattle.endpoint_membership.specs.Admission.{is_admitted}
 use Rattle.endpoint_membership.specs.declared.change.Change.{Change}
 use Rattle.endpoint_membership.specs.declared.change.Change.TheVariants.{Reported, Clear, Mark}
 
 -- the endpoints whose reports are in the log, with repeats
-abbrev pub endpoints_in : List Change → List Tunnel
+abbrev pub endpoints_in : List Change → List EndpointValue
 endpoints_in [] = []
 endpoints_in (Reported endpoint records at ∷ rest) = endpoint ∷ endpoints_in rest
 endpoints_in (Clear endpoint at ∷ rest) = endpoints_in rest
@@ -18,11 +18,11 @@ endpoints_in (Mark at ∷ rest) = endpoints_in rest
 
 -- the different endpoints that want the source of the group at a moment, ascending; no moment is
 -- before the latest one of the log
-unfoldable pub targets_of : ℕ → List Change → Ip → Ip → ℕ → List Tunnel
+unfoldable pub targets_of : ℕ → List Change → Ip → Ip → ℕ → List EndpointValue
 targets_of lifetime log group source moment =
-    filter (λ endpoint. is_admitted lifetime log (record { endpoint = endpoint; group = group }) source moment) (ascending tunnel_order (endpoints_in log))
+    filter (λ endpoint. is_admitted lifetime log (record { endpoint = endpoint; group = group }) source moment) (ascending endpoint_order (endpoints_in log))
 
 -- what contracts see of targets: how many endpoints there is room for, and those that are in
 pub record TargetsValue : Type 0 where
   pub room : ℕ
-  pub endpoints : List Tunnel
+  pub endpoints : List EndpointValue

@@ -1,8 +1,8 @@
 //! What the definitions of a membership table mean in the words of the field.
 ghost use Rattle.std.specs.Prelude.{ℕ, ◌≡◌, ◌≤◌, ◌<◌, ◌↔◌, max, true, false, List, [], ◌∷◌, ◌++◌, reverse, Some, None, Contains};
 ghost use Rattle.amt_values.specs.declared.address.Ip.{Ip};
-ghost use Rattle.amt_values.specs.Order.{tunnel_order};
-ghost use Rattle.amt_values.specs.Tunnel.{Tunnel};
+ghost use Rattle.amt_values.specs.Order.{endpoint_order};
+ghost use Rattle.amt_values.specs.EndpointValue.{EndpointValue};
 ghost use Rattle.source_filter.specs.Filter.{admits};
 ghost use Rattle.contract_words.specs.Ascending.{IsAscending};
 ghost use Rattle.endpoint_membership.specs.Admission.{HasNoMembership, is_admitted};
@@ -47,26 +47,26 @@ pub fn rows_admit_by_the_newest_record()
 /// repeats.
 pub fn targets_are_those_that_want()
     ensures wanted { (lifetime : ℕ) (log : List Change) (group source : Ip) (moment : ℕ)
-        (endpoint : Tunnel)
+        (endpoint : EndpointValue)
         → Contains (targets_of lifetime log group source moment) endpoint
         ↔ (is_admitted lifetime log (record { endpoint = endpoint; group = group }) source moment
         ≡ true) }
     ensures ascending { (lifetime : ℕ) (log : List Change) (group source : Ip) (moment : ℕ)
-        → IsAscending tunnel_order (targets_of lifetime log group source moment) }
+        → IsAscending endpoint_order (targets_of lifetime log group source moment) }
 {}
 
 /// A clearing of an endpoint with no membership needs no entry in the log: with no more than its
 /// moment there the memberships are the same from then on, whatever is accepted later. `Table::clear`
 /// answers whether its endpoint was live.
 pub fn clearings_change_nothing_where_none_is_live()
-    ensures membership { (lifetime : ℕ) (log later : List Change) (endpoint : Tunnel) (at moment : ℕ)
+    ensures membership { (lifetime : ℕ) (log later : List Change) (endpoint : EndpointValue) (at moment : ℕ)
         (endpoint_group : EndpointGroup)
         → 0 < lifetime
         → HasNoMembership lifetime (max at (latest log)) log endpoint
         → latest (log ++ Clear endpoint at ∷ later) ≤ moment
         → membership_at lifetime moment (reverse (log ++ Clear endpoint at ∷ later)) endpoint_group
         ≡ membership_at lifetime moment (reverse (log ++ Mark at ∷ later)) endpoint_group }
-    ensures rows { (lifetime : ℕ) (log later : List Change) (endpoint : Tunnel) (at moment : ℕ)
+    ensures rows { (lifetime : ℕ) (log later : List Change) (endpoint : EndpointValue) (at moment : ℕ)
         → 0 < lifetime
         → is_live endpoint (memberships_at lifetime (max at (latest log)) log) ≡ false
         → latest (log ++ Clear endpoint at ∷ later) ≤ moment

@@ -2,8 +2,8 @@
 
 ghost use Rattle.std.specs.Prelude.{◌≡◌, ◌<◌, ◌≤◌, ◌↔◌, ◌+◌, ◌^◌, [], ◌∷◌, ◌++◌, max, true, false, length, Some, None, Contains, IfOk, OnOk, if◌then◌else◌};
 ghost use Rattle.std.specs.List.{AllByRecursion, filter, find};
-ghost use Rattle.amt_values.specs.Order.{tunnel_order};
-ghost use Rattle.amt_values.specs.Tunnel.{Tunnel};
+ghost use Rattle.amt_values.specs.Order.{endpoint_order};
+ghost use Rattle.amt_values.specs.EndpointValue.{EndpointValue};
 ghost use Rattle.source_filter.specs.Record.{item_count};
 ghost use Rattle.contract_words.specs.Ascending.{IsAscending};
 ghost use Rattle.endpoint_membership.specs.Admission.{is_admitted};
@@ -144,11 +144,11 @@ impl Table {
         requires room { live_count self.now.rows ≤ out.old.room }
         ensures targets { ForLog self.now (λ settings log.
             out.new.endpoints ≡ targets_of settings.lifetime log group.now source.now at.now) }
-        ensures exactly { ForLog self.now (λ settings log. (endpoint : Tunnel)
+        ensures exactly { ForLog self.now (λ settings log. (endpoint : EndpointValue)
             → Contains out.new.endpoints endpoint
             ↔ (is_admitted settings.lifetime log (record { endpoint = endpoint; group = group.now })
             source.now at.now ≡ true)) }
-        ensures ascending { IsAscending tunnel_order out.new.endpoints }
+        ensures ascending { IsAscending endpoint_order out.new.endpoints }
 
         ensures room { out.new.room ≡ out.old.room }
         ensures few { length out.new.endpoints ≤ live_count self.now.rows }

@@ -4,7 +4,7 @@ use Rattle.std.specs.Result.{IfOk}
 use Rattle.amt_values.specs.Endpoint.{endpoint_of}
 use Rattle.amt_values.specs.Group.{is_forwardable}
 use Rattle.amt_values.specs.Octets.{AreOctets}
-use Rattle.amt_values.specs.Tunnel.{Tunnel}
+use Rattle.amt_values.specs.EndpointValue.{EndpointValue}
 use Rattle.amt_values.specs.declared.mac.Mac48.{Mac48}
 use Rattle.amt_values.specs.declared.peer.Peer.{Peer}
 use Rattle.amt_messages.specs.Refusal.{message_of}
@@ -17,12 +17,12 @@ use Rattle.source_filter.specs.declared.record.Record.{Record}
 use Rattle.response_mac.specs.ResponseMac.{is_good}
 use Rattle.response_mac.specs.declared.secret.Secret.{Secret}
 use Rattle.response_mac.specs.declared.secrets.Secrets.{Secrets}
-use Rattle.endpoint_membership.specs.Rows.{is_live}
-use Rattle.endpoint_membership.specs.Table.{Terms, limit_passed, standing_now}
+use Rattle.endpoint_membership.specs.Memberships.{is_live}
+use Rattle.endpoint_membership.specs.Table.{TableSettings, limit_passed, memberships_now}
 use Rattle.endpoint_membership.specs.declared.change.Change.{Change}
 use Rattle.endpoint_membership.specs.declared.change.Change.TheVariants.{Clear, Reported}
 use Rattle.endpoint_membership.specs.declared.limits.LimitFault.{LimitFault}
-use Rattle.endpoint_membership.proofs.Within.{none_passed}
+use Rattle.endpoint_membership.proofs.WithinLimits.{none_passed}
 use Rattle.inner_datagrams.specs.Head.{head_of}
 use Rattle.inner_datagrams.specs.declared.head.Head.{Head}
 use Rattle.inner_datagrams.specs.declared.head.HeadFault.{HeadFault}
@@ -38,7 +38,7 @@ use Rattle.relay_machine.specs.Answers.{answer_of, outcome_of}
 use Rattle.relay_machine.specs.EventAnswer.{EventAnswer, datagram_answer, entered, limited_answer, packet_answer, teardown_answer, update_answer}
 use Rattle.relay_machine.specs.Events.{now_of, secrets_of}
 use Rattle.relay_machine.specs.Packets.{by_head, by_scope, targets_at}
-use Rattle.relay_machine.specs.Settings.{terms_of}
+use Rattle.relay_machine.specs.Settings.{table_settings_of}
 use Rattle.relay_machine.specs.Updates.{forwardable_records, report_in}
 use Rattle.amt_values.proofs.NetworkOrder.{AreOctets-drop}
 use Rattle.relay_machine.proofs.Goodness.{is_good-true}
@@ -46,30 +46,30 @@ use Rattle.relay_machine.proofs.Lawful.{lawful-report_in, report_in-lawful}
 use Rattle.relay_machine.proofs.Limits.{always_within, within-report}
 
 -- the answer to an Update with a good MAC, a lawful report and within the limits
-updated_answer : (settings : Settings) (secrets : Secrets) (moment : ℕ) (log : List Change) (from : Option Tunnel) (reading : Result Message Refused) (source : Tunnel) (mac : Mac48) (nonce : ℕ)
+updated_answer : (settings : Settings) (secrets : Secrets) (moment : ℕ) (log : List Change) (from : Option EndpointValue) (reading : Result Message Refused) (source : EndpointValue) (mac : Mac48) (nonce : ℕ)
     (inner : List ℕ) (records : List Record) → from ≡ Some source → reading ≡ Ok (Update mac nonce inner) → is_good secrets source nonce mac ≡ true → report_in inner ≡ Ok records
-    → limit_passed (terms_of settings) log source (forwardable_records records) moment ≡ None
+    → limit_passed (table_settings_of settings) log source (forwardable_records records) moment ≡ None
     → datagram_answer settings secrets moment log from reading ≡ entered Updated (Reported source (forwardable_records records) moment)
 updated_answer settings secrets moment log from reading source mac nonce inner records comes_from read good lawful none =
-    let passed : List Record → Option LimitFault = λ all. limit_passed (terms_of settings) log source all moment in
-    ap (λ (known : Option Tunnel). datagram_answer settings secrets moment log known reading) comes_from
+    let passed : List Record → Option LimitFault = λ all. limit_passed (table_settings_of settings) log source all moment in
+    ap (λ (known : Option EndpointValue). datagram_answer settings secrets moment log known reading) comes_from
     ∙ (ap (datagram_answer settings secrets moment log (Some source)) read
     ∙ (ap (λ (test : Bool). update_answer test (report_in inner) passed source moment) good
     ∙ (ap (λ (report : Result (List Record) Unlawful). update_answer true report passed source moment) lawful
     ∙ ap (λ (fault : Option LimitFault). limited_answer fault (Reported source (forwardable_records records) moment)) none)))
 
 -- the answer to a Teardown with a good MAC of an endpoint with some group
-torn_answer : (settings : Settings) (secrets : Secrets) (moment : ℕ) (log : List Change) (from : Option Tunnel) (reading : Result Message Refused) (sender : Tunnel) (mac : Mac48) (nonce : ℕ)
-    (named : Tunnel) → from ≡ Some sender → reading ≡ Ok (Teardown mac nonce named) → is_good secrets named nonce mac ≡ true → is_live named (standing_now (terms_of settings) log) ≡ true
+torn_answer : (settings : Settings) (secrets : Secrets) (moment : ℕ) (log : List Change) (from : Option EndpointValue) (reading : Result Message Refused) (sender : EndpointValue) (mac : Mac48) (nonce : ℕ)
+    (named : EndpointValue) → from ≡ Some sender → reading ≡ Ok (Teardown mac nonce named) → is_good secrets named nonce mac ≡ true → is_live named (memberships_now (table_settings_of settings) log) ≡ true
     → datagram_answer settings secrets moment log from reading ≡ entered TornDown (Clear named moment)
 torn_answer settings secrets moment log from reading sender mac nonce named comes_from read good live =
-    ap (λ (known : Option Tunnel). datagram_answer settings secrets moment log known reading) comes_from
+    ap (λ (known : Option EndpointValue). datagram_answer settings secrets moment log known reading) comes_from
     ∙ (ap (datagram_answer settings secrets moment log (Some sender)) read
-    ∙ (ap (λ (test : Bool). teardown_answer test (is_live named (standing_now (terms_of settings) log)) named moment) good
+    ∙ (ap (λ (test : Bool). teardown_answer test (is_live named (memberships_now (table_settings_of settings) log)) named moment) good
     ∙ ap (λ (test : Bool). teardown_answer true test named moment) live))
 
 -- what an accepted Update comes to, and what is handed out of it
-pub outcome-accepted : (settings : Settings) (first : Secret) (events : List Event) (event : Event) (endpoint : Tunnel) (records : List Record)
+pub outcome-accepted : (settings : Settings) (first : Secret) (events : List Event) (event : Event) (endpoint : EndpointValue) (records : List Record)
     → IsAcceptedUpdate settings first events event endpoint records
     → (outcome_of settings first events event ≡ Updated) × (change_of settings first events event ≡ Some (Reported endpoint (forwardable_records records) (now_of events)))
 outcome-accepted settings first events event endpoint records update =
@@ -80,10 +80,10 @@ outcome-accepted settings first events event endpoint records update =
     (spelled_is_read (Update update.mac update.nonce update.inner) update.bytes update.spelled) ((is_good-true (secrets_of first events) endpoint update.nonce update.mac).1 update.good)
     (report_in-lawful update.inner records update.lawful) (none_passed settings.limits endpoint (forwardable_records records) _ update.within) in (
       ap (λ (answer : EventAnswer). answer.outcome) whole,
-      ap (λ (answer : EventAnswer). handed_out (terms_of settings) log answer.entry) whole,
+      ap (λ (answer : EventAnswer). handed_out (table_settings_of settings) log answer.entry) whole,
     )
 
-pub outcome-cleared : (settings : Settings) (first : Secret) (events : List Event) (event : Event) (named : Tunnel)
+pub outcome-cleared : (settings : Settings) (first : Secret) (events : List Event) (event : Event) (named : EndpointValue)
     → IsAcceptedTeardown settings first events event named
     → (outcome_of settings first events event ≡ TornDown) × (change_of settings first events event ≡ Some (Clear named (now_of events)))
 outcome-cleared settings first events event named teardown =
@@ -94,13 +94,13 @@ outcome-cleared settings first events event named teardown =
     (spelled_is_read (Teardown teardown.mac teardown.nonce named) teardown.bytes teardown.spelled) ((is_good-true (secrets_of first events) named teardown.nonce teardown.mac).1 teardown.good)
     teardown.live in (
       ap (λ (answer : EventAnswer). answer.outcome) whole,
-      ap (λ (answer : EventAnswer). handed_out (terms_of settings) log answer.entry) whole
+      ap (λ (answer : EventAnswer). handed_out (table_settings_of settings) log answer.entry) whole
           ∙ ap (λ (test : Bool). if test then Some (Clear named (now_of events)) else None) teardown.live,
     )
 
 -- what came where a datagram is judged to be an accepted Update
-record IsUpdateOf (terms : Terms) (secrets : Secrets) (moment : ℕ) (log : List Change) (from : Option Tunnel) (reading : Result Message Refused) : Type 0 where
-  source : Tunnel
+record IsUpdateOf (terms : TableSettings) (secrets : Secrets) (moment : ℕ) (log : List Change) (from : Option EndpointValue) (reading : Result Message Refused) : Type 0 where
+  source : EndpointValue
   mac : Mac48
   nonce : ℕ
   inner : List ℕ
@@ -115,7 +115,7 @@ limit-updated : (passed : Option LimitFault) (change : Change) → (limited_answ
 limit-updated None change same = refl
 limit-updated (Some fault) change same = cc
 
-update-updated : (good : Bool) (reading : Result (List Record) Unlawful) (passed : List Record → Option LimitFault) (source : Tunnel) (moment : ℕ)
+update-updated : (good : Bool) (reading : Result (List Record) Unlawful) (passed : List Record → Option LimitFault) (source : EndpointValue) (moment : ℕ)
     → (update_answer good reading passed source moment).outcome ≡ Updated
     → (good ≡ true) × ((records : List Record) × (reading ≡ Ok records) × (passed (forwardable_records records) ≡ None))
 update-updated false reading passed source moment same = cc
@@ -123,13 +123,13 @@ update-updated true (Err fault) passed source moment same = cc
 update-updated true (Ok records) passed source moment same =
     (refl, (records, refl, limit-updated (passed (forwardable_records records)) (Reported source (forwardable_records records) moment) same))
 
-teardown-updated : (good live : Bool) (named : Tunnel) (moment : ℕ) → (teardown_answer good live named moment).outcome ≡ Updated → ⊥
+teardown-updated : (good live : Bool) (named : EndpointValue) (moment : ℕ) → (teardown_answer good live named moment).outcome ≡ Updated → ⊥
 teardown-updated false live named moment same = cc
 teardown-updated true true named moment same = cc
 teardown-updated true false named moment same = cc
 
-datagram-updated : (settings : Settings) (secrets : Secrets) (moment : ℕ) (log : List Change) (from : Option Tunnel) (reading : Result Message Refused)
-    → (datagram_answer settings secrets moment log from reading).outcome ≡ Updated → IsUpdateOf (terms_of settings) secrets moment log from reading
+datagram-updated : (settings : Settings) (secrets : Secrets) (moment : ℕ) (log : List Change) (from : Option EndpointValue) (reading : Result Message Refused)
+    → (datagram_answer settings secrets moment log from reading).outcome ≡ Updated → IsUpdateOf (table_settings_of settings) secrets moment log from reading
 datagram-updated settings secrets moment log None reading same = cc
 datagram-updated settings secrets moment log (Some source) (Err refusal) same = cc
 datagram-updated settings secrets moment log (Some source) (Ok (Discovery nonce)) same = cc
@@ -138,7 +138,7 @@ datagram-updated settings secrets moment log (Some source) (Ok (Request v6 nonce
 datagram-updated settings secrets moment log (Some source) (Ok (Query limited mac nonce inner seen)) same = cc
 datagram-updated settings secrets moment log (Some source) (Ok (Multicast packet)) same = cc
 datagram-updated settings secrets moment log (Some source) (Ok (Update mac nonce inner)) same =
-    let parts = update-updated (is_good secrets source nonce mac) (report_in inner) (λ (records : List Record). limit_passed (terms_of settings) log source records moment) source moment same in record {
+    let parts = update-updated (is_good secrets source nonce mac) (report_in inner) (λ (records : List Record). limit_passed (table_settings_of settings) log source records moment) source moment same in record {
       source = source;
       mac = mac;
       nonce = nonce;
@@ -151,37 +151,37 @@ datagram-updated settings secrets moment log (Some source) (Ok (Update mac nonce
       none = parts.1.2;
     }
 datagram-updated settings secrets moment log (Some source) (Ok (Teardown mac nonce named)) same =
-    absurd (teardown-updated (is_good secrets named nonce mac) (is_live named (standing_now (terms_of settings) log)) named moment same)
+    absurd (teardown-updated (is_good secrets named nonce mac) (is_live named (memberships_now (table_settings_of settings) log)) named moment same)
 
 -- what came where it is judged to be an accepted Teardown
-record IsTeardownOf (terms : Terms) (secrets : Secrets) (log : List Change) (from : Option Tunnel) (reading : Result Message Refused) : Type 0 where
-  sender : Tunnel
+record IsTeardownOf (terms : TableSettings) (secrets : Secrets) (log : List Change) (from : Option EndpointValue) (reading : Result Message Refused) : Type 0 where
+  sender : EndpointValue
   mac : Mac48
   nonce : ℕ
-  named : Tunnel
+  named : EndpointValue
   comes_from : from ≡ Some sender
   read : reading ≡ Ok (Teardown mac nonce named)
   good : is_good secrets named nonce mac ≡ true
-  live : is_live named (standing_now terms log) ≡ true
+  live : is_live named (memberships_now terms log) ≡ true
 
 limit-torn : (passed : Option LimitFault) (change : Change) → (limited_answer passed change).outcome ≡ TornDown → ⊥
 limit-torn None change same = cc
 limit-torn (Some fault) change same = cc
 
-update-torn : (good : Bool) (reading : Result (List Record) Unlawful) (passed : List Record → Option LimitFault) (source : Tunnel) (moment : ℕ)
+update-torn : (good : Bool) (reading : Result (List Record) Unlawful) (passed : List Record → Option LimitFault) (source : EndpointValue) (moment : ℕ)
     → (update_answer good reading passed source moment).outcome ≡ TornDown → ⊥
 update-torn false reading passed source moment same = cc
 update-torn true (Err fault) passed source moment same = cc
 update-torn true (Ok records) passed source moment same =
     limit-torn (passed (forwardable_records records)) (Reported source (forwardable_records records) moment) same
 
-teardown-torn : (good live : Bool) (named : Tunnel) (moment : ℕ) → (teardown_answer good live named moment).outcome ≡ TornDown → (good ≡ true) × (live ≡ true)
+teardown-torn : (good live : Bool) (named : EndpointValue) (moment : ℕ) → (teardown_answer good live named moment).outcome ≡ TornDown → (good ≡ true) × (live ≡ true)
 teardown-torn false live named moment same = cc
 teardown-torn true true named moment same = (refl, refl)
 teardown-torn true false named moment same = cc
 
-datagram-torn : (settings : Settings) (secrets : Secrets) (moment : ℕ) (log : List Change) (from : Option Tunnel) (reading : Result Message Refused)
-    → (datagram_answer settings secrets moment log from reading).outcome ≡ TornDown → IsTeardownOf (terms_of settings) secrets log from reading
+datagram-torn : (settings : Settings) (secrets : Secrets) (moment : ℕ) (log : List Change) (from : Option EndpointValue) (reading : Result Message Refused)
+    → (datagram_answer settings secrets moment log from reading).outcome ≡ TornDown → IsTeardownOf (table_settings_of settings) secrets log from reading
 datagram-torn settings secrets moment log None reading same = cc
 datagram-torn settings secrets moment log (Some source) (Err refusal) same = cc
 datagram-torn settings secrets moment log (Some source) (Ok (Discovery nonce)) same = cc
@@ -190,9 +190,9 @@ datagram-torn settings secrets moment log (Some source) (Ok (Request v6 nonce)) 
 datagram-torn settings secrets moment log (Some source) (Ok (Query limited mac nonce inner seen)) same = cc
 datagram-torn settings secrets moment log (Some source) (Ok (Multicast packet)) same = cc
 datagram-torn settings secrets moment log (Some source) (Ok (Update mac nonce inner)) same =
-    absurd (update-torn (is_good secrets source nonce mac) (report_in inner) (λ (records : List Record). limit_passed (terms_of settings) log source records moment) source moment same)
+    absurd (update-torn (is_good secrets source nonce mac) (report_in inner) (λ (records : List Record). limit_passed (table_settings_of settings) log source records moment) source moment same)
 datagram-torn settings secrets moment log (Some source) (Ok (Teardown mac nonce named)) same =
-    let parts = teardown-torn (is_good secrets named nonce mac) (is_live named (standing_now (terms_of settings) log)) named moment same in record {
+    let parts = teardown-torn (is_good secrets named nonce mac) (is_live named (memberships_now (table_settings_of settings) log)) named moment same in record {
       sender = source;
       mac = mac;
       nonce = nonce;
@@ -204,17 +204,17 @@ datagram-torn settings secrets moment log (Some source) (Ok (Teardown mac nonce 
     }
 
 -- a packet comes to neither
-scope-neither : (forwards : Bool) (head : Head) (targets : Head → List Tunnel) (packet : List ℕ)
+scope-neither : (forwards : Bool) (head : Head) (targets : Head → List EndpointValue) (packet : List ℕ)
     → ((packet_answer targets packet (by_scope forwards head)).outcome ≡ Updated → ⊥) × ((packet_answer targets packet (by_scope forwards head)).outcome ≡ TornDown → ⊥)
 scope-neither true head targets packet = (λ same. cc, λ same. cc)
 scope-neither false head targets packet = (λ same. cc, λ same. cc)
 
-head-neither : (reading : Result Head HeadFault) (targets : Head → List Tunnel) (packet : List ℕ)
+head-neither : (reading : Result Head HeadFault) (targets : Head → List EndpointValue) (packet : List ℕ)
     → ((packet_answer targets packet (by_head reading)).outcome ≡ Updated → ⊥) × ((packet_answer targets packet (by_head reading)).outcome ≡ TornDown → ⊥)
 head-neither (Err fault) targets packet = (λ same. cc, λ same. cc)
 head-neither (Ok head) targets packet = scope-neither (is_forwardable head.group) head targets packet
 
-pub packet-neither : (big : Bool) (octets : ℕ) (reading : Result Head HeadFault) (targets : Head → List Tunnel) (packet : List ℕ)
+pub packet-neither : (big : Bool) (octets : ℕ) (reading : Result Head HeadFault) (targets : Head → List EndpointValue) (packet : List ℕ)
     → ((packet_answer targets packet (if big then Err (TooBig octets) else by_head reading)).outcome ≡ Updated → ⊥)
     × ((packet_answer targets packet (if big then Err (TooBig octets) else by_head reading)).outcome ≡ TornDown → ⊥)
 packet-neither true octets reading targets packet = (λ same. cc, λ same. cc)
@@ -230,9 +230,9 @@ pub accepted-updated : (settings : Settings) (first : Secret) (events : List Eve
 accepted-updated settings first events (Moment moment) octets same = cc
 accepted-updated settings first events (Rotate secret) octets same = cc
 accepted-updated settings first events (Packet bytes) octets same =
-    absurd ((packet-neither (nat_lt settings.packet_limit (length bytes)) (length bytes) (head_of bytes) (targets_at (terms_of settings) (accepted_log settings first events) (now_of events)) bytes).0 same)
+    absurd ((packet-neither (nat_lt settings.packet_limit (length bytes)) (length bytes) (head_of bytes) (targets_at (table_settings_of settings) (accepted_log settings first events) (now_of events)) bytes).0 same)
 accepted-updated settings first events (Datagram from bytes) octets same =
-    let terms = terms_of settings in
+    let terms = table_settings_of settings in
     let log = accepted_log settings first events in
     let update = datagram-updated settings (secrets_of first events) (now_of events) log (endpoint_of from) (message_of bytes) same in
     let spelled = read_is_spelled bytes (Update update.mac update.nonce update.inner) update.read in
@@ -260,7 +260,7 @@ pub accepted-torn : (settings : Settings) (first : Secret) (events : List Event)
 accepted-torn settings first events (Moment moment) same = cc
 accepted-torn settings first events (Rotate secret) same = cc
 accepted-torn settings first events (Packet bytes) same =
-    absurd ((packet-neither (nat_lt settings.packet_limit (length bytes)) (length bytes) (head_of bytes) (targets_at (terms_of settings) (accepted_log settings first events) (now_of events)) bytes).1 same)
+    absurd ((packet-neither (nat_lt settings.packet_limit (length bytes)) (length bytes) (head_of bytes) (targets_at (table_settings_of settings) (accepted_log settings first events) (now_of events)) bytes).1 same)
 accepted-torn settings first events (Datagram from bytes) same =
     let teardown = datagram-torn settings (secrets_of first events) (now_of events) (accepted_log settings first events) (endpoint_of from) (message_of bytes) same in (
       teardown.named,
@@ -279,7 +279,7 @@ accepted-torn settings first events (Datagram from bytes) same =
     )
 
 -- the same by what was answered
-pub updated-answered : {E : Type 0} (settings : Settings) (first : Secret) (events : List Event) (event : Event) (endpoint : Tunnel) (records : List Record) (answer : Result Step E)
+pub updated-answered : {E : Type 0} (settings : Settings) (first : Secret) (events : List Event) (event : Event) (endpoint : EndpointValue) (records : List Record) (answer : Result Step E)
     → IfOk answer (λ step. step.outcome ≡ outcome_of settings first events event) → IfOk answer (λ step. step.change ≡ change_of settings first events event)
     → IsAcceptedUpdate settings first events event endpoint records
     → IfOk answer (λ step. (step.outcome ≡ Updated) × (step.change ≡ Some (Reported endpoint (forwardable_records records) (now_of events))))
@@ -287,7 +287,7 @@ updated-answered settings first events event endpoint records (Err fault) outcom
 updated-answered settings first events event endpoint records (Ok step) outcome change update =
     let accepted_as = outcome-accepted settings first events event endpoint records update in (outcome ∙ accepted_as.0, change ∙ accepted_as.1)
 
-pub torn-answered : {E : Type 0} (settings : Settings) (first : Secret) (events : List Event) (event : Event) (named : Tunnel) (answer : Result Step E)
+pub torn-answered : {E : Type 0} (settings : Settings) (first : Secret) (events : List Event) (event : Event) (named : EndpointValue) (answer : Result Step E)
     → IfOk answer (λ step. step.outcome ≡ outcome_of settings first events event) → IfOk answer (λ step. step.change ≡ change_of settings first events event)
     → IsAcceptedTeardown settings first events event named
     → IfOk answer (λ step. (step.outcome ≡ TornDown) × (step.change ≡ Some (Clear named (now_of events))))

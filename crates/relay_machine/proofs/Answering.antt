@@ -1,10 +1,10 @@
 -- That a step is an answer of the table.
 use Rattle.std.proofs.Common.{◌≡◌, ◌++◌, ◌∷◌, ℕ, max, Bool, true, false, List, [], Option, Some, None, Result, Ok, refl, sym, ap, subst, ◌∙◌, arith}
-use Rattle.amt_values.specs.Tunnel.{Tunnel}
+use Rattle.amt_values.specs.EndpointValue.{EndpointValue}
 use Rattle.source_filter.specs.declared.record.Record.{Record}
 use Rattle.endpoint_membership.specs.Log.{latest}
-use Rattle.endpoint_membership.specs.Rows.{is_live, standing_rows}
-use Rattle.endpoint_membership.specs.Table.{Holds, TableValue, Terms, limit_passed, standing_now}
+use Rattle.endpoint_membership.specs.Memberships.{is_live, memberships_at}
+use Rattle.endpoint_membership.specs.Table.{Holds, TableValue, TableSettings, limit_passed, memberships_now}
 use Rattle.endpoint_membership.specs.declared.change.Change.{Change}
 use Rattle.endpoint_membership.specs.declared.change.Change.TheVariants.{Clear, Reported}
 use Rattle.endpoint_membership.specs.declared.limits.LimitFault.{LimitFault}
@@ -17,7 +17,7 @@ use Rattle.relay_machine.specs.Logs.{IsAnswered}
 use Rattle.relay_machine.specs.Updates.{forwardable_records}
 
 -- where nothing is entered, nothing is handed out and the table stays
-pub answered-unchanged : (terms : Terms) (before after : TableValue) (log : List Change) (answer : EventAnswer) (step : Step) → Holds terms before log → after ≡ before → answer.entry ≡ None
+pub answered-unchanged : (terms : TableSettings) (before after : TableValue) (log : List Change) (answer : EventAnswer) (step : Step) → Holds terms before log → after ≡ before → answer.entry ≡ None
     → step.outcome ≡ answer.outcome → step.sends ≡ answer.sends → step.change ≡ None → IsAnswered terms before after log answer step
 answered-unchanged terms before after log answer step holds same none outcome sends unchanged =
     let held = subst (λ (table : TableValue). Holds terms table log) (sym same) holds in
@@ -31,7 +31,7 @@ answered-unchanged terms before after log answer step holds same none outcome se
     }
 
 -- where an entry is made and handed out
-pub answered-entered : (terms : Terms) (before after : TableValue) (log : List Change) (answer : EventAnswer) (entry : Change) (step : Step) → answer.entry ≡ Some entry
+pub answered-entered : (terms : TableSettings) (before after : TableValue) (log : List Change) (answer : EventAnswer) (entry : Change) (step : Step) → answer.entry ≡ Some entry
     → handed_out terms log (Some entry) ≡ Some entry → Holds terms after (log ++ entry ∷ []) → step.outcome ≡ answer.outcome → step.sends ≡ answer.sends
     → step.change ≡ Some entry → IsAnswered terms before after log answer step
 answered-entered terms before after log answer entry step made whole holds outcome sends changed =
@@ -45,7 +45,7 @@ answered-entered terms before after log answer entry step made whole holds outco
     }
 
 -- an Update whose report passes no limit
-pub answered-accepted : (terms : Terms) (before after : TableValue) (log : List Change) (source : Tunnel) (records : List Record) (at : ℕ) (step : Step) → at ≡ latest log
+pub answered-accepted : (terms : TableSettings) (before after : TableValue) (log : List Change) (source : EndpointValue) (records : List Record) (at : ℕ) (step : Step) → at ≡ latest log
     → limit_passed terms log source records at ≡ None → Holds terms after (log ++ Reported source records at ∷ []) → step.outcome ≡ Updated → step.sends ≡ []
     → step.change ≡ Some (Reported source records at)
     → IsAnswered terms before after log (limited_answer (limit_passed terms log source records (latest log)) (Reported source records (latest log))) step
@@ -55,7 +55,7 @@ answered-accepted terms before after log source records at step now passed holds
     (answered-entered terms before after log (entered Updated (Reported source records at)) (Reported source records at) step refl refl holds outcome sends changed))
 
 -- one whose report passes a limit
-pub answered-over : (terms : Terms) (before after : TableValue) (log : List Change) (source : Tunnel) (records : List Record) (at : ℕ) (fault : LimitFault) (step : Step) → at ≡ latest log
+pub answered-over : (terms : TableSettings) (before after : TableValue) (log : List Change) (source : EndpointValue) (records : List Record) (at : ℕ) (fault : LimitFault) (step : Step) → at ≡ latest log
     → limit_passed terms log source records at ≡ Some fault → Holds terms before log → after ≡ before → step.outcome ≡ Over fault → step.sends ≡ [] → step.change ≡ None
     → IsAnswered terms before after log (limited_answer (limit_passed terms log source records (latest log)) (Reported source records (latest log))) step
 answered-over terms before after log source records at fault step now passed holds same outcome sends unchanged =
@@ -64,8 +64,8 @@ answered-over terms before after log source records at fault step now passed hol
     (answered-unchanged terms before after log (quiet (Over fault)) step holds same refl outcome sends unchanged))
 
 -- where records were read, the limits are left to judge
-pub answered-read : (terms : Terms) (before after : TableValue) (log : List Change) (reading : Result (List Record) Unlawful) (records kept : List Record)
-    (passed : List Record → Option LimitFault) (source : Tunnel) (moment : ℕ) (step : Step) → reading ≡ Ok records → kept ≡ forwardable_records records
+pub answered-read : (terms : TableSettings) (before after : TableValue) (log : List Change) (reading : Result (List Record) Unlawful) (records kept : List Record)
+    (passed : List Record → Option LimitFault) (source : EndpointValue) (moment : ℕ) (step : Step) → reading ≡ Ok records → kept ≡ forwardable_records records
     → IsAnswered terms before after log (limited_answer (passed kept) (Reported source kept moment)) step
     → IsAnswered terms before after log (update_answer true reading passed source moment) step
 answered-read terms before after log reading records kept passed source moment step read skipped answered =
@@ -73,29 +73,29 @@ answered-read terms before after log reading records kept passed source moment s
     (subst (λ (all : List Record). IsAnswered terms before after log (limited_answer (passed all) (Reported source all moment)) step) skipped answered)
 
 -- whether an endpoint is live at the log's own moment
-pub live_now : (terms : Terms) (log : List Change) (endpoint : Tunnel) (at : ℕ) (live : Bool) → at ≡ latest log
-    → live ≡ is_live endpoint (standing_rows terms.lifetime (max at (latest log)) log) → is_live endpoint (standing_now terms log) ≡ live
+pub live_now : (terms : TableSettings) (log : List Change) (endpoint : EndpointValue) (at : ℕ) (live : Bool) → at ≡ latest log
+    → live ≡ is_live endpoint (memberships_at terms.lifetime (max at (latest log)) log) → is_live endpoint (memberships_now terms log) ≡ live
 live_now terms log endpoint at live now found =
-    sym (found ∙ ap (λ (moment : ℕ). is_live endpoint (standing_rows terms.lifetime moment log)) (omega (arith, now)))
+    sym (found ∙ ap (λ (moment : ℕ). is_live endpoint (memberships_at terms.lifetime moment log)) (omega (arith, now)))
 
 -- a Teardown of an endpoint with some group
-pub answered-torn : (terms : Terms) (before after : TableValue) (log : List Change) (named : Tunnel) (at : ℕ) (live : Bool) (step : Step) → at ≡ latest log → live ≡ true
-    → live ≡ is_live named (standing_rows terms.lifetime (max at (latest log)) log) → Holds terms after (log ++ Clear named at ∷ []) → step.outcome ≡ TornDown → step.sends ≡ []
-    → step.change ≡ Some (Clear named at) → IsAnswered terms before after log (teardown_answer true (is_live named (standing_now terms log)) named (latest log)) step
+pub answered-torn : (terms : TableSettings) (before after : TableValue) (log : List Change) (named : EndpointValue) (at : ℕ) (live : Bool) (step : Step) → at ≡ latest log → live ≡ true
+    → live ≡ is_live named (memberships_at terms.lifetime (max at (latest log)) log) → Holds terms after (log ++ Clear named at ∷ []) → step.outcome ≡ TornDown → step.sends ≡ []
+    → step.change ≡ Some (Clear named at) → IsAnswered terms before after log (teardown_answer true (is_live named (memberships_now terms log)) named (latest log)) step
 answered-torn terms before after log named at live step now is_so found holds outcome sends changed =
-    let is : is_live named (standing_now terms log) ≡ true = live_now terms log named at live now found ∙ is_so in
-    subst (λ (m : ℕ). IsAnswered terms before after log (teardown_answer true (is_live named (standing_now terms log)) named m) step) now
+    let is : is_live named (memberships_now terms log) ≡ true = live_now terms log named at live now found ∙ is_so in
+    subst (λ (m : ℕ). IsAnswered terms before after log (teardown_answer true (is_live named (memberships_now terms log)) named m) step) now
     (subst (λ (test : Bool). IsAnswered terms before after log (teardown_answer true test named at) step) (sym is)
     (answered-entered terms before after log (entered TornDown (Clear named at)) (Clear named at) step refl (rw is refl) holds outcome sends changed))
 
 -- one of an endpoint with none: the clearing is entered, and changes nothing
-pub answered-no_tunnel : (terms : Terms) (before after : TableValue) (log : List Change) (named : Tunnel) (at : ℕ) (live : Bool) (step : Step) → at ≡ latest log → live ≡ false
-    → live ≡ is_live named (standing_rows terms.lifetime (max at (latest log)) log) → Holds terms after (log ++ Clear named at ∷ []) → Holds terms before log → after ≡ before
+pub answered-no_tunnel : (terms : TableSettings) (before after : TableValue) (log : List Change) (named : EndpointValue) (at : ℕ) (live : Bool) (step : Step) → at ≡ latest log → live ≡ false
+    → live ≡ is_live named (memberships_at terms.lifetime (max at (latest log)) log) → Holds terms after (log ++ Clear named at ∷ []) → Holds terms before log → after ≡ before
     → step.outcome ≡ NoTunnel → step.sends ≡ [] → step.change ≡ None
-    → IsAnswered terms before after log (teardown_answer true (is_live named (standing_now terms log)) named (latest log)) step
+    → IsAnswered terms before after log (teardown_answer true (is_live named (memberships_now terms log)) named (latest log)) step
 answered-no_tunnel terms before after log named at live step now is_so found holds held same outcome sends unchanged =
-    let is : is_live named (standing_now terms log) ≡ false = live_now terms log named at live now found ∙ is_so in
-    subst (λ (m : ℕ). IsAnswered terms before after log (teardown_answer true (is_live named (standing_now terms log)) named m) step) now
+    let is : is_live named (memberships_now terms log) ≡ false = live_now terms log named at live now found ∙ is_so in
+    subst (λ (m : ℕ). IsAnswered terms before after log (teardown_answer true (is_live named (memberships_now terms log)) named m) step) now
     (subst (λ (test : Bool). IsAnswered terms before after log (teardown_answer true test named at) step) (sym is) (record {
       outcome = outcome;
       sends = sends;

@@ -3,8 +3,8 @@ use Rattle.std.proofs.Common.{◌≡◌, ℕ, ◌↔◌, Bool, true, false, List
 use Rattle.std.specs.List.{Contains}
 use Rattle.std.proofs.lemmas.Bool.{le-ltb}
 use Rattle.std.proofs.lemmas.List.Elements.{All-map}
-use Rattle.amt_values.specs.Order.{tunnel_order}
-use Rattle.amt_values.specs.Tunnel.{Tunnel}
+use Rattle.amt_values.specs.Order.{endpoint_order}
+use Rattle.amt_values.specs.EndpointValue.{EndpointValue}
 use Rattle.amt_messages.specs.Layout.{IsCanonical, spelling_of}
 use Rattle.amt_messages.specs.declared.message.Message.TheVariants.{Multicast}
 use Rattle.contract_words.specs.Ascending.{IsAscending}
@@ -14,10 +14,10 @@ use Rattle.inner_datagrams.proofs.Heads.{answer_only}
 use Rattle.response_mac.specs.declared.secret.Secret.{Secret}
 use Rattle.endpoint_membership.specs.Limits.{live_count}
 use Rattle.endpoint_membership.specs.Log.{latest}
-use Rattle.endpoint_membership.specs.Table.{Holds, TableValue, Terms, standing_now}
+use Rattle.endpoint_membership.specs.Table.{Holds, TableValue, TableSettings, memberships_now}
 use Rattle.endpoint_membership.specs.declared.change.Change.{Change}
-use Rattle.endpoint_membership.proofs.ByLog.{rows_are}
-use Rattle.endpoint_membership.proofs.Wanting.{IsAscending-targets_of, targets_want}
+use Rattle.endpoint_membership.proofs.MembershipsByLog.{rows_are}
+use Rattle.endpoint_membership.proofs.TargetsByLog.{IsAscending-targets_of, targets_want}
 use Rattle.relay_machine.specs.declared.event.Event.{Event}
 use Rattle.relay_machine.specs.declared.event.Event.TheVariants.{Packet}
 use Rattle.relay_machine.specs.declared.outcome.Outcome.{Outcome}
@@ -31,22 +31,22 @@ use Rattle.relay_machine.specs.EventAnswer.{EventAnswer, packet_answer, quiet}
 use Rattle.relay_machine.specs.Events.{now_of}
 use Rattle.relay_machine.specs.Logs.{IsAnswered}
 use Rattle.relay_machine.specs.Packets.{AreCopies, IsToCopy, copies, head_to_copy, receivers, targets_at}
-use Rattle.relay_machine.specs.Settings.{membership_interval_ms, terms_of}
+use Rattle.relay_machine.specs.Settings.{membership_interval_ms, table_settings_of}
 use Rattle.relay_machine.specs.State.{HasLog}
 use Rattle.relay_machine.proofs.Answering.{answered-unchanged}
 
 -- as many endpoints as a table that represents a log counts are those of its rows
-pub live_count-found : (terms : Terms) (table : TableValue) (found : ℕ) → HasLog terms table
-    → ((by : Terms) (log : List Change) → Holds by table log → found ≡ live_count (standing_now by log)) → live_count table.rows ≡ found
+pub live_count-found : (terms : TableSettings) (table : TableValue) (found : ℕ) → HasLog terms table
+    → ((by : TableSettings) (log : List Change) → Holds by table log → found ≡ live_count (memberships_now by log)) → live_count table.rows ≡ found
 live_count-found terms table found has_log counts =
     let log = has_log.0 in
     let holds = has_log.1 in
     ap live_count (rows_are terms.lifetime (latest log) log table.rows holds.rows) ∙ sym (counts terms log holds)
 
 -- copies go to the targets
-receivers-copies : (targets : List Tunnel) (packet : List ℕ) → receivers (copies targets packet) ≡ targets
+receivers-copies : (targets : List EndpointValue) (packet : List ℕ) → receivers (copies targets packet) ≡ targets
 receivers-copies [] packet = refl
-receivers-copies (endpoint ∷ later) packet = ap (λ (rest : List Tunnel). endpoint ∷ rest) (receivers-copies later packet)
+receivers-copies (endpoint ∷ later) packet = ap (λ (rest : List EndpointValue). endpoint ∷ rest) (receivers-copies later packet)
 
 data_is_canonical : (packet : List ℕ) → IsCanonical (Multicast packet) (spelling_of (Multicast packet))
 data_is_canonical packet = record {
@@ -55,31 +55,31 @@ data_is_canonical packet = record {
   address_form = tt;
 }
 
-copy_to : List ℕ → Tunnel → OneSend
+copy_to : List ℕ → EndpointValue → OneSend
 copy_to packet endpoint = record { to = endpoint; bytes = spelling_of (Multicast packet) }
 
 -- copies to the targets are copies to those that want the packet
-copies-are : (targets : List Tunnel) (packet : List ℕ) (wants : Tunnel → Bool) → ((endpoint : Tunnel) → Contains targets endpoint ↔ (wants endpoint ≡ true))
-    → IsAscending tunnel_order targets → AreCopies wants packet (copies targets packet)
+copies-are : (targets : List EndpointValue) (packet : List ℕ) (wants : EndpointValue → Bool) → ((endpoint : EndpointValue) → Contains targets endpoint ↔ (wants endpoint ≡ true))
+    → IsAscending endpoint_order targets → AreCopies wants packet (copies targets packet)
 unfolding copy_to
 copies-are targets packet wants exactly ascends =
     let same = sym (receivers-copies targets packet) in record {
-      exactly = λ endpoint. subst (λ (to : List Tunnel). Contains to endpoint ↔ (wants endpoint ≡ true)) same (exactly endpoint);
-      once = subst (IsAscending tunnel_order) same ascends;
+      exactly = λ endpoint. subst (λ (to : List EndpointValue). Contains to endpoint ↔ (wants endpoint ≡ true)) same (exactly endpoint);
+      once = subst (IsAscending endpoint_order) same ascends;
       octets = All-map (λ (send : OneSend). IsCanonical (Multicast packet) send.bytes) (copy_to packet) targets (λ k d small. data_is_canonical packet);
     }
 
 -- a packet that is copied, where the table stays
-pub answered-copied : (terms : Terms) (table : TableValue) (log : List Change) (targets : Head → List Tunnel) (packet : List ℕ) (read : Result Head Outcome) (head : Head) (found : List Tunnel) (step : Step)
+pub answered-copied : (terms : TableSettings) (table : TableValue) (log : List Change) (targets : Head → List EndpointValue) (packet : List ℕ) (read : Result Head Outcome) (head : Head) (found : List EndpointValue) (step : Step)
     → Holds terms table log → Ok head ≡ read → found ≡ targets head → step.outcome ≡ Copied (length found) → step.sends ≡ copies found packet → step.change ≡ None
     → IsAnswered terms table table log (packet_answer targets packet read) step
 answered-copied terms table log targets packet read head found step holds is same outcome sends unchanged =
     subst (λ (r : Result Head Outcome). IsAnswered terms table table log (packet_answer targets packet r) step) is
-    (answered-unchanged terms table table log (packet_answer targets packet (Ok head)) step holds refl refl (outcome ∙ ap (λ (all : List Tunnel). Copied (length all)) same)
-    (sends ∙ ap (λ (all : List Tunnel). copies all packet) same) unchanged)
+    (answered-unchanged terms table table log (packet_answer targets packet (Ok head)) step holds refl refl (outcome ∙ ap (λ (all : List EndpointValue). Copied (length all)) same)
+    (sends ∙ ap (λ (all : List EndpointValue). copies all packet) same) unchanged)
 
 -- one that isn't
-pub answered-not_copied : (terms : Terms) (table : TableValue) (log : List Change) (targets : Head → List Tunnel) (packet : List ℕ) (read : Result Head Outcome) (outcome : Outcome) (step : Step)
+pub answered-not_copied : (terms : TableSettings) (table : TableValue) (log : List Change) (targets : Head → List EndpointValue) (packet : List ℕ) (read : Result Head Outcome) (outcome : Outcome) (step : Step)
     → Holds terms table log → Err outcome ≡ read → step.outcome ≡ outcome → step.sends ≡ [] → step.change ≡ None
     → IsAnswered terms table table log (packet_answer targets packet read) step
 answered-not_copied terms table log targets packet read outcome step holds is came sends unchanged =
@@ -93,7 +93,7 @@ head_to_copy-ok limit head packet to_copy =
     let found = answer_only (head_of packet) packet refl head to_copy.begins in
     rw (short, found, to_copy.scope) refl
 
-length-copies : (targets : List Tunnel) (packet : List ℕ) → length (copies targets packet) ≡ length targets
+length-copies : (targets : List EndpointValue) (packet : List ℕ) → length (copies targets packet) ≡ length targets
 length-copies [] packet = refl
 length-copies (endpoint ∷ later) packet = ap (λ (n : ℕ). suc n) (length-copies later packet)
 
@@ -104,7 +104,7 @@ pub AreCopies-answered : (settings : Settings) (first : Secret) (events : List E
 AreCopies-answered settings first events packet head step outcome sends to_copy =
     let lifetime = membership_interval_ms settings in
     let log = accepted_log settings first events in
-    let targets = targets_at (terms_of settings) log (now_of events) in
+    let targets = targets_at (table_settings_of settings) log (now_of events) in
     let answer : Result Head Outcome → EventAnswer = packet_answer targets packet in
     let found = head_to_copy-ok settings.packet_limit head packet to_copy in
     let sent : step.sends ≡ copies (targets head) packet = sends ∙ ap (λ (read : Result Head Outcome). (answer read).sends) found in

@@ -3,7 +3,7 @@ use Rattle.std.proofs.Common.{◌≡◌, ℕ, Bool, true, false, ◌||◌, ◌�
 use Rattle.std.specs.Bool.{Decides}
 use Rattle.std.specs.Option.{IsSomeAnd}
 use Rattle.std.proofs.lemmas.Slice.Eq.{bytes_eq-Decides}
-use Rattle.amt_values.specs.Tunnel.{Tunnel}
+use Rattle.amt_values.specs.EndpointValue.{EndpointValue}
 use Rattle.amt_values.specs.declared.mac.Mac48.{Mac48}
 use Rattle.response_mac.specs.ResponseMac.{IsGood, is_given, is_good, mac_of, same_mac}
 use Rattle.response_mac.specs.declared.secret.Secret.{Secret}
@@ -14,7 +14,7 @@ same_mac-true one other =
     let test = bytes_eq-Decides one.0 other.0 in
     (λ same. ap (λ (octets : List ℕ). record { 0 = octets }) (test.0 same), λ same. test.1 (ap (λ (mac : Mac48). mac.0) same))
 
-is_given-true : (secret : Option Secret) (endpoint : Tunnel) (nonce : ℕ) (mac : Mac48)
+is_given-true : (secret : Option Secret) (endpoint : EndpointValue) (nonce : ℕ) (mac : Mac48)
     → Decides (is_given secret endpoint nonce mac) (IsSomeAnd secret (λ known. mac ≡ mac_of known endpoint nonce))
 is_given-true None endpoint nonce mac = (λ given. cc, λ given. absurd given)
 is_given-true (Some secret) endpoint nonce mac = same_mac-true mac (mac_of secret endpoint nonce)
@@ -28,7 +28,7 @@ one_true true other either = refl
 one_true false other (inl holds) = cc
 one_true false other (inr holds) = holds
 
-pub is_good-true : (secrets : Secrets) (endpoint : Tunnel) (nonce : ℕ) (mac : Mac48) → Decides (is_good secrets endpoint nonce mac) (IsGood secrets endpoint nonce mac)
+pub is_good-true : (secrets : Secrets) (endpoint : EndpointValue) (nonce : ℕ) (mac : Mac48) → Decides (is_good secrets endpoint nonce mac) (IsGood secrets endpoint nonce mac)
 is_good-true secrets endpoint nonce mac =
     let current = is_given-true (Some secrets.current) endpoint nonce mac in
     let previous = is_given-true secrets.previous endpoint nonce mac in (

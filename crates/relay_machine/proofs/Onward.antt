@@ -9,7 +9,7 @@ use Rattle.std.proofs.lemmas.List.Sums.{fold-append}
 use Rattle.std.specs.List.{fold, filter_map}
 use Rattle.std.specs.Result.{IfOk, OnErr}
 use Rattle.amt_values.specs.Endpoint.{endpoint_of}
-use Rattle.amt_values.specs.Tunnel.{Tunnel}
+use Rattle.amt_values.specs.EndpointValue.{EndpointValue}
 use Rattle.amt_messages.specs.declared.message.Message.{Message}
 use Rattle.amt_messages.specs.declared.message.Message.TheVariants.{Discovery, Advertisement, Request, Query, Update, Multicast, Teardown}
 use Rattle.amt_messages.specs.declared.refusal.Refused.{Refused}
@@ -21,14 +21,14 @@ use Rattle.inner_datagrams.specs.declared.head.Head.{Head}
 use Rattle.source_filter.specs.declared.record.Record.{Record}
 use Rattle.endpoint_membership.specs.Limits.{AreFew, IsWithin}
 use Rattle.endpoint_membership.specs.Log.{latest}
-use Rattle.endpoint_membership.specs.Rows.{is_live}
-use Rattle.endpoint_membership.specs.Table.{Holds, IsWithinLimits, TableValue, Terms, limit_passed, standing_now}
+use Rattle.endpoint_membership.specs.Memberships.{is_live}
+use Rattle.endpoint_membership.specs.Table.{Holds, IsWithinLimits, TableValue, TableSettings, limit_passed, memberships_now}
 use Rattle.endpoint_membership.specs.declared.change.Change.{Change}
 use Rattle.endpoint_membership.specs.declared.change.Change.TheVariants.{Mark, Clear, Reported}
 use Rattle.endpoint_membership.specs.declared.limits.LimitFault.{LimitFault}
 use Rattle.endpoint_membership.specs.declared.limits.Limits.{Limits}
 use Rattle.endpoint_membership.specs.declared.row.Row.{Row}
-use Rattle.endpoint_membership.proofs.Held.{IsWithin-log, latest-push}
+use Rattle.endpoint_membership.proofs.HoldsAfter.{IsWithin-log, latest-push}
 use Rattle.relay_machine.specs.declared.event.Event.{Event}
 use Rattle.relay_machine.specs.declared.event.Event.TheVariants.{Moment, Datagram, Packet, Rotate}
 use Rattle.relay_machine.specs.declared.outcome.Outcome.{Outcome}
@@ -43,7 +43,7 @@ use Rattle.relay_machine.specs.EventAnswer.{EventAnswer, datagram_answer, event_
 use Rattle.relay_machine.specs.Events.{moment_in, now_of, secret_in, secrets_of}
 use Rattle.relay_machine.specs.Logs.{Answers, IsAnswered}
 use Rattle.relay_machine.specs.Packets.{head_to_copy, targets_at}
-use Rattle.relay_machine.specs.Settings.{terms_of}
+use Rattle.relay_machine.specs.Settings.{table_settings_of}
 use Rattle.relay_machine.specs.State.{HasLog}
 use Rattle.relay_machine.specs.Updates.{forwardable_records, report_in}
 
@@ -89,7 +89,7 @@ latest-accepted relay settings first events at = sym at.table.moment ∙ at.mome
 pub StandsFor-accepted : (relay : Relay) (settings : Settings) (first : Secret) (events : List Event) → RelayAt relay settings first events
     → StandsFor relay (accepted_log settings first events)
 StandsFor-accepted relay settings first events at =
-    subst (λ (known : Settings). Holds (terms_of known) relay.table (accepted_log settings first events)) (sym at.settings_kept) at.table
+    subst (λ (known : Settings). Holds (table_settings_of known) relay.table (accepted_log settings first events)) (sym at.settings_kept) at.table
 
 -- the limits of a relay's table are those of its settings
 pub AreFew-settings : (relay : Relay) (rows : List Row) → AreFew relay.table.limits rows → AreFew (settings_of relay).limits rows
@@ -100,35 +100,35 @@ within_prop : (table : TableValue) → IsProp (IsWithinLimits table)
 within_prop table = hlevel props
 
 -- relays that keep the same are one
-pub same_relay : (relay : Relay) (table : TableValue) (within : IsWithinLimits table) (has_log : ∥ HasLog (terms_of relay.setup.settings) table ∥₁)
+pub same_relay : (relay : Relay) (table : TableValue) (within : IsWithinLimits table) (has_log : ∥ HasLog (table_settings_of relay.setup.settings) table ∥₁)
     → table ≡ relay.table → record relay { table = table; within = within; has_log = has_log } ≡ relay
 same_relay relay table within has_log same = λ i. record relay {
   table = same i;
   within = is_prop→PathP (λ j. IsWithinLimits (same j)) (λ j. within_prop (same j)) within relay.within i;
-  has_log = is_prop→PathP (λ j. ∥ HasLog (terms_of relay.setup.settings) (same j) ∥₁) (λ j. ∥∥₁_prop) has_log relay.has_log i;
+  has_log = is_prop→PathP (λ j. ∥ HasLog (table_settings_of relay.setup.settings) (same j) ∥₁) (λ j. ∥∥₁_prop) has_log relay.has_log i;
 }
 
 -- a new relay
 pub RelayAt-new : (relay : Relay) (settings : Settings) (first : Secret) → settings_of relay ≡ settings → relay.secrets ≡ secrets_after first []
-    → Holds (terms_of settings) relay.table [] → RelayAt relay settings first []
+    → Holds (table_settings_of settings) relay.table [] → RelayAt relay settings first []
 unfolding now_of secrets_of accepted_back
 RelayAt-new relay settings first same_settings same_secrets holds =
     record { settings_kept = same_settings; secrets = same_secrets; table = holds; moment = holds.moment }
 
 -- the table after an event, with the entry that the event adds
 Holds-push : (settings : Settings) (first : Secret) (events : List Event) (event : Event) (table : TableValue)
-    → Holds (terms_of settings) table (with_change (accepted_log settings first events) (entry_of settings first events event))
-    → Holds (terms_of settings) table (accepted_log settings first (events ++ event ∷ []))
-Holds-push settings first events event table holds = subst (Holds (terms_of settings) table) (sym (accepted-push settings first events event)) holds
+    → Holds (table_settings_of settings) table (with_change (accepted_log settings first events) (entry_of settings first events event))
+    → Holds (table_settings_of settings) table (accepted_log settings first (events ++ event ∷ []))
+Holds-push settings first events event table holds = subst (Holds (table_settings_of settings) table) (sym (accepted-push settings first events event)) holds
 
 -- a moment moves the table on, and changes nothing else
 pub RelayAt-moment : (relay after : Relay) (settings : Settings) (first : Secret) (events : List Event) (moment later : ℕ) → RelayAt relay settings first events
     → settings_of after ≡ settings_of relay → after.secrets ≡ relay.secrets → later ≡ max (moment_of relay) moment
-    → ((terms : Terms) (log : List Change) → Holds terms relay.table log → Holds terms after.table (log ++ Mark later ∷ []))
+    → ((terms : TableSettings) (log : List Change) → Holds terms relay.table log → Holds terms after.table (log ++ Mark later ∷ []))
     → RelayAt after settings first (events ++ Moment moment ∷ [])
 RelayAt-moment relay after settings first events moment later at same_settings same_secrets later_is marked =
     let log = accepted_log settings first events in
-    let held = marked (terms_of settings) log at.table in
+    let held = marked (table_settings_of settings) log at.table in
     let by_events : later ≡ max (now_of events) moment = later_is ∙ ap (λ (m : ℕ). max m moment) at.moment in
     let shown_now = now_of-moment events moment in
     let shown = held.moment in
@@ -136,45 +136,45 @@ RelayAt-moment relay after settings first events moment later at same_settings s
     let before = latest-accepted relay settings first events at in record {
       settings_kept = same_settings ∙ at.settings_kept;
       secrets = same_secrets ∙ (at.secrets ∙ sym (secrets_of-other first events (Moment moment) refl));
-      table = Holds-push settings first events (Moment moment) after.table (subst (λ (m : ℕ). Holds (terms_of settings) after.table (log ++ Mark m ∷ [])) by_events held);
+      table = Holds-push settings first events (Moment moment) after.table (subst (λ (m : ℕ). Holds (table_settings_of settings) after.table (log ++ Mark m ∷ [])) by_events held);
       moment = omega arith;
     }
 
-limited-unmoved : (passed : Option LimitFault) (log : List Change) (source : Tunnel) (records : List Record)
+limited-unmoved : (passed : Option LimitFault) (log : List Change) (source : EndpointValue) (records : List Record)
     → latest (with_change log (limited_answer passed (Reported source records (latest log))).entry) ≡ latest log
 limited-unmoved None log source records = let pushed = latest-push log (Reported source records (latest log)) in omega arith
 limited-unmoved (Some fault) log source records = refl
 
-update-unmoved : (good : Bool) (reading : Result (List Record) Unlawful) (passed : List Record → Option LimitFault) (log : List Change) (source : Tunnel)
+update-unmoved : (good : Bool) (reading : Result (List Record) Unlawful) (passed : List Record → Option LimitFault) (log : List Change) (source : EndpointValue)
     → latest (with_change log (update_answer good reading passed source (latest log)).entry) ≡ latest log
 update-unmoved false reading passed log source = refl
 update-unmoved true (Err fault) passed log source = refl
 update-unmoved true (Ok records) passed log source = limited-unmoved (passed (forwardable_records records)) log source (forwardable_records records)
 
-teardown-unmoved : (good live : Bool) (log : List Change) (named : Tunnel) → latest (with_change log (teardown_answer good live named (latest log)).entry) ≡ latest log
+teardown-unmoved : (good live : Bool) (log : List Change) (named : EndpointValue) → latest (with_change log (teardown_answer good live named (latest log)).entry) ≡ latest log
 teardown-unmoved false live log named = refl
 teardown-unmoved true true log named = let pushed = latest-push log (Clear named (latest log)) in omega arith
 teardown-unmoved true false log named = let pushed = latest-push log (Clear named (latest log)) in omega arith
 
-message-unmoved : (settings : Settings) (secrets : Secrets) (log : List Change) (source : Tunnel) (message : Message)
+message-unmoved : (settings : Settings) (secrets : Secrets) (log : List Change) (source : EndpointValue) (message : Message)
     → latest (with_change log (message_answer settings secrets (latest log) log source message).entry) ≡ latest log
 message-unmoved settings secrets log source (Discovery nonce) = refl
 message-unmoved settings secrets log source (Advertisement nonce relay) = refl
 message-unmoved settings secrets log source (Request v6 nonce) = refl
 message-unmoved settings secrets log source (Query limited mac nonce inner seen) = refl
 message-unmoved settings secrets log source (Update mac nonce inner) =
-    update-unmoved (is_good secrets source nonce mac) (report_in inner) (λ (records : List Record). limit_passed (terms_of settings) log source records (latest log)) log source
+    update-unmoved (is_good secrets source nonce mac) (report_in inner) (λ (records : List Record). limit_passed (table_settings_of settings) log source records (latest log)) log source
 message-unmoved settings secrets log source (Multicast packet) = refl
 message-unmoved settings secrets log source (Teardown mac nonce named) =
-    teardown-unmoved (is_good secrets named nonce mac) (is_live named (standing_now (terms_of settings) log)) log named
+    teardown-unmoved (is_good secrets named nonce mac) (is_live named (memberships_now (table_settings_of settings) log)) log named
 
-datagram-unmoved : (settings : Settings) (secrets : Secrets) (log : List Change) (source : Option Tunnel) (reading : Result Message Refused)
+datagram-unmoved : (settings : Settings) (secrets : Secrets) (log : List Change) (source : Option EndpointValue) (reading : Result Message Refused)
     → latest (with_change log (datagram_answer settings secrets (latest log) log source reading).entry) ≡ latest log
 datagram-unmoved settings secrets log None reading = refl
 datagram-unmoved settings secrets log (Some source) (Err refusal) = refl
 datagram-unmoved settings secrets log (Some source) (Ok message) = message-unmoved settings secrets log source message
 
-packet-unmoved : (log : List Change) (targets : Head → List Tunnel) (packet : List ℕ) (reading : Result Head Outcome)
+packet-unmoved : (log : List Change) (targets : Head → List EndpointValue) (packet : List ℕ) (reading : Result Head Outcome)
     → latest (with_change log (packet_answer targets packet reading).entry) ≡ latest log
 packet-unmoved log targets packet (Ok head) = refl
 packet-unmoved log targets packet (Err outcome) = refl
@@ -184,7 +184,7 @@ payload-unmoved : (settings : Settings) (secrets : Secrets) (log : List Change) 
     → latest (with_change log (event_answer settings secrets (latest log) log event).entry) ≡ latest log
 payload-unmoved settings secrets log (Moment moment) payload = absurd payload
 payload-unmoved settings secrets log (Rotate secret) payload = absurd payload
-payload-unmoved settings secrets log (Packet bytes) payload = packet-unmoved log (targets_at (terms_of settings) log (latest log)) bytes (head_to_copy settings.packet_limit bytes)
+payload-unmoved settings secrets log (Packet bytes) payload = packet-unmoved log (targets_at (table_settings_of settings) log (latest log)) bytes (head_to_copy settings.packet_limit bytes)
 payload-unmoved settings secrets log (Datagram from bytes) payload = datagram-unmoved settings secrets log (endpoint_of from) (message_of bytes)
 
 payload_moment : (event : Event) → IsPayload event → filter_map moment_in (event ∷ []) ≡ []
@@ -202,11 +202,11 @@ payload_secret (Datagram from bytes) payload = refl
 -- what is answered by the table's own log is what is answered by the events
 pub answered-after : {E : Type 0} (relay : Relay) (after : TableValue) (settings : Settings) (first : Secret) (events : List Event) (event : Event) (result : Result Step E)
     → RelayAt relay settings first events
-    → Answers (terms_of (settings_of relay)) relay.table after result (λ log. event_answer (settings_of relay) relay.secrets (latest log) log event)
-    → IfOk result (IsAnswered (terms_of settings) relay.table after (accepted_log settings first events) (answer_of settings first events event))
+    → Answers (table_settings_of (settings_of relay)) relay.table after result (λ log. event_answer (settings_of relay) relay.secrets (latest log) log event)
+    → IfOk result (IsAnswered (table_settings_of settings) relay.table after (accepted_log settings first events) (answer_of settings first events event))
 answered-after relay after settings first events event result at answers =
     let log = accepted_log settings first events in
-    let by : Settings → Secrets → ℕ → Type 0 = λ known secrets moment. IfOk result (IsAnswered (terms_of known) relay.table after log (event_answer known secrets moment log event)) in
+    let by : Settings → Secrets → ℕ → Type 0 = λ known secrets moment. IfOk result (IsAnswered (table_settings_of known) relay.table after log (event_answer known secrets moment log event)) in
     subst (by settings (secrets_of first events)) (latest-accepted relay settings first events at)
     (subst (λ (secrets : Secrets). by settings secrets (latest log)) at.secrets
     (subst (λ (known : Settings). by known relay.secrets (latest log)) at.settings_kept (answers log (StandsFor-accepted relay settings first events at))))
@@ -214,7 +214,7 @@ answered-after relay after settings first events event result at answers =
 -- a datagram or a packet changes the table by the entry that it adds, and nothing else
 pub RelayAt-payload : (relay after : Relay) (settings : Settings) (first : Secret) (events : List Event) (event : Event) → RelayAt relay settings first events → IsPayload event
     → settings_of after ≡ settings_of relay → after.secrets ≡ relay.secrets
-    → Holds (terms_of settings) after.table (with_change (accepted_log settings first events) (entry_of settings first events event))
+    → Holds (table_settings_of settings) after.table (with_change (accepted_log settings first events) (entry_of settings first events event))
     → RelayAt after settings first (events ++ event ∷ [])
 RelayAt-payload relay after settings first events event at payload same_settings same_secrets holds =
     let log = accepted_log settings first events in
@@ -237,17 +237,17 @@ unfolding secrets_of
 RelayAt-rotate relay after settings first events secret at same_settings same_table appended = record {
   settings_kept = same_settings ∙ at.settings_kept;
   secrets = appended first (filter_map secret_in events) at.secrets ∙ sym (secrets_of-rotate first events secret);
-  table = Holds-push settings first events (Rotate secret) after.table (subst (λ (table : TableValue). Holds (terms_of settings) table (accepted_log settings first events)) (sym same_table) at.table);
+  table = Holds-push settings first events (Rotate secret) after.table (subst (λ (table : TableValue). Holds (table_settings_of settings) table (accepted_log settings first events)) (sym same_table) at.table);
   moment = ap (λ (table : TableValue). table.moment) same_table ∙ (at.moment ∙ sym (now_of-other events (Rotate secret) refl));
 }
 
 -- the memberships by the log are within the limits, as each relay's table is
 pub IsWithin-events : (relay : Relay) (settings : Settings) (first : Secret) (events : List Event) → RelayAt relay settings first events
-    → IsWithin settings.limits (standing_now (terms_of settings) (accepted_log settings first events))
-IsWithin-events relay settings first events at = IsWithin-log (terms_of settings) relay.table (accepted_log settings first events) at.table relay.within
+    → IsWithin settings.limits (memberships_now (table_settings_of settings) (accepted_log settings first events))
+IsWithin-events relay settings first events at = IsWithin-log (table_settings_of settings) relay.table (accepted_log settings first events) at.table relay.within
 
 -- a table that an answer left represents some log again
-pub HasLog-answered : {E : Type 0} (terms : Terms) (before after : TableValue) (answer : List Change → EventAnswer) (result : Result Step E) → ∥ HasLog terms before ∥₁
+pub HasLog-answered : {E : Type 0} (terms : TableSettings) (before after : TableValue) (answer : List Change → EventAnswer) (result : Result Step E) → ∥ HasLog terms before ∥₁
     → Answers terms before after result answer → OnErr result (after ≡ before) → ∥ HasLog terms after ∥₁
 HasLog-answered terms before after answer (Ok step) has_log answers same = ∥∥₁_map has_log (λ found. (_, (answers found.0 found.1).stands))
 HasLog-answered terms before after answer (Err fault) has_log answers same = subst (λ (table : TableValue). ∥ HasLog terms table ∥₁) (sym same) has_log

@@ -1,7 +1,7 @@
 -- Which Updates and Teardowns change the memberships at a relay (RFC 7450, section 5.3.3).
 use Rattle.std.specs.Prelude.{◌≡◌, ℕ, true, List, [], ◌∷◌, ◌++◌, Some}
 use Rattle.amt_values.specs.Endpoint.{endpoint_of}
-use Rattle.amt_values.specs.Tunnel.{Tunnel}
+use Rattle.amt_values.specs.EndpointValue.{EndpointValue}
 use Rattle.amt_values.specs.declared.mac.Mac48.{Mac48}
 use Rattle.amt_values.specs.declared.peer.Peer.{Peer}
 use Rattle.amt_messages.specs.Layout.{Spells}
@@ -10,8 +10,8 @@ use Rattle.response_mac.specs.ResponseMac.{IsGood}
 use Rattle.response_mac.specs.declared.secret.Secret.{Secret}
 use Rattle.source_filter.specs.declared.record.Record.{Record}
 use Rattle.endpoint_membership.specs.Limits.{IsWithin}
-use Rattle.endpoint_membership.specs.Rows.{is_live}
-use Rattle.endpoint_membership.specs.Table.{standing_now}
+use Rattle.endpoint_membership.specs.Memberships.{is_live}
+use Rattle.endpoint_membership.specs.Table.{memberships_now}
 use Rattle.endpoint_membership.specs.declared.change.Change.TheVariants.{Reported}
 use Rattle.relay_machine.specs.declared.event.Event.{Event}
 use Rattle.relay_machine.specs.declared.event.Event.TheVariants.{Datagram}
@@ -19,13 +19,13 @@ use Rattle.relay_machine.specs.declared.settings.Settings.{Settings}
 use Rattle.relay_machine.specs.Accepted.{accepted_log}
 use Rattle.relay_machine.specs.Events.{now_of, secrets_of}
 use Rattle.relay_machine.specs.Lawful.{IsLawful}
-use Rattle.relay_machine.specs.Settings.{terms_of}
+use Rattle.relay_machine.specs.Settings.{table_settings_of}
 use Rattle.relay_machine.specs.Updates.{forwardable_records}
 
 -- the event is an Update of the endpoint: its response MAC is good after these events, it carries a
 -- lawful report of these records, and with those of them on groups that are forwarded the
 -- memberships are within the limits
-pub record IsAcceptedUpdate (settings : Settings) (first : Secret) (events : List Event) (event : Event) (endpoint : Tunnel) (records : List Record) : Type 0 where
+pub record IsAcceptedUpdate (settings : Settings) (first : Secret) (events : List Event) (event : Event) (endpoint : EndpointValue) (records : List Record) : Type 0 where
   pub from : Peer
   pub bytes : List ℕ
   pub mac : Mac48
@@ -37,29 +37,29 @@ pub record IsAcceptedUpdate (settings : Settings) (first : Secret) (events : Lis
   pub good : IsGood (secrets_of first events) endpoint nonce mac
   pub lawful : IsLawful inner records
   pub within : IsWithin settings.limits
-      (standing_now (terms_of settings) (accepted_log settings first events ++ Reported endpoint (forwardable_records records) (now_of events) ∷ []))
+      (memberships_now (table_settings_of settings) (accepted_log settings first events ++ Reported endpoint (forwardable_records records) (now_of events) ∷ []))
 
 -- the event is such an Update, of some endpoint and records
 abbrev pub IsSomeAcceptedUpdate : Settings → Secret → List Event → Event → Type 0
 IsSomeAcceptedUpdate settings first events event =
-    (endpoint : Tunnel) × (records : List Record) × IsAcceptedUpdate settings first events event endpoint records
+    (endpoint : EndpointValue) × (records : List Record) × IsAcceptedUpdate settings first events event endpoint records
 
 -- the event is a Teardown, of whatever endpoint, that names this one: its response MAC is good for
 -- the endpoint that it names, which has a membership. Where it has none, the log keeps the clearing too,
 -- and no membership changes
-pub record IsAcceptedTeardown (settings : Settings) (first : Secret) (events : List Event) (event : Event) (named : Tunnel) : Type 0 where
+pub record IsAcceptedTeardown (settings : Settings) (first : Secret) (events : List Event) (event : Event) (named : EndpointValue) : Type 0 where
   pub from : Peer
   pub bytes : List ℕ
-  pub sender : Tunnel
+  pub sender : EndpointValue
   pub mac : Mac48
   pub nonce : ℕ
   pub came : event ≡ Datagram from bytes
   pub source : endpoint_of from ≡ Some sender
   pub spelled : Spells (Teardown mac nonce named) bytes
   pub good : IsGood (secrets_of first events) named nonce mac
-  pub live : is_live named (standing_now (terms_of settings) (accepted_log settings first events)) ≡ true
+  pub live : is_live named (memberships_now (table_settings_of settings) (accepted_log settings first events)) ≡ true
 
 -- the event is such a Teardown, of some endpoint
 abbrev pub IsSomeAcceptedTeardown : Settings → Secret → List Event → Event → Type 0
 IsSomeAcceptedTeardown settings first events event =
-    (named : Tunnel) × IsAcceptedTeardown settings first events event named
+    (named : EndpointValue) × IsAcceptedTeardown settings first events event named

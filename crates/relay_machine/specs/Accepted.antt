@@ -2,15 +2,15 @@
 -- for it.
 use Rattle.std.specs.Prelude.{List, [], ◌∷◌, ◌++◌, reverse, Option, Some, None, if◌then◌else◌}
 use Rattle.response_mac.specs.declared.secret.Secret.{Secret}
-use Rattle.endpoint_membership.specs.Rows.{is_live}
-use Rattle.endpoint_membership.specs.Table.{Terms, standing_now}
+use Rattle.endpoint_membership.specs.Memberships.{is_live}
+use Rattle.endpoint_membership.specs.Table.{TableSettings, memberships_now}
 use Rattle.endpoint_membership.specs.declared.change.Change.{Change}
 use Rattle.endpoint_membership.specs.declared.change.Change.TheVariants.{Reported, Clear, Mark}
 use Rattle.relay_machine.specs.declared.event.Event.{Event}
 use Rattle.relay_machine.specs.declared.settings.Settings.{Settings}
 use Rattle.relay_machine.specs.EventAnswer.{event_answer}
 use Rattle.relay_machine.specs.Events.{now_of, secrets_of}
-use Rattle.relay_machine.specs.Settings.{terms_of}
+use Rattle.relay_machine.specs.Settings.{table_settings_of}
 
 -- the log with one more entry, or with none
 abbrev pub with_change : List Change → Option Change → List Change
@@ -38,13 +38,13 @@ entry_of settings first events event = entry_after settings first events (accept
 
 -- what a step hands out of an entry: all but a clearing of an endpoint without a membership, which
 -- changes no membership, then or later
-abbrev pub handed_out : Terms → List Change → Option Change → Option Change
+abbrev pub handed_out : TableSettings → List Change → Option Change → Option Change
 handed_out terms log None = None
 handed_out terms log (Some (Reported endpoint records at)) = Some (Reported endpoint records at)
 handed_out terms log (Some (Mark at)) = Some (Mark at)
-handed_out terms log (Some (Clear endpoint at)) = if is_live endpoint (standing_now terms log) then Some (Clear endpoint at) else None
+handed_out terms log (Some (Clear endpoint at)) = if is_live endpoint (memberships_now terms log) then Some (Clear endpoint at) else None
 
 -- the entry that is handed out after these events
 abbrev pub change_of : Settings → Secret → List Event → Event → Option Change
 change_of settings first events event =
-    handed_out (terms_of settings) (accepted_log settings first events) (entry_of settings first events event)
+    handed_out (table_settings_of settings) (accepted_log settings first events) (entry_of settings first events event)

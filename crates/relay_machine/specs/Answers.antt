@@ -1,10 +1,10 @@
 -- What the relay answers to an event, by the events before it (RFC 7450, section 5.3).
 use Rattle.std.specs.Prelude.{◌≡◌, ℕ, Bool, List}
-use Rattle.amt_values.specs.Tunnel.{Tunnel}
+use Rattle.amt_values.specs.EndpointValue.{EndpointValue}
 use Rattle.inner_datagrams.specs.declared.head.Head.{Head}
 use Rattle.response_mac.specs.declared.secret.Secret.{Secret}
 use Rattle.endpoint_membership.specs.Admission.{is_admitted}
-use Rattle.endpoint_membership.specs.Rows.{rows_of}
+use Rattle.endpoint_membership.specs.Memberships.{rows_of}
 use Rattle.endpoint_membership.specs.Table.{Holds}
 use Rattle.endpoint_membership.specs.declared.change.Change.{Change}
 use Rattle.endpoint_membership.specs.declared.row.Row.{Row}
@@ -16,7 +16,7 @@ use Rattle.relay_machine.specs.declared.settings.Settings.{Settings}
 use Rattle.relay_machine.specs.Accepted.{accepted_log}
 use Rattle.relay_machine.specs.EventAnswer.{EventAnswer, event_answer}
 use Rattle.relay_machine.specs.Events.{now_of, secrets_of}
-use Rattle.relay_machine.specs.Settings.{membership_interval_ms, terms_of}
+use Rattle.relay_machine.specs.Settings.{membership_interval_ms, table_settings_of}
 
 -- what an event comes to, what is sent and what is entered after these events: a Query has its MAC
 -- under the secret that is current then
@@ -42,14 +42,14 @@ moment_of relay = relay.table.moment
 
 -- the relay's table represents the log by its settings
 abbrev pub StandsFor : Relay → List Change → Type 0
-StandsFor relay log = Holds (terms_of (settings_of relay)) relay.table log
+StandsFor relay log = Holds (table_settings_of (settings_of relay)) relay.table log
 
 -- the relay is where these events leave one of these settings that began with this secret: its
 -- table represents their accepted log
 pub record RelayAt (relay : Relay) (settings : Settings) (first : Secret) (events : List Event) : Type 0 where
   pub settings_kept : settings_of relay ≡ settings
   pub secrets : relay.secrets ≡ secrets_of first events
-  pub table : Holds (terms_of settings) relay.table (accepted_log settings first events)
+  pub table : Holds (table_settings_of settings) relay.table (accepted_log settings first events)
   pub moment : moment_of relay ≡ now_of events
 
 -- a fact of settings, first secret and events holds of all those after which the relay may be
@@ -67,6 +67,6 @@ rows_after settings first events =
 
 -- after the events the newest record of the endpoint that speaks of the packet's source wants it in
 -- the packet's group
-abbrev pub wants_after : Settings → Secret → List Event → Head → Tunnel → Bool
+abbrev pub wants_after : Settings → Secret → List Event → Head → EndpointValue → Bool
 wants_after settings first events head endpoint =
     is_admitted (membership_interval_ms settings) (accepted_log settings first events) (record { endpoint = endpoint; group = head.group }) head.source (now_of events)

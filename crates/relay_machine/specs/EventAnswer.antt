@@ -3,7 +3,7 @@
 -- entered in the log.
 use Rattle.std.specs.Prelude.{ℕ, max, nat_le, Bool, true, false, List, [], ◌∷◌, length, Option, Some, None, Result, Ok, Err}
 use Rattle.amt_values.specs.Endpoint.{endpoint_of}
-use Rattle.amt_values.specs.Tunnel.{Tunnel}
+use Rattle.amt_values.specs.EndpointValue.{EndpointValue}
 use Rattle.amt_messages.specs.declared.message.Message.{Message}
 use Rattle.amt_messages.specs.declared.message.Message.TheVariants.{Discovery, Advertisement, Request, Query, Update, Multicast, Teardown}
 use Rattle.amt_messages.specs.declared.refusal.Refused.{Refused}
@@ -14,8 +14,8 @@ use Rattle.source_filter.specs.declared.record.Record.{Record}
 use Rattle.response_mac.specs.declared.secrets.Secrets.{Secrets}
 use Rattle.response_mac.specs.ResponseMac.{is_good}
 use Rattle.endpoint_membership.specs.Limits.{live_count}
-use Rattle.endpoint_membership.specs.Rows.{is_live}
-use Rattle.endpoint_membership.specs.Table.{Terms, limit_passed, standing_now}
+use Rattle.endpoint_membership.specs.Memberships.{is_live}
+use Rattle.endpoint_membership.specs.Table.{TableSettings, limit_passed, memberships_now}
 use Rattle.endpoint_membership.specs.declared.change.Change.{Change}
 use Rattle.endpoint_membership.specs.declared.change.Change.TheVariants.{Clear, Mark, Reported}
 use Rattle.endpoint_membership.specs.declared.limits.LimitFault.{LimitFault}
@@ -28,7 +28,7 @@ use Rattle.relay_machine.specs.declared.sends.OneSend.{OneSend}
 use Rattle.relay_machine.specs.declared.settings.Settings.{Settings}
 use Rattle.relay_machine.specs.Packets.{copies, head_to_copy, targets_at}
 use Rattle.relay_machine.specs.Queries.{query_for}
-use Rattle.relay_machine.specs.Settings.{terms_of}
+use Rattle.relay_machine.specs.Settings.{table_settings_of}
 use Rattle.relay_machine.specs.Updates.{forwardable_records, report_in}
 
 -- what an event comes to, what is sent, and what is entered in the accepted log
@@ -46,13 +46,13 @@ abbrev pub entered : Outcome → Change → EventAnswer
 entered outcome change = record { outcome = outcome; sends = []; entry = Some change }
 
 -- this message is sent to an endpoint, and nothing entered
-abbrev pub replied : Outcome → Tunnel → Message → EventAnswer
+abbrev pub replied : Outcome → EndpointValue → Message → EventAnswer
 replied outcome to message =
     record { outcome = outcome; sends = record { to = to; bytes = spelling_of message } ∷ []; entry = None }
 
 -- no more tunnel endpoints find room (RFC 7450, section 5.1.4)
-abbrev pub is_limited : Terms → List Change → Bool
-is_limited terms log = nat_le terms.limits.endpoints (live_count (standing_now terms log))
+abbrev pub is_limited : TableSettings → List Change → Bool
+is_limited terms log = nat_le terms.limits.endpoints (live_count (memberships_now terms log))
 
 -- to a report that passes this limit, or none
 abbrev pub limited_answer : Option LimitFault → Change → EventAnswer
@@ -61,7 +61,7 @@ limited_answer (Some fault) change = quiet (Over fault)
 
 -- to an Update, judged by its MAC, the report in it, and the limits that the memberships would pass
 -- with the report's records on groups that are forwarded (RFC 7450, section 5.3.3)
-abbrev pub update_answer : Bool → Result (List Record) Fault → (List Record → Option LimitFault) → Tunnel → ℕ → EventAnswer
+abbrev pub update_answer : Bool → Result (List Record) Fault → (List Record → Option LimitFault) → EndpointValue → ℕ → EventAnswer
 update_answer false reading passed source moment = quiet BadMac
 update_answer true (Err fault) passed source moment = quiet (Unlawful fault)
 update_answer true (Ok records) passed source moment =
@@ -69,34 +69,34 @@ update_answer true (Ok records) passed source moment =
 
 -- to a Teardown, judged by its MAC, and by whether the endpoint that it names has some group; a
 -- clearing is entered, whether or not it has (RFC 7450, section 5.3.3)
-abbrev pub teardown_answer : Bool → Bool → Tunnel → ℕ → EventAnswer
+abbrev pub teardown_answer : Bool → Bool → EndpointValue → ℕ → EventAnswer
 teardown_answer false live named moment = quiet BadMac
 teardown_answer true true named moment = entered TornDown (Clear named moment)
 teardown_answer true false named moment = entered NoTunnel (Clear named moment)
 
 -- to a message of this source. An Update needs the MAC of its source, and a Teardown that of the
 -- endpoint which it names
-abbrev pub message_answer : Settings → Secrets → ℕ → List Change → Tunnel → Message → EventAnswer
+abbrev pub message_answer : Settings → Secrets → ℕ → List Change → EndpointValue → Message → EventAnswer
 message_answer settings secrets moment log source (Discovery nonce) = replied Advertised source (Advertisement nonce settings.relay)
 message_answer settings secrets moment log source (Advertisement nonce relay) = quiet (WrongKind 2)
 message_answer settings secrets moment log source (Request v6 nonce) =
-    let limited = is_limited (terms_of settings) log in
+    let limited = is_limited (table_settings_of settings) log in
     replied (Queried v6 limited) source (query_for settings secrets.current v6 limited source nonce)
 message_answer settings secrets moment log source (Query limited mac nonce inner seen) = quiet (WrongKind 4)
 message_answer settings secrets moment log source (Update mac nonce inner) =
-    update_answer (is_good secrets source nonce mac) (report_in inner) (λ records. limit_passed (terms_of settings) log source records moment) source moment
+    update_answer (is_good secrets source nonce mac) (report_in inner) (λ records. limit_passed (table_settings_of settings) log source records moment) source moment
 message_answer settings secrets moment log source (Multicast packet) = quiet (WrongKind 6)
 message_answer settings secrets moment log source (Teardown mac nonce named) =
-    teardown_answer (is_good secrets named nonce mac) (is_live named (standing_now (terms_of settings) log)) named moment
+    teardown_answer (is_good secrets named nonce mac) (is_live named (memberships_now (table_settings_of settings) log)) named moment
 
 -- to a datagram, judged by its source, its octets, its type, and then what it asks
-abbrev pub datagram_answer : Settings → Secrets → ℕ → List Change → Option Tunnel → Result Message Refused → EventAnswer
+abbrev pub datagram_answer : Settings → Secrets → ℕ → List Change → Option EndpointValue → Result Message Refused → EventAnswer
 datagram_answer settings secrets moment log None reading = quiet BadSource
 datagram_answer settings secrets moment log (Some source) (Err refusal) = quiet (Undecoded refusal)
 datagram_answer settings secrets moment log (Some source) (Ok message) = message_answer settings secrets moment log source message
 
 -- to a packet, where these endpoints want a source in a group
-abbrev pub packet_answer : (Head → List Tunnel) → List ℕ → Result Head Outcome → EventAnswer
+abbrev pub packet_answer : (Head → List EndpointValue) → List ℕ → Result Head Outcome → EventAnswer
 packet_answer targets packet (Err outcome) = quiet outcome
 packet_answer targets packet (Ok head) =
     record { outcome = Copied (length (targets head)); sends = copies (targets head) packet; entry = None }
@@ -106,6 +106,6 @@ abbrev pub event_answer : Settings → Secrets → ℕ → List Change → Event
 event_answer settings secrets moment log (Moment reported) = entered (Moved (max moment reported)) (Mark (max moment reported))
 event_answer settings secrets moment log (Rotate secret) = quiet Rotated
 event_answer settings secrets moment log (Packet bytes) =
-    packet_answer (targets_at (terms_of settings) log moment) bytes (head_to_copy settings.packet_limit bytes)
+    packet_answer (targets_at (table_settings_of settings) log moment) bytes (head_to_copy settings.packet_limit bytes)
 event_answer settings secrets moment log (Datagram from bytes) =
     datagram_answer settings secrets moment log (endpoint_of from) (message_of bytes)

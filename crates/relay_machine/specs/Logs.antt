@@ -1,23 +1,19 @@
 -- How a step follows the table of answers, by whatever log a table of memberships represents.
 use Rattle.std.specs.Prelude.{◌≡◌, List, Result, IfOk, None}
-use Rattle.endpoint_membership.specs.Table.{Holds, TableValue, Terms}
+use Rattle.endpoint_membership.specs.Table.{ForLogBy, Holds, TableValue, TableSettings}
 use Rattle.endpoint_membership.specs.declared.change.Change.{Change}
 use Rattle.relay_machine.specs.declared.sends.Step.{Step}
 use Rattle.relay_machine.specs.Accepted.{handed_out, with_change}
 use Rattle.relay_machine.specs.EventAnswer.{EventAnswer}
 
--- by every log that the table represents by these terms
-abbrev pub ByEachLog : Terms → TableValue → (List Change → Type 0) → Type 0
-ByEachLog terms table Fact = (log : List Change) → Holds terms table log → Fact log
-
--- and of what was answered, where the call succeeded
-abbrev pub IfOkByEachLog : {A E : Type 0} → Terms → TableValue → Result A E → (List Change → A → Type 0) → Type 0
-IfOkByEachLog terms table answer Fact = ByEachLog terms table (λ log. IfOk answer (Fact log))
+-- by every log that the table represents, where the call succeeded
+abbrev pub IfOkForLogBy : {A E : Type 0} → TableSettings → TableValue → Result A E → (List Change → A → Type 0) → Type 0
+IfOkForLogBy terms table answer Fact = ForLogBy terms table (λ log. IfOk answer (Fact log))
 
 -- the step is this answer: its outcome, its sends, and the entry as far as it is handed out. The table
 -- after it represents the log with the entry, as well as with what was handed out, and where nothing
 -- was, it is the table before
-pub record IsAnswered (terms : Terms) (before after : TableValue) (log : List Change) (answer : EventAnswer) (step : Step) : Type 0 where
+pub record IsAnswered (terms : TableSettings) (before after : TableValue) (log : List Change) (answer : EventAnswer) (step : Step) : Type 0 where
   pub outcome : step.outcome ≡ answer.outcome
   pub sends : step.sends ≡ answer.sends
   pub change : step.change ≡ handed_out terms log answer.entry
@@ -26,9 +22,9 @@ pub record IsAnswered (terms : Terms) (before after : TableValue) (log : List Ch
   pub same : step.change ≡ None → after ≡ before
 
 -- by each log that the table before represents, the step is the answer by that log
-abbrev pub StepAnswers : Terms → TableValue → TableValue → Step → (List Change → EventAnswer) → Type 0
-StepAnswers terms before after step answer = ByEachLog terms before (λ log. IsAnswered terms before after log (answer log) step)
+abbrev pub StepAnswers : TableSettings → TableValue → TableValue → Step → (List Change → EventAnswer) → Type 0
+StepAnswers terms before after step answer = ForLogBy terms before (λ log. IsAnswered terms before after log (answer log) step)
 
 -- the same of a call, where it succeeded
-abbrev pub Answers : {E : Type 0} → Terms → TableValue → TableValue → Result Step E → (List Change → EventAnswer) → Type 0
-Answers terms before after result answer = IfOkByEachLog terms before result (λ log step. IsAnswered terms before after log (answer log) step)
+abbrev pub Answers : {E : Type 0} → TableSettings → TableValue → TableValue → Result Step E → (List Change → EventAnswer) → Type 0
+Answers terms before after result answer = IfOkForLogBy terms before result (λ log step. IsAnswered terms before after log (answer log) step)

@@ -2,15 +2,15 @@
 use Rattle.std.specs.Prelude.{◌≡◌, ℕ, ◌≤◌, ◌↔◌, nat_lt, Bool, true, false, List, length, map, Result, Ok, Err, if◌then◌else◌}
 use Rattle.std.specs.List.{All, Contains}
 use Rattle.amt_values.specs.Group.{is_forwardable}
-use Rattle.amt_values.specs.Order.{tunnel_order}
-use Rattle.amt_values.specs.Tunnel.{Tunnel}
+use Rattle.amt_values.specs.Order.{endpoint_order}
+use Rattle.amt_values.specs.EndpointValue.{EndpointValue}
 use Rattle.amt_messages.specs.Layout.{IsCanonical, spelling_of}
 use Rattle.amt_messages.specs.declared.message.Message.TheVariants.{Multicast}
 use Rattle.contract_words.specs.Ascending.{IsAscending}
 use Rattle.inner_datagrams.specs.Head.{IsHead, head_of}
 use Rattle.inner_datagrams.specs.declared.head.Head.{Head}
 use Rattle.inner_datagrams.specs.declared.head.HeadFault.{HeadFault}
-use Rattle.endpoint_membership.specs.Table.{Terms}
+use Rattle.endpoint_membership.specs.Table.{TableSettings}
 use Rattle.endpoint_membership.specs.Targets.{targets_of}
 use Rattle.endpoint_membership.specs.declared.change.Change.{Change}
 use Rattle.relay_machine.specs.declared.outcome.NotForwarded.TheVariants.{Head as NoHead, Scope}
@@ -34,11 +34,11 @@ abbrev pub head_to_copy : ℕ → List ℕ → Result Head Outcome
 head_to_copy limit packet = if nat_lt limit (length packet) then Err (TooBig (length packet)) else by_head (head_of packet)
 
 -- to each of these endpoints the Multicast Data message of the packet (RFC 7450, section 5.1.6)
-abbrev pub copies : List Tunnel → List ℕ → List OneSend
+abbrev pub copies : List EndpointValue → List ℕ → List OneSend
 copies targets packet = map (λ endpoint. record { to = endpoint; bytes = spelling_of (Multicast packet) }) targets
 
 -- the endpoints that want the packet's source in its group at the moment, by the log
-abbrev pub targets_at : Terms → List Change → ℕ → Head → List Tunnel
+abbrev pub targets_at : TableSettings → List Change → ℕ → Head → List EndpointValue
 targets_at terms log moment head = targets_of terms.lifetime log head.group head.source moment
 
 -- a packet of at most so many octets, with this head, whose group is forwarded
@@ -48,12 +48,12 @@ pub record IsToCopy (limit : ℕ) (head : Head) (packet : List ℕ) : Type 0 whe
   pub scope : is_forwardable head.group ≡ true
 
 -- where datagrams go
-abbrev pub receivers : List OneSend → List Tunnel
+abbrev pub receivers : List OneSend → List EndpointValue
 receivers sends = map (λ send. send.to) sends
 
 -- each endpoint that wants the packet, and no other, is sent it once: as the one canonical Multicast
 -- Data message of the packet as it is
-pub record AreCopies (wants : Tunnel → Bool) (packet : List ℕ) (sends : List OneSend) : Type 0 where
-  pub exactly : (endpoint : Tunnel) → Contains (receivers sends) endpoint ↔ (wants endpoint ≡ true)
-  pub once : IsAscending tunnel_order (receivers sends)
+pub record AreCopies (wants : EndpointValue → Bool) (packet : List ℕ) (sends : List OneSend) : Type 0 where
+  pub exactly : (endpoint : EndpointValue) → Contains (receivers sends) endpoint ↔ (wants endpoint ≡ true)
+  pub once : IsAscending endpoint_order (receivers sends)
   pub octets : All (λ send. IsCanonical (Multicast packet) send.bytes) sends

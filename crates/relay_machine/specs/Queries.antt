@@ -1,6 +1,6 @@
 -- The Membership Query that answers a Request.
 use Rattle.std.specs.Prelude.{ℕ, ◌*◌, Bool, true, false, List, Some, if◌then◌else◌}
-use Rattle.amt_values.specs.Tunnel.{Tunnel}
+use Rattle.amt_values.specs.EndpointValue.{EndpointValue}
 use Rattle.amt_messages.specs.declared.message.Message.{Message}
 use Rattle.amt_messages.specs.declared.message.Message.TheVariants.{Query}
 use Rattle.igmp_records.specs.Code.{code_of}
@@ -46,6 +46,6 @@ general_query settings true =
 -- the answer to a source's Request for MLD or IGMP: the MAC of the source and the nonce, the nonce,
 -- the General Query, and the source as it was seen; the L flag says whether the relay is limited
 -- (RFC 7450, section 5.1.4)
-abbrev pub query_for : Settings → Secret → Bool → Bool → Tunnel → ℕ → Message
+abbrev pub query_for : Settings → Secret → Bool → Bool → EndpointValue → ℕ → Message
 query_for settings secret v6 limited source nonce =
     Query limited (mac_of secret source nonce) nonce (general_query settings v6) (Some source)

@@ -1,7 +1,7 @@
 -- What a relay may be set up with, and how long a report then counts.
 use Rattle.std.specs.Prelude.{◌≡◌, ℕ, ◌+◌, ◌*◌, ◌<◌, ◌≤◌}
 use Rattle.amt_values.specs.declared.address.Ip.{Ip}
-use Rattle.endpoint_membership.specs.Table.{Terms}
+use Rattle.endpoint_membership.specs.Table.{TableSettings}
 use Rattle.igmp_records.specs.Code.{code_value}
 use Rattle.mld_records.specs.Code.{code_value as mld_code_value}
 use Rattle.relay_machine.specs.declared.number_key.NumberKey.{NumberKey}
@@ -89,5 +89,5 @@ membership_interval_ms settings =
     settings.robustness * settings.query_seconds * 1000 + settings.response_tenths * 100
 
 -- the limits, and the lifetime of a membership, by which the relay's log is read
-abbrev pub terms_of : Settings → Terms
-terms_of settings = record { limits = settings.limits; lifetime = membership_interval_ms settings }
+abbrev pub table_settings_of : Settings → TableSettings
+table_settings_of settings = record { limits = settings.limits; lifetime = membership_interval_ms settings }

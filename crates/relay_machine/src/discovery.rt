@@ -1,6 +1,6 @@
 //! What a Discovery is answered. It knows neither table nor secret.
 ghost use Rattle.std.specs.Prelude.{◌≡◌, [], ◌∷◌, IfOk, None};
-ghost use Rattle.endpoint_membership.specs.Table.{TableValue, Terms};
+ghost use Rattle.endpoint_membership.specs.Table.{TableValue, TableSettings};
 ghost use Rattle.relay_machine.specs.EventAnswer.{replied};
 ghost use Rattle.relay_machine.specs.Logs.{Answers};
 
@@ -18,7 +18,7 @@ pub fn take_discovery(
     source: Endpoint,
     nonce: u32,
 ) -> Result<Step, AllocError>
-    ensures { (terms : Terms) (table : TableValue) → Answers terms table table result
+    ensures { (terms : TableSettings) (table : TableValue) → Answers terms table table result
         (λ log. replied Outcome.Advertised source
         (Message.Advertisement nonce setup.now.settings.relay)) }
 {

@@ -1,11 +1,11 @@
 //! To whom a packet is copied. It reads the packet's head, and changes nothing.
 ghost use Rattle.std.specs.Prelude.{◌≡◌, ◌≤◌, [], length, IfOk};
 ghost use Rattle.endpoint_membership.specs.Log.{latest};
-ghost use Rattle.endpoint_membership.specs.Table.{IsWithinLimits, Terms};
+ghost use Rattle.endpoint_membership.specs.Table.{IsWithinLimits, TableSettings};
 ghost use Rattle.relay_machine.specs.EventAnswer.{packet_answer};
-ghost use Rattle.relay_machine.specs.Logs.{Answers, IfOkByEachLog};
+ghost use Rattle.relay_machine.specs.Logs.{Answers, IfOkForLogBy};
 ghost use Rattle.relay_machine.specs.Packets.{copies, head_to_copy, targets_at};
-ghost use Rattle.relay_machine.specs.Settings.{terms_of};
+ghost use Rattle.relay_machine.specs.Settings.{table_settings_of};
 ghost use Rattle.relay_machine.specs.State.{HasLog};
 
 use crate::outcome::{NotForwarded, Outcome};
@@ -41,8 +41,8 @@ fn head_to_copy(limit: u32, packet: &[u8]) -> Result<Head, Outcome>
 // The endpoints that want the source in the group at the table's moment.
 fn targets(alloc: Global, table: &Table, head: &Head) -> Result<Targets, AllocError>
     requires within { IsWithinLimits table.now }
-    requires has_log { ∥ ((terms : Terms) × HasLog terms table.now) ∥₁ }
-    ensures wanted { (terms : Terms) → IfOkByEachLog terms table.now result (λ log targets.
+    requires has_log { ∥ ((terms : TableSettings) × HasLog terms table.now) ∥₁ }
+    ensures wanted { (terms : TableSettings) → IfOkForLogBy terms table.now result (λ log targets.
         targets.endpoints ≡ targets_at terms log (latest log) head.now) }
     ensures few { IfOk result (λ targets. length targets.endpoints ≤ 4294967295) }
 {
@@ -75,10 +75,10 @@ pub fn take_packet(
     packet: &Bytes,
 ) -> Result<Step, AllocError>
     requires within { IsWithinLimits table.now }
-    requires has_log { ∥ HasLog (terms_of setup.now.settings) table.now ∥₁ }
+    requires has_log { ∥ HasLog (table_settings_of setup.now.settings) table.now ∥₁ }
     requires size { length packet.now ≤ 65535 }
-    ensures { Answers (terms_of setup.now.settings) table.now table.now result (λ log.
-        packet_answer (targets_at (terms_of setup.now.settings) log (latest log)) packet.now
+    ensures { Answers (table_settings_of setup.now.settings) table.now table.now result (λ log.
+        packet_answer (targets_at (table_settings_of setup.now.settings) log (latest log)) packet.now
         (head_to_copy setup.now.settings.packet_limit packet.now)) }
 {
     let packet = packet.as_slice();

@@ -1,6 +1,6 @@
 //! The relay as a machine: where it starts, what is read off it, and one step. It knows no message.
 ghost use Rattle.endpoint_membership.specs.Table.{IsWithinLimits};
-ghost use Rattle.relay_machine.specs.Settings.{terms_of};
+ghost use Rattle.relay_machine.specs.Settings.{table_settings_of};
 ghost use Rattle.relay_machine.specs.State.{HasLog};
 ghost use Rattle.std.proofs.Props.{props};
 
@@ -27,18 +27,18 @@ pub struct Relay {
     secrets: Secrets,
     table: Table,
     ghost within: { IsWithinLimits table } by { Prim.hlevel props },
-    ghost has_log: { ∥ HasLog (terms_of setup.settings) table ∥₁ },
+    ghost has_log: { ∥ HasLog (table_settings_of setup.settings) table ∥₁ },
 }
 
 impl Relay {
     ghost use Rattle.std.specs.Prelude.{◌≡◌, ℕ, List, [], ◌∷◌, ◌++◌, length, None, Some, IfOk, IsOk, OnErr};
-    ghost use Rattle.amt_values.specs.Tunnel.{Tunnel};
+    ghost use Rattle.amt_values.specs.EndpointValue.{EndpointValue};
     ghost use Rattle.source_filter.specs.declared.record.Record.{Record as RecordValue};
     ghost use Rattle.inner_datagrams.specs.declared.head.Head.{Head};
     ghost use Rattle.endpoint_membership.specs.Limits.{AreFew, IsWithin, live_count};
     ghost use Rattle.endpoint_membership.specs.Log.{latest};
-    ghost use Rattle.endpoint_membership.specs.Rows.{rows_of};
-    ghost use Rattle.endpoint_membership.specs.Table.{standing_now};
+    ghost use Rattle.endpoint_membership.specs.Memberships.{rows_of};
+    ghost use Rattle.endpoint_membership.specs.Table.{memberships_now};
     ghost use Rattle.endpoint_membership.specs.declared.change.Change.TheVariants.{Clear, Reported};
     ghost use Rattle.relay_machine.specs.declared.event.Event.{Event as EventValue};
     ghost use Rattle.relay_machine.specs.declared.event.Event.TheVariants.{Packet};
@@ -59,7 +59,7 @@ impl Relay {
         requires { AreLawfulSettings settings }
         ensures stands { IfOk result (λ relay. RelayAt relay settings secret []) }
         ensures within { (events : List EventValue) → IsWithin settings.limits
-            (standing_now (terms_of settings) (accepted_log settings secret events)) }
+            (memberships_now (table_settings_of settings) (accepted_log settings secret events)) }
     {
         let table = Table::new(alloc, settings.limits, settings.lifetime_ms())?;
         Ok(Relay {
@@ -91,7 +91,7 @@ impl Relay {
     /// How many tunnel endpoints have a membership.
     pub fn live_endpoints(&self) -> u32
         ensures { After self.now (λ settings first events. result
-            ≡ live_count (standing_now (terms_of settings) (accepted_log settings first events))) }
+            ≡ live_count (memberships_now (table_settings_of settings) (accepted_log settings first events))) }
     {
         self.table.live_endpoints()
     }
@@ -109,7 +109,7 @@ impl Relay {
         ensures next { After self.old (λ settings first events.
             IfOk result (λ _. RelayAt self.new settings first (events ++ event.now ∷ []))) }
         ensures within { After self.old (λ settings first events.
-            IfOk result (λ _. IsWithin settings.limits (standing_now (terms_of settings)
+            IfOk result (λ _. IsWithin settings.limits (memberships_now (table_settings_of settings)
             (accepted_log settings first (events ++ event.now ∷ []))))) }
 
         // A replica that appends each entry that is handed out to a log that the table represents has
@@ -129,7 +129,7 @@ impl Relay {
         // the report's records on forwardable groups at the relay's moment, and no other event is
         // `Updated` (RFC 7450, section 5.3.3).
         ensures updated { After self.old (λ settings first events.
-            (endpoint : Tunnel) (records : List RecordValue)
+            (endpoint : EndpointValue) (records : List RecordValue)
             → IsAcceptedUpdate settings first events event.now endpoint records
             → IfOk result (λ step. (step.outcome ≡ Updated) × (step.change
             ≡ Some (Reported endpoint (forwardable_records records) (now_of events))))) }
@@ -138,7 +138,7 @@ impl Relay {
             → IsSomeAcceptedUpdate settings first events event.now)) }
 
         // A Teardown clears the endpoint that it names, whatever endpoint it comes from.
-        ensures torn { After self.old (λ settings first events. (named : Tunnel)
+        ensures torn { After self.old (λ settings first events. (named : EndpointValue)
             → IsAcceptedTeardown settings first events event.now named
             → IfOk result (λ step. (step.outcome ≡ TornDown)
             × (step.change ≡ Some (Clear named (now_of events))))) }

@@ -1,10 +1,10 @@
 //! What a Request is answered. Nothing of it is kept.
 ghost use Rattle.std.specs.Prelude.{◌≡◌, IfOk};
-ghost use Rattle.endpoint_membership.specs.Table.{IsWithinLimits};
+ghost use Rattle.endpoint_membership.specs.Table.{ForLogBy, IsWithinLimits};
 ghost use Rattle.relay_machine.specs.EventAnswer.{is_limited, replied};
-ghost use Rattle.relay_machine.specs.Logs.{Answers, ByEachLog};
+ghost use Rattle.relay_machine.specs.Logs.{Answers};
 ghost use Rattle.relay_machine.specs.Queries.{query_for};
-ghost use Rattle.relay_machine.specs.Settings.{terms_of};
+ghost use Rattle.relay_machine.specs.Settings.{table_settings_of};
 
 use crate::outcome::Outcome;
 use crate::sends::Step;
@@ -16,8 +16,8 @@ use std::alloc::{AllocError, Global};
 
 fn is_limited(setup: &Setup, table: &Table) -> bool
     requires { IsWithinLimits table.now }
-    ensures { ByEachLog (terms_of setup.now.settings) table.now
-        (λ log. result ≡ is_limited (terms_of setup.now.settings) log) }
+    ensures { ForLogBy (table_settings_of setup.now.settings) table.now
+        (λ log. result ≡ is_limited (table_settings_of setup.now.settings) log) }
 {
     table.live_endpoints() >= setup.settings.limits.endpoints
 }
@@ -33,10 +33,10 @@ pub fn take_request(
     nonce: u32,
 ) -> Result<Step, AllocError>
     requires { IsWithinLimits table.now }
-    ensures { Answers (terms_of setup.now.settings) table.now table.now result
-        (λ log. replied (Outcome.Queried v6 (is_limited (terms_of setup.now.settings) log)) source
+    ensures { Answers (table_settings_of setup.now.settings) table.now table.now result
+        (λ log. replied (Outcome.Queried v6 (is_limited (table_settings_of setup.now.settings) log)) source
         (query_for setup.now.settings secrets.now.current v6
-        (is_limited (terms_of setup.now.settings) log) source nonce)) }
+        (is_limited (table_settings_of setup.now.settings) log) source nonce)) }
 {
     let limited = is_limited(setup, table);
     let query = setup.query_for(alloc, &secrets.current, v6, limited, source, nonce)?;

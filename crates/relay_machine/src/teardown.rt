@@ -1,7 +1,7 @@
 //! What a Teardown comes to: its MAC, and the endpoint that it names. It knows no datagram.
 ghost use Rattle.endpoint_membership.specs.Log.{latest};
-ghost use Rattle.endpoint_membership.specs.Rows.{is_live};
-ghost use Rattle.endpoint_membership.specs.Table.{IsWithinLimits, Terms, standing_now};
+ghost use Rattle.endpoint_membership.specs.Memberships.{is_live};
+ghost use Rattle.endpoint_membership.specs.Table.{IsWithinLimits, TableSettings, memberships_now};
 ghost use Rattle.relay_machine.specs.EventAnswer.{teardown_answer};
 ghost use Rattle.relay_machine.specs.Logs.{StepAnswers};
 
@@ -14,8 +14,8 @@ use std::alloc::Global;
 // What a Teardown comes to: its MAC is judged first. Under a good one, the endpoint that it names
 // leaves every group at the table's own moment.
 pub fn take_teardown(alloc: Global, table: &mut Table, named: Endpoint, good: bool) -> Step
-    ensures answers { (terms : Terms) → StepAnswers terms table.old table.new result (λ log.
-        teardown_answer good (is_live named (standing_now terms log)) named (latest log)) }
+    ensures answers { (terms : TableSettings) → StepAnswers terms table.old table.new result (λ log.
+        teardown_answer good (is_live named (memberships_now terms log)) named (latest log)) }
     ensures within { IsWithinLimits table.old → IsWithinLimits table.new }
 {
     if !good {

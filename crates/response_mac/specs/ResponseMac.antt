@@ -3,13 +3,13 @@ use Rattle.std.specs.Prelude.{◌≡◌, ℕ, ◌⊎◌, ◌||◌, Bool, false, 
 use Rattle.std.specs.Str.{bytes_eq}
 use Rattle.byteorder.specs.Endian.{big_bytes}
 use Rattle.amt_values.specs.declared.mac.Mac48.{Mac48}
-use Rattle.amt_values.specs.Tunnel.{Tunnel}
+use Rattle.amt_values.specs.EndpointValue.{EndpointValue}
 use Rattle.response_mac.specs.declared.secret.Secret.{Secret}
 use Rattle.response_mac.specs.declared.secrets.Secrets.{Secrets}
 use Rattle.response_mac.specs.Hmac.{hmac_of}
 
 -- the endpoint's address in 16 octets, its port in 2, the nonce in 4
-abbrev pub authenticated_octets : Tunnel → ℕ → List ℕ
+abbrev pub authenticated_octets : EndpointValue → ℕ → List ℕ
 authenticated_octets endpoint nonce =
     big_bytes 16 endpoint.address ++ (big_bytes 2 endpoint.port ++ big_bytes 4 nonce)
 
@@ -18,12 +18,12 @@ abbrev pub leftmost_48_bits : List ℕ → Mac48
 leftmost_48_bits digest = record { 0 = take 6 digest }
 
 -- the response MAC of an endpoint and a nonce under a secret
-unfoldable pub mac_of : Secret → Tunnel → ℕ → Mac48
+unfoldable pub mac_of : Secret → EndpointValue → ℕ → Mac48
 mac_of secret endpoint nonce =
     leftmost_48_bits (hmac_of secret.0 (authenticated_octets endpoint nonce))
 
 -- the current secret gives the MAC, or the previous one, where there is one, gives it
-abbrev pub IsGood : Secrets → Tunnel → ℕ → Mac48 → Type 0
+abbrev pub IsGood : Secrets → EndpointValue → ℕ → Mac48 → Type 0
 IsGood secrets endpoint nonce mac =
     (mac ≡ mac_of secrets.current endpoint nonce)
     ⊎ IsSomeAnd secrets.previous (λ previous. mac ≡ mac_of previous endpoint nonce)
@@ -33,12 +33,12 @@ abbrev pub same_mac : Mac48 → Mac48 → Bool
 same_mac one other = bytes_eq one.0 other.0
 
 -- whether a secret gives the MAC, if there is one
-abbrev pub is_given : Option Secret → Tunnel → ℕ → Mac48 → Bool
+abbrev pub is_given : Option Secret → EndpointValue → ℕ → Mac48 → Bool
 is_given None endpoint nonce mac = false
 is_given (Some secret) endpoint nonce mac = same_mac mac (mac_of secret endpoint nonce)
 
 -- the same as a test
-abbrev pub is_good : Secrets → Tunnel → ℕ → Mac48 → Bool
+abbrev pub is_good : Secrets → EndpointValue → ℕ → Mac48 → Bool
 is_good secrets endpoint nonce mac =
     is_given (Some secrets.current) endpoint nonce mac || is_given secrets.previous endpoint nonce mac
 

@@ -1,7 +1,7 @@
 //! The endpoints that want a packet, by the definitions. It must not know a table.
 
 ghost use Rattle.std.specs.Prelude.{◌≡◌, ◌≤◌, ◌++◌, IfOk, OnOk};
-ghost use Rattle.amt_values.specs.Order.{tunnel_order};
+ghost use Rattle.amt_values.specs.Order.{endpoint_order};
 ghost use Rattle.contract_words.specs.Ascending.{ascending};
 ghost use Rattle.endpoint_membership.specs.Admission.{is_admitted};
 ghost use Rattle.endpoint_membership.specs.Targets.{endpoints_in, targets_of};
@@ -28,7 +28,7 @@ fn add_reporters(found: &mut Vec<Endpoint>, log: &[Change]) -> Result<(), AllocE
 }
 
 fn reporters(alloc: Global, log: &[Change]) -> Result<Vec<Endpoint>, AllocError>
-    ensures { IfOk result (λ found. found.items ≡ ascending tunnel_order (endpoints_in log.now)) }
+    ensures { IfOk result (λ found. found.items ≡ ascending endpoint_order (endpoints_in log.now)) }
 {
     let mut found = Vec::new(alloc);
     add_reporters(&mut found, log)?;

@@ -3,7 +3,7 @@ use Rattle.std.specs.BTreeMap.{BTreeMap, IsOrdered, get}
 use Rattle.std.specs.List.{filter_map}
 use Rattle.amt_values.specs.declared.address.Ip.{Ip}
 use Rattle.amt_values.specs.Order.{ip_order}
-use Rattle.amt_values.specs.Tunnel.{Tunnel}
+use Rattle.amt_values.specs.EndpointValue.{EndpointValue}
 use Rattle.contract_words.specs.Ascending.{IsAscending}
 use Rattle.source_filter.specs.declared.record.Record.{Record}
 use Rattle.endpoint_membership.specs.declared.after_report.RenewedFilter.{RenewedFilter}
@@ -14,7 +14,7 @@ use Rattle.endpoint_membership.specs.Stored.{only}
 use Rattle.endpoint_membership.proofs.FilterMap.{AreOf-filters, IsAscending-filters, membership_in-filters}
 use Rattle.endpoint_membership.proofs.after_report.memberships_after.Goals as goal
 
-own_by : {E : Type 0} (lifetime moment : ℕ) (endpoint : Tunnel) (records : List Record) (rows : List Membership) (filters : BTreeMap Ip RenewedFilter) (answer : Result (Vec Membership Global) E)
+own_by : {E : Type 0} (lifetime moment : ℕ) (endpoint : EndpointValue) (records : List Record) (rows : List Membership) (filters : BTreeMap Ip RenewedFilter) (answer : Result (Vec Membership Global) E)
     → ((group : Ip) → get ip_order filters group
     ≡ renewed_filter_after_all moment (on_group group records) (renewed_filter_of (only (is_fresh lifetime moment) (membership_in rows (record { endpoint = endpoint; group = group })))))
     → IfOk answer (λ own. own.items ≡ filter_map (membership_of_entry endpoint) filters.entries) → OnOk answer (IsOrdered ip_order filters)

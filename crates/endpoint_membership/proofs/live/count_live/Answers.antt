@@ -1,7 +1,7 @@
 use Rattle.std.proofs.Common.{Bool, List, Some, sym, ap, subst, take, drop, filter, if◌then◌else◌, ◌+◌, ◌∙◌, ◌++◌, ◌∷◌, [], arith}
 use Rattle.std.proofs.lemmas.List.{take-append-drop, take_more}
 use Rattle.contract_words.specs.Ascending.{IsAscending}
-use Rattle.amt_values.specs.Tunnel.{Tunnel}
+use Rattle.amt_values.specs.EndpointValue.{EndpointValue}
 use Rattle.endpoint_membership.specs.Membership.{Membership, membership_order}
 use Rattle.endpoint_membership.specs.Stored.{ends_with, is_counted, last_of}
 use Rattle.endpoint_membership.specs.Limits.{live_count}
@@ -24,7 +24,7 @@ loop-membership-preserved c =
           let passes = sym c.is_counted.ensures ∙ w.if-is_counted.true in record {
             count = λ ascends. w.count-is ∙ more_live test (take k rows) membership c.loop-membership.count _ c.loop-membership.last (here ascends) passes (c.loop-membership.invariant.count ascends) c.loop-membership.invariant.last (w.one_unless-count.ensures.value ∙ ap (λ (seen : Bool). if seen then 0 else 1) (w.ends_with.ensures ∙ ap (ends_with c.loop-membership.last) w.endpoint-endpoint.ensures))
                 ∙ ap (λ (done : List Membership). live_count (filter test done)) (sym more);
-            last = w.last-is ∙ ap (λ (endpoint : Tunnel). Some endpoint) w.endpoint-endpoint.ensures ∙ sym (ap (λ (done : List Membership). last_of (filter test done)) more
+            last = w.last-is ∙ ap (λ (endpoint : EndpointValue). Some endpoint) w.endpoint-endpoint.ensures ∙ sym (ap (λ (done : List Membership). last_of (filter test done)) more
                 ∙ ap last_of (filter-push_yes test (take k rows) membership passes) ∙ last_of-push (filter test (take k rows)) membership);
             bounded = (let step = w.one_unless-count.ensures.most in let is = w.count-is in let bounded = c.loop-membership.invariant.bounded in omega arith);
           }

@@ -4,8 +4,8 @@ use Rattle.std.specs.declared.cmp.Ordering.{Ordering}
 use Rattle.amt_values.specs.declared.address.Ip.{Ip}
 use Rattle.amt_values.specs.contracts.address.IpPartialEq as eq_groups
 use Rattle.amt_values.specs.contracts.endpoint.EndpointPartialEq as eq_endpoints
-use Rattle.amt_values.specs.Order.{tunnel_order}
-use Rattle.amt_values.specs.Tunnel.{Tunnel}
+use Rattle.amt_values.specs.Order.{endpoint_order}
+use Rattle.amt_values.specs.EndpointValue.{EndpointValue}
 use Rattle.contract_words.specs.Ascending.{ascending}
 use Rattle.source_filter.proofs.Compared.{compared, tied}
 use Rattle.contract_words.proofs.Sorting.{ascending-sorted}
@@ -18,9 +18,9 @@ use Rattle.membership_model.proofs.slow.endpoint_groups.Goals as goal
 
 -- the derived order and equality of places are those of the definitions
 endpoint_groups_compared : (ord.TheImpl.ghosts).cmp ≡ endpoint_group_order
-endpoint_groups_compared = ap (λ (groups : Ip → Ip → Ordering). then_cmp (on (λ (endpoint_group : EndpointGroup). endpoint_group.endpoint) tunnel_order) (on (λ (endpoint_group : EndpointGroup). endpoint_group.group) groups)) compared
+endpoint_groups_compared = ap (λ (groups : Ip → Ip → Ordering). then_cmp (on (λ (endpoint_group : EndpointGroup). endpoint_group.endpoint) endpoint_order) (on (λ (endpoint_group : EndpointGroup). endpoint_group.group) groups)) compared
 
-endpoints_tied : (one other : Tunnel) → (eq_endpoints.TheImpl.ghosts).eq one other ≡ same_endpoint one other
+endpoints_tied : (one other : EndpointValue) → (eq_endpoints.TheImpl.ghosts).eq one other ≡ same_endpoint one other
 endpoints_tied one other = search rules
 
 endpoint_groups_tied : (one other : EndpointGroup) → (eq.TheImpl.ghosts).eq one other ≡ eq_by_cmp endpoint_group_order one other

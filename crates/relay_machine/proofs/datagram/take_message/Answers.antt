@@ -1,18 +1,18 @@
 use Rattle.std.proofs.Common.{◌≡◌, sym}
 use Rattle.response_mac.specs.ResponseMac.{is_good}
-use Rattle.relay_machine.specs.Settings.{terms_of}
+use Rattle.relay_machine.specs.Settings.{table_settings_of}
 use Rattle.relay_machine.proofs.datagram.take_message.Goals as goal
 
 pub returns-in-Discovery-clause-answers : goal.returns-in-Discovery-clause-answers
 returns-in-Discovery-clause-answers c log holds =
-    rw c.in-Discovery.is (c.take_discovery.ensures (terms_of c.args.setup.now.settings) c.args.table.now log holds)
+    rw c.in-Discovery.is (c.take_discovery.ensures (table_settings_of c.args.setup.now.settings) c.args.table.now log holds)
 
 pub returns-in-Update-clause-answers : goal.returns-in-Update-clause-answers
 returns-in-Update-clause-answers c log holds =
     let good : is_good c.args.secrets.now c.args.source c.in-Update.nonce c.in-Update.mac ≡ c.matches-good.result = sym c.matches-good.ensures.test in
-    rw (c.in-Update.is, good) (c.take_update.ensures.answers (terms_of c.args.setup.now.settings) log holds)
+    rw (c.in-Update.is, good) (c.take_update.ensures.answers (table_settings_of c.args.setup.now.settings) log holds)
 
 pub returns-in-Teardown-clause-answers : goal.returns-in-Teardown-clause-answers
 returns-in-Teardown-clause-answers c log holds =
     let good : is_good c.args.secrets.now c.in-Teardown.gateway c.in-Teardown.nonce c.in-Teardown.mac ≡ c.matches-good-in-Teardown.result = sym c.matches-good-in-Teardown.ensures.test in
-    rw (c.in-Teardown.is, good) (c.take_teardown.ensures.answers (terms_of c.args.setup.now.settings) log holds)
+    rw (c.in-Teardown.is, good) (c.take_teardown.ensures.answers (table_settings_of c.args.setup.now.settings) log holds)

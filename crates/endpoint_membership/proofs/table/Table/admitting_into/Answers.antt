@@ -1,6 +1,6 @@
 use Rattle.std.proofs.Common.{List, length, sym, ap, subst, ◌∙◌, arith}
-use Rattle.amt_values.specs.Order.{tunnel_order}
-use Rattle.amt_values.specs.Tunnel.{Tunnel}
+use Rattle.amt_values.specs.Order.{endpoint_order}
+use Rattle.amt_values.specs.EndpointValue.{EndpointValue}
 use Rattle.contract_words.specs.Ascending.{IsAscending, has}
 use Rattle.endpoint_membership.specs.Membership.{Membership}
 use Rattle.endpoint_membership.specs.Admission.{is_admitted}
@@ -29,12 +29,12 @@ returns-clause-targets c settings log holds =
 pub returns-clause-exactly : goal.returns-clause-exactly
 returns-clause-exactly c settings log holds endpoint =
     Contains-has c.collect_targets.new.out.endpoints endpoint (is_admitted settings.lifetime log (record { endpoint = endpoint; group = c.args.group.now }) c.args.source.now c.args.at.now)
-    (ap (λ (endpoints : List Tunnel). has tunnel_order endpoints endpoint) (returns-clause-targets c settings log holds)
+    (ap (λ (endpoints : List EndpointValue). has endpoint_order endpoints endpoint) (returns-clause-targets c settings log holds)
     ∙ has-targets_of settings.lifetime log c.args.group.now c.args.source.now c.args.at.now endpoint)
 
 pub returns-clause-ascending : goal.returns-clause-ascending
 returns-clause-ascending c =
-    subst (IsAscending tunnel_order) (sym (c.collect_targets.ensures.endpoints
+    subst (IsAscending endpoint_order) (sym (c.collect_targets.ensures.endpoints
     ∙ ap (targets_in c.self.inside.lifetime_ms c.later-later.result c.args.group.now c.args.source.now) c.as_slice.ensures))
     (IsAscending-targets c.self.inside.lifetime_ms c.later-later.result c.args.group.now c.args.source.now c.self.inside.rows c.self.invariant.1)
 
@@ -42,7 +42,7 @@ pub returns-clause-few : goal.returns-clause-few
 returns-clause-few c =
     let lifetime = c.self.inside.lifetime_ms in
     let few = length-targets lifetime c.later-later.result c.args.group.now c.args.source.now c.self.inside.rows c.self.invariant.1 in
-    let all = ap (λ (endpoints : List Tunnel). length endpoints) (c.collect_targets.ensures.endpoints
+    let all = ap (λ (endpoints : List EndpointValue). length endpoints) (c.collect_targets.ensures.endpoints
     ∙ ap (targets_in lifetime c.later-later.result c.args.group.now c.args.source.now) c.as_slice.ensures) in
     let live = ap (λ (table : TableValue). live_count table.rows) c.self.view_is in
     omega arith

@@ -1,6 +1,6 @@
 use Rattle.relay_machine.specs.Accepted.{accepted_log}
-use Rattle.relay_machine.specs.Settings.{terms_of}
+use Rattle.relay_machine.specs.Settings.{table_settings_of}
 use Rattle.relay_machine.proofs.relay.Relay.live_endpoints.Goals as goal
 
 pub returns : goal.returns
-returns c settings first events at = c.live_endpoints.ensures (terms_of settings) (accepted_log settings first events) at.table
+returns c settings first events at = c.live_endpoints.ensures (table_settings_of settings) (accepted_log settings first events) at.table

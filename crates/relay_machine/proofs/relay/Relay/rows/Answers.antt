@@ -1,9 +1,9 @@
 use Rattle.std.proofs.Common.{ℕ, ap, ◌∙◌}
 use Rattle.std.proofs.lemmas.Result.{IfOk-weaker}
-use Rattle.endpoint_membership.specs.Rows.{rows_of}
+use Rattle.endpoint_membership.specs.Memberships.{rows_of}
 use Rattle.relay_machine.specs.Accepted.{accepted_log}
 use Rattle.relay_machine.specs.Answers.{settings_of}
-use Rattle.relay_machine.specs.Settings.{membership_interval_ms, terms_of}
+use Rattle.relay_machine.specs.Settings.{membership_interval_ms, table_settings_of}
 use Rattle.relay_machine.proofs.Onward.{AreFew-settings, latest-accepted}
 use Rattle.relay_machine.proofs.relay.Relay.rows.Goals as goal
 
@@ -11,12 +11,12 @@ pub returns-clause-stands : goal.returns-clause-stands
 returns-clause-stands c = IfOk-weaker c.rows.result _ _
     (λ rows shown settings first events at.
     let log = accepted_log settings first events in
-    shown (terms_of settings) log at.table
+    shown (table_settings_of settings) log at.table
     ∙ ap (λ (moment : ℕ). rows_of (membership_interval_ms settings) moment log) (latest-accepted _ settings first events at)) c.rows.ensures.stands
 
 pub returns-clause-published : goal.returns-clause-published
 returns-clause-published c = IfOk-weaker c.rows.result _ _
-    (λ rows shown. shown (terms_of (settings_of c.args.self.now))) c.rows.ensures.stands
+    (λ rows shown. shown (table_settings_of (settings_of c.args.self.now))) c.rows.ensures.stands
 
 pub returns-clause-bounded : goal.returns-clause-bounded
 returns-clause-bounded c = IfOk-weaker c.rows.result _ _ (AreFew-settings c.args.self.now) (c.rows.ensures.bounded c.args.self.now.within)

@@ -8,7 +8,7 @@ use Rattle.relay_machine.specs.declared.event.Event.TheVariants.{Datagram, Packe
 use Rattle.relay_machine.specs.Accepted.{accepted_log, with_change}
 use Rattle.relay_machine.specs.Answers.{settings_of}
 use Rattle.relay_machine.specs.Packets.{IsToCopy}
-use Rattle.relay_machine.specs.Settings.{terms_of}
+use Rattle.relay_machine.specs.Settings.{table_settings_of}
 use Rattle.relay_machine.proofs.Acceptance.{torn-answered, torn_only-answered, updated-answered, updated_only-answered}
 use Rattle.relay_machine.proofs.Copies.{AreCopies-answered}
 use Rattle.relay_machine.proofs.Onward.{HasLog-answered, IsWithin-events, RelayAt-moment, RelayAt-payload, RelayAt-rotate, StandsFor-accepted, answered-after, same_relay}
@@ -37,8 +37,8 @@ returns-in-Moment-clause-within c settings first events at =
 
 pub returns-in-Moment-clause-published : goal.returns-in-Moment-clause-published
 returns-in-Moment-clause-published c log holds =
-    subst (λ (change : Option Change). Holds (terms_of (settings_of c.args.self.now)) c.advance.new.self (with_change log change)) (sym c.entered.ensures.change)
-    (c.advance.ensures.stands (terms_of (settings_of c.args.self.now)) log holds)
+    subst (λ (change : Option Change). Holds (table_settings_of (settings_of c.args.self.now)) c.advance.new.self (with_change log change)) (sym c.entered.ensures.change)
+    (c.advance.ensures.stands (table_settings_of (settings_of c.args.self.now)) log holds)
 
 -- what is answered to the datagram by the events before it
 pub returns-in-Datagram-clause-outcome : goal.returns-in-Datagram-clause-outcome
