@@ -1,10 +1,11 @@
 -- The length that an inner datagram states is in its first octets.
-use Rattle.std.proofs.Common.{◌≡◌, ℕ, zero, suc, ◌+◌, ◌≤◌, List, [], ◌∷◌, length, take, drop, Some, refl, arith}
+use Rattle.std.proofs.Common.{◌≡◌, ℕ, zero, suc, ◌+◌, ◌<◌, ◌≤◌, List, [], ◌∷◌, length, take, drop, Some, None, refl, arith}
 use Rattle.std.proofs.lemmas.Bool.{le-ltb}
-use Rattle.std.proofs.lemmas.List.{length-take-le, get_or-take}
+use Rattle.std.proofs.lemmas.List.{drop_all, length-take-le, get_or-take}
 use Rattle.byteorder.specs.Numbers.{big_from-take}
 use Rattle.byteorder.specs.Endian.{big_number}
 use Rattle.amt_messages.specs.Inner.{inner_length_of}
+use Rattle.amt_messages.specs.Refusal.{stated_inner}
 
 -- two octets from a place on are those of a prefix that reaches past them
 short_in_front : (n place : ℕ) (octets : List ℕ) → place + 2 ≤ n → big_number 2 (drop place (take n octets)) ≡ big_number 2 (drop place octets)
@@ -31,3 +32,8 @@ inner_length_of-take n octets far enough =
     let six_there = le-ltb (length octets) 6 (omega arith) in
     let six_here = le-ltb n 6 far in
     rw (len, first, total, payload, four_there, four_here, six_there, six_here) refl
+
+-- after less than a head no length is stated
+pub short_states_none : (bytes : List ℕ) → length bytes < 12 → stated_inner bytes ≡ None
+unfolding inner_length_of
+short_states_none bytes short = rw (drop_all 12 bytes (omega arith)) refl

@@ -1,15 +1,14 @@
-use Rattle.std.proofs.Common.{◌≡◌, ◌<◌, ◌^◌, length, sym, subst, rules, List, ℕ}
+use Rattle.std.proofs.Common.{◌≡◌, ◌<◌, ◌^◌, sym, subst, rules, List, ℕ}
 use Rattle.amt_messages.specs.declared.message.Message.{Message}
 use Rattle.amt_messages.specs.declared.message.Message.TheVariants.{Query}
 use Rattle.amt_messages.specs.Layout.{IsCanonical, spelling_of}
 use Rattle.amt_messages.proofs.Written.{query_is_canonical}
-use Rattle.amt_messages.proofs.writing.write_query.Goals as goal
+use Rattle.amt_messages.proofs.query.write_query.Goals as goal
 
 pub returns-clause-canonical : goal.returns-clause-canonical
 returns-clause-canonical c =
     let message : Message = Query c.args.limited c.args.mac.now c.args.nonce c.args.inner.now c.args.seen.now in
     let written : c.append_seen.new.bytes ≡ spelling_of message = search rules in
-    let six : length c.args.mac.now.0 ≡ 6 = search rules in
     let small : c.args.nonce < 2 ^ 32 = search rules in
     subst (λ (bytes : List ℕ). IsCanonical message bytes) (sym written)
-    (query_is_canonical c.args.limited c.args.mac.now c.args.nonce c.args.inner.now c.args.seen.now six small c.in_ok-append_seen.ensures.form c.requires)
+    (query_is_canonical c.args.limited c.args.mac.now c.args.nonce c.args.inner.now c.args.seen.now c.in_ok-bytes.ensures.mac small c.in_ok-append_seen.ensures.form c.requires)
