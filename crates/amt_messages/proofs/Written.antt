@@ -12,9 +12,9 @@ use Rattle.amt_values.specs.declared.address.Ip.TheVariants.{V4, V6}
 use Rattle.amt_values.specs.declared.mac.Mac48.{Mac48}
 use Rattle.amt_messages.specs.declared.message.Message.{Message}
 use Rattle.amt_messages.specs.declared.message.Message.TheVariants.{Discovery, Advertisement, Request, Query, Update, Multicast, Teardown}
-use Rattle.amt_messages.specs.Conditions.{IsMessage, IsSendable, IsSeen}
+use Rattle.amt_messages.specs.Conditions.{IsGateway, IsMessage, IsNamedGateway, IsSendable}
 use Rattle.amt_messages.specs.Inner.{inner_length_of}
-use Rattle.amt_messages.specs.Layout.{IsCanonical, IsQuery, IsUpdate, query_flags, query_length, request_flags, seen_octets, spelling_of}
+use Rattle.amt_messages.specs.Layout.{IsCanonical, IsQuery, IsUpdate, gateway_octets, query_flags, query_length, request_flags, spelling_of}
 
 -- a number of four octets is read back
 nonce_again : (nonce : ℕ) (rest : List ℕ) → nonce < 2 ^ 32 → nonce ≡ big_number 4 (big_bytes 4 nonce ++ rest)
@@ -124,7 +124,7 @@ endpoint_named-again endpoint address port same_address same_port form = rw (sam
 
 -- the spelling of a Query is canonical
 pub query_is_canonical : (limited : Bool) (mac : Mac48) (nonce : ℕ) (inner : List ℕ) (seen : Option Tunnel) → length mac.0 ≡ 6 → nonce < 2 ^ 32
-    → IsSeen seen → inner_length_of inner ≡ Some (length inner)
+    → IsNamedGateway seen → inner_length_of inner ≡ Some (length inner)
     → IsCanonical (Query limited mac nonce inner seen) (spelling_of (Query limited mac nonce inner seen))
 query_is_canonical limited mac nonce inner None six small form whole = record {
   spelled = query_written limited false mac nonce inner [] six small whole (omega arith);
@@ -133,7 +133,7 @@ query_is_canonical limited mac nonce inner None six small form whole = record {
 }
 query_is_canonical limited mac nonce inner (Some endpoint) six small form whole =
     let flags = query_flags limited true in
-    let tail = seen_octets (Some endpoint) in
+    let tail = gateway_octets endpoint in
     let port_place = tail_there 4 flags mac.0 (big_bytes 4 nonce) inner tail six refl in
     let address_place = address_there 4 flags mac.0 (big_bytes 4 nonce) inner tail six refl in
     let port_is = ap (big_number 2) port_place ∙ port_again endpoint.port (big_bytes 16 endpoint.address) form.1 in
@@ -156,10 +156,10 @@ multicast_is_canonical packet = record {
 }
 
 -- what is written of a Teardown, with no inner datagram before its endpoint
-teardown_written : (mac : Mac48) (nonce : ℕ) (gateway : Tunnel) → length mac.0 ≡ 6 → nonce < 2 ^ 32 → IsSeen (Some gateway)
-    → IsCanonical (Teardown mac nonce gateway) (7 ∷ 0 ∷ (mac.0 ++ big_bytes 4 nonce ++ [] ++ seen_octets (Some gateway)))
+teardown_written : (mac : Mac48) (nonce : ℕ) (gateway : Tunnel) → length mac.0 ≡ 6 → nonce < 2 ^ 32 → IsGateway gateway
+    → IsCanonical (Teardown mac nonce gateway) (7 ∷ 0 ∷ (mac.0 ++ big_bytes 4 nonce ++ [] ++ gateway_octets gateway))
 teardown_written mac nonce gateway six small form =
-    let tail = seen_octets (Some gateway) in
+    let tail = gateway_octets gateway in
     let port_place = tail_there 7 0 mac.0 (big_bytes 4 nonce) [] tail six refl in
     let address_place = address_there 7 0 mac.0 (big_bytes 4 nonce) [] tail six refl in
     let port_is = ap (big_number 2) port_place ∙ port_again gateway.port (big_bytes 16 gateway.address) form.1 in
@@ -176,11 +176,11 @@ teardown_written mac nonce gateway six small form =
     }
 
 -- the spelling of a Teardown is canonical
-pub teardown_is_canonical : (mac : Mac48) (nonce : ℕ) (gateway : Tunnel) → length mac.0 ≡ 6 → nonce < 2 ^ 32 → IsSeen (Some gateway)
+pub teardown_is_canonical : (mac : Mac48) (nonce : ℕ) (gateway : Tunnel) → length mac.0 ≡ 6 → nonce < 2 ^ 32 → IsGateway gateway
     → IsCanonical (Teardown mac nonce gateway) (spelling_of (Teardown mac nonce gateway))
 teardown_is_canonical mac nonce gateway six small form =
     let no_inner = append-nil (mac.0 ++ big_bytes 4 nonce) in
-    subst (λ (front : List ℕ). IsCanonical (Teardown mac nonce gateway) (7 ∷ 0 ∷ (front ++ seen_octets (Some gateway)))) no_inner
+    subst (λ (prefix : List ℕ). IsCanonical (Teardown mac nonce gateway) (7 ∷ 0 ∷ (prefix ++ gateway_octets gateway))) no_inner
     (teardown_written mac nonce gateway six small form)
 
 -- the message's spelling is canonical

@@ -97,14 +97,14 @@ abbrev pub request_at : List ℕ → Message
 request_at bytes = Request (has_flag 0 bytes) (big_number 4 (drop 4 bytes))
 
 -- the gateway that a Query names after an inner datagram of so many octets, where the G flag is set
-abbrev pub seen_at : ℕ → List ℕ → Option Tunnel
-seen_at inner bytes = if has_flag 0 bytes then Some (gateway_at inner bytes) else None
+abbrev pub named_gateway_at : ℕ → List ℕ → Option Tunnel
+named_gateway_at inner bytes = if has_flag 0 bytes then Some (gateway_at inner bytes) else None
 
 -- a Query with an inner datagram of so many octets
 abbrev pub query_with : ℕ → List ℕ → Message
 query_with inner bytes =
     Query (has_flag 1 bytes) (record { 0 = take 6 (drop 2 bytes) }) (big_number 4 (drop 8 bytes)) (take inner (drop 12 bytes))
-    (seen_at inner bytes)
+    (named_gateway_at inner bytes)
 
 abbrev pub query_at : List ℕ → Message
 query_at bytes = query_with (unwrap_or (stated_inner bytes) 0) bytes
@@ -118,15 +118,19 @@ multicast_at bytes = Multicast (drop 2 bytes)
 abbrev pub teardown_at : List ℕ → Message
 teardown_at bytes = Teardown (record { 0 = take 6 (drop 2 bytes) }) (big_number 4 (drop 8 bytes)) (gateway_at 0 bytes)
 
--- the fields by their places, where nothing is refused
+-- the message by the first octet, which is the type where nothing is refused
+abbrev pub messages_by_kind : ℕ → List ℕ → Conditions Message
+messages_by_kind kind bytes =
+    (kind == 1, discovery_at bytes)
+    ∷ (kind == 2, advertisement_at bytes)
+    ∷ (kind == 3, request_at bytes)
+    ∷ (kind == 4, query_at bytes)
+    ∷ (kind == 5, update_at bytes)
+    ∷ (kind == 6, multicast_at bytes)
+    ∷ []
+
 abbrev pub message_at : List ℕ → Message
-message_at bytes =
-    if slice_index bytes 0 == 1 then discovery_at bytes
-    else (if slice_index bytes 0 == 2 then advertisement_at bytes
-    else (if slice_index bytes 0 == 3 then request_at bytes
-    else (if slice_index bytes 0 == 4 then query_at bytes
-    else (if slice_index bytes 0 == 5 then update_at bytes
-    else (if slice_index bytes 0 == 6 then multicast_at bytes else teardown_at bytes)))))
+message_at bytes = unwrap_or (first_holding (messages_by_kind (slice_index bytes 0) bytes)) (teardown_at bytes)
 
 -- the message that the octets spell, or their first refusal
 unfoldable pub message_of : List ℕ → Result Message Refused

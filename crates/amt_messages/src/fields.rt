@@ -1,5 +1,4 @@
-//! Fields of one octet, a MAC, an address and an endpoint, by their places. It must not know which message
-//! has them, or whether the octets are a message.
+//! Fields by their places. It must not know whether the octets are a message.
 
 ghost use Rattle.std.specs.Prelude.{◌≡◌, ◌+◌, ◌<◌, ◌≤◌, ◌⊎◌, drop, take, length};
 ghost use Rattle.amt_messages.specs.Layout.{gateway_at, has_flag};

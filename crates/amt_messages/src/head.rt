@@ -1,10 +1,9 @@
-//! The octets that several messages have alike: the head with a MAC and a nonce, and a gateway's port and
-//! address. It must not know which message is written.
+//! The octets of a head with a MAC and a nonce, and of a gateway. It must not know which message has them.
 
-ghost use Rattle.std.specs.Prelude.{◌≡◌, ◌∷◌, ◌++◌, Some, length, IfOk, OnOk};
+ghost use Rattle.std.specs.Prelude.{◌≡◌, ◌∷◌, ◌++◌, length, IfOk, OnOk};
 ghost use Rattle.byteorder.specs.Endian.{big_bytes};
-ghost use Rattle.amt_messages.specs.Conditions.{IsSeen};
-ghost use Rattle.amt_messages.specs.Layout.{seen_octets};
+ghost use Rattle.amt_messages.specs.Conditions.{IsGateway};
+ghost use Rattle.amt_messages.specs.Layout.{gateway_octets};
 
 use amt_values::{Bytes, Endpoint, Mac48, octets_of_address};
 use std::alloc::{AllocError, Global};
@@ -35,8 +34,8 @@ fn octets_of_port(port: u16) -> [u8; 2]
 
 // Writes an endpoint as a Query and a Teardown carry it.
 pub fn append_gateway(bytes: &mut Bytes, endpoint: &Endpoint) -> Result<(), AllocError>
-    ensures appended { OnOk result (bytes.new ≡ bytes.old ++ seen_octets (Some endpoint.now)) }
-    ensures form { OnOk result (IsSeen (Some endpoint.now)) }
+    ensures appended { OnOk result (bytes.new ≡ bytes.old ++ gateway_octets endpoint.now) }
+    ensures form { OnOk result (IsGateway endpoint.now) }
 {
     bytes.append(&octets_of_port(endpoint.port()))?;
     bytes.append(&octets_of_address(endpoint.address()))?;

@@ -2,10 +2,10 @@
 
 ghost use Rattle.std.specs.Prelude.{◌≡◌, ◌+◌, ◌≤◌, ◌++◌, length, Some, Ok, unwrap_or, IfOk, OnOk};
 ghost use Rattle.contract_words.specs.Answer.{Gives};
-ghost use Rattle.amt_messages.specs.Conditions.{IsSeen};
+ghost use Rattle.amt_messages.specs.Conditions.{IsNamedGateway};
 ghost use Rattle.amt_messages.specs.Inner.{inner_length_of};
-ghost use Rattle.amt_messages.specs.Layout.{IsCanonical, has_flag, query_flags, query_length, seen_octets, spelling_of};
-ghost use Rattle.amt_messages.specs.Refusal.{TakesMemory, query_at, query_with, refusal_in, seen_at, stated_inner};
+ghost use Rattle.amt_messages.specs.Layout.{IsCanonical, has_flag, query_flags, query_length, named_gateway_octets, spelling_of};
+ghost use Rattle.amt_messages.specs.Refusal.{TakesMemory, query_at, query_with, refusal_in, named_gateway_at, stated_inner};
 ghost use Rattle.amt_messages.specs.declared.message.Message.TheVariants.{Query};
 
 use crate::fields::{gateway_at, is_limited, mac_at, names_gateway};
@@ -16,10 +16,10 @@ use amt_values::{Bytes, Endpoint, Mac48, number_at};
 use std::alloc::{AllocError, Global};
 
 // The gateway as the relay saw it, where the G flag says that it is named.
-fn seen_at(bytes: &[u8], inner: usize) -> Option<Endpoint>
+fn named_gateway_at(bytes: &[u8], inner: usize) -> Option<Endpoint>
     requires head { 12 ≤ length bytes.now }
     requires whole { query_length (has_flag 0 bytes.now) inner ≤ length bytes.now }
-    ensures { result ≡ seen_at inner bytes.now }
+    ensures { result ≡ named_gateway_at inner bytes.now }
 {
     if names_gateway(bytes) {
         Some(gateway_at(bytes, inner))
@@ -44,7 +44,7 @@ fn query_with(alloc: Global, bytes: &[u8], inner: usize) -> Result<Message, Deco
         mac: mac_at(bytes, 2),
         nonce: number_at(bytes, 8),
         inner: datagram,
-        seen: seen_at(bytes, inner),
+        seen: named_gateway_at(bytes, inner),
     })
 }
 
@@ -69,9 +69,9 @@ fn query_flags(limited: bool, named: bool) -> u8
     }
 }
 
-fn append_seen(bytes: &mut Bytes, seen: &Option<Endpoint>) -> Result<(), AllocError>
-    ensures appended { OnOk result (bytes.new ≡ bytes.old ++ seen_octets seen.now) }
-    ensures form { OnOk result (IsSeen seen.now) }
+fn append_named_gateway(bytes: &mut Bytes, seen: &Option<Endpoint>) -> Result<(), AllocError>
+    ensures appended { OnOk result (bytes.new ≡ bytes.old ++ named_gateway_octets seen.now) }
+    ensures form { OnOk result (IsNamedGateway seen.now) }
 {
     match seen {
         None => Ok(()),
@@ -95,6 +95,6 @@ pub fn write_query(
 {
     let mut bytes = write_head(alloc, 4, query_flags(limited, seen.is_some()), mac, nonce)?;
     bytes.append(inner.as_slice())?;
-    append_seen(&mut bytes, seen)?;
+    append_named_gateway(&mut bytes, seen)?;
     Ok(bytes)
 }

@@ -8,7 +8,7 @@ use Rattle.amt_messages.proofs.query.write_query.Goals as goal
 pub returns-clause-canonical : goal.returns-clause-canonical
 returns-clause-canonical c =
     let message : Message = Query c.args.limited c.args.mac.now c.args.nonce c.args.inner.now c.args.seen.now in
-    let written : c.append_seen.new.bytes ≡ spelling_of message = search rules in
+    let written : c.append_named_gateway.new.bytes ≡ spelling_of message = search rules in
     let small : c.args.nonce < 2 ^ 32 = search rules in
     subst (λ (bytes : List ℕ). IsCanonical message bytes) (sym written)
-    (query_is_canonical c.args.limited c.args.mac.now c.args.nonce c.args.inner.now c.args.seen.now c.in_ok-bytes.ensures.mac small c.in_ok-append_seen.ensures.form c.requires)
+    (query_is_canonical c.args.limited c.args.mac.now c.args.nonce c.args.inner.now c.args.seen.now c.in_ok-bytes.ensures.mac small c.in_ok-append_named_gateway.ensures.form c.requires)
