@@ -55,11 +55,12 @@ pub record IsQuery (limited named : Bool) (mac : Mac48) (nonce : ℕ) (inner byt
   pub inner_field : inner ≡ take (length inner) (drop 12 bytes)
   pub inner_whole : inner_length_of inner ≡ Some (length inner)
 
--- the gateway's port and address, after an inner datagram of so many octets (RFC 7450, section 5.1.4); a
--- Teardown has them in the same place, with no inner datagram (section 5.1.7)
+-- the gateway's port, after an inner datagram of so many octets (RFC 7450, section 5.1.4); a Teardown has
+-- it in the same place, with no inner datagram (section 5.1.7)
 abbrev pub gateway_port : ℕ → List ℕ → ℕ
 gateway_port inner bytes = big_number 2 (drop (12 + inner) bytes)
 
+-- and its address
 abbrev pub gateway_address : ℕ → List ℕ → ℕ
 gateway_address inner bytes = big_number 16 (drop (14 + inner) bytes)
 

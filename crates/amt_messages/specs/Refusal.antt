@@ -26,7 +26,7 @@ kind_of bytes = slice_index bytes 0 % 16
 abbrev pub is_unknown : ℕ → Bool
 is_unknown kind = (kind == 0) || nat_lt 7 kind
 
--- an Advertisement has 12 octets or 24: past 12 the longer form is meant
+-- an Advertisement has 12 octets or 24 (RFC 7450, section 5.1.2): past 12 the longer form is meant
 abbrev pub advertisement_length : ℕ → ℕ
 advertisement_length have = if nat_le have 12 then 12 else 24
 
@@ -34,12 +34,13 @@ advertisement_length have = if nat_le have 12 then 12 else 24
 abbrev pub stated_inner : List ℕ → Option ℕ
 stated_inner bytes = inner_length_of (drop 12 bytes)
 
--- the octets of a Query by the length that its inner datagram states: where it states none, the head
+-- the octets of a Query by the length that its inner datagram states, or of its head where it states none
+-- (RFC 7450, section 5.1.4)
 abbrev pub query_need : Option ℕ → List ℕ → ℕ
 query_need None bytes = 12
 query_need (Some inner) bytes = query_length (has_flag 0 bytes) inner
 
--- the octets that a message of a type needs (RFC 7450, sections 5.1.1 to 5.1.7)
+-- the least octets by type (RFC 7450, sections 5.1.1 to 5.1.7)
 abbrev pub lengths_by_kind : ℕ → List ℕ → Conditions ℕ
 lengths_by_kind kind bytes =
     (kind == 1, 8)
@@ -51,18 +52,20 @@ lengths_by_kind kind bytes =
     ∷ (kind == 7, 30)
     ∷ []
 
+-- the octets that a message of this type needs
 abbrev pub needed_length : ℕ → List ℕ → ℕ
 needed_length kind bytes = unwrap_or (first_holding (lengths_by_kind kind bytes)) 0
 
--- a Query whose head is whole, with no datagram after it that states its length
+-- a Query whose head is whole, and after it no datagram that states its length
 abbrev pub lacks_inner : ℕ → List ℕ → Bool
 lacks_inner kind bytes = kind == 4 && (nat_le 12 (length bytes) && is_none (stated_inner bytes))
 
--- an Update and Multicast Data may have any octets after those that they need
+-- an Update and Multicast Data may have any octets after those that they need (RFC 7450, sections 5.1.5
+-- and 5.1.6)
 abbrev pub is_open : ℕ → Bool
 is_open kind = kind == 5 || kind == 6
 
--- of octets of a known type: no inner datagram, too few octets, too many
+-- of a known type: no inner datagram, too few octets, too many
 abbrev pub length_refusals : ℕ → List ℕ → Conditions Refused
 length_refusals kind bytes =
     (lacks_inner kind bytes, NoInner)
@@ -70,7 +73,7 @@ length_refusals kind bytes =
     ∷ (not (is_open kind) && nat_lt (needed_length kind bytes) (length bytes), Long (needed_length kind bytes) (length bytes))
     ∷ []
 
--- no octet, another version, an unknown type, and then by the type
+-- no octet, another version, an unknown type, and then those of the type
 abbrev pub refusals : List ℕ → Conditions Refused
 refusals bytes =
     (length bytes == 0, Empty)
@@ -78,21 +81,23 @@ refusals bytes =
     ∷ (is_unknown (kind_of bytes), Kind (kind_of bytes))
     ∷ length_refusals (kind_of bytes) bytes
 
--- the first refusal that holds, in the order that FORMATS says
+-- the first refusal, in this order
 unfoldable pub first_refusal : List ℕ → Option Refused
 first_refusal bytes = first_holding (refusals bytes)
 
--- the relay's address of an Advertisement
+-- the relay's address in an Advertisement (RFC 7450, section 5.1.2)
 abbrev pub relay_at : List ℕ → Ip
 relay_at bytes = if length bytes == 12 then V4 (big_number 4 (drop 8 bytes)) else V6 (big_number 16 (drop 8 bytes))
 
--- the fields of each message by their places (RFC 7450, sections 5.1.1 to 5.1.7)
+-- a Discovery by its fields' places, and so the others (RFC 7450, sections 5.1.1 to 5.1.7)
 abbrev pub discovery_at : List ℕ → Message
 discovery_at bytes = Discovery (big_number 4 (drop 4 bytes))
 
+-- an Advertisement
 abbrev pub advertisement_at : List ℕ → Message
 advertisement_at bytes = Advertisement (big_number 4 (drop 4 bytes)) (relay_at bytes)
 
+-- a Request
 abbrev pub request_at : List ℕ → Message
 request_at bytes = Request (has_flag 0 bytes) (big_number 4 (drop 4 bytes))
 
@@ -106,19 +111,23 @@ query_with inner bytes =
     Query (has_flag 1 bytes) (record { 0 = take 6 (drop 2 bytes) }) (big_number 4 (drop 8 bytes)) (take inner (drop 12 bytes))
     (named_gateway_at inner bytes)
 
+-- a Query
 abbrev pub query_at : List ℕ → Message
 query_at bytes = query_with (unwrap_or (stated_inner bytes) 0) bytes
 
+-- an Update
 abbrev pub update_at : List ℕ → Message
 update_at bytes = Update (record { 0 = take 6 (drop 2 bytes) }) (big_number 4 (drop 8 bytes)) (drop 12 bytes)
 
+-- Multicast Data
 abbrev pub multicast_at : List ℕ → Message
 multicast_at bytes = Multicast (drop 2 bytes)
 
+-- a Teardown
 abbrev pub teardown_at : List ℕ → Message
 teardown_at bytes = Teardown (record { 0 = take 6 (drop 2 bytes) }) (big_number 4 (drop 8 bytes)) (gateway_at 0 bytes)
 
--- the message by the first octet, which is the type where nothing is refused
+-- the messages by type, but for a Teardown
 abbrev pub messages_by_kind : ℕ → List ℕ → Conditions Message
 messages_by_kind kind bytes =
     (kind == 1, discovery_at bytes)
@@ -129,6 +138,7 @@ messages_by_kind kind bytes =
     ∷ (kind == 6, multicast_at bytes)
     ∷ []
 
+-- the message by the first octet, which is its type where nothing is refused
 abbrev pub message_at : List ℕ → Message
 message_at bytes = unwrap_or (first_holding (messages_by_kind (slice_index bytes 0) bytes)) (teardown_at bytes)
 

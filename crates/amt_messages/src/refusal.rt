@@ -1,6 +1,6 @@
 //! Why octets are no message. It must not know of their fields more than the type and the lengths.
 
-ghost use Rattle.std.specs.Prelude.{◌≡◌, ◌≤◌, length, IfSome};
+ghost use Rattle.std.specs.Prelude.{◌≡◌, ◌≤◌, ◌/◌, length, IfSome};
 ghost use Rattle.contract_words.specs.Conditions.{first_holding};
 ghost use Rattle.amt_messages.specs.Layout.{query_length};
 ghost use Rattle.amt_messages.specs.Refusal.{advertisement_length, first_refusal, is_open, is_unknown, lacks_inner, length_refusals, needed_length, query_need, stated_inner};
@@ -32,6 +32,12 @@ pub enum DecodeFault {
     Refused(Refused),
     /// Nothing is refused, and there is no memory for the inner datagram or the packet.
     Memory,
+}
+
+fn version_of(first: u8) -> u8
+    ensures { result ≡ first / 16 }
+{
+    first >> 4
 }
 
 fn is_unknown(kind: u8) -> bool
@@ -143,7 +149,7 @@ pub fn first_refusal(bytes: &[u8]) -> Option<Refused>
     let Some(first) = bytes.first() else {
         return Some(Refused::Empty);
     };
-    let version = *first >> 4;
+    let version = version_of(*first);
     if version != 0 {
         return Some(Refused::Version(version));
     }

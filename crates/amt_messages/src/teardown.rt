@@ -22,6 +22,7 @@ pub fn read_teardown(bytes: &[u8]) -> Message
     }
 }
 
+#[tactic(auto, using(crate::proofs::Written::written_teardown))]
 pub fn write_teardown(
     alloc: Global,
     mac: &Mac48,

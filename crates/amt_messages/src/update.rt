@@ -28,6 +28,7 @@ pub fn read_update(alloc: Global, bytes: &[u8]) -> Result<Message, DecodeFault>
     })
 }
 
+#[tactic(auto, using(crate::proofs::Written::written_update))]
 pub fn write_update(
     alloc: Global,
     mac: &Mac48,
