@@ -1,5 +1,5 @@
 -- From what was answered by the reading of octets to what it says of their spelling.
-use Rattle.std.proofs.Common.{◌≡◌, ◌≤◌, ◌↔◌, ℕ, List, length, arith, Option, Some, None, Result, Ok, Err, refl, sym, subst, ◌∙◌}
+use Rattle.std.proofs.Common.{◌≡◌, ◌≤◌, ◌↔◌, ℕ, List, length, arith, Some, None, Result, Ok, Err, refl, sym, subst, ◌∙◌}
 use Rattle.std.specs.Result.{IfOk, MatchResult}
 use Rattle.amt_messages.specs.declared.message.Message.{Message}
 use Rattle.amt_messages.specs.declared.message.Message.TheVariants.{Discovery, Advertisement, Request, Query, Update, Multicast, Teardown}
@@ -8,21 +8,23 @@ use Rattle.amt_messages.specs.declared.refusal.DecodeFault.TheVariants.{Refused 
 use Rattle.amt_messages.specs.declared.refusal.Refused.{Refused}
 use Rattle.amt_messages.specs.Conditions.{IsMessage, IsSendable}
 use Rattle.amt_messages.specs.Layout.{Spells, spelling_of}
-use Rattle.amt_messages.specs.Refusal.{Gives, TakesMemory, first_refusal, message_at, message_of, reading_by, refusal_in}
+use Rattle.contract_words.specs.Answer.{Gives}
+use Rattle.contract_words.proofs.ConditionLaws.{unless-err}
+use Rattle.amt_messages.specs.Refusal.{TakesMemory, first_refusal, message_at, message_of, refusal_in}
 use Rattle.amt_messages.proofs.Spelled.{spelled_is_read}
 use Rattle.amt_messages.proofs.Unrefused.{read_is_spelled, read_is_unrefused, unrefused_is_spelled}
 use Rattle.amt_messages.proofs.Written.{spelling_is_canonical}
 
-pub answer_found : (answer : Result Message DecodeFault) (bytes : List ℕ) → Gives answer (message_of bytes) → IfOk answer (λ message. Spells message bytes)
+pub answer_found : (answer : Result Message DecodeFault) (bytes : List ℕ) → Gives refusal_in TakesMemory answer (message_of bytes) → IfOk answer (λ message. Spells message bytes)
 answer_found (Ok message) bytes gives = read_is_spelled bytes message gives
 answer_found (Err fault) bytes gives = tt
 
-pub answer_only : (answer : Result Message DecodeFault) (bytes : List ℕ) → Gives answer (message_of bytes) → (message : Message) → Spells message bytes
-    → Gives answer (Ok message)
-answer_only answer bytes gives message spells = subst (Gives answer) (spelled_is_read message bytes spells) gives
+pub answer_only : (answer : Result Message DecodeFault) (bytes : List ℕ) → Gives refusal_in TakesMemory answer (message_of bytes) → (message : Message) → Spells message bytes
+    → Gives refusal_in TakesMemory answer (Ok message)
+answer_only answer bytes gives message spells = subst (Gives refusal_in TakesMemory answer) (spelled_is_read message bytes spells) gives
 
-pub answer_back : (answer : Result Message DecodeFault) (bytes : List ℕ) → Gives answer (message_of bytes) → (message : Message)
-    → IsMessage message → IsSendable message → bytes ≡ spelling_of message → Gives answer (Ok message)
+pub answer_back : (answer : Result Message DecodeFault) (bytes : List ℕ) → Gives refusal_in TakesMemory answer (message_of bytes) → (message : Message)
+    → IsMessage message → IsSendable message → bytes ≡ spelling_of message → Gives refusal_in TakesMemory answer (Ok message)
 answer_back answer bytes gives message fits sendable same =
     let spells = subst (Spells message) (sym same) (spelling_is_canonical message fits sendable).spelled in
     answer_only answer bytes gives message spells
@@ -46,7 +48,7 @@ spelled_is_sendable (Multicast packet) bytes most spells =
     omega arith
 spelled_is_sendable (Teardown mac nonce gateway) bytes most spells = tt
 
-pub answer_sendable : (answer : Result Message DecodeFault) (bytes : List ℕ) → length bytes ≤ 65535 → Gives answer (message_of bytes)
+pub answer_sendable : (answer : Result Message DecodeFault) (bytes : List ℕ) → length bytes ≤ 65535 → Gives refusal_in TakesMemory answer (message_of bytes)
     → IfOk answer (λ message. IsSendable message)
 answer_sendable (Ok message) bytes most gives = spelled_is_sendable message bytes most (read_is_spelled bytes message gives)
 answer_sendable (Err fault) bytes most gives = tt
@@ -61,15 +63,11 @@ takes_memory-ok : (reading : Result Message Refused) → TakesMemory reading →
 takes_memory-ok (Ok message) takes = (message, refl)
 takes_memory-ok (Err refusal) takes = absurd takes
 
-reading_by-err : (first : Option Refused) (at : Message) (refusal : Refused) → reading_by first at ≡ Err refusal → first ≡ Some refusal
-reading_by-err None at refusal same = cc
-reading_by-err (Some given) at refusal same = cc
-
 read_is_refused : (bytes : List ℕ) (refusal : Refused) → message_of bytes ≡ Err refusal → first_refusal bytes ≡ Some refusal
 unfolding message_of
-read_is_refused bytes refusal same = reading_by-err (first_refusal bytes) (message_at bytes) refusal same
+read_is_refused bytes refusal same = unless-err (first_refusal bytes) (message_at bytes) refusal (sym same)
 
-pub answer_refused : (answer : Result Message DecodeFault) (bytes : List ℕ) → Gives answer (message_of bytes)
+pub answer_refused : (answer : Result Message DecodeFault) (bytes : List ℕ) → Gives refusal_in TakesMemory answer (message_of bytes)
     → MatchResult answer (λ _. first_refusal bytes ≡ None) (λ fault. first_refusal bytes ≡ refusal_in fault)
 answer_refused (Ok message) bytes gives = read_is_unrefused bytes message gives
 answer_refused (Err (RefusedBy refusal)) bytes gives = read_is_refused bytes refusal gives

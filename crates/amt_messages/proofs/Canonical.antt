@@ -1,8 +1,7 @@
 -- A message has one canonical spelling.
-use Rattle.std.proofs.Common.{◌≡◌, ℕ, ◌+◌, ◌/◌, ◌≤◌, Bool, true, false, eqb, List, [], ◌∷◌, ◌++◌, length, take, drop, slice_index, Option, Some, None, refl, sym, ap, ◌∙◌, arith, append_assoc, take-append-drop, length-drop, rules}
-use Rattle.std.proofs.lemmas.Bool.{eqb-true, eqb-false}
+use Rattle.std.proofs.Common.{◌≡◌, ℕ, ◌+◌, ◌/◌, ◌<◌, ◌≤◌, Bool, true, false, cond, eqb, List, [], ◌∷◌, ◌++◌, length, take, drop, slice_index, Option, Some, None, refl, sym, ap, ◌∙◌, arith, append_assoc, take-append-drop, length-drop, rules}
 use Rattle.std.proofs.lemmas.List.{append-nil, drop-drop, drop_all, take_all}
-use Rattle.std.proofs.lemmas.Nat.Bits.{bit_at_lowest}
+use Rattle.std.proofs.lemmas.Nat.Bits.{bit_at-lt, bit_at_lowest}
 use Rattle.std.specs.Int.{bit_at}
 use Rattle.std.specs.Option.{is_some}
 use Rattle.byteorder.specs.Endian.{big_number, big_bytes}
@@ -14,7 +13,7 @@ use Rattle.amt_values.specs.declared.address.Ip.TheVariants.{V4, V6}
 use Rattle.amt_values.specs.declared.mac.Mac48.{Mac48}
 use Rattle.amt_messages.specs.declared.message.Message.{Message}
 use Rattle.amt_messages.specs.declared.message.Message.TheVariants.{Discovery, Advertisement, Request, Query, Update, Multicast, Teardown}
-use Rattle.amt_messages.specs.Layout.{IsCanonical, IsAdvertisement, IsQuery, gateway_address, gateway_port, gateway_at, query_flags, request_flags, seen_octets, spelling_of}
+use Rattle.amt_messages.specs.Layout.{IsCanonical, IsAdvertisement, IsQuery, gateway_address, gateway_port, gateway_at, gateway_octets, named_gateway_octets, query_flags, request_flags, spelling_of}
 
 -- the first octet, three more, and the rest
 first_four : (kind : ℕ) (bytes : List ℕ) → 4 ≤ length bytes → slice_index bytes 0 ≡ kind → take 3 (drop 1 bytes) ≡ 0 ∷ 0 ∷ 0 ∷ []
@@ -54,54 +53,44 @@ advertised nonce address octets bytes small h =
     let size = h.kind.octets in
     let enough : 4 ≤ length (drop 4 bytes) = omega (arith, length-drop 4 bytes) in
     let len : length (drop 8 bytes) ≡ octets = omega (arith, length-drop 8 bytes) in
-    let front = bytes_high_first-take 4 (drop 4 bytes) enough (AreOctets-drop 4 bytes small) in
+    let prefix = bytes_high_first-take 4 (drop 4 bytes) enough (AreOctets-drop 4 bytes small) in
     let back = bytes_high_first-big_from octets (drop 8 bytes) len (AreOctets-drop 8 bytes small) in
-    let behind : drop 4 (drop 4 bytes) ≡ drop 8 bytes = search rules in
-    let nonce_is : big_bytes 4 nonce ≡ take 4 (drop 4 bytes) = ap (λ (n : ℕ). big_bytes 4 n) h.nonce_field ∙ front in
+    let after : drop 4 (drop 4 bytes) ≡ drop 8 bytes = search rules in
+    let nonce_is : big_bytes 4 nonce ≡ take 4 (drop 4 bytes) = ap (λ (n : ℕ). big_bytes 4 n) h.nonce_field ∙ prefix in
     let address_is : big_bytes octets address ≡ drop 8 bytes = ap (λ (n : ℕ). big_bytes octets n) h.address_field ∙ back in
     sym (take-append-drop 4 (drop 4 bytes))
     ∙ (ap (λ (xs : List ℕ). xs ++ drop 4 (drop 4 bytes)) (sym nonce_is)
-    ∙ ap (λ (xs : List ℕ). big_bytes 4 nonce ++ xs) (behind ∙ sym address_is))
+    ∙ ap (λ (xs : List ℕ). big_bytes 4 nonce ++ xs) (after ∙ sym address_is))
+
+-- a flag is its bit
+flag_bit : (flag : Bool) (bit : ℕ) → bit < 2 → flag ≡ eqb bit 1 → bit ≡ cond flag 1 0
+flag_bit flag bit small is = grind arith
+
+doubled : (flag : Bool) → cond flag 2 0 ≡ cond flag 1 0 + cond flag 1 0
+doubled true = refl
+doubled false = refl
 
 -- the flags are all that the second octet of a Request has, where its reserved bits are zero
 request_flags-of : (octet : ℕ) (v6 : Bool) → v6 ≡ eqb (bit_at octet 0) 1 → octet / 2 ≡ 0 → octet ≡ request_flags v6
-request_flags-of octet true flag reserved =
-    let low = bit_at_lowest octet in
-    let one = eqb-true (bit_at octet 0) 1 (sym flag) in
-    omega arith
-request_flags-of octet false flag reserved =
-    let low = bit_at_lowest octet in
-    let other = eqb-false (bit_at octet 0) 1 (sym flag) in
+request_flags-of octet v6 p_flag reserved =
+    let lowest = bit_at_lowest octet in
+    let p = flag_bit v6 (bit_at octet 0) (bit_at-lt octet 0) p_flag in
     omega arith
 
 -- and those of a Query
 query_flags-of : (octet : ℕ) (limited named : Bool) → limited ≡ eqb (bit_at octet 1) 1 → named ≡ eqb (bit_at octet 0) 1 → octet / 4 ≡ 0
     → octet ≡ query_flags limited named
-query_flags-of octet true true l_flag g_flag reserved =
-    let low = bit_at_lowest octet in
-    let l = eqb-true (bit_at octet 1) 1 (sym l_flag) in
-    let g = eqb-true (bit_at octet 0) 1 (sym g_flag) in
-    omega arith
-query_flags-of octet true false l_flag g_flag reserved =
-    let low = bit_at_lowest octet in
-    let l = eqb-true (bit_at octet 1) 1 (sym l_flag) in
-    let g = eqb-false (bit_at octet 0) 1 (sym g_flag) in
-    omega arith
-query_flags-of octet false true l_flag g_flag reserved =
-    let low = bit_at_lowest octet in
-    let l = eqb-false (bit_at octet 1) 1 (sym l_flag) in
-    let g = eqb-true (bit_at octet 0) 1 (sym g_flag) in
-    omega arith
-query_flags-of octet false false l_flag g_flag reserved =
-    let low = bit_at_lowest octet in
-    let l = eqb-false (bit_at octet 1) 1 (sym l_flag) in
-    let g = eqb-false (bit_at octet 0) 1 (sym g_flag) in
+query_flags-of octet limited named l_flag g_flag reserved =
+    let lowest = bit_at_lowest octet in
+    let l = flag_bit limited (bit_at octet 1) (bit_at-lt octet 1) l_flag in
+    let g = flag_bit named (bit_at octet 0) (bit_at-lt octet 0) g_flag in
+    let twice = doubled limited in
     omega arith
 
 -- the gateway's port and address are all that follows the inner datagram
-seen_behind : (endpoint : EndpointValue) (inner : ℕ) (bytes : List ℕ) → AreOctets bytes → length bytes ≡ 12 + inner + 18
-    → endpoint ≡ gateway_at inner bytes → is_mapped (gateway_address inner bytes) ≡ false → drop (12 + inner) bytes ≡ seen_octets (Some endpoint)
-seen_behind endpoint inner bytes small octets names form =
+gateway_after_inner : (endpoint : EndpointValue) (inner : ℕ) (bytes : List ℕ) → AreOctets bytes → length bytes ≡ 12 + inner + 18
+    → endpoint ≡ gateway_at inner bytes → is_mapped (gateway_address inner bytes) ≡ false → drop (12 + inner) bytes ≡ gateway_octets endpoint
+gateway_after_inner endpoint inner bytes small octets names form =
     let port_there : 2 ≤ length (drop (12 + inner) bytes) = omega (arith, length-drop (12 + inner) bytes) in
     let len : length (drop (14 + inner) bytes) ≡ 16 = omega (arith, length-drop (14 + inner) bytes) in
     let port = bytes_high_first-take 2 (drop (12 + inner) bytes) port_there (AreOctets-drop (12 + inner) bytes small) in
@@ -118,12 +107,12 @@ seen_behind endpoint inner bytes small octets names form =
 query_parts : (mac : Mac48) (nonce : ℕ) (inner tail bytes : List ℕ) → AreOctets bytes → 12 ≤ length bytes
     → mac.0 ≡ take 6 (drop 2 bytes) → nonce ≡ big_number 4 (drop 8 bytes) → inner ≡ take (length inner) (drop 12 bytes)
     → drop (12 + length inner) bytes ≡ tail → drop 2 bytes ≡ mac.0 ++ big_bytes 4 nonce ++ inner ++ tail
-query_parts mac nonce inner tail bytes small enough mac_field nonce_field inner_field behind =
+query_parts mac nonce inner tail bytes small enough mac_field nonce_field inner_field after =
     let nonce_there : 4 ≤ length (drop 8 bytes) = omega (arith, length-drop 8 bytes) in
     let octets = bytes_high_first-take 4 (drop 8 bytes) nonce_there (AreOctets-drop 8 bytes small) in
     let nonce_is : take 4 (drop 8 bytes) ≡ big_bytes 4 nonce = sym octets ∙ ap (λ (n : ℕ). big_bytes 4 n) (sym nonce_field) in
     let three : drop 12 bytes ≡ inner ++ tail = cut (length inner) 12 bytes
-    ∙ (ap (λ (xs : List ℕ). xs ++ drop (12 + length inner) bytes) (sym inner_field) ∙ ap (λ (xs : List ℕ). inner ++ xs) behind) in
+    ∙ (ap (λ (xs : List ℕ). xs ++ drop (12 + length inner) bytes) (sym inner_field) ∙ ap (λ (xs : List ℕ). inner ++ xs) after) in
     let two : drop 8 bytes ≡ big_bytes 4 nonce ++ (inner ++ tail) = cut 4 8 bytes
     ∙ (ap (λ (xs : List ℕ). xs ++ drop 12 bytes) nonce_is ∙ ap (λ (xs : List ℕ). big_bytes 4 nonce ++ xs) three) in
     let one : drop 2 bytes ≡ mac.0 ++ (big_bytes 4 nonce ++ (inner ++ tail)) = cut 6 2 bytes
@@ -132,12 +121,12 @@ query_parts mac nonce inner tail bytes small enough mac_field nonce_field inner_
 
 canonical_query : (limited : Bool) (mac : Mac48) (nonce : ℕ) (inner : List ℕ) (seen : Option EndpointValue) (bytes : List ℕ) → AreOctets bytes
     → IsQuery limited (is_some seen) mac nonce inner bytes → slice_index bytes 1 / 4 ≡ 0 → 12 + length inner ≤ length bytes
-    → drop (12 + length inner) bytes ≡ seen_octets seen → bytes ≡ spelling_of (Query limited mac nonce inner seen)
-canonical_query limited mac nonce inner seen bytes small h reserved enough behind =
+    → drop (12 + length inner) bytes ≡ named_gateway_octets seen → bytes ≡ spelling_of (Query limited mac nonce inner seen)
+canonical_query limited mac nonce inner seen bytes small h reserved enough after =
     let flags = query_flags-of (slice_index bytes 1) limited (is_some seen) h.l_flag h.g_flag reserved in
     first_two 4 (query_flags limited (is_some seen)) bytes (omega arith) h.kind.first flags
     ∙ ap (λ (rest : List ℕ). 4 ∷ query_flags limited (is_some seen) ∷ rest)
-    (query_parts mac nonce inner (seen_octets seen) bytes small (omega arith) h.mac_field h.nonce_field h.inner_field behind)
+    (query_parts mac nonce inner (named_gateway_octets seen) bytes small (omega arith) h.mac_field h.nonce_field h.inner_field after)
 
 pub canonical_once : (message : Message) (bytes : List ℕ) → AreOctets bytes → IsCanonical message bytes → bytes ≡ spelling_of message
 canonical_once (Discovery nonce) bytes small h =
@@ -172,7 +161,7 @@ canonical_once (Query limited mac nonce inner None) bytes small h =
 canonical_once (Query limited mac nonce inner (Some endpoint)) bytes small h =
     let size = h.spelled.0.kind.octets in
     canonical_query limited mac nonce inner (Some endpoint) bytes small h.spelled.0 h.reserved (omega arith)
-    (seen_behind endpoint (length inner) bytes small size h.spelled.1 h.address_form)
+    (gateway_after_inner endpoint (length inner) bytes small size h.spelled.1 h.address_form)
 canonical_once (Update mac nonce inner) bytes small h =
     let size = h.spelled.kind.octets in
     let rest : length (drop 12 bytes) ≡ length inner = omega (arith, length-drop 12 bytes) in
@@ -186,8 +175,8 @@ canonical_once (Multicast packet) bytes small h =
     first_two 6 0 bytes (omega arith) h.spelled.kind.first h.reserved ∙ ap (λ (rest : List ℕ). 6 ∷ 0 ∷ rest) (sym h.spelled.packet_field)
 canonical_once (Teardown mac nonce gateway) bytes small h =
     let size = h.spelled.kind.octets in
-    let tail = seen_octets (Some gateway) in
-    let behind = seen_behind gateway 0 bytes small size h.spelled.gateway_field h.address_form in
-    let parts = query_parts mac nonce [] tail bytes small (omega arith) h.spelled.mac_field h.spelled.nonce_field refl behind in
+    let tail = gateway_octets gateway in
+    let after = gateway_after_inner gateway 0 bytes small size h.spelled.gateway_field h.address_form in
+    let parts = query_parts mac nonce [] tail bytes small (omega arith) h.spelled.mac_field h.spelled.nonce_field refl after in
     first_two 7 0 bytes (omega arith) h.spelled.kind.first h.reserved
-    ∙ ap (λ (rest : List ℕ). 7 ∷ 0 ∷ rest) (parts ∙ ap (λ (front : List ℕ). front ++ tail) (append-nil (mac.0 ++ big_bytes 4 nonce)))
+    ∙ ap (λ (rest : List ℕ). 7 ∷ 0 ∷ rest) (parts ∙ ap (λ (prefix : List ℕ). prefix ++ tail) (append-nil (mac.0 ++ big_bytes 4 nonce)))

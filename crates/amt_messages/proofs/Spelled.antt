@@ -1,34 +1,40 @@
 -- Reading by the refusals and the places of fields is the relation between octets and messages.
-use Rattle.std.proofs.Common.{◌≡◌, ℕ, ◌+◌, ◌/◌, ◌%◌, ◌<◌, ◌≤◌, List, [], ◌∷◌, length, take, drop, slice_index, Bool, true, false, Option, Some, None, Ok, refl, sym, ap, ◌∙◌, arith, length-drop, cond}
-use Rattle.std.proofs.lemmas.Bool.{le-ltb}
+use Rattle.std.proofs.Common.{◌≡◌, ℕ, ◌+◌, ◌/◌, ◌%◌, ◌<◌, ◌≤◌, List, length, take, drop, slice_index, Bool, true, false, ◌&&◌, eqb, leb, ltb, Option, Some, None, Ok, refl, sym, subst, ap, ◌∙◌, arith, length-drop, cond}
+use Rattle.std.proofs.lemmas.Bool.{le-ltb, ne_eqb}
 use Rattle.amt_values.specs.EndpointValue.{EndpointValue}
 use Rattle.amt_values.specs.declared.address.Ip.TheVariants.{V4, V6}
 use Rattle.amt_values.specs.declared.mac.Mac48.{Mac48}
 use Rattle.amt_messages.specs.declared.message.Message.{Message}
 use Rattle.amt_messages.specs.declared.message.Message.TheVariants.{Discovery, Advertisement, Request, Query, Update, Multicast, Teardown}
-use Rattle.amt_messages.specs.declared.refusal.Refused.{Refused}
 use Rattle.amt_messages.specs.Inner.{inner_length_of}
 use Rattle.amt_messages.specs.Layout.{Spells, IsQuery, has_flag, query_length, gateway_at}
-use Rattle.amt_messages.specs.Refusal.{first_refusal, kind_refusal, query_refusal, length_refusal, kind_reading, message_at, message_of, reading_by}
+use Rattle.contract_words.specs.Conditions.{NoneHolds}
+use Rattle.contract_words.proofs.ConditionLaws.{first_holding-none, skips_same}
+use Rattle.amt_messages.specs.Refusal.{first_refusal, refusals, length_refusals, advertisement_length, is_unknown, stated_inner, message_at, message_of}
 use Rattle.amt_messages.proofs.InnerLength.{inner_length_of-least, inner_length_of-take}
 
--- octets of version 0 are refused by their type
-first_refusal-kind : (kind : ℕ) (bytes : List ℕ) → kind < 16 → 0 < length bytes → slice_index bytes 0 ≡ kind → first_refusal bytes ≡ kind_refusal kind bytes
+-- octets of version 0 and a known type are refused by their length alone
+unrefused_by : (kind : ℕ) (bytes : List ℕ) → kind < 16 → 0 < length bytes → slice_index bytes 0 ≡ kind → is_unknown kind ≡ false
+    → NoneHolds (length_refusals kind bytes) → first_refusal bytes ≡ None
 unfolding first_refusal
-first_refusal-kind kind [] small some first = absurd (omega arith)
-first_refusal-kind kind (x ∷ rest) small some first =
-    let version : kind / 16 ≡ 0 = omega arith in
-    let low : kind % 16 ≡ kind = omega arith in
-    rw (first, version, low) refl
+unrefused_by kind bytes small some first known fits =
+    let there : eqb (length bytes) 0 ≡ false = ne_eqb (length bytes) 0 (λ e. omega arith) in
+    let version : slice_index bytes 0 / 16 ≡ 0 = omega arith in
+    let low : kind ≡ slice_index bytes 0 % 16 = omega arith in
+    first_holding-none (refusals bytes) (
+      there,
+      (
+        skips_same _ _ version,
+        subst (λ (k : ℕ). (is_unknown k ≡ false) × NoneHolds (length_refusals k bytes)) low (known, fits),
+      ),
+    )
 
--- so what is read of them is what is read by their type
-pub kind_reading-message : (kind : ℕ) (bytes : List ℕ) → kind < 16 → 0 < length bytes → slice_index bytes 0 ≡ kind → kind_reading kind bytes ≡ message_of bytes
-unfolding kind_reading message_of
-kind_reading-message kind bytes small some first =
-    ap (λ (refusal : Option Refused). reading_by refusal (message_at bytes)) (sym (first_refusal-kind kind bytes small some first))
+same_length : (need have : ℕ) → have ≡ need → (ltb have need ≡ false) × ((ltb need have ≡ false) × Unit {0})
+same_length need have same = (le-ltb have need (omega arith), (le-ltb need have (omega arith), tt))
 
-length_refusal-same : (need : ℕ) → length_refusal need need ≡ None
-length_refusal-same need = rw (le-ltb need need (omega arith)) refl
+and_false : (b : Bool) → (b && false) ≡ false
+and_false true = refl
+and_false false = refl
 
 -- the message is read where nothing is refused and the fields are its
 reading_unrefused : (bytes : List ℕ) (message : Message) → first_refusal bytes ≡ None → message_at bytes ≡ message → message_of bytes ≡ Ok message
@@ -45,9 +51,9 @@ stated inner bytes enough field whole =
     ∙ (ap inner_length_of (sym field) ∙ whole)
 
 query_unrefused : (named : Bool) (inner : ℕ) (bytes : List ℕ) → has_flag 0 bytes ≡ named → length bytes ≡ query_length named inner
-    → inner_length_of (drop 12 bytes) ≡ Some inner → 12 ≤ length bytes → query_refusal bytes ≡ None
-query_unrefused named inner bytes flag octets states enough =
-    rw (le-ltb (length bytes) 12 enough, states, flag, octets) (length_refusal-same (query_length named inner))
+    → stated_inner bytes ≡ Some inner → NoneHolds (length_refusals 4 bytes)
+query_unrefused named inner bytes flag octets states =
+    rw (states, flag) (and_false (leb 12 (length bytes)), same_length (query_length named inner) (length bytes) octets)
 
 spelled_query : (limited named : Bool) (mac : Mac48) (nonce : ℕ) (inner : List ℕ) (seen : Option EndpointValue) (bytes : List ℕ)
     → IsQuery limited named mac nonce inner bytes → cond named (Some (gateway_at (length inner) bytes)) None ≡ seen
@@ -55,31 +61,33 @@ spelled_query : (limited named : Bool) (mac : Mac48) (nonce : ℕ) (inner : List
     → message_of bytes ≡ Ok (Query limited mac nonce inner seen)
 spelled_query limited named mac nonce inner seen bytes h says enough =
     let states = stated inner bytes enough h.inner_field h.inner_whole in
-    let unrefused = query_unrefused named (length inner) bytes (sym h.g_flag) h.kind.octets states (omega arith) in
-    let first = first_refusal-kind 4 bytes (omega arith) (omega arith) h.kind.first in
-    reading_unrefused bytes (Query limited mac nonce inner seen) (first ∙ unrefused)
+    let fits = query_unrefused named (length inner) bytes (sym h.g_flag) h.kind.octets states in
+    let unrefused = unrefused_by 4 bytes (omega arith) (omega arith) h.kind.first refl fits in
+    reading_unrefused bytes (Query limited mac nonce inner seen) unrefused
     (rw (h.kind.first, states, sym h.g_flag, says, sym h.l_flag, sym h.mac_field, sym h.nonce_field, sym h.inner_field) refl)
 
 -- what octets spell is read
 pub spelled_is_read : (message : Message) (bytes : List ℕ) → Spells message bytes → message_of bytes ≡ Ok message
 spelled_is_read (Discovery nonce) bytes h =
     let octets = h.kind.octets in
-    let first = first_refusal-kind 1 bytes (omega arith) (omega arith) h.kind.first in
-    reading_unrefused bytes (Discovery nonce) (first ∙ rw octets refl) (rw h.kind.first (ap (λ (n : ℕ). Discovery n) (sym h.nonce_field)))
+    let unrefused = unrefused_by 1 bytes (omega arith) (omega arith) h.kind.first refl (refl, same_length 8 (length bytes) octets) in
+    reading_unrefused bytes (Discovery nonce) unrefused (rw h.kind.first (ap (λ (n : ℕ). Discovery n) (sym h.nonce_field)))
 spelled_is_read (Advertisement nonce (V4 address)) bytes h =
     let octets = h.kind.octets in
-    let first = first_refusal-kind 2 bytes (omega arith) (omega arith) h.kind.first in
-    reading_unrefused bytes (Advertisement nonce (V4 address)) (first ∙ rw octets refl)
+    let fits = same_length (advertisement_length (length bytes)) (length bytes) (rw octets refl) in
+    let unrefused = unrefused_by 2 bytes (omega arith) (omega arith) h.kind.first refl (refl, fits) in
+    reading_unrefused bytes (Advertisement nonce (V4 address)) unrefused
     (rw (h.kind.first, octets, sym h.nonce_field, sym h.address_field) refl)
 spelled_is_read (Advertisement nonce (V6 address)) bytes h =
     let octets = h.kind.octets in
-    let first = first_refusal-kind 2 bytes (omega arith) (omega arith) h.kind.first in
-    reading_unrefused bytes (Advertisement nonce (V6 address)) (first ∙ rw octets refl)
+    let fits = same_length (advertisement_length (length bytes)) (length bytes) (rw octets refl) in
+    let unrefused = unrefused_by 2 bytes (omega arith) (omega arith) h.kind.first refl (refl, fits) in
+    reading_unrefused bytes (Advertisement nonce (V6 address)) unrefused
     (rw (h.kind.first, octets, sym h.nonce_field, sym h.address_field) refl)
 spelled_is_read (Request v6 nonce) bytes h =
     let octets = h.kind.octets in
-    let first = first_refusal-kind 3 bytes (omega arith) (omega arith) h.kind.first in
-    reading_unrefused bytes (Request v6 nonce) (first ∙ rw octets refl)
+    let unrefused = unrefused_by 3 bytes (omega arith) (omega arith) h.kind.first refl (refl, same_length 8 (length bytes) octets) in
+    reading_unrefused bytes (Request v6 nonce) unrefused
     (rw (h.kind.first, sym h.p_flag, sym h.nonce_field) refl)
 spelled_is_read (Query limited mac nonce inner None) bytes h =
     let octets = h.kind.octets in
@@ -89,16 +97,18 @@ spelled_is_read (Query limited mac nonce inner (Some endpoint)) bytes h =
     spelled_query limited true mac nonce inner (Some endpoint) bytes h.0 (ap (λ (e : EndpointValue). Some e) (sym h.1)) (omega arith)
 spelled_is_read (Update mac nonce inner) bytes h =
     let octets = h.kind.octets in
-    let first = first_refusal-kind 5 bytes (omega arith) (omega arith) h.kind.first in
-    reading_unrefused bytes (Update mac nonce inner) (first ∙ rw (le-ltb (length bytes) 12 (omega arith)) refl)
+    let fits : NoneHolds (length_refusals 5 bytes) = (refl, (le-ltb (length bytes) 12 (omega arith), (refl, tt))) in
+    let unrefused = unrefused_by 5 bytes (omega arith) (omega arith) h.kind.first refl fits in
+    reading_unrefused bytes (Update mac nonce inner) unrefused
     (rw (h.kind.first, sym h.mac_field, sym h.nonce_field, sym h.inner_field) refl)
 spelled_is_read (Multicast packet) bytes h =
     let octets = h.kind.octets in
-    let first = first_refusal-kind 6 bytes (omega arith) (omega arith) h.kind.first in
-    reading_unrefused bytes (Multicast packet) (first ∙ rw (le-ltb (length bytes) 2 (omega arith)) refl)
+    let fits : NoneHolds (length_refusals 6 bytes) = (refl, (le-ltb (length bytes) 2 (omega arith), (refl, tt))) in
+    let unrefused = unrefused_by 6 bytes (omega arith) (omega arith) h.kind.first refl fits in
+    reading_unrefused bytes (Multicast packet) unrefused
     (rw h.kind.first (ap (λ (p : List ℕ). Multicast p) (sym h.packet_field)))
 spelled_is_read (Teardown mac nonce gateway) bytes h =
     let octets = h.kind.octets in
-    let first = first_refusal-kind 7 bytes (omega arith) (omega arith) h.kind.first in
-    reading_unrefused bytes (Teardown mac nonce gateway) (first ∙ rw octets refl)
+    let unrefused = unrefused_by 7 bytes (omega arith) (omega arith) h.kind.first refl (refl, same_length 30 (length bytes) octets) in
+    reading_unrefused bytes (Teardown mac nonce gateway) unrefused
     (rw (h.kind.first, sym h.mac_field, sym h.nonce_field, sym h.gateway_field) refl)

@@ -1,111 +1,140 @@
 -- Octets that nothing refuses spell the message that stands at the places of its fields.
-use Rattle.std.proofs.Common.{◌≡◌, ℕ, ◌+◌, ◌/◌, ◌%◌, ◌≤◌, ◌⊎◌, inl, inr, List, [], ◌∷◌, length, take, drop, slice_index, Bool, true, false, not, cond, eqb, ltb, Option, Some, None, Ok, refl, sym, subst, ap, ◌∙◌, arith, length-drop}
-use Rattle.std.proofs.lemmas.Bool.{eqb-true, not-false}
+use Rattle.std.proofs.Common.{◌≡◌, ℕ, zero, suc, ◌+◌, ◌/◌, ◌%◌, ◌<◌, ◌≤◌, ◌⊎◌, inl, inr, List, length, take, drop, slice_index, Bool, true, false, ◌&&◌, eqb, leb, ltb, is_none, unwrap_or, Option, Some, None, Ok, refl, sym, subst, ap, ◌∙◌, arith, length-drop}
+use Rattle.std.proofs.lemmas.Bool.{ltb-false}
 use Rattle.std.proofs.lemmas.List.{length-take-le}
 use Rattle.byteorder.specs.Endian.{big_number}
 use Rattle.amt_messages.specs.declared.message.Message.{Message}
-use Rattle.amt_messages.specs.declared.refusal.Refused.{Refused}
-use Rattle.amt_messages.specs.Inner.{inner_length_of}
 use Rattle.amt_messages.specs.Layout.{Spells, IsQuery, has_flag, query_length, gateway_at}
-use Rattle.amt_messages.specs.Refusal.{first_refusal, kind_refusal, query_refusal, update_refusal, multicast_refusal, inner_refusal, length_refusal, advertisement_length, is_unknown, message_at, message_of, query_with, reading_by}
+use Rattle.contract_words.specs.Conditions.{NoneHolds}
+use Rattle.contract_words.proofs.ConditionLaws.{NoneHolds-of, holds_not, unless-ok}
+use Rattle.amt_messages.specs.Refusal.{first_refusal, refusals, length_refusals, needed_length, query_need, stated_inner, advertisement_length, is_unknown, message_at, message_of, query_with}
 use Rattle.amt_messages.proofs.InnerLength.{inner_length_of-least, inner_length_of-take}
 
--- which way a choice went
-chosen : {A : Type 0} (b : Bool) (x y z : A) → cond b x y ≡ z → ((b ≡ true) × (x ≡ z)) ⊎ ((b ≡ false) × (y ≡ z))
-chosen true x y z same = inl (refl, same)
-chosen false x y z same = inr (refl, same)
+pub length_fits : (need have : ℕ) → ltb have need ≡ false → ltb need have ≡ false → have ≡ need
+length_fits need have short long = grind arith
 
-reading_by-ok : (first : Option Refused) (at message : Message) → reading_by first at ≡ Ok message → (first ≡ None) × (at ≡ message)
-reading_by-ok None at message same = (refl, cc)
-reading_by-ok (Some refusal) at message same = cc
+advertisement_fits : (have : ℕ) → have ≡ advertisement_length have → (have ≡ 12) ⊎ (have ≡ 24)
+advertisement_fits have same = grind arith
 
-length_refusal-none : (need have : ℕ) → length_refusal need have ≡ None → have ≡ need
-length_refusal-none need have unrefused = grind arith
+-- a Query that isn't refused has an inner datagram, and the octets that go with it
+pub record IsWholeQuery (inner : ℕ) (bytes : List ℕ) : Type 0 where
+  pub states : stated_inner bytes ≡ Some inner
+  pub octets : length bytes ≡ query_length (has_flag 0 bytes) inner
 
-advertisement_length-none : (have : ℕ) → length_refusal (advertisement_length have) have ≡ None → (have ≡ 12) ⊎ (have ≡ 24)
-advertisement_length-none have unrefused = grind arith
+head_alone : (have : ℕ) → (leb 12 have && true) ≡ false → ltb have 12 ≡ false → ⊥
+head_alone have inner short = grind arith
 
-update_refusal-none : (bytes : List ℕ) → update_refusal bytes ≡ None → 12 ≤ length bytes
-update_refusal-none bytes unrefused = grind arith
-
-multicast_refusal-none : (bytes : List ℕ) → multicast_refusal bytes ≡ None → 2 ≤ length bytes
-multicast_refusal-none bytes unrefused = grind arith
+whole_query : (stated : Option ℕ) (bytes : List ℕ) → stated_inner bytes ≡ stated → (leb 12 (length bytes) && is_none stated) ≡ false
+    → ltb (length bytes) (query_need stated bytes) ≡ false → ltb (query_need stated bytes) (length bytes) ≡ false
+    → (inner : ℕ) × IsWholeQuery inner bytes
+whole_query None bytes is inner short long = absurd (head_alone (length bytes) inner short)
+whole_query (Some inner) bytes is there short long = (inner, record { states = is; octets = length_fits _ (length bytes) short long })
 
 -- the types that are read, each with the length that it may have
 data IsKnown (kind : ℕ) (bytes : List ℕ) : Type 0 where
   discovery : kind ≡ 1 → length bytes ≡ 8 → IsKnown kind bytes
   advertisement : kind ≡ 2 → (length bytes ≡ 12) ⊎ (length bytes ≡ 24) → IsKnown kind bytes
   request : kind ≡ 3 → length bytes ≡ 8 → IsKnown kind bytes
-  query : kind ≡ 4 → query_refusal bytes ≡ None → IsKnown kind bytes
+  query : kind ≡ 4 → (inner : ℕ) × IsWholeQuery inner bytes → IsKnown kind bytes
   update : kind ≡ 5 → 12 ≤ length bytes → IsKnown kind bytes
   multicast : kind ≡ 6 → 2 ≤ length bytes → IsKnown kind bytes
   teardown : kind ≡ 7 → length bytes ≡ 30 → IsKnown kind bytes
 
--- what is none of the first six types is the seventh
-seventh : (kind : ℕ) → is_unknown kind ≡ false → eqb kind 1 ≡ false → eqb kind 2 ≡ false → eqb kind 3 ≡ false → eqb kind 4 ≡ false
-    → eqb kind 5 ≡ false → eqb kind 6 ≡ false → kind ≡ 7
-seventh kind known no_one no_two no_three no_four no_five no_six = grind arith
+-- octets of a known type that aren't refused by their length
+known_at : (kind : ℕ) (bytes : List ℕ) → 0 < kind → kind < 8 → NoneHolds (length_refusals kind bytes) → IsKnown kind bytes
+known_at zero bytes some small none = absurd (omega arith)
+known_at (suc zero) bytes some small none = discovery refl (length_fits 8 (length bytes) none.1.0 none.1.1.0)
+known_at (suc (suc zero)) bytes some small none =
+    advertisement refl (advertisement_fits (length bytes) (length_fits _ (length bytes) none.1.0 none.1.1.0))
+known_at (suc (suc (suc zero))) bytes some small none = request refl (length_fits 8 (length bytes) none.1.0 none.1.1.0)
+known_at (suc (suc (suc (suc zero)))) bytes some small none = query refl (whole_query (stated_inner bytes) bytes refl none.0 none.1.0 none.1.1.0)
+known_at (suc (suc (suc (suc (suc zero))))) bytes some small none = update refl (ltb-false (length bytes) 12 none.1.0)
+known_at (suc (suc (suc (suc (suc (suc zero)))))) bytes some small none = multicast refl (ltb-false (length bytes) 2 none.1.0)
+known_at (suc (suc (suc (suc (suc (suc (suc zero))))))) bytes some small none = teardown refl (length_fits 30 (length bytes) none.1.0 none.1.1.0)
+known_at (suc (suc (suc (suc (suc (suc (suc (suc kind)))))))) bytes some small none = absurd (omega arith)
 
-kind_refusal-none : (kind : ℕ) (bytes : List ℕ) → kind_refusal kind bytes ≡ None → IsKnown kind bytes
-kind_refusal-none kind bytes unrefused =
-    elim (chosen (is_unknown kind) _ _ None unrefused) [
-      | inl unknown ↦ cc unknown.1
-      | inr past_unknown ↦ elim (chosen (eqb kind 1) _ _ None past_unknown.1) [
-        | inl one ↦ discovery (eqb-true kind 1 one.0) (length_refusal-none 8 (length bytes) one.1)
-        | inr past_one ↦ elim (chosen (eqb kind 2) _ _ None past_one.1) [
-          | inl two ↦ advertisement (eqb-true kind 2 two.0) (advertisement_length-none (length bytes) two.1)
-          | inr past_two ↦ elim (chosen (eqb kind 3) _ _ None past_two.1) [
-            | inl three ↦ request (eqb-true kind 3 three.0) (length_refusal-none 8 (length bytes) three.1)
-            | inr past_three ↦ elim (chosen (eqb kind 4) _ _ None past_three.1) [
-              | inl four ↦ query (eqb-true kind 4 four.0) four.1
-              | inr past_four ↦ elim (chosen (eqb kind 5) _ _ None past_four.1) [
-                | inl five ↦ update (eqb-true kind 5 five.0) (update_refusal-none bytes five.1)
-                | inr past_five ↦ elim (chosen (eqb kind 6) _ _ None past_five.1) [
-                  | inl six ↦ multicast (eqb-true kind 6 six.0) (multicast_refusal-none bytes six.1)
-                  | inr past_six ↦
-                      teardown
-                      (seventh kind past_unknown.0 past_one.0 past_two.0 past_three.0 past_four.0 past_five.0 past_six.0)
-                      (length_refusal-none 30 (length bytes) past_six.1)
-                ]
-              ]
-            ]
-          ]
-        ]
-      ]
-    ]
+some_octet : (have : ℕ) → eqb have 0 ≡ false → 0 < have
+some_octet have some = grind arith
+
+known_some : (kind : ℕ) → is_unknown kind ≡ false → 0 < kind
+known_some kind known = grind arith
+
+known_small : (kind : ℕ) → is_unknown kind ≡ false → kind < 8
+known_small kind known = grind arith
+
+-- octets that nothing refuses are there, and their first octet is a type that has none of the refusals by length
+pub record IsUnrefused (bytes : List ℕ) : Type 0 where
+  pub some : 0 < length bytes
+  pub defined : 0 < slice_index bytes 0
+  pub small : slice_index bytes 0 < 8
+  pub fits : NoneHolds (length_refusals (slice_index bytes 0) bytes)
+
+pub first_refusal-none : (bytes : List ℕ) → first_refusal bytes ≡ None → IsUnrefused bytes
+unfolding first_refusal
+first_refusal-none bytes unrefused =
+    let all = NoneHolds-of (refusals bytes) unrefused in
+    let version : slice_index bytes 0 / 16 ≡ 0 = holds_not _ _ all.1.0 in
+    let low : slice_index bytes 0 % 16 ≡ slice_index bytes 0 = omega arith in
+    let there : 0 < slice_index bytes 0 % 16 = known_some _ all.1.1.0 in
+    let below : slice_index bytes 0 % 16 < 8 = known_small _ all.1.1.0 in
+    record {
+      some = some_octet (length bytes) all.0;
+      defined = omega arith;
+      small = omega arith;
+      fits = subst (λ (kind : ℕ). NoneHolds (length_refusals kind bytes)) low all.1.1.1;
+    }
 
 -- octets that aren't refused have version 0, and their first octet is their type
-first_refusal-none : (bytes : List ℕ) → first_refusal bytes ≡ None → IsKnown (slice_index bytes 0) bytes
-unfolding first_refusal
-first_refusal-none [] unrefused = cc
-first_refusal-none (x ∷ rest) unrefused =
-    elim (chosen (not (eqb (x / 16) 0)) _ _ None unrefused) [
-      | inl version ↦ cc version.1
-      | inr past_version ↦
-          let zero_version = eqb-true (x / 16) 0 (not-false _ past_version.0) in
-          let low : x % 16 ≡ x = omega arith in
-          let family : ℕ → Type 0 = λ (kind : ℕ). kind_refusal kind (x ∷ rest) ≡ None in
-          kind_refusal-none x (x ∷ rest) (subst family low past_version.1)
-    ]
+known : (bytes : List ℕ) → first_refusal bytes ≡ None → IsKnown (slice_index bytes 0) bytes
+known bytes unrefused =
+    let parts = first_refusal-none bytes unrefused in
+    known_at (slice_index bytes 0) bytes parts.defined parts.small parts.fits
 
--- a Query that isn't refused has an inner datagram, and the octets that go with it
-record IsWholeQuery (inner : ℕ) (bytes : List ℕ) : Type 0 where
-  states : inner_length_of (drop 12 bytes) ≡ Some inner
-  octets : length bytes ≡ query_length (has_flag 0 bytes) inner
+-- there is one, and it is a type
+pub unrefused_first : (bytes : List ℕ) → first_refusal bytes ≡ None → 0 < length bytes
+unrefused_first bytes unrefused = (first_refusal-none bytes unrefused).some
 
-inner_refusal-none : (stated : Option ℕ) (bytes : List ℕ) → inner_refusal stated bytes ≡ None
-    → (inner : ℕ) × (stated ≡ Some inner) × (length bytes ≡ query_length (has_flag 0 bytes) inner)
-inner_refusal-none None bytes unrefused = cc
-inner_refusal-none (Some inner) bytes unrefused = (inner, refl, length_refusal-none _ (length bytes) unrefused)
+pub unrefused_small : (bytes : List ℕ) → first_refusal bytes ≡ None → slice_index bytes 0 < 8
+unrefused_small bytes unrefused = (first_refusal-none bytes unrefused).small
 
-query_refusal-none : (bytes : List ℕ) → query_refusal bytes ≡ None → (inner : ℕ) × IsWholeQuery inner bytes
-query_refusal-none bytes unrefused =
-    elim (chosen (ltb (length bytes) 12) _ _ None unrefused) [
-      | inl short ↦ cc short.1
-      | inr past_short ↦
-          let found = inner_refusal-none (inner_length_of (drop 12 bytes)) bytes past_short.1 in
-          (found.0, record { states = found.1; octets = found.2 })
-    ]
+pub unrefused_defined : (bytes : List ℕ) → first_refusal bytes ≡ None → 0 < slice_index bytes 0
+unrefused_defined bytes unrefused = (first_refusal-none bytes unrefused).defined
+
+-- they are as many as their type needs
+pub unrefused_length : (kind : ℕ) (bytes : List ℕ) → first_refusal bytes ≡ None → slice_index bytes 0 ≡ kind → needed_length kind bytes ≤ length bytes
+unrefused_length kind bytes unrefused first =
+    let parts = first_refusal-none bytes unrefused in
+    let fits = subst (λ (k : ℕ). NoneHolds (length_refusals k bytes)) first parts.fits in
+    ltb-false (length bytes) (needed_length kind bytes) fits.1.0
+
+-- an Advertisement's are those of either address
+pub unrefused_advertisement : (bytes : List ℕ) → first_refusal bytes ≡ None → slice_index bytes 0 ≡ 2 → (length bytes ≡ 12) ⊎ (length bytes ≡ 24)
+unrefused_advertisement bytes unrefused first =
+    let parts = first_refusal-none bytes unrefused in
+    let fits = subst (λ (k : ℕ). NoneHolds (length_refusals k bytes)) first parts.fits in
+    advertisement_fits (length bytes) (length_fits _ (length bytes) fits.1.0 fits.1.1.0)
+
+-- and a Query's are those of its inner datagram too
+unrefused_query : (bytes : List ℕ) → first_refusal bytes ≡ None → slice_index bytes 0 ≡ 4 → (inner : ℕ) × IsWholeQuery inner bytes
+unrefused_query bytes unrefused first =
+    let parts = first_refusal-none bytes unrefused in
+    let fits = subst (λ (k : ℕ). NoneHolds (length_refusals k bytes)) first parts.fits in
+    whole_query (stated_inner bytes) bytes refl fits.0 fits.1.0 fits.1.1.0
+
+query_length-least : (named : Bool) (inner : ℕ) → 12 + inner ≤ query_length named inner
+query_length-least true inner = omega arith
+query_length-least false inner = omega arith
+
+pub unrefused_query-whole : (bytes : List ℕ) → first_refusal bytes ≡ None → slice_index bytes 0 ≡ 4
+    → query_length (has_flag 0 bytes) (unwrap_or (stated_inner bytes) 0) ≤ length bytes
+unrefused_query-whole bytes unrefused first =
+    let found = unrefused_query bytes unrefused first in
+    rw (found.1.states, found.1.octets) (omega arith)
+
+pub unrefused_query-head : (bytes : List ℕ) → first_refusal bytes ≡ None → slice_index bytes 0 ≡ 4 → 12 + unwrap_or (stated_inner bytes) 0 ≤ length bytes
+unrefused_query-head bytes unrefused first =
+    let whole = unrefused_query-whole bytes unrefused first in
+    omega (arith, query_length-least (has_flag 0 bytes) (unwrap_or (stated_inner bytes) 0), whole)
 
 -- its fields by their places are those of a Query with this G flag
 query_fields : (named : Bool) (inner : ℕ) (bytes : List ℕ) → slice_index bytes 0 ≡ 4 → has_flag 0 bytes ≡ named → IsWholeQuery inner bytes
@@ -145,8 +174,7 @@ message_spelled bytes (advertisement first (inr long)) =
     rw (first, long) record { kind = record { octets = long; first = first }; nonce_field = refl; address_field = refl }
 message_spelled bytes (request first octets) =
     rw first record { kind = record { octets = octets; first = first }; p_flag = refl; nonce_field = refl }
-message_spelled bytes (query first unrefused) =
-    let found = query_refusal-none bytes unrefused in
+message_spelled bytes (query first found) =
     rw (first, found.1.states) (query_spelled (has_flag 0 bytes) found.0 bytes first refl found.1)
 message_spelled bytes (update first enough) =
     let octets : length bytes ≡ 12 + length (drop 12 bytes) = omega (arith, length-drop 12 bytes) in
@@ -161,14 +189,14 @@ message_spelled bytes (teardown first octets) =
 pub read_is_spelled : (bytes : List ℕ) (message : Message) → message_of bytes ≡ Ok message → Spells message bytes
 unfolding message_of
 read_is_spelled bytes message same =
-    let parts = reading_by-ok (first_refusal bytes) (message_at bytes) message same in
-    subst (λ (m : Message). Spells m bytes) parts.1 (message_spelled bytes (first_refusal-none bytes parts.0))
+    let parts = unless-ok (first_refusal bytes) (message_at bytes) message (sym same) in
+    subst (λ (m : Message). Spells m bytes) (sym parts.1) (message_spelled bytes (known bytes parts.0))
 
 -- where something is read, nothing is refused
 pub read_is_unrefused : (bytes : List ℕ) (message : Message) → message_of bytes ≡ Ok message → first_refusal bytes ≡ None
 unfolding message_of
-read_is_unrefused bytes message same = (reading_by-ok (first_refusal bytes) (message_at bytes) message same).0
+read_is_unrefused bytes message same = (unless-ok (first_refusal bytes) (message_at bytes) message (sym same)).0
 
 -- octets that nothing refuses spell the message at the places of its fields
 pub unrefused_is_spelled : (bytes : List ℕ) → first_refusal bytes ≡ None → (message : Message) × Spells message bytes
-unrefused_is_spelled bytes unrefused = (message_at bytes, message_spelled bytes (first_refusal-none bytes unrefused))
+unrefused_is_spelled bytes unrefused = (message_at bytes, message_spelled bytes (known bytes unrefused))

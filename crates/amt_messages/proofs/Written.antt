@@ -12,9 +12,13 @@ use Rattle.amt_values.specs.declared.address.Ip.TheVariants.{V4, V6}
 use Rattle.amt_values.specs.declared.mac.Mac48.{Mac48}
 use Rattle.amt_messages.specs.declared.message.Message.{Message}
 use Rattle.amt_messages.specs.declared.message.Message.TheVariants.{Discovery, Advertisement, Request, Query, Update, Multicast, Teardown}
-use Rattle.amt_messages.specs.Conditions.{IsMessage, IsSendable, IsSeen}
+use Rattle.amt_messages.specs.Conditions.{IsGateway, IsMessage, IsNamedGateway, IsSendable}
 use Rattle.amt_messages.specs.Inner.{inner_length_of}
-use Rattle.amt_messages.specs.Layout.{IsCanonical, IsQuery, IsUpdate, query_flags, query_length, request_flags, seen_octets, spelling_of}
+use Rattle.amt_messages.specs.Layout.{IsCanonical, IsQuery, IsUpdate, gateway_octets, query_flags, query_length, request_flags, spelling_of}
+
+-- octets that are a canonical spelling
+spelled_so : (message : Message) (bytes : List ℕ) → bytes ≡ spelling_of message → IsCanonical message (spelling_of message) → IsCanonical message bytes
+spelled_so message bytes written canonical = subst (IsCanonical message) (sym written) canonical
 
 -- a number of four octets is read back
 nonce_again : (nonce : ℕ) (rest : List ℕ) → nonce < 2 ^ 32 → nonce ≡ big_number 4 (big_bytes 4 nonce ++ rest)
@@ -103,12 +107,17 @@ update_written mac nonce inner six small = record {
 }
 
 -- the spelling of an Update is canonical
-pub update_is_canonical : (mac : Mac48) (nonce : ℕ) (inner : List ℕ) → length mac.0 ≡ 6 → nonce < 2 ^ 32
+update_is_canonical : (mac : Mac48) (nonce : ℕ) (inner : List ℕ) → length mac.0 ≡ 6 → nonce < 2 ^ 32
     → IsCanonical (Update mac nonce inner) (spelling_of (Update mac nonce inner))
 update_is_canonical mac nonce inner six small =
     let no_tail = append-nil (mac.0 ++ big_bytes 4 nonce ++ inner) in
     let spelled = subst (λ (rest : List ℕ). IsUpdate mac nonce inner (5 ∷ 0 ∷ rest)) no_tail (update_written mac nonce inner six small) in
     record { spelled = spelled; reserved = refl; address_form = tt }
+
+-- and so are the octets that are written of it
+pub written_update : (mac : Mac48) (nonce : ℕ) (inner bytes : List ℕ) → length mac.0 ≡ 6 → nonce < 2 ^ 32
+    → bytes ≡ spelling_of (Update mac nonce inner) → IsCanonical (Update mac nonce inner) bytes
+written_update mac nonce inner bytes six small written = spelled_so (Update mac nonce inner) bytes written (update_is_canonical mac nonce inner six small)
 
 -- an endpoint's port and address are read back
 port_again : (port : ℕ) (rest : List ℕ) → port < 2 ^ 16 → big_number 2 (big_bytes 2 port ++ rest) ≡ port
@@ -123,8 +132,8 @@ endpoint_named-again : (endpoint : EndpointValue) (address port : ℕ) → addre
 endpoint_named-again endpoint address port same_address same_port form = rw (same_address, same_port, form) refl
 
 -- the spelling of a Query is canonical
-pub query_is_canonical : (limited : Bool) (mac : Mac48) (nonce : ℕ) (inner : List ℕ) (seen : Option EndpointValue) → length mac.0 ≡ 6 → nonce < 2 ^ 32
-    → IsSeen seen → inner_length_of inner ≡ Some (length inner)
+query_is_canonical : (limited : Bool) (mac : Mac48) (nonce : ℕ) (inner : List ℕ) (seen : Option EndpointValue) → length mac.0 ≡ 6 → nonce < 2 ^ 32
+    → IsNamedGateway seen → inner_length_of inner ≡ Some (length inner)
     → IsCanonical (Query limited mac nonce inner seen) (spelling_of (Query limited mac nonce inner seen))
 query_is_canonical limited mac nonce inner None six small form whole = record {
   spelled = query_written limited false mac nonce inner [] six small whole (omega arith);
@@ -133,7 +142,7 @@ query_is_canonical limited mac nonce inner None six small form whole = record {
 }
 query_is_canonical limited mac nonce inner (Some endpoint) six small form whole =
     let flags = query_flags limited true in
-    let tail = seen_octets (Some endpoint) in
+    let tail = gateway_octets endpoint in
     let port_place = tail_there 4 flags mac.0 (big_bytes 4 nonce) inner tail six refl in
     let address_place = address_there 4 flags mac.0 (big_bytes 4 nonce) inner tail six refl in
     let port_is = ap (big_number 2) port_place ∙ port_again endpoint.port (big_bytes 16 endpoint.address) form.1 in
@@ -147,6 +156,13 @@ query_is_canonical limited mac nonce inner (Some endpoint) six small form whole 
       address_form = ap is_mapped address_is ∙ form.2;
     }
 
+-- and so are the octets that are written of it
+pub written_query : (limited : Bool) (mac : Mac48) (nonce : ℕ) (inner : List ℕ) (seen : Option EndpointValue) (bytes : List ℕ)
+    → length mac.0 ≡ 6 → nonce < 2 ^ 32 → IsNamedGateway seen → inner_length_of inner ≡ Some (length inner)
+    → bytes ≡ spelling_of (Query limited mac nonce inner seen) → IsCanonical (Query limited mac nonce inner seen) bytes
+written_query limited mac nonce inner seen bytes six small form whole written =
+    spelled_so (Query limited mac nonce inner seen) bytes written (query_is_canonical limited mac nonce inner seen six small form whole)
+
 -- the spelling of Multicast Data is canonical
 multicast_is_canonical : (packet : List ℕ) → IsCanonical (Multicast packet) (spelling_of (Multicast packet))
 multicast_is_canonical packet = record {
@@ -156,10 +172,10 @@ multicast_is_canonical packet = record {
 }
 
 -- what is written of a Teardown, with no inner datagram before its endpoint
-teardown_written : (mac : Mac48) (nonce : ℕ) (gateway : EndpointValue) → length mac.0 ≡ 6 → nonce < 2 ^ 32 → IsSeen (Some gateway)
-    → IsCanonical (Teardown mac nonce gateway) (7 ∷ 0 ∷ (mac.0 ++ big_bytes 4 nonce ++ [] ++ seen_octets (Some gateway)))
+teardown_written : (mac : Mac48) (nonce : ℕ) (gateway : EndpointValue) → length mac.0 ≡ 6 → nonce < 2 ^ 32 → IsGateway gateway
+    → IsCanonical (Teardown mac nonce gateway) (7 ∷ 0 ∷ (mac.0 ++ big_bytes 4 nonce ++ [] ++ gateway_octets gateway))
 teardown_written mac nonce gateway six small form =
-    let tail = seen_octets (Some gateway) in
+    let tail = gateway_octets gateway in
     let port_place = tail_there 7 0 mac.0 (big_bytes 4 nonce) [] tail six refl in
     let address_place = address_there 7 0 mac.0 (big_bytes 4 nonce) [] tail six refl in
     let port_is = ap (big_number 2) port_place ∙ port_again gateway.port (big_bytes 16 gateway.address) form.1 in
@@ -176,12 +192,18 @@ teardown_written mac nonce gateway six small form =
     }
 
 -- the spelling of a Teardown is canonical
-pub teardown_is_canonical : (mac : Mac48) (nonce : ℕ) (gateway : EndpointValue) → length mac.0 ≡ 6 → nonce < 2 ^ 32 → IsSeen (Some gateway)
+teardown_is_canonical : (mac : Mac48) (nonce : ℕ) (gateway : EndpointValue) → length mac.0 ≡ 6 → nonce < 2 ^ 32 → IsGateway gateway
     → IsCanonical (Teardown mac nonce gateway) (spelling_of (Teardown mac nonce gateway))
 teardown_is_canonical mac nonce gateway six small form =
     let no_inner = append-nil (mac.0 ++ big_bytes 4 nonce) in
-    subst (λ (front : List ℕ). IsCanonical (Teardown mac nonce gateway) (7 ∷ 0 ∷ (front ++ seen_octets (Some gateway)))) no_inner
+    subst (λ (prefix : List ℕ). IsCanonical (Teardown mac nonce gateway) (7 ∷ 0 ∷ (prefix ++ gateway_octets gateway))) no_inner
     (teardown_written mac nonce gateway six small form)
+
+-- and so are the octets that are written of it
+pub written_teardown : (mac : Mac48) (nonce : ℕ) (gateway : EndpointValue) (bytes : List ℕ) → length mac.0 ≡ 6 → nonce < 2 ^ 32 → IsGateway gateway
+    → bytes ≡ spelling_of (Teardown mac nonce gateway) → IsCanonical (Teardown mac nonce gateway) bytes
+written_teardown mac nonce gateway bytes six small form written =
+    spelled_so (Teardown mac nonce gateway) bytes written (teardown_is_canonical mac nonce gateway six small form)
 
 -- the message's spelling is canonical
 pub spelling_is_canonical : (message : Message) → IsMessage message → IsSendable message → IsCanonical message (spelling_of message)

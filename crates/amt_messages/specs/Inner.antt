@@ -20,10 +20,12 @@ ipv4_length octets =
     if nat_lt (length octets) 4 then None
     else (if nat_lt (total_length octets) 20 then None else Some (total_length octets))
 
+-- an IPv6 datagram is its header and what the header says of the rest
 abbrev pub ipv6_length : List ℕ → Option ℕ
 ipv6_length octets = if nat_lt (length octets) 6 then None else Some (40 + payload_length octets)
 
--- the datagram's length by its own header, where the octets reach as far as the length field
+-- the datagram's length by its own header: none where the octets end before its length field, or begin no
+-- IP datagram
 unfoldable pub inner_length_of : List ℕ → Option ℕ
 inner_length_of octets =
     if ip_version octets == 4 then ipv4_length octets

@@ -55,11 +55,12 @@ pub record IsQuery (limited named : Bool) (mac : Mac48) (nonce : ℕ) (inner byt
   pub inner_field : inner ≡ take (length inner) (drop 12 bytes)
   pub inner_whole : inner_length_of inner ≡ Some (length inner)
 
--- the gateway's port and address, after an inner datagram of so many octets (RFC 7450, section 5.1.4); a
--- Teardown has them in the same place, with no inner datagram (section 5.1.7)
+-- the gateway's port, after an inner datagram of so many octets (RFC 7450, section 5.1.4); a Teardown has
+-- it in the same place, with no inner datagram (section 5.1.7)
 abbrev pub gateway_port : ℕ → List ℕ → ℕ
 gateway_port inner bytes = big_number 2 (drop (12 + inner) bytes)
 
+-- and its address
 abbrev pub gateway_address : ℕ → List ℕ → ℕ
 gateway_address inner bytes = big_number 16 (drop (14 + inner) bytes)
 
@@ -140,10 +141,14 @@ request_flags v6 = if v6 then 1 else 0
 abbrev pub query_flags : Bool → Bool → ℕ
 query_flags limited named = (if limited then 2 else 0) + (if named then 1 else 0)
 
--- the octets of a gateway's port and address, where they stand in a Query or a Teardown
-abbrev pub seen_octets : Option EndpointValue → List ℕ
-seen_octets None = []
-seen_octets (Some endpoint) = big_bytes 2 endpoint.port ++ big_bytes 16 endpoint.address
+-- the octets of a gateway's port and address, as a Query and a Teardown have them
+abbrev pub gateway_octets : EndpointValue → List ℕ
+gateway_octets gateway = big_bytes 2 gateway.port ++ big_bytes 16 gateway.address
+
+-- those after the inner datagram of a Query, where it names the gateway
+abbrev pub named_gateway_octets : Option EndpointValue → List ℕ
+named_gateway_octets None = []
+named_gateway_octets (Some gateway) = gateway_octets gateway
 
 -- the one canonical spelling
 abbrev pub spelling_of : Message → List ℕ
@@ -151,7 +156,7 @@ spelling_of (Discovery nonce) = 1 ∷ 0 ∷ 0 ∷ 0 ∷ big_bytes 4 nonce
 spelling_of (Advertisement nonce relay) = 2 ∷ 0 ∷ 0 ∷ 0 ∷ (big_bytes 4 nonce ++ relay_octets relay)
 spelling_of (Request v6 nonce) = 3 ∷ request_flags v6 ∷ 0 ∷ 0 ∷ big_bytes 4 nonce
 spelling_of (Query limited mac nonce inner seen) =
-    4 ∷ query_flags limited (is_some seen) ∷ (mac.0 ++ big_bytes 4 nonce ++ inner ++ seen_octets seen)
+    4 ∷ query_flags limited (is_some seen) ∷ (mac.0 ++ big_bytes 4 nonce ++ inner ++ named_gateway_octets seen)
 spelling_of (Update mac nonce inner) = 5 ∷ 0 ∷ (mac.0 ++ big_bytes 4 nonce ++ inner)
 spelling_of (Multicast packet) = 6 ∷ 0 ∷ packet
-spelling_of (Teardown mac nonce gateway) = 7 ∷ 0 ∷ (mac.0 ++ big_bytes 4 nonce ++ seen_octets (Some gateway))
+spelling_of (Teardown mac nonce gateway) = 7 ∷ 0 ∷ (mac.0 ++ big_bytes 4 nonce ++ gateway_octets gateway)

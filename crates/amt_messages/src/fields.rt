@@ -1,31 +1,13 @@
+//! Fields by their places. It must not know whether the octets are a message.
+
 ghost use Rattle.std.specs.Prelude.{◌≡◌, ◌+◌, ◌<◌, ◌≤◌, ◌⊎◌, drop, take, length};
 ghost use Rattle.amt_messages.specs.Layout.{gateway_at, has_flag};
 ghost use Rattle.amt_messages.specs.Refusal.{relay_at};
-ghost use Rattle.byteorder.specs.Endian.{big_number};
 
-use amt_values::{Endpoint, Ip, Mac48};
-use byteorder::{BigEndian, ByteOrder};
-
-// The number in the two octets from a place on.
-pub fn short_at(bytes: &[u8], place: usize) -> u16
-    requires { place + 2 ≤ length bytes.now }
-    ensures { result ≡ big_number 2 (drop place bytes.now) }
-{
-    let (_, field) = bytes.split_at(place);
-    BigEndian::read_u16(field)
-}
-
-// The number in the four octets from a place on.
-pub fn number_at(bytes: &[u8], place: usize) -> u32
-    requires { place + 4 ≤ length bytes.now }
-    ensures { result ≡ big_number 4 (drop place bytes.now) }
-{
-    let (_, field) = bytes.split_at(place);
-    BigEndian::read_u32(field)
-}
+use amt_values::{Endpoint, Ip, Mac48, address_at, number_at, short_at};
 
 // Whether a flag is set, by its bit in the second octet.
-pub fn has_flag(bytes: &[u8], bit: u32) -> bool
+fn has_flag(bytes: &[u8], bit: u32) -> bool
     requires octet { 2 ≤ length bytes.now }
     requires bit { bit < 8 }
     ensures { result ≡ has_flag bit bytes.now }
@@ -33,15 +15,38 @@ pub fn has_flag(bytes: &[u8], bit: u32) -> bool
     bytes[1] >> bit & 1 == 1
 }
 
+// The P flag of a Request.
+pub fn asks_for_ipv6(bytes: &[u8]) -> bool
+    requires { 2 ≤ length bytes.now }
+    ensures { result ≡ has_flag 0 bytes.now }
+{
+    has_flag(bytes, 0)
+}
+
+// The L flag of a Query.
+pub fn is_limited(bytes: &[u8]) -> bool
+    requires { 2 ≤ length bytes.now }
+    ensures { result ≡ has_flag 1 bytes.now }
+{
+    has_flag(bytes, 1)
+}
+
+// The G flag of a Query.
+pub fn names_gateway(bytes: &[u8]) -> bool
+    requires { 2 ≤ length bytes.now }
+    ensures { result ≡ has_flag 0 bytes.now }
+{
+    has_flag(bytes, 0)
+}
+
 pub fn relay_at(bytes: &[u8]) -> Ip
     requires { (length bytes.now ≡ 12) ⊎ (length bytes.now ≡ 24) }
     ensures { result ≡ relay_at bytes.now }
 {
-    let (_, field) = bytes.split_at(8);
-    if field.len() == 4 {
-        Ip::V4(BigEndian::read_u32(field))
+    if bytes.len() == 12 {
+        Ip::V4(number_at(bytes, 8))
     } else {
-        Ip::V6(BigEndian::read_u128(field))
+        Ip::V6(address_at(bytes, 8))
     }
 }
 
@@ -61,7 +66,5 @@ pub fn gateway_at(bytes: &[u8], inner: usize) -> Endpoint
     requires { 12 + inner + 18 ≤ length bytes.now }
     ensures { result ≡ gateway_at inner bytes.now }
 {
-    let port = short_at(bytes, 12 + inner);
-    let (_, address) = bytes.split_at(14 + inner);
-    Endpoint::named(BigEndian::read_u128(address), port)
+    Endpoint::named(address_at(bytes, 14 + inner), short_at(bytes, 12 + inner))
 }

@@ -1,7 +1,9 @@
+//! The length that an IP datagram states in its header. It must not know what else the datagram says.
+
 ghost use Rattle.std.specs.Prelude.{◌≡◌, ◌≤◌, IfSome};
 ghost use Rattle.amt_messages.specs.Inner.{inner_length_of, ipv4_length, ipv6_length};
 
-use crate::fields::short_at;
+use amt_values::short_at;
 
 // A stated length below the least header is no length.
 fn ipv4_length(octets: &[u8]) -> Option<u32>

@@ -7,6 +7,7 @@
 #![tactic(auto)]
 
 mod fields;
+mod head;
 mod inner;
 mod message;
 mod multicast;

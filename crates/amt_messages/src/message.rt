@@ -1,3 +1,5 @@
+//! The messages as values. It must not know their octets, but for the drawings.
+
 use amt_values::{Bytes, Endpoint, Ip, Mac48};
 
 /// A message of the tunneling protocol (RFC 7450, section 5.1).

@@ -1,22 +1,20 @@
-ghost use Rattle.std.specs.Prelude.{◌≡◌, ◌≤◌, length, IfOk};
+//! Multicast Data of octets, and its octets. It must not know what packet it carries.
+
+ghost use Rattle.std.specs.Prelude.{◌≡◌, ◌≤◌, length, Ok, IfOk};
+ghost use Rattle.contract_words.specs.Answer.{Gives};
 ghost use Rattle.amt_messages.specs.declared.message.Message.TheVariants.{Multicast};
 ghost use Rattle.amt_messages.specs.Layout.{IsCanonical, spelling_of};
-ghost use Rattle.amt_messages.specs.Refusal.{Gives, multicast_reading};
+ghost use Rattle.amt_messages.specs.Refusal.{TakesMemory, multicast_at, refusal_in};
 
 use crate::message::Message;
-use crate::refusal::{DecodeFault, Refused};
+use crate::refusal::DecodeFault;
 use amt_values::Bytes;
 use std::alloc::{AllocError, Global};
 
-// Reads what the first octet says to be Multicast Data.
 pub fn read_multicast(alloc: Global, bytes: &[u8]) -> Result<Message, DecodeFault>
-    requires { length bytes.now ≤ 65535 }
-    ensures { Gives result (multicast_reading bytes.now) }
+    requires { 2 ≤ length bytes.now }
+    ensures { Gives refusal_in TakesMemory result (Ok (multicast_at bytes.now)) }
 {
-    let have = bytes.len() as u32;
-    if have < 2 {
-        return Err(DecodeFault::Refused(Refused::Short(2, have)));
-    }
     let (_, rest) = bytes.split_at(2);
     let Ok(packet) = Bytes::copied(alloc, rest) else {
         return Err(DecodeFault::Memory);

@@ -1,54 +1,27 @@
-ghost use Rattle.std.specs.Prelude.{◌≡◌, ◌+◌, ◌≤◌, length, drop, Some, None, Ok, IfOk, IfErr, OnOk};
+//! A Query of octets, and the octets of a Query. It must not know what its inner datagram carries.
+
+ghost use Rattle.std.specs.Prelude.{◌≡◌, ◌+◌, ◌≤◌, ◌++◌, length, Some, Ok, unwrap_or, IfOk, OnOk};
+ghost use Rattle.contract_words.specs.Answer.{Gives};
+ghost use Rattle.amt_messages.specs.Conditions.{IsNamedGateway};
 ghost use Rattle.amt_messages.specs.Inner.{inner_length_of};
-ghost use Rattle.amt_messages.specs.Layout.{has_flag, query_length};
-ghost use Rattle.amt_messages.specs.Refusal.{Gives, query_reading, query_refusal, query_with, seen_at};
+ghost use Rattle.amt_messages.specs.Layout.{IsCanonical, has_flag, query_flags, query_length, named_gateway_octets, spelling_of};
+ghost use Rattle.amt_messages.specs.Refusal.{TakesMemory, query_at, query_with, refusal_in, named_gateway_at, stated_inner};
+ghost use Rattle.amt_messages.specs.declared.message.Message.TheVariants.{Query};
 
-use crate::fields::{gateway_at, has_flag, mac_at, number_at};
-use crate::inner::inner_length;
+use crate::fields::{gateway_at, is_limited, mac_at, names_gateway};
+use crate::head::{append_gateway, write_head};
 use crate::message::Message;
-use crate::refusal::{DecodeFault, Refused, length_refusal};
-use amt_values::{Bytes, Endpoint};
-use std::alloc::Global;
-
-// The octets that a Query takes with an inner datagram of so many.
-fn query_length(named: bool, inner: u32) -> u32
-    requires { inner ≤ 65575 }
-    ensures { result ≡ query_length named inner }
-{
-    if named { 12 + inner + 18 } else { 12 + inner }
-}
-
-// The length of the inner datagram of a Query, or why the octets are none.
-fn stated_inner(bytes: &[u8]) -> Result<u32, Refused>
-    requires { length bytes.now ≤ 65535 }
-    ensures stated { IfOk result (λ inner. inner_length_of (drop 12 bytes.now) ≡ Some inner) }
-    ensures whole { IfOk result (λ inner. query_length (has_flag 0 bytes.now) inner
-        ≡ length bytes.now) }
-    ensures ok { OnOk result (query_refusal bytes.now ≡ None) }
-    ensures refused { IfErr result (λ refusal. query_refusal bytes.now ≡ Some refusal) }
-{
-    let have = bytes.len() as u32;
-    if have < 12 {
-        return Err(Refused::Short(12, have));
-    }
-    let (_, rest) = bytes.split_at(12);
-    let Some(inner) = inner_length(rest) else {
-        return Err(Refused::NoInner);
-    };
-    let need = query_length(has_flag(bytes, 0), inner);
-    match length_refusal(need, have) {
-        Some(refusal) => Err(refusal),
-        None => Ok(inner),
-    }
-}
+use crate::refusal::{DecodeFault, stated_inner};
+use amt_values::{Bytes, Endpoint, Mac48, number_at};
+use std::alloc::{AllocError, Global};
 
 // The gateway as the relay saw it, where the G flag says that it is named.
-fn seen_at(bytes: &[u8], inner: usize) -> Option<Endpoint>
+fn named_gateway_at(bytes: &[u8], inner: usize) -> Option<Endpoint>
     requires head { 12 ≤ length bytes.now }
     requires whole { query_length (has_flag 0 bytes.now) inner ≤ length bytes.now }
-    ensures { result ≡ seen_at inner bytes.now }
+    ensures { result ≡ named_gateway_at inner bytes.now }
 {
-    if has_flag(bytes, 0) {
+    if names_gateway(bytes) {
         Some(gateway_at(bytes, inner))
     } else {
         None
@@ -59,7 +32,7 @@ fn seen_at(bytes: &[u8], inner: usize) -> Option<Endpoint>
 fn query_with(alloc: Global, bytes: &[u8], inner: usize) -> Result<Message, DecodeFault>
     requires head { 12 + inner ≤ length bytes.now }
     requires whole { query_length (has_flag 0 bytes.now) inner ≤ length bytes.now }
-    ensures { Gives result (Ok (query_with inner bytes.now)) }
+    ensures { Gives refusal_in TakesMemory result (Ok (query_with inner bytes.now)) }
 {
     let (_, rest) = bytes.split_at(12);
     let (datagram, _) = rest.split_at(inner);
@@ -67,21 +40,61 @@ fn query_with(alloc: Global, bytes: &[u8], inner: usize) -> Result<Message, Deco
         return Err(DecodeFault::Memory);
     };
     Ok(Message::Query {
-        limited: has_flag(bytes, 1),
+        limited: is_limited(bytes),
         mac: mac_at(bytes, 2),
         nonce: number_at(bytes, 8),
         inner: datagram,
-        seen: seen_at(bytes, inner),
+        seen: named_gateway_at(bytes, inner),
     })
 }
 
-// Reads what the first octet says to be a Query.
 pub fn read_query(alloc: Global, bytes: &[u8]) -> Result<Message, DecodeFault>
-    requires { length bytes.now ≤ 65535 }
-    ensures { Gives result (query_reading bytes.now) }
+    requires head { 12 + unwrap_or (stated_inner bytes.now) 0 ≤ length bytes.now }
+    requires whole { query_length (has_flag 0 bytes.now) (unwrap_or (stated_inner bytes.now) 0)
+        ≤ length bytes.now }
+    ensures { Gives refusal_in TakesMemory result (Ok (query_at bytes.now)) }
 {
-    match stated_inner(bytes) {
-        Ok(inner) => query_with(alloc, bytes, inner as usize),
-        Err(refusal) => Err(DecodeFault::Refused(refusal)),
+    let inner = stated_inner(bytes).unwrap_or(0);
+    query_with(alloc, bytes, inner as usize)
+}
+
+fn query_flags(limited: bool, named: bool) -> u8
+    ensures { result ≡ query_flags limited named }
+{
+    match (limited, named) {
+        (false, false) => 0,
+        (false, true) => 1,
+        (true, false) => 2,
+        (true, true) => 3,
     }
+}
+
+fn append_named_gateway(bytes: &mut Bytes, seen: &Option<Endpoint>) -> Result<(), AllocError>
+    ensures appended { OnOk result (bytes.new ≡ bytes.old ++ named_gateway_octets seen.now) }
+    ensures form { OnOk result (IsNamedGateway seen.now) }
+{
+    match seen {
+        None => Ok(()),
+        Some(endpoint) => append_gateway(bytes, endpoint),
+    }
+}
+
+pub fn write_query(
+    alloc: Global,
+    limited: bool,
+    mac: &Mac48,
+    nonce: u32,
+    inner: &Bytes,
+    seen: &Option<Endpoint>,
+) -> Result<Bytes, AllocError>
+    requires { inner_length_of inner.now ≡ Some (length inner.now) }
+    ensures written { IfOk result (λ bytes. bytes ≡ spelling_of
+        (Query limited mac.now nonce inner.now seen.now)) }
+    ensures canonical { IfOk result (λ bytes. IsCanonical
+        (Query limited mac.now nonce inner.now seen.now) bytes) }
+{
+    let mut bytes = write_head(alloc, 4, query_flags(limited, seen.is_some()), mac, nonce)?;
+    bytes.append(inner.as_slice())?;
+    append_named_gateway(&mut bytes, seen)?;
+    Ok(bytes)
 }

@@ -160,19 +160,19 @@ const FIELDS: [(&[u8], &str); 10] = [
     ),
     (
         b"\x04\x01\xa1\xa2\xa3\xa4\xa5\xa6\x0a\x0b\x0c\x0d\x46\xc0\x00\x24\x00\x00\x00\x00\x01\x02\x82\x11\xc0\x00\x02\x01\xe0\x00\x00\x01\x94\x04\x00\x00\x11\x64\xec\x1e\x00\x00\x00\x00\x02\x7d\x00\x00\x13\x88\x00\x00\x00\x00\x00\x00\x00\x00\x00\x00\x00\x00\xc6\x33\x64\x07",
-        "Query { limited: false, mac: Mac48([161, 162, 163, 164, 165, 166]), nonce: 168496141, inner: Bytes { octets: [70, 192, 0, 36, 0, 0, 0, 0, 1, 2, 130, 17, 192, 0, 2, 1, 224, 0, 0, 1, 148, 4, 0, 0, 17, 100, 236, 30, 0, 0, 0, 0, 2, 125, 0, 0] }, seen: Some(Endpoint { address: 3325256711, port: 5000 }) }",
+        "Query { limited: false, mac: Mac48([161, 162, 163, 164, 165, 166]), nonce: 168496141, inner: Items { items: [70, 192, 0, 36, 0, 0, 0, 0, 1, 2, 130, 17, 192, 0, 2, 1, 224, 0, 0, 1, 148, 4, 0, 0, 17, 100, 236, 30, 0, 0, 0, 0, 2, 125, 0, 0] }, seen: Some(Endpoint { address: 3325256711, port: 5000 }) }",
     ),
     (
         b"\x04\x02\xa1\xa2\xa3\xa4\xa5\xa6\x0a\x0b\x0c\x0d\x45\x00\x00\x14\x00\x00\x00\x00\x00\x00\x00\x00\x00\x00\x00\x00\x00\x00\x00\x00",
-        "Query { limited: true, mac: Mac48([161, 162, 163, 164, 165, 166]), nonce: 168496141, inner: Bytes { octets: [69, 0, 0, 20, 0, 0, 0, 0, 0, 0, 0, 0, 0, 0, 0, 0, 0, 0, 0, 0] }, seen: None }",
+        "Query { limited: true, mac: Mac48([161, 162, 163, 164, 165, 166]), nonce: 168496141, inner: Items { items: [69, 0, 0, 20, 0, 0, 0, 0, 0, 0, 0, 0, 0, 0, 0, 0, 0, 0, 0, 0] }, seen: None }",
     ),
     (
         b"\x05\x01\xa1\xa2\xa3\xa4\xa5\xa6\x0a\x0b\x0c\x0d\x46",
-        "Update { mac: Mac48([161, 162, 163, 164, 165, 166]), nonce: 168496141, inner: Bytes { octets: [70] } }",
+        "Update { mac: Mac48([161, 162, 163, 164, 165, 166]), nonce: 168496141, inner: Items { items: [70] } }",
     ),
     (
         b"\x06\x01\x46",
-        "Multicast { packet: Bytes { octets: [70] } }",
+        "Multicast { packet: Items { items: [70] } }",
     ),
     (
         b"\x07\x00\xa1\xa2\xa3\xa4\xa5\xa6\x0a\x0b\x0c\x0d\x13\x88\x00\x00\x00\x00\x00\x00\x00\x00\x00\x00\xff\xff\xc6\x33\x64\x07",

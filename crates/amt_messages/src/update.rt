@@ -1,34 +1,22 @@
-ghost use Rattle.std.specs.Prelude.{◌≡◌, ◌≤◌, length, IfOk};
+//! An Update of octets, and the octets of an Update. It must not know what its inner datagram carries.
+
+ghost use Rattle.std.specs.Prelude.{◌≡◌, ◌≤◌, length, Ok, IfOk};
+ghost use Rattle.contract_words.specs.Answer.{Gives};
 ghost use Rattle.amt_messages.specs.declared.message.Message.TheVariants.{Update};
 ghost use Rattle.amt_messages.specs.Layout.{IsCanonical, spelling_of};
-ghost use Rattle.amt_messages.specs.Refusal.{Gives, update_reading, update_refusal};
+ghost use Rattle.amt_messages.specs.Refusal.{TakesMemory, refusal_in, update_at};
 
-use crate::fields::{mac_at, number_at};
+use crate::fields::mac_at;
+use crate::head::write_head;
 use crate::message::Message;
-use crate::refusal::{DecodeFault, Refused};
-use amt_values::{Bytes, Mac48};
+use crate::refusal::DecodeFault;
+use amt_values::{Bytes, Mac48, number_at};
 use std::alloc::{AllocError, Global};
 
-fn update_refusal(bytes: &[u8]) -> Option<Refused>
-    requires { length bytes.now ≤ 65535 }
-    ensures { result ≡ update_refusal bytes.now }
-{
-    let have = bytes.len() as u32;
-    if have < 12 {
-        Some(Refused::Short(12, have))
-    } else {
-        None
-    }
-}
-
-// Reads what the first octet says to be an Update.
 pub fn read_update(alloc: Global, bytes: &[u8]) -> Result<Message, DecodeFault>
-    requires { length bytes.now ≤ 65535 }
-    ensures { Gives result (update_reading bytes.now) }
+    requires { 12 ≤ length bytes.now }
+    ensures { Gives refusal_in TakesMemory result (Ok (update_at bytes.now)) }
 {
-    if let Some(refusal) = update_refusal(bytes) {
-        return Err(DecodeFault::Refused(refusal));
-    }
     let (_, datagram) = bytes.split_at(12);
     let Ok(inner) = Bytes::copied(alloc, datagram) else {
         return Err(DecodeFault::Memory);
@@ -40,7 +28,7 @@ pub fn read_update(alloc: Global, bytes: &[u8]) -> Result<Message, DecodeFault>
     })
 }
 
-#[tactic(auto, using(crate::proofs::Written::update_is_canonical))]
+#[tactic(auto, using(crate::proofs::Written::written_update))]
 pub fn write_update(
     alloc: Global,
     mac: &Mac48,
@@ -52,10 +40,7 @@ pub fn write_update(
     ensures canonical { IfOk result (λ bytes. IsCanonical
         (Update mac.now nonce inner.now) bytes) }
 {
-    let mut bytes = Bytes::new(alloc);
-    bytes.append(&[5, 0])?;
-    bytes.append(&mac.0)?;
-    bytes.append(&nonce.to_be_bytes())?;
+    let mut bytes = write_head(alloc, 5, 0, mac, nonce)?;
     bytes.append(inner.as_slice())?;
     Ok(bytes)
 }

@@ -1,42 +1,23 @@
-ghost use Rattle.std.specs.Prelude.{◌≡◌, ◌≤◌, ◌++◌, ℕ, List, Some, length, IfOk, OnOk};
+//! Messages written as octets. It must not know who they go to.
+
+ghost use Rattle.std.specs.Prelude.{◌≡◌, ◌≤◌, ℕ, List, length, IfOk};
 ghost use Rattle.amt_values.specs.Octets.{AreOctets};
-ghost use Rattle.amt_messages.specs.declared.message.Message.TheVariants.{Discovery, Advertisement, Request, Query};
-ghost use Rattle.amt_messages.specs.Conditions.{IsSeen, IsSendable};
-ghost use Rattle.amt_messages.specs.Inner.{inner_length_of};
-ghost use Rattle.amt_messages.specs.Layout.{IsCanonical, query_flags, request_flags, seen_octets, spelling_of};
+ghost use Rattle.amt_messages.specs.declared.message.Message.TheVariants.{Discovery, Advertisement, Request};
+ghost use Rattle.amt_messages.specs.Conditions.{IsSendable};
+ghost use Rattle.amt_messages.specs.Layout.{IsCanonical, request_flags, spelling_of};
 
 use crate::message::Message;
 use crate::multicast::write_multicast;
-use crate::teardown::{append_gateway, write_teardown};
+use crate::query::write_query;
+use crate::teardown::write_teardown;
 use crate::update::write_update;
-use amt_values::{Bytes, Endpoint, Ip, Mac48, octets_of_address};
+use amt_values::{Bytes, Ip, octets_of_address};
 use std::alloc::{AllocError, Global};
 
 fn request_flags(v6: bool) -> u8
     ensures { result ≡ request_flags v6 }
 {
     if v6 { 1 } else { 0 }
-}
-
-fn query_flags(limited: bool, named: bool) -> u8
-    ensures { result ≡ query_flags limited named }
-{
-    match (limited, named) {
-        (false, false) => 0,
-        (false, true) => 1,
-        (true, false) => 2,
-        (true, true) => 3,
-    }
-}
-
-fn append_seen(bytes: &mut Bytes, seen: &Option<Endpoint>) -> Result<(), AllocError>
-    ensures appended { OnOk result (bytes.new ≡ bytes.old ++ seen_octets seen.now) }
-    ensures form { OnOk result (IsSeen seen.now) }
-{
-    match seen {
-        None => Ok(()),
-        Some(endpoint) => append_gateway(bytes, endpoint),
-    }
 }
 
 fn write_discovery(alloc: Global, nonce: u32) -> Result<Bytes, AllocError>
@@ -70,29 +51,6 @@ fn write_request(alloc: Global, v6: bool, nonce: u32) -> Result<Bytes, AllocErro
     let mut bytes = Bytes::new(alloc);
     bytes.append(&[3, request_flags(v6), 0, 0])?;
     bytes.append(&nonce.to_be_bytes())?;
-    Ok(bytes)
-}
-
-fn write_query(
-    alloc: Global,
-    limited: bool,
-    mac: &Mac48,
-    nonce: u32,
-    inner: &Bytes,
-    seen: &Option<Endpoint>,
-) -> Result<Bytes, AllocError>
-    requires { inner_length_of inner.now ≡ Some (length inner.now) }
-    ensures written { IfOk result (λ bytes. bytes ≡ spelling_of
-        (Query limited mac.now nonce inner.now seen.now)) }
-    ensures canonical { IfOk result (λ bytes. IsCanonical
-        (Query limited mac.now nonce inner.now seen.now) bytes) }
-{
-    let mut bytes = Bytes::new(alloc);
-    bytes.append(&[4, query_flags(limited, seen.is_some())])?;
-    bytes.append(&mac.0)?;
-    bytes.append(&nonce.to_be_bytes())?;
-    bytes.append(inner.as_slice())?;
-    append_seen(&mut bytes, seen)?;
     Ok(bytes)
 }
 

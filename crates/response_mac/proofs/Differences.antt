@@ -14,8 +14,8 @@ same_from_xor x y zero_xor =
     same_from_bits x y (λ i. same_bit (bit_at x i) (bit_at y i) (bit_at-lt x i) (bit_at-lt y i)
     (sym (bit_at_xor x y i) ∙ (ap (λ (n : ℕ). bit_at n i) zero_xor ∙ bit_at-zero i)))
 
-same_front : (i : ℕ) (xs ys : List ℕ) → take (i + 1) xs ≡ take (i + 1) ys → take i xs ≡ take i ys
-same_front i xs ys same =
+same_prefix : (i : ℕ) (xs ys : List ℕ) → take (i + 1) xs ≡ take (i + 1) ys → take i xs ≡ take i ys
+same_prefix i xs ys same =
     sym (take-take i (i + 1) xs (omega arith)) ∙ (ap (take i) same ∙ take-take i (i + 1) ys (omega arith))
 
 same_last : (i : ℕ) (xs ys : List ℕ) → take (i + 1) xs ≡ take (i + 1) ys → get_or xs i 0 ≡ get_or ys i 0
@@ -32,5 +32,5 @@ no_difference_more difference i xs ys in_xs in_ys so_far =
     let before_is_zero : bit_or difference here ≡ 0 → difference ≡ 0 = λ none. omega (arith, le_or_l difference here) in
     let here_is_zero : bit_or difference here ≡ 0 → here ≡ 0 = λ none. omega (arith, le_or_r difference here) in (
       λ none. take_more_same xs ys i 0 in_xs in_ys (so_far.0 (before_is_zero none)) (same_from_xor _ _ (here_is_zero none)),
-      λ same. rw (so_far.1 (same_front i xs ys same), same_last i xs ys same, xor_self) refl,
+      λ same. rw (so_far.1 (same_prefix i xs ys same), same_last i xs ys same, xor_self) refl,
     )

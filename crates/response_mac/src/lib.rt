@@ -14,3 +14,6 @@ pub use hmac::hmac_sha256;
 pub use response::mac;
 pub use secret::Secret;
 pub use secrets::Secrets;
+
+#[cfg(test)]
+mod tests;

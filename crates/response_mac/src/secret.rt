@@ -1,3 +1,5 @@
+//! One secret. It must not know what it is the key of.
+
 ghost use Rattle.std.specs.Prelude.{Some, codes};
 
 use std::fmt;

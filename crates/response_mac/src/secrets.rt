@@ -1,3 +1,5 @@
+//! The secrets of a relay, and which MACs are good by them. It must not know where secrets come from.
+
 ghost use Rattle.std.specs.Prelude.{◌≡◌, ◌↔◌, ◌≤◌, Some, List, [], ◌∷◌, ◌++◌, IsTrue};
 ghost use Rattle.response_mac.specs.declared.secret.Secret.{Secret};
 ghost use Rattle.response_mac.specs.ResponseMac.{IsGood, is_good, mac_of, same_mac, secrets_after};
@@ -74,60 +76,4 @@ fn is_same(mac: &Mac48, other: &Mac48) -> bool
         difference |= mac.0[i] ^ other.0[i];
     }
     difference == 0
-}
-
-#[cfg(test)]
-mod tests {
-    use super::*;
-
-    const NONCE: u32 = 0x0a0b_0c0d;
-
-    const GATEWAY: u128 = 0xc633_6407;
-
-    // What each of the secrets after a rotation says of the MAC that the secret before it gave.
-    fn holds_after(secrets: &mut Secrets, mac: &Mac48, new: u8) -> bool {
-        secrets.rotate(Secret([new; 32]));
-        secrets.matches(&Endpoint::named(GATEWAY, 5000), NONCE, mac)
-    }
-
-    #[test]
-    fn a_mac_is_good_until_the_second_rotation(rt: HostRuntime) {
-        let mut secrets = Secrets::new(Secret([1; 32]));
-        let endpoint = Endpoint::named(GATEWAY, 5000);
-        let mac = response::mac(&secrets.current, &endpoint, NONCE);
-        assert!(rt; secrets.matches(&endpoint, NONCE, &mac), "current");
-        assert!(rt; holds_after(&mut secrets, &mac, 2), "previous");
-        assert!(rt; !holds_after(&mut secrets, &mac, 3), "the one before");
-    }
-
-    // Whether a MAC for the gateway's port 5000 and the nonce, with this bit turned, is good for an
-    // endpoint and a nonce.
-    fn is_good_with(bit: usize, address: u128, port: u16, nonce: u32) -> bool
-        requires { bit ≤ 48 }
-    {
-        let mut secrets = Secrets::new(Secret([1; 32]));
-        secrets.rotate(Secret([2; 32]));
-        let mut mac = response::mac(&secrets.current, &Endpoint::named(GATEWAY, 5000), NONCE);
-        if bit < 48 {
-            mac.0[bit / 8] ^= 1 << (bit % 8);
-        }
-        secrets.matches(&Endpoint::named(address, port), nonce, &mac)
-    }
-
-    #[test]
-    fn another_mac_endpoint_or_nonce_is_not_good(rt: HostRuntime) {
-        assert!(rt; is_good_with(48, GATEWAY, 5000, NONCE), "no bit turned");
-        for bit in 0..48 {
-            assert!(rt; !is_good_with(bit, GATEWAY, 5000, NONCE), "bit {bit}");
-        }
-        assert!(rt; !is_good_with(48, GATEWAY, 5001, NONCE), "another port");
-        assert!(rt;
-            !is_good_with(48, GATEWAY + 1, 5000, NONCE),
-            "another address"
-        );
-        assert!(rt;
-            !is_good_with(48, GATEWAY, 5000, NONCE + 1),
-            "another nonce"
-        );
-    }
 }

@@ -1,7 +1,7 @@
 use Rattle.std.proofs.Common.{ℕ, bit_xor, arith}
 use Rattle.std.proofs.lemmas.List.{get_or_default}
 use Rattle.std.proofs.lemmas.List.Edits.{map_over_more}
-use Rattle.response_mac.proofs.hmac.padded.Goals as goal
+use Rattle.response_mac.proofs.hmac.padded_block.Goals as goal
 
 pub loop-octet-preserved : goal.loop-octet-preserved
 loop-octet-preserved c =

@@ -1,6 +1,6 @@
 -- The octets so far are combined with the pad, and the others are still the block's.
 use Rattle.std.proofs.Common.{◌≡◌, ◌++◌, map, take, drop, bit_xor}
-use Rattle.response_mac.proofs.hmac.padded.Given as goal
+use Rattle.response_mac.proofs.hmac.padded_block.Given as goal
 
 abbrev pub invariant-loop-octet : goal.invariant-loop-octet
 invariant-loop-octet l =

@@ -1,6 +1,0 @@
-use Rattle.std.proofs.Common.{rules}
-use Rattle.std.proofs.lemmas.List.{drop-replicate}
-use Rattle.response_mac.proofs.hmac.zero_filled.Goals as goal
-
-pub returns : goal.returns
-returns c = rw (c.copy_from_slice.ensures.after, c.split_at_mut-front.ensures.back, drop-replicate) (search rules)
