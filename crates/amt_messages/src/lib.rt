@@ -23,6 +23,3 @@ pub use message::Message;
 pub use reading::decode;
 pub use refusal::{DecodeFault, Refused};
 pub use writing::encode;
-
-#[cfg(test)]
-mod tests;

@@ -6,7 +6,7 @@ ghost use Rattle.inner_datagrams.specs.Head.{IsHead, first_head_fault, head4_at,
 ghost use Rattle.inner_datagrams.specs.declared.head.Head.{Head as HeadValue};
 ghost use Rattle.inner_datagrams.specs.declared.head.HeadFault.{HeadFault as HeadFaultValue};
 
-use crate::fields::{address_at, number_at};
+use amt_values::{address_at, number_at};
 use amt_values::{INPUT_LIMIT, Ip};
 
 /// The addresses of a native multicast packet, both of one family.

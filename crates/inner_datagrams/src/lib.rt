@@ -10,7 +10,6 @@
 
 mod around;
 mod checksum;
-mod fields;
 mod head;
 mod inner;
 mod ipv4;

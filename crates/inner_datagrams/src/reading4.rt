@@ -7,7 +7,7 @@ ghost use Rattle.inner_datagrams.specs.Header.{header_octets};
 ghost use Rattle.inner_datagrams.specs.Reading.{inner4_at, parts4};
 
 use crate::checksum::{expected_sum, has_right_sum};
-use crate::fields::{number_at, short_at};
+use amt_values::{number_at, short_at};
 use crate::inner::{Inner, InnerFault};
 use amt_values::{INPUT_LIMIT, Ip};
 

@@ -8,6 +8,10 @@
 #[cfg(test)]
 mod datagrams;
 #[cfg(test)]
+mod filters;
+#[cfg(test)]
+mod messages;
+#[cfg(test)]
 mod ports;
 #[cfg(test)]
 mod values;

@@ -7,3 +7,7 @@
 
 #[cfg(test)]
 mod command;
+#[cfg(test)]
+mod relay;
+#[cfg(test)]
+mod settings;

@@ -32,8 +32,3 @@ pub use outcome::{NotForwarded, Outcome, Unlawful};
 pub use relay::Relay;
 pub use sends::{OneSend, Sends, Step};
 pub use settings::Settings;
-
-#[cfg(test)]
-mod settings_tests;
-#[cfg(test)]
-mod tests;

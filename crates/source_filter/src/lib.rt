@@ -24,6 +24,3 @@ pub use mutable::MutableFilter;
 pub use query::{QueryFields, QueryRead};
 pub use record::{Record, RecordKind};
 pub use records::{Records, copy_record, copy_records};
-
-#[cfg(test)]
-mod tests;

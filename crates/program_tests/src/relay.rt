@@ -2,7 +2,7 @@
 ghost use Rattle.std.specs.Prelude.{◌≤◌, IfOk, length};
 ghost use Rattle.relay_machine.specs.Conditions.{IsEvent};
 
-use super::*;
+use relay_machine::*;
 use amt_values::{Bytes, Endpoint, Ip, Moment, Peer};
 use endpoint_membership::{Change, LimitFault, Limits, Row};
 use inner_datagrams::{HeadFault, InnerFault};

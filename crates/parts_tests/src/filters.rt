@@ -1,7 +1,9 @@
-use super::*;
+//! Filters and group records. It knows public calls alone.
+
 use Mode::{Exclude, Include};
 use RecordKind::{Allow, Block, IsEx, IsIn, ToEx, ToIn};
 use amt_values::Ip;
+use source_filter::*;
 use std::alloc::{AllocError, Global};
 use std::process::Abort;
 use std::test::Fail;

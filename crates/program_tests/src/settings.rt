@@ -1,5 +1,5 @@
 //! Which settings a relay may have, and its numbers by their keys.
-use super::*;
+use relay_machine::*;
 use amt_values::Ip;
 use endpoint_membership::Limits;
 use igmp_records::code_value4;

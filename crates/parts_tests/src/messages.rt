@@ -1,7 +1,9 @@
+//! The messages, read and written. It knows public calls alone.
+
 ghost use Rattle.std.specs.Prelude.{IfSome};
 ghost use Rattle.amt_messages.specs.Conditions.{IsSendable};
 
-use super::*;
+use amt_messages::*;
 use amt_values::Bytes;
 use std::alloc::Global;
 
