@@ -1,10 +1,9 @@
 -- A bad line breaks each script that the lines before it begin; lines say one list of statements.
-use Rattle.std.proofs.Common.{◌≡◌, ℕ, ◌⊎◌, false, List, [], ◌∷◌, ◌++◌, inl, inr, refl, sym, ap, subst, ◌∙◌, append_assoc, append-nil}
+use Rattle.std.proofs.Common.{◌≡◌, ℕ, List, [], ◌∷◌, ◌++◌, inl, inr, refl, sym, ap, subst, ◌∙◌, append_assoc, append-nil}
 use Rattle.std.specs.List.{AllByRecursion}
 use Rattle.script_lines.specs.declared.reason.Reason.{Reason}
-use Rattle.script_lines.specs.declared.reason.Reason.TheVariants as reasons
 use Rattle.script_lines.specs.Kind.{Kind, IsLawful}
-use Rattle.script_lines.specs.Lines.{fields, says_nothing, lines_that_say, IsShort, IsPlain}
+use Rattle.script_lines.specs.Lines.{fields, lines_that_say, IsShort, IsPlain}
 use Rattle.script_lines.specs.Script.{Say, Begins, IsWrong, IsBadLine}
 use Rattle.script_lines.proofs.Begun.{lines_that_say-append, stated}
 use Rattle.script_lines.proofs.Firsts.{First-holds}

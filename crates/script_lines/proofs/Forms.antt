@@ -1,5 +1,5 @@
 -- A text of a form fails for no reason, and names one value.
-use Rattle.std.proofs.Common.{◌≡◌, ℕ, ◌^◌, ◌<◌, List, [], ◌∷◌, ◌++◌, codes, decimal, length, None, Ok, inl, inr, refl, sym, subst, ap, ◌∙◌, arith}
+use Rattle.std.proofs.Common.{◌≡◌, ℕ, ◌^◌, ◌<◌, List, [], ◌∷◌, ◌++◌, codes, None, Ok, inl, inr, refl, sym, subst, ap, ◌∙◌, arith}
 use Rattle.std.proofs.lemmas.Fmt.{decimal_injective}
 use Rattle.std.specs.Int.{IsInRange}
 use Rattle.hex.specs.Hex.{decode_of}
@@ -12,7 +12,7 @@ use Rattle.response_mac.specs.declared.secret.Secret.{Secret}
 use Rattle.script_lines.specs.declared.reason.Reason.{Reason}
 use Rattle.script_lines.specs.declared.reason.Reason.TheVariants as reasons
 use Rattle.script_lines.specs.Form.{Form, Fails, IsMomentText, IsNumberText, IsHexText, IsSecretText, a_moment, a_number, some_octets, a_secret, an_address, an_address4, an_address6, a_peer}
-use Rattle.script_lines.specs.Shape.{Shape, FailsIn, SomeFails, HasField}
+use Rattle.script_lines.specs.Shape.{FailsIn, SomeFails, HasField}
 use Rattle.script_lines.proofs.Numbers.{value_of_number, numeral_of_number}
 
 -- a text of a form fails for no reason

@@ -45,7 +45,7 @@ kept : (field : List ℕ) (rest : List (List ℕ)) → 0 < length field → filt
 kept [] rest some = absurd (omega arith)
 kept (x ∷ xs) rest some = refl
 
-starts_field : (front back : List ℕ) → slice_index (front ++ 32 ∷ back) 0 ≢ 32 → 0 < length front
+starts_field : (prefix back : List ℕ) → slice_index (prefix ++ 32 ∷ back) 0 ≢ 32 → 0 < length prefix
 starts_field [] back other = absurd (other refl)
 starts_field (x ∷ xs) back other = omega arith
 

@@ -1,5 +1,5 @@
 -- A text's lines that were read so far, and those that are left.
-use Rattle.std.proofs.Common.{◌≡◌, ℕ, ◌+◌, ◌<◌, ◌≤◌, ◌==◌, false, List, [], ◌∷◌, ◌++◌, length, slice_index, inl, inr, refl, sym, ap, subst, ◌∙◌, append_assoc, append-nil, length-append, arith}
+use Rattle.std.proofs.Common.{◌≡◌, ℕ, ◌+◌, ◌<◌, ◌≤◌, ◌==◌, false, List, [], ◌∷◌, ◌++◌, length, slice_index, inr, refl, sym, ap, subst, ◌∙◌, append_assoc, append-nil, length-append, arith}
 use Rattle.std.specs.Str.Lines.{lines}
 use Rattle.script_lines.specs.declared.fault.LineError.{LineError}
 use Rattle.script_lines.specs.declared.fault.LineError.TheVariants as line_errors
@@ -8,7 +8,7 @@ use Rattle.script_lines.specs.Conditions.{First}
 use Rattle.script_lines.specs.Kind.{Kind}
 use Rattle.script_lines.specs.Lines.{fields, says_nothing, IsShort, IsPlain}
 use Rattle.script_lines.specs.Reading.{HasBegun, FailsAfter, FailsOnLine}
-use Rattle.script_lines.specs.Script.{IsWrong, IsBadLine, IsFaultInLine}
+use Rattle.script_lines.specs.Script.{IsBadLine, IsFaultInLine}
 use Rattle.script_lines.proofs.Begun.{has_begun_start}
 
 -- the line of this first field says something

@@ -1,4 +1,4 @@
-//! Why a line, or a whole text, was not read.
+//! Why a line, or a whole text, was not read. It knows no kind of script.
 
 use crate::reason::Reason;
 use thiserror::Error;

@@ -1,3 +1,5 @@
+//! The fields of a line. It knows no kind of line.
+
 ghost use Rattle.std.specs.Prelude.{◌≡◌, ◌≢◌, ◌<◌, ℕ, ◌∷◌, [], length, take, drop, slice_index, All, MatchOption, IfSome, IfNone};
 ghost use Rattle.script_lines.specs.Lines.{fields};
 

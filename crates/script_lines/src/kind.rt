@@ -23,8 +23,10 @@ pub trait ScriptKind: Drop {
     /// These are the statements that have been said.
     ghost HasHeard: { Self → List Statement → Type 0 };
 
+    /// A value that has heard nothing. The kind must keep the laws that all kinds keep.
     fn start(alloc: Global) -> Self
-        ensures { HasHeard result [] };
+        ensures heard { HasHeard result [] }
+        ensures lawful { IsLawful kind };
 
     /// Takes a line that says something, by its first field and what follows it.
     fn take(&mut self, alloc: Global, first: &[u8], rest: &[u8]) -> Result<(), LineError>
@@ -39,6 +41,4 @@ pub trait ScriptKind: Drop {
             → IfOk result (λ script. kind.Makes said script) }
         ensures bad { (said : List Statement) → HasHeard self said
             → IfErr result (λ reason. First (kind.FailsAtEnd said) kind.order_at_end reason) };
-
-    ghost lawful: { IsLawful kind };
 }

@@ -1,3 +1,5 @@
+//! The first line of a text. It knows no fields.
+
 ghost use Rattle.std.specs.Prelude.{◌≡◌, ◌<◌, ◌∷◌, length};
 ghost use Rattle.std.specs.Str.Lines.{lines, strip_carriage_return};
 
@@ -7,7 +9,7 @@ fn without_carriage_return(line: &[u8]) -> &[u8]
     ensures { result.now ≡ strip_carriage_return line.now }
 {
     match line {
-        [front @ .., b'\r'] => front,
+        [start @ .., b'\r'] => start,
         _ => line,
     }
 }

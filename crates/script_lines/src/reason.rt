@@ -1,3 +1,5 @@
+//! The reasons why lines are bad, and their words.
+
 /// Why a line is no line of a script. Where several hold, the earlier one here is reported.
 #[derive(Clone, Copy, Debug, PartialEq, Eq)]
 pub enum Reason {

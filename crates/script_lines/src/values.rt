@@ -1,3 +1,5 @@
+//! Fields that are numbers, octets, secrets and addresses. It knows no kind of line.
+
 ghost use Rattle.std.specs.Prelude.{◌≡◌, ◌≤◌, ◌<◌, ◌^◌, ◌⊎◌, ℕ, List, IfOk, IfErr, IfSome, IfNone, IsErrOf};
 ghost use Rattle.amt_values.specs.declared.address.Ip.TheVariants.{V4, V6};
 ghost use Rattle.amt_values.specs.Text.{IsIpText};

@@ -1,5 +1,5 @@
-use Rattle.std.proofs.Common.{ℕ, ◌≡◌, ◌∷◌, List, sym, subst, ◌∙◌, rules}
-use Rattle.script_lines.specs.Lines.{fields, IsPlain}
+use Rattle.std.proofs.Common.{ℕ, List, sym, subst, ◌∙◌, rules}
+use Rattle.script_lines.specs.Lines.{IsPlain}
 use Rattle.script_lines.proofs.Begun.{has_begun_said}
 use Rattle.script_lines.proofs.Taking.{something, fails_on_line}
 use Rattle.script_lines.proofs.reading.take_line.Goals as goal
