@@ -5,6 +5,7 @@ pub mod Forms
 pub mod Glyphs
 pub mod Numbers
 pub mod Peers
+pub mod Sayings
 pub mod Splitting
 pub mod Taking
 pub mod Verdicts

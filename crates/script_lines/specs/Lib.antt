@@ -6,4 +6,5 @@ pub mod Reading
 pub mod Script
 pub mod Shape
 pub mod Texts
+pub mod Trial
 pub mod Writing

@@ -24,3 +24,6 @@ pub use text::{print_closing, print_hex};
 pub use values::{
     OctetsError, read_address4, read_address6, read_moment, read_number, read_octets, read_secret,
 };
+
+#[cfg(test)]
+mod tests;
