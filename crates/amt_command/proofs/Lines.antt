@@ -1,10 +1,10 @@
 -- A prefix of a line was written, whatever came of it.
 use Rattle.std.proofs.Common.{ℕ, ◌<◌, Option, List, [], length, take, Result, Ok, Err, OnOk, OnErr, sym, append-nil}
 use Rattle.std.specs.Io.KnownBytes.{Appends}
-use Rattle.amt_script.specs.Writing.{WritesFront}
-use Rattle.amt_script.proofs.Writes.{front_written}
+use Rattle.script_lines.specs.Writing.{WritesPrefix}
+use Rattle.script_lines.proofs.Writes.{prefix_written}
 
 pub front_of_line : {E : Type 0} (r : Result (Unit {0}) E) (a b : Option (List ℕ)) (text : List ℕ)
-    → OnOk r (Appends a b text) → OnErr r ((n : ℕ) × (n < length text) × Appends a b (take n text)) → WritesFront a b text
+    → OnOk r (Appends a b text) → OnErr r ((n : ℕ) × (n < length text) × Appends a b (take n text)) → WritesPrefix a b text
 front_of_line (Ok done) a b text whole front = ([], record { front = text; parts = sym (append-nil text); written = whole })
-front_of_line (Err fault) a b text whole front = front_written a b text front.0 front.2
+front_of_line (Err fault) a b text whole front = prefix_written a b text front.0 front.2

@@ -6,7 +6,7 @@ use Rattle.amt_ports.proofs.Taken.{TakesAll-told, TakesMore-told}
 use Rattle.amt_command.specs.declared.ending.Ending.{Ending}
 use Rattle.amt_command.specs.declared.ending.Ending.TheVariants.{Usage, Script, ReadFault, WriteFault, Memory, TooLong}
 use Rattle.amt_script.specs.declared.script.RelayScript.{RelayScript}
-use Rattle.amt_script.specs.declared.reason.Reason.{Reason}
+use Rattle.script_lines.specs.declared.reason.Reason.{Reason}
 use Rattle.amt_script.specs.Fault.{IsFaultAt}
 use Rattle.amt_script.specs.Script.{IsRelayScript}
 use Rattle.amt_command.specs.Ending.{status_of, line_of, TellsItsFault}

@@ -5,12 +5,13 @@ use Rattle.std.specs.Io.KnownBytes.{Appends}
 use Rattle.amt_ports.specs.Causes.{Rose}
 use Rattle.amt_ports.specs.Reading.{TakesAll}
 use Rattle.amt_values.specs.declared.bytes.TheConstants.{INPUT_LIMIT}
-use Rattle.amt_script.specs.declared.reason.Reason.{Reason}
+use Rattle.script_lines.specs.declared.reason.Reason.{Reason}
 use Rattle.amt_script.specs.declared.script.RelayScript.{RelayScript}
 use Rattle.amt_script.specs.Fault.{IsFaultAt}
 use Rattle.amt_script.specs.Script.{IsRelayScript}
-use Rattle.amt_script.specs.Texts.{reason_word, text_of}
-use Rattle.amt_script.specs.Writing.{WritesFront}
+use Rattle.script_lines.specs.Texts.{reason_word}
+use Rattle.amt_script.specs.Texts.{relay_script_text}
+use Rattle.script_lines.specs.Writing.{WritesPrefix}
 
 -- the words after the program's name are `replay relay`
 abbrev pub IsReplayRelay : List (List ℕ) → Type 0
@@ -27,13 +28,13 @@ pub record IsInput (left left' : Option (List ℕ)) (script : RelayScript) : Typ
 pub record Replays (left left' written written' : Option (List ℕ)) : Type 0 where
   pub script : RelayScript
   pub input : IsInput left left' script
-  pub text : Appends written written' (text_of script)
+  pub text : Appends written written' (relay_script_text script)
 
 -- the input was read to its end, and a prefix of the text of its script was written
 pub record BeginsToReplay (left left' written written' : Option (List ℕ)) : Type 0 where
   pub script : RelayScript
   pub input : IsInput left left' script
-  pub text : WritesFront written written' (text_of script)
+  pub text : WritesPrefix written written' (relay_script_text script)
 
 -- `amt: line L: REASON`
 abbrev pub fault_line : ℕ → Reason → List ℕ
@@ -64,7 +65,7 @@ WritesFault left left' written written' =
 -- a prefix of its line was
 abbrev pub BeginsFault : Option (List ℕ) → Option (List ℕ) → Option (List ℕ) → Option (List ℕ) → Type 0
 BeginsFault left left' written written' =
-    (text : List ℕ) × IsFaultText left left' text × WritesFront written written' text
+    (text : List ℕ) × IsFaultText left left' text × WritesPrefix written written' text
 
 -- done; usage; script; read; write; memory; too long
 abbrev pub IsStatus : ℕ → Type 0

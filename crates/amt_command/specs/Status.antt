@@ -6,7 +6,7 @@ use Rattle.amt_ports.specs.Reading.{TakesAtMost, TakesMore}
 use Rattle.amt_values.specs.declared.bytes.TheConstants.{INPUT_LIMIT}
 use Rattle.amt_script.specs.declared.script.RelayScript.{RelayScript}
 use Rattle.amt_script.specs.Script.{IsRelayScript}
-use Rattle.amt_script.specs.Writing.{WritesFront}
+use Rattle.script_lines.specs.Writing.{WritesPrefix}
 use Rattle.amt_command.specs.Command.{IsReplayRelay, Replays, BeginsToReplay, SpellsNothing, WritesFault, BeginsFault, IsStatus, IsQuiet, IsUndisturbed, status_line}
 
 -- The status of a run over these words, with its input and output before and after. The functions are
@@ -44,7 +44,7 @@ pub record Answers {S O : Type 0} (left : S → Option (List ℕ)) (reads : S �
 pub record Reports {S E : Type 0} (left : S → Option (List ℕ)) (told : E → Option (List ℕ)) (failures : E → ℕ) (input input' : S) (err err' : E) (status : ℕ) : Type 0 where
   pub line : (Rose (failures err) (failures err') → ⊥) → status ≢ 3 → Appends (told err) (told err') (status_line status)
   pub fault_line : (Rose (failures err) (failures err') → ⊥) → status ≡ 3 → WritesFault (left input) (left input') (told err) (told err')
-  pub front : status ≢ 3 → WritesFront (told err) (told err') (status_line status)
+  pub front : status ≢ 3 → WritesPrefix (told err) (told err') (status_line status)
   pub fault_front : status ≡ 3 → BeginsFault (left input) (left input') (told err) (told err')
   pub silent : status ≡ 0 → err' ≡ err
 
@@ -52,4 +52,4 @@ pub record Reports {S E : Type 0} (left : S → Option (List ℕ)) (told : E →
 pub record ReportsMemory {E : Type 0} (told : E → Option (List ℕ)) (failures : E → ℕ) (err err' : E) (status : ℕ) : Type 0 where
   pub status_is : status ≡ 7
   pub line : (Rose (failures err) (failures err') → ⊥) → Appends (told err) (told err') (status_line status)
-  pub front : WritesFront (told err) (told err') (status_line status)
+  pub front : WritesPrefix (told err) (told err') (status_line status)

@@ -4,7 +4,7 @@ ghost use Rattle.amt_ports.specs.Causes.{Rose};
 ghost use Rattle.amt_ports.specs.Reading.{TakesAtMost, TakesMore};
 ghost use Rattle.amt_values.specs.declared.bytes.TheConstants.{INPUT_LIMIT};
 ghost use Rattle.amt_script.specs.Fault.{HasOneScript, HasOneFault};
-ghost use Rattle.amt_script.specs.Writing.{WritesFront};
+ghost use Rattle.script_lines.specs.Writing.{WritesPrefix};
 ghost use Rattle.amt_command.specs.Command.{IsReplayRelay, Replays, BeginsToReplay};
 ghost use Rattle.amt_command.specs.Ending.{status_of, line_of, TellsItsFault};
 ghost use Rattle.amt_command.specs.Exit.{status_in};
@@ -99,7 +99,7 @@ fn status_of(ending: &Result<(), Ending>) -> u8
 fn report<E: Sink>(ending: &Result<(), Ending>, err: &mut E)
     ensures line { (Rose (E.faults err.old) (E.faults err.new) → ⊥)
         → Appends (E.written err.old) (E.written err.new) (line_of ending.now) }
-    ensures front { WritesFront (E.written err.old) (E.written err.new) (line_of ending.now) }
+    ensures front { WritesPrefix (E.written err.old) (E.written err.new) (line_of ending.now) }
     ensures silent { IsOk ending.now → err.new ≡ err.old }
 {
     if let Err(ending) = ending {

@@ -1,26 +1,19 @@
 -- The first reason why a line is bad, by its kind and its fields.
 use Rattle.std.proofs.Common.{◌≡◌, ◌≢◌, ℕ, ◌⊎◌, ◌↔◌, List, [], ◌∷◌, ◌++◌, codes, IsSome, inl, inr, refl, sym, subst, ◌∙◌}
-use Rattle.std.specs.List.{AllByRecursion}
+use Rattle.script_lines.specs.declared.reason.Reason.{Reason}
+use Rattle.script_lines.specs.declared.reason.Reason.TheVariants as reasons
+use Rattle.contract_words.specs.Conditions.{First}
+use Rattle.script_lines.proofs.Firsts.{First-same}
 use Rattle.amt_script.specs.declared.script.RelayItem.{RelayItem}
 use Rattle.amt_script.specs.declared.kind.Key.{Key}
 use Rattle.amt_script.specs.declared.kind.Kind.{Kind}
 use Rattle.amt_script.specs.declared.kind.Kind.TheVariants as kinds
-use Rattle.amt_script.specs.declared.reason.Reason.{Reason}
-use Rattle.amt_script.specs.declared.reason.Reason.TheVariants as reasons
 use Rattle.amt_script.specs.declared.setting.Setting.{Setting}
-use Rattle.amt_script.specs.Fault.{First, Holds, FailsAs, FailsInKind, order_of_values, order_of_reasons}
-use Rattle.amt_script.specs.Lines.{fields, IsShort, IsPlain}
+use Rattle.amt_script.specs.Fault.{FailsAfter, FailsAs, FailsInKind, order_of_values, order_of_reasons}
 use Rattle.amt_script.specs.Reading.{FailsToSet}
 use Rattle.amt_script.specs.Row.{words_of, IsUnknown}
 use Rattle.amt_script.specs.Setting.{set_at}
 use Rattle.amt_script.proofs.Rows.{same_kind, same_values}
-
-pub First-same : (P Q : Reason → Type 0) (order : List Reason) (reason : Reason) → AllByRecursion (λ r. P r ↔ Q r) order
-    → First P order reason → First Q order reason
-First-same P Q [] reason same first = absurd first
-First-same P Q (next ∷ more) reason same (inl here) = inl (same.0.0 here.0, here.1)
-First-same P Q (next ∷ more) reason same (inr later) =
-    inr (λ holds. later.0 (same.0.1 holds), First-same P Q more reason same.1 later.1)
 
 pub fails_as : (kind : Kind) (values line : List (List ℕ)) (reason : Reason) → line ≡ words_of kind ++ values → FailsInKind line reason → FailsAs kind values reason
 fails_as kind values line reason parts fails =
@@ -43,21 +36,21 @@ counted : (kind : Kind) (values line : List (List ℕ)) → line ≡ words_of ki
 counted kind values line parts (inl alone) = absurd (no_set_alone kind values line parts alone)
 counted kind values line parts (inr fails) = fails_as kind values line reasons.Count parts fails
 
-pub values_judged : (given : List Setting) (items : List RelayItem) (line : List ℕ) (kind : Kind) (values : List (List ℕ)) (reason : Reason) → fields line ≡ words_of kind ++ values
-    → First (FailsAs kind values) order_of_values reason → First (Holds given items line) order_of_values reason
+pub values_judged : (given : List Setting) (items : List RelayItem) (line : List (List ℕ)) (kind : Kind) (values : List (List ℕ)) (reason : Reason) → line ≡ words_of kind ++ values
+    → First (FailsAs kind values) order_of_values reason → First (FailsAfter given items line) order_of_values reason
 values_judged given items line kind values reason parts first =
-    First-same (FailsAs kind values) (Holds given items line) order_of_values reason (
-      (λ h. inr (kind, values, parts, h), counted kind values (fields line) parts),
+    First-same (FailsAs kind values) (FailsAfter given items line) order_of_values reason (
+      (λ h. inr (kind, values, parts, h), counted kind values line parts),
       (
-        in_kind kind values (fields line) reasons.Number parts,
+        in_kind kind values line reasons.Number parts,
         (
-          in_kind kind values (fields line) reasons.Hex parts,
+          in_kind kind values line reasons.Hex parts,
           (
-            in_kind kind values (fields line) reasons.Address parts,
+            in_kind kind values line reasons.Address parts,
             (
-              in_kind kind values (fields line) reasons.Peer parts,
+              in_kind kind values line reasons.Peer parts,
               (
-                in_kind kind values (fields line) reasons.Range parts,
+                in_kind kind values line reasons.Range parts,
                 tt,
               ),
             ),
@@ -66,9 +59,8 @@ values_judged given items line kind values reason parts first =
       ),
     ) first
 
-pub no_word : (line : List ℕ) (kind : Kind) (values : List (List ℕ)) → IsPlain line → fields line ≡ words_of kind ++ values → (IsPlain line → ⊥) ⊎ IsUnknown (fields line) → ⊥
-no_word line kind values plain parts (inl h) = h plain
-no_word line kind values plain parts (inr unknown) = unknown.no_kind kind values parts
+pub no_word : (line : List (List ℕ)) (kind : Kind) (values : List (List ℕ)) → line ≡ words_of kind ++ values → IsUnknown line → ⊥
+no_word line kind values parts unknown = unknown.no_kind kind values parts
 
 -- the kind is that of an item
 abbrev pub IsItemKind : Kind → Type 0
@@ -82,20 +74,17 @@ no_late kinds.Datagram values line rest item parts set = cc (sym set ∙ parts)
 no_late kinds.Packet values line rest item parts set = cc (sym set ∙ parts)
 no_late kinds.Show values line rest item parts set = cc (sym set ∙ parts)
 
-pub item_judged : (given : List Setting) (items : List RelayItem) (line : List ℕ) (kind : Kind) (values : List (List ℕ)) (reason : Reason)
-    → IsItemKind kind → IsShort line → IsPlain line → fields line ≡ words_of kind ++ values
-    → First (FailsAs kind values) order_of_values reason → First (Holds given items line) order_of_reasons reason
-item_judged given items line kind values reason item short plain parts first =
+pub item_judged : (given : List Setting) (items : List RelayItem) (line : List (List ℕ)) (kind : Kind) (values : List (List ℕ)) (reason : Reason)
+    → IsItemKind kind → line ≡ words_of kind ++ values
+    → First (FailsAs kind values) order_of_values reason → First (FailsAfter given items line) order_of_reasons reason
+item_judged given items line kind values reason item parts first =
     inr (
-      λ long. long short,
+      no_word line kind values parts,
       inr (
-        no_word line kind values plain parts,
+        λ late. no_late kind values line late.1 item parts late.2,
         inr (
-          λ late. no_late kind values (fields line) late.1 item parts late.2,
-          inr (
-            λ twice. item twice.0 (same_kind kind (kinds.Set twice.0) values twice.1 (sym parts ∙ twice.2)),
-            values_judged given items line kind values reason parts first,
-          ),
+          λ twice. item twice.0 (same_kind kind (kinds.Set twice.0) values twice.1 (sym parts ∙ twice.2)),
+          values_judged given items line kind values reason parts first,
         ),
       ),
     )
@@ -108,39 +97,36 @@ pub twice_at : (given : List Setting) (line : List (List ℕ)) (key : Key) (valu
 twice_at given line key values parts other others twice set =
     subst (λ (k : Key). IsSome (set_at given k)) (set_key other key (same_kind (kinds.Set other) (kinds.Set key) others values (sym twice ∙ parts))) set
 
-pub setting_judged : (given : List Setting) (items : List RelayItem) (line : List ℕ) (key : Key) (values : List (List ℕ)) (reason : Reason)
-    → IsShort line → IsPlain line → fields line ≡ words_of (kinds.Set key) ++ values
+pub setting_judged : (given : List Setting) (items : List RelayItem) (line : List (List ℕ)) (key : Key) (values : List (List ℕ)) (reason : Reason)
+    → line ≡ words_of (kinds.Set key) ++ values
     → First (FailsToSet given items key values) (reasons.Late ∷ reasons.Twice ∷ order_of_values) reason
-    → First (Holds given items line) order_of_reasons reason
-setting_judged given items line key values reason short plain parts first =
+    → First (FailsAfter given items line) order_of_reasons reason
+setting_judged given items line key values reason parts first =
     inr (
-      λ long. long short,
-      inr (
-        no_word line (kinds.Set key) values plain parts,
-        First-same (FailsToSet given items key values) (Holds given items line) (reasons.Late ∷ reasons.Twice ∷ order_of_values) reason (
-          (λ late. (late, _, parts), λ late. late.0),
+      no_word line (kinds.Set key) values parts,
+      First-same (FailsToSet given items key values) (FailsAfter given items line) (reasons.Late ∷ reasons.Twice ∷ order_of_values) reason (
+        (λ late. (late, _, parts), λ late. late.0),
+        (
+          (λ twice. (key, values, parts, twice), λ twice. twice_at given line key values parts twice.0 twice.1 twice.2 twice.3),
           (
-            (λ twice. (key, values, parts, twice), λ twice. twice_at given (fields line) key values parts twice.0 twice.1 twice.2 twice.3),
+            (λ h. inr (kinds.Set key, values, parts, h), counted (kinds.Set key) values line parts),
             (
-              (λ h. inr (kinds.Set key, values, parts, h), counted (kinds.Set key) values (fields line) parts),
+              in_kind (kinds.Set key) values line reasons.Number parts,
               (
-                in_kind (kinds.Set key) values (fields line) reasons.Number parts,
+                in_kind (kinds.Set key) values line reasons.Hex parts,
                 (
-                  in_kind (kinds.Set key) values (fields line) reasons.Hex parts,
+                  in_kind (kinds.Set key) values line reasons.Address parts,
                   (
-                    in_kind (kinds.Set key) values (fields line) reasons.Address parts,
+                    in_kind (kinds.Set key) values line reasons.Peer parts,
                     (
-                      in_kind (kinds.Set key) values (fields line) reasons.Peer parts,
-                      (
-                        in_kind (kinds.Set key) values (fields line) reasons.Range parts,
-                        tt,
-                      ),
+                      in_kind (kinds.Set key) values line reasons.Range parts,
+                      tt,
                     ),
                   ),
                 ),
               ),
             ),
           ),
-        ) first,
-      ),
+        ),
+      ) first,
     )

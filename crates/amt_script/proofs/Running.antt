@@ -1,17 +1,22 @@
 -- A script that some octets spell can be run.
-use Rattle.std.proofs.Common.{ℕ, ◌≤◌, List, [], ◌∷◌, length, inl, inr, ap, arith}
-use Rattle.std.specs.List.{AllByRecursion, AllZip}
+use Rattle.std.proofs.Common.{ℕ, ◌≤◌, List, [], ◌∷◌, ◌++◌, length, inl, inr, sym, subst, ap, arith}
+use Rattle.std.specs.List.{AllByRecursion}
+use Rattle.std.specs.Str.Lines.{lines}
 use Rattle.hex.proofs.HexLemmas.{decode_of-ok}
 use Rattle.relay_machine.specs.Conditions.{IsEvent}
 use Rattle.relay_machine.specs.declared.event.Event.{Event}
 use Rattle.relay_machine.specs.declared.event.Event.TheVariants.{Moment, Datagram, Packet, Rotate}
+use Rattle.script_lines.specs.Form.{IsHexText}
+use Rattle.script_lines.specs.Lines.{fields, lines_that_say}
+use Rattle.script_lines.specs.Script.{Say}
+use Rattle.amt_script.specs.declared.line.RelayStatement.{RelayStatement}
+use Rattle.amt_script.specs.declared.line.RelayStatement.TheVariants as statements
 use Rattle.amt_script.specs.declared.script.RelayItem.{RelayItem}
 use Rattle.amt_script.specs.declared.script.RelayItem.TheVariants as items
 use Rattle.amt_script.specs.declared.script.RelayScript.{RelayScript}
-use Rattle.amt_script.specs.Form.{IsHexText}
-use Rattle.amt_script.specs.Lines.{fields}
 use Rattle.amt_script.specs.Running.{IsItem, IsRunnable}
-use Rattle.amt_script.specs.Script.{SaysEvent, IsItemLine, IsRelayScript}
+use Rattle.amt_script.specs.Says.{SaysEvent, SaysItem}
+use Rattle.amt_script.specs.Script.{items_in, relay_kind, IsRelayScript}
 
 hex_sized : (bytes text : List ℕ) → IsHexText bytes text → length bytes ≤ 65535
 hex_sized bytes text (inl none) = omega (arith, ap (λ (xs : List ℕ). length xs) none.1)
@@ -25,15 +30,20 @@ event_sized (Datagram from bytes) line says = hex_sized bytes says.next says.nam
 event_sized (Packet bytes) line says = hex_sized bytes says.text says.names
 event_sized (Rotate secret) line says = tt
 
-item_sized : (item : RelayItem) (line : List ℕ) → IsItemLine item line → IsItem item
-item_sized (items.Event event) line says = event_sized event (fields line) says.1
+item_sized : (item : RelayItem) (line : List (List ℕ)) → SaysItem item line → IsItem item
+item_sized (items.Event event) line says = event_sized event line says
 item_sized items.Show line says = tt
 
-items_sized : (all : List RelayItem) (ls : List (List ℕ)) → AllZip IsItemLine all ls → AllByRecursion IsItem all
-items_sized [] [] each = tt
-items_sized [] (line ∷ ls) each = absurd each
-items_sized (item ∷ all) [] each = absurd each
-items_sized (item ∷ all) (line ∷ ls) each = (item_sized item line each.0, items_sized all ls each.1)
+statements_sized : (past said : List RelayStatement) (ls : List (List ℕ)) → Say relay_kind past said ls → AllByRecursion IsItem (items_in said)
+statements_sized past [] [] each = tt
+statements_sized past [] (line ∷ ls) each = absurd each
+statements_sized past (one ∷ said) [] each = absurd each
+statements_sized past (statements.Setting setting ∷ said) (line ∷ ls) each = statements_sized (past ++ statements.Setting setting ∷ []) said ls each.2
+statements_sized past (statements.Item item ∷ said) (line ∷ ls) each =
+    (item_sized item (fields line) each.1, statements_sized (past ++ statements.Item item ∷ []) said ls each.2)
 
 pub runs : (script : RelayScript) (bytes : List ℕ) → IsRelayScript script bytes → IsRunnable script
-runs script bytes spelled = record { lawful = spelled.lawful; sized = items_sized script.items spelled.all_lines.back spelled.all_lines.back_lines }
+runs script bytes spelled = record {
+  lawful = spelled.made.lawful;
+  sized = subst (AllByRecursion IsItem) (sym spelled.made.items) (statements_sized [] spelled.said (lines_that_say (lines bytes)) spelled.all_lines.says);
+}

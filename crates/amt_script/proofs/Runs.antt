@@ -12,8 +12,8 @@ use Rattle.response_mac.specs.declared.secret.Secret.{Secret}
 use Rattle.relay_machine.specs.Answers.{RelayAt}
 use Rattle.amt_script.specs.declared.script.RelayItem.{RelayItem}
 use Rattle.amt_script.specs.Texts.{event_in, events_in, item_text, items_text, step_text}
-use Rattle.amt_script.specs.Writing.{WritesUpTo, WritesFront}
-use Rattle.amt_script.proofs.Writes.{written_more, written_front, written_front_of_last}
+use Rattle.script_lines.specs.Writing.{WritesUpTo, WritesPrefix}
+use Rattle.script_lines.proofs.Writes.{written_more, written_prefix, written_prefix_of_last}
 
 pub same_step : (number : ℕ) (o p : Outcome) (s t : List OneSend) → o ≡ p → s ≡ t → step_text number o s ≡ step_text number p t
 same_step number o p s t same_outcome same_sends = rw (same_outcome, same_sends) refl
@@ -72,16 +72,16 @@ run_more relay relay' settings first items i item closing old new newer within i
 -- a prefix of an item's lines was written
 pub run_cut : (relay : Relay) (settings : Settings) (first : Secret) (items : List RelayItem) (i : ℕ) (item : RelayItem) (closing : List ℕ) (old new newer : Option (List ℕ))
     → i < length items → item ≡ get_or items i item → IsRunning relay settings first items i closing old new
-    → WritesFront new newer (item_text settings first (events_in (take i items)) (i + 1) item)
-    → WritesFront old newer (items_text settings first [] items ++ closing)
-run_cut relay settings first items i item closing old new newer within is before front =
-    written_front old new newer _ _ _ (subst (WritesUpTo old new (items_text settings first [] items ++ closing)) (taken_text settings first items i item closing within is) before.text) front
+    → WritesPrefix new newer (item_text settings first (events_in (take i items)) (i + 1) item)
+    → WritesPrefix old newer (items_text settings first [] items ++ closing)
+run_cut relay settings first items i item closing old new newer within is before prefix =
+    written_prefix old new newer _ _ _ (subst (WritesUpTo old new (items_text settings first [] items ++ closing)) (taken_text settings first items i item closing within is) before.text) prefix
 
 -- no item is left, and the closing line was written, or a prefix of it
 pub run_closed : (relay : Relay) (settings : Settings) (first : Secret) (items : List RelayItem) (i : ℕ) (closing : List ℕ) (old new newer : Option (List ℕ))
-    → length items ≤ i → IsRunning relay settings first items i closing old new → WritesFront new newer closing
-    → WritesFront old newer (items_text settings first [] items ++ closing)
-run_closed relay settings first items i closing old new newer past before front =
+    → length items ≤ i → IsRunning relay settings first items i closing old new → WritesPrefix new newer closing
+    → WritesPrefix old newer (items_text settings first [] items ++ closing)
+run_closed relay settings first items i closing old new newer past before prefix =
     let none : drop i items ≡ [] = drop_all i items past in
-    written_front_of_last old new newer (items_text settings first [] items ++ closing) closing
-    (subst (λ (left : List RelayItem). WritesUpTo old new (items_text settings first [] items ++ closing) (items_text settings first (take i items) left ++ closing)) none before.text) front
+    written_prefix_of_last old new newer (items_text settings first [] items ++ closing) closing
+    (subst (λ (left : List RelayItem). WritesUpTo old new (items_text settings first [] items ++ closing) (items_text settings first (take i items) left ++ closing)) none before.text) prefix

@@ -1,9 +1,5 @@
--- A line says one thing, and lines say one list of settings and events.
-use Rattle.std.proofs.Common.{◌≡◌, ℕ, ◌^◌, ◌<◌, List, [], ◌∷◌, ◌++◌, codes, Ok, inl, inr, refl, sym, subst, ap, ◌∙◌, arith}
-use Rattle.std.specs.List.{AllZip}
-use Rattle.std.proofs.lemmas.Fmt.{decimal_injective}
-use Rattle.hex.specs.Hex.{decode_of}
-use Rattle.hex.proofs.HexLemmas.{decode_of-odd, decode_of-same}
+-- A line says one thing.
+use Rattle.std.proofs.Common.{◌≡◌, ℕ, List, refl, sym, subst, ap, ◌∙◌, arith}
 use Rattle.amt_values.specs.declared.address.Ip.{Ip}
 use Rattle.amt_values.specs.declared.address.Ip.TheVariants.{V4, V6}
 use Rattle.amt_values.specs.declared.peer.Peer.{Peer}
@@ -12,59 +8,17 @@ use Rattle.amt_values.proofs.Unique.{IsIpText-unique, IsPeerText-unique}
 use Rattle.response_mac.specs.declared.secret.Secret.{Secret}
 use Rattle.relay_machine.specs.declared.event.Event.{Event}
 use Rattle.relay_machine.specs.declared.event.Event.TheVariants as events
+use Rattle.script_lines.specs.Form.{IsMomentText, IsNumberText, IsHexText, IsSecretText}
+use Rattle.script_lines.proofs.Forms.{IsHexText-unique, IsSecretText-unique, IsMomentText-unique, IsNumberText-unique, address4, address6, one_field}
 use Rattle.amt_script.specs.declared.kind.Kind.TheVariants as kinds
 use Rattle.amt_script.specs.declared.script.RelayItem.{RelayItem}
 use Rattle.amt_script.specs.declared.script.RelayItem.TheVariants as items
 use Rattle.amt_script.specs.declared.setting.Setting.{Setting}
 use Rattle.amt_script.specs.declared.setting.Setting.TheVariants as settings
-use Rattle.amt_script.specs.Form.{IsMomentText, IsNumberText, IsHexText, IsSecretText}
-use Rattle.amt_script.specs.Lines.{fields}
-use Rattle.amt_script.specs.Script.{HasField, SaysSetting, SaysEvent, SaysItem, IsSettingLine, IsItemLine, Begins}
+use Rattle.amt_script.specs.Says.{SaysSetting, SaysEvent, SaysItem}
 use Rattle.amt_script.specs.Setting.{key_of}
 use Rattle.amt_script.proofs.Rows.{same_kind}
-use Rattle.amt_script.proofs.Says.{kind_of_event, kind_of_item, setting_is_fit, item_is_fit, setting_or_item}
-
--- the dash is no hexadecimal text
-dash_is_no_hex : (bytes text : List ℕ) → text ≡ codes "-" → decode_of text ≡ Ok bytes → ⊥
-dash_is_no_hex bytes text dash read = cc (sym (decode_of-odd (codes "-") refl) ∙ (ap decode_of (sym dash) ∙ read))
-
-IsHexText-unique : (one other text : List ℕ) → IsHexText one text → IsHexText other text → one ≡ other
-IsHexText-unique one other text (inl h) (inl k) = h.1 ∙ sym k.1
-IsHexText-unique one other text (inl h) (inr k) = absurd (dash_is_no_hex other text h.0 k.1)
-IsHexText-unique one other text (inr h) (inl k) = absurd (dash_is_no_hex one text k.0 h.1)
-IsHexText-unique one other text (inr h) (inr k) = decode_of-same text one other h.1 k.1
-
-secret_of_octets : (one other : Secret) → one.0 ≡ other.0 → one ≡ other
-secret_of_octets one other same = λ i. record { 0 = same i }
-
-IsSecretText-unique : (one other : Secret) (text : List ℕ) → IsSecretText one text → IsSecretText other text → one ≡ other
-IsSecretText-unique one other text h k = secret_of_octets one other (decode_of-same text one.0 other.0 h.1 k.1)
-
-IsMomentText-unique : (one other : ℕ) (text : List ℕ) → IsMomentText one text → IsMomentText other text → one ≡ other
-IsMomentText-unique one other text h k = decimal_injective one other (omega (arith, h.0)) (omega (arith, k.0)) (sym h.1 ∙ k.1)
-
-IsNumberText-unique : (least most one other : ℕ) (text : List ℕ) → most < 2 ^ 32 → IsNumberText least most one text → IsNumberText least most other text → one ≡ other
-IsNumberText-unique least most one other text small h k =
-    decimal_injective one other (omega (arith, h.0.1)) (omega (arith, k.0.1)) (sym h.1 ∙ k.1)
-
-address4 : (one other : ℕ) → V4 one ≡ V4 other → one ≡ other
-address4 one other same = cc
-
-address6 : (one other : ℕ) → V6 one ≡ V6 other → one ≡ other
-address6 one other same = cc
-
-tail_of : (xs ys : List (List ℕ)) (x : List ℕ) → x ∷ xs ≡ x ∷ ys → xs ≡ ys
-tail_of xs ys x same = cc
-
--- where both lines are the same words and one field, the fields are the same
-last_field : (words : List (List ℕ)) (text other : List ℕ) → words ++ text ∷ [] ≡ words ++ other ∷ [] → text ≡ other
-last_field [] text other same = cc
-last_field (word ∷ words) text other same = last_field words text other (tail_of (words ++ text ∷ []) (words ++ other ∷ []) word same)
-
-one_field : {X : Type 0} (words : List (List ℕ)) (IsText : X → List ℕ → Type 0) → ((x y : X) (text : List ℕ) → IsText x text → IsText y text → x ≡ y)
-    → (x y : X) (line : List (List ℕ)) → HasField words (IsText x) line → HasField words (IsText y) line → x ≡ y
-one_field words IsText unique x y line h k =
-    unique x y k.text (subst (IsText x) (last_field words h.text k.text (sym h.parts ∙ k.parts)) h.names) k.names
+use Rattle.amt_script.proofs.Says.{kind_of_event, kind_of_item, setting_is_fit, item_is_fit}
 
 SaysSetting-same : (one other : Setting) (line : List (List ℕ)) → key_of one ≡ key_of other → SaysSetting one line → SaysSetting other line → one ≡ other
 SaysSetting-same (settings.Relay x) (settings.Relay y) line same h k = ap (λ (v : Ip). settings.Relay v) (one_field _ IsIpText IsIpText-unique x y line h k)
@@ -97,8 +51,8 @@ set_key one other line h k =
     let same = same_kind (kinds.Set (key_of one)) (kinds.Set (key_of other)) x.values y.values (sym x.parts ∙ y.parts) in
     cc same
 
-pub IsSettingLine-unique : (one other : Setting) (line : List ℕ) → IsSettingLine one line → IsSettingLine other line → one ≡ other
-IsSettingLine-unique one other line h k = SaysSetting-same one other (fields line) (set_key one other (fields line) h.1 k.1) h.1 k.1
+pub SaysSetting-unique : (one other : Setting) (line : List (List ℕ)) → SaysSetting one line → SaysSetting other line → one ≡ other
+SaysSetting-unique one other line h k = SaysSetting-same one other line (set_key one other line h k) h k
 
 same_datagram : (from from' : Peer) (bytes bytes' : List ℕ) → from ≡ from' → bytes ≡ bytes' → events.Datagram from bytes ≡ events.Datagram from' bytes'
 same_datagram from from' bytes bytes' same_from same_bytes = rw (same_from, same_bytes) refl
@@ -127,56 +81,8 @@ SaysItem-same items.Show (items.Event (events.Datagram from bytes)) line same h 
 SaysItem-same items.Show (items.Event (events.Packet bytes)) line same h k = cc same
 SaysItem-same items.Show (items.Event (events.Rotate secret)) line same h k = cc same
 
-pub IsItemLine-unique : (one other : RelayItem) (line : List ℕ) → IsItemLine one line → IsItemLine other line → one ≡ other
-IsItemLine-unique one other line h k =
-    let x = item_is_fit one (fields line) h.1 in
-    let y = item_is_fit other (fields line) k.1 in
-    SaysItem-same one other (fields line) (same_kind (kind_of_item one) (kind_of_item other) x.values y.values (sym x.parts ∙ y.parts)) h.1 k.1
-
-pub no_line_is_both : (setting : Setting) (item : RelayItem) (line : List ℕ) → IsSettingLine setting line → IsItemLine item line → ⊥
-no_line_is_both setting item line h k = setting_or_item setting item (fields line) h.1 k.1
-
-AllZip-unique : {X : Type 0} (R : X → List ℕ → Type 0) → ((x y : X) (line : List ℕ) → R x line → R y line → x ≡ y) → (one other : List X) (ls : List (List ℕ)) → AllZip R one ls → AllZip R other ls → one ≡ other
-AllZip-unique R unique [] [] [] h k = refl
-AllZip-unique R unique [] (y ∷ ys) [] h k = absurd k
-AllZip-unique R unique (x ∷ xs) other [] h k = absurd h
-AllZip-unique R unique [] other (l ∷ ls) h k = absurd h
-AllZip-unique R unique (x ∷ xs) [] (l ∷ ls) h k = absurd k
-AllZip-unique R unique (x ∷ xs) (y ∷ ys) (l ∷ ls) h k = rw (unique x y l h.0 k.0, AllZip-unique R unique xs ys ls h.1 k.1) refl
-
-pub record AreSame (given given' : List Setting) (es es' : List RelayItem) : Type 0 where
-  pub settings : given ≡ given'
-  pub items : es ≡ es'
-
-said_once : (given given' : List Setting) (es es' : List RelayItem) (front front' back back' : List (List ℕ)) → front ++ back ≡ front' ++ back'
-    → AllZip IsSettingLine given front → AllZip IsItemLine es back → AllZip IsSettingLine given' front' → AllZip IsItemLine es' back' → AreSame given given' es es'
-said_once [] [] es es' [] [] back back' same h k h' k' = record {
-  settings = refl;
-  items = AllZip-unique IsItemLine IsItemLine-unique es es' back' (subst (AllZip IsItemLine es) same k) k';
-}
-said_once (x ∷ xs) (y ∷ ys) es es' (l ∷ front) (m ∷ front') back back' same h k h' k' =
-    let line : l ≡ m = cc in
-    let rest : front ++ back ≡ front' ++ back' = cc in
-    let one = IsSettingLine-unique x y m (subst (IsSettingLine x) line h.0) h'.0 in
-    let others = said_once xs ys es es' front front' back back' rest h.1 k h'.1 k' in
-    record { settings = rw (one, others.settings) refl; items = others.items }
-said_once (x ∷ xs) [] es (e ∷ es') (l ∷ front) [] back (m ∷ back') same h k h' k' =
-    let line : l ≡ m = cc in absurd (no_line_is_both x e m (subst (IsSettingLine x) line h.0) k'.0)
-said_once [] (y ∷ ys) (e ∷ es) es' [] (m ∷ front') (l ∷ back) back' same h k h' k' =
-    let line : m ≡ l = cc in absurd (no_line_is_both y e l (subst (IsSettingLine y) line h'.0) k.0)
-said_once (x ∷ xs) [] es [] (l ∷ front) [] back [] same h k h' k' = cc same
-said_once (x ∷ xs) [] es [] (l ∷ front) [] back (m ∷ back') same h k h' k' = absurd k'
-said_once (x ∷ xs) [] es (e ∷ es') (l ∷ front) [] back [] same h k h' k' = absurd k'
-said_once [] (y ∷ ys) [] es' [] (m ∷ front') [] back' same h k h' k' = cc same
-said_once [] (y ∷ ys) [] es' [] (m ∷ front') (l ∷ back) back' same h k h' k' = absurd k
-said_once [] (y ∷ ys) (e ∷ es) es' [] (m ∷ front') [] back' same h k h' k' = absurd k
-said_once [] given' es es' (l ∷ front) front' back back' same h k h' k' = absurd h
-said_once (x ∷ xs) given' es es' [] front' back back' same h k h' k' = absurd h
-said_once [] [] es es' [] (m ∷ front') back back' same h k h' k' = absurd h'
-said_once given [] es es' (l ∷ front) (m ∷ front') back back' same h k h' k' = absurd h'
-said_once [] (y ∷ ys) es es' [] [] back back' same h k h' k' = absurd h'
-said_once given (y ∷ ys) es es' (l ∷ front) [] back back' same h k h' k' = absurd h'
-
-pub begun_once : (given given' : List Setting) (es es' : List RelayItem) (ls : List (List ℕ)) → Begins given es ls → Begins given' es' ls → AreSame given given' es es'
-begun_once given given' es es' ls h k =
-    said_once given given' es es' h.front k.front h.back k.back (sym h.parts ∙ k.parts) h.front_lines h.back_lines k.front_lines k.back_lines
+pub SaysItem-unique : (one other : RelayItem) (line : List (List ℕ)) → SaysItem one line → SaysItem other line → one ≡ other
+SaysItem-unique one other line h k =
+    let x = item_is_fit one line h in
+    let y = item_is_fit other line k in
+    SaysItem-same one other line (same_kind (kind_of_item one) (kind_of_item other) x.values y.values (sym x.parts ∙ y.parts)) h k

@@ -1,11 +1,10 @@
 pub mod Fault
-pub mod Form
-pub mod Lines
 pub mod Printed
 pub mod Reading
 pub mod Row
 pub mod Running
+pub mod Says
 pub mod Script
 pub mod Setting
+pub mod Settling
 pub mod Texts
-pub mod Writing

@@ -2,8 +2,8 @@
 use Rattle.std.specs.Prelude.{◌≡◌, List, [], ◌∷◌, ℕ}
 use Rattle.std.specs.Str.Lines.{lines}
 use Rattle.relay_machine.specs.declared.event.Event.{Event}
-use Rattle.amt_script.specs.Lines.{IsShort}
-use Rattle.amt_script.specs.Script.{IsItemLine}
+use Rattle.script_lines.specs.Lines.{IsShort}
+use Rattle.amt_script.specs.Says.{IsItemLine}
 use Rattle.amt_script.specs.declared.script.RelayItem.TheVariants as items
 
 -- the line says the event, and isn't too long

@@ -1,11 +1,11 @@
 -- The kinds of lines: the words with which a line of each kind begins, and the forms of its fields.
-use Rattle.std.specs.Prelude.{◌≢◌, ◌⊎◌, ℕ, List, [], ◌∷◌, ◌++◌, codes}
+use Rattle.std.specs.Prelude.{◌≢◌, ℕ, List, [], ◌∷◌, ◌++◌, codes, None}
 use Rattle.amt_script.specs.declared.kind.Key.{Key}
 use Rattle.amt_script.specs.declared.kind.Key.TheVariants as keys
 use Rattle.amt_script.specs.declared.kind.Kind.{Kind}
 use Rattle.amt_script.specs.declared.kind.Kind.TheVariants as kinds
-use Rattle.amt_script.specs.declared.reason.Reason.{Reason}
-use Rattle.amt_script.specs.Form.{Form, Fails, a_moment, a_number, some_octets, a_secret, an_address, an_address4, an_address6, a_peer}
+use Rattle.script_lines.specs.Form.{Form, a_moment, a_number, some_octets, a_secret, an_address, an_address4, an_address6, a_peer}
+use Rattle.script_lines.specs.Shape.{Shape}
 
 abbrev pub key_word : Key → List ℕ
 key_word keys.Relay = codes "relay"
@@ -49,13 +49,11 @@ forms_of kinds.Datagram = a_peer ∷ some_octets ∷ []
 forms_of kinds.Packet = some_octets ∷ []
 forms_of kinds.Show = []
 
+-- no line of a relay's script repeats its last field
+abbrev pub shape_of : Kind → Shape
+shape_of kind = record { forms = forms_of kind; repeated = None }
+
 -- the line is of no kind, and isn't a `set` alone either
 pub record IsUnknown (line : List (List ℕ)) : Type 0 where
   pub no_kind : (kind : Kind) (values : List (List ℕ)) → line ≢ words_of kind ++ values
   pub more : line ≢ codes "set" ∷ []
-
--- the text of some field isn't of its form, for this reason
-abbrev pub SomeFails : List Form → List (List ℕ) → Reason → Type 0
-SomeFails [] texts reason = ⊥
-SomeFails (form ∷ forms) [] reason = ⊥
-SomeFails (form ∷ forms) (text ∷ texts) reason = Fails form text reason ⊎ SomeFails forms texts reason

@@ -1,4 +1,4 @@
--- What is written of a relay's events, of its steps, of what stands, and of a reason.
+-- What is written of a relay's events, of its steps and of what stands.
 use Rattle.std.specs.Prelude.{ℕ, ◌+◌, true, false, List, [], ◌∷◌, ◌++◌, length, codes, decimal, flat_map, Option, Some, None}
 use Rattle.std.specs.List.{filter_map}
 use Rattle.std.specs.Int.{w16, to_be_bytes}
@@ -32,8 +32,7 @@ use Rattle.relay_machine.specs.declared.outcome.Unlawful.TheVariants.{Inner, Rep
 use Rattle.relay_machine.specs.declared.sends.OneSend.{OneSend}
 use Rattle.relay_machine.specs.declared.settings.Settings.{Settings}
 use Rattle.relay_machine.specs.Answers.{outcome_of, rows_after, sends_of}
-use Rattle.amt_script.specs.declared.reason.Reason.{Reason}
-use Rattle.amt_script.specs.declared.reason.Reason.TheVariants as reasons
+use Rattle.script_lines.specs.Texts.{hex_text, closing_text}
 use Rattle.amt_script.specs.declared.script.RelayItem.{RelayItem}
 use Rattle.amt_script.specs.declared.script.RelayItem.TheVariants as items
 use Rattle.amt_script.specs.declared.script.RelayScript.{RelayScript}
@@ -111,11 +110,6 @@ outcome_text (TooBig size) = codes "toobig " ++ decimal size
 outcome_text (outcomes.NotForwarded cause) = codes "notforwarded " ++ not_forwarded_text cause
 outcome_text (Copied count) = codes "copied " ++ decimal count
 
--- pairs of hexadecimal digits, or `-` for no octet
-abbrev pub hex_text : List ℕ → List ℕ
-hex_text [] = codes "-"
-hex_text (octet ∷ rest) = encode_lower (octet ∷ rest)
-
 -- `at MS`, `dg PEER HEX`, `mc HEX` or `secret HEX`
 abbrev pub event_line : Event → List ℕ
 event_line (events.Moment moment) = codes "at " ++ decimal moment
@@ -160,10 +154,6 @@ unfoldable pub rows_text : ℕ → List Row → List ℕ
 rows_text number rows =
     codes "= " ++ (decimal number ++ (codes " rows " ++ (decimal (length rows) ++ (10 ∷ flat_map row_text rows))))
 
--- `. N`, the number of items
-unfoldable pub closing_text : ℕ → List ℕ
-closing_text count = codes ". " ++ (decimal count ++ (10 ∷ []))
-
 -- the events among items
 abbrev pub event_in : RelayItem → Option Event
 event_in (items.Event event) = Some event
@@ -184,18 +174,5 @@ items_text settings secret before [] = []
 items_text settings secret before (item ∷ rest) =
     item_text settings secret (events_in before) (length before + 1) item ++ items_text settings secret (before ++ item ∷ []) rest
 
-abbrev pub text_of : RelayScript → List ℕ
-text_of script = items_text script.settings script.secret [] script.items ++ closing_text (length script.items)
-
-abbrev pub reason_word : Reason → List ℕ
-reason_word reasons.Long = codes "long"
-reason_word reasons.Word = codes "word"
-reason_word reasons.Late = codes "late"
-reason_word reasons.Twice = codes "twice"
-reason_word reasons.Count = codes "count"
-reason_word reasons.Number = codes "number"
-reason_word reasons.Hex = codes "hex"
-reason_word reasons.Address = codes "address"
-reason_word reasons.Peer = codes "peer"
-reason_word reasons.Range = codes "range"
-reason_word reasons.Missing = codes "missing"
+abbrev pub relay_script_text : RelayScript → List ℕ
+relay_script_text script = items_text script.settings script.secret [] script.items ++ closing_text (length script.items)

@@ -1,3 +1,5 @@
+//! The texts of what is wrong with a datagram, a report, a packet or a limit. It knows no script.
+
 ghost use Rattle.std.specs.Prelude.{◌≡◌, IfOk, string_bytes};
 ghost use Rattle.endpoint_membership.specs.declared.limits.LimitFault.TheVariants.{Sources};
 ghost use Rattle.relay_machine.specs.declared.outcome.Outcome.TheVariants.{NotForwarded as NotForwardedFor};

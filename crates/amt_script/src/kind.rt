@@ -1,9 +1,11 @@
+//! The kinds of lines of a relay's script, by their first words. It reads no value.
+
 ghost use Rattle.std.specs.Prelude.{◌≡◌, ◌≢◌, ◌∷◌, ◌++◌, [], List, ℕ, codes, IfSome, IfNone, IfOk, IsErrOf};
 ghost use Rattle.amt_script.specs.declared.kind.Key.{Key as KeyValue};
-ghost use Rattle.amt_script.specs.Lines.{fields};
+ghost use Rattle.script_lines.specs.Lines.{fields};
 ghost use Rattle.amt_script.specs.Row.{key_word, words_of, IsUnknown};
 
-use crate::fields::next_field;
+use script_lines::next_field;
 
 /// What a `set` line sets.
 #[derive(Clone, Copy, Debug, PartialEq, Eq)]
@@ -124,15 +126,12 @@ fn kind_after_set(rest: &[u8]) -> Result<(Kind, &[u8]), NoKind>
     }
 }
 
-/// The kind of a line by its first words, and the octets after them.
-pub fn kind_of_line(line: &[u8]) -> Result<(Kind, &[u8]), NoKind>
-    ensures found { IfOk result (λ parts. fields line.now ≡ words_of parts.0 ++ fields parts.1.now) }
-    ensures alone { IsErrOf result NoKind.SetAlone → fields line.now ≡ codes "set" ∷ [] }
-    ensures unknown { IsErrOf result NoKind.Unknown → IsUnknown (fields line.now) }
+/// The kind of a line by its first field and what follows it, and the octets after its first words.
+pub fn kind_of_line<'a>(word: &[u8], rest: &'a [u8]) -> Result<(Kind, &'a [u8]), NoKind>
+    ensures found { IfOk result (λ parts. word.now ∷ fields rest.now ≡ words_of parts.0 ++ fields parts.1.now) }
+    ensures alone { IsErrOf result NoKind.SetAlone → word.now ∷ fields rest.now ≡ codes "set" ∷ [] }
+    ensures unknown { IsErrOf result NoKind.Unknown → IsUnknown (word.now ∷ fields rest.now) }
 {
-    let Some((word, rest)) = next_field(line) else {
-        return Err(NoKind::Unknown);
-    };
     if word == b"set".as_slice() {
         return kind_after_set(rest);
     }

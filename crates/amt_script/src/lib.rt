@@ -7,12 +7,9 @@
 #![tactic(auto)]
 
 mod fault_text;
-mod fields;
 mod kind;
 mod line;
-mod lines;
 mod reading;
-mod reason;
 mod replay;
 mod row_text;
 mod script;
@@ -20,10 +17,9 @@ mod setting;
 mod settling;
 mod statement;
 mod text;
-mod values;
 
 pub use reading::read_relay_script;
-pub use reason::Reason;
 pub use replay::{RunFault, run_relay_script};
-pub use script::{RelayItem, RelayItems, RelayScript, ScriptError};
+pub use script::{RelayItem, RelayItems, RelayScript};
+pub use script_lines::{Reason, ScriptError};
 pub use text::{print_relay_event, print_relay_step};

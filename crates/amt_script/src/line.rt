@@ -1,31 +1,30 @@
-ghost use Rattle.std.specs.Prelude.{◌≡◌, ◌↔◌, ◌∷◌, ◌++◌, IsTrue, Ok, Err, IfOk, IfErr, MatchResult};
+//! What a line of a relay's script says after the lines before it. It knows no text.
+
+ghost use Rattle.std.specs.Prelude.{◌≡◌, ◌∷◌, ◌++◌, Ok, Err, IfOk, IfErr, MatchResult};
+ghost use Rattle.contract_words.specs.Conditions.{First};
+ghost use Rattle.script_lines.specs.Lines.{fields};
+ghost use Rattle.script_lines.specs.Reading.{FailsFirst};
 ghost use Rattle.amt_script.specs.declared.kind.Kind.TheVariants as kinds;
-ghost use Rattle.amt_script.specs.Fault.{First, Holds, order_of_values, order_of_reasons};
-ghost use Rattle.amt_script.specs.Lines.{fields, IsShort, IsPlain};
-ghost use Rattle.amt_script.specs.Reading.{FailsFirst, FailsToSet, IsGoodLine, MaySet};
+ghost use Rattle.amt_script.specs.Fault.{FailsAfter, order_of_values, order_of_reasons};
+ghost use Rattle.amt_script.specs.Reading.{FailsToSet};
 ghost use Rattle.amt_script.specs.Row.{words_of};
-ghost use Rattle.amt_script.specs.Script.{SaysSetting};
+ghost use Rattle.amt_script.specs.Says.{SaysSetting};
+ghost use Rattle.amt_script.specs.Script.{MaySet, SaysAfter};
 
 use crate::kind::{Key, Kind, NoKind, kind_of_line};
-use crate::reason::Reason;
 use crate::script::RelayItem;
 use crate::setting::{Setting, is_given};
 use crate::statement::{
-    LineError, read_datagram, read_moment_item, read_packet, read_rotation, read_setting, read_show,
+    read_datagram, read_moment_item, read_packet, read_rotation, read_setting, read_show,
 };
+use script_lines::{LineError, Reason};
 use std::alloc::Global;
 
 /// What a line says.
 #[derive(Debug, Drop)]
-pub enum Statement {
+pub enum RelayStatement {
     Setting(Setting),
     Item(RelayItem),
-}
-
-fn is_plain(line: &[u8]) -> bool
-    ensures { IsTrue result ↔ IsPlain line.now }
-{
-    line.iter().all(|octet| 32 <= *octet && *octet <= 126)
 }
 
 fn read_set(
@@ -52,31 +51,28 @@ fn read_set(
 }
 
 // What a line says whose reading takes no memory.
-fn item_of(read: Result<RelayItem, Reason>) -> Result<Statement, LineError>
-    ensures { MatchResult read (λ item. result ≡ Ok (Statement.Item item))
+fn item_of(read: Result<RelayItem, Reason>) -> Result<RelayStatement, LineError>
+    ensures { MatchResult read (λ item. result ≡ Ok (RelayStatement.Item item))
         (λ reason. result ≡ Err (LineError.Bad reason)) }
 {
     match read {
-        Ok(item) => Ok(Statement::Item(item)),
+        Ok(item) => Ok(RelayStatement::Item(item)),
         Err(reason) => Err(LineError::Bad(reason)),
     }
 }
 
-/// Reads a line that says something, after lines that said these settings and items.
+/// What a line of this first field says, after lines that said these settings and items.
 pub fn read_statement(
     alloc: Global,
     given: &[Setting],
     items: &[RelayItem],
-    line: &[u8],
-) -> Result<Statement, LineError>
-    requires { IsShort line.now }
-    ensures found { IfOk result (λ statement. IsGoodLine given.now items.now statement line.now) }
-    ensures reason { IfErr result (FailsFirst (Holds given.now items.now line.now) order_of_reasons) }
+    word: &[u8],
+    rest: &[u8],
+) -> Result<RelayStatement, LineError>
+    ensures found { IfOk result (λ statement. SaysAfter given.now items.now statement (word.now ∷ fields rest.now)) }
+    ensures reason { IfErr result (FailsFirst (FailsAfter given.now items.now (word.now ∷ fields rest.now)) order_of_reasons) }
 {
-    if !is_plain(line) {
-        return Err(LineError::Bad(Reason::Word));
-    }
-    match kind_of_line(line) {
+    match kind_of_line(word, rest) {
         Err(NoKind::Unknown) => Err(LineError::Bad(Reason::Word)),
         Err(NoKind::SetAlone) => {
             if items.is_empty() {
@@ -86,13 +82,13 @@ pub fn read_statement(
             }
         }
         Ok((Kind::Set(key), values)) => match read_set(given, items, key, values) {
-            Ok(setting) => Ok(Statement::Setting(setting)),
+            Ok(setting) => Ok(RelayStatement::Setting(setting)),
             Err(reason) => Err(LineError::Bad(reason)),
         },
         Ok((Kind::Moment, values)) => item_of(read_moment_item(values)),
         Ok((Kind::Secret, values)) => item_of(read_rotation(values)),
-        Ok((Kind::Datagram, values)) => Ok(Statement::Item(read_datagram(alloc, values)?)),
-        Ok((Kind::Packet, values)) => Ok(Statement::Item(read_packet(alloc, values)?)),
+        Ok((Kind::Datagram, values)) => Ok(RelayStatement::Item(read_datagram(alloc, values)?)),
+        Ok((Kind::Packet, values)) => Ok(RelayStatement::Item(read_packet(alloc, values)?)),
         Ok((Kind::Show, values)) => item_of(read_show(values)),
     }
 }

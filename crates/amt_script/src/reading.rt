@@ -1,131 +1,76 @@
-ghost use Rattle.std.specs.Prelude.{◌≡◌, ◌≤◌, length, IfOk, IfErr, OnOk};
-ghost use Rattle.std.specs.Str.Lines.{lines};
-ghost use Rattle.amt_script.specs.Fault.{IsErrorOf, RulesOutScripts, HasOneScript, HasOneFault};
-ghost use Rattle.amt_script.specs.Lines.{fields, says_nothing};
-ghost use Rattle.amt_script.specs.Reading.{TakesLine, FailsOnLine, FailsInLines};
-ghost use Rattle.amt_script.specs.Running.{IsRunnable};
-ghost use Rattle.amt_script.specs.Script.{Begins, IsRelayScript};
+//! Relay scripts as a kind of script. It knows no line of theirs.
 
-use crate::fields::next_field;
-use crate::line::{Statement, read_statement};
-use crate::lines::next_line;
-use crate::reason::Reason;
-use crate::script::{RelayItems, RelayScript, ScriptError};
+ghost use Rattle.std.specs.Prelude.{◌≤◌, length, IfOk, IfErr};
+ghost use Rattle.script_lines.specs.Script.{IsErrorOf, RulesOutScripts, HasOneScript, HasOneFault};
+ghost use Rattle.amt_script.specs.Running.{IsRunnable};
+ghost use Rattle.amt_script.specs.Script.{IsRelayScript, relay_kind};
+
+use crate::line::{RelayStatement, read_statement};
+use crate::script::{RelayItems, RelayScript};
 use crate::setting::Setting;
 use crate::settling::settle;
-use crate::statement::LineError;
+use script_lines::{LineError, Reason, ScriptError, ScriptKind, read_script};
 use std::alloc::Global;
 
-// The most octets of a line, without its line feed and the carriage return before it.
-const MOST_OCTETS_OF_A_LINE: usize = 140_000;
-
-/// What the lines so far have said.
+/// What the lines of a relay's script have said so far.
 #[derive(Debug, Drop)]
-struct Said {
+struct RelayLines {
     given: Vec<Setting>,
     items: RelayItems,
 }
 
-fn is_skipped(line: &[u8]) -> bool
-    ensures { result ≡ says_nothing (fields line.now) }
-{
-    match next_field(line) {
-        None => true,
-        Some((first, _)) => match first.first() {
-            Some(octet) => *octet == b'#',
-            None => false,
-        },
-    }
-}
+impl ScriptKind for RelayLines {
+    ghost use Rattle.amt_script.specs.Reading.{AreThose};
+    ghost use Rattle.amt_script.specs.declared.line.RelayStatement.{RelayStatement as StatementValue};
 
-fn take_line(alloc: Global, said: &mut Said, line: &[u8]) -> Result<(), LineError>
-    ensures taken { OnOk result (TakesLine said.old.given.items said.old.items said.new.given.items said.new.items line.now) }
-    ensures bad { IfErr result (FailsOnLine said.old.given.items said.old.items line.now) }
-{
-    if line.len() > MOST_OCTETS_OF_A_LINE {
-        return Err(LineError::Bad(Reason::Long));
-    }
-    if is_skipped(line) {
-        return Ok(());
-    }
-    match read_statement(alloc, said.given.as_slice(), said.items.as_slice(), line) {
-        Ok(Statement::Setting(setting)) => match said.given.push(setting) {
-            Ok(()) => Ok(()),
-            Err(_) => Err(LineError::Memory),
-        },
-        Ok(Statement::Item(item)) => match said.items.push(item) {
-            Ok(()) => Ok(()),
-            Err(_) => Err(LineError::Memory),
-        },
-        Err(error) => Err(error),
-    }
-}
+    type Script = RelayScript;
 
-/// What all lines say, and their number.
-#[derive(Debug, Drop)]
-struct Whole {
-    said: Said,
-    lines: u32,
-}
+    ghost Statement = { StatementValue };
 
-fn read_lines(alloc: Global, text: &[u8]) -> Result<Whole, ScriptError>
-    requires { length text.now ≤ 16777216 }
-    ensures begun { IfOk result (λ whole. Begins whole.said.given.items whole.said.items (lines text.now)) }
-    ensures counted { IfOk result (λ whole. whole.lines ≡ length (lines text.now)) }
-    ensures few { IfOk result (λ whole. whole.lines ≤ 16777216) }
-    ensures bad { IfErr result (FailsInLines (lines text.now)) }
-{
-    let mut said = Said {
-        given: Vec::new(alloc),
-        items: RelayItems::new(alloc),
-    };
-    let mut count = 0;
-    let mut left = text;
-    while !left.is_empty() {
-        let (line, rest) = next_line(left);
-        match take_line(alloc, &mut said, line) {
-            Ok(()) => {}
-            Err(LineError::Bad(reason)) => {
-                return Err(ScriptError::Fault {
-                    line: count + 1,
-                    reason,
-                });
-            }
-            Err(LineError::Memory) => return Err(ScriptError::Memory),
+    ghost kind = { relay_kind };
+
+    ghost HasHeard = { λ lines said. AreThose lines.given.items lines.items said };
+
+    fn start(alloc: Global) -> Self {
+        RelayLines {
+            given: Vec::new(alloc),
+            items: RelayItems::new(alloc),
         }
-        count += 1;
-        left = rest;
     }
-    Ok(Whole { said, lines: count })
-}
 
-fn read_whole(alloc: Global, bytes: &[u8]) -> Result<RelayScript, ScriptError>
-    requires { length bytes.now ≤ 16777216 }
-    ensures found { IfOk result (λ script. IsRelayScript script bytes.now) }
-    ensures fault { IfErr result (IsErrorOf bytes.now) }
-{
-    let whole = match read_lines(alloc, bytes) {
-        Ok(whole) => whole,
-        Err(error) => return Err(error),
-    };
-    let last = whole.lines + 1;
-    let Some(settled) = settle(whole.said.given.as_slice()) else {
-        return Err(ScriptError::Fault {
-            line: last,
-            reason: Reason::Missing,
-        });
-    };
-    if !settled.settings.lawful() {
-        return Err(ScriptError::Fault {
-            line: last,
-            reason: Reason::Range,
-        });
+    fn take(&mut self, alloc: Global, first: &[u8], rest: &[u8]) -> Result<(), LineError> {
+        match read_statement(
+            alloc,
+            self.given.as_slice(),
+            self.items.as_slice(),
+            first,
+            rest,
+        ) {
+            Ok(RelayStatement::Setting(setting)) => match self.given.push(setting) {
+                Ok(()) => Ok(()),
+                Err(_) => Err(LineError::Memory),
+            },
+            Ok(RelayStatement::Item(item)) => match self.items.push(item) {
+                Ok(()) => Ok(()),
+                Err(_) => Err(LineError::Memory),
+            },
+            Err(error) => Err(error),
+        }
     }
-    Ok(RelayScript {
-        settings: settled.settings,
-        secret: settled.secret,
-        items: whole.said.items,
-    })
+
+    fn finish(self) -> Result<RelayScript, Reason> {
+        let Some(settled) = settle(self.given.as_slice()) else {
+            return Err(Reason::Missing);
+        };
+        if !settled.settings.lawful() {
+            return Err(Reason::Range);
+        }
+        Ok(RelayScript {
+            settings: settled.settings,
+            secret: settled.secret,
+            items: self.items,
+        })
+    }
 }
 
 /// Reads a relay's script, of at most 16,777,216 octets.
@@ -133,12 +78,12 @@ pub fn read_relay_script(alloc: Global, bytes: &[u8]) -> Result<RelayScript, Scr
     requires { length bytes.now ≤ 16777216 }
     ensures found { IfOk result (λ script. IsRelayScript script bytes.now) }
     ensures runs { IfOk result IsRunnable }
-    ensures fault { IfErr result (IsErrorOf bytes.now) }
-    ensures none { IfErr result (RulesOutScripts bytes.now) }
+    ensures fault { IfErr result (IsErrorOf relay_kind bytes.now) }
+    ensures none { IfErr result (RulesOutScripts relay_kind bytes.now) }
 
     // The octets alone decide which script is read, or which line and reason are reported.
-    ensures one_script { HasOneScript }
-    ensures one_fault { HasOneFault }
+    ensures one_script { HasOneScript relay_kind }
+    ensures one_fault { HasOneFault relay_kind }
 {
-    read_whole(alloc, bytes)
+    read_script::<RelayLines>(alloc, bytes)
 }

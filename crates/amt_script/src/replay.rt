@@ -1,3 +1,5 @@
+//! A relay's run over a script, and what is written of it. It knows sinks by their trait alone.
+
 ghost use Rattle.std.specs.Prelude.{◌≡◌, ◌+◌, ◌≤◌, ◌<◌, ◌^◌, List, [], ◌∷◌, ◌++◌, OnOk, OnErr, IfErr, IsErrOf};
 ghost use Rattle.std.specs.Io.KnownBytes.{Appends};
 ghost use Rattle.amt_ports.specs.Causes.{Rose};
@@ -6,16 +8,17 @@ ghost use Rattle.relay_machine.specs.declared.event.Event.{Event as EventValue};
 ghost use Rattle.relay_machine.specs.declared.settings.Settings.{Settings as SettingsValue};
 ghost use Rattle.relay_machine.specs.Answers.{RelayAt, outcome_of, rows_after, sends_of};
 ghost use Rattle.relay_machine.specs.Conditions.{IsEvent};
+ghost use Rattle.script_lines.specs.Writing.{WritesPrefix};
 ghost use Rattle.amt_script.specs.Running.{IsItem, IsRunnable};
-ghost use Rattle.amt_script.specs.Texts.{events_in, item_text, rows_text, step_text, text_of};
-ghost use Rattle.amt_script.specs.Writing.{WritesFront};
+ghost use Rattle.amt_script.specs.Texts.{events_in, item_text, rows_text, step_text, relay_script_text};
 
 use crate::row_text::print_rows;
 use crate::script::{RelayItem, RelayScript};
-use crate::text::{print_closing, print_relay_step};
+use crate::text::print_relay_step;
 use amt_ports::{Sink, write_all_own};
 use amt_values::Bytes;
 use relay_machine::{Event, Relay};
+use script_lines::print_closing;
 use std::alloc::Global;
 use thiserror::Error;
 
@@ -32,7 +35,7 @@ pub enum RunFault {
 
 fn write_text<O: Sink>(out: &mut O, text: &Bytes) -> Result<(), RunFault>
     ensures done { OnOk result (Appends (O.written out.old) (O.written out.new) text.now) }
-    ensures begun { OnErr result (WritesFront (O.written out.old) (O.written out.new) text.now) }
+    ensures begun { OnErr result (WritesPrefix (O.written out.old) (O.written out.new) text.now) }
 
     ensures later { O.faults out.old ≤ O.faults out.new }
     ensures write { OnErr result (Rose (O.faults out.old) (O.faults out.new)) }
@@ -60,7 +63,7 @@ fn write_step<O: Sink>(
         (sends_of settings first events event.now))) }
     ensures begun { (settings : SettingsValue) (first : SecretValue)
         (events : List EventValue) → RelayAt relay.old settings first events
-        → OnErr result (WritesFront (O.written out.old) (O.written out.new)
+        → OnErr result (WritesPrefix (O.written out.old) (O.written out.new)
         (step_text number (outcome_of settings first events event.now)
         (sends_of settings first events event.now))) }
     ensures next { (settings : SettingsValue) (first : SecretValue)
@@ -92,7 +95,7 @@ fn write_rows<O: Sink>(
         (rows_text number (rows_after settings first events))) }
     ensures begun { (settings : SettingsValue) (first : SecretValue)
         (events : List EventValue) → RelayAt relay.now settings first events
-        → OnErr result (WritesFront (O.written out.old) (O.written out.new)
+        → OnErr result (WritesPrefix (O.written out.old) (O.written out.new)
         (rows_text number (rows_after settings first events))) }
 
     ensures later { O.faults out.old ≤ O.faults out.new }
@@ -122,7 +125,7 @@ fn write_item<O: Sink>(
         (item_text settings first events number item.now)) }
     ensures begun { (settings : SettingsValue) (first : SecretValue)
         (events : List EventValue) → RelayAt relay.old settings first events
-        → OnErr result (WritesFront (O.written out.old) (O.written out.new)
+        → OnErr result (WritesPrefix (O.written out.old) (O.written out.new)
         (item_text settings first events number item.now)) }
     ensures next { (settings : SettingsValue) (first : SecretValue)
         (events : List EventValue) → RelayAt relay.old settings first events
@@ -148,9 +151,9 @@ fn run_items<O: Sink>(
     requires runnable { IsRunnable script.now }
     requires start { RelayAt relay script.now.settings script.now.secret [] }
     ensures done { OnOk result (Appends (O.written out.old) (O.written out.new)
-        (text_of script.now)) }
-    ensures begun { OnErr result (WritesFront (O.written out.old) (O.written out.new)
-        (text_of script.now)) }
+        (relay_script_text script.now)) }
+    ensures begun { OnErr result (WritesPrefix (O.written out.old) (O.written out.new)
+        (relay_script_text script.now)) }
 
     ensures later { O.faults out.old ≤ O.faults out.new }
     ensures write { IsErrOf result RunFault.Write → Rose (O.faults out.old) (O.faults out.new) }
@@ -177,9 +180,9 @@ pub fn run_relay_script<O: Sink>(
 ) -> Result<(), RunFault>
     requires { IsRunnable script.now }
     ensures done { OnOk result (Appends (O.written out.old) (O.written out.new)
-        (text_of script.now)) }
-    ensures begun { OnErr result (WritesFront (O.written out.old) (O.written out.new)
-        (text_of script.now)) }
+        (relay_script_text script.now)) }
+    ensures begun { OnErr result (WritesPrefix (O.written out.old) (O.written out.new)
+        (relay_script_text script.now)) }
 
     ensures later { O.faults out.old ≤ O.faults out.new }
     ensures write { IsErrOf result RunFault.Write → Rose (O.faults out.old) (O.faults out.new) }

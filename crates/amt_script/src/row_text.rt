@@ -1,3 +1,5 @@
+//! The text of the memberships that are shown. It knows no relay.
+
 ghost use Rattle.std.specs.Prelude.{◌≡◌, ◌++◌, codes, IfOk, OnOk};
 ghost use Rattle.amt_script.specs.Texts.{mode_text, row_text, rows_text, sources_text};
 

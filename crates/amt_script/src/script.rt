@@ -1,11 +1,11 @@
+//! A relay's script as it was read. It knows no octets.
+
 ghost use Rattle.std.specs.Prelude.{◌≡◌, [], ◌∷◌, ◌++◌, length, OnErr, IfOk};
 
-use crate::reason::Reason;
 use relay_machine::{Event, Settings};
 use response_mac::Secret;
 use std::alloc::{AllocError, Global};
 use std::marker::Model;
-use thiserror::Error;
 
 /// What a script does with its relay.
 #[derive(Debug, Drop)]
@@ -67,15 +67,4 @@ pub struct RelayScript {
     pub settings: Settings,
     pub secret: Secret,
     pub items: RelayItems,
-}
-
-/// Why octets were not read as a script.
-#[derive(Clone, Copy, Debug, PartialEq, Eq, Error)]
-pub enum ScriptError {
-    /// The first bad line, counted from 1, and the first reason in it.
-    #[error("line {line}: {}", .reason.word())]
-    Fault { line: u32, reason: Reason },
-    /// Out of memory for the settings, the items or their octets.
-    #[error("out of memory")]
-    Memory,
 }

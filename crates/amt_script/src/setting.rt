@@ -1,3 +1,5 @@
+//! A setting, and the one of a key among those given. It knows no text and no default.
+
 ghost use Rattle.std.specs.Prelude.{◌≡◌, ◌↔◌, IsTrue, IsSome};
 ghost use Rattle.amt_script.specs.Setting.{key_of, is_same_key, set_at};
 

@@ -1,5 +1,7 @@
+//! The settings of a relay from those given, with the defaults. It knows no line.
+
 ghost use Rattle.std.specs.Prelude.{◌≡◌, IfSome, IfNone, None};
-ghost use Rattle.amt_script.specs.Script.{Settles, relay_in, query4_in, query6_in, robustness_in, query_seconds_in, response_tenths_in, endpoints_in, groups_in, sources_in, packet_limit_in, secret_in};
+ghost use Rattle.amt_script.specs.Settling.{Settles, relay_in, query4_in, query6_in, robustness_in, query_seconds_in, response_tenths_in, endpoints_in, groups_in, sources_in, packet_limit_in, secret_in};
 ghost use Rattle.amt_script.specs.Setting.{set_at};
 
 use crate::kind::Key;

@@ -1,30 +1,25 @@
+//! The settings and items of lines, by their kind and the fields after its words. It knows no line before.
+
 ghost use Rattle.std.specs.Prelude.{◌≡◌, ◌⊎◌, [], ◌∷◌, ◌++◌, IfOk, IfErr, IfNone};
 ghost use Rattle.amt_script.specs.declared.kind.Kind.TheVariants as kinds;
-ghost use Rattle.amt_script.specs.Fault.{First, FailsAs, order_of_values};
-ghost use Rattle.amt_script.specs.Lines.{fields};
+ghost use Rattle.contract_words.specs.Conditions.{First};
+ghost use Rattle.script_lines.specs.Lines.{fields};
+ghost use Rattle.script_lines.specs.Reading.{FailsFirst};
+ghost use Rattle.amt_script.specs.Fault.{FailsAs, order_of_values};
 ghost use Rattle.amt_script.specs.Row.{words_of, form_of_key};
-ghost use Rattle.amt_script.specs.Script.{SaysItem, SaysSetting};
+ghost use Rattle.amt_script.specs.Says.{SaysItem, SaysSetting};
 ghost use Rattle.amt_script.specs.Setting.{key_of};
-ghost use Rattle.amt_script.specs.Reading.{FailsFirst};
 
-use crate::fields::{next_field, only_field, two_fields};
 use crate::kind::Key;
-use crate::reason::Reason;
 use crate::script::RelayItem;
 use crate::setting::Setting;
-use crate::values::{
-    OctetsError, read_address4, read_address6, read_moment, read_number, read_octets, read_secret,
-};
 use amt_values::{parse_ip, parse_peer};
 use relay_machine::Event;
+use script_lines::{
+    LineError, OctetsError, Reason, next_field, only_field, read_address4, read_address6,
+    read_moment, read_number, read_octets, read_secret, two_fields,
+};
 use std::alloc::Global;
-
-/// Why a line was not read.
-#[derive(Clone, Copy, Debug, PartialEq, Eq)]
-pub enum LineError {
-    Bad(Reason),
-    Memory,
-}
 
 fn endpoints_of_text(text: &[u8]) -> Result<Setting, Reason>
     ensures key { IfOk result (λ setting. key_of setting ≡ Key.Endpoints) }

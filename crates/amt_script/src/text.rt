@@ -1,16 +1,18 @@
+//! The texts of a relay's events and steps. It knows no script and no sink.
+
 ghost use Rattle.std.specs.Prelude.{◌≡◌, ◌++◌, ◌≤◌, codes, decimal, length, OnOk, IfOk, string_bytes};
-ghost use Rattle.amt_values.specs.Octets.{AreOctets};
 ghost use Rattle.relay_machine.specs.Conditions.{IsEvent};
 ghost use Rattle.relay_machine.specs.declared.event.Event.TheVariants as events;
 ghost use Rattle.relay_machine.specs.declared.outcome.Outcome.TheVariants.{Over, Queried};
 ghost use Rattle.amt_script.specs.Printed.{IsLineOf, IsLineThatSays};
-ghost use Rattle.amt_script.specs.Texts.{refusal_text, outcome_text, hex_text, event_line, event_text, send_text, step_text, closing_text};
+ghost use Rattle.amt_script.specs.Texts.{refusal_text, outcome_text, event_line, event_text, send_text, step_text};
 
 use crate::fault_text::{print_limit, print_not_forwarded, print_unlawful};
 use amt_messages::Refused;
 use amt_values::{Bytes, Peer, print_peer};
 use endpoint_membership::LimitFault;
 use relay_machine::{Event, OneSend, Outcome, Step};
+use script_lines::print_hex;
 use std::alloc::{AllocError, Global};
 
 fn print_refusal(alloc: Global, refusal: &Refused) -> Result<String, AllocError>
@@ -83,16 +85,6 @@ fn print_outcome(alloc: Global, outcome: &Outcome) -> Result<Bytes, AllocError>
         Outcome::NotForwarded(cause) => print_not_forwarded(alloc, &cause),
         Outcome::Copied(count) => print_numbered(alloc, "copied", u64::from(count)),
     }
-}
-
-fn print_hex(alloc: Global, octets: &[u8]) -> Result<String, AllocError>
-    ensures text { IfOk result (λ text. string_bytes text ≡ hex_text octets.now) }
-    ensures octets { AreOctets octets.now }
-{
-    if octets.is_empty() {
-        return String::from_str(alloc, "-");
-    }
-    hex::encode(alloc, octets)
 }
 
 fn print_datagram_line(alloc: Global, from: &Peer, bytes: &Bytes) -> Result<Bytes, AllocError>
@@ -180,13 +172,4 @@ pub fn print_relay_step(alloc: Global, number: u64, step: &Step) -> Result<Bytes
         append_send(alloc, &mut text, send)?;
     }
     Ok(text)
-}
-
-/// The last line: the number of items.
-#[tactic(auto, unfolding(crate::specs::Texts::closing_text))]
-pub fn print_closing(alloc: Global, count: u64) -> Result<Bytes, AllocError>
-    ensures { IfOk result (λ text. text ≡ closing_text count) }
-{
-    let line = format!(in alloc; ". {count}\n")?;
-    Bytes::copied(alloc, line.as_bytes())
 }

@@ -1,5 +1,5 @@
 use Rattle.amt_script.specs.Fault.{IsErrorOf, RulesOutScripts}
-use Rattle.amt_script.specs.declared.script.ScriptError.TheVariants as errors
+use Rattle.script_lines.specs.declared.fault.ScriptError.TheVariants as errors
 use Rattle.amt_command.proofs.Undisturbed.{tells_fault}
 use Rattle.amt_command.proofs.reading.read_script.Goals as goal
 

@@ -1,9 +1,10 @@
 use Rattle.std.proofs.Common.{length, take, refl, ◌∙◌}
 use Rattle.std.proofs.lemmas.Result.{on_err_weaker}
-use Rattle.amt_script.specs.Texts.{closing_text, events_in}
-use Rattle.amt_script.specs.Writing.{WritesFront}
+use Rattle.script_lines.specs.Texts.{closing_text}
+use Rattle.amt_script.specs.Texts.{events_in}
+use Rattle.script_lines.specs.Writing.{WritesPrefix}
 use Rattle.amt_script.proofs.Runs.{run_more, run_cut, run_closed}
-use Rattle.amt_script.proofs.Writes.{written_start}
+use Rattle.script_lines.proofs.Writes.{written_start}
 use Rattle.amt_script.proofs.replay.run_items.Goals as goal
 
 pub returns-in-Err-clause-begun : goal.returns-in-Err-clause-begun
@@ -41,6 +42,6 @@ returns-clause-begun g c =
     let begun = rw c.in-Ok-print_closing.ensures at c.write_text.ensures.begun in
     rw (← c.as_slice-items.ensures)
     (on_err_weaker c.write_text.result
-    (λ (front : WritesFront (g.O.Sink.written c.loop-index.out) (g.O.Sink.written c.write_text.new.out) (closing_text (length items))).
-    run_closed c.loop-index.relay settings first items c.loop-index.index (closing_text (length items)) _ _ _ c.loop-index-test.false c.loop-index.invariant.run front)
+    (λ (prefix : WritesPrefix (g.O.Sink.written c.loop-index.out) (g.O.Sink.written c.write_text.new.out) (closing_text (length items))).
+    run_closed c.loop-index.relay settings first items c.loop-index.index (closing_text (length items)) _ _ _ c.loop-index-test.false c.loop-index.invariant.run prefix)
     begun)

@@ -1,5 +1,5 @@
 use Rattle.std.proofs.Common.{◌≡◌, length}
-use Rattle.amt_script.specs.Texts.{closing_text}
+use Rattle.script_lines.specs.Texts.{closing_text}
 use Rattle.amt_script.proofs.Runs.{IsRunning}
 use Rattle.amt_script.proofs.replay.run_items.Given as goal
 

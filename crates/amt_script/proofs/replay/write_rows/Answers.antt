@@ -1,4 +1,4 @@
-use Rattle.amt_script.proofs.Writes.{nothing_written}
+use Rattle.script_lines.proofs.Writes.{nothing_written}
 use Rattle.amt_script.proofs.replay.write_rows.Goals as goal
 
 pub returns-in_default-clause-begun : goal.returns-in_default-clause-begun

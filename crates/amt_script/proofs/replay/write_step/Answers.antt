@@ -2,7 +2,7 @@ use Rattle.std.specs.Result.{OnOk}
 use Rattle.amt_script.specs.declared.replay.RunFault.{RunFault}
 use Rattle.std.proofs.Common.{Result, Ok, Err, ◌∙◌}
 use Rattle.amt_script.proofs.Runs.{same_step}
-use Rattle.amt_script.proofs.Writes.{nothing_written}
+use Rattle.script_lines.proofs.Writes.{nothing_written}
 use Rattle.amt_script.proofs.replay.write_step.Goals as goal
 
 pub returns-in_default-clause-begun : goal.returns-in_default-clause-begun

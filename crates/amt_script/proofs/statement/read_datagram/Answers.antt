@@ -1,5 +1,5 @@
 use Rattle.std.proofs.Common.{Err, ap}
-use Rattle.amt_script.specs.declared.values.OctetsError.{OctetsError}
+use Rattle.script_lines.specs.declared.values.OctetsError.{OctetsError}
 use Rattle.amt_script.proofs.Failures.{bad_hex, bad_peer}
 use Rattle.amt_script.proofs.statement.read_datagram.Goals as goal
 

@@ -2,7 +2,7 @@ use Rattle.std.proofs.Common.{◌≡◌, ◌++◌, codes, rules, sym, subst, app
 use Rattle.amt_values.specs.Text.{peer_text}
 use Rattle.relay_machine.specs.declared.event.Event.TheVariants.{Datagram}
 use Rattle.amt_script.specs.Printed.{IsLineThatSays}
-use Rattle.amt_script.specs.Texts.{hex_text}
+use Rattle.script_lines.specs.Texts.{hex_text}
 use Rattle.amt_script.proofs.Printed.{datagram_said}
 use Rattle.amt_script.proofs.text.print_datagram_line.Goals as goal
 

@@ -2,7 +2,7 @@ use Rattle.std.proofs.Common.{◌≡◌, ℕ, List, ◌++◌, length, codes, sym
 use Rattle.std.proofs.lemmas.Result.{IfOk-weaker}
 use Rattle.amt_values.specs.Octets.{AreOctets}
 use Rattle.amt_script.specs.Printed.{IsLineThatSays}
-use Rattle.amt_script.specs.Texts.{hex_text}
+use Rattle.script_lines.specs.Texts.{hex_text}
 use Rattle.amt_script.proofs.Printed.{moment_said, secret_said}
 use Rattle.amt_script.proofs.text.print_event_line.Goals as goal
 

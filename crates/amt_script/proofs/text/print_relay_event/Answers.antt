@@ -1,6 +1,6 @@
 use Rattle.std.proofs.Common.{◌∙◌, ap}
 use Rattle.std.specs.Str.Lines.{lines}
-use Rattle.amt_script.proofs.Printed.{lines-plain}
+use Rattle.script_lines.proofs.Words.{lines-plain}
 use Rattle.amt_script.proofs.text.print_relay_event.Goals as goal
 
 pub returns-clause-back : goal.returns-clause-back

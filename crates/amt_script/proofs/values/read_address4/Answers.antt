@@ -1,8 +1,0 @@
-use Rattle.amt_values.specs.declared.address.Ip.TheVariants.{V4}
-use Rattle.amt_script.proofs.values.read_address4.Goals as goal
-
-pub returns-in-None-clause-none : goal.returns-in-None-clause-none
-returns-in-None-clause-none c = λ number h. let read = c.in-None.ensures.only (V4 number) h in cc read
-
-pub returns-in-Some-V6-clause-none : goal.returns-in-Some-V6-clause-none
-returns-in-Some-V6-clause-none c = λ number h. let read = c.in-Some-V6.ensures.only (V4 number) h in cc (read, c.in-Some-V6.field-0-is)

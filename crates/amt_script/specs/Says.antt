@@ -1,0 +1,45 @@
+-- What a line of a relay's script says.
+use Rattle.std.specs.Prelude.{◌≡◌, ℕ, List}
+use Rattle.amt_values.specs.declared.address.Ip.TheVariants.{V4, V6}
+use Rattle.amt_values.specs.Text.{IsIpText, IsPeerText}
+use Rattle.relay_machine.specs.declared.event.Event.{Event}
+use Rattle.relay_machine.specs.declared.event.Event.TheVariants as events
+use Rattle.script_lines.specs.Form.{IsMomentText, IsNumberText, IsHexText, IsSecretText}
+use Rattle.script_lines.specs.Lines.{fields, IsPlain}
+use Rattle.script_lines.specs.Shape.{HasField, HasTwoFields}
+use Rattle.amt_script.specs.declared.kind.Key.TheVariants as keys
+use Rattle.amt_script.specs.declared.kind.Kind.TheVariants as kinds
+use Rattle.amt_script.specs.declared.script.RelayItem.{RelayItem}
+use Rattle.amt_script.specs.declared.script.RelayItem.TheVariants as items
+use Rattle.amt_script.specs.declared.setting.Setting.{Setting}
+use Rattle.amt_script.specs.declared.setting.Setting.TheVariants as settings
+use Rattle.amt_script.specs.Row.{words_of}
+
+abbrev pub SaysSetting : Setting → List (List ℕ) → Type 0
+SaysSetting (settings.Relay ip) = HasField (words_of (kinds.Set keys.Relay)) (IsIpText ip)
+SaysSetting (settings.Query4 number) = HasField (words_of (kinds.Set keys.Query4)) (IsIpText (V4 number))
+SaysSetting (settings.Query6 number) = HasField (words_of (kinds.Set keys.Query6)) (IsIpText (V6 number))
+SaysSetting (settings.Robustness number) = HasField (words_of (kinds.Set keys.Robustness)) (IsNumberText 1 7 number)
+SaysSetting (settings.QuerySeconds number) =
+    HasField (words_of (kinds.Set keys.QuerySeconds)) (IsNumberText 1 31744 number)
+SaysSetting (settings.ResponseTenths number) =
+    HasField (words_of (kinds.Set keys.ResponseTenths)) (IsNumberText 1 31744 number)
+SaysSetting (settings.Endpoints number) = HasField (words_of (kinds.Set keys.Endpoints)) (IsNumberText 1 65536 number)
+SaysSetting (settings.Groups number) = HasField (words_of (kinds.Set keys.Groups)) (IsNumberText 1 256 number)
+SaysSetting (settings.Sources number) = HasField (words_of (kinds.Set keys.Sources)) (IsNumberText 1 64 number)
+SaysSetting (settings.PacketLimit number) = HasField (words_of (kinds.Set keys.PacketLimit)) (IsNumberText 20 65000 number)
+SaysSetting (settings.Secret secret) = HasField (words_of (kinds.Set keys.Secret)) (IsSecretText secret)
+
+abbrev pub SaysEvent : Event → List (List ℕ) → Type 0
+SaysEvent (events.Moment ms) = HasField (words_of kinds.Moment) (IsMomentText ms)
+SaysEvent (events.Datagram from bytes) = HasTwoFields (words_of kinds.Datagram) (IsPeerText from) (IsHexText bytes)
+SaysEvent (events.Packet bytes) = HasField (words_of kinds.Packet) (IsHexText bytes)
+SaysEvent (events.Rotate secret) = HasField (words_of kinds.Secret) (IsSecretText secret)
+
+-- an event, or the word alone by which what stands is shown
+abbrev pub SaysItem : RelayItem → List (List ℕ) → Type 0
+SaysItem (items.Event event) line = SaysEvent event line
+SaysItem items.Show line = line ≡ words_of kinds.Show
+
+abbrev pub IsItemLine : RelayItem → List ℕ → Type 0
+IsItemLine item line = IsPlain line × SaysItem item (fields line)

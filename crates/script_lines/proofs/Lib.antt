@@ -1,0 +1,13 @@
+pub mod Bad
+pub mod Begun
+pub mod Firsts
+pub mod Forms
+pub mod Glyphs
+pub mod Numbers
+pub mod Peers
+pub mod Sayings
+pub mod Splitting
+pub mod Taking
+pub mod Verdicts
+pub mod Words
+pub mod Writes

@@ -1,0 +1,10 @@
+pub mod Conditions
+pub mod Form
+pub mod Kind
+pub mod Lines
+pub mod Reading
+pub mod Script
+pub mod Shape
+pub mod Texts
+pub mod Trial
+pub mod Writing

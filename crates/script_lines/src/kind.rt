@@ -1,0 +1,44 @@
+//! What a kind of script is to the reader of lines.
+
+ghost use Rattle.std.specs.Prelude.{List, ◌∷◌, [], OnOk, IfOk, IfErr};
+ghost use Rattle.contract_words.specs.Conditions.{First};
+ghost use Rattle.script_lines.specs.Kind.{Kind, IsLawful};
+ghost use Rattle.script_lines.specs.Lines.{fields};
+ghost use Rattle.script_lines.specs.Reading.{Hears, FailsAfter};
+
+use crate::fault::LineError;
+use crate::reason::Reason;
+use std::alloc::Global;
+
+/// A kind of script; a value of it is what the lines so far have said.
+pub trait ScriptKind: Drop {
+    /// What all lines together say.
+    type Script: Drop;
+
+    /// What one line says.
+    ghost Statement: { Type 0 };
+
+    ghost kind: { Kind Statement Self.Script };
+
+    /// These are the statements that have been said.
+    ghost HasHeard: { Self → List Statement → Type 0 };
+
+    /// A value that has heard nothing. The kind must keep the laws that all kinds keep.
+    fn start(alloc: Global) -> Self
+        ensures heard { HasHeard result [] }
+        ensures lawful { IsLawful kind };
+
+    /// Takes a line that says something, by its first field and what follows it.
+    fn take(&mut self, alloc: Global, first: &[u8], rest: &[u8]) -> Result<(), LineError>
+        ensures heard { (past : List Statement) → HasHeard self.old past
+            → OnOk result (Hears kind HasHeard past (first.now ∷ fields rest.now) self.new) }
+        ensures bad { (past : List Statement) → HasHeard self.old past
+            → IfErr result (FailsAfter kind past (first.now ∷ fields rest.now)) };
+
+    /// The script that has been said, or what is wrong with it.
+    fn finish(self) -> Result<Self::Script, Reason>
+        ensures made { (said : List Statement) → HasHeard self said
+            → IfOk result (λ script. kind.Makes said script) }
+        ensures bad { (said : List Statement) → HasHeard self said
+            → IfErr result (λ reason. First (kind.FailsAtEnd said) kind.order_at_end reason) };
+}
