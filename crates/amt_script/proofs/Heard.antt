@@ -1,11 +1,14 @@
 -- The settings and items that have been said, one line more.
 use Rattle.std.proofs.Common.{ℕ, List, [], ◌∷◌, ◌++◌, sym, ap, subst, ◌∙◌, append-nil}
+use Rattle.std.specs.List.{AllByRecursion}
 use Rattle.std.proofs.lemmas.List.Elements.{filter_map-append}
 use Rattle.amt_script.specs.declared.line.RelayStatement.{RelayStatement}
 use Rattle.amt_script.specs.declared.line.RelayStatement.TheVariants as statements
 use Rattle.amt_script.specs.declared.script.RelayItem.{RelayItem}
 use Rattle.amt_script.specs.declared.setting.Setting.{Setting}
-use Rattle.amt_script.specs.Reading.{AreThose}
+use Rattle.amt_script.specs.declared.setting.Setting.TheVariants as settings
+use Rattle.amt_script.specs.Reading.{AreThose, IsAllowed}
+use Rattle.amt_script.specs.Says.{SaysSetting}
 use Rattle.amt_script.specs.Script.{SaysAfter, setting_in, item_in, settings_in, items_in}
 
 -- what a line says after these settings and items, it says after the statements that they are of
@@ -15,12 +18,25 @@ says_after given items past one line those says =
     subst (λ (i : List RelayItem). SaysAfter (settings_in past) i one line) those.items_are
     (subst (λ (g : List Setting). SaysAfter g items one line) those.settings_are says)
 
+-- a line says a number in its key's range
+pub allowed_by_line : (setting : Setting) (line : List (List ℕ)) → SaysSetting setting line → IsAllowed setting
+allowed_by_line (settings.Number key number) line says = record { least = says.names.0.0; most = says.names.0.1 }
+allowed_by_line (settings.Relay ip) line says = tt
+allowed_by_line (settings.Query4 number) line says = tt
+allowed_by_line (settings.Query6 number) line says = tt
+allowed_by_line (settings.Secret secret) line says = tt
+
+allowed_more : (given : List Setting) (setting : Setting) → AllByRecursion IsAllowed given → IsAllowed setting → AllByRecursion IsAllowed (given ++ setting ∷ [])
+allowed_more [] setting all here = (here, tt)
+allowed_more (first ∷ rest) setting all here = (all.0, allowed_more rest setting all.1 here)
+
 pub heard_setting : (given : List Setting) (items : List RelayItem) (past : List RelayStatement) (setting : Setting) → AreThose given items past
-    → AreThose (given ++ setting ∷ []) items (past ++ statements.Setting setting ∷ [])
-heard_setting given items past setting those = record {
+    → IsAllowed setting → AreThose (given ++ setting ∷ []) items (past ++ statements.Setting setting ∷ [])
+heard_setting given items past setting those allowed = record {
   settings_are =
       ap (λ (g : List Setting). g ++ setting ∷ []) those.settings_are ∙ sym (filter_map-append setting_in past (statements.Setting setting ∷ []));
   items_are = those.items_are ∙ (sym (append-nil (items_in past)) ∙ sym (filter_map-append item_in past (statements.Setting setting ∷ [])));
+  allowed = allowed_more given setting those.allowed allowed;
 }
 
 pub heard_item : (given : List Setting) (items : List RelayItem) (past : List RelayStatement) (item : RelayItem) → AreThose given items past
@@ -28,4 +44,5 @@ pub heard_item : (given : List Setting) (items : List RelayItem) (past : List Re
 heard_item given items past item those = record {
   settings_are = those.settings_are ∙ (sym (append-nil (settings_in past)) ∙ sym (filter_map-append setting_in past (statements.Item item ∷ [])));
   items_are = ap (λ (i : List RelayItem). i ++ item ∷ []) those.items_are ∙ sym (filter_map-append item_in past (statements.Item item ∷ []));
+  allowed = those.allowed;
 }

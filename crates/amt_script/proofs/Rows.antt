@@ -1,43 +1,53 @@
 -- A line is of one kind.
-use Rattle.std.proofs.Common.{◌≡◌, ℕ, ◌+◌, ◌*◌, ◌==◌, List, [], ◌∷◌, ◌++◌, length, get_or, if◌then◌else◌, refl, sym, ap, ◌∙◌}
+use Rattle.std.proofs.Common.{◌≡◌, ◌<◌, ◌^◌, ℕ, ◌+◌, ◌*◌, ◌==◌, List, [], ◌∷◌, ◌++◌, length, get_or, Option, Some, None, find, if◌then◌else◌, refl, sym, ap, ◌∙◌, rules, arith}
+use Rattle.core.specs.Str.{bytes_eq}
+use Rattle.std.specs.List.{AllByRecursion}
+use Rattle.std.proofs.lemmas.List.Elements.{All-from_recursion}
+use Rattle.relay_machine.specs.declared.number_key.NumberKey.{NumberKey}
+use Rattle.relay_machine.specs.declared.number_key.TheConstants.{NUMBER_KEYS}
+use Rattle.relay_machine.specs.Settings.{row_of}
+use Rattle.relay_machine.proofs.Numbers.{All-keys}
 use Rattle.amt_script.specs.declared.kind.Key.{Key}
 use Rattle.amt_script.specs.declared.kind.Key.TheVariants as keys
 use Rattle.amt_script.specs.declared.kind.Kind.{Kind}
 use Rattle.amt_script.specs.declared.kind.Kind.TheVariants as kinds
-use Rattle.amt_script.specs.Row.{key_word, words_of}
+use Rattle.amt_script.specs.Row.{key_word, number_word, words_of}
 
 -- a number that tells the words of the format apart: the first octet, the sixth one, and the length
 abbrev mark : List ℕ → ℕ
 mark word = 100 * get_or word 0 0 + get_or word 5 0 + length word
 
-abbrev marked_key : ℕ → Key
-marked_key n =
-    if n == 11405 then keys.Relay
-    else (if n == 11358 then keys.Query4
-    else (if n == 11360 then keys.Query6
-    else (if n == 11526 then keys.Robustness
-    else (if n == 11408 then keys.QuerySeconds
-    else (if n == 11525 then keys.ResponseTenths
-    else (if n == 10214 then keys.Endpoints
-    else (if n == 10421 then keys.Groups
-    else (if n == 11608 then keys.Sources
-    else (if n == 11328 then keys.PacketLimit else keys.Secret)))))))))
+abbrev number_named : List ℕ → Option NumberKey
+number_named word = find (λ key. bytes_eq (number_word key) word) NUMBER_KEYS
 
-key_marked : (key : Key) → marked_key (mark (key_word key)) ≡ key
+abbrev key_or : Option NumberKey → Key
+key_or (Some key) = keys.Number key
+key_or None = keys.Secret
+
+abbrev marked_key : List ℕ → Key
+marked_key word =
+    if mark word == 11405 then keys.Relay
+    else (if mark word == 11358 then keys.Query4 else (if mark word == 11360 then keys.Query6 else key_or (number_named word)))
+
+number_marked : (key : NumberKey) → marked_key (number_word key) ≡ keys.Number key
+number_marked =
+    let P : NumberKey → Type 0 = λ key. marked_key (number_word key) ≡ keys.Number key in
+    let each : AllByRecursion P NUMBER_KEYS = search rules in All-keys P (All-from_recursion P NUMBER_KEYS each)
+
+key_marked : (key : Key) → marked_key (key_word key) ≡ key
 key_marked keys.Relay = refl
 key_marked keys.Query4 = refl
 key_marked keys.Query6 = refl
-key_marked keys.Robustness = refl
-key_marked keys.QuerySeconds = refl
-key_marked keys.ResponseTenths = refl
-key_marked keys.Endpoints = refl
-key_marked keys.Groups = refl
-key_marked keys.Sources = refl
-key_marked keys.PacketLimit = refl
+key_marked (keys.Number key) = number_marked key
 key_marked keys.Secret = refl
 
 pub same_key : (one other : Key) → key_word one ≡ key_word other → one ≡ other
-same_key one other same = sym (key_marked one) ∙ (ap (λ (word : List ℕ). marked_key (mark word)) same ∙ key_marked other)
+same_key one other same = sym (key_marked one) ∙ (ap marked_key same ∙ key_marked other)
+
+pub most_small : (key : NumberKey) → (row_of key).most < 2 ^ 32
+most_small =
+    let P : NumberKey → Type 0 = λ key. (row_of key).most < 2 ^ 32 in
+    let each : AllByRecursion P NUMBER_KEYS = search (rules, arith) in All-keys P (All-from_recursion P NUMBER_KEYS each)
 
 -- a line's kind and what follows its first words
 record Row : Type 0 where
@@ -49,7 +59,7 @@ row kind values = record { kind = kind; values = values }
 
 abbrev row_after_set : List (List ℕ) → Row
 row_after_set [] = row kinds.Moment []
-row_after_set (word ∷ values) = row (kinds.Set (marked_key (mark word))) values
+row_after_set (word ∷ values) = row (kinds.Set (marked_key word)) values
 
 abbrev row_of : List (List ℕ) → Row
 row_of [] = row kinds.Moment []

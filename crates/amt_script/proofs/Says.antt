@@ -2,6 +2,7 @@
 use Rattle.std.proofs.Common.{◌≡◌, ℕ, List, [], ◌∷◌, ◌++◌, sym, ◌∙◌, arith}
 use Rattle.relay_machine.specs.declared.event.Event.{Event}
 use Rattle.relay_machine.specs.declared.event.Event.TheVariants as events
+use Rattle.relay_machine.specs.Settings.{row_of}
 use Rattle.script_lines.specs.declared.reason.Reason.{Reason}
 use Rattle.script_lines.specs.Form.{a_moment, a_number, some_octets, a_secret, an_address, an_address4, an_address6, a_peer}
 use Rattle.script_lines.proofs.Forms.{moment_fits, number_fits, octets_fit, secret_fits, address_fits, address4_fits, address6_fits, peer_fits, none_fits, one_fits, two_fit}
@@ -16,7 +17,7 @@ use Rattle.amt_script.specs.Fault.{FailsAs}
 use Rattle.amt_script.specs.Row.{words_of}
 use Rattle.amt_script.specs.Says.{SaysSetting, SaysEvent, SaysItem}
 use Rattle.amt_script.specs.Setting.{key_of}
-use Rattle.amt_script.proofs.Rows.{same_kind}
+use Rattle.amt_script.proofs.Rows.{most_small, same_kind}
 
 -- the line is of this kind, and no field of it fails
 pub record IsFit (kind : Kind) (line : List (List ℕ)) : Type 0 where
@@ -46,41 +47,13 @@ setting_is_fit (settings.Query6 number) line says = record {
   parts = says.parts;
   fits = one_fits an_address6 says.text (address6_fits number says.text says.names);
 }
-setting_is_fit (settings.Robustness number) line says = record {
-  values = says.text ∷ [];
-  parts = says.parts;
-  fits = one_fits (a_number 1 7) says.text (number_fits 1 7 number says.text (omega arith) says.names);
-}
-setting_is_fit (settings.QuerySeconds number) line says = record {
-  values = says.text ∷ [];
-  parts = says.parts;
-  fits = one_fits (a_number 1 31744) says.text (number_fits 1 31744 number says.text (omega arith) says.names);
-}
-setting_is_fit (settings.ResponseTenths number) line says = record {
-  values = says.text ∷ [];
-  parts = says.parts;
-  fits = one_fits (a_number 1 31744) says.text (number_fits 1 31744 number says.text (omega arith) says.names);
-}
-setting_is_fit (settings.Endpoints number) line says = record {
-  values = says.text ∷ [];
-  parts = says.parts;
-  fits = one_fits (a_number 1 65536) says.text (number_fits 1 65536 number says.text (omega arith) says.names);
-}
-setting_is_fit (settings.Groups number) line says = record {
-  values = says.text ∷ [];
-  parts = says.parts;
-  fits = one_fits (a_number 1 256) says.text (number_fits 1 256 number says.text (omega arith) says.names);
-}
-setting_is_fit (settings.Sources number) line says = record {
-  values = says.text ∷ [];
-  parts = says.parts;
-  fits = one_fits (a_number 1 64) says.text (number_fits 1 64 number says.text (omega arith) says.names);
-}
-setting_is_fit (settings.PacketLimit number) line says = record {
-  values = says.text ∷ [];
-  parts = says.parts;
-  fits = one_fits (a_number 20 65000) says.text (number_fits 20 65000 number says.text (omega arith) says.names);
-}
+setting_is_fit (settings.Number key number) line says =
+    let least = (row_of key).least in
+    let most = (row_of key).most in record {
+      values = says.text ∷ [];
+      parts = says.parts;
+      fits = one_fits (a_number least most) says.text (number_fits least most number says.text (most_small key) says.names);
+    }
 setting_is_fit (settings.Secret secret) line says = record {
   values = says.text ∷ [];
   parts = says.parts;

@@ -8,6 +8,8 @@ use Rattle.amt_values.proofs.Unique.{IsIpText-unique, IsPeerText-unique}
 use Rattle.response_mac.specs.declared.secret.Secret.{Secret}
 use Rattle.relay_machine.specs.declared.event.Event.{Event}
 use Rattle.relay_machine.specs.declared.event.Event.TheVariants as events
+use Rattle.relay_machine.specs.declared.number_key.NumberKey.{NumberKey}
+use Rattle.relay_machine.specs.Settings.{row_of}
 use Rattle.script_lines.specs.Form.{IsMomentText, IsNumberText, IsHexText, IsSecretText}
 use Rattle.script_lines.proofs.Forms.{IsHexText-unique, IsSecretText-unique, IsMomentText-unique, IsNumberText-unique, address4, address6, one_field}
 use Rattle.amt_script.specs.declared.kind.Kind.TheVariants as kinds
@@ -17,8 +19,22 @@ use Rattle.amt_script.specs.declared.setting.Setting.{Setting}
 use Rattle.amt_script.specs.declared.setting.Setting.TheVariants as settings
 use Rattle.amt_script.specs.Says.{SaysSetting, SaysEvent, SaysItem}
 use Rattle.amt_script.specs.Setting.{key_of}
-use Rattle.amt_script.proofs.Rows.{same_kind}
+use Rattle.amt_script.proofs.Rows.{most_small, same_kind}
 use Rattle.amt_script.proofs.Says.{kind_of_event, kind_of_item, setting_is_fit, item_is_fit}
+
+same_number_at : (key : NumberKey) (x y : ℕ) (line : List (List ℕ)) → SaysSetting (settings.Number key x) line → SaysSetting (settings.Number key y) line
+    → settings.Number key x ≡ settings.Number key y
+same_number_at key x y line h k =
+    let least = (row_of key).least in
+    let most = (row_of key).most in
+    ap (λ (v : ℕ). settings.Number key v)
+    (one_field _ (IsNumberText least most) (λ v w text p q. IsNumberText-unique least most v w text (most_small key) p q) x y line h k)
+
+same_number : (key other : NumberKey) (x y : ℕ) (line : List (List ℕ)) → key ≡ other → SaysSetting (settings.Number key x) line → SaysSetting (settings.Number other y) line
+    → settings.Number key x ≡ settings.Number other y
+same_number key other x y line same h k =
+    same_number_at key x y line h (subst (λ (n : NumberKey). SaysSetting (settings.Number n y) line) (sym same) k)
+    ∙ ap (λ (n : NumberKey). settings.Number n y) same
 
 SaysSetting-same : (one other : Setting) (line : List (List ℕ)) → key_of one ≡ key_of other → SaysSetting one line → SaysSetting other line → one ≡ other
 SaysSetting-same (settings.Relay x) (settings.Relay y) line same h k = ap (λ (v : Ip). settings.Relay v) (one_field _ IsIpText IsIpText-unique x y line h k)
@@ -26,20 +42,9 @@ SaysSetting-same (settings.Query4 x) (settings.Query4 y) line same h k =
     ap (λ (v : ℕ). settings.Query4 v) (one_field _ (λ (v : ℕ). IsIpText (V4 v)) (λ v w text p q. address4 v w (IsIpText-unique (V4 v) (V4 w) text p q)) x y line h k)
 SaysSetting-same (settings.Query6 x) (settings.Query6 y) line same h k =
     ap (λ (v : ℕ). settings.Query6 v) (one_field _ (λ (v : ℕ). IsIpText (V6 v)) (λ v w text p q. address6 v w (IsIpText-unique (V6 v) (V6 w) text p q)) x y line h k)
-SaysSetting-same (settings.Robustness x) (settings.Robustness y) line same h k =
-    ap (λ (v : ℕ). settings.Robustness v) (one_field _ (IsNumberText 1 7) (λ v w text p q. IsNumberText-unique 1 7 v w text (omega arith) p q) x y line h k)
-SaysSetting-same (settings.QuerySeconds x) (settings.QuerySeconds y) line same h k =
-    ap (λ (v : ℕ). settings.QuerySeconds v) (one_field _ (IsNumberText 1 31744) (λ v w text p q. IsNumberText-unique 1 31744 v w text (omega arith) p q) x y line h k)
-SaysSetting-same (settings.ResponseTenths x) (settings.ResponseTenths y) line same h k =
-    ap (λ (v : ℕ). settings.ResponseTenths v) (one_field _ (IsNumberText 1 31744) (λ v w text p q. IsNumberText-unique 1 31744 v w text (omega arith) p q) x y line h k)
-SaysSetting-same (settings.Endpoints x) (settings.Endpoints y) line same h k =
-    ap (λ (v : ℕ). settings.Endpoints v) (one_field _ (IsNumberText 1 65536) (λ v w text p q. IsNumberText-unique 1 65536 v w text (omega arith) p q) x y line h k)
-SaysSetting-same (settings.Groups x) (settings.Groups y) line same h k =
-    ap (λ (v : ℕ). settings.Groups v) (one_field _ (IsNumberText 1 256) (λ v w text p q. IsNumberText-unique 1 256 v w text (omega arith) p q) x y line h k)
-SaysSetting-same (settings.Sources x) (settings.Sources y) line same h k =
-    ap (λ (v : ℕ). settings.Sources v) (one_field _ (IsNumberText 1 64) (λ v w text p q. IsNumberText-unique 1 64 v w text (omega arith) p q) x y line h k)
-SaysSetting-same (settings.PacketLimit x) (settings.PacketLimit y) line same h k =
-    ap (λ (v : ℕ). settings.PacketLimit v) (one_field _ (IsNumberText 20 65000) (λ v w text p q. IsNumberText-unique 20 65000 v w text (omega arith) p q) x y line h k)
+SaysSetting-same (settings.Number key x) (settings.Number other y) line same h k =
+    let keys_same : key ≡ other = cc in
+    same_number key other x y line keys_same h k
 SaysSetting-same (settings.Secret x) (settings.Secret y) line same h k =
     ap (λ (v : Secret). settings.Secret v) (one_field _ IsSecretText IsSecretText-unique x y line h k)
 SaysSetting-same one other line same h k = cc same

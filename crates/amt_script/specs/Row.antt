@@ -1,5 +1,8 @@
 -- The kinds of lines: the words with which a line of each kind begins, and the forms of its fields.
 use Rattle.std.specs.Prelude.{◌≢◌, ℕ, List, [], ◌∷◌, ◌++◌, codes, None}
+use Rattle.relay_machine.specs.declared.number_key.NumberKey.{NumberKey}
+use Rattle.relay_machine.specs.declared.number_key.NumberKey.TheVariants as numbers
+use Rattle.relay_machine.specs.Settings.{row_of}
 use Rattle.amt_script.specs.declared.kind.Key.{Key}
 use Rattle.amt_script.specs.declared.kind.Key.TheVariants as keys
 use Rattle.amt_script.specs.declared.kind.Kind.{Kind}
@@ -7,19 +10,25 @@ use Rattle.amt_script.specs.declared.kind.Kind.TheVariants as kinds
 use Rattle.script_lines.specs.Form.{Form, a_moment, a_number, some_octets, a_secret, an_address, an_address4, an_address6, a_peer}
 use Rattle.script_lines.specs.Shape.{Shape}
 
+-- the word of a setting that is one number
+abbrev pub number_word : NumberKey → List ℕ
+number_word numbers.Robustness = codes "robustness"
+number_word numbers.QuerySeconds = codes "query_seconds"
+number_word numbers.ResponseTenths = codes "response_tenths"
+number_word numbers.Endpoints = codes "endpoints"
+number_word numbers.Groups = codes "groups"
+number_word numbers.Sources = codes "sources"
+number_word numbers.PacketLimit = codes "packet_limit"
+
+-- the word of a setting
 abbrev pub key_word : Key → List ℕ
 key_word keys.Relay = codes "relay"
 key_word keys.Query4 = codes "query4"
 key_word keys.Query6 = codes "query6"
-key_word keys.Robustness = codes "robustness"
-key_word keys.QuerySeconds = codes "query_seconds"
-key_word keys.ResponseTenths = codes "response_tenths"
-key_word keys.Endpoints = codes "endpoints"
-key_word keys.Groups = codes "groups"
-key_word keys.Sources = codes "sources"
-key_word keys.PacketLimit = codes "packet_limit"
+key_word (keys.Number key) = number_word key
 key_word keys.Secret = codes "secret"
 
+-- the first words of a line
 abbrev pub words_of : Kind → List (List ℕ)
 words_of (kinds.Set key) = codes "set" ∷ key_word key ∷ []
 words_of kinds.Moment = codes "at" ∷ []
@@ -28,19 +37,15 @@ words_of kinds.Datagram = codes "dg" ∷ []
 words_of kinds.Packet = codes "mc" ∷ []
 words_of kinds.Show = codes "show" ∷ []
 
+-- what a setting may be; a number has its range by the relay's table
 abbrev pub form_of_key : Key → Form
 form_of_key keys.Relay = an_address
 form_of_key keys.Query4 = an_address4
 form_of_key keys.Query6 = an_address6
-form_of_key keys.Robustness = a_number 1 7
-form_of_key keys.QuerySeconds = a_number 1 31744
-form_of_key keys.ResponseTenths = a_number 1 31744
-form_of_key keys.Endpoints = a_number 1 65536
-form_of_key keys.Groups = a_number 1 256
-form_of_key keys.Sources = a_number 1 64
-form_of_key keys.PacketLimit = a_number 20 65000
+form_of_key (keys.Number key) = a_number (row_of key).least (row_of key).most
 form_of_key keys.Secret = a_secret
 
+-- what the fields after the first words may be
 abbrev pub forms_of : Kind → List Form
 forms_of (kinds.Set key) = form_of_key key ∷ []
 forms_of kinds.Moment = a_moment ∷ []

@@ -4,6 +4,7 @@ use Rattle.amt_values.specs.declared.address.Ip.TheVariants.{V4, V6}
 use Rattle.amt_values.specs.Text.{IsIpText, IsPeerText}
 use Rattle.relay_machine.specs.declared.event.Event.{Event}
 use Rattle.relay_machine.specs.declared.event.Event.TheVariants as events
+use Rattle.relay_machine.specs.Settings.{row_of}
 use Rattle.script_lines.specs.Form.{IsMomentText, IsNumberText, IsHexText, IsSecretText}
 use Rattle.script_lines.specs.Lines.{fields, IsPlain}
 use Rattle.script_lines.specs.Shape.{HasField, HasTwoFields}
@@ -19,15 +20,8 @@ abbrev pub SaysSetting : Setting → List (List ℕ) → Type 0
 SaysSetting (settings.Relay ip) = HasField (words_of (kinds.Set keys.Relay)) (IsIpText ip)
 SaysSetting (settings.Query4 number) = HasField (words_of (kinds.Set keys.Query4)) (IsIpText (V4 number))
 SaysSetting (settings.Query6 number) = HasField (words_of (kinds.Set keys.Query6)) (IsIpText (V6 number))
-SaysSetting (settings.Robustness number) = HasField (words_of (kinds.Set keys.Robustness)) (IsNumberText 1 7 number)
-SaysSetting (settings.QuerySeconds number) =
-    HasField (words_of (kinds.Set keys.QuerySeconds)) (IsNumberText 1 31744 number)
-SaysSetting (settings.ResponseTenths number) =
-    HasField (words_of (kinds.Set keys.ResponseTenths)) (IsNumberText 1 31744 number)
-SaysSetting (settings.Endpoints number) = HasField (words_of (kinds.Set keys.Endpoints)) (IsNumberText 1 65536 number)
-SaysSetting (settings.Groups number) = HasField (words_of (kinds.Set keys.Groups)) (IsNumberText 1 256 number)
-SaysSetting (settings.Sources number) = HasField (words_of (kinds.Set keys.Sources)) (IsNumberText 1 64 number)
-SaysSetting (settings.PacketLimit number) = HasField (words_of (kinds.Set keys.PacketLimit)) (IsNumberText 20 65000 number)
+SaysSetting (settings.Number key number) =
+    HasField (words_of (kinds.Set (keys.Number key))) (IsNumberText (row_of key).least (row_of key).most number)
 SaysSetting (settings.Secret secret) = HasField (words_of (kinds.Set keys.Secret)) (IsSecretText secret)
 
 abbrev pub SaysEvent : Event → List (List ℕ) → Type 0

@@ -1,10 +1,12 @@
 //! The kinds of lines of a relay's script, by their first words. It reads no value.
 
-ghost use Rattle.std.specs.Prelude.{◌≡◌, ◌≢◌, ◌∷◌, ◌++◌, [], List, ℕ, codes, IfSome, IfNone, IfOk, IsErrOf};
+ghost use Rattle.std.specs.Prelude.{◌≡◌, ◌≢◌, ◌↔◌, IsTrue, ◌∷◌, ◌++◌, [], List, ℕ, codes, IfSome, IfNone, IfOk, IsErrOf};
 ghost use Rattle.amt_script.specs.declared.kind.Key.{Key as KeyValue};
 ghost use Rattle.script_lines.specs.Lines.{fields};
-ghost use Rattle.amt_script.specs.Row.{key_word, words_of, IsUnknown};
+ghost use Rattle.relay_machine.specs.declared.number_key.NumberKey.{NumberKey as NumberKeyValue};
+ghost use Rattle.amt_script.specs.Row.{key_word, number_word, words_of, IsUnknown};
 
+use relay_machine::{NUMBER_KEYS, NumberKey};
 use script_lines::next_field;
 
 /// What a `set` line sets.
@@ -13,37 +15,40 @@ pub enum Key {
     Relay,
     Query4,
     Query6,
-    Robustness,
-    QuerySeconds,
-    ResponseTenths,
-    Endpoints,
-    Groups,
-    Sources,
-    PacketLimit,
+    /// One of the relay's numbers.
+    Number(NumberKey),
     Secret,
 }
 
 impl Key {
-    ghost use Rattle.std.specs.Prelude.{◌≡◌};
-    ghost use Rattle.amt_script.specs.Setting.{place_of};
+    ghost use Rattle.std.specs.Prelude.{◌≡◌, string_bytes};
+    ghost use Rattle.amt_script.specs.Row.{key_word};
 
-    /// The place of the key among the keys.
-    pub fn place(self) -> u8
-        ensures { result ≡ place_of self }
+    /// The word after `set`.
+    pub fn word(self) -> &'static str
+        ensures { result.now ≡ key_word self }
     {
         match self {
-            Key::Relay => 0,
-            Key::Query4 => 1,
-            Key::Query6 => 2,
-            Key::Robustness => 3,
-            Key::QuerySeconds => 4,
-            Key::ResponseTenths => 5,
-            Key::Endpoints => 6,
-            Key::Groups => 7,
-            Key::Sources => 8,
-            Key::PacketLimit => 9,
-            Key::Secret => 10,
+            Key::Relay => "relay",
+            Key::Query4 => "query4",
+            Key::Query6 => "query6",
+            Key::Number(key) => number_word(key),
+            Key::Secret => "secret",
         }
+    }
+}
+
+fn number_word(key: NumberKey) -> &'static str
+    ensures { result.now ≡ number_word key }
+{
+    match key {
+        NumberKey::Robustness => "robustness",
+        NumberKey::QuerySeconds => "query_seconds",
+        NumberKey::ResponseTenths => "response_tenths",
+        NumberKey::Endpoints => "endpoints",
+        NumberKey::Groups => "groups",
+        NumberKey::Sources => "sources",
+        NumberKey::PacketLimit => "packet_limit",
     }
 }
 
@@ -72,44 +77,44 @@ pub enum NoKind {
     SetAlone,
 }
 
+fn is_word(word: &[u8], text: &str) -> bool
+    ensures { IsTrue result ↔ (word.now ≡ text.now) }
+{
+    word == text.as_bytes()
+}
+
+fn number_key_of_word(word: &[u8]) -> Option<NumberKey>
+    ensures found { IfSome result (λ key. word.now ≡ number_word key) }
+    ensures none { IfNone result ((key : NumberKeyValue) → word.now ≢ number_word key) }
+{
+    for key in NUMBER_KEYS {
+        if is_word(word, number_word(key)) {
+            return Some(key);
+        }
+    }
+    None
+}
+
 fn key_of_word(word: &[u8]) -> Option<Key>
     ensures found { IfSome result (λ key. word.now ≡ key_word key) }
     ensures none { IfNone result ((key : KeyValue) → word.now ≢ key_word key) }
 {
-    if word == b"relay".as_slice() {
+    if is_word(word, "relay") {
         return Some(Key::Relay);
     }
-    if word == b"query4".as_slice() {
+    if is_word(word, "query4") {
         return Some(Key::Query4);
     }
-    if word == b"query6".as_slice() {
+    if is_word(word, "query6") {
         return Some(Key::Query6);
     }
-    if word == b"robustness".as_slice() {
-        return Some(Key::Robustness);
-    }
-    if word == b"query_seconds".as_slice() {
-        return Some(Key::QuerySeconds);
-    }
-    if word == b"response_tenths".as_slice() {
-        return Some(Key::ResponseTenths);
-    }
-    if word == b"endpoints".as_slice() {
-        return Some(Key::Endpoints);
-    }
-    if word == b"groups".as_slice() {
-        return Some(Key::Groups);
-    }
-    if word == b"sources".as_slice() {
-        return Some(Key::Sources);
-    }
-    if word == b"packet_limit".as_slice() {
-        return Some(Key::PacketLimit);
-    }
-    if word == b"secret".as_slice() {
+    if is_word(word, "secret") {
         return Some(Key::Secret);
     }
-    None
+    match number_key_of_word(word) {
+        Some(key) => Some(Key::Number(key)),
+        None => None,
+    }
 }
 
 fn kind_after_set(rest: &[u8]) -> Result<(Kind, &[u8]), NoKind>

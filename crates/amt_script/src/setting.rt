@@ -5,6 +5,7 @@ ghost use Rattle.amt_script.specs.Setting.{key_of, is_same_key, set_at};
 
 use crate::kind::Key;
 use amt_values::Ip;
+use relay_machine::NumberKey;
 use response_mac::Secret;
 
 /// What one `set` line gives.
@@ -16,17 +17,8 @@ pub enum Setting {
     Query4(u32),
     /// The IPv6 source of General Queries.
     Query6(u128),
-    Robustness(u8),
-    QuerySeconds(u32),
-    ResponseTenths(u32),
-    /// The most live tunnel endpoints.
-    Endpoints(u32),
-    /// The most groups of one endpoint.
-    Groups(u32),
-    /// The most sources of one group.
-    Sources(u32),
-    /// The most octets of a packet that is copied.
-    PacketLimit(u32),
+    /// One of the relay's numbers.
+    Number(NumberKey, u32),
     /// The first private secret.
     Secret(Secret),
 }
@@ -38,13 +30,7 @@ fn key_of(setting: &Setting) -> Key
         Setting::Relay(_) => Key::Relay,
         Setting::Query4(_) => Key::Query4,
         Setting::Query6(_) => Key::Query6,
-        Setting::Robustness(_) => Key::Robustness,
-        Setting::QuerySeconds(_) => Key::QuerySeconds,
-        Setting::ResponseTenths(_) => Key::ResponseTenths,
-        Setting::Endpoints(_) => Key::Endpoints,
-        Setting::Groups(_) => Key::Groups,
-        Setting::Sources(_) => Key::Sources,
-        Setting::PacketLimit(_) => Key::PacketLimit,
+        Setting::Number(key, _) => Key::Number(*key),
         Setting::Secret(_) => Key::Secret,
     }
 }
@@ -52,7 +38,7 @@ fn key_of(setting: &Setting) -> Key
 fn has_key(setting: &Setting, key: Key) -> bool
     ensures { result ≡ is_same_key (key_of setting.now) key }
 {
-    key_of(setting).place() == key.place()
+    key_of(setting).word() == key.word()
 }
 
 /// The setting of a key among those that were given.

@@ -14,53 +14,21 @@ use crate::kind::Key;
 use crate::script::RelayItem;
 use crate::setting::Setting;
 use amt_values::{parse_ip, parse_peer};
-use relay_machine::Event;
+use relay_machine::{Event, NumberKey};
 use script_lines::{
     LineError, OctetsError, Reason, next_field, only_field, read_address4, read_address6,
     read_moment, read_number, read_octets, read_secret, two_fields,
 };
 use std::alloc::Global;
 
-fn endpoints_of_text(text: &[u8]) -> Result<Setting, Reason>
-    ensures key { IfOk result (λ setting. key_of setting ≡ Key.Endpoints) }
-    ensures found { IfOk result (λ setting. SaysSetting setting (words_of (kinds.Set Key.Endpoints) ++ text.now ∷ [])) }
-    ensures reason { IfErr result (λ reason. First (FailsAs (kinds.Set Key.Endpoints) (text.now ∷ [])) order_of_values reason) }
+fn number_of_text(key: NumberKey, text: &[u8]) -> Result<Setting, Reason>
+    ensures key { IfOk result (λ setting. key_of setting ≡ Key.Number key) }
+    ensures found { IfOk result (λ setting. SaysSetting setting (words_of (kinds.Set (Key.Number key)) ++ text.now ∷ [])) }
+    ensures reason { IfErr result (λ reason. First (FailsAs (kinds.Set (Key.Number key)) (text.now ∷ [])) order_of_values reason) }
 {
-    match read_number(text, 1, 65_536) {
-        Ok(number) => Ok(Setting::Endpoints(number)),
-        Err(reason) => Err(reason),
-    }
-}
-
-fn groups_of_text(text: &[u8]) -> Result<Setting, Reason>
-    ensures key { IfOk result (λ setting. key_of setting ≡ Key.Groups) }
-    ensures found { IfOk result (λ setting. SaysSetting setting (words_of (kinds.Set Key.Groups) ++ text.now ∷ [])) }
-    ensures reason { IfErr result (λ reason. First (FailsAs (kinds.Set Key.Groups) (text.now ∷ [])) order_of_values reason) }
-{
-    match read_number(text, 1, 256) {
-        Ok(number) => Ok(Setting::Groups(number)),
-        Err(reason) => Err(reason),
-    }
-}
-
-fn sources_of_text(text: &[u8]) -> Result<Setting, Reason>
-    ensures key { IfOk result (λ setting. key_of setting ≡ Key.Sources) }
-    ensures found { IfOk result (λ setting. SaysSetting setting (words_of (kinds.Set Key.Sources) ++ text.now ∷ [])) }
-    ensures reason { IfErr result (λ reason. First (FailsAs (kinds.Set Key.Sources) (text.now ∷ [])) order_of_values reason) }
-{
-    match read_number(text, 1, 64) {
-        Ok(number) => Ok(Setting::Sources(number)),
-        Err(reason) => Err(reason),
-    }
-}
-
-fn packet_limit_of_text(text: &[u8]) -> Result<Setting, Reason>
-    ensures key { IfOk result (λ setting. key_of setting ≡ Key.PacketLimit) }
-    ensures found { IfOk result (λ setting. SaysSetting setting (words_of (kinds.Set Key.PacketLimit) ++ text.now ∷ [])) }
-    ensures reason { IfErr result (λ reason. First (FailsAs (kinds.Set Key.PacketLimit) (text.now ∷ [])) order_of_values reason) }
-{
-    match read_number(text, 20, 65_000) {
-        Ok(number) => Ok(Setting::PacketLimit(number)),
+    let range = key.range();
+    match read_number(text, range.least, range.most) {
+        Ok(number) => Ok(Setting::Number(key, number)),
         Err(reason) => Err(reason),
     }
 }
@@ -83,22 +51,7 @@ fn setting_of_text(key: Key, text: &[u8]) -> Result<Setting, Reason>
             Some(address) => Ok(Setting::Query6(address)),
             None => Err(Reason::Address),
         },
-        Key::Robustness => match read_number(text, 1, 7) {
-            Ok(number) => Ok(Setting::Robustness(number as u8)),
-            Err(reason) => Err(reason),
-        },
-        Key::QuerySeconds => match read_number(text, 1, 31_744) {
-            Ok(number) => Ok(Setting::QuerySeconds(number)),
-            Err(reason) => Err(reason),
-        },
-        Key::ResponseTenths => match read_number(text, 1, 31_744) {
-            Ok(number) => Ok(Setting::ResponseTenths(number)),
-            Err(reason) => Err(reason),
-        },
-        Key::Endpoints => endpoints_of_text(text),
-        Key::Groups => groups_of_text(text),
-        Key::Sources => sources_of_text(text),
-        Key::PacketLimit => packet_limit_of_text(text),
+        Key::Number(key) => number_of_text(key, text),
         Key::Secret => match read_secret(text) {
             Some(secret) => Ok(Setting::Secret(secret)),
             None => Err(Reason::Hex),

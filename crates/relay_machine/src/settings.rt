@@ -1,5 +1,5 @@
 //! What a relay is set up with, by the table of numbers. It knows no script and no file that says it.
-ghost use Rattle.std.specs.Prelude.{◌≡◌, ◌≤◌, ◌*◌, ◌↔◌, IsTrue};
+ghost use Rattle.std.specs.Prelude.{◌≡◌, ◌≤◌, ◌*◌, ◌↔◌, IsTrue, IsFalse};
 ghost use Rattle.relay_machine.specs.declared.number_key.NumberKey.{NumberKey as Key};
 ghost use Rattle.relay_machine.specs.Settings.{AreLawfulSettings, HasCode, HasMldCode, HasQueryTimes, IsInRange, default_settings, membership_interval_ms, number_at, with_number};
 
@@ -73,8 +73,20 @@ impl Settings {
         }
     }
 
-    /// Sets the key's number, and nothing else.
-    pub fn set_number(&mut self, key: NumberKey, number: u32)
+    /// Sets the key's number where it is in the key's range, and answers whether it is.
+    pub fn set_number(&mut self, key: NumberKey, number: u32) -> bool
+        ensures allowed { IsTrue result ↔ IsInRange key number }
+        ensures set { IsTrue result → self.new ≡ with_number self.old key number }
+        ensures same { IsFalse result → self.new ≡ self.old }
+    {
+        if !key.allows(number) {
+            return false;
+        }
+        self.put_number(key, number);
+        true
+    }
+
+    fn put_number(&mut self, key: NumberKey, number: u32)
         requires { IsInRange key number }
         ensures { self.new ≡ with_number self.old key number }
     {

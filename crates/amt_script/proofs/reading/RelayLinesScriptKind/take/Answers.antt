@@ -1,7 +1,7 @@
 use Rattle.std.proofs.Common.{◌∷◌}
 use Rattle.script_lines.specs.Lines.{fields}
 use Rattle.amt_script.specs.declared.line.RelayStatement.TheVariants as statements
-use Rattle.amt_script.proofs.Heard.{says_after, heard_setting, heard_item}
+use Rattle.amt_script.proofs.Heard.{allowed_by_line, says_after, heard_setting, heard_item}
 use Rattle.amt_script.proofs.reading.RelayLinesScriptKind.take.Goals as goal
 
 pub returns-in-Ok-clause-heard : goal.returns-in-Ok-clause-heard
@@ -12,7 +12,7 @@ returns-in-Ok-clause-heard c = λ past those.
     let says = rw (c.in-Ok-Setting.field-0-is, c.as_slice.ensures.value, c.as_slice-2.ensures) at c.in-Ok-Setting.ensures.found in (
       statements.Setting setting,
       says_after lines.given.items lines.items past (statements.Setting setting) line those says,
-      rw c.in-Ok.ensures.items (heard_setting lines.given.items lines.items past setting those),
+      rw c.in-Ok.ensures.items (heard_setting lines.given.items lines.items past setting those (allowed_by_line setting line says.1)),
     )
 
 pub returns-in-Ok-push-clause-heard : goal.returns-in-Ok-push-clause-heard
