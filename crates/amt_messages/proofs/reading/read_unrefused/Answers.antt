@@ -1,4 +1,4 @@
-use Rattle.std.proofs.Common.{◌≡◌, slice_index, arith}
+use Rattle.std.proofs.Common.{◌≡◌, slice_index, arith, refl}
 use Rattle.amt_messages.proofs.Unrefused.{unrefused_first, unrefused_small, unrefused_defined, unrefused_length, unrefused_advertisement, unrefused_query-head, unrefused_query-whole}
 use Rattle.amt_messages.proofs.reading.read_unrefused.Goals as goal
 
@@ -7,6 +7,9 @@ bounds-bytes-0 c = unrefused_first c.args.bytes.now c.requires
 
 pub read_discovery-requires : goal.read_discovery-requires
 read_discovery-requires c = unrefused_length 1 c.args.bytes.now c.requires c.in-1.is
+
+pub returns-in-1 : goal.returns-in-1
+returns-in-1 c = rw (c.in-1.is, c.read_discovery.ensures) refl
 
 pub read_advertisement-requires : goal.read_advertisement-requires
 read_advertisement-requires c = unrefused_advertisement c.args.bytes.now c.requires c.in-2.is
