@@ -29,9 +29,6 @@ drop_first n membership rest = ap (λ (more : ℕ). drop more (membership ∷ re
 abbrev pub is_of : EndpointValue → Membership → Bool
 is_of endpoint membership = same_endpoint membership.endpoint endpoint
 
-turned_order : (endpoint : EndpointValue) (membership : Membership) (order : Ordering) → endpoint_order membership.endpoint endpoint ≡ order → endpoint_order endpoint membership.endpoint ≡ ordering_reverse order
-turned_order endpoint membership order is = endpoint_order-total.antisymm endpoint membership.endpoint ∙ ap ordering_reverse is
-
 not_less_by : (first second : Ordering) → ordering_then first second ≡ Less → (first ≡ Greater → ⊥)
 not_less_by Greater second less is = cc
 not_less_by Less second less is = cc

@@ -46,14 +46,15 @@ impl StoredMemberships {
         requires { lifetime_ms ≤ 1000000000 }
         ensures { self.new ≡ filter (is_fresh lifetime_ms moment) self.old }
     {
-        purge(&mut self.rows, moment, lifetime_ms);
+        self.rows
+            .retain(|membership| membership.is_fresh(moment, lifetime_ms));
     }
 
     /// Drops the memberships of the endpoint.
     pub fn drop_endpoint(&mut self, endpoint: &Endpoint)
         ensures { self.new ≡ filter (is_of_another endpoint.now) self.old }
     {
-        drop_endpoint(&mut self.rows, endpoint);
+        self.rows.retain(|membership| !membership.is_of(endpoint));
     }
 
     /// Puts these memberships in the place of the endpoint's.
@@ -66,21 +67,11 @@ impl StoredMemberships {
             earlier endpoint.now self.old ++ (own.items ++ later endpoint.now self.old)) }
         ensures err { OnErr result (self.new ≡ self.old) }
     {
-        replace(&mut self.rows, endpoint, own)
+        let start = start_of(&self.rows, endpoint);
+        let end = end_of(&self.rows, endpoint);
+        self.rows.splice(start..end, own)?;
+        Ok(())
     }
-}
-
-fn purge(rows: &mut Vec<StoredMembership>, moment: Moment, lifetime_ms: u64)
-    requires { lifetime_ms ≤ 1000000000 }
-    ensures { rows.new.items ≡ filter (is_fresh lifetime_ms moment) rows.old.items }
-{
-    rows.retain(|membership| membership.is_fresh(moment, lifetime_ms));
-}
-
-fn drop_endpoint(rows: &mut Vec<StoredMembership>, endpoint: &Endpoint)
-    ensures { rows.new.items ≡ filter (is_of_another endpoint.now) rows.old.items }
-{
-    rows.retain(|membership| !membership.is_of(endpoint));
 }
 
 // Whether the endpoint has some membership.
@@ -106,19 +97,4 @@ fn end_of(rows: &[StoredMembership], endpoint: &Endpoint) -> usize
     rows.iter()
         .take_while(|membership| !membership.is_after(endpoint))
         .count()
-}
-
-fn replace(
-    rows: &mut Vec<StoredMembership>,
-    endpoint: &Endpoint,
-    own: Vec<StoredMembership>,
-) -> Result<(), AllocError>
-    ensures ok { OnOk result (rows.new.items ≡
-        earlier endpoint.now rows.old.items ++ (own.items ++ later endpoint.now rows.old.items)) }
-    ensures err { OnErr result (rows.new.items ≡ rows.old.items) }
-{
-    let start = start_of(rows, endpoint);
-    let end = end_of(rows, endpoint);
-    rows.splice(start..end, own)?;
-    Ok(())
 }

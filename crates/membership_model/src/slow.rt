@@ -9,16 +9,16 @@ ghost use Rattle.endpoint_membership.specs.Log.{brought, latest, leaving, live_c
 ghost use Rattle.endpoint_membership.specs.EndpointGroup.{endpoint_group_order, same_group};
 ghost use Rattle.endpoint_membership.specs.Memberships.{endpoint_groups_in, endpoint_groups_of, rows_of, row_of, membership_at};
 
-mod wants;
 mod group_filter;
+mod wants;
 
 use amt_values::{Endpoint, Ip, Moment};
 use endpoint_membership::{Change, Row, Rows};
+use group_filter::{filter_of, wants_any};
 use source_filter::{Ips, Record, RecordKind, Records, copy_record};
 use std::alloc::{AllocError, Global};
 use std::marker::Model;
 pub use wants::slow_targets;
-use group_filter::{wants_any, filter_of};
 
 /// An endpoint and a group, ordered by endpoint and then by group.
 #[derive(Clone, Copy, Debug, PartialEq, Eq, PartialOrd, Ord)]
@@ -88,7 +88,11 @@ fn add_on_group(
 }
 
 // The records that an entry makes of the endpoint on the group, newest first.
-fn made_at(alloc: Global, endpoint_group: &EndpointAndGroup, entry: &Change) -> Result<Records, AllocError>
+fn made_at(
+    alloc: Global,
+    endpoint_group: &EndpointAndGroup,
+    entry: &Change,
+) -> Result<Records, AllocError>
     ensures { IfOk result (λ records. records ≡ records_at endpoint_group.now entry.now) }
 {
     let mut made = Records::new(alloc);
@@ -161,7 +165,14 @@ fn slow_row(
         ≡ option_map row_of (membership_at lifetime_ms moment.now (reverse log.now) endpoint_group.now)) }
 {
     let mut records = Records::new(alloc);
-    add_live(alloc, &mut records, lifetime_ms, endpoint_group, moment.ms(), log)?;
+    add_live(
+        alloc,
+        &mut records,
+        lifetime_ms,
+        endpoint_group,
+        moment.ms(),
+        log,
+    )?;
     let filter = filter_of(alloc, records.as_slice())?;
     if !wants_any(&filter) {
         return Ok(None);

@@ -22,10 +22,6 @@ pub record IsReduced (old done held : List Ip) : Type 0 where
   pub ascends : IsAscending ip_order held
   pub each : (source : Ip) → has ip_order held source ≡ (has ip_order old source && not (has ip_order done source))
 
-united_none : (old : Bool) → old ≡ (old || false)
-united_none true = refl
-united_none false = refl
-
 united_one : (last old done : Bool) → cond last true (old || done) ≡ (old || (done || (last || false)))
 united_one true true done = refl
 united_one true false true = refl
@@ -34,10 +30,6 @@ united_one false true done = refl
 united_one false false true = refl
 united_one false false false = refl
 
-reduced_none : (old : Bool) → old ≡ (old && true)
-reduced_none true = refl
-reduced_none false = refl
-
 reduced_one : (last old done : Bool) → cond last false (old && not done) ≡ (old && not (done || (last || false)))
 reduced_one true true true = refl
 reduced_one true true false = refl
@@ -45,12 +37,6 @@ reduced_one true false done = refl
 reduced_one false true true = refl
 reduced_one false true false = refl
 reduced_one false false done = refl
-
-pub IsUnited-none : (old : List Ip) → IsAscending ip_order old → IsUnited old [] old
-IsUnited-none old ascends = record { ascends = ascends; each = λ source. united_none (has ip_order old source) }
-
-pub IsReduced-none : (old : List Ip) → IsAscending ip_order old → IsReduced old [] old
-IsReduced-none old ascends = record { ascends = ascends; each = λ source. reduced_none (has ip_order old source) }
 
 -- a set that ascends and has this source or not, by the order of addresses
 record IsUpdated (before after : BTreeSet Ip) (source : Ip) (present : Bool) : Type 0 where
@@ -105,9 +91,6 @@ reduced old done held ascends all =
 
 abbrev pub listing : Mode → List Ip → FilterValue
 listing mode sources = record { mode = mode; sources = sources }
-
-pub same_filter : {one other : FilterValue} → one.mode ≡ other.mode → one.sources ≡ other.sources → one ≡ other
-same_filter h k = λ i. record { mode = h i; sources = k i }
 
 -- the different sources of a list that ascends are the list
 pub ascending_listed : (mode : Mode) (listed keys : List Ip) → listed ≡ keys → IsAscending ip_order keys → listing mode (ascending_sources listed) ≡ listing mode keys

@@ -1,3 +1,5 @@
+//! Why a payload is no report or no query. It must not know how one is read.
+
 /// Why a payload is no membership report, or no query: the first of these that holds.
 ///
 /// The head comes first: `Short`, then the type, which is `OldReport` or `Kind`, then `Sum`. After it

@@ -1,3 +1,5 @@
+//! The filter modes. It must not know filters.
+
 /// Whether the sources of a list are the wanted ones or the unwanted ones (RFC 3376, section 3.1).
 #[derive(Clone, Copy, Debug, PartialEq, Eq)]
 pub enum Mode {

@@ -1,3 +1,5 @@
+//! The fields of a query. It must not know how they are laid out.
+
 use amt_values::Ip;
 
 /// What a General Query asks of its listeners (RFC 3376, section 4.1; RFC 3810, section 5.1).

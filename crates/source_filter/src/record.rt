@@ -1,3 +1,5 @@
+//! Group records. It must not know filters.
+
 use crate::ips::Ips;
 use amt_values::Ip;
 

@@ -51,7 +51,14 @@ fn wants(
 {
     let moment_ms = moment.ms().max(latest_ms(log));
     let mut records = Records::new(alloc);
-    add_live(alloc, &mut records, lifetime_ms, endpoint_group, moment_ms, log)?;
+    add_live(
+        alloc,
+        &mut records,
+        lifetime_ms,
+        endpoint_group,
+        moment_ms,
+        log,
+    )?;
     Ok(is_admitted(records.as_slice(), source))
 }
 

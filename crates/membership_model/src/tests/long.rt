@@ -4,8 +4,8 @@ ghost use Rattle.std.specs.Prelude.{◌≡◌, length};
 ghost use Rattle.endpoint_membership.specs.Table.{IsWithinLimits};
 
 use super::fixtures::{
-    CHANNEL, GROUP, OTHER, RecordRow, WIDE, are_few, assert_rows, assert_slow_rows, endpoint, moment,
-    record_of, report, table,
+    CHANNEL, GROUP, OTHER, RecordRow, WIDE, are_few, assert_rows, assert_slow_rows, endpoint,
+    moment, record_of, report, table,
 };
 use super::random::Words;
 use amt_values::{Ip, Moment};
@@ -75,10 +75,24 @@ fn assert_sums(
     let (one, _) = ascending.split_at(1);
     let (first, rest) = ascending.split_at(300);
     let mut table = table(alloc, &WIDE)?;
-    assert_each(rt, alloc, &mut table, Allow, scattered, (Include, ascending))?;
+    assert_each(
+        rt,
+        alloc,
+        &mut table,
+        Allow,
+        scattered,
+        (Include, ascending),
+    )?;
     assert_each(rt, alloc, &mut table, Block, first, (Include, rest))?;
     assert_each(rt, alloc, &mut table, IsEx, one, (Exclude, one))?;
-    assert_each(rt, alloc, &mut table, Block, scattered, (Exclude, ascending))?;
+    assert_each(
+        rt,
+        alloc,
+        &mut table,
+        Block,
+        scattered,
+        (Exclude, ascending),
+    )?;
     assert_each(rt, alloc, &mut table, Allow, rest, (Exclude, first))?;
     Ok(())
 }

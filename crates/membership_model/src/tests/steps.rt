@@ -69,12 +69,7 @@ fn take(rt: &impl Abort, alloc: Global, table: &mut Table, step: &Step) -> Resul
 }
 
 // Takes the steps in their order, from an empty table on.
-fn run(
-    rt: &impl Abort,
-    alloc: Global,
-    limits: &Limits,
-    steps: &[Step],
-) -> Result<(), AllocError>
+fn run(rt: &impl Abort, alloc: Global, limits: &Limits, steps: &[Step]) -> Result<(), AllocError>
     requires endpoints { limits.now.endpoints ≤ 1000 }
     requires groups { limits.now.groups ≤ 1000 }
     requires sources { limits.now.sources ≤ 1000 }
