@@ -50,7 +50,11 @@ fn has_sum_around(pseudo_header: &[u8], prefix: &[u8], suffix: &[u8], sum: u16) 
 
 fn assert_sums_around(rt: &impl Abort, rows: &[Row]) {
     for (what, pseudo_header, prefix, suffix, sum) in rows {
-        assert_row(rt, what, has_sum_around(pseudo_header, prefix, suffix, *sum));
+        assert_row(
+            rt,
+            what,
+            has_sum_around(pseudo_header, prefix, suffix, *sum),
+        );
     }
 }
 
