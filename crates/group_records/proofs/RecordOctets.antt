@@ -1,5 +1,5 @@
 -- One record: its octets are read as it, and octets that are no fault are those of what is read.
-use Rattle.std.proofs.Common.{◌≡◌, ℕ, ◌+◌, ◌*◌, ◌/◌, ◌≤◌, List, [], ◌∷◌, ◌++◌, length, length-append, length-drop, take, drop, slice_index, Bool, true, false, cond, ltb, Option, Some, None, refl, sym, ap, ◌∙◌, arith, append_assoc, take-append-drop}
+use Rattle.std.proofs.Common.{◌≡◌, ℕ, ◌+◌, ◌*◌, ◌/◌, ◌≤◌, List, [], ◌∷◌, ◌++◌, length, length-append, length-drop, take, drop, slice_index, None, refl, sym, ap, ◌∙◌, arith, append_assoc, take-append-drop}
 use Rattle.std.proofs.lemmas.Bool.{ltb-false, le-ltb}
 use Rattle.std.proofs.lemmas.List.{drop-drop, length-take-le}
 use Rattle.std.specs.List.{flat_map}
@@ -9,8 +9,6 @@ use Rattle.amt_values.specs.Octets.{AreOctets}
 use Rattle.amt_values.proofs.NetworkOrder.{AreOctets-drop, AreOctets-take, bytes_high_first-take}
 use Rattle.contract_words.specs.Conditions.{first_holding}
 use Rattle.contract_words.proofs.ConditionLaws.{NoneHolds-of, first_holding-none}
-use Rattle.source_filter.specs.declared.fault.ReportFault.{ReportFault}
-use Rattle.source_filter.specs.declared.fault.ReportFault.TheVariants.{RecordShort, SourceShort}
 use Rattle.group_records.specs.declared.family.Family.{Family}
 use Rattle.group_records.specs.CarriedRecord.{CarriedRecord, IsCarriedRecord, record_octets}
 use Rattle.group_records.specs.Family.{width}

@@ -1,22 +1,18 @@
 -- From what was answered by the reading of a payload to what it says of the report.
-use Rattle.std.proofs.Common.{◌≡◌, ◌↔◌, ℕ, ◌≤◌, List, length, drop, slice_index, ◌++◌, Bool, true, false, cond, eqb, ltb, Option, Some, None, Result, Ok, Err, refl, sym, subst, ap, ◌∙◌}
-use Rattle.std.proofs.lemmas.Bool.{eqb-true, eq-eqb, ltb-false, le-ltb}
+use Rattle.std.proofs.Common.{◌≡◌, ◌↔◌, ℕ, ◌≤◌, List, length, drop, slice_index, ◌++◌, false, Option, Some, None, Result, Ok, Err, refl, sym, subst, ap, ◌∙◌}
+use Rattle.std.proofs.lemmas.Bool.{ltb-false, le-ltb}
 use Rattle.std.specs.Result.{IfOk, MatchResult}
-use Rattle.byteorder.specs.Endian.{big_number}
 use Rattle.amt_values.specs.Octets.{AreOctets}
 use Rattle.amt_values.proofs.NetworkOrder.{AreOctets-drop}
-use Rattle.inner_datagrams.specs.Checksum.{words, ones_sum, IsRight}
+use Rattle.inner_datagrams.specs.Checksum.{IsRight}
 use Rattle.contract_words.specs.Answer.{Tells}
 use Rattle.contract_words.specs.Conditions.{Conditions, first_holding, unless}
 use Rattle.contract_words.proofs.AnswerLaws.{answer_refused as refused_by}
 use Rattle.contract_words.proofs.ConditionLaws.{NoneHolds-of, first_holding-both_none, first_holding-later, first_holding-none, holds_not, skips_same, unless-ok}
 use Rattle.source_filter.specs.declared.record.Record.{Record}
 use Rattle.source_filter.specs.declared.fault.ReportFault.{ReportFault}
-use Rattle.source_filter.specs.declared.fault.ReportFault.TheVariants.{Short}
 use Rattle.source_filter.specs.declared.fault.ReadFault.{ReadFault}
-use Rattle.source_filter.specs.declared.fault.ReadFault.TheVariants.{Report, Memory}
 use Rattle.group_records.specs.declared.family.Family.{Family}
-use Rattle.group_records.specs.CarriedRecord.{known_records}
 use Rattle.group_records.specs.declared.family.Family.TheVariants.{V4, V6}
 use Rattle.group_records.specs.Family.{is_old_report, report_type}
 use Rattle.group_records.specs.Report.{IsReport, IsSomeReport}

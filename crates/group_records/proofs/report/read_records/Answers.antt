@@ -1,4 +1,4 @@
-use Rattle.std.proofs.Common.{◌≡◌, ℕ, drop, Some, None, ap, ◌∙◌, rules}
+use Rattle.std.proofs.Common.{◌≡◌, drop, Some, None, rules}
 use Rattle.contract_words.specs.Conditions.{first_holding}
 use Rattle.group_records.specs.Reading.{record_faults, record_length}
 use Rattle.group_records.proofs.LoopSteps.{asks_here, asks_later, fault_here, fault_step, known_step, reading-err, reading-ok}
