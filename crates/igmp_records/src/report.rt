@@ -17,7 +17,7 @@ use std::alloc::{AllocError, Global};
 /// Reads a whole payload of at most 16 MiB as one IGMPv3 membership report (RFC 3376, section 4.2).
 ///
 /// The faults are tried in the order of `ReportFault`; the reports of IGMPv1 and IGMPv2 and the
-/// leave of IGMPv2 are old reports. Memory is asked for the records that are kept; want of it may come
+/// leave of IGMPv2 are old reports. Memory is asked for the records that are kept; running out may come
 /// before a later record's fault.
 pub fn read_report4(alloc: Global, payload: &[u8]) -> Result<Records, ReadFault>
     requires { length payload.now ≤ INPUT_LIMIT }

@@ -1,6 +1,6 @@
 -- The one's complement sum of words and their plain sum: they leave one remainder by 65535, and are
 -- zero together.
-use Rattle.std.proofs.Common.{◌≡◌, ℕ, zero, suc, ◌+◌, ◌%◌, ◌↔◌, ◌<◌, List, [], ◌∷◌, slice_index, sum, min, arith}
+use Rattle.std.proofs.Common.{◌≡◌, ℕ, zero, suc, ◌+◌, ◌*◌, ◌%◌, ◌↔◌, ◌<◌, List, [], ◌∷◌, ◌++◌, length, slice_index, sum, min, refl, ap, arith}
 use Rattle.std.proofs.lemmas.List.Sums.{sum_by-cons}
 use Rattle.amt_values.specs.Octets.{AreOctets}
 use Rattle.inner_datagrams.specs.Checksum.{words, ones_add, ones_sum}
@@ -38,3 +38,11 @@ pub StandsFor-ones_sum : (ws : List ℕ) → AreWords ws → StandsFor (sum ws) 
 StandsFor-ones_sum [] small = record { fits = omega arith; same_remainder = omega arith; both_zero = omega arith }
 StandsFor-ones_sum (word ∷ rest) small =
     rw (sum_by-cons (λ (x : ℕ). x) word rest) (StandsFor-ones_add (sum rest) word (ones_sum rest) (small 0) (StandsFor-ones_sum rest (λ k. small (suc k))))
+
+-- an even number of octets before it are words of their own
+pub words-append : (prefix suffix : List ℕ) (pairs : ℕ) → length prefix ≡ pairs * 2 → words (prefix ++ suffix) ≡ words prefix ++ words suffix
+words-append [] suffix pairs even = refl
+words-append (last ∷ []) suffix pairs even = absurd (omega arith)
+words-append (high ∷ low ∷ prefix) suffix zero even = absurd (omega arith)
+words-append (high ∷ low ∷ prefix) suffix (suc pairs) even =
+    ap (λ (ws : List ℕ). (high * 256 + low) ∷ ws) (words-append prefix suffix pairs (omega arith))

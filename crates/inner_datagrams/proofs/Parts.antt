@@ -1,22 +1,15 @@
 -- The one's complement sum of bytes in parts: an even number of octets is summed for itself.
-use Rattle.std.proofs.Common.{◌≡◌, ℕ, zero, suc, ◌+◌, ◌*◌, ◌/◌, ◌%◌, ◌<◌, List, [], ◌∷◌, ◌++◌, length, length-append, sum, refl, ap, arith}
+use Rattle.std.proofs.Common.{◌≡◌, ℕ, zero, suc, ◌+◌, ◌/◌, ◌%◌, ◌<◌, List, [], ◌∷◌, ◌++◌, length, length-append, sum, refl, arith}
 use Rattle.std.proofs.lemmas.List.Sums.{sum_by-append}
 use Rattle.amt_values.specs.Octets.{AreOctets}
 use Rattle.inner_datagrams.specs.Checksum.{words, ones_add, ones_sum, internet_sum_of}
-use Rattle.inner_datagrams.proofs.OnesComplement.{AreWords-words, StandsFor, StandsFor-ones_sum, same_word}
+use Rattle.inner_datagrams.proofs.OnesComplement.{AreWords-words, StandsFor, StandsFor-ones_sum, same_word, words-append}
 
 pub AreOctets-append : (prefix suffix : List ℕ) → AreOctets prefix → AreOctets suffix → AreOctets (prefix ++ suffix)
 AreOctets-append [] suffix prefix_small suffix_small k = suffix_small k
 AreOctets-append (first ∷ prefix) suffix prefix_small suffix_small zero = prefix_small 0
 AreOctets-append (first ∷ prefix) suffix prefix_small suffix_small (suc k) =
     AreOctets-append prefix suffix (λ j. prefix_small (suc j)) suffix_small k
-
-even_words-append : (prefix suffix : List ℕ) (pairs : ℕ) → length prefix ≡ pairs * 2 → words (prefix ++ suffix) ≡ words prefix ++ words suffix
-even_words-append [] suffix pairs even = refl
-even_words-append (last ∷ []) suffix pairs even = absurd (omega arith)
-even_words-append (high ∷ low ∷ prefix) suffix zero even = absurd (omega arith)
-even_words-append (high ∷ low ∷ prefix) suffix (suc pairs) even =
-    ap (λ (ws : List ℕ). (high * 256 + low) ∷ ws) (even_words-append prefix suffix pairs (omega arith))
 
 StandsFor-both : (one other a b : ℕ) → StandsFor one a → StandsFor other b → StandsFor (one + other) (ones_add a b)
 StandsFor-both one other a b left right =
@@ -28,7 +21,7 @@ ones_sum-fits bytes small = (StandsFor-ones_sum (words bytes) (AreWords-words by
 pub ones_sum-append_even : (prefix suffix : List ℕ) → length prefix % 2 ≡ 0 → AreOctets prefix → AreOctets suffix
     → ones_sum (words (prefix ++ suffix)) ≡ ones_add (ones_sum (words prefix)) (ones_sum (words suffix))
 ones_sum-append_even prefix suffix even prefix_small suffix_small =
-    let parts = even_words-append prefix suffix (length prefix / 2) (omega arith) in
+    let parts = words-append prefix suffix (length prefix / 2) (omega arith) in
     let total = sum_by-append (λ (x : ℕ). x) (words prefix) (words suffix) in
     let left = StandsFor-ones_sum (words prefix) (AreWords-words prefix prefix_small) in
     let right = StandsFor-ones_sum (words suffix) (AreWords-words suffix suffix_small) in

@@ -1,10 +1,10 @@
 -- Bytes whose checksum field holds the checksum of the same bytes with a zero there add up right.
-use Rattle.std.proofs.Common.{◌≡◌, ℕ, zero, suc, ◌+◌, ◌-◌, ◌*◌, ◌/◌, ◌%◌, ◌<◌, List, [], ◌∷◌, ◌++◌, length, sum, eqb, refl, ap, arith}
+use Rattle.std.proofs.Common.{◌≡◌, ℕ, zero, suc, ◌+◌, ◌-◌, ◌*◌, ◌/◌, ◌%◌, ◌<◌, List, [], ◌∷◌, ◌++◌, length, sum, eqb, arith}
 use Rattle.std.proofs.lemmas.List.Sums.{sum_by-cons, sum_by-append}
 use Rattle.byteorder.specs.Endian.{big_bytes}
 use Rattle.amt_values.specs.Octets.{AreOctets}
 use Rattle.inner_datagrams.specs.Checksum.{words, ones_sum, internet_sum_of, IsRight, has_right_sum}
-use Rattle.inner_datagrams.proofs.OnesComplement.{AreWords, AreWords-words, StandsFor, StandsFor-ones_sum}
+use Rattle.inner_datagrams.proofs.OnesComplement.{AreWords, AreWords-words, StandsFor, StandsFor-ones_sum, words-append}
 
 -- words stay words where one takes another's place
 AreWords-between : (prefix suffix : List ℕ) (word other : ℕ) → AreWords (prefix ++ other ∷ suffix) → word < 65536 → AreWords (prefix ++ word ∷ suffix)
@@ -31,14 +31,6 @@ ones_sum-complement prefix suffix small =
     let before = rw (sum-between prefix suffix 0) at (StandsFor-ones_sum (prefix ++ 0 ∷ suffix) small) in
     let after = rw (sum-between prefix suffix word) at (StandsFor-ones_sum (prefix ++ word ∷ suffix) filled) in
     complement_fills (sum (prefix ++ suffix)) blank _ before after
-
--- an even number of octets before it are words of their own
-words-append : (prefix suffix : List ℕ) (pairs : ℕ) → length prefix ≡ pairs * 2 → words (prefix ++ suffix) ≡ words prefix ++ words suffix
-words-append [] suffix pairs even = refl
-words-append (last ∷ []) suffix pairs even = absurd (omega arith)
-words-append (high ∷ low ∷ prefix) suffix zero even = absurd (omega arith)
-words-append (high ∷ low ∷ prefix) suffix (suc pairs) even =
-    ap (λ (ws : List ℕ). (high * 256 + low) ∷ ws) (words-append prefix suffix pairs (omega arith))
 
 word_of_octets : (word : ℕ) → word < 65536 → word / 256 % 256 * 256 + word % 256 ≡ word
 word_of_octets word small = omega arith

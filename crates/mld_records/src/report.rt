@@ -20,7 +20,7 @@ use std::alloc::{AllocError, Global};
 ///
 /// The addresses and the payload's length are summed with it (RFC 8200, section 8.1). The faults are
 /// tried in the order of `ReportFault`; the report and the done of MLDv1 are old reports. Memory is
-/// asked for the records that are kept; want of it may come before a later record's fault.
+/// asked for the records that are kept; running out may come before a later record's fault.
 pub fn read_report6(
     alloc: Global,
     source: u128,

@@ -78,7 +78,10 @@ fn assert_codes(rt: &impl Abort, rows: &[(Family, u16, u32)]) {
 
 fn assert_no_codes(rt: &impl Abort, values: &[(Family, u32)]) {
     for (family, value) in values {
-        assert!(rt; value_code(*family, *value).is_none(), "the code of {value}");
+        assert!(rt;
+            value_code(*family, *value).is_none(),
+            "the code of {value}"
+        );
     }
 }
 
