@@ -1,6 +1,9 @@
-use Rattle.std.proofs.Common.{◌≡◌, sym}
+use Rattle.std.proofs.Common.{◌≡◌, refl, sym}
 use Rattle.response_mac.specs.ResponseMac.{is_good}
+use Rattle.relay_machine.specs.declared.outcome.Outcome.TheVariants.{WrongKind}
+use Rattle.relay_machine.specs.EventAnswer.{quiet}
 use Rattle.relay_machine.specs.Settings.{table_settings_of}
+use Rattle.relay_machine.proofs.Answering.{answered-unchanged}
 use Rattle.relay_machine.proofs.datagram.take_message.Goals as goal
 
 pub returns-in-Discovery-clause-answers : goal.returns-in-Discovery-clause-answers
@@ -16,3 +19,10 @@ pub returns-in-Teardown-clause-answers : goal.returns-in-Teardown-clause-answers
 returns-in-Teardown-clause-answers c log holds =
     let good : is_good c.args.secrets.now c.in-Teardown.gateway c.in-Teardown.nonce c.in-Teardown.mac ≡ c.matches-good-in-Teardown.result = sym c.matches-good-in-Teardown.ensures.test in
     rw (c.in-Teardown.is, good) (c.take_teardown.ensures.answers (table_settings_of c.args.setup.now.settings) log holds)
+
+pub returns-in-Request-clause-answers : goal.returns-in-Request-clause-answers
+returns-in-Request-clause-answers c log holds = rw c.in-Request.is (c.take_request.ensures log holds)
+
+pub returns-in-Multicast-clause-answers : goal.returns-in-Multicast-clause-answers
+returns-in-Multicast-clause-answers c log holds =
+    rw c.in-Multicast.is (answered-unchanged _ _ _ log (quiet (WrongKind 6)) _ holds refl refl c.quiet-in-Multicast.ensures.outcome c.quiet-in-Multicast.ensures.sends c.quiet-in-Multicast.ensures.change)
