@@ -12,7 +12,7 @@ const INNER: &[u8; 36] =
     b"\x46\xc0\x00\x24\x00\x00\x00\x00\x01\x02\x82\x11\xc0\x00\x02\x01\xe0\x00\x00\x01\x94\x04\x00\x00\x11\x64\xec\x1e\x00\x00\x00\x00\x02\x7d\x00\x00";
 
 // Octets, and why they are no message. The inner datagram of the Queries is a bare header of 20.
-const REFUSALS: [(&[u8], Refused); 17] = [
+const REFUSALS: [(&[u8], Refused); 18] = [
     (b"", Refused::Empty),
     (b"\x13\x00", Refused::Version(1)),
     (b"\x00", Refused::Kind(0)),
@@ -27,6 +27,10 @@ const REFUSALS: [(&[u8], Refused); 17] = [
     ),
     (
         b"\x04\x00\x00\x00\x00\x00\x00\x00\x00\x00\x00",
+        Refused::Short(12, 11),
+    ),
+    (
+        b"\x04\x01\x00\x00\x00\x00\x00\x00\x00\x00\x00",
         Refused::Short(12, 11),
     ),
     (
