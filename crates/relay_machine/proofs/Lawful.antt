@@ -11,7 +11,8 @@ use Rattle.source_filter.specs.declared.fault.ReadFault.TheVariants.{Report}
 use Rattle.source_filter.specs.declared.fault.ReportFault.{ReportFault}
 use Rattle.inner_datagrams.specs.Fault.{first_inner_fault}
 use Rattle.inner_datagrams.specs.Inner.{IsInner}
-use Rattle.inner_datagrams.specs.Reading.{inner_at, payload_in, payload_start, unless}
+use Rattle.contract_words.specs.Conditions.{unless}
+use Rattle.inner_datagrams.specs.Reading.{inner_at, payload_in, payload_start}
 use Rattle.inner_datagrams.specs.declared.inner.InnerFault.{InnerFault}
 use Rattle.inner_datagrams.proofs.Faults.{IsLawful-inner}
 use Rattle.inner_datagrams.proofs.Readings.{IsReading, answer_found, answer_payload}
@@ -19,7 +20,7 @@ use Rattle.group_records.specs.declared.family.Family.{Family}
 use Rattle.group_records.specs.declared.family.Family.TheVariants.{V4 as Igmp, V6 as Mld}
 use Rattle.group_records.specs.Reading.{Gives, report_of}
 use Rattle.group_records.specs.Report.{IsReport}
-use Rattle.group_records.proofs.Answered.{answer_found as report_found, answer_only as report_only}
+use Rattle.group_records.proofs.ReportReadings.{answer_found as report_found, answer_only as report_only}
 use Rattle.mld_records.specs.PseudoHeader.{pseudo_header}
 use Rattle.relay_machine.specs.Lawful.{IsLawful, IsReportBetween}
 use Rattle.relay_machine.specs.Updates.{carried_report, report_by, report_in}
