@@ -1,7 +1,7 @@
 -- A line is of one kind.
 use Rattle.std.proofs.Common.{◌≡◌, ◌<◌, ◌^◌, ℕ, ◌+◌, ◌*◌, ◌==◌, List, [], ◌∷◌, ◌++◌, length, get_or, Option, Some, None, find, if◌then◌else◌, refl, sym, ap, ◌∙◌, rules, arith}
-use Rattle.core.specs.Str.{bytes_eq}
 use Rattle.std.specs.List.{AllByRecursion}
+use Rattle.std.specs.Str.{bytes_eq}
 use Rattle.std.proofs.lemmas.List.Elements.{All-from_recursion}
 use Rattle.relay_machine.specs.declared.number_key.NumberKey.{NumberKey}
 use Rattle.relay_machine.specs.declared.number_key.TheConstants.{NUMBER_KEYS}
@@ -61,16 +61,16 @@ abbrev row_after_set : List (List ℕ) → Row
 row_after_set [] = row kinds.Moment []
 row_after_set (word ∷ values) = row (kinds.Set (marked_key word)) values
 
-abbrev row_of : List (List ℕ) → Row
-row_of [] = row kinds.Moment []
-row_of (word ∷ rest) =
+abbrev row_by_mark : List (List ℕ) → Row
+row_by_mark [] = row kinds.Moment []
+row_by_mark (word ∷ rest) =
     if mark word == 11503 then row_after_set rest
     else (if mark word == 9702 then row kinds.Moment rest
     else (if mark word == 11622 then row kinds.Secret rest
     else (if mark word == 11504 then row kinds.Show rest
     else (if mark word == 10902 then row kinds.Packet rest else row kinds.Datagram rest))))
 
-row_marked : (kind : Kind) (values : List (List ℕ)) → row_of (words_of kind ++ values) ≡ row kind values
+row_marked : (kind : Kind) (values : List (List ℕ)) → row_by_mark (words_of kind ++ values) ≡ row kind values
 row_marked (kinds.Set key) values = ap (λ (k : Key). row (kinds.Set k) values) (key_marked key)
 row_marked kinds.Moment values = refl
 row_marked kinds.Secret values = refl
@@ -80,7 +80,7 @@ row_marked kinds.Show values = refl
 
 same_row : (kind kind' : Kind) (values values' : List (List ℕ)) → words_of kind ++ values ≡ words_of kind' ++ values'
     → row kind values ≡ row kind' values'
-same_row kind kind' values values' same = sym (row_marked kind values) ∙ (ap row_of same ∙ row_marked kind' values')
+same_row kind kind' values values' same = sym (row_marked kind values) ∙ (ap row_by_mark same ∙ row_marked kind' values')
 
 pub same_kind : (kind kind' : Kind) (values values' : List (List ℕ)) → words_of kind ++ values ≡ words_of kind' ++ values' → kind ≡ kind'
 same_kind kind kind' values values' same = ap (λ (row : Row). row.kind) (same_row kind kind' values values' same)

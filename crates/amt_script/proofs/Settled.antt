@@ -1,5 +1,7 @@
 -- Settings of a script are settled in one way, and lawfully or not.
-use Rattle.std.proofs.Common.{◌≡◌, List, [], ◌∷◌, ◌++◌, Some, refl, sym, ap, subst, ◌∙◌}
+use Rattle.std.proofs.Common.{◌≡◌, ◌<◌, ◌+◌, ℕ, zero, suc, List, [], ◌∷◌, ◌++◌, length, get_or, take, Some, refl, sym, ap, subst, ◌∙◌, arith}
+use Rattle.std.proofs.lemmas.List.{take_more}
+use Rattle.std.specs.List.{AllByRecursion}
 use Rattle.amt_values.specs.declared.address.Ip.{Ip}
 use Rattle.response_mac.specs.declared.secret.Secret.{Secret}
 use Rattle.relay_machine.specs.Settings.{AreLawfulSettings, default_settings}
@@ -8,6 +10,7 @@ use Rattle.script_lines.specs.declared.reason.Reason.{Reason}
 use Rattle.script_lines.specs.declared.reason.Reason.TheVariants as reasons
 use Rattle.amt_script.specs.declared.setting.Setting.{Setting}
 use Rattle.amt_script.specs.Fault.{FailsAtEnd}
+use Rattle.amt_script.specs.Reading.{IsAllowed}
 use Rattle.amt_script.specs.Settling.{Settles, with_setting, with_settings}
 
 same_ip : (one other : Ip) → Some one ≡ Some other → one ≡ other
@@ -22,6 +25,20 @@ settled_values given values values' secret secret' h k =
 pub with_settings-more : (values : Settings) (given : List Setting) (setting : Setting) → with_settings values (given ++ setting ∷ []) ≡ with_setting (with_settings values given) setting
 with_settings-more values [] setting = refl
 with_settings-more values (first ∷ rest) setting = with_settings-more (with_setting values first) rest setting
+
+allowed_at : (given : List Setting) (i : ℕ) (d : Setting) → AllByRecursion IsAllowed given → i < length given → IsAllowed (get_or given i d)
+allowed_at [] i d all inside = absurd (omega arith)
+allowed_at (x ∷ xs) zero d all inside = all.0
+allowed_at (x ∷ xs) (suc i) d all inside = allowed_at xs i d all.1 (omega (arith, inside))
+
+-- the loop over the settings, one more
+pub settled_more : (start before after : Settings) (given : List Setting) (i : ℕ) (d : Setting) → i < length given → AllByRecursion IsAllowed given
+    → (IsAllowed (get_or given i d) → after ≡ with_setting before (get_or given i d))
+    → before ≡ with_settings start (take i given) → after ≡ with_settings start (take (i + 1) given)
+settled_more start before after given i d inside all sets same =
+    let x = get_or given i d in
+    sets (allowed_at given i d all inside) ∙ (ap (λ (v : Settings). with_setting v x) same
+    ∙ (sym (with_settings-more start (take i given) x) ∙ ap (with_settings start) (sym (take_more given i d inside))))
 
 pub wrong_at_end : (given : List Setting) (values : Settings) (secret : Secret) (reason : Reason) → Settles given values secret → AreLawfulSettings values
     → FailsAtEnd given reason → ⊥

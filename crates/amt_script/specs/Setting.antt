@@ -1,6 +1,6 @@
 -- Settings, and what is set under a key.
 use Rattle.std.specs.Prelude.{Bool, List, Option, find}
-use Rattle.core.specs.Str.{bytes_eq}
+use Rattle.std.specs.Str.{bytes_eq}
 use Rattle.amt_script.specs.declared.kind.Key.{Key}
 use Rattle.amt_script.specs.declared.kind.Key.TheVariants as keys
 use Rattle.amt_script.specs.declared.setting.Setting.{Setting}

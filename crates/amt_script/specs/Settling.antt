@@ -1,5 +1,5 @@
 -- The settings of a script: the defaults, changed by each setting that was given.
-use Rattle.std.specs.Prelude.{◌≡◌, ℕ, List, [], ◌∷◌, replicate, Option, Some, None}
+use Rattle.std.specs.Prelude.{◌≡◌, List, [], ◌∷◌, replicate, Option, Some, None}
 use Rattle.amt_values.specs.declared.address.Ip.{Ip}
 use Rattle.response_mac.specs.declared.secret.Secret.{Secret}
 use Rattle.relay_machine.specs.Settings.{default_settings, with_number}

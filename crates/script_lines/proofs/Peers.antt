@@ -7,10 +7,10 @@ use Rattle.std.specs.Int.{w32, to_be_bytes}
 use Rattle.std.specs.Net.Text.{dotted_text}
 use Rattle.amt_values.proofs.NetworkOrder.{AreOctets-bytes_high_first}
 use Rattle.amt_values.proofs.Lengths.{length-v6_text}
-use Rattle.amt_values.proofs.Segments.{AllSegments-groups_of}
+use Rattle.amt_values.proofs.Segments.{AllSegments-address_segments}
 use Rattle.amt_values.specs.declared.address.Ip.{Ip}
 use Rattle.amt_values.specs.declared.address.Ip.TheVariants.{V4, V6}
-use Rattle.amt_values.specs.Groups.{groups_of}
+use Rattle.amt_values.specs.Segments.{address_segments}
 use Rattle.amt_values.specs.Text.{v4_text, v6_text, address_and_port}
 use Rattle.script_lines.proofs.Glyphs.{IsGlyph, AreGlyphs, glyphs_of_digits}
 
@@ -30,7 +30,7 @@ glyphs_of_v4 number =
 glyphs_of_v6 : (number : ℕ) → AreGlyphs (v6_text number)
 glyphs_of_v6 number =
     All-weaker IsHexOrColon IsGlyph glyph_of_hex (v6_text number)
-    (All-hex_groups_text (groups_of number) (AllSegments-groups_of number))
+    (All-hex_groups_text (address_segments number) (AllSegments-address_segments number))
 
 pub glyphs_of_peer : (ip : Ip) (port : ℕ) → port < 2 ^ 16 → AreGlyphs (address_and_port ip port)
 glyphs_of_peer (V4 number) port small =
