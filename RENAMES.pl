@@ -6,6 +6,7 @@
 s/\bRattle\.endpoint_membership\.specs\.Kept\.\{is_fresh\}/Rattle.endpoint_membership.specs.Membership.{is_fresh}/;
 s/\bRattle\.endpoint_membership\.specs\.declared\.kept\.Kept\.\{Kept\}/Rattle.endpoint_membership.specs.Membership.{Membership}/;
 s/\bRattle\.endpoint_membership\.specs\.Kept\b/Rattle.endpoint_membership.specs.Stored/;
+s/\bRattle\.endpoint_membership\.specs\.Own\.\{on_group\}/Rattle.endpoint_membership.specs.Log.{on_group}/;
 s/\bRattle\.endpoint_membership\.specs\.Own\b/Rattle.endpoint_membership.specs.EndpointMemberships/;
 s/\bRattle\.endpoint_membership\.specs\.Place\b/Rattle.endpoint_membership.specs.EndpointGroup/;
 s/\bRattle\.endpoint_membership\.specs\.Rows\b/Rattle.endpoint_membership.specs.Memberships/;
