@@ -14,9 +14,9 @@ use Rattle.endpoint_membership.specs.declared.change.Change.{Change}
 use Rattle.endpoint_membership.specs.declared.change.Change.TheVariants.{Reported}
 use Rattle.endpoint_membership.specs.Membership.{Membership, is_fresh}
 use Rattle.endpoint_membership.specs.Stored.{earlier, later, only}
-use Rattle.endpoint_membership.specs.Log.{is_empty, latest}
+use Rattle.endpoint_membership.specs.Log.{is_empty, latest, on_group}
 use Rattle.endpoint_membership.specs.declared.after_report.RenewedFilter.{RenewedFilter}
-use Rattle.endpoint_membership.specs.EndpointMemberships.{AreOwn, filter_after_all, filter_or_nothing, on_group, membership_of_renewed, renewed_filter_after, renewed_filter_after_all, renewed_filter_of}
+use Rattle.endpoint_membership.specs.EndpointMemberships.{AreOwn, filter_after_all, filter_or_nothing, membership_of_renewed, renewed_filter_after, renewed_filter_after_all, renewed_filter_of}
 use Rattle.endpoint_membership.specs.EndpointGroup.{EndpointGroup, same_endpoint}
 use Rattle.endpoint_membership.specs.Memberships.{membership_of, membership_in, membership_at}
 use Rattle.endpoint_membership.specs.Table.{AreMembershipsAt}

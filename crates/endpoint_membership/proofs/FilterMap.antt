@@ -22,7 +22,8 @@ use Rattle.source_filter.specs.declared.record.Record.{Record}
 use Rattle.endpoint_membership.specs.Membership.{Membership, is_fresh, membership_order, endpoint_group_of}
 use Rattle.endpoint_membership.specs.Stored.{only}
 use Rattle.endpoint_membership.specs.declared.after_report.RenewedFilter.{RenewedFilter}
-use Rattle.endpoint_membership.specs.EndpointMemberships.{AreOf, is_own, membership_of_entry, on_group, membership_of_renewed, renewed_filter_after, renewed_filter_after_all, renewed_filter_of}
+use Rattle.endpoint_membership.specs.EndpointMemberships.{AreOf, is_own, membership_of_entry, membership_of_renewed, renewed_filter_after, renewed_filter_after_all, renewed_filter_of}
+use Rattle.endpoint_membership.specs.Log.{on_group}
 use Rattle.endpoint_membership.specs.EndpointGroup.{EndpointGroup, endpoint_group_order, same_endpoint, same_group, same_endpoint_group}
 use Rattle.source_filter.specs.Filter.{wants_any}
 use Rattle.endpoint_membership.specs.Memberships.{membership_in}

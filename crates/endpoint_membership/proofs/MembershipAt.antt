@@ -11,8 +11,8 @@ use Rattle.endpoint_membership.specs.declared.change.Change.{Change}
 use Rattle.endpoint_membership.specs.declared.change.Change.TheVariants.{Reported, Clear}
 use Rattle.endpoint_membership.specs.Membership.{Membership, is_fresh}
 use Rattle.endpoint_membership.specs.Stored.{only}
-use Rattle.endpoint_membership.specs.Log.{concerns, is_empty, latest, leaving, live_chain, records_at, renewed_at}
-use Rattle.endpoint_membership.specs.EndpointMemberships.{filter_after_all, on_group}
+use Rattle.endpoint_membership.specs.Log.{concerns, is_empty, latest, leaving, live_chain, on_group, records_at, renewed_at}
+use Rattle.endpoint_membership.specs.EndpointMemberships.{filter_after_all}
 use Rattle.endpoint_membership.specs.EndpointGroup.{EndpointGroup, same_endpoint}
 use Rattle.endpoint_membership.specs.Memberships.{membership_of, membership_at}
 use Rattle.endpoint_membership.specs.GroupFilter.{filter_of}

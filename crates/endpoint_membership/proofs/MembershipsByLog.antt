@@ -13,8 +13,7 @@ use Rattle.contract_words.proofs.AscendingLaws.{IsAscending-ascending, has-appen
 use Rattle.endpoint_membership.specs.declared.change.Change.{Change}
 use Rattle.endpoint_membership.specs.declared.change.Change.TheVariants.{Reported, Clear, Mark}
 use Rattle.endpoint_membership.specs.Membership.{Membership, membership_order, endpoint_group_of}
-use Rattle.endpoint_membership.specs.Log.{is_empty, latest, leaving, live_chain, records_at, renewed_at}
-use Rattle.endpoint_membership.specs.EndpointMemberships.{on_group}
+use Rattle.endpoint_membership.specs.Log.{is_empty, latest, leaving, live_chain, on_group, records_at, renewed_at}
 use Rattle.endpoint_membership.specs.EndpointGroup.{EndpointGroup, endpoint_group_order, same_endpoint, same_group, same_endpoint_group}
 use Rattle.endpoint_membership.specs.Memberships.{membership_of, endpoint_groups_in, endpoint_groups_of, membership_in, membership_at, memberships_at}
 use Rattle.endpoint_membership.specs.Table.{AreMembershipsAt}

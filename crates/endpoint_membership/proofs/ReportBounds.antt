@@ -24,7 +24,8 @@ use Rattle.source_filter.specs.declared.record.RecordKind.{RecordKind}
 use Rattle.source_filter.specs.declared.record.RecordKind.TheVariants.{Allow, Block}
 use Rattle.contract_words.proofs.AscendingLaws.{has-append, length-ascending}
 use Rattle.endpoint_membership.specs.Limits.{group_count}
-use Rattle.endpoint_membership.specs.EndpointMemberships.{AreOf, filter_after_all, on_group}
+use Rattle.endpoint_membership.specs.EndpointMemberships.{AreOf, filter_after_all}
+use Rattle.endpoint_membership.specs.Log.{on_group}
 use Rattle.endpoint_membership.specs.EndpointGroup.{EndpointGroup, same_endpoint, same_group, same_endpoint_group}
 use Rattle.endpoint_membership.specs.Membership.{membership_order, endpoint_group_of, Membership}
 use Rattle.endpoint_membership.specs.Memberships.{membership_in}

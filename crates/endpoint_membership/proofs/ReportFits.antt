@@ -19,8 +19,8 @@ use Rattle.endpoint_membership.specs.declared.limits.LimitFault.{LimitFault}
 use Rattle.endpoint_membership.specs.declared.limits.Limits.{Limits}
 use Rattle.endpoint_membership.specs.Stored.{earlier, is_counted, later, only}
 use Rattle.endpoint_membership.specs.Limits.{IsWithin, first_limit, group_count, live_count, size}
-use Rattle.endpoint_membership.specs.EndpointMemberships.{limit_by, AreOf, AreOwn, filter_or_nothing, is_over, on_group, membership_of_renewed, renewed_filter_after_all, renewed_filter_of}
-use Rattle.endpoint_membership.specs.Log.{is_empty}
+use Rattle.endpoint_membership.specs.EndpointMemberships.{limit_by, AreOf, AreOwn, filter_or_nothing, is_over, membership_of_renewed, renewed_filter_after_all, renewed_filter_of}
+use Rattle.endpoint_membership.specs.Log.{is_empty, on_group}
 use Rattle.endpoint_membership.specs.declared.after_report.RenewedFilter.{RenewedFilter}
 use Rattle.endpoint_membership.specs.EndpointGroup.{EndpointGroup, same_endpoint, same_group}
 use Rattle.source_filter.specs.Filter.{wants_any}

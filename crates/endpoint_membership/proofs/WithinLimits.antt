@@ -13,7 +13,8 @@ use Rattle.source_filter.specs.declared.record.Record.{Record}
 use Rattle.contract_words.proofs.AscendingLaws.{IsAscending-filter}
 use Rattle.endpoint_membership.specs.Stored.{only}
 use Rattle.endpoint_membership.specs.Limits.{IsWithin, first_limit, group_count, is_too_wide, live_count, size}
-use Rattle.endpoint_membership.specs.EndpointMemberships.{limit_by, on_group}
+use Rattle.endpoint_membership.specs.EndpointMemberships.{limit_by}
+use Rattle.endpoint_membership.specs.Log.{on_group}
 use Rattle.endpoint_membership.specs.EndpointGroup.{EndpointGroup, same_endpoint, same_group, same_endpoint_group}
 use Rattle.endpoint_membership.specs.Membership.{membership_order, endpoint_group_of, Membership}
 use Rattle.endpoint_membership.specs.Memberships.{membership_in}

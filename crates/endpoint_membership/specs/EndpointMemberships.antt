@@ -1,7 +1,7 @@
 -- The memberships of one endpoint after its report, as a table finds them. No public contract says
 -- these words.
 use Rattle.std.specs.Prelude.{◌≡◌, ℕ, Bool, true, List, [], ◌∷◌, Option, Some, None, ◌&&◌, length, nat_lt}
-use Rattle.std.specs.List.{AllByRecursion, filter, list_any}
+use Rattle.std.specs.List.{AllByRecursion, list_any}
 use Rattle.std.specs.Option.{option_map}
 use Rattle.amt_values.specs.declared.address.Ip.{Ip}
 use Rattle.amt_values.specs.EndpointValue.{EndpointValue}
@@ -11,6 +11,7 @@ use Rattle.source_filter.specs.Filter.{FilterValue, filter_after, nothing}
 use Rattle.source_filter.specs.declared.record.Record.{Record}
 use Rattle.endpoint_membership.specs.EndpointGroup.{same_endpoint, same_group}
 use Rattle.endpoint_membership.specs.Limits.{count_conditions, size}
+use Rattle.endpoint_membership.specs.Log.{on_group}
 use Rattle.endpoint_membership.specs.Membership.{Membership, is_fresh, membership_order}
 use Rattle.endpoint_membership.specs.Memberships.{membership_in, membership_of}
 use Rattle.endpoint_membership.specs.Stored.{only}
@@ -23,10 +24,6 @@ use Rattle.endpoint_membership.specs.declared.limits.Limits.{Limits}
 abbrev pub filter_after_all : FilterValue → List Record → FilterValue
 filter_after_all filter [] = filter
 filter_after_all filter (group_record ∷ later) = filter_after_all (filter_after filter group_record) later
-
--- the records of a report on a group
-abbrev pub on_group : Ip → List Record → List Record
-on_group group records = filter (λ group_record. same_group group group_record.group) records
 
 -- a membership of the endpoint that counts at the moment
 abbrev pub is_own : ℕ → ℕ → EndpointValue → Membership → Bool

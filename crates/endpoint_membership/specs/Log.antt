@@ -26,10 +26,14 @@ latest (entry ∷ rest) = max (brought entry) (latest rest)
 abbrev pub leaving : Ip → Record
 leaving group = record { kind = ToIn; group = group; sources = [] }
 
+-- the records on a group, in their order
+abbrev pub on_group : Ip → List Record → List Record
+on_group group records = filter (λ group_record. same_group group group_record.group) records
+
 -- the records that an entry makes on a pair, newest first; a clearing leaves every group
 abbrev pub records_at : EndpointGroup → Change → List Record
 records_at endpoint_group (Reported endpoint records at) =
-    if same_endpoint endpoint_group.endpoint endpoint then reverse (filter (λ group_record. same_group endpoint_group.group group_record.group) records) else []
+    if same_endpoint endpoint_group.endpoint endpoint then reverse (on_group endpoint_group.group records) else []
 records_at endpoint_group (Clear endpoint at) = if same_endpoint endpoint_group.endpoint endpoint then leaving endpoint_group.group ∷ [] else []
 records_at endpoint_group (Mark at) = []
 

@@ -25,12 +25,13 @@ admits_by Exclude listed = not listed
 abbrev pub admits : FilterValue → Ip → Bool
 admits filter source = admits_by filter.mode (lists filter.sources source)
 
--- some source is wanted: INCLUDE of nothing is no membership (RFC 3376, section 3.1)
+-- some source is wanted, by mode and list
 abbrev pub wants_any_by : Mode → List Ip → Bool
 wants_any_by Include [] = false
 wants_any_by Include (source ∷ more) = true
 wants_any_by Exclude sources = true
 
+-- some source is wanted: INCLUDE of nothing is no membership (RFC 3376, section 3.1)
 abbrev pub wants_any : FilterValue → Bool
 wants_any filter = wants_any_by filter.mode filter.sources
 

@@ -33,6 +33,7 @@ says_by ToEx listed = not listed
 says_by Allow listed = true
 says_by Block listed = false
 
+-- what a record says of a source of which it speaks
 abbrev pub says : Record → Ip → Bool
 says group_record source = says_by group_record.kind (lists group_record.sources source)
 

@@ -3,7 +3,8 @@ use Rattle.std.specs.BTreeMap.{get}
 use Rattle.std.proofs.lemmas.List.{take_more}
 use Rattle.amt_values.specs.Order.{ip_order}
 use Rattle.source_filter.specs.declared.record.Record.{Record}
-use Rattle.endpoint_membership.specs.EndpointMemberships.{on_group, renewed_filter_after_all}
+use Rattle.endpoint_membership.specs.EndpointMemberships.{renewed_filter_after_all}
+use Rattle.endpoint_membership.specs.Log.{on_group}
 use Rattle.endpoint_membership.proofs.FilterMap.{more_applied}
 use Rattle.endpoint_membership.proofs.after_report.apply_records.Goals as goal
 

@@ -2,7 +2,8 @@ use Rattle.std.proofs.Common.{◌≡◌, take}
 use Rattle.std.specs.BTreeMap.{get}
 use Rattle.amt_values.specs.declared.address.Ip.{Ip}
 use Rattle.amt_values.specs.Order.{ip_order}
-use Rattle.endpoint_membership.specs.EndpointMemberships.{on_group, renewed_filter_after_all}
+use Rattle.endpoint_membership.specs.EndpointMemberships.{renewed_filter_after_all}
+use Rattle.endpoint_membership.specs.Log.{on_group}
 use Rattle.endpoint_membership.proofs.after_report.apply_records.Given as goal
 
 abbrev pub invariant-loop-group_record : goal.invariant-loop-group_record

@@ -7,7 +7,8 @@ use Rattle.amt_values.specs.EndpointValue.{EndpointValue}
 use Rattle.contract_words.specs.Ascending.{IsAscending}
 use Rattle.source_filter.specs.declared.record.Record.{Record}
 use Rattle.endpoint_membership.specs.declared.after_report.RenewedFilter.{RenewedFilter}
-use Rattle.endpoint_membership.specs.EndpointMemberships.{AreOf, AreOwn, membership_of_entry, membership_of_renewed, on_group, renewed_filter_after_all, renewed_filter_of}
+use Rattle.endpoint_membership.specs.EndpointMemberships.{AreOf, AreOwn, membership_of_entry, membership_of_renewed, renewed_filter_after_all, renewed_filter_of}
+use Rattle.endpoint_membership.specs.Log.{on_group}
 use Rattle.endpoint_membership.specs.Membership.{Membership, is_fresh, membership_order}
 use Rattle.endpoint_membership.specs.Memberships.{membership_in}
 use Rattle.endpoint_membership.specs.Stored.{only}
