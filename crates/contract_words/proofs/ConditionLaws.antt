@@ -1,6 +1,6 @@
 -- Conditions of which none holds, the first of two lists of conditions, and the value that is read where
 -- none holds.
-use Rattle.std.proofs.Common.{◌≡◌, ℕ, [], ◌∷◌, ◌++◌, Bool, true, false, not, eqb, Option, None, Some, Ok, Err, refl, sym, ap, ◌∙◌, arith}
+use Rattle.std.proofs.Common.{◌≡◌, ℕ, [], ◌∷◌, ◌++◌, Bool, true, false, not, eqb, Option, None, Some, Ok, Err, refl, ap, ◌∙◌, arith}
 use Rattle.std.proofs.lemmas.Bool.{eqb-true, not-false}
 use Rattle.contract_words.specs.Conditions.{Conditions, NoneHolds, first_holding, first_of, unless}
 
