@@ -7,8 +7,8 @@ use Rattle.amt_command.specs.declared.ending.Ending.{Ending}
 use Rattle.amt_command.specs.declared.ending.Ending.TheVariants.{Usage, Script, ReadFault, WriteFault, Memory, TooLong}
 use Rattle.amt_script.specs.declared.script.RelayScript.{RelayScript}
 use Rattle.script_lines.specs.declared.reason.Reason.{Reason}
-use Rattle.amt_script.specs.Fault.{IsFaultAt}
-use Rattle.amt_script.specs.Script.{IsRelayScript}
+use Rattle.script_lines.specs.Script.{IsFaultAt}
+use Rattle.amt_script.specs.Script.{IsRelayScript, relay_kind}
 use Rattle.amt_command.specs.Ending.{status_of, line_of, TellsItsFault}
 use Rattle.amt_command.specs.Command.{IsInput, IsFaultText, fault_line, Replays, status_line}
 
@@ -101,7 +101,7 @@ other_line (Err TooLong) other = refl
 -- the ending of a run over octets with this fault
 pub tells_fault : (left left' : Option (List ℕ)) (bytes : List ℕ) (line : ℕ) (reason : Reason) (ending : Ending)
     → (ending ≡ Script (fault_line line reason)) ⊎ (ending ≡ Memory) → TakesAll left left' bytes → length bytes ≤ INPUT_LIMIT
-    → ((script : RelayScript) → IsRelayScript script bytes → ⊥) → IsFaultAt line reason bytes → TellsItsFault left left' ending
+    → ((script : RelayScript) → IsRelayScript script bytes → ⊥) → IsFaultAt relay_kind line reason bytes → TellsItsFault left left' ending
 tells_fault left left' bytes line reason ending (inl same) read short nothing fault =
     subst (TellsItsFault left left') (sym same)
     (record { bytes = bytes; read = read; short = short; nothing = nothing; line = line; reason = reason; fault = fault; told = refl })

@@ -7,8 +7,8 @@ use Rattle.amt_ports.specs.Reading.{TakesAll}
 use Rattle.amt_values.specs.declared.bytes.TheConstants.{INPUT_LIMIT}
 use Rattle.script_lines.specs.declared.reason.Reason.{Reason}
 use Rattle.amt_script.specs.declared.script.RelayScript.{RelayScript}
-use Rattle.amt_script.specs.Fault.{IsFaultAt}
-use Rattle.amt_script.specs.Script.{IsRelayScript}
+use Rattle.script_lines.specs.Script.{IsFaultAt}
+use Rattle.amt_script.specs.Script.{IsRelayScript, relay_kind}
 use Rattle.script_lines.specs.Texts.{reason_word}
 use Rattle.amt_script.specs.Texts.{relay_script_text}
 use Rattle.script_lines.specs.Writing.{WritesPrefix}
@@ -50,7 +50,7 @@ pub record IsFaultText (left left' : Option (List ℕ)) (text : List ℕ) : Type
   pub nothing : (script : RelayScript) → IsRelayScript script bytes → ⊥
   pub line : ℕ
   pub reason : Reason
-  pub fault : IsFaultAt line reason bytes
+  pub fault : IsFaultAt relay_kind line reason bytes
   pub told : text ≡ fault_line line reason
 
 -- the input spells no script, and has a fault

@@ -3,7 +3,8 @@ ghost use Rattle.std.specs.Io.KnownBytes.{Appends};
 ghost use Rattle.amt_ports.specs.Causes.{Rose};
 ghost use Rattle.amt_ports.specs.Reading.{TakesAtMost, TakesMore};
 ghost use Rattle.amt_values.specs.declared.bytes.TheConstants.{INPUT_LIMIT};
-ghost use Rattle.amt_script.specs.Fault.{HasOneScript, HasOneFault};
+ghost use Rattle.script_lines.specs.Script.{HasOneScript, HasOneFault};
+ghost use Rattle.amt_script.specs.Script.{relay_kind};
 ghost use Rattle.script_lines.specs.Writing.{WritesPrefix};
 ghost use Rattle.amt_command.specs.Command.{IsReplayRelay, Replays, BeginsToReplay};
 ghost use Rattle.amt_command.specs.Ending.{status_of, line_of, TellsItsFault};
@@ -124,8 +125,8 @@ pub fn amt<S: Source, O: Sink, E: Sink>(
         err.old err.new result }
 
     // The octets of an input spell at most one script, and have at most one fault.
-    ensures one_script { HasOneScript }
-    ensures one_fault { HasOneFault }
+    ensures one_script { HasOneScript relay_kind }
+    ensures one_fault { HasOneFault relay_kind }
 {
     let ending = run(alloc, words, input, out);
     report(&ending, err);
@@ -144,8 +145,8 @@ pub fn amt_exit<S: Source, O: Sink, E: Sink>(
         (map string_bytes words.now) input.old input.new out.old out.new (status_in result) }
     ensures reports { Reports S.left E.written E.faults input.old input.new
         err.old err.new (status_in result) }
-    ensures one_script { HasOneScript }
-    ensures one_fault { HasOneFault }
+    ensures one_script { HasOneScript relay_kind }
+    ensures one_fault { HasOneFault relay_kind }
 {
     Exit::of(amt(alloc, words, input, out, err))
 }

@@ -1,4 +1,5 @@
-use Rattle.amt_script.specs.Fault.{IsErrorOf, RulesOutScripts}
+use Rattle.script_lines.specs.Script.{IsErrorOf, RulesOutScripts}
+use Rattle.amt_script.specs.Script.{relay_kind}
 use Rattle.script_lines.specs.declared.fault.ScriptError.TheVariants as errors
 use Rattle.amt_command.proofs.Undisturbed.{tells_fault}
 use Rattle.amt_command.proofs.reading.read_script.Goals as goal
@@ -7,6 +8,6 @@ pub returns-in-Err-Fault-clause-script : goal.returns-in-Err-Fault-clause-script
 returns-in-Err-Fault-clause-script g c =
     let line = c.in-Err-Fault.line in
     let reason = c.in-Err-Fault.reason in
-    let fault : IsErrorOf c.in-Ok.bytes (errors.Fault line reason) = rw (c.as_slice.ensures, c.in-Err-Fault.field-0-is) at c.in-Err-Fault.ensures.fault in
-    let nothing : RulesOutScripts c.in-Ok.bytes (errors.Fault line reason) = rw (c.as_slice.ensures, c.in-Err-Fault.field-0-is) at c.in-Err-Fault.ensures.none in
+    let fault : IsErrorOf relay_kind c.in-Ok.bytes (errors.Fault line reason) = rw (c.as_slice.ensures, c.in-Err-Fault.field-0-is) at c.in-Err-Fault.ensures.fault in
+    let nothing : RulesOutScripts relay_kind c.in-Ok.bytes (errors.Fault line reason) = rw (c.as_slice.ensures, c.in-Err-Fault.field-0-is) at c.in-Err-Fault.ensures.none in
     tells_fault _ _ c.in-Ok.bytes line reason c.ending_of_fault.result c.ending_of_fault.ensures c.in-Ok.ensures.all c.in-Ok.ensures.short nothing fault

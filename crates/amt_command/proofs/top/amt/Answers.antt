@@ -1,5 +1,7 @@
 use Rattle.std.proofs.Common.{ap, ◌∙◌, rules}
-use Rattle.amt_script.proofs.Verdicts.{one_script, one_fault}
+use Rattle.script_lines.proofs.Verdicts.{one_script, one_fault}
+use Rattle.amt_script.specs.Script.{relay_kind}
+use Rattle.amt_script.proofs.Lawful.{relay_kind_lawful}
 use Rattle.amt_command.specs.Ending.{status_of}
 use Rattle.amt_command.proofs.Undisturbed.{done_told, fault_told, long_done, long_fault, nothing_told, more_told, only_done, only_no_script, only_too_long}
 use Rattle.amt_command.proofs.top.amt.Goals as goal
@@ -45,7 +47,7 @@ returns-clause-answers g c = record {
 }
 
 pub returns-clause-one_script : goal.returns-clause-one_script
-returns-clause-one_script g c = one_script
+returns-clause-one_script g c = one_script relay_kind relay_kind_lawful
 
 pub returns-clause-one_fault : goal.returns-clause-one_fault
-returns-clause-one_fault g c = one_fault
+returns-clause-one_fault g c = one_fault relay_kind relay_kind_lawful
