@@ -4,7 +4,7 @@ use Rattle.std.specs.Io.KnownBytes.{Appends}
 use Rattle.script_lines.specs.Writing.{WritesPrefix}
 use Rattle.script_lines.proofs.Writes.{prefix_written}
 
-pub front_of_line : {E : Type 0} (r : Result (Unit {0}) E) (a b : Option (List ℕ)) (text : List ℕ)
+pub prefix_of_line : {E : Type 0} (r : Result (Unit {0}) E) (a b : Option (List ℕ)) (text : List ℕ)
     → OnOk r (Appends a b text) → OnErr r ((n : ℕ) × (n < length text) × Appends a b (take n text)) → WritesPrefix a b text
-front_of_line (Ok done) a b text whole front = ([], record { front = text; parts = sym (append-nil text); written = whole })
-front_of_line (Err fault) a b text whole front = prefix_written a b text front.0 front.2
+prefix_of_line (Ok done) a b text whole prefix = ([], record { prefix = text; parts = sym (append-nil text); written = whole })
+prefix_of_line (Err fault) a b text whole prefix = prefix_written a b text prefix.0 prefix.2

@@ -1,8 +1,9 @@
 -- The status and the line of each ending.
-use Rattle.std.specs.Prelude.{ℕ, List, [], Option, Result, Ok, Err}
+use Rattle.std.specs.Prelude.{◌⊎◌, ℕ, List, [], Option, Result, Ok, Err, OnOk, IfErr, IsErrOf}
 use Rattle.amt_command.specs.declared.ending.Ending.{Ending}
 use Rattle.amt_command.specs.declared.ending.Ending.TheVariants.{Usage, Script, ReadFault, WriteFault, Memory, TooLong}
-use Rattle.amt_command.specs.Command.{IsFaultText, status_line}
+use Rattle.amt_command.specs.Command.{status_line}
+use Rattle.amt_command.specs.Replay.{Replay, IsFaultText, Replays, BeginsToReplay}
 
 abbrev pub status_of_ending : Ending → ℕ
 status_of_ending Usage = 2
@@ -24,7 +25,14 @@ abbrev pub line_of : {T : Type 0} → Result T Ending → List ℕ
 line_of (Ok done) = []
 line_of (Err ending) = line_of_ending ending
 
--- where a script has a fault, the line tells it
-abbrev pub TellsItsFault : Option (List ℕ) → Option (List ℕ) → Ending → Type 0
-TellsItsFault left left' (Script line) = IsFaultText left left' line
-TellsItsFault left left' ending = Unit {0}
+-- where a script has a fault, the line is its fault's
+abbrev pub TellsItsFault : {S W : Type 0} → Replay S W → Option (List ℕ) → Option (List ℕ) → Ending → Type 0
+TellsItsFault replay left left' (Script line) = IsFaultText replay left left' line
+TellsItsFault replay left left' ending = Unit {0}
+
+-- How a run that replays scripts of a kind ends, and what it leaves.
+pub record EndsFor {W X : Type 0} (replay : Replay W X) (left left' written written' : Option (List ℕ)) (OutIsSame : Type 0) (result : Result (Unit {0}) Ending) : Type 0 where
+  pub done : OnOk result (Replays replay left left' written written')
+  pub script : IfErr result (TellsItsFault replay left left')
+  pub begun : IsErrOf result WriteFault → BeginsToReplay replay left left' written written'
+  pub memory : IsErrOf result Memory → OutIsSame ⊎ BeginsToReplay replay left left' written written'

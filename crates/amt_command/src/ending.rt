@@ -1,3 +1,5 @@
+//! How a run ends: its status and its line. It knows no input.
+
 ghost use Rattle.std.specs.Prelude.{◌≡◌};
 
 use amt_values::Bytes;

@@ -1,3 +1,5 @@
+//! The status that a process ends with. No call outside makes one.
+
 ghost use Rattle.std.specs.Prelude.{◌≡◌};
 ghost use Rattle.std.specs.Process.{exit_status};
 ghost use Rattle.amt_command.specs.Exit.{status_in};

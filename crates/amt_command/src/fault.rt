@@ -1,9 +1,11 @@
+//! The ending of a script with a fault. It knows no kind of script.
+
 ghost use Rattle.std.specs.Prelude.{◌≡◌, ◌⊎◌, IfOk};
-ghost use Rattle.amt_command.specs.Command.{fault_line};
+ghost use Rattle.amt_command.specs.Replay.{fault_line};
 
 use crate::ending::Ending;
-use amt_script::Reason;
 use amt_values::Bytes;
+use script_lines::Reason;
 use std::alloc::{AllocError, Global};
 
 fn print_fault(alloc: Global, line: u32, reason: Reason) -> Result<Bytes, AllocError>

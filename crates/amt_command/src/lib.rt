@@ -6,10 +6,12 @@
 //! Standard: none of its own; the formats stand in docs/FORMATS.md.
 #![tactic(auto)]
 
+mod command;
 mod ending;
 mod exit;
 mod fault;
-mod reading;
+mod replayed;
+mod replaying;
 mod top;
 
 pub use exit::Exit;

@@ -1,42 +1,25 @@
-ghost use Rattle.std.specs.Prelude.{◌≡◌, ◌≢◌, ◌↔◌, ◌⊎◌, map, string_bytes, IsTrue, IsOk, IsErrOf, IfErr, OnOk};
+//! The command: arguments in, status out. It knows devices by their traits alone.
+
+ghost use Rattle.std.specs.Prelude.{◌≡◌, ◌≢◌, ◌↔◌, ◌⊎◌, map, string_bytes, IsOk, IsErrOf, IfErr};
 ghost use Rattle.std.specs.Io.KnownBytes.{Appends};
 ghost use Rattle.amt_ports.specs.Causes.{Rose};
 ghost use Rattle.amt_ports.specs.Reading.{TakesAtMost, TakesMore};
 ghost use Rattle.amt_values.specs.declared.bytes.TheConstants.{INPUT_LIMIT};
-ghost use Rattle.amt_script.specs.Fault.{HasOneScript, HasOneFault};
+ghost use Rattle.script_lines.specs.Script.{HasOneScript, HasOneFault};
 ghost use Rattle.script_lines.specs.Writing.{WritesPrefix};
-ghost use Rattle.amt_command.specs.Command.{IsReplayRelay, Replays, BeginsToReplay};
-ghost use Rattle.amt_command.specs.Ending.{status_of, line_of, TellsItsFault};
+ghost use Rattle.amt_command.specs.declared.command.Command.{Command as CommandValue};
+ghost use Rattle.amt_command.specs.Command.{IsCommand, words_of, replay_of};
+ghost use Rattle.amt_command.specs.Ending.{EndsFor, status_of, line_of};
 ghost use Rattle.amt_command.specs.Exit.{status_in};
 ghost use Rattle.amt_command.specs.Status.{Answers, Reports, ReportsMemory};
 
+use crate::command::{Command, command_of};
 use crate::ending::Ending;
 use crate::exit::Exit;
-use crate::reading::read_script;
+use crate::replayed::RelayReplay;
+use crate::replaying::replay;
 use amt_ports::{Sink, Source, write_all_own};
-use amt_script::{RunFault, run_relay_script};
 use std::alloc::Global;
-
-fn is_word(word: &String, text: &str) -> bool
-    ensures { IsTrue result ↔ (string_bytes word.now ≡ text.now) }
-{
-    word.as_str() == text
-}
-
-fn are_replay_relay(words: &[String]) -> bool
-    ensures { IsTrue result ↔ IsReplayRelay (map string_bytes words.now) }
-{
-    match words {
-        [first, second] => {
-            if is_word(first, "replay") {
-                is_word(second, "relay")
-            } else {
-                false
-            }
-        }
-        _ => false,
-    }
-}
 
 fn run<S: Source, O: Sink>(
     alloc: Global,
@@ -44,22 +27,16 @@ fn run<S: Source, O: Sink>(
     input: &mut S,
     out: &mut O,
 ) -> Result<(), Ending>
-    ensures usage { IsErrOf result Ending.Usage ↔ (IsReplayRelay (map string_bytes words.now) → ⊥) }
-    ensures words { IsErrOf result Ending.Usage ⊎ IsReplayRelay (map string_bytes words.now) }
+    ensures usage { IsErrOf result Ending.Usage ↔ (IsCommand (map string_bytes words.now) → ⊥) }
+    ensures words { IsErrOf result Ending.Usage ⊎ IsCommand (map string_bytes words.now) }
     ensures untouched { IsErrOf result Ending.Usage → input.new ≡ input.old }
 
-    ensures done { OnOk result (Replays (S.left input.old) (S.left input.new)
-        (O.written out.old) (O.written out.new)) }
-    ensures begun { IsErrOf result Ending.WriteFault
-        → BeginsToReplay (S.left input.old) (S.left input.new) (O.written out.old)
-        (O.written out.new) }
-    ensures memory { IsErrOf result Ending.Memory → (out.new ≡ out.old)
-        ⊎ BeginsToReplay (S.left input.old) (S.left input.new) (O.written out.old)
-        (O.written out.new) }
+    ensures of_command { (command : CommandValue) → map string_bytes words.now ≡ words_of command
+        → EndsFor (replay_of command) (S.left input.old) (S.left input.new) (O.written out.old)
+        (O.written out.new) (out.new ≡ out.old) result }
     ensures quiet { IfErr result (λ ending. ending ≢ Ending.WriteFault → ending ≢ Ending.Memory
         → out.new ≡ out.old) }
 
-    ensures script { IfErr result (TellsItsFault (S.left input.old) (S.left input.new)) }
     ensures read { IsErrOf result Ending.ReadFault
         → Rose (S.faults input.old) (S.faults input.new) }
     ensures write { IsErrOf result Ending.WriteFault → Rose (O.faults out.old) (O.faults out.new) }
@@ -72,17 +49,14 @@ fn run<S: Source, O: Sink>(
     ensures within { (IsErrOf result Ending.TooLong → ⊥)
         → TakesAtMost INPUT_LIMIT (S.left input.old) (S.left input.new) }
 {
-    if !are_replay_relay(words) {
+    let Some(command) = command_of(words) else {
         return Err(Ending::Usage);
-    }
-    let script = match read_script(alloc, input) {
-        Ok(script) => script,
-        Err(ending) => return Err(ending),
     };
-    match run_relay_script(alloc, &script, out) {
-        Ok(()) => Ok(()),
-        Err(RunFault::Write) => Err(Ending::WriteFault),
-        Err(RunFault::Memory) => Err(Ending::Memory),
+    match command {
+        Command::ReplayRelay => match replay::<RelayReplay, S, O>(alloc, input, out) {
+            Ok(()) => Ok(()),
+            Err(ending) => Err(ending),
+        },
     }
 }
 
@@ -99,7 +73,7 @@ fn status_of(ending: &Result<(), Ending>) -> u8
 fn report<E: Sink>(ending: &Result<(), Ending>, err: &mut E)
     ensures line { (Rose (E.faults err.old) (E.faults err.new) → ⊥)
         → Appends (E.written err.old) (E.written err.new) (line_of ending.now) }
-    ensures front { WritesPrefix (E.written err.old) (E.written err.new) (line_of ending.now) }
+    ensures prefix { WritesPrefix (E.written err.old) (E.written err.new) (line_of ending.now) }
     ensures silent { IsOk ending.now → err.new ≡ err.old }
 {
     if let Err(ending) = ending {
@@ -120,12 +94,12 @@ pub fn amt<S: Source, O: Sink, E: Sink>(
 ) -> u8
     ensures answers { Answers S.left S.faults O.written O.faults
         (map string_bytes words.now) input.old input.new out.old out.new result }
-    ensures reports { Reports S.left E.written E.faults input.old input.new
-        err.old err.new result }
+    ensures reports { Reports S.left E.written E.faults (map string_bytes words.now)
+        input.old input.new err.old err.new result }
 
-    // The octets of an input spell at most one script, and have at most one fault.
-    ensures one_script { HasOneScript }
-    ensures one_fault { HasOneFault }
+    // The octets of an input spell at most one script of the command, and have at most one fault.
+    ensures one_script { (command : CommandValue) → HasOneScript (replay_of command).kind }
+    ensures one_fault { (command : CommandValue) → HasOneFault (replay_of command).kind }
 {
     let ending = run(alloc, words, input, out);
     report(&ending, err);
@@ -142,10 +116,10 @@ pub fn amt_exit<S: Source, O: Sink, E: Sink>(
 ) -> Exit
     ensures answers { Answers S.left S.faults O.written O.faults
         (map string_bytes words.now) input.old input.new out.old out.new (status_in result) }
-    ensures reports { Reports S.left E.written E.faults input.old input.new
-        err.old err.new (status_in result) }
-    ensures one_script { HasOneScript }
-    ensures one_fault { HasOneFault }
+    ensures reports { Reports S.left E.written E.faults (map string_bytes words.now)
+        input.old input.new err.old err.new (status_in result) }
+    ensures one_script { (command : CommandValue) → HasOneScript (replay_of command).kind }
+    ensures one_fault { (command : CommandValue) → HasOneFault (replay_of command).kind }
 {
     Exit::of(amt(alloc, words, input, out, err))
 }

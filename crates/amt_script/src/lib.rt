@@ -19,7 +19,7 @@ mod statement;
 mod text;
 
 pub use reading::read_relay_script;
-pub use replay::{RunFault, run_relay_script};
+pub use replay::run_relay_script;
 pub use script::{RelayItem, RelayItems, RelayScript};
-pub use script_lines::{Reason, ScriptError};
+pub use script_lines::{Reason, RunFault, ScriptError};
 pub use text::{print_relay_event, print_relay_step};

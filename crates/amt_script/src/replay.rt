@@ -18,20 +18,8 @@ use crate::text::print_relay_step;
 use amt_ports::{Sink, write_all_own};
 use amt_values::Bytes;
 use relay_machine::{Event, Relay};
-use script_lines::print_closing;
+use script_lines::{RunFault, print_closing};
 use std::alloc::Global;
-use thiserror::Error;
-
-/// Why the text of a script was not written whole. A prefix of it stays written.
-#[derive(Clone, Copy, Debug, PartialEq, Eq, Error)]
-pub enum RunFault {
-    /// The sink failed.
-    #[error("write fault")]
-    Write,
-    /// Out of memory for the relay, a step, the rows that stand, or their text.
-    #[error("out of memory")]
-    Memory,
-}
 
 fn write_text<O: Sink>(out: &mut O, text: &Bytes) -> Result<(), RunFault>
     ensures done { OnOk result (Appends (O.written out.old) (O.written out.new) text.now) }

@@ -1,4 +1,4 @@
-//! Why a line, or a whole text, was not read. It knows no kind of script.
+//! Why a line, or a whole text, was not read, and why a script's text was not written. It knows no kind of script.
 
 use crate::reason::Reason;
 use thiserror::Error;
@@ -19,6 +19,17 @@ pub enum ScriptError {
     #[error("line {line}: {}", .reason.word())]
     Fault { line: u32, reason: Reason },
     /// Out of memory for what the lines say.
+    #[error("out of memory")]
+    Memory,
+}
+
+/// Why the text of a script was not written whole. A prefix of it stays written.
+#[derive(Clone, Copy, Debug, PartialEq, Eq, Error)]
+pub enum RunFault {
+    /// The sink failed.
+    #[error("write fault")]
+    Write,
+    /// Out of memory for a step or its text.
     #[error("out of memory")]
     Memory,
 }

@@ -15,7 +15,7 @@ mod reason;
 mod text;
 mod values;
 
-pub use fault::{LineError, ScriptError};
+pub use fault::{LineError, RunFault, ScriptError};
 pub use fields::{next_field, only_field, two_fields};
 pub use kind::ScriptKind;
 pub use reading::read_script;

@@ -1,51 +1,63 @@
-use Rattle.std.proofs.Common.{ap, ◌∙◌, rules}
-use Rattle.amt_script.proofs.Verdicts.{one_script, one_fault}
-use Rattle.amt_command.specs.Ending.{status_of}
-use Rattle.amt_command.proofs.Undisturbed.{done_told, fault_told, long_done, long_fault, nothing_told, more_told, only_done, only_no_script, only_too_long}
+use Rattle.std.proofs.Common.{sym, ap, ◌∙◌, rules}
+use Rattle.script_lines.proofs.Verdicts.{one_script, one_fault}
+use Rattle.amt_command.specs.Command.{replay_of}
+use Rattle.amt_command.specs.Ending.{status_of, line_of}
+use Rattle.amt_command.proofs.Commands.{lawful_kind_of}
+use Rattle.amt_command.proofs.Undisturbed.{done_told, fault_told, script_told, long_done, long_fault, nothing_told, more_told, only_done, only_no_script, only_too_long, ok_of, write_of, memory_of}
 use Rattle.amt_command.proofs.top.amt.Goals as goal
 
 pub returns-clause-answers : goal.returns-clause-answers
-returns-clause-answers g c = record {
-  done = search rules;
-  words = search rules;
-  usage = search rules;
-  script = search rules;
-  read = search rules;
-  write = search rules;
-  calm_input = search rules;
-  calm_output = search rules;
-  too_long = search rules;
-  within = λ other. c.run-ending.ensures.within (λ long. other (c.status_of.ensures ∙ ap status_of long));
-  statuses = search rules;
-  complete = λ bytes script h short spelled.
-      rw c.status_of.ensures (only_done c.run-ending.result
-      (λ usage. c.run-ending.ensures.usage.0 usage h.accepted)
-      (λ text is. nothing_told _ _ bytes text script h.told (fault_told _ _ c.run-ending.result text c.run-ending.ensures.script is) spelled)
-      (λ fault. h.reading (c.run-ending.ensures.read fault))
-      (λ fault. h.writing (c.run-ending.ensures.write fault))
-      (λ long. more_told _ _ bytes h.told short (c.run-ending.ensures.too_long long)));
-  no_script = λ bytes h short none.
-      rw c.status_of.ensures (only_no_script c.run-ending.result
-      (λ usage. c.run-ending.ensures.usage.0 usage h.accepted)
-      (λ done. done_told _ _ _ _ _ bytes h.told none c.run-ending.ensures.done done)
-      (λ fault. h.reading (c.run-ending.ensures.read fault))
-      (λ fault. h.writing (c.run-ending.ensures.write fault))
-      (λ long. more_told _ _ bytes h.told short (c.run-ending.ensures.too_long long)));
-  overlong = λ bytes h long.
-      rw c.status_of.ensures (only_too_long c.run-ending.result
-      (λ usage. c.run-ending.ensures.usage.0 usage h.accepted)
-      (λ done. long_done _ _ _ _ _ bytes h.told long c.run-ending.ensures.done done)
-      (λ text is. long_fault _ _ bytes text h.told long (fault_told _ _ c.run-ending.result text c.run-ending.ensures.script is))
-      (λ fault. h.reading (c.run-ending.ensures.read fault))
-      (λ fault. h.writing (c.run-ending.ensures.write fault)));
-  untouched = search rules;
-  quiet = search rules;
-  begun = search rules;
-  memory = search rules;
-}
+returns-clause-answers g c =
+    let result = c.run-ending.result in
+    let run = c.run-ending.ensures in
+    let is = sym c.status_of.ensures in
+    record {
+      words = search rules;
+      usage = search rules;
+      of_command = λ command same.
+          let replay = replay_of command in
+          let ends = run.of_command command same in record {
+            done = λ status. ok_of result ends.done (is ∙ status);
+            script = λ status. (line_of result, script_told replay _ _ result ends.script (is ∙ status));
+            begun = λ status. write_of result ends.begun (is ∙ status);
+            memory = λ status. memory_of result ends.memory (is ∙ status);
+            complete = λ bytes script h short spelled.
+                rw c.status_of.ensures (only_done result
+                (λ usage. run.usage.0 usage h.accepted)
+                (λ text said. nothing_told replay _ _ bytes text script h.told (fault_told replay _ _ result text ends.script said) spelled)
+                (λ fault. h.reading (run.read fault))
+                (λ fault. h.writing (run.write fault))
+                (λ long. more_told _ _ bytes h.told short (run.too_long long)));
+            no_script = λ bytes h short none.
+                rw c.status_of.ensures (only_no_script result
+                (λ usage. run.usage.0 usage h.accepted)
+                (λ done. done_told replay _ _ _ _ result bytes h.told none ends.done done)
+                (λ fault. h.reading (run.read fault))
+                (λ fault. h.writing (run.write fault))
+                (λ long. more_told _ _ bytes h.told short (run.too_long long)));
+          };
+      read = search rules;
+      write = search rules;
+      calm_input = search rules;
+      calm_output = search rules;
+      too_long = search rules;
+      within = λ other. run.within (λ long. other (c.status_of.ensures ∙ ap status_of long));
+      statuses = search rules;
+      overlong = λ bytes h long.
+          let replay = replay_of h.accepted.0 in
+          let ends = run.of_command h.accepted.0 h.accepted.1 in
+          rw c.status_of.ensures (only_too_long result
+          (λ usage. run.usage.0 usage h.accepted)
+          (λ done. long_done replay _ _ _ _ result bytes h.told long ends.done done)
+          (λ text said. long_fault replay _ _ bytes text h.told long (fault_told replay _ _ result text ends.script said))
+          (λ fault. h.reading (run.read fault))
+          (λ fault. h.writing (run.write fault)));
+      untouched = search rules;
+      quiet = search rules;
+    }
 
 pub returns-clause-one_script : goal.returns-clause-one_script
-returns-clause-one_script g c = one_script
+returns-clause-one_script g c = λ command. one_script (replay_of command).kind (lawful_kind_of command)
 
 pub returns-clause-one_fault : goal.returns-clause-one_fault
-returns-clause-one_fault g c = one_fault
+returns-clause-one_fault g c = λ command. one_fault (replay_of command).kind (lawful_kind_of command)

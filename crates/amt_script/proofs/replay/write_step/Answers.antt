@@ -1,5 +1,5 @@
 use Rattle.std.specs.Result.{OnOk}
-use Rattle.amt_script.specs.declared.replay.RunFault.{RunFault}
+use Rattle.script_lines.specs.declared.fault.RunFault.{RunFault}
 use Rattle.std.proofs.Common.{Result, Ok, Err, ◌∙◌}
 use Rattle.amt_script.proofs.Runs.{same_step}
 use Rattle.script_lines.proofs.Writes.{nothing_written}
