@@ -1,4 +1,3 @@
-pub mod Conditions
 pub mod Form
 pub mod Kind
 pub mod Lines
