@@ -14,8 +14,7 @@ use Rattle.source_filter.specs.declared.record.Record.{Record}
 use Rattle.inner_datagrams.specs.declared.head.Head.{Head}
 use Rattle.endpoint_membership.specs.Membership.{is_fresh}
 use Rattle.endpoint_membership.specs.Limits.{IsWithin}
-use Rattle.endpoint_membership.specs.Log.{latest, records_at}
-use Rattle.endpoint_membership.specs.EndpointMemberships.{on_group}
+use Rattle.endpoint_membership.specs.Log.{latest, on_group, records_at}
 use Rattle.endpoint_membership.specs.EndpointGroup.{EndpointGroup, same_endpoint}
 use Rattle.endpoint_membership.specs.Memberships.{is_live, membership_in}
 use Rattle.endpoint_membership.specs.Table.{AreMembershipsAt, Holds, TableValue, TableSettings, limit_passed, memberships_now}
