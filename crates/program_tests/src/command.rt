@@ -140,3 +140,63 @@ fn are_outcomes(rt: &impl Abort, alloc: Global, start: &str, rows: &[(&str, &str
         is_outcome(rt, alloc, what, take(alloc, start, rest), outcome);
     }
 }
+
+#[test]
+fn secrets_sources_types_and_limits_decide_what_a_datagram_comes_to(rt: HostRuntime) {
+    are_texts(&rt, rt.alloc(), &datagrams::ROWS);
+}
+
+#[test]
+fn a_script_with_a_fault_takes_no_step(rt: HostRuntime) {
+    are_faults(&rt, rt.alloc(), &faults::FAULTS);
+}
+
+#[test]
+fn mld_is_queried_and_its_reports_are_taken(rt: HostRuntime) {
+    are_texts(&rt, rt.alloc(), &mld::ROWS);
+}
+
+#[test]
+fn the_first_fault_of_an_mld_report_is_told(rt: HostRuntime) {
+    are_outcomes(&rt, rt.alloc(), UPDATE, &mld::INNER);
+}
+
+#[test]
+fn every_other_datagram_is_refused_with_its_reason(rt: HostRuntime) {
+    are_outcomes(&rt, rt.alloc(), "", &outcomes::REFUSED);
+}
+
+#[test]
+fn an_update_is_judged_by_its_mac_and_its_report(rt: HostRuntime) {
+    are_outcomes(&rt, rt.alloc(), UPDATE, &outcomes::JUDGED);
+}
+
+#[test]
+fn a_packet_is_copied_to_those_who_want_it(rt: HostRuntime) {
+    are_texts(&rt, rt.alloc(), &packets::ROWS);
+}
+
+#[test]
+fn a_script_has_its_text(rt: HostRuntime) {
+    are_scripts(&rt, rt.alloc(), &scripts::ROWS);
+}
+
+#[test]
+fn settings_of_queries_and_packets_are_in_force(rt: HostRuntime) {
+    are_texts(&rt, rt.alloc(), &settings::ROWS);
+}
+
+#[test]
+fn the_first_fault_of_query6_packet_limit_and_mc_is_told(rt: HostRuntime) {
+    are_faults(&rt, rt.alloc(), &settings::FAULTS);
+}
+
+#[test]
+fn a_teardown_ends_the_live_tunnel_that_it_names(rt: HostRuntime) {
+    are_texts(&rt, rt.alloc(), &teardowns::ROWS);
+}
+
+#[test]
+fn updates_change_what_is_shown(rt: HostRuntime) {
+    are_texts(&rt, rt.alloc(), &updates::ROWS);
+}

@@ -2,10 +2,10 @@
 ghost use Rattle.std.specs.Prelude.{◌≤◌, IfOk, length};
 ghost use Rattle.relay_machine.specs.Conditions.{IsEvent};
 
-use relay_machine::*;
 use amt_values::{Bytes, Endpoint, Ip, Moment, Peer};
 use endpoint_membership::{Change, LimitFault, Limits, Row};
 use inner_datagrams::{HeadFault, InnerFault};
+use relay_machine::*;
 use response_mac::Secret;
 use source_filter::Mode;
 use std::alloc::{AllocError, Global};

@@ -1,8 +1,8 @@
 //! Which settings a relay may have, and its numbers by their keys.
-use relay_machine::*;
 use amt_values::Ip;
 use endpoint_membership::Limits;
 use igmp_records::code_value4;
+use relay_machine::*;
 use std::process::Abort;
 
 // What it shows; the robustness, the seconds between queries and the tenths of a response; the limits of

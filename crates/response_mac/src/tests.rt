@@ -1,3 +1,5 @@
+//! The MAC against vectors of RFC 4231, and secrets as they change. It must not know messages.
+
 ghost use Rattle.std.specs.Prelude.{◌≤◌};
 
 use super::*;

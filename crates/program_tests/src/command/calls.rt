@@ -1,3 +1,5 @@
+//! Calls that no script shows: events and steps as text, faults as text, defaults. It must not know how they are made.
+
 use super::{ADDRESSES, is_out_of_memory};
 use amt_script::{
     Reason, RelayItem, RunFault, ScriptError, print_relay_event, print_relay_step,
@@ -78,7 +80,11 @@ fn step_text(alloc: Global, outcome: Outcome) -> Result<Bytes, AllocError> {
 
 #[test]
 fn a_step_has_its_number_and_its_outcome(rt: HostRuntime) {
-    is_printed(&rt, step_text(rt.alloc(), Outcome::Copied(0)), "= 7 copied 0\n");
+    is_printed(
+        &rt,
+        step_text(rt.alloc(), Outcome::Copied(0)),
+        "= 7 copied 0\n",
+    );
 }
 
 fn shown(alloc: Global, error: &impl Display) -> Result<Bytes, AllocError> {
@@ -93,7 +99,11 @@ fn a_fault_has_its_text(rt: HostRuntime) {
         reason: Reason::Late,
     };
     is_printed(&rt, shown(rt.alloc(), &fault), "line 3: late");
-    is_printed(&rt, shown(rt.alloc(), &ScriptError::Memory), "out of memory");
+    is_printed(
+        &rt,
+        shown(rt.alloc(), &ScriptError::Memory),
+        "out of memory",
+    );
     is_printed(&rt, shown(rt.alloc(), &RunFault::Write), "write fault");
     is_printed(&rt, shown(rt.alloc(), &RunFault::Memory), "out of memory");
 }

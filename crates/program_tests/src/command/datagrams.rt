@@ -1,8 +1,8 @@
-use super::are_texts;
+//! Rows on secrets, sources, types and limits. It must not know how a script is run.
 
 // Each row: what it shows, the lines after the relay's settings, and the text. The texts were worked out
 // from the definitions, and the response MACs by another implementation, Python's hmac module.
-const ROWS: [(&str, &str, &str); 7] = [
+pub const ROWS: [(&str, &str, &str); 7] = [
     (
         "a Query has its MAC under the secret that is current, in both families",
         "secret 0101010101010101010101010101010101010101010101010101010101010101\ndg 198.51.100.7:5000 030000000a0b0c0d\ndg 198.51.100.7:5000 030100000a0b0c0d\n",
@@ -39,8 +39,3 @@ const ROWS: [(&str, &str, &str); 7] = [
         "= 1 updated\n= 2 copied 0\n. 2\n",
     ),
 ];
-
-#[test]
-fn secrets_sources_types_and_limits_decide_what_a_datagram_comes_to(rt: HostRuntime) {
-    are_texts(&rt, rt.alloc(), &ROWS);
-}

@@ -1,3 +1,5 @@
+//! The example of a day, to the octet. It must not know how a script is run.
+
 use super::are_scripts;
 
 // examples/a_day_at_the_relay/script, to the octet.

@@ -1,3 +1,5 @@
+//! The example of the README of relay_machine. It must not know scripts.
+
 use amt_values::{Bytes, Ip, Peer};
 use relay_machine::{Event, Relay, Settings};
 use response_mac::Secret;

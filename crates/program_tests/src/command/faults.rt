@@ -1,7 +1,7 @@
-use super::are_faults;
+//! Scripts that are none, with the first bad line. It must not know how they are read.
 
 // Scripts that are none, and the line on standard error: the first bad line, and its first reason.
-const FAULTS: [(&str, &str); 50] = [
+pub const FAULTS: [(&str, &str); 50] = [
     ("", "amt: line 1: missing\n"),
     ("jump\n", "amt: line 1: word\n"),
     (
@@ -140,8 +140,3 @@ const FAULTS: [(&str, &str); 50] = [
         "amt: line 2: word\n",
     ),
 ];
-
-#[test]
-fn a_script_with_a_fault_takes_no_step(rt: HostRuntime) {
-    are_faults(&rt, rt.alloc(), &FAULTS);
-}

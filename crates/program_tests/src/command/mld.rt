@@ -1,8 +1,8 @@
-use super::{UPDATE, are_outcomes, are_texts};
+//! Rows on MLD, its queries and reports. It must not know how a script is run.
 
 // Each row: what it shows, the lines after the relay's settings, and the text. The texts were worked out
 // from the definitions, and the response MACs by another implementation, Python's hmac module.
-const ROWS: [(&str, &str, &str); 10] = [
+pub const ROWS: [(&str, &str, &str); 10] = [
     (
         "a Request for MLDv2 gets its General Query, which leaves nothing",
         "dg 198.51.100.7:5000 030100000a0b0c0d\nshow\n",
@@ -29,7 +29,7 @@ const ROWS: [(&str, &str, &str); 10] = [
         "= 1 updated\n= 2 rows 0\n= 3 updated\n= 4 rows 1\n* 198.51.100.7:5000 ff03::1 exclude -\n. 4\n",
     ),
     (
-        "records of one MLD report act in order, and sources rise",
+        "records of one MLD report act in order, and sources ascend",
         "dg [2001:db8::7]:5000 05008ea46f3dc8e30a0b0c0d60000000009c0001fe800000000000000000000000000002ff0200000000000000000000000000163a000502000001008f0082fd0000000302000002ff3e000000000000000000000000000120010db800000000000000000000000b20010db800000000000000000000000906000002ff3e000000000000000000000000000120010db800000000000000000000000a20010db800000000000000000000000905000001ff3e000000000000000000000000000120010db800000000000000000000000b\nshow\n",
         "= 1 updated\n= 2 rows 1\n* [2001:db8::7]:5000 ff3e::1 exclude 2001:db8::9,2001:db8::a\n. 2\n",
     ),
@@ -57,7 +57,7 @@ const ROWS: [(&str, &str, &str); 10] = [
 
 // Each row: what the inner datagram is, its octets, and the outcome of an Update with a good MAC. All IPv6
 // ones go from fe80::2 to ff02::16, but for the query. Sums were computed in Python.
-const INNER: [(&str, &str, &str); 28] = [
+pub const INNER: [(&str, &str, &str); 28] = [
     ("no octet", "", "unlawful inner short 20 0"),
     (
         "a header that lacks an octet",
@@ -195,13 +195,3 @@ const INNER: [(&str, &str, &str); 28] = [
         "unlawful report kind 143",
     ),
 ];
-
-#[test]
-fn mld_is_queried_and_its_reports_are_taken(rt: HostRuntime) {
-    are_texts(&rt, rt.alloc(), &ROWS);
-}
-
-#[test]
-fn the_first_fault_of_an_mld_report_is_told(rt: HostRuntime) {
-    are_outcomes(&rt, rt.alloc(), UPDATE, &INNER);
-}

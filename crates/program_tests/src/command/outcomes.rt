@@ -1,7 +1,7 @@
-use super::{UPDATE, are_outcomes};
+//! Datagrams, each with its outcome. It must not know how a script is run.
 
 // Each row: what it shows, a datagram, and its outcome. The Query was computed in Python.
-const REFUSED: [(&str, &str, &str); 17] = [
+pub const REFUSED: [(&str, &str, &str); 17] = [
     (
         "a Request of 7 octets",
         "030000000a0b0c",
@@ -58,7 +58,7 @@ const REFUSED: [(&str, &str, &str); 17] = [
 ];
 
 // Each row: what it shows, the inner datagram of an Update with a good MAC, and the outcome.
-const JUDGED: [(&str, &str, &str); 12] = [
+pub const JUDGED: [(&str, &str, &str); 12] = [
     ("no octet", "", "unlawful inner short 20 0"),
     ("version 5", "50", "unlawful inner version 5"),
     ("one octet of IPv6", "60", "unlawful inner short 40 1"),
@@ -108,13 +108,3 @@ const JUDGED: [(&str, &str, &str); 12] = [
         "unlawful report short 8 7",
     ),
 ];
-
-#[test]
-fn every_other_datagram_is_refused_with_its_reason(rt: HostRuntime) {
-    are_outcomes(&rt, rt.alloc(), "", &REFUSED);
-}
-
-#[test]
-fn an_update_is_judged_by_its_mac_and_its_report(rt: HostRuntime) {
-    are_outcomes(&rt, rt.alloc(), UPDATE, &JUDGED);
-}

@@ -1,8 +1,10 @@
+//! Rows on packets and who gets them. It must not know how a script is run.
+
 use super::*;
 
 // Each row: what it shows, the lines after the relay's settings, and the text. The texts were worked out
 // from the definitions, and the response MACs by another implementation, Python's hmac module.
-const ROWS: [(&str, &str, &str); 13] = [
+pub const ROWS: [(&str, &str, &str); 13] = [
     (
         "of two endpoints the lower address comes first",
         "dg 198.51.100.8:9 050070b009dc54900a0b0c0d46c0002800000000010239f80a000002e0000016940400002200ebfb0000000102000000ef010101\ndg 198.51.100.7:5000 05004db758a175550a0b0c0d46c0002800000000010239f80a000002e0000016940400002200ebfb0000000102000000ef010101\nmc 4500001c0000000004119c92c6336409ef0101010400040000080000\n",
@@ -29,7 +31,7 @@ const ROWS: [(&str, &str, &str); 13] = [
         "= 1 updated\n= 2 copied 1\n> 198.51.100.7:5000 0600600000000000110420010db8000000000000000000000009ff3e0000000000000000000000000001\n= 3 copied 0\n= 4 copied 0\n. 4\n",
     ),
     (
-        "copies go in rising order of address and port, once to each",
+        "copies go in ascending order of address and port, once to each",
         "dg [2001:db8::7]:5000 05008ea46f3dc8e30a0b0c0d46c0002800000000010239f80a000002e0000016940400002200ebfb0000000102000000ef010101\ndg 198.51.100.8:9 050070b009dc54900a0b0c0d46c0002800000000010239f80a000002e0000016940400002200ebfb0000000102000000ef010101\ndg 198.51.100.7:5001 0500c92b038a5c0a0a0b0c0d46c0002800000000010239f80a000002e0000016940400002200ebfb0000000102000000ef010101\ndg 198.51.100.7:5000 05004db758a175550a0b0c0d46c0002800000000010239f80a000002e0000016940400002200ebfb0000000102000000ef010101\ndg 198.51.100.7:5000 05004db758a175550a0b0c0d6000000000240001fe800000000000000000000000000002ff0200000000000000000000000000163a000502000001008f0071cc0000000102000000ff3e0000000000000000000000000001\nmc 4500001c0000000004119c92c6336409ef0101010400040000080000\nmc 600000000000110420010db8000000000000000000000009ff3e0000000000000000000000000001\n",
         "= 1 updated\n= 2 updated\n= 3 updated\n= 4 updated\n= 5 updated\n= 6 copied 4\n> 198.51.100.7:5000 06004500001c0000000004119c92c6336409ef0101010400040000080000\n> 198.51.100.7:5001 06004500001c0000000004119c92c6336409ef0101010400040000080000\n> 198.51.100.8:9 06004500001c0000000004119c92c6336409ef0101010400040000080000\n> [2001:db8::7]:5000 06004500001c0000000004119c92c6336409ef0101010400040000080000\n= 7 copied 1\n> 198.51.100.7:5000 0600600000000000110420010db8000000000000000000000009ff3e0000000000000000000000000001\n. 7\n",
     ),
@@ -70,11 +72,6 @@ const ROWS: [(&str, &str, &str); 13] = [
     ),
 ];
 
-#[test]
-fn a_packet_is_copied_to_those_who_want_it(rt: HostRuntime) {
-    are_texts(&rt, rt.alloc(), &ROWS);
-}
-
 // A packet of so many octets, at least 20, from 198.51.100.9 to 239.1.1.1.
 fn packet_of(alloc: Global, octets: usize) -> Result<String, AllocError> {
     let mut hex = String::from_str(alloc, "450005aa0000000004119704c6336409ef010101")?;
@@ -98,7 +95,14 @@ fn text_of_copy(alloc: Global, packet: &str) -> Result<String, AllocError> {
 
 fn is_copied(rt: &impl Abort, alloc: Global, packet: &str) {
     match text_of_copy(alloc, packet) {
-        Ok(text) => is_ended(rt, "1450 octets", forward(alloc, packet), 0, text.as_str(), ""),
+        Ok(text) => is_ended(
+            rt,
+            "1450 octets",
+            forward(alloc, packet),
+            0,
+            text.as_str(),
+            "",
+        ),
         Err(_) => is_out_of_memory(rt, "1450 octets"),
     }
 }

@@ -1,10 +1,12 @@
+//! Whole scripts, each with its text. It must not know how they are run.
+
 use super::*;
 
 const TEXT: &str = "= 1 advertised\n> 198.51.100.7:5000 0200000001020304c0000201\n. 1\n";
 
 // Each row: what it shows, a script, and the text. The Queries and their response MACs were computed with
 // another implementation, Python's hmac module.
-const ROWS: [(&str, &str, &str); 10] = [
+pub const ROWS: [(&str, &str, &str); 10] = [
     ("no item", "set relay 192.0.2.1\n", ". 0\n"),
     (
         "a Discovery is answered",
@@ -52,11 +54,6 @@ const ROWS: [(&str, &str, &str); 10] = [
         "= 1 queried v4\n> 198.51.100.7:5000 0401c72643131a760a0b0c0d46c000240000000001028210c0000202e0000001940400001101e6ff0000000007ff00001388000000000000000000000000c6336407\n= 2 rotated\n= 3 moved 4611686018427387903\n= 4 rows 0\n= 5 refused empty\n. 5\n",
     ),
 ];
-
-#[test]
-fn a_script_has_its_text(rt: HostRuntime) {
-    are_scripts(&rt, rt.alloc(), &ROWS);
-}
 
 // A replay of a comment, and a line of one setting, filled up with so many octets.
 fn replay_filled(

@@ -1,8 +1,8 @@
-use super::{are_faults, are_texts};
+//! Rows on settings and their faults. It must not know how a script is run.
 
 // Each row: what it shows, the lines after the relay's settings, and the text. The texts were worked out
 // from the definitions, and the response MACs by another implementation, Python's hmac module.
-const ROWS: [(&str, &str, &str); 6] = [
+pub const ROWS: [(&str, &str, &str); 6] = [
     (
         "MLD's General Query has the source that is set",
         "set query6 fe80::192:0:2:1\ndg 198.51.100.7:5000 030100000a0b0c0d\n",
@@ -36,7 +36,7 @@ const ROWS: [(&str, &str, &str); 6] = [
 ];
 
 // Scripts that are none, and the line on standard error.
-const FAULTS: [(&str, &str); 26] = [
+pub const FAULTS: [(&str, &str); 26] = [
     ("set packet_limit 19\n", "amt: line 1: range\n"),
     ("set packet_limit 65001\n", "amt: line 1: range\n"),
     (
@@ -79,13 +79,3 @@ const FAULTS: [(&str, &str); 26] = [
     ("mcast 00\n", "amt: line 1: word\n"),
     ("set packet 20\n", "amt: line 1: word\n"),
 ];
-
-#[test]
-fn settings_of_queries_and_packets_are_in_force(rt: HostRuntime) {
-    are_texts(&rt, rt.alloc(), &ROWS);
-}
-
-#[test]
-fn the_first_fault_of_query6_packet_limit_and_mc_is_told(rt: HostRuntime) {
-    are_faults(&rt, rt.alloc(), &FAULTS);
-}

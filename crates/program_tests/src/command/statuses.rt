@@ -1,3 +1,5 @@
+//! Each status with its cause and its line. It must not know what a script says.
+
 use super::*;
 use std::io::Eprint;
 use std::process::{ExitCode, Termination};
@@ -140,12 +142,7 @@ fn exit(alloc: Global, line: &str, script: &str) -> Result<Exit, AllocError> {
     Ok(amt_exit(alloc, &words, &mut input, &mut out, &mut err))
 }
 
-fn is_exit(
-    rt: &(impl Abort + Eprint),
-    line: &str,
-    exit: Result<Exit, AllocError>,
-    status: u8,
-) {
+fn is_exit(rt: &(impl Abort + Eprint), line: &str, exit: Result<Exit, AllocError>, status: u8) {
     match exit {
         Ok(exit) => assert_eq!(rt; exit.report(rt), ExitCode::from(status), "{line}"),
         Err(_) => is_out_of_memory(rt, line),
