@@ -6,8 +6,7 @@ ghost use Rattle.inner_datagrams.specs.Head.{IsHead, first_head_fault, head4_at,
 ghost use Rattle.inner_datagrams.specs.declared.head.Head.{Head as HeadValue};
 ghost use Rattle.inner_datagrams.specs.declared.head.HeadFault.{HeadFault as HeadFaultValue};
 
-use amt_values::{address_at, number_at};
-use amt_values::{INPUT_LIMIT, Ip};
+use amt_values::{INPUT_LIMIT, Ip, address_at, number_at};
 
 /// The addresses of a native multicast packet, both of one family.
 #[derive(Clone, Copy, Debug, PartialEq, Eq)]

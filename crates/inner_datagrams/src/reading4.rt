@@ -7,9 +7,8 @@ ghost use Rattle.inner_datagrams.specs.Header.{header_octets};
 ghost use Rattle.inner_datagrams.specs.Reading.{inner4_at, parts4};
 
 use crate::checksum::{expected_sum, has_right_sum};
-use amt_values::{number_at, short_at};
 use crate::inner::{Inner, InnerFault};
-use amt_values::{INPUT_LIMIT, Ip};
+use amt_values::{INPUT_LIMIT, Ip, number_at, short_at};
 
 // The octets of the header, if as many as it states are there.
 fn stated_header(bytes: &[u8]) -> Result<usize, InnerFault>

@@ -6,9 +6,8 @@ ghost use Rattle.inner_datagrams.specs.Fault.{faults6, hop_by_hop_faults, length
 ghost use Rattle.inner_datagrams.specs.Header6.{headers_end6, hop_by_hop_end, hop_by_hop_next, last_next_header};
 ghost use Rattle.inner_datagrams.specs.Reading.{inner6_at, parts6};
 
-use amt_values::{address_at, short_at};
 use crate::inner::{Inner, InnerFault};
-use amt_values::{INPUT_LIMIT, Ip};
+use amt_values::{INPUT_LIMIT, Ip, address_at, short_at};
 
 // The fault that the length of the whole isn't that of the bytes.
 fn total_fault(bytes: &[u8]) -> Option<InnerFault>

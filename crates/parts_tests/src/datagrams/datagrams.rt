@@ -1,8 +1,8 @@
 //! Octets that are an inner datagram, with its parts. It must not know how they are read.
 
 use super::{Reading, assert_readings};
-use inner_datagrams::Inner;
 use amt_values::Ip;
+use inner_datagrams::Inner;
 
 // 192.0.2.1 and 224.0.0.1.
 const RELAY: Ip = Ip::V4(0xc000_0201);

@@ -1,8 +1,8 @@
 //! Heads of native packets, or their first fault. It must not know how they are read.
 
 use super::assert_row;
-use inner_datagrams::{Head, HeadFault, packet_head};
 use amt_values::{INPUT_LIMIT, Ip};
+use inner_datagrams::{Head, HeadFault, packet_head};
 use std::process::Abort;
 
 // 198.51.100.9 at 239.1.1.1.

@@ -1,8 +1,8 @@
 //! Checksums of octets. It must not know what the octets carry.
 
 use super::assert_row;
-use inner_datagrams::internet_sum;
 use amt_values::INPUT_LIMIT;
+use inner_datagrams::internet_sum;
 use std::process::Abort;
 
 const ROWS: [(&str, &[u8], u16); 6] = [

@@ -1,8 +1,8 @@
 //! Checksums of messages around their own field. It must not know whose field it is.
 
 use super::assert_row;
-use inner_datagrams::internet_sum_around;
 use amt_values::INPUT_LIMIT;
+use inner_datagrams::internet_sum_around;
 use std::process::Abort;
 
 // A pseudo-header, what stands before the sum, what stands after it, and the sum.

@@ -2,8 +2,8 @@
 
 use super::assert_row;
 use super::datagrams::{QUERY4, QUERY6, REPORT6};
-use inner_datagrams::{PAYLOAD_LIMIT, write_inner4, write_inner6};
 use amt_values::Bytes;
+use inner_datagrams::{PAYLOAD_LIMIT, write_inner4, write_inner6};
 use std::alloc::{AllocError, Global};
 
 fn is_datagram(written: Result<Bytes, AllocError>, datagram: &[u8]) -> bool {
