@@ -16,6 +16,7 @@ words_of ReplayRelay = codes "replay" ∷ codes "relay" ∷ []
 abbrev pub statement_of : Command → Type 0
 statement_of ReplayRelay = RelayStatement
 
+-- what the lines of a whole script make
 abbrev pub script_of : Command → Type 0
 script_of ReplayRelay = RelayScript
 

@@ -5,6 +5,7 @@ use Rattle.amt_command.specs.declared.ending.Ending.TheVariants.{Usage, Script, 
 use Rattle.amt_command.specs.Command.{status_line}
 use Rattle.amt_command.specs.Replay.{Replay, IsFaultText, Replays, BeginsToReplay}
 
+-- the status of an ending that isn't well
 abbrev pub status_of_ending : Ending → ℕ
 status_of_ending Usage = 2
 status_of_ending (Script line) = 3
@@ -13,14 +14,17 @@ status_of_ending WriteFault = 5
 status_of_ending Memory = 7
 status_of_ending TooLong = 8
 
+-- its line on standard error
 abbrev pub line_of_ending : Ending → List ℕ
 line_of_ending (Script line) = line
 line_of_ending ending = status_line (status_of_ending ending)
 
+-- the status of a run, 0 where it ended well
 abbrev pub status_of : {T : Type 0} → Result T Ending → ℕ
 status_of (Ok done) = 0
 status_of (Err ending) = status_of_ending ending
 
+-- its line, none where it ended well
 abbrev pub line_of : {T : Type 0} → Result T Ending → List ℕ
 line_of (Ok done) = []
 line_of (Err ending) = line_of_ending ending

@@ -18,6 +18,7 @@ pub record Replay (S W : Type 0) : Type 1 where
   pub kind : Kind S W
   pub text : W → List ℕ
 
+-- relay scripts, each with its text
 abbrev pub relay_replay : Replay RelayStatement RelayScript
 relay_replay = record { kind = relay_kind; text = relay_script_text }
 

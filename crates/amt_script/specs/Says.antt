@@ -16,6 +16,7 @@ use Rattle.amt_script.specs.declared.setting.Setting.{Setting}
 use Rattle.amt_script.specs.declared.setting.Setting.TheVariants as settings
 use Rattle.amt_script.specs.Row.{words_of}
 
+-- a line `set` of these fields gives the setting
 abbrev pub SaysSetting : Setting → List (List ℕ) → Type 0
 SaysSetting (settings.Relay ip) = HasField (words_of (kinds.Set keys.Relay)) (IsIpText ip)
 SaysSetting (settings.Query4 number) = HasField (words_of (kinds.Set keys.Query4)) (IsIpText (V4 number))
@@ -24,16 +25,18 @@ SaysSetting (settings.Number key number) =
     HasField (words_of (kinds.Set (keys.Number key))) (IsNumberText (row_of key).least (row_of key).most number)
 SaysSetting (settings.Secret secret) = HasField (words_of (kinds.Set keys.Secret)) (IsSecretText secret)
 
+-- a line of these fields says the event
 abbrev pub SaysEvent : Event → List (List ℕ) → Type 0
 SaysEvent (events.Moment ms) = HasField (words_of kinds.Moment) (IsMomentText ms)
 SaysEvent (events.Datagram from bytes) = HasTwoFields (words_of kinds.Datagram) (IsPeerText from) (IsHexText bytes)
 SaysEvent (events.Packet bytes) = HasField (words_of kinds.Packet) (IsHexText bytes)
 SaysEvent (events.Rotate secret) = HasField (words_of kinds.Secret) (IsSecretText secret)
 
--- an event, or the word alone by which what stands is shown
+-- an event, or the word alone by which the memberships are shown
 abbrev pub SaysItem : RelayItem → List (List ℕ) → Type 0
 SaysItem (items.Event event) line = SaysEvent event line
 SaysItem items.Show line = line ≡ words_of kinds.Show
 
+-- the octets of a line say the item
 abbrev pub IsItemLine : RelayItem → List ℕ → Type 0
 IsItemLine item line = IsPlain line × SaysItem item (fields line)

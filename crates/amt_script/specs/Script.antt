@@ -15,18 +15,21 @@ use Rattle.amt_script.specs.Says.{SaysSetting, SaysItem}
 use Rattle.amt_script.specs.Setting.{key_of, set_at}
 use Rattle.amt_script.specs.Settling.{Settles}
 
--- the setting that a statement is, or the item
+-- the setting that a statement is, if it is one
 abbrev pub setting_in : RelayStatement → Option Setting
 setting_in (statements.Setting setting) = Some setting
 setting_in (statements.Item item) = None
 
+-- the item that a statement is, if it is one
 abbrev pub item_in : RelayStatement → Option RelayItem
 item_in (statements.Setting setting) = None
 item_in (statements.Item item) = Some item
 
+-- the settings among statements, in order
 abbrev pub settings_in : List RelayStatement → List Setting
 settings_in said = filter_map setting_in said
 
+-- the items among them, in order
 abbrev pub items_in : List RelayStatement → List RelayItem
 items_in said = filter_map item_in said
 
@@ -48,6 +51,7 @@ pub record MakesRelayScript (said : List RelayStatement) (script : RelayScript) 
   pub lawful : AreLawfulSettings script.settings
   pub items : script.items ≡ items_in said
 
+-- relay scripts: settings, and then items
 abbrev pub relay_kind : Kind RelayStatement RelayScript
 relay_kind = record {
   Says = λ past one line. SaysAfter (settings_in past) (items_in past) one line;

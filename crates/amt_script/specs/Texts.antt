@@ -37,6 +37,7 @@ use Rattle.amt_script.specs.declared.script.RelayItem.{RelayItem}
 use Rattle.amt_script.specs.declared.script.RelayItem.TheVariants as items
 use Rattle.amt_script.specs.declared.script.RelayScript.{RelayScript}
 
+-- why octets are no message (RFC 7450, section 5.1)
 abbrev pub refusal_text : Refused → List ℕ
 refusal_text Empty = codes "empty"
 refusal_text (Version version) = codes "version " ++ decimal version
@@ -69,6 +70,7 @@ report_text (report.Sum want have) = codes "sum " ++ (sum_text want ++ (codes " 
 report_text (report.RecordShort index) = codes "record " ++ decimal index
 report_text (report.SourceShort index) = codes "sources " ++ decimal index
 
+-- why an Update has no lawful report
 abbrev pub unlawful_text : Unlawful → List ℕ
 unlawful_text (Inner fault) = codes "inner " ++ inner_text fault
 unlawful_text (Report fault) = codes "report " ++ report_text fault
@@ -89,6 +91,7 @@ abbrev pub not_forwarded_text : NotForwarded → List ℕ
 not_forwarded_text (Head fault) = codes "head " ++ head_text fault
 not_forwarded_text (Scope group) = codes "scope " ++ ip_text group
 
+-- what an event came to
 abbrev pub outcome_text : Outcome → List ℕ
 outcome_text (Moved moment) = codes "moved " ++ decimal moment
 outcome_text Rotated = codes "rotated"
@@ -131,6 +134,7 @@ unfoldable pub step_text : ℕ → Outcome → List OneSend → List ℕ
 step_text number outcome sends =
     codes "= " ++ (decimal number ++ (codes " " ++ (outcome_text outcome ++ (10 ∷ flat_map send_text sends))))
 
+-- a filter mode (RFC 3376, section 3.1)
 abbrev pub mode_text : Mode → List ℕ
 mode_text Include = codes "include"
 mode_text Exclude = codes "exclude"
@@ -159,6 +163,7 @@ abbrev pub event_in : RelayItem → Option Event
 event_in (items.Event event) = Some event
 event_in items.Show = None
 
+-- the events among items, in order
 abbrev pub events_in : List RelayItem → List Event
 events_in all = filter_map event_in all
 
@@ -174,5 +179,6 @@ items_text settings secret before [] = []
 items_text settings secret before (item ∷ rest) =
     item_text settings secret (events_in before) (length before + 1) item ++ items_text settings secret (before ++ item ∷ []) rest
 
+-- the text of a relay script
 abbrev pub relay_script_text : RelayScript → List ℕ
 relay_script_text script = items_text script.settings script.secret [] script.items ++ closing_text (length script.items)

@@ -65,7 +65,7 @@ pub enum Kind {
     Datagram,
     /// A multicast packet has come.
     Packet,
-    /// What stands is asked for.
+    /// The memberships are asked for.
     Show,
 }
 

@@ -160,7 +160,7 @@ fn run_items<O: Sink>(
     write_text(out, &text)
 }
 
-/// Runs a relay over a script, and writes the text of its steps and of what stands where it is shown.
+/// Runs a relay over a script, and writes the text of its steps and of the memberships where they are shown.
 pub fn run_relay_script<O: Sink>(
     alloc: Global,
     script: &RelayScript,

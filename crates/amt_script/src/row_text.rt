@@ -55,7 +55,7 @@ fn append_row(alloc: Global, text: &mut Bytes, row: &Row) -> Result<(), AllocErr
     text.append(b"\n")
 }
 
-/// The lines that show what stands: how many rows there are, and a line for each.
+/// The lines that show the memberships: how many there are, and a line for each.
 #[tactic(auto, unfolding(crate::specs::Texts::rows_text))]
 pub fn print_rows(alloc: Global, number: u64, rows: &Rows) -> Result<Bytes, AllocError>
     ensures { IfOk result (λ text. text ≡ rows_text number rows.now) }

@@ -9,7 +9,7 @@ use response_mac::Secret;
 pub enum RelayItem {
     /// The relay takes an event.
     Event(Event),
-    /// What stands is shown.
+    /// The memberships are shown.
     Show,
 }
 

@@ -17,6 +17,7 @@ v4_text number = ipv4_text (to_be_bytes w32 number)
 abbrev pub v6_text : ℕ → List ℕ
 v6_text number = hex_groups_text (address_segments number)
 
+-- the text of an address of either family
 abbrev pub ip_text : Ip → List ℕ
 ip_text (V4 number) = v4_text number
 ip_text (V6 number) = v6_text number
@@ -36,9 +37,11 @@ abbrev pub with_port : Ip → List ℕ → ℕ → List ℕ
 with_port (V4 number) address port = address ++ (codes ":" ++ decimal port)
 with_port (V6 number) address port = codes "[" ++ (address ++ (codes "]:" ++ decimal port))
 
+-- an address and a port; an IPv6 address stands in brackets (RFC 5952, section 6)
 abbrev pub address_and_port : Ip → ℕ → List ℕ
 address_and_port ip port = with_port ip (ip_text ip) port
 
+-- the text of a peer
 abbrev pub peer_text : Peer → List ℕ
 peer_text peer = address_and_port peer.ip peer.port
 

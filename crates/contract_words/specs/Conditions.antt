@@ -15,11 +15,6 @@ abbrev pub NoneHolds : {Cause : Type 0} → Conditions Cause → Type 0
 NoneHolds [] = Unit {0}
 NoneHolds (condition ∷ rest) = (condition.0 ≡ false) × NoneHolds rest
 
--- the same conditions, each with its cause told as another
-abbrev pub told_as : {Cause Other : Type 0} → (Cause → Other) → Conditions Cause → Conditions Other
-told_as name [] = []
-told_as name (condition ∷ rest) = (condition.0, name condition.1) ∷ told_as name rest
-
 -- the first cause, or the second where there is none
 abbrev pub first_of : {Cause : Type 0} → Option Cause → Option Cause → Option Cause
 first_of None later = later

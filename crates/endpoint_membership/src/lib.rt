@@ -1,6 +1,6 @@
 //! What every tunnel endpoint wants: the membership table of a relay.
 //!
-//! Contract: a table stands for the whole log of accepted entries, so its memberships are what the
+//! Contract: a table represents the whole log of accepted entries, so its memberships are what the
 //! log's live records want, whatever calls made them.
 //! It knows no message, socket or clock.
 //! Standard: RFC 7450, section 5.3; RFC 3376, sections 3.2, 4.2.12 and 8.4.

@@ -1,7 +1,7 @@
 //! IP datagrams that carry membership messages, and their checksum.
 //!
 //! Contract: octets are read as a datagram exactly where they are one, and otherwise have a first
-//! fault; a written datagram is the one spelling of its addresses and payload, and is read suffix; of
+//! fault; a written datagram is the one spelling of its addresses and payload, and is read back; of
 //! a native packet the two addresses alone are read.
 //! It knows no record, tunnel or moment.
 //! Standard: RFC 791, section 3.1; RFC 1071, section 1; RFC 3376, section 4; RFC 3810, section 5;

@@ -53,7 +53,7 @@ pub enum Outcome {
     BadMac,
     /// An Update with a good MAC carries no membership report.
     Unlawful(Unlawful),
-    /// What would stand with the report of an Update passes a limit of the relay.
+    /// With the report of an Update the memberships would pass a limit of the relay.
     Over(LimitFault),
     /// The report of an Update was accepted.
     Updated,

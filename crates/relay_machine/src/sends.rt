@@ -21,7 +21,7 @@ pub struct OneSend {
 pub type Sends = Items<OneSend>;
 
 /// What one event came to, what is to be sent, and the entry of the accepted log that is handed out:
-/// the one that the event added, but for a clearing of an endpoint at which no group stood.
+/// the one that the event added, but for a clearing of an endpoint without a membership.
 #[derive(Debug, Drop)]
 pub struct Step {
     pub outcome: Outcome,

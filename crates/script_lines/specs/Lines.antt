@@ -3,6 +3,7 @@ use Rattle.std.specs.Prelude.{ℕ, ◌≤◌, ◌==◌, Bool, true, false, not, 
 use Rattle.std.specs.Int.{IsInRange}
 use Rattle.std.specs.List.{slice_split}
 
+-- there is some octet
 abbrev pub is_filled : List ℕ → Bool
 is_filled [] = false
 is_filled (octet ∷ rest) = true

@@ -58,6 +58,7 @@ pub record IsFaultAtEnd {S W : Type 0} (kind : Kind S W) (number : ℕ) (reason 
   pub begun : Begins kind said ls
   pub first : First (kind.FailsAtEnd said) kind.order_at_end reason
 
+-- the fault of octets that are no script: in a line, or after the last
 abbrev pub IsFaultAt : {S W : Type 0} → Kind S W → ℕ → Reason → List ℕ → Type 0
 IsFaultAt kind number reason bytes =
     IsFaultInLine kind number reason (lines bytes) ⊎ IsFaultAtEnd kind number reason (lines bytes)

@@ -13,6 +13,7 @@ hex_text (octet ∷ rest) = encode_lower (octet ∷ rest)
 unfoldable pub closing_text : ℕ → List ℕ
 closing_text count = codes ". " ++ (decimal count ++ (10 ∷ []))
 
+-- the word that a fault is told by
 abbrev pub reason_word : Reason → List ℕ
 reason_word reasons.Long = codes "long"
 reason_word reasons.Word = codes "word"

@@ -8,21 +8,26 @@ use Rattle.script_lines.specs.Form.{IsHexText, some_octets}
 use Rattle.script_lines.specs.Kind.{Kind}
 use Rattle.script_lines.specs.Shape.{Shape, FailsIn}
 
+-- a name is given, or octets are said in a name
 pub data Saying : Type 0 where
   named : List ℕ → Saying
   said : List ℕ → List ℕ → Saying
 
+-- the name that is given
 abbrev pub name_of : Saying → Option (List ℕ)
 name_of (named name) = Some name
 name_of (said name octets) = None
 
+-- the octets that are said
 abbrev pub octets_of : Saying → List ℕ
 octets_of (named name) = []
 octets_of (said name octets) = octets
 
+-- the names that were given
 abbrev pub names_in : List Saying → List (List ℕ)
 names_in past = filter_map name_of past
 
+-- the octets that were said, one after another
 abbrev pub octets_in : List Saying → List ℕ
 octets_in past = flat_map octets_of past
 
@@ -48,6 +53,7 @@ SaysAfter names octets (said name more) line =
     (text : List ℕ) × (texts : List (List ℕ)) × (line ≡ codes "say" ∷ name ∷ text ∷ texts)
     × IsGiven names name × AreHexTexts more (text ∷ texts)
 
+-- what is wrong with a line after these names and octets
 abbrev pub FailsAfter : List (List ℕ) → List ℕ → List (List ℕ) → Reason → Type 0
 FailsAfter names octets line Word =
     (((rest : List (List ℕ)) → line ≢ codes "name" ∷ rest) × ((rest : List (List ℕ)) → line ≢ codes "say" ∷ rest))
@@ -72,6 +78,7 @@ FailsWith octets reason = ⊥
 abbrev pub AreAll : List ℕ → List ℕ → Type 0
 AreAll octets all = (all ≡ octets) × (octets ≢ []) × (length octets ≤ 4)
 
+-- the kind of such scripts
 abbrev pub saying_kind : Kind Saying (List ℕ)
 saying_kind = record {
   Says = λ past one line. SaysAfter (names_in past) (octets_in past) one line;

@@ -1,6 +1,6 @@
 //! A filter that records change in place. It must not know lists of records, endpoints or moments.
 
-ghost use Rattle.std.specs.Prelude.{◌≡◌, IfOk, OnOk};
+ghost use Rattle.std.specs.Prelude.{◌≡◌, IfOk, OnOk, OnErr};
 ghost use Rattle.amt_values.specs.Order.{ip_order};
 ghost use Rattle.contract_words.specs.Ascending.{IsAscending, difference, union};
 
@@ -88,8 +88,23 @@ impl MutableFilter {
         }
     }
 
-    /// Applies a group record in place (RFC 3376, section 4.2.12). An error leaves it half changed.
+    /// Applies a group record in place (RFC 3376, section 4.2.12). Where memory runs out, nothing is
+    /// wanted any more, so that no half of a record is taken for a whole one.
     pub fn apply(&mut self, group_record: &Record) -> Result<(), AllocError>
+        ensures ok { OnOk result (self.new ≡ filter_after self.old group_record.now) }
+        ensures err { OnErr result (self.new ≡ nothing) }
+    {
+        match self.apply_in_place(group_record) {
+            Ok(()) => Ok(()),
+            Err(error) => {
+                self.mode = Mode::Include;
+                self.sources.clear();
+                Err(error)
+            }
+        }
+    }
+
+    fn apply_in_place(&mut self, group_record: &Record) -> Result<(), AllocError>
         ensures { OnOk result (self.new ≡ filter_after self.old group_record.now) }
     {
         let listed = group_record.sources.as_slice();

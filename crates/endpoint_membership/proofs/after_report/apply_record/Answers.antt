@@ -25,7 +25,7 @@ returns c =
       | in-Some w ↦ ap (λ (renewed_filter : RenewedFilter). renewed_filter.filter) w.renewed_filter-is ∙ ap filter_or_nothing (sym w.in-Some.is)
       | in-None w ↦ ap (λ (renewed_filter : RenewedFilter). renewed_filter.filter) w.renewed_filter-is ∙ w.new.ensures ∙ ap filter_or_nothing (sym w.in-None.is)
     ] in
-    let renewed_filter = ap (λ (filter : FilterValue). renewed_with filter moment) (c.in_ok-apply.ensures ∙ ap (λ (filter : FilterValue). filter_after filter group_record) found) in
+    let renewed_filter = ap (λ (filter : FilterValue). renewed_with filter moment) (c.in_ok-apply.ensures.ok ∙ ap (λ (filter : FilterValue). filter_after filter group_record) found) in
     on_ok_weaker c.set_filter.result (λ set group.
     let before = get ip_order filters group in
     let here = same_group key group in
