@@ -97,8 +97,9 @@ impl MutableFilter {
         match self.apply_in_place(group_record) {
             Ok(()) => Ok(()),
             Err(error) => {
-                self.mode = Mode::Include;
-                self.sources.clear();
+                let MutableFilter { mode, sources } = self;
+                *mode = Mode::Include;
+                sources.clear();
                 Err(error)
             }
         }
