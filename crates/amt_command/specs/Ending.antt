@@ -1,5 +1,8 @@
 -- The status and the line of each ending.
-use Rattle.std.specs.Prelude.{◌⊎◌, ℕ, List, [], Option, Result, Ok, Err, OnOk, IfErr, IsErrOf}
+use Rattle.std.specs.Prelude.{◌≡◌, ◌≢◌, ◌⊎◌, ℕ, List, [], Option, Result, Ok, Err, OnOk, IfErr, IsErrOf}
+use Rattle.amt_ports.specs.Causes.{Rose}
+use Rattle.amt_ports.specs.Reading.{TakesAtMost, TakesMore}
+use Rattle.amt_values.specs.declared.bytes.TheConstants.{INPUT_LIMIT}
 use Rattle.amt_command.specs.declared.ending.Ending.{Ending}
 use Rattle.amt_command.specs.declared.ending.Ending.TheVariants.{Usage, Script, ReadFault, WriteFault, Memory, TooLong}
 use Rattle.amt_command.specs.Command.{status_line}
@@ -40,3 +43,14 @@ pub record EndsFor {W X : Type 0} (replay : Replay W X) (left left' written writ
   pub script : IfErr result (TellsItsFault replay left left')
   pub begun : IsErrOf result WriteFault → BeginsToReplay replay left left' written written'
   pub memory : IsErrOf result Memory → OutIsSame ⊎ BeginsToReplay replay left left' written written'
+
+-- How the devices of such a run fare: a device failed once exactly where the ending says so, by its count of
+-- failures, and the input was taken past its limit exactly where the ending says that.
+pub record LeavesDevices {S O : Type 0} (left : S → Option (List ℕ)) (reads : S → ℕ) (writes : O → ℕ) (input input' : S) (out out' : O) (result : Result (Unit {0}) Ending) : Type 0 where
+  pub read : IsErrOf result ReadFault → Rose (reads input) (reads input')
+  pub write : IsErrOf result WriteFault → Rose (writes out) (writes out')
+  pub calm_input : (IsErrOf result ReadFault → ⊥) → reads input' ≡ reads input
+  pub calm_output : (IsErrOf result WriteFault → ⊥) → writes out' ≡ writes out
+  pub too_long : IsErrOf result TooLong → TakesMore INPUT_LIMIT (left input) (left input')
+  pub within : (IsErrOf result TooLong → ⊥) → TakesAtMost INPUT_LIMIT (left input) (left input')
+  pub quiet : IfErr result (λ ending. ending ≢ WriteFault → ending ≢ Memory → out' ≡ out)

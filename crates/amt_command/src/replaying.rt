@@ -1,11 +1,11 @@
 //! Reads the input as a script of a kind, runs it and writes its text. It knows no arguments and no status.
 
-ghost use Rattle.std.specs.Prelude.{◌≡◌, ◌≢◌, ◌⊎◌, IsErrOf, IfErr, IfOk, OnOk};
+ghost use Rattle.std.specs.Prelude.{◌≡◌, IsErrOf, IfErr, IfOk};
 ghost use Rattle.amt_ports.specs.Causes.{Rose};
 ghost use Rattle.amt_ports.specs.Reading.{TakesAtMost, TakesMore};
 ghost use Rattle.amt_values.specs.declared.bytes.TheConstants.{INPUT_LIMIT};
-ghost use Rattle.amt_command.specs.Replay.{IsInput, Replays, BeginsToReplay};
-ghost use Rattle.amt_command.specs.Ending.{TellsItsFault};
+ghost use Rattle.amt_command.specs.Replay.{IsInput};
+ghost use Rattle.amt_command.specs.Ending.{EndsFor, LeavesDevices, TellsItsFault};
 
 use crate::ending::Ending;
 use crate::fault::ending_of_fault;
@@ -51,29 +51,10 @@ pub fn replay<R: Replayed, S: Source, O: Sink>(
     out: &mut O,
 ) -> Result<(), Ending>
     ensures no_usage { IsErrOf result Ending.Usage → ⊥ }
-    ensures done { OnOk result (Replays R.replay (S.left input.old) (S.left input.new)
-        (O.written out.old) (O.written out.new)) }
-    ensures begun { IsErrOf result Ending.WriteFault
-        → BeginsToReplay R.replay (S.left input.old) (S.left input.new) (O.written out.old)
-        (O.written out.new) }
-    ensures memory { IsErrOf result Ending.Memory → (out.new ≡ out.old)
-        ⊎ BeginsToReplay R.replay (S.left input.old) (S.left input.new) (O.written out.old)
-        (O.written out.new) }
-    ensures quiet { IfErr result (λ ending. ending ≢ Ending.WriteFault → ending ≢ Ending.Memory
-        → out.new ≡ out.old) }
-
-    ensures script { IfErr result (TellsItsFault R.replay (S.left input.old) (S.left input.new)) }
-    ensures read { IsErrOf result Ending.ReadFault
-        → Rose (S.faults input.old) (S.faults input.new) }
-    ensures write { IsErrOf result Ending.WriteFault → Rose (O.faults out.old) (O.faults out.new) }
-    ensures calm_input { ¬ IsErrOf result Ending.ReadFault
-        → S.faults input.new ≡ S.faults input.old }
-    ensures calm_output { ¬ IsErrOf result Ending.WriteFault
-        → O.faults out.new ≡ O.faults out.old }
-    ensures too_long { IsErrOf result Ending.TooLong
-        → TakesMore INPUT_LIMIT (S.left input.old) (S.left input.new) }
-    ensures within { (IsErrOf result Ending.TooLong → ⊥)
-        → TakesAtMost INPUT_LIMIT (S.left input.old) (S.left input.new) }
+    ensures ends { EndsFor R.replay (S.left input.old) (S.left input.new) (O.written out.old)
+        (O.written out.new) (out.new ≡ out.old) result }
+    ensures devices { LeavesDevices S.left S.faults O.faults input.old input.new out.old out.new
+        result }
 {
     let script = match read_script::<R, S>(alloc, input) {
         Ok(script) => script,

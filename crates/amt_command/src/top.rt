@@ -9,7 +9,7 @@ ghost use Rattle.script_lines.specs.Script.{HasOneScript, HasOneFault};
 ghost use Rattle.script_lines.specs.Writing.{WritesPrefix};
 ghost use Rattle.amt_command.specs.declared.command.Command.{Command as CommandValue};
 ghost use Rattle.amt_command.specs.Command.{IsCommand, words_of, replay_of};
-ghost use Rattle.amt_command.specs.Ending.{EndsFor, status_of, line_of};
+ghost use Rattle.amt_command.specs.Ending.{EndsFor, LeavesDevices, status_of, line_of};
 ghost use Rattle.amt_command.specs.Exit.{status_in};
 ghost use Rattle.amt_command.specs.Status.{Answers, Reports, ReportsMemory};
 
@@ -34,20 +34,8 @@ fn run<S: Source, O: Sink>(
     ensures of_command { (command : CommandValue) → map string_bytes words.now ≡ words_of command
         → EndsFor (replay_of command) (S.left input.old) (S.left input.new) (O.written out.old)
         (O.written out.new) (out.new ≡ out.old) result }
-    ensures quiet { IfErr result (λ ending. ending ≢ Ending.WriteFault → ending ≢ Ending.Memory
-        → out.new ≡ out.old) }
-
-    ensures read { IsErrOf result Ending.ReadFault
-        → Rose (S.faults input.old) (S.faults input.new) }
-    ensures write { IsErrOf result Ending.WriteFault → Rose (O.faults out.old) (O.faults out.new) }
-    ensures calm_input { ¬ IsErrOf result Ending.ReadFault
-        → S.faults input.new ≡ S.faults input.old }
-    ensures calm_output { ¬ IsErrOf result Ending.WriteFault
-        → O.faults out.new ≡ O.faults out.old }
-    ensures too_long { IsErrOf result Ending.TooLong
-        → TakesMore INPUT_LIMIT (S.left input.old) (S.left input.new) }
-    ensures within { (IsErrOf result Ending.TooLong → ⊥)
-        → TakesAtMost INPUT_LIMIT (S.left input.old) (S.left input.new) }
+    ensures devices { LeavesDevices S.left S.faults O.faults input.old input.new out.old out.new
+        result }
 {
     let Some(command) = command_of(words) else {
         return Err(Ending::Usage);

@@ -1,12 +1,9 @@
 //! A relay's run over a script, and what is written of it. It knows sinks by their trait alone.
 
-ghost use Rattle.std.specs.Prelude.{◌≡◌, ◌+◌, ◌≤◌, ◌<◌, ◌^◌, List, [], ◌∷◌, ◌++◌, OnOk, OnErr, IfErr, IsErrOf};
+ghost use Rattle.std.specs.Prelude.{◌≡◌, ◌+◌, ◌≤◌, ◌<◌, ◌^◌, [], ◌∷◌, ◌++◌, OnOk, OnErr, IfErr, IsErrOf};
 ghost use Rattle.std.specs.Io.KnownBytes.{Appends};
 ghost use Rattle.amt_ports.specs.Causes.{Rose};
-ghost use Rattle.response_mac.specs.declared.secret.Secret.{Secret as SecretValue};
-ghost use Rattle.relay_machine.specs.declared.event.Event.{Event as EventValue};
-ghost use Rattle.relay_machine.specs.declared.settings.Settings.{Settings as SettingsValue};
-ghost use Rattle.relay_machine.specs.Answers.{RelayAt, outcome_of, rows_after, sends_of};
+ghost use Rattle.relay_machine.specs.Answers.{After, RelayAt, outcome_of, rows_after, sends_of};
 ghost use Rattle.relay_machine.specs.Conditions.{IsEvent};
 ghost use Rattle.script_lines.specs.Writing.{WritesPrefix};
 ghost use Rattle.amt_script.specs.Running.{IsItem, IsRunnable};
@@ -44,19 +41,16 @@ fn write_step<O: Sink>(
     out: &mut O,
 ) -> Result<(), RunFault>
     requires { IsEvent event.now }
-    ensures done { (settings : SettingsValue) (first : SecretValue)
-        (events : List EventValue) → RelayAt relay.old settings first events
-        → OnOk result (Appends (O.written out.old) (O.written out.new)
+    ensures done { After relay.old (λ settings first events.
+        OnOk result (Appends (O.written out.old) (O.written out.new)
         (step_text number (outcome_of settings first events event.now)
-        (sends_of settings first events event.now))) }
-    ensures begun { (settings : SettingsValue) (first : SecretValue)
-        (events : List EventValue) → RelayAt relay.old settings first events
-        → OnErr result (WritesPrefix (O.written out.old) (O.written out.new)
+        (sends_of settings first events event.now)))) }
+    ensures begun { After relay.old (λ settings first events.
+        OnErr result (WritesPrefix (O.written out.old) (O.written out.new)
         (step_text number (outcome_of settings first events event.now)
-        (sends_of settings first events event.now))) }
-    ensures next { (settings : SettingsValue) (first : SecretValue)
-        (events : List EventValue) → RelayAt relay.old settings first events
-        → OnOk result (RelayAt relay.new settings first (events ++ event.now ∷ [])) }
+        (sends_of settings first events event.now)))) }
+    ensures next { After relay.old (λ settings first events.
+        OnOk result (RelayAt relay.new settings first (events ++ event.now ∷ []))) }
 
     ensures later { O.faults out.old ≤ O.faults out.new }
     ensures write { IsErrOf result RunFault.Write → Rose (O.faults out.old) (O.faults out.new) }
@@ -77,14 +71,12 @@ fn write_rows<O: Sink>(
     number: u64,
     out: &mut O,
 ) -> Result<(), RunFault>
-    ensures done { (settings : SettingsValue) (first : SecretValue)
-        (events : List EventValue) → RelayAt relay.now settings first events
-        → OnOk result (Appends (O.written out.old) (O.written out.new)
-        (rows_text number (rows_after settings first events))) }
-    ensures begun { (settings : SettingsValue) (first : SecretValue)
-        (events : List EventValue) → RelayAt relay.now settings first events
-        → OnErr result (WritesPrefix (O.written out.old) (O.written out.new)
-        (rows_text number (rows_after settings first events))) }
+    ensures done { After relay.now (λ settings first events.
+        OnOk result (Appends (O.written out.old) (O.written out.new)
+        (rows_text number (rows_after settings first events)))) }
+    ensures begun { After relay.now (λ settings first events.
+        OnErr result (WritesPrefix (O.written out.old) (O.written out.new)
+        (rows_text number (rows_after settings first events)))) }
 
     ensures later { O.faults out.old ≤ O.faults out.new }
     ensures write { IsErrOf result RunFault.Write → Rose (O.faults out.old) (O.faults out.new) }
@@ -107,17 +99,14 @@ fn write_item<O: Sink>(
     out: &mut O,
 ) -> Result<(), RunFault>
     requires { IsItem item.now }
-    ensures done { (settings : SettingsValue) (first : SecretValue)
-        (events : List EventValue) → RelayAt relay.old settings first events
-        → OnOk result (Appends (O.written out.old) (O.written out.new)
-        (item_text settings first events number item.now)) }
-    ensures begun { (settings : SettingsValue) (first : SecretValue)
-        (events : List EventValue) → RelayAt relay.old settings first events
-        → OnErr result (WritesPrefix (O.written out.old) (O.written out.new)
-        (item_text settings first events number item.now)) }
-    ensures next { (settings : SettingsValue) (first : SecretValue)
-        (events : List EventValue) → RelayAt relay.old settings first events
-        → OnOk result (RelayAt relay.new settings first (events ++ events_in (item.now ∷ []))) }
+    ensures done { After relay.old (λ settings first events.
+        OnOk result (Appends (O.written out.old) (O.written out.new)
+        (item_text settings first events number item.now))) }
+    ensures begun { After relay.old (λ settings first events.
+        OnErr result (WritesPrefix (O.written out.old) (O.written out.new)
+        (item_text settings first events number item.now))) }
+    ensures next { After relay.old (λ settings first events.
+        OnOk result (RelayAt relay.new settings first (events ++ events_in (item.now ∷ [])))) }
 
     ensures later { O.faults out.old ≤ O.faults out.new }
     ensures write { IsErrOf result RunFault.Write → Rose (O.faults out.old) (O.faults out.new) }

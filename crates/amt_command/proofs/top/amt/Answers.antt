@@ -25,23 +25,23 @@ returns-clause-answers g c =
                 rw c.status_of.ensures (only_done result
                 (λ usage. run.usage.0 usage h.accepted)
                 (λ text said. nothing_told replay _ _ bytes text script h.told (fault_told replay _ _ result text ends.script said) spelled)
-                (λ fault. h.reading (run.read fault))
-                (λ fault. h.writing (run.write fault))
-                (λ long. more_told _ _ bytes h.told short (run.too_long long)));
+                (λ fault. h.reading (run.devices.read fault))
+                (λ fault. h.writing (run.devices.write fault))
+                (λ long. more_told _ _ bytes h.told short (run.devices.too_long long)));
             no_script = λ bytes h short none.
                 rw c.status_of.ensures (only_no_script result
                 (λ usage. run.usage.0 usage h.accepted)
                 (λ done. done_told replay _ _ _ _ result bytes h.told none ends.done done)
-                (λ fault. h.reading (run.read fault))
-                (λ fault. h.writing (run.write fault))
-                (λ long. more_told _ _ bytes h.told short (run.too_long long)));
+                (λ fault. h.reading (run.devices.read fault))
+                (λ fault. h.writing (run.devices.write fault))
+                (λ long. more_told _ _ bytes h.told short (run.devices.too_long long)));
           };
       read = search rules;
       write = search rules;
       calm_input = search rules;
       calm_output = search rules;
       too_long = search rules;
-      within = λ other. run.within (λ long. other (c.status_of.ensures ∙ ap status_of long));
+      within = λ other. run.devices.within (λ long. other (c.status_of.ensures ∙ ap status_of long));
       statuses = search rules;
       overlong = λ bytes h long.
           let replay = replay_of h.accepted.0 in
@@ -50,8 +50,8 @@ returns-clause-answers g c =
           (λ usage. run.usage.0 usage h.accepted)
           (λ done. long_done replay _ _ _ _ result bytes h.told long ends.done done)
           (λ text said. long_fault replay _ _ bytes text h.told long (fault_told replay _ _ result text ends.script said))
-          (λ fault. h.reading (run.read fault))
-          (λ fault. h.writing (run.write fault)));
+          (λ fault. h.reading (run.devices.read fault))
+          (λ fault. h.writing (run.devices.write fault)));
       untouched = search rules;
       quiet = search rules;
     }
