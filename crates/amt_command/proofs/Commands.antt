@@ -1,5 +1,5 @@
 -- The commands, by cases: each replays a lawful kind of script.
-use Rattle.script_lines.specs.Kind.{IsLawful}
+use Rattle.script_lines.specs.Kind.{IsLawfulKind}
 use Rattle.amt_script.proofs.Lawful.{relay_kind_lawful}
 use Rattle.amt_command.specs.declared.command.Command.{Command}
 use Rattle.amt_command.specs.declared.command.Command.TheVariants.{ReplayRelay}
@@ -9,5 +9,5 @@ use Rattle.amt_command.specs.Command.{replay_of}
 pub of_relay : (P : Command → Type 0) (command : Command) → P ReplayRelay → P command
 of_relay P ReplayRelay holds = holds
 
-pub lawful_kind_of : (command : Command) → IsLawful (replay_of command).kind
+pub lawful_kind_of : (command : Command) → IsLawfulKind (replay_of command).kind
 lawful_kind_of ReplayRelay = relay_kind_lawful

@@ -9,8 +9,8 @@ use Rattle.amt_command.specs.declared.command.Command.TheVariants.{ReplayRelay}
 use Rattle.amt_command.specs.Replay.{Replay, relay_replay}
 
 -- the arguments of a command, those after the program's name
-abbrev pub words_of : Command → List (List ℕ)
-words_of ReplayRelay = codes "replay" ∷ codes "relay" ∷ []
+abbrev pub arguments_of : Command → List (List ℕ)
+arguments_of ReplayRelay = codes "replay" ∷ codes "relay" ∷ []
 
 -- what a line of its scripts says, and its scripts
 abbrev pub statement_of : Command → Type 0
@@ -26,7 +26,7 @@ replay_of ReplayRelay = relay_replay
 
 -- the arguments are those of a command
 abbrev pub IsCommand : List (List ℕ) → Type 0
-IsCommand words = (command : Command) × (words ≡ words_of command)
+IsCommand words = (command : Command) × (words ≡ arguments_of command)
 
 -- done; usage; script; read; write; memory; too long
 abbrev pub IsStatus : ℕ → Type 0

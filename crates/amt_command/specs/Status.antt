@@ -7,7 +7,7 @@ use Rattle.amt_values.specs.declared.bytes.TheConstants.{INPUT_LIMIT}
 use Rattle.script_lines.specs.Script.{Spells}
 use Rattle.script_lines.specs.Writing.{WritesPrefix}
 use Rattle.amt_command.specs.declared.command.Command.{Command}
-use Rattle.amt_command.specs.Command.{IsCommand, words_of, replay_of, IsStatus, IsQuiet, IsUndisturbed, status_line}
+use Rattle.amt_command.specs.Command.{IsCommand, arguments_of, replay_of, IsStatus, IsQuiet, IsUndisturbed, status_line}
 use Rattle.amt_command.specs.Replay.{Replay, Replays, BeginsToReplay, SpellsNothing, WritesFault, BeginsFault}
 
 -- What the status says of a run that replays scripts of a kind. The functions are as below.
@@ -30,7 +30,7 @@ pub record AnswersFor {W X : Type 0} (replay : Replay W X) {S O : Type 0} (left 
 pub record Answers {S O : Type 0} (left : S → Option (List ℕ)) (reads : S → ℕ) (written : O → Option (List ℕ)) (writes : O → ℕ) (line : List (List ℕ)) (input input' : S) (out out' : O) (status : ℕ) : Type 0 where
   pub words : (status ≡ 2) ⊎ IsCommand line
   pub usage : (status ≡ 2) ↔ (IsCommand line → ⊥)
-  pub of_command : (command : Command) → line ≡ words_of command
+  pub of_command : (command : Command) → line ≡ arguments_of command
       → AnswersFor (replay_of command) left reads written writes line input input' out out' status
   pub read : status ≡ 4 → Rose (reads input) (reads input')
   pub write : status ≡ 5 → Rose (writes out) (writes out')
@@ -49,10 +49,10 @@ pub record Answers {S O : Type 0} (left : S → Option (List ℕ)) (reads : S �
 -- what a run with this status over these arguments and an input writes to standard error
 pub record Reports {S E : Type 0} (left : S → Option (List ℕ)) (told : E → Option (List ℕ)) (failures : E → ℕ) (words : List (List ℕ)) (input input' : S) (err err' : E) (status : ℕ) : Type 0 where
   pub line : (Rose (failures err) (failures err') → ⊥) → status ≢ 3 → Appends (told err) (told err') (status_line status)
-  pub fault_line : (command : Command) → words ≡ words_of command
+  pub fault_line : (command : Command) → words ≡ arguments_of command
       → (Rose (failures err) (failures err') → ⊥) → status ≡ 3 → WritesFault (replay_of command) (left input) (left input') (told err) (told err')
   pub prefix : status ≢ 3 → WritesPrefix (told err) (told err') (status_line status)
-  pub fault_prefix : (command : Command) → words ≡ words_of command
+  pub fault_prefix : (command : Command) → words ≡ arguments_of command
       → status ≡ 3 → BeginsFault (replay_of command) (left input) (left input') (told err) (told err')
   pub silent : status ≡ 0 → err' ≡ err
 

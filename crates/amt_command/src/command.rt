@@ -2,7 +2,7 @@
 
 ghost use Rattle.std.specs.Prelude.{◌≡◌, ◌≢◌, ◌↔◌, map, string_bytes, IsTrue, IfSome, IfNone};
 ghost use Rattle.amt_command.specs.declared.command.Command.{Command as CommandValue};
-ghost use Rattle.amt_command.specs.Command.{words_of};
+ghost use Rattle.amt_command.specs.Command.{arguments_of};
 
 /// What `amt` is asked to do.
 #[derive(Clone, Copy, Debug, PartialEq, Eq)]
@@ -19,8 +19,8 @@ fn is_word(word: &String, text: &str) -> bool
 
 /// The command of these arguments, those after the program's name.
 pub fn command_of(words: &[String]) -> Option<Command>
-    ensures found { IfSome result (λ command. map string_bytes words.now ≡ words_of command) }
-    ensures none { IfNone result ((command : CommandValue) → map string_bytes words.now ≢ words_of command) }
+    ensures found { IfSome result (λ command. map string_bytes words.now ≡ arguments_of command) }
+    ensures none { IfNone result ((command : CommandValue) → map string_bytes words.now ≢ arguments_of command) }
 {
     match words {
         [first, second] => {

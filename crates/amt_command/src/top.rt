@@ -8,7 +8,7 @@ ghost use Rattle.amt_values.specs.declared.bytes.TheConstants.{INPUT_LIMIT};
 ghost use Rattle.script_lines.specs.Script.{HasOneScript, HasOneFault};
 ghost use Rattle.script_lines.specs.Writing.{WritesPrefix};
 ghost use Rattle.amt_command.specs.declared.command.Command.{Command as CommandValue};
-ghost use Rattle.amt_command.specs.Command.{IsCommand, words_of, replay_of};
+ghost use Rattle.amt_command.specs.Command.{IsCommand, arguments_of, replay_of};
 ghost use Rattle.amt_command.specs.Ending.{EndsFor, LeavesDevices, status_of, line_of};
 ghost use Rattle.amt_command.specs.Exit.{status_in};
 ghost use Rattle.amt_command.specs.Status.{Answers, Reports, ReportsMemory};
@@ -31,7 +31,7 @@ fn run<S: Source, O: Sink>(
     ensures words { IsErrOf result Ending.Usage ⊎ IsCommand (map string_bytes words.now) }
     ensures untouched { IsErrOf result Ending.Usage → input.new ≡ input.old }
 
-    ensures of_command { (command : CommandValue) → map string_bytes words.now ≡ words_of command
+    ensures of_command { (command : CommandValue) → map string_bytes words.now ≡ arguments_of command
         → EndsFor (replay_of command) (S.left input.old) (S.left input.new) (O.written out.old)
         (O.written out.new) (out.new ≡ out.old) result }
     ensures devices { LeavesDevices S.left S.faults O.faults input.old input.new out.old out.new

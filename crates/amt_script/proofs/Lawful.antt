@@ -2,7 +2,7 @@
 use Rattle.std.proofs.Common.{◌≡◌, ℕ, List, Option, None, Some, IsSome, inl, inr, sym, ap, ◌∙◌}
 use Rattle.script_lines.specs.declared.reason.Reason.{Reason}
 use Rattle.script_lines.specs.declared.reason.Reason.TheVariants as reasons
-use Rattle.script_lines.specs.Kind.{IsLawful}
+use Rattle.script_lines.specs.Kind.{IsLawfulKind}
 use Rattle.amt_script.specs.declared.kind.Kind.{Kind}
 use Rattle.amt_script.specs.declared.kind.Kind.TheVariants as kinds
 use Rattle.amt_script.specs.declared.line.RelayStatement.{RelayStatement}
@@ -67,7 +67,7 @@ one_script said one other h k =
     same_script one other (settled_values (settings_in said) one.settings other.settings one.secret other.secret h.settled k.settled)
     (h.settled.first_secret ∙ sym k.settled.first_secret) (h.items ∙ sym k.items)
 
-pub relay_kind_lawful : IsLawful relay_kind
+pub relay_kind_lawful : IsLawfulKind relay_kind
 relay_kind_lawful = record {
   one_statement = λ past one other line h k. one_statement (settings_in past) (items_in past) one other line h k;
   no_statement = λ past one line reason h k. no_statement (settings_in past) (items_in past) one line reason h k;

@@ -5,7 +5,7 @@ use Rattle.std.specs.Str.{bytes_eq}
 use Rattle.std.proofs.lemmas.List.Elements.{All-from_recursion}
 use Rattle.relay_machine.specs.declared.number_key.NumberKey.{NumberKey}
 use Rattle.relay_machine.specs.declared.number_key.TheConstants.{NUMBER_KEYS}
-use Rattle.relay_machine.specs.Settings.{row_of}
+use Rattle.relay_machine.specs.Settings.{number_row}
 use Rattle.relay_machine.proofs.Numbers.{All-keys}
 use Rattle.amt_script.specs.declared.kind.Key.{Key}
 use Rattle.amt_script.specs.declared.kind.Key.TheVariants as keys
@@ -44,9 +44,9 @@ key_marked keys.Secret = refl
 pub same_key : (one other : Key) → key_word one ≡ key_word other → one ≡ other
 same_key one other same = sym (key_marked one) ∙ (ap marked_key same ∙ key_marked other)
 
-pub most_small : (key : NumberKey) → (row_of key).most < 2 ^ 32
+pub most_small : (key : NumberKey) → (number_row key).most < 2 ^ 32
 most_small =
-    let P : NumberKey → Type 0 = λ key. (row_of key).most < 2 ^ 32 in
+    let P : NumberKey → Type 0 = λ key. (number_row key).most < 2 ^ 32 in
     let each : AllByRecursion P NUMBER_KEYS = search (rules, arith) in All-keys P (All-from_recursion P NUMBER_KEYS each)
 
 -- a line's kind and what follows its first words

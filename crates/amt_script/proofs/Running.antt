@@ -3,7 +3,7 @@ use Rattle.std.proofs.Common.{ℕ, ◌≤◌, List, [], ◌∷◌, ◌++◌, len
 use Rattle.std.specs.List.{AllByRecursion}
 use Rattle.std.specs.Str.Lines.{lines}
 use Rattle.hex.proofs.HexLemmas.{decode_of-ok}
-use Rattle.relay_machine.specs.Conditions.{IsEvent}
+use Rattle.relay_machine.specs.EventSize.{IsEvent}
 use Rattle.relay_machine.specs.declared.event.Event.{Event}
 use Rattle.relay_machine.specs.declared.event.Event.TheVariants.{Moment, Datagram, Packet, Rotate}
 use Rattle.script_lines.specs.Form.{IsHexText}

@@ -2,7 +2,7 @@
 use Rattle.std.proofs.Common.{◌≡◌, ℕ, List, [], ◌∷◌, ◌++◌, sym, ◌∙◌}
 use Rattle.relay_machine.specs.declared.event.Event.{Event}
 use Rattle.relay_machine.specs.declared.event.Event.TheVariants as events
-use Rattle.relay_machine.specs.Settings.{row_of}
+use Rattle.relay_machine.specs.Settings.{number_row}
 use Rattle.script_lines.specs.declared.reason.Reason.{Reason}
 use Rattle.script_lines.specs.Form.{a_moment, a_number, some_octets, a_secret, an_address, an_address4, an_address6, a_peer}
 use Rattle.script_lines.proofs.Forms.{moment_fits, number_fits, octets_fit, secret_fits, address_fits, address4_fits, address6_fits, peer_fits, none_fits, one_fits, two_fit}
@@ -48,8 +48,8 @@ setting_is_fit (settings.Query6 number) line says = record {
   fits = one_fits an_address6 says.text (address6_fits number says.text says.names);
 }
 setting_is_fit (settings.Number key number) line says =
-    let least = (row_of key).least in
-    let most = (row_of key).most in record {
+    let least = (number_row key).least in
+    let most = (number_row key).most in record {
       values = says.text ∷ [];
       parts = says.parts;
       fits = one_fits (a_number least most) says.text (number_fits least most number says.text (most_small key) says.names);

@@ -9,7 +9,7 @@ use Rattle.response_mac.specs.declared.secret.Secret.{Secret}
 use Rattle.relay_machine.specs.declared.event.Event.{Event}
 use Rattle.relay_machine.specs.declared.event.Event.TheVariants as events
 use Rattle.relay_machine.specs.declared.number_key.NumberKey.{NumberKey}
-use Rattle.relay_machine.specs.Settings.{row_of}
+use Rattle.relay_machine.specs.Settings.{number_row}
 use Rattle.script_lines.specs.Form.{IsMomentText, IsNumberText, IsHexText, IsSecretText}
 use Rattle.script_lines.proofs.Forms.{IsHexText-unique, IsSecretText-unique, IsMomentText-unique, IsNumberText-unique, address4, address6, one_field}
 use Rattle.amt_script.specs.declared.kind.Kind.TheVariants as kinds
@@ -25,8 +25,8 @@ use Rattle.amt_script.proofs.Says.{kind_of_event, kind_of_item, setting_is_fit, 
 same_number_at : (key : NumberKey) (x y : ℕ) (line : List (List ℕ)) → SaysSetting (settings.Number key x) line → SaysSetting (settings.Number key y) line
     → settings.Number key x ≡ settings.Number key y
 same_number_at key x y line h k =
-    let least = (row_of key).least in
-    let most = (row_of key).most in
+    let least = (number_row key).least in
+    let most = (number_row key).most in
     ap (λ (v : ℕ). settings.Number key v)
     (one_field _ (IsNumberText least most) (λ v w text p q. IsNumberText-unique least most v w text (most_small key) p q) x y line h k)
 

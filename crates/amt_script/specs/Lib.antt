@@ -1,3 +1,4 @@
+pub mod Counting
 pub mod Fault
 pub mod Printed
 pub mod Reading

@@ -1,7 +1,7 @@
 -- What the reader's own answers say.
 use Rattle.std.specs.Prelude.{◌≡◌, ◌≢◌, ℕ, List, [], IsSome}
 use Rattle.std.specs.List.{AllByRecursion}
-use Rattle.relay_machine.specs.Settings.{IsInRange}
+use Rattle.relay_machine.specs.Settings.{IsInKeyRange}
 use Rattle.script_lines.specs.declared.reason.Reason.{Reason}
 use Rattle.script_lines.specs.declared.reason.Reason.TheVariants as reasons
 use Rattle.amt_script.specs.declared.kind.Key.{Key}
@@ -22,7 +22,7 @@ FailsToSet given items key values reason = FailsAs (kinds.Set key) values reason
 
 -- a number is in its key's range
 abbrev pub IsAllowed : Setting → Type 0
-IsAllowed (settings.Number key number) = IsInRange key number
+IsAllowed (settings.Number key number) = IsInKeyRange key number
 IsAllowed other = Unit {0}
 
 -- these are the settings and items among the statements

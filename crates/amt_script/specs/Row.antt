@@ -2,7 +2,7 @@
 use Rattle.std.specs.Prelude.{◌≢◌, ℕ, List, [], ◌∷◌, ◌++◌, codes, None}
 use Rattle.relay_machine.specs.declared.number_key.NumberKey.{NumberKey}
 use Rattle.relay_machine.specs.declared.number_key.NumberKey.TheVariants as numbers
-use Rattle.relay_machine.specs.Settings.{row_of}
+use Rattle.relay_machine.specs.Settings.{number_row}
 use Rattle.amt_script.specs.declared.kind.Key.{Key}
 use Rattle.amt_script.specs.declared.kind.Key.TheVariants as keys
 use Rattle.amt_script.specs.declared.kind.Kind.{Kind}
@@ -42,7 +42,7 @@ abbrev pub form_of_key : Key → Form
 form_of_key keys.Relay = an_address
 form_of_key keys.Query4 = an_address4
 form_of_key keys.Query6 = an_address6
-form_of_key (keys.Number key) = a_number (row_of key).least (row_of key).most
+form_of_key (keys.Number key) = a_number (number_row key).least (number_row key).most
 form_of_key keys.Secret = a_secret
 
 -- what the fields after the first words may be

@@ -1,6 +1,6 @@
 -- Which scripts a relay can be run over.
 use Rattle.std.specs.List.{AllByRecursion}
-use Rattle.relay_machine.specs.Conditions.{IsEvent}
+use Rattle.relay_machine.specs.EventSize.{IsEvent}
 use Rattle.relay_machine.specs.Settings.{AreLawfulSettings}
 use Rattle.amt_script.specs.declared.script.RelayItem.{RelayItem}
 use Rattle.amt_script.specs.declared.script.RelayItem.TheVariants.{Event, Show}

@@ -4,7 +4,7 @@ use Rattle.amt_values.specs.declared.address.Ip.TheVariants.{V4, V6}
 use Rattle.amt_values.specs.Text.{IsIpText, IsPeerText}
 use Rattle.relay_machine.specs.declared.event.Event.{Event}
 use Rattle.relay_machine.specs.declared.event.Event.TheVariants as events
-use Rattle.relay_machine.specs.Settings.{row_of}
+use Rattle.relay_machine.specs.Settings.{number_row}
 use Rattle.script_lines.specs.Form.{IsMomentText, IsNumberText, IsHexText, IsSecretText}
 use Rattle.script_lines.specs.Lines.{fields, IsPlain}
 use Rattle.script_lines.specs.Shape.{HasField, HasTwoFields}
@@ -22,7 +22,7 @@ SaysSetting (settings.Relay ip) = HasField (words_of (kinds.Set keys.Relay)) (Is
 SaysSetting (settings.Query4 number) = HasField (words_of (kinds.Set keys.Query4)) (IsIpText (V4 number))
 SaysSetting (settings.Query6 number) = HasField (words_of (kinds.Set keys.Query6)) (IsIpText (V6 number))
 SaysSetting (settings.Number key number) =
-    HasField (words_of (kinds.Set (keys.Number key))) (IsNumberText (row_of key).least (row_of key).most number)
+    HasField (words_of (kinds.Set (keys.Number key))) (IsNumberText (number_row key).least (number_row key).most number)
 SaysSetting (settings.Secret secret) = HasField (words_of (kinds.Set keys.Secret)) (IsSecretText secret)
 
 -- a line of these fields says the event

@@ -4,8 +4,9 @@ ghost use Rattle.std.specs.Prelude.{◌≡◌, ◌+◌, ◌≤◌, ◌<◌, ◌^
 ghost use Rattle.std.specs.Io.KnownBytes.{Appends};
 ghost use Rattle.amt_ports.specs.Causes.{Rose};
 ghost use Rattle.relay_machine.specs.Answers.{After, RelayAt, outcome_of, rows_after, sends_of};
-ghost use Rattle.relay_machine.specs.Conditions.{IsEvent};
+ghost use Rattle.relay_machine.specs.EventSize.{IsEvent};
 ghost use Rattle.script_lines.specs.Writing.{WritesPrefix};
+ghost use Rattle.amt_script.specs.Counting.{CountsWrites};
 ghost use Rattle.amt_script.specs.Running.{IsItem, IsRunnable};
 ghost use Rattle.amt_script.specs.Texts.{events_in, item_text, rows_text, step_text, relay_script_text};
 
@@ -52,9 +53,7 @@ fn write_step<O: Sink>(
     ensures next { After relay.old (λ settings first events.
         OnOk result (RelayAt relay.new settings first (events ++ event.now ∷ []))) }
 
-    ensures later { O.faults out.old ≤ O.faults out.new }
-    ensures write { IsErrOf result RunFault.Write → Rose (O.faults out.old) (O.faults out.new) }
-    ensures quiet { ¬ IsErrOf result RunFault.Write → O.faults out.new ≡ O.faults out.old }
+    ensures counts { CountsWrites (O.faults out.old) (O.faults out.new) result }
 {
     let Ok(step) = relay.step(alloc, event) else {
         return Err(RunFault::Memory);
@@ -78,9 +77,7 @@ fn write_rows<O: Sink>(
         OnErr result (WritesPrefix (O.written out.old) (O.written out.new)
         (rows_text number (rows_after settings first events)))) }
 
-    ensures later { O.faults out.old ≤ O.faults out.new }
-    ensures write { IsErrOf result RunFault.Write → Rose (O.faults out.old) (O.faults out.new) }
-    ensures quiet { ¬ IsErrOf result RunFault.Write → O.faults out.new ≡ O.faults out.old }
+    ensures counts { CountsWrites (O.faults out.old) (O.faults out.new) result }
 {
     let Ok(rows) = relay.rows(alloc) else {
         return Err(RunFault::Memory);
@@ -108,9 +105,7 @@ fn write_item<O: Sink>(
     ensures next { After relay.old (λ settings first events.
         OnOk result (RelayAt relay.new settings first (events ++ events_in (item.now ∷ [])))) }
 
-    ensures later { O.faults out.old ≤ O.faults out.new }
-    ensures write { IsErrOf result RunFault.Write → Rose (O.faults out.old) (O.faults out.new) }
-    ensures quiet { ¬ IsErrOf result RunFault.Write → O.faults out.new ≡ O.faults out.old }
+    ensures counts { CountsWrites (O.faults out.old) (O.faults out.new) result }
 {
     match item {
         RelayItem::Event(event) => write_step(alloc, relay, number, event, out),
@@ -132,9 +127,7 @@ fn run_items<O: Sink>(
     ensures begun { OnErr result (WritesPrefix (O.written out.old) (O.written out.new)
         (relay_script_text script.now)) }
 
-    ensures later { O.faults out.old ≤ O.faults out.new }
-    ensures write { IsErrOf result RunFault.Write → Rose (O.faults out.old) (O.faults out.new) }
-    ensures quiet { ¬ IsErrOf result RunFault.Write → O.faults out.new ≡ O.faults out.old }
+    ensures counts { CountsWrites (O.faults out.old) (O.faults out.new) result }
 {
     let items = script.items.as_slice();
     for (index, item) in items.iter().enumerate() {

@@ -1,7 +1,7 @@
 //! The texts of a relay's events and steps. It knows no script and no sink.
 
 ghost use Rattle.std.specs.Prelude.{◌≡◌, ◌++◌, ◌≤◌, codes, decimal, length, OnOk, IfOk, string_bytes};
-ghost use Rattle.relay_machine.specs.Conditions.{IsEvent};
+ghost use Rattle.relay_machine.specs.EventSize.{IsEvent};
 ghost use Rattle.relay_machine.specs.declared.event.Event.TheVariants as events;
 ghost use Rattle.relay_machine.specs.declared.outcome.Outcome.TheVariants.{Over, Queried};
 ghost use Rattle.amt_script.specs.Printed.{IsLineOf, IsLineThatSays};

@@ -1,6 +1,6 @@
 //! A relay, event by event: outcomes, entries that are handed out, and how much is sent.
 ghost use Rattle.std.specs.Prelude.{◌≤◌, IfOk, length};
-ghost use Rattle.relay_machine.specs.Conditions.{IsEvent};
+ghost use Rattle.relay_machine.specs.EventSize.{IsEvent};
 
 use amt_values::{Bytes, Endpoint, Ip, Moment, Peer};
 use endpoint_membership::{Change, LimitFault, Limits, Row};

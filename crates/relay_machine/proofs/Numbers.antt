@@ -11,7 +11,7 @@ use Rattle.relay_machine.specs.declared.settings.Settings.{Settings}
 use Rattle.relay_machine.specs.declared.number_key.NumberKey.{NumberKey}
 use Rattle.relay_machine.specs.declared.number_key.NumberKey.TheVariants.{Robustness, QuerySeconds, ResponseTenths, Endpoints, Groups, Sources, PacketLimit}
 use Rattle.relay_machine.specs.declared.number_key.TheConstants.{NUMBER_KEYS}
-use Rattle.relay_machine.specs.Settings.{AreLawfulSettings, IsInRange, default_settings, membership_interval_ms, row_of}
+use Rattle.relay_machine.specs.Settings.{AreLawfulSettings, IsInKeyRange, default_settings, membership_interval_ms, number_row}
 
 pub All-keys : (P : NumberKey → Type 0) → All P NUMBER_KEYS → (key : NumberKey) → P key
 All-keys P all Robustness = all 0 Robustness (omega arith)
@@ -27,9 +27,9 @@ pub All-more : (P : NumberKey → Type 0) (keys : List NumberKey) (i : ℕ) (d :
 All-more P keys i d before within here =
     subst (All P) (sym (take_more keys i d within)) (All-append P (take i keys) (get_or keys i d ∷ []) before (All-cons P (get_or keys i d) [] here (All-nil P)))
 
-numbers-default : (relay : Ip) (key : NumberKey) → IsInRange key ((row_of key).number (default_settings relay))
+numbers-default : (relay : Ip) (key : NumberKey) → IsInKeyRange key ((number_row key).number (default_settings relay))
 numbers-default relay =
-    let P : NumberKey → Type 0 = λ key. IsInRange key ((row_of key).number (default_settings relay)) in
+    let P : NumberKey → Type 0 = λ key. IsInKeyRange key ((number_row key).number (default_settings relay)) in
     let each : AllByRecursion P NUMBER_KEYS = search rules in All-keys P (All-from_recursion P NUMBER_KEYS each)
 
 pub AreLawful-default : (relay : Ip) → AreLawfulSettings (default_settings relay)

@@ -38,10 +38,10 @@ use Rattle.relay_machine.specs.declared.sends.Step.{Step}
 use Rattle.relay_machine.specs.declared.settings.Settings.{Settings}
 use Rattle.relay_machine.specs.Accepted.{accepted_back, accepted_log, entry_after, entry_of, with_change}
 use Rattle.relay_machine.specs.Answers.{RelayAt, StandsFor, answer_of, moment_of, settings_of}
-use Rattle.relay_machine.specs.Conditions.{IsPayload}
+use Rattle.relay_machine.specs.EventSize.{IsPayload}
 use Rattle.relay_machine.specs.EventAnswer.{EventAnswer, datagram_answer, event_answer, limited_answer, message_answer, packet_answer, teardown_answer, update_answer}
 use Rattle.relay_machine.specs.Events.{moment_in, now_of, secret_in, secrets_of}
-use Rattle.relay_machine.specs.Logs.{Answers, IsAnswered}
+use Rattle.relay_machine.specs.Logs.{AnswersByLog, IsAnswered}
 use Rattle.relay_machine.specs.Packets.{head_to_copy, targets_at}
 use Rattle.relay_machine.specs.Settings.{table_settings_of}
 use Rattle.relay_machine.specs.State.{HasLog}
@@ -202,7 +202,7 @@ payload_secret (Datagram from bytes) payload = refl
 -- what is answered by the table's own log is what is answered by the events
 pub answered-after : {E : Type 0} (relay : Relay) (after : TableValue) (settings : Settings) (first : Secret) (events : List Event) (event : Event) (result : Result Step E)
     → RelayAt relay settings first events
-    → Answers (table_settings_of (settings_of relay)) relay.table after result (λ log. event_answer (settings_of relay) relay.secrets (latest log) log event)
+    → AnswersByLog (table_settings_of (settings_of relay)) relay.table after result (λ log. event_answer (settings_of relay) relay.secrets (latest log) log event)
     → IfOk result (IsAnswered (table_settings_of settings) relay.table after (accepted_log settings first events) (answer_of settings first events event))
 answered-after relay after settings first events event result at answers =
     let log = accepted_log settings first events in
@@ -248,6 +248,6 @@ IsWithin-events relay settings first events at = IsWithin-log (table_settings_of
 
 -- a table that an answer left represents some log again
 pub HasLog-answered : {E : Type 0} (terms : TableSettings) (before after : TableValue) (answer : List Change → EventAnswer) (result : Result Step E) → ∥ HasLog terms before ∥₁
-    → Answers terms before after result answer → OnErr result (after ≡ before) → ∥ HasLog terms after ∥₁
+    → AnswersByLog terms before after result answer → OnErr result (after ≡ before) → ∥ HasLog terms after ∥₁
 HasLog-answered terms before after answer (Ok step) has_log answers same = ∥∥₁_map has_log (λ found. (_, (answers found.0 found.1).stands))
 HasLog-answered terms before after answer (Err fault) has_log answers same = subst (λ (table : TableValue). ∥ HasLog terms table ∥₁) (sym same) has_log

@@ -57,8 +57,8 @@ abbrev pub After : Relay → (Settings → Secret → List Event → Type 0) →
 After relay Fact = (settings : Settings) (first : Secret) (events : List Event) → RelayAt relay settings first events → Fact settings first events
 
 -- a fact holds of each log that the relay's table represents
-abbrev pub ForLog : Relay → (List Change → Type 0) → Type 0
-ForLog relay Fact = (log : List Change) → StandsFor relay log → Fact log
+abbrev pub ForRelayLog : Relay → (List Change → Type 0) → Type 0
+ForRelayLog relay Fact = (log : List Change) → StandsFor relay log → Fact log
 
 -- the memberships after the events
 abbrev pub rows_after : Settings → Secret → List Event → List Row

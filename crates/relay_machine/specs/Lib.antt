@@ -1,7 +1,7 @@
 pub mod Acceptance
 pub mod Accepted
 pub mod Answers
-pub mod Conditions
+pub mod EventSize
 pub mod EventAnswer
 pub mod Events
 pub mod Lawful

@@ -26,5 +26,5 @@ abbrev pub StepAnswers : TableSettings → TableValue → TableValue → Step �
 StepAnswers terms before after step answer = ForLogBy terms before (λ log. IsAnswered terms before after log (answer log) step)
 
 -- the same of a call, where it succeeded
-abbrev pub Answers : {E : Type 0} → TableSettings → TableValue → TableValue → Result Step E → (List Change → EventAnswer) → Type 0
-Answers terms before after result answer = IfOkForLogBy terms before result (λ log step. IsAnswered terms before after log (answer log) step)
+abbrev pub AnswersByLog : {E : Type 0} → TableSettings → TableValue → TableValue → Result Step E → (List Change → EventAnswer) → Type 0
+AnswersByLog terms before after result answer = IfOkForLogBy terms before result (λ log step. IsAnswered terms before after log (answer log) step)

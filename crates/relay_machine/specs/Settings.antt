@@ -21,27 +21,27 @@ pub record NumberRow : Type 0 where
 -- it (section 4.1.6); the greatest time that a query carries is 31,744 (section 4.1.7; sections 8.2 and
 -- 8.3 have the defaults). A packet has at least an IPv4 header, and with two octets before it fits a
 -- UDP payload
-abbrev pub row_of : NumberKey → NumberRow
-row_of Robustness = record { least = 1; most = 7; default = 2; number = λ s. s.robustness; with = λ s n. record s { robustness = n } }
-row_of QuerySeconds = record { least = 1; most = 31744; default = 125; number = λ s. s.query_seconds; with = λ s n. record s { query_seconds = n } }
-row_of ResponseTenths = record { least = 1; most = 31744; default = 100; number = λ s. s.response_tenths; with = λ s n. record s { response_tenths = n } }
-row_of Endpoints = record { least = 1; most = 65536; default = 1024; number = λ s. s.limits.endpoints; with = λ s n. record s { limits = record s.limits { endpoints = n } } }
-row_of Groups = record { least = 1; most = 256; default = 64; number = λ s. s.limits.groups; with = λ s n. record s { limits = record s.limits { groups = n } } }
-row_of Sources = record { least = 1; most = 64; default = 64; number = λ s. s.limits.sources; with = λ s n. record s { limits = record s.limits { sources = n } } }
-row_of PacketLimit = record { least = 20; most = 65000; default = 1450; number = λ s. s.packet_limit; with = λ s n. record s { packet_limit = n } }
+abbrev pub number_row : NumberKey → NumberRow
+number_row Robustness = record { least = 1; most = 7; default = 2; number = λ s. s.robustness; with = λ s n. record s { robustness = n } }
+number_row QuerySeconds = record { least = 1; most = 31744; default = 125; number = λ s. s.query_seconds; with = λ s n. record s { query_seconds = n } }
+number_row ResponseTenths = record { least = 1; most = 31744; default = 100; number = λ s. s.response_tenths; with = λ s n. record s { response_tenths = n } }
+number_row Endpoints = record { least = 1; most = 65536; default = 1024; number = λ s. s.limits.endpoints; with = λ s n. record s { limits = record s.limits { endpoints = n } } }
+number_row Groups = record { least = 1; most = 256; default = 64; number = λ s. s.limits.groups; with = λ s n. record s { limits = record s.limits { groups = n } } }
+number_row Sources = record { least = 1; most = 64; default = 64; number = λ s. s.limits.sources; with = λ s n. record s { limits = record s.limits { sources = n } } }
+number_row PacketLimit = record { least = 20; most = 65000; default = 1450; number = λ s. s.packet_limit; with = λ s n. record s { packet_limit = n } }
 
 -- the key's number in settings
 abbrev pub number_at : Settings → NumberKey → ℕ
-number_at settings key = (row_of key).number settings
+number_at settings key = (number_row key).number settings
 
 -- settings with this number at the key, and else the same
 abbrev pub with_number : Settings → NumberKey → ℕ → Settings
-with_number settings key number = (row_of key).with settings number
+with_number settings key number = (number_row key).with settings number
 
 -- the number is in the key's range
-pub record IsInRange (key : NumberKey) (number : ℕ) : Type 0 where
-  pub least : (row_of key).least ≤ number
-  pub most : number ≤ (row_of key).most
+pub record IsInKeyRange (key : NumberKey) (number : ℕ) : Type 0 where
+  pub least : (number_row key).least ≤ number
+  pub most : number ≤ (number_row key).most
 
 -- the time has a code of 8 bits (RFC 3376, sections 4.1.1 and 4.1.7)
 abbrev pub HasCode : ℕ → Type 0
@@ -61,7 +61,7 @@ pub record HasQueryTimes (settings : Settings) : Type 0 where
 -- each number in its range, times that queries carry, and limits by which the sources of all rows are
 -- at most 16,777,216
 pub record AreLawfulSettings (settings : Settings) : Type 0 where
-  pub numbers : (key : NumberKey) → IsInRange key (number_at settings key)
+  pub numbers : (key : NumberKey) → IsInKeyRange key (number_at settings key)
   pub times : HasQueryTimes settings
   pub product : settings.limits.endpoints * settings.limits.groups * settings.limits.sources ≤ 16777216
 
@@ -72,15 +72,15 @@ default_settings relay = record {
   relay = relay;
   query4 = 0;
   query6 = 0xfe800000000000000000000000000001;
-  robustness = (row_of Robustness).default;
-  query_seconds = (row_of QuerySeconds).default;
-  response_tenths = (row_of ResponseTenths).default;
+  robustness = (number_row Robustness).default;
+  query_seconds = (number_row QuerySeconds).default;
+  response_tenths = (number_row ResponseTenths).default;
   limits = record {
-    endpoints = (row_of Endpoints).default;
-    groups = (row_of Groups).default;
-    sources = (row_of Sources).default;
+    endpoints = (number_row Endpoints).default;
+    groups = (number_row Groups).default;
+    sources = (number_row Sources).default;
   };
-  packet_limit = (row_of PacketLimit).default;
+  packet_limit = (number_row PacketLimit).default;
 }
 
 -- the Group Membership Interval (RFC 3376, section 8.4), in milliseconds

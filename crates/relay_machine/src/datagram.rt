@@ -7,7 +7,7 @@ ghost use Rattle.amt_values.specs.Octets.{AreOctets};
 ghost use Rattle.endpoint_membership.specs.Log.{latest};
 ghost use Rattle.endpoint_membership.specs.Table.{IsWithinLimits};
 ghost use Rattle.relay_machine.specs.EventAnswer.{datagram_answer, message_answer};
-ghost use Rattle.relay_machine.specs.Logs.{Answers};
+ghost use Rattle.relay_machine.specs.Logs.{AnswersByLog};
 ghost use Rattle.relay_machine.specs.Settings.{table_settings_of};
 
 use crate::discovery::take_discovery;
@@ -35,7 +35,7 @@ fn take_message(
 ) -> Result<Step, AllocError>
     requires sendable { IsSendable message.now }
     requires within { IsWithinLimits table.old }
-    ensures answers { Answers (table_settings_of setup.now.settings) table.old table.new result (λ log.
+    ensures answers { AnswersByLog (table_settings_of setup.now.settings) table.old table.new result (λ log.
         message_answer setup.now.settings secrets.now (latest log) log source message.now) }
     ensures err { OnErr result (table.new ≡ table.old) }
     ensures within { IsWithinLimits table.new }
@@ -74,7 +74,7 @@ pub fn take_datagram(
 ) -> Result<Step, AllocError>
     requires size { length bytes.now ≤ 65535 }
     requires within { IsWithinLimits table.old }
-    ensures answers { Answers (table_settings_of setup.now.settings) table.old table.new result (λ log.
+    ensures answers { AnswersByLog (table_settings_of setup.now.settings) table.old table.new result (λ log.
         datagram_answer setup.now.settings secrets.now (latest log) log
         (endpoint_of from.now) (message_of bytes.now)) }
     ensures err { OnErr result (table.new ≡ table.old) }

@@ -2,7 +2,7 @@
 ghost use Rattle.std.specs.Prelude.{◌≡◌, [], ◌∷◌, IfOk, None};
 ghost use Rattle.endpoint_membership.specs.Table.{TableValue, TableSettings};
 ghost use Rattle.relay_machine.specs.EventAnswer.{replied};
-ghost use Rattle.relay_machine.specs.Logs.{Answers};
+ghost use Rattle.relay_machine.specs.Logs.{AnswersByLog};
 
 use crate::outcome::Outcome;
 use crate::sends::Step;
@@ -18,7 +18,7 @@ pub fn take_discovery(
     source: Endpoint,
     nonce: u32,
 ) -> Result<Step, AllocError>
-    ensures { (terms : TableSettings) (table : TableValue) → Answers terms table table result
+    ensures { (terms : TableSettings) (table : TableValue) → AnswersByLog terms table table result
         (λ log. replied Outcome.Advertised source
         (Message.Advertisement nonce setup.now.settings.relay)) }
 {

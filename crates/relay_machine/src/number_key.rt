@@ -1,6 +1,6 @@
 //! The settings that are one number each: their table. It doesn't know where settings keep them.
 ghost use Rattle.std.specs.Prelude.{◌≡◌, ◌≤◌, ◌↔◌, IsTrue};
-ghost use Rattle.relay_machine.specs.Settings.{IsInRange, row_of};
+ghost use Rattle.relay_machine.specs.Settings.{IsInKeyRange, number_row};
 
 /// A setting that is one number.
 #[derive(Clone, Copy, Debug, PartialEq, Eq)]
@@ -36,9 +36,9 @@ pub struct NumberRange {
 impl NumberKey {
     /// The row of the table.
     pub fn range(self) -> NumberRange
-        ensures least { result.least ≡ (row_of self).least }
-        ensures most { result.most ≡ (row_of self).most }
-        ensures default { result.default ≡ (row_of self).default }
+        ensures least { result.least ≡ (number_row self).least }
+        ensures most { result.most ≡ (number_row self).most }
+        ensures default { result.default ≡ (number_row self).default }
     {
         let (least, most, default) = match self {
             NumberKey::Robustness => (1, 7, 2),
@@ -58,7 +58,7 @@ impl NumberKey {
 
     /// Whether a number is in the key's range.
     pub fn allows(self, number: u32) -> bool
-        ensures { IsTrue result ↔ IsInRange self number }
+        ensures { IsTrue result ↔ IsInKeyRange self number }
     {
         let range = self.range();
         range.least <= number && number <= range.most

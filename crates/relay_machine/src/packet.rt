@@ -1,9 +1,9 @@
 //! To whom a packet is copied. It reads the packet's head, and changes nothing.
-ghost use Rattle.std.specs.Prelude.{◌≡◌, ◌≤◌, [], length, IfOk};
+ghost use Rattle.std.specs.Prelude.{◌≡◌, ◌≤◌, [], length, nat_lt, IfOk};
 ghost use Rattle.endpoint_membership.specs.Log.{latest};
 ghost use Rattle.endpoint_membership.specs.Table.{IsWithinLimits, TableSettings};
 ghost use Rattle.relay_machine.specs.EventAnswer.{packet_answer};
-ghost use Rattle.relay_machine.specs.Logs.{Answers, IfOkForLogBy};
+ghost use Rattle.relay_machine.specs.Logs.{AnswersByLog, IfOkForLogBy};
 ghost use Rattle.relay_machine.specs.Packets.{copies, head_to_copy, targets_at};
 ghost use Rattle.relay_machine.specs.Settings.{table_settings_of};
 ghost use Rattle.relay_machine.specs.State.{HasLog};
@@ -17,13 +17,19 @@ use endpoint_membership::{Table, Targets};
 use inner_datagrams::{Head, packet_head};
 use std::alloc::{AllocError, Global};
 
+fn is_too_big(limit: u32, packet: &[u8]) -> bool
+    ensures { result ≡ nat_lt limit (length packet.now) }
+{
+    packet.len() > limit as usize
+}
+
 // The source and the group of a packet that is copied: it isn't too long, and begins with a head
 // whose group is forwarded.
 fn head_to_copy(limit: u32, packet: &[u8]) -> Result<Head, Outcome>
     requires { length packet.now ≤ 65535 }
     ensures { result ≡ head_to_copy limit packet.now }
 {
-    if packet.len() > limit as usize {
+    if is_too_big(limit, packet) {
         return Err(Outcome::TooBig(packet.len() as u32));
     }
     match packet_head(packet) {
@@ -77,7 +83,7 @@ pub fn take_packet(
     requires within { IsWithinLimits table.now }
     requires has_log { ∥ HasLog (table_settings_of setup.now.settings) table.now ∥₁ }
     requires size { length packet.now ≤ 65535 }
-    ensures { Answers (table_settings_of setup.now.settings) table.now table.now result (λ log.
+    ensures { AnswersByLog (table_settings_of setup.now.settings) table.now table.now result (λ log.
         packet_answer (targets_at (table_settings_of setup.now.settings) log (latest log)) packet.now
         (head_to_copy setup.now.settings.packet_limit packet.now)) }
 {

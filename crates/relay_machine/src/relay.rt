@@ -45,8 +45,8 @@ impl Relay {
     ghost use Rattle.relay_machine.specs.declared.outcome.Outcome.TheVariants.{Copied, TornDown, Updated};
     ghost use Rattle.relay_machine.specs.Acceptance.{IsAcceptedTeardown, IsAcceptedUpdate, IsSomeAcceptedTeardown, IsSomeAcceptedUpdate};
     ghost use Rattle.relay_machine.specs.Accepted.{accepted_log, change_of, with_change};
-    ghost use Rattle.relay_machine.specs.Answers.{After, ForLog, RelayAt, StandsFor, moment_of, outcome_of, rows_after, sends_of, settings_of, wants_after};
-    ghost use Rattle.relay_machine.specs.Conditions.{IsEvent, IsPayload};
+    ghost use Rattle.relay_machine.specs.Answers.{After, ForRelayLog, RelayAt, StandsFor, moment_of, outcome_of, rows_after, sends_of, settings_of, wants_after};
+    ghost use Rattle.relay_machine.specs.EventSize.{IsEvent, IsPayload};
     ghost use Rattle.relay_machine.specs.Events.{now_of};
     ghost use Rattle.relay_machine.specs.Packets.{AreCopies, IsToCopy};
     ghost use Rattle.relay_machine.specs.Updates.{forwardable_records};
@@ -81,7 +81,7 @@ impl Relay {
     pub fn rows(&self, alloc: Global) -> Result<Rows, AllocError>
         ensures stands { IfOk result (λ rows. After self.now (λ settings first events.
             rows ≡ rows_after settings first events)) }
-        ensures published { IfOk result (λ rows. ForLog self.now (λ log.
+        ensures published { IfOk result (λ rows. ForRelayLog self.now (λ log.
             rows ≡ rows_of (membership_interval_ms (settings_of self.now)) (latest log) log)) }
         ensures bounded { IfOk result (AreFew (settings_of self.now).limits) }
     {
@@ -114,7 +114,7 @@ impl Relay {
 
         // A replica that appends each entry that is handed out to a log that the table represents has
         // such a log again: no clearing that isn't handed out is missed.
-        ensures published { ForLog self.old (λ log.
+        ensures published { ForRelayLog self.old (λ log.
             IfOk result (λ step. StandsFor self.new (with_change log step.change))) }
         ensures settings { settings_of self.new ≡ settings_of self.old }
 

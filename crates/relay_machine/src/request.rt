@@ -2,7 +2,7 @@
 ghost use Rattle.std.specs.Prelude.{◌≡◌, IfOk};
 ghost use Rattle.endpoint_membership.specs.Table.{ForLogBy, IsWithinLimits};
 ghost use Rattle.relay_machine.specs.EventAnswer.{is_limited, replied};
-ghost use Rattle.relay_machine.specs.Logs.{Answers};
+ghost use Rattle.relay_machine.specs.Logs.{AnswersByLog};
 ghost use Rattle.relay_machine.specs.Queries.{query_for};
 ghost use Rattle.relay_machine.specs.Settings.{table_settings_of};
 
@@ -33,7 +33,7 @@ pub fn take_request(
     nonce: u32,
 ) -> Result<Step, AllocError>
     requires { IsWithinLimits table.now }
-    ensures { Answers (table_settings_of setup.now.settings) table.now table.now result
+    ensures { AnswersByLog (table_settings_of setup.now.settings) table.now table.now result
         (λ log. replied (Outcome.Queried v6 (is_limited (table_settings_of setup.now.settings) log)) source
         (query_for setup.now.settings secrets.now.current v6
         (is_limited (table_settings_of setup.now.settings) log) source nonce)) }

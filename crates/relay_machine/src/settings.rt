@@ -1,7 +1,7 @@
 //! What a relay is set up with, by the table of numbers. It knows no script and no file that says it.
 ghost use Rattle.std.specs.Prelude.{◌≡◌, ◌≤◌, ◌*◌, ◌↔◌, IsTrue, IsFalse};
 ghost use Rattle.relay_machine.specs.declared.number_key.NumberKey.{NumberKey as Key};
-ghost use Rattle.relay_machine.specs.Settings.{AreLawfulSettings, HasCode, HasMldCode, HasQueryTimes, IsInRange, default_settings, membership_interval_ms, number_at, with_number};
+ghost use Rattle.relay_machine.specs.Settings.{AreLawfulSettings, HasCode, HasMldCode, HasQueryTimes, IsInKeyRange, default_settings, membership_interval_ms, number_at, with_number};
 
 use crate::number_key::{NUMBER_KEYS, NumberKey};
 use amt_values::Ip;
@@ -75,7 +75,7 @@ impl Settings {
 
     /// Sets the key's number where it is in the key's range, and answers whether it is.
     pub fn set_number(&mut self, key: NumberKey, number: u32) -> bool
-        ensures allowed { IsTrue result ↔ IsInRange key number }
+        ensures allowed { IsTrue result ↔ IsInKeyRange key number }
         ensures set { IsTrue result → self.new ≡ with_number self.old key number }
         ensures same { IsFalse result → self.new ≡ self.old }
     {
@@ -87,7 +87,7 @@ impl Settings {
     }
 
     fn put_number(&mut self, key: NumberKey, number: u32)
-        requires { IsInRange key number }
+        requires { IsInKeyRange key number }
         ensures { self.new ≡ with_number self.old key number }
     {
         match key {
@@ -115,7 +115,7 @@ impl Settings {
     }
 
     fn are_in_range(&self) -> bool
-        ensures { IsTrue result ↔ ((key : Key) → IsInRange key (number_at self.now key)) }
+        ensures { IsTrue result ↔ ((key : Key) → IsInKeyRange key (number_at self.now key)) }
     {
         for key in NUMBER_KEYS {
             if !key.allows(self.number(key)) {

@@ -5,7 +5,7 @@ ghost use Rattle.endpoint_membership.specs.Log.{latest};
 ghost use Rattle.endpoint_membership.specs.Table.{IsWithinLimits, TableSettings, limit_passed};
 ghost use Rattle.endpoint_membership.specs.declared.change.Change.TheVariants.{Reported};
 ghost use Rattle.relay_machine.specs.EventAnswer.{limited_answer, update_answer};
-ghost use Rattle.relay_machine.specs.Logs.{Answers};
+ghost use Rattle.relay_machine.specs.Logs.{AnswersByLog};
 ghost use Rattle.relay_machine.specs.Updates.{report_in};
 
 use crate::outcome::Outcome;
@@ -25,7 +25,7 @@ fn accept(
 ) -> Result<Step, AllocError>
     requires within { IsWithinLimits table.old }
     requires items { item_count records ≤ 65535 }
-    ensures answers { (terms : TableSettings) → Answers terms table.old table.new result (λ log.
+    ensures answers { (terms : TableSettings) → AnswersByLog terms table.old table.new result (λ log.
         limited_answer (limit_passed terms log source records (latest log))
         (Reported source records (latest log))) }
     ensures err { OnErr result (table.new ≡ table.old) }
@@ -57,7 +57,7 @@ pub fn take_update(
 ) -> Result<Step, AllocError>
     requires within { IsWithinLimits table.old }
     requires size { length inner.now ≤ 65535 }
-    ensures answers { (terms : TableSettings) → Answers terms table.old table.new result (λ log.
+    ensures answers { (terms : TableSettings) → AnswersByLog terms table.old table.new result (λ log.
         update_answer good (report_in inner.now)
         (λ records. limit_passed terms log source records (latest log)) source (latest log)) }
     ensures err { OnErr result (table.new ≡ table.old) }

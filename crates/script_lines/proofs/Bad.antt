@@ -2,7 +2,7 @@
 use Rattle.std.proofs.Common.{◌≡◌, ℕ, List, [], ◌∷◌, ◌++◌, inl, inr, refl, sym, ap, subst, ◌∙◌, append_assoc, append-nil}
 use Rattle.std.specs.List.{AllByRecursion}
 use Rattle.script_lines.specs.declared.reason.Reason.{Reason}
-use Rattle.script_lines.specs.Kind.{Kind, IsLawful}
+use Rattle.script_lines.specs.Kind.{Kind, IsLawfulKind}
 use Rattle.script_lines.specs.Lines.{fields, lines_that_say, IsShort, IsPlain}
 use Rattle.script_lines.specs.Script.{Say, Begins, IsWrong, IsBadLine}
 use Rattle.script_lines.proofs.Begun.{lines_that_say-append, stated}
@@ -12,7 +12,7 @@ short_inside : (before : List (List ℕ)) (line : List ℕ) (after : List (List 
 short_inside [] line after all = all.0
 short_inside (l ∷ before) line after all = short_inside before line after all.1
 
-module _ {S W : Type 0} (kind : Kind S W) (lawful : IsLawful kind) where
+module _ {S W : Type 0} (kind : Kind S W) (lawful : IsLawfulKind kind) where
   say_once : (past one other : List S) (ls : List (List ℕ)) → Say kind past one ls → Say kind past other ls → one ≡ other
   say_once past [] [] [] h k = refl
   say_once past [] (y ∷ ys) [] h k = absurd k

@@ -6,7 +6,7 @@ use Rattle.std.proofs.lemmas.List.Elements.{filter_map-append}
 use Rattle.script_lines.specs.declared.reason.Reason.{Reason}
 use Rattle.script_lines.specs.declared.reason.Reason.TheVariants as reasons
 use Rattle.script_lines.specs.Form.{IsHexText, Fails, some_octets}
-use Rattle.script_lines.specs.Kind.{IsLawful}
+use Rattle.script_lines.specs.Kind.{IsLawfulKind}
 use Rattle.script_lines.specs.Shape.{SomeFails}
 use Rattle.script_lines.specs.Trial.{Saying, named, said, name_of, octets_of, names_in, octets_in, IsGiven, AreHexTexts, SaysAfter, FailsAfter, FailsWith, AreAll, AreThose, saying_kind}
 use Rattle.script_lines.proofs.Forms.{IsHexText-unique}
@@ -104,7 +104,7 @@ no_script octets all reasons.Missing h k = h.1 k
 no_script octets all reasons.Range h k = omega (arith, h.2, k)
 no_script octets all reason h k = k
 
-pub saying_kind_lawful : IsLawful saying_kind
+pub saying_kind_lawful : IsLawfulKind saying_kind
 saying_kind_lawful = record {
   one_statement = λ past one other line h k. one_statement (names_in past) (octets_in past) one other line h k;
   no_statement = λ past one line reason h k. no_statement (names_in past) (octets_in past) one line reason h k;

@@ -5,7 +5,7 @@ use Rattle.script_lines.specs.declared.fault.ScriptError.{ScriptError}
 use Rattle.script_lines.specs.declared.fault.ScriptError.TheVariants as errors
 use Rattle.script_lines.specs.declared.reason.Reason.{Reason}
 use Rattle.contract_words.specs.Conditions.{First}
-use Rattle.script_lines.specs.Kind.{Kind, IsLawful}
+use Rattle.script_lines.specs.Kind.{Kind, IsLawfulKind}
 use Rattle.script_lines.specs.Lines.{fields}
 use Rattle.script_lines.specs.Script.{Begins, Spells, IsWrong, IsBadLine, IsFaultAt, IsFaultInLine, IsFaultAtEnd, IsErrorOf, RulesOutScripts, HasOneScript, HasOneFault}
 use Rattle.script_lines.proofs.Bad.{bad_line_breaks, begun_once}
@@ -39,7 +39,7 @@ meet (x ∷ before) (y ∷ before') line line' after after' same =
 abbrev IsOne : ℕ → ℕ → Reason → Reason → Type 0
 IsOne line line' reason reason' = (line ≡ line') × (reason ≡ reason')
 
-module _ {S W : Type 0} (kind : Kind S W) (lawful : IsLawful kind) where
+module _ {S W : Type 0} (kind : Kind S W) (lawful : IsLawfulKind kind) where
   pub one_script : HasOneScript kind
   one_script bytes one other h k =
       let same = begun_once kind lawful h.said k.said (lines bytes) h.all_lines k.all_lines in

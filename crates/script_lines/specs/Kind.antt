@@ -17,7 +17,7 @@ pub record Kind (S W : Type 0) : Type 1 where
   pub order_at_end : List Reason
 
 -- A line says at most one thing, and nothing where something is wrong with it; the same of all of them.
-pub record IsLawful {S W : Type 0} (kind : Kind S W) : Type 0 where
+pub record IsLawfulKind {S W : Type 0} (kind : Kind S W) : Type 0 where
   pub one_statement : (past : List S) (one other : S) (line : List (List ℕ)) → kind.Says past one line → kind.Says past other line → one ≡ other
   pub no_statement : (past : List S) (one : S) (line : List (List ℕ)) (reason : Reason) → kind.Says past one line → kind.Fails past line reason → ⊥
   pub one_script : (said : List S) (one other : W) → kind.Makes said one → kind.Makes said other → one ≡ other

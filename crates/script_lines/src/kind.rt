@@ -2,7 +2,7 @@
 
 ghost use Rattle.std.specs.Prelude.{List, ◌∷◌, [], OnOk, IfOk, IfErr};
 ghost use Rattle.contract_words.specs.Conditions.{First};
-ghost use Rattle.script_lines.specs.Kind.{Kind, IsLawful};
+ghost use Rattle.script_lines.specs.Kind.{Kind, IsLawfulKind};
 ghost use Rattle.script_lines.specs.Lines.{fields};
 ghost use Rattle.script_lines.specs.Reading.{Hears, FailsAfter};
 
@@ -26,7 +26,7 @@ pub trait ScriptKind: Drop {
     /// A value that has heard nothing. The kind must keep the laws that all kinds keep.
     fn start(alloc: Global) -> Self
         ensures heard { HasHeard result [] }
-        ensures lawful { IsLawful kind };
+        ensures lawful { IsLawfulKind kind };
 
     /// Takes a line that says something, by its first field and what follows it.
     fn take(&mut self, alloc: Global, first: &[u8], rest: &[u8]) -> Result<(), LineError>

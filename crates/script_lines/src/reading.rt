@@ -2,7 +2,7 @@
 
 ghost use Rattle.std.specs.Prelude.{◌≡◌, ◌↔◌, ◌≤◌, ◌==◌, ℕ, List, [], ◌∷◌, ◌++◌, length, slice_index, IsTrue, IfOk, IfErr, OnOk};
 ghost use Rattle.std.specs.Str.Lines.{lines};
-ghost use Rattle.script_lines.specs.Kind.{IsLawful};
+ghost use Rattle.script_lines.specs.Kind.{IsLawfulKind};
 ghost use Rattle.script_lines.specs.Lines.{IsPlain};
 ghost use Rattle.script_lines.specs.Reading.{HasBegun, FailsOnLine, FailsInLines};
 ghost use Rattle.script_lines.specs.Script.{Spells, IsErrorOf, RulesOutScripts, HasOneScript, HasOneFault};
@@ -70,7 +70,7 @@ fn read_lines<K: ScriptKind>(alloc: Global, text: &[u8]) -> Result<Whole<K>, Scr
     ensures counted { IfOk result (λ whole. whole.lines ≡ length (lines text.now)) }
     ensures few { IfOk result (λ whole. whole.lines ≤ 16777216) }
     ensures bad { IfErr result (FailsInLines K.kind (lines text.now)) }
-    ensures lawful { IsLawful K.kind }
+    ensures lawful { IsLawfulKind K.kind }
 {
     let mut heard = K::start(alloc);
     let mut count = 0;
@@ -100,7 +100,7 @@ fn read_whole<K: ScriptKind>(alloc: Global, bytes: &[u8]) -> Result<K::Script, S
     requires { length bytes.now ≤ 16777216 }
     ensures found { IfOk result (λ script. Spells K.kind script bytes.now) }
     ensures fault { IfErr result (IsErrorOf K.kind bytes.now) }
-    ensures lawful { IsLawful K.kind }
+    ensures lawful { IsLawfulKind K.kind }
 {
     let whole: Whole<K> = match read_lines(alloc, bytes) {
         Ok(whole) => whole,

@@ -31,7 +31,7 @@ loop-index-preserved g c =
     record {
       run = run_more c.loop-index.relay c.write_item.new.relay settings first items i item (closing_text (length items)) _ _ _ c.loop-index-test.true c.index-items-index.is
           c.loop-index.invariant.run (c.in-Ok.ensures.done settings first (events_in (take i items)) at) (c.in-Ok.ensures.next settings first (events_in (take i items)) at);
-      calm = c.in-Ok.ensures.quiet (λ fault. cc fault) ∙ c.loop-index.invariant.calm;
+      calm = c.in-Ok.ensures.counts.quiet (λ fault. cc fault) ∙ c.loop-index.invariant.calm;
     }
 
 pub returns-clause-begun : goal.returns-clause-begun
