@@ -60,8 +60,8 @@ fn replay(alloc: Global, first: &str, lines: &str) -> Result<Ended, AllocError> 
     run(alloc, "replay relay", script, NONE_FAILS)
 }
 
-// A run ended with this status, this output and this line on standard error. It is handed over with its
-// want of memory, since a test that returns a result is proved twice.
+// A run ended with this status, this output and this line on standard error. It is handed over
+// as it came, out of memory too, since a test that returns a result is proved twice.
 fn is_ended(
     rt: &impl Abort,
     what: &str,
