@@ -6,7 +6,7 @@ use Rattle.amt_messages.specs.declared.message.Message.TheVariants.{Discovery, A
 use Rattle.amt_messages.specs.declared.refusal.DecodeFault.{DecodeFault}
 use Rattle.amt_messages.specs.declared.refusal.DecodeFault.TheVariants.{Refused as RefusedBy, Memory}
 use Rattle.amt_messages.specs.declared.refusal.Refused.{Refused}
-use Rattle.amt_messages.specs.Conditions.{IsMessage, IsSendable}
+use Rattle.amt_messages.specs.Messages.{IsMessage, IsSendable}
 use Rattle.amt_messages.specs.Layout.{Spells, spelling_of}
 use Rattle.contract_words.specs.Answer.{Gives}
 use Rattle.contract_words.proofs.ConditionLaws.{unless-err}

@@ -6,7 +6,7 @@ use Rattle.amt_values.specs.declared.address.Ip.TheVariants.{V4, V6}
 use Rattle.amt_values.specs.declared.mac.Mac48.{Mac48}
 use Rattle.amt_messages.specs.declared.message.Message.{Message}
 use Rattle.amt_messages.specs.declared.message.Message.TheVariants.{Discovery, Advertisement, Request, Query, Update, Multicast, Teardown}
-use Rattle.amt_messages.specs.Inner.{inner_length_of}
+use Rattle.amt_messages.specs.StatedLength.{inner_length_of}
 use Rattle.amt_messages.specs.Layout.{Spells, IsQuery, has_flag, query_length, gateway_at}
 use Rattle.contract_words.specs.Conditions.{NoneHolds}
 use Rattle.contract_words.proofs.ConditionLaws.{first_holding-none, skips_same}

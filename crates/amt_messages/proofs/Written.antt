@@ -12,8 +12,8 @@ use Rattle.amt_values.specs.declared.address.Ip.TheVariants.{V4, V6}
 use Rattle.amt_values.specs.declared.mac.Mac48.{Mac48}
 use Rattle.amt_messages.specs.declared.message.Message.{Message}
 use Rattle.amt_messages.specs.declared.message.Message.TheVariants.{Discovery, Advertisement, Request, Query, Update, Multicast, Teardown}
-use Rattle.amt_messages.specs.Conditions.{IsGateway, IsMessage, IsNamedGateway, IsSendable}
-use Rattle.amt_messages.specs.Inner.{inner_length_of}
+use Rattle.amt_messages.specs.Messages.{IsGateway, IsMessage, IsNamedGateway, IsSendable}
+use Rattle.amt_messages.specs.StatedLength.{inner_length_of}
 use Rattle.amt_messages.specs.Layout.{IsCanonical, IsQuery, IsUpdate, gateway_octets, query_flags, query_length, request_flags, spelling_of}
 
 -- octets that are a canonical spelling

@@ -1,4 +1,4 @@
-pub mod Conditions
-pub mod Inner
+pub mod Messages
+pub mod StatedLength
 pub mod Layout
 pub mod Refusal

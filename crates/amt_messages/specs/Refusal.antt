@@ -5,7 +5,7 @@ use Rattle.byteorder.specs.Endian.{big_number}
 use Rattle.amt_values.specs.EndpointValue.{EndpointValue}
 use Rattle.amt_values.specs.declared.address.Ip.{Ip}
 use Rattle.amt_values.specs.declared.address.Ip.TheVariants.{V4, V6}
-use Rattle.amt_messages.specs.Inner.{inner_length_of}
+use Rattle.amt_messages.specs.StatedLength.{inner_length_of}
 use Rattle.amt_messages.specs.Layout.{has_flag, query_length, gateway_at}
 use Rattle.amt_messages.specs.declared.message.Message.{Message}
 use Rattle.amt_messages.specs.declared.message.Message.TheVariants.{Discovery, Advertisement, Request, Query, Update, Multicast, Teardown}
@@ -19,8 +19,8 @@ abbrev pub version_of : List ℕ → ℕ
 version_of bytes = slice_index bytes 0 / 16
 
 -- the message's type, the low half of the first octet (RFC 7450, section 5.1)
-abbrev pub kind_of : List ℕ → ℕ
-kind_of bytes = slice_index bytes 0 % 16
+abbrev pub message_kind : List ℕ → ℕ
+message_kind bytes = slice_index bytes 0 % 16
 
 -- a type that the standard doesn't define (RFC 7450, section 5.1)
 abbrev pub is_unknown : ℕ → Bool
@@ -78,8 +78,8 @@ abbrev pub refusals : List ℕ → Conditions Refused
 refusals bytes =
     (length bytes == 0, Empty)
     ∷ (not (version_of bytes == 0), Version (version_of bytes))
-    ∷ (is_unknown (kind_of bytes), Kind (kind_of bytes))
-    ∷ length_refusals (kind_of bytes) bytes
+    ∷ (is_unknown (message_kind bytes), Kind (message_kind bytes))
+    ∷ length_refusals (message_kind bytes) bytes
 
 -- the first refusal, in this order
 unfoldable pub first_refusal : List ℕ → Option Refused

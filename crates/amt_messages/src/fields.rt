@@ -4,7 +4,7 @@ ghost use Rattle.std.specs.Prelude.{◌≡◌, ◌+◌, ◌<◌, ◌≤◌, ◌�
 ghost use Rattle.amt_messages.specs.Layout.{gateway_at, has_flag};
 ghost use Rattle.amt_messages.specs.Refusal.{relay_at};
 
-use amt_values::{Endpoint, Ip, Mac48, address_at, number_at, short_at};
+use amt_values::{Endpoint, Ip, Mac48, u16_at, u32_at, u128_at};
 
 // Whether a flag is set, by its bit in the second octet.
 fn has_flag(bytes: &[u8], bit: u32) -> bool
@@ -44,9 +44,9 @@ pub fn relay_at(bytes: &[u8]) -> Ip
     ensures { result ≡ relay_at bytes.now }
 {
     if bytes.len() == 12 {
-        Ip::V4(number_at(bytes, 8))
+        Ip::V4(u32_at(bytes, 8))
     } else {
-        Ip::V6(address_at(bytes, 8))
+        Ip::V6(u128_at(bytes, 8))
     }
 }
 
@@ -66,5 +66,5 @@ pub fn gateway_at(bytes: &[u8], inner: usize) -> Endpoint
     requires { 12 + inner + 18 ≤ length bytes.now }
     ensures { result ≡ gateway_at inner bytes.now }
 {
-    Endpoint::named(address_at(bytes, 14 + inner), short_at(bytes, 12 + inner))
+    Endpoint::named(u128_at(bytes, 14 + inner), u16_at(bytes, 12 + inner))
 }

@@ -1,9 +1,9 @@
 //! The length that an IP datagram states in its header. It must not know what else the datagram says.
 
 ghost use Rattle.std.specs.Prelude.{◌≡◌, ◌≤◌, IfSome};
-ghost use Rattle.amt_messages.specs.Inner.{inner_length_of, ipv4_length, ipv6_length};
+ghost use Rattle.amt_messages.specs.StatedLength.{inner_length_of, ipv4_length, ipv6_length};
 
-use amt_values::short_at;
+use amt_values::u16_at;
 
 // A stated length below the least header is no length.
 fn ipv4_length(octets: &[u8]) -> Option<u32>
@@ -14,7 +14,7 @@ fn ipv4_length(octets: &[u8]) -> Option<u32>
     if octets.len() < 4 {
         return None;
     }
-    let length = short_at(octets, 2);
+    let length = u16_at(octets, 2);
     if length < 20 {
         None
     } else {
@@ -30,14 +30,14 @@ fn ipv6_length(octets: &[u8]) -> Option<u32>
     if octets.len() < 6 {
         return None;
     }
-    Some(40 + short_at(octets, 4) as u32)
+    Some(40 + u16_at(octets, 4) as u32)
 }
 
 /// The length of the IP datagram at the head of the octets, as its own header states it.
 ///
 /// None where the octets end before the length field, or begin no IP datagram. The octets may be
 /// fewer or more than the length says.
-#[tactic(auto, unfolding(crate::specs::Inner::inner_length_of))]
+#[tactic(auto, unfolding(crate::specs::StatedLength::inner_length_of))]
 pub fn inner_length(octets: &[u8]) -> Option<u32>
     ensures value { result ≡ inner_length_of octets.now }
     ensures least { IfSome result (λ length. 20 ≤ length) }

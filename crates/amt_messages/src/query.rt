@@ -2,8 +2,8 @@
 
 ghost use Rattle.std.specs.Prelude.{◌≡◌, ◌+◌, ◌≤◌, ◌++◌, length, Some, Ok, unwrap_or, IfOk, OnOk};
 ghost use Rattle.contract_words.specs.Answer.{Gives};
-ghost use Rattle.amt_messages.specs.Conditions.{IsNamedGateway};
-ghost use Rattle.amt_messages.specs.Inner.{inner_length_of};
+ghost use Rattle.amt_messages.specs.Messages.{IsNamedGateway};
+ghost use Rattle.amt_messages.specs.StatedLength.{inner_length_of};
 ghost use Rattle.amt_messages.specs.Layout.{IsCanonical, has_flag, query_flags, query_length, named_gateway_octets, spelling_of};
 ghost use Rattle.amt_messages.specs.Refusal.{TakesMemory, query_at, query_with, refusal_in, named_gateway_at, stated_inner};
 ghost use Rattle.amt_messages.specs.declared.message.Message.TheVariants.{Query};
@@ -12,7 +12,7 @@ use crate::fields::{gateway_at, is_limited, mac_at, names_gateway};
 use crate::head::{append_gateway, write_head};
 use crate::message::Message;
 use crate::refusal::{DecodeFault, stated_inner};
-use amt_values::{Bytes, Endpoint, Mac48, number_at};
+use amt_values::{Bytes, Endpoint, Mac48, u32_at};
 use std::alloc::{AllocError, Global};
 
 // The gateway as the relay saw it, where the G flag says that it is named.
@@ -42,7 +42,7 @@ fn query_with(alloc: Global, bytes: &[u8], inner: usize) -> Result<Message, Deco
     Ok(Message::Query {
         limited: is_limited(bytes),
         mac: mac_at(bytes, 2),
-        nonce: number_at(bytes, 8),
+        nonce: u32_at(bytes, 8),
         inner: datagram,
         seen: named_gateway_at(bytes, inner),
     })

@@ -3,7 +3,7 @@
 ghost use Rattle.std.specs.Prelude.{◌≡◌, ◌≤◌, ◌↔◌, ◌⊎◌, length, IfOk, Ok, MatchResult, None};
 ghost use Rattle.contract_words.specs.Answer.{Gives};
 ghost use Rattle.amt_messages.specs.declared.message.Message.{Message as MessageValue};
-ghost use Rattle.amt_messages.specs.Conditions.{IsMessage, IsSendable};
+ghost use Rattle.amt_messages.specs.Messages.{IsMessage, IsSendable};
 ghost use Rattle.amt_messages.specs.Layout.{Spells, spelling_of};
 ghost use Rattle.amt_messages.specs.Refusal.{TakesMemory, advertisement_at, discovery_at, first_refusal, message_at, message_of, refusal_in, request_at};
 
@@ -14,7 +14,7 @@ use crate::query::read_query;
 use crate::refusal::{DecodeFault, first_refusal};
 use crate::teardown::read_teardown;
 use crate::update::read_update;
-use amt_values::number_at;
+use amt_values::u32_at;
 use std::alloc::Global;
 
 fn read_discovery(bytes: &[u8]) -> Message
@@ -22,7 +22,7 @@ fn read_discovery(bytes: &[u8]) -> Message
     ensures { result ≡ discovery_at bytes.now }
 {
     Message::Discovery {
-        nonce: number_at(bytes, 4),
+        nonce: u32_at(bytes, 4),
     }
 }
 
@@ -31,7 +31,7 @@ fn read_advertisement(bytes: &[u8]) -> Message
     ensures { result ≡ advertisement_at bytes.now }
 {
     Message::Advertisement {
-        nonce: number_at(bytes, 4),
+        nonce: u32_at(bytes, 4),
         relay: relay_at(bytes),
     }
 }
@@ -42,7 +42,7 @@ fn read_request(bytes: &[u8]) -> Message
 {
     Message::Request {
         v6: asks_for_ipv6(bytes),
-        nonce: number_at(bytes, 4),
+        nonce: u32_at(bytes, 4),
     }
 }
 

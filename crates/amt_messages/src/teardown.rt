@@ -8,7 +8,7 @@ ghost use Rattle.amt_messages.specs.Refusal.{teardown_at};
 use crate::fields::{gateway_at, mac_at};
 use crate::head::{append_gateway, write_head};
 use crate::message::Message;
-use amt_values::{Bytes, Endpoint, Mac48, number_at};
+use amt_values::{Bytes, Endpoint, Mac48, u32_at};
 use std::alloc::{AllocError, Global};
 
 pub fn read_teardown(bytes: &[u8]) -> Message
@@ -17,7 +17,7 @@ pub fn read_teardown(bytes: &[u8]) -> Message
 {
     Message::Teardown {
         mac: mac_at(bytes, 2),
-        nonce: number_at(bytes, 8),
+        nonce: u32_at(bytes, 8),
         gateway: gateway_at(bytes, 0),
     }
 }

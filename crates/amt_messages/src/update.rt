@@ -10,7 +10,7 @@ use crate::fields::mac_at;
 use crate::head::write_head;
 use crate::message::Message;
 use crate::refusal::DecodeFault;
-use amt_values::{Bytes, Mac48, number_at};
+use amt_values::{Bytes, Mac48, u32_at};
 use std::alloc::{AllocError, Global};
 
 pub fn read_update(alloc: Global, bytes: &[u8]) -> Result<Message, DecodeFault>
@@ -23,7 +23,7 @@ pub fn read_update(alloc: Global, bytes: &[u8]) -> Result<Message, DecodeFault>
     };
     Ok(Message::Update {
         mac: mac_at(bytes, 2),
-        nonce: number_at(bytes, 8),
+        nonce: u32_at(bytes, 8),
         inner,
     })
 }

@@ -3,7 +3,7 @@
 ghost use Rattle.std.specs.Prelude.{◌≡◌, ◌≤◌, ℕ, List, length, IfOk};
 ghost use Rattle.amt_values.specs.Octets.{AreOctets};
 ghost use Rattle.amt_messages.specs.declared.message.Message.TheVariants.{Discovery, Advertisement, Request};
-ghost use Rattle.amt_messages.specs.Conditions.{IsSendable};
+ghost use Rattle.amt_messages.specs.Messages.{IsSendable};
 ghost use Rattle.amt_messages.specs.Layout.{IsCanonical, request_flags, spelling_of};
 
 use crate::message::Message;

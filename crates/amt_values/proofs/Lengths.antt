@@ -5,26 +5,26 @@ use Rattle.std.proofs.lemmas.Bool.{cases_lt}
 use Rattle.std.specs.Net.Text.{hex, groups_text, longest_zero_run, hex_groups_text}
 use Rattle.amt_values.specs.Segments.{address_segments}
 use Rattle.amt_values.specs.Text.{v6_text}
-use Rattle.amt_values.proofs.Printed.{written_after, shortened_text, long_text, plain_text}
+use Rattle.amt_values.proofs.Printed.{text_after_colons, shortened_text, long_text, plain_text}
 use Rattle.amt_values.proofs.Segments.{AllSegments-address_segments, length-address_segments}
 use Rattle.amt_values.proofs.ShortGroups.{IsShortGroup-hex}
 
 length-hex : (group : ℕ) → group < 2 ^ 16 → length (hex group) ≤ 4
 length-hex group fits = (IsShortGroup-hex group fits).writes.1
 
-length-written_after : (groups : List ℕ) → AllSegments groups → length (written_after groups) ≤ 5 * length groups
-length-written_after [] fits = omega arith
-length-written_after (g ∷ groups) fits =
-    let rest = length-written_after groups (λ k. fits (suc k)) in
-    let whole = length-append (58 ∷ hex g) (written_after groups) in
+length-text_after_colons : (groups : List ℕ) → AllSegments groups → length (text_after_colons groups) ≤ 5 * length groups
+length-text_after_colons [] fits = omega arith
+length-text_after_colons (g ∷ groups) fits =
+    let rest = length-text_after_colons groups (λ k. fits (suc k)) in
+    let whole = length-append (58 ∷ hex g) (text_after_colons groups) in
     omega (arith, whole, rest, length-hex g (fits 0))
 
 -- no colon stands before the first group
 length-segments_text : (groups : List ℕ) → AllSegments groups → length (groups_text groups) ≤ 5 * length groups - 1
 length-segments_text [] fits = omega arith
 length-segments_text (g ∷ groups) fits =
-    let rest = length-written_after groups (λ k. fits (suc k)) in
-    let whole = length-append (hex g) (written_after groups) in
+    let rest = length-text_after_colons groups (λ k. fits (suc k)) in
+    let whole = length-append (hex g) (text_after_colons groups) in
     omega (arith, whole, rest, length-hex g (fits 0))
 
 length-shortened : (groups : List ℕ) (start count : ℕ) → AllSegments groups → length groups ≡ 8 → start + count ≤ 8 → 2 ≤ count

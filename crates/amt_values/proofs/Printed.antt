@@ -8,10 +8,10 @@ use Rattle.amt_values.specs.Canonical.{IsShortGroup, IsShortGroupsText, AreZeros
 use Rattle.amt_values.proofs.Joined.{after_piece, join-cons}
 use Rattle.amt_values.proofs.ShortGroups.{short_only, IsShortGroup-hex}
 
-abbrev pub written_after : List ℕ → List ℕ
-written_after groups = flat_map (λ (group : ℕ). codes ":" ++ hex group) groups
+abbrev pub text_after_colons : List ℕ → List ℕ
+text_after_colons groups = flat_map (λ (group : ℕ). codes ":" ++ hex group) groups
 
-after_only : (pieces : List (List ℕ)) (groups : List ℕ) → AllZip IsShortGroup pieces groups → after_piece pieces ≡ written_after groups
+after_only : (pieces : List (List ℕ)) (groups : List ℕ) → AllZip IsShortGroup pieces groups → after_piece pieces ≡ text_after_colons groups
 after_only [] [] h = refl
 after_only [] (g ∷ groups) h = absurd h
 after_only (p ∷ pieces) [] h = absurd h

@@ -17,8 +17,8 @@ number_of (V4 number) = number
 number_of (V6 number) = number
 
 -- the address that 16 octets carry, where both IPv4 forms name the IPv4 address
-abbrev pub address_at : ℕ → Ip
-address_at number =
+abbrev pub address_of : ℕ → Ip
+address_of number =
     if is_compatible number || is_mapped number then V4 (number % 2 ^ 32) else V6 number
 
 -- an IPv6 address in one of the two prefixes, which no tunnel endpoint has

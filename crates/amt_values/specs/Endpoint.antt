@@ -1,7 +1,7 @@
 -- Which endpoint a peer or a message names.
 use Rattle.std.specs.Prelude.{ℕ, ◌%◌, ◌^◌, Option, Some, None, if◌then◌else◌}
 use Rattle.amt_values.specs.declared.peer.Peer.{Peer}
-use Rattle.amt_values.specs.Address.{is_mapped, has_ipv4_prefix, number_of, address_at}
+use Rattle.amt_values.specs.Address.{is_mapped, has_ipv4_prefix, number_of, address_of}
 use Rattle.amt_values.specs.EndpointValue.{EndpointValue}
 
 -- the endpoint of a datagram's source
@@ -17,4 +17,4 @@ endpoint_named address port =
 
 -- where datagrams for the endpoint go
 abbrev pub peer_of : EndpointValue → Peer
-peer_of tunnel = record { ip = address_at tunnel.address; port = tunnel.port }
+peer_of tunnel = record { ip = address_of tunnel.address; port = tunnel.port }

@@ -8,3 +8,4 @@ pub mod Octets
 pub mod Order
 pub mod Text
 pub mod EndpointValue
+pub mod IpHeader

@@ -1,7 +1,7 @@
 //! IP addresses, and the one number that stands for each in 16 octets. It must not know ports.
 
 ghost use Rattle.std.specs.Prelude.{◌≡◌, false};
-ghost use Rattle.amt_values.specs.Address.{is_mapped, number_of, address_at, has_ipv4_prefix};
+ghost use Rattle.amt_values.specs.Address.{is_mapped, number_of, address_of, has_ipv4_prefix};
 
 /// An IP address: its 32 or 128 bits as a number, the first octet highest.
 ///
@@ -28,7 +28,7 @@ pub fn wire16(ip: &Ip) -> u128
 /// The IPv4-compatible and the IPv4-mapped form (RFC 4291, section 2.5.5) both name an IPv4
 /// address, so a peer may send either.
 pub fn from_wire16(number: u128) -> Ip
-    ensures { result ≡ address_at number }
+    ensures { result ≡ address_of number }
 {
     match number >> 32 {
         0 | 0xffff => Ip::V4((number & 0xffff_ffff) as u32),

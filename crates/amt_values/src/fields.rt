@@ -6,7 +6,7 @@ ghost use Rattle.byteorder.specs.Endian.{big_number};
 use byteorder::{BigEndian, ByteOrder};
 
 /// The number in the two octets from a place on.
-pub fn short_at(octets: &[u8], place: usize) -> u16
+pub fn u16_at(octets: &[u8], place: usize) -> u16
     requires { place + 2 ≤ length octets.now }
     ensures { result ≡ big_number 2 (drop place octets.now) }
 {
@@ -15,7 +15,7 @@ pub fn short_at(octets: &[u8], place: usize) -> u16
 }
 
 /// The number in the four octets from a place on.
-pub fn number_at(octets: &[u8], place: usize) -> u32
+pub fn u32_at(octets: &[u8], place: usize) -> u32
     requires { place + 4 ≤ length octets.now }
     ensures { result ≡ big_number 4 (drop place octets.now) }
 {
@@ -24,7 +24,7 @@ pub fn number_at(octets: &[u8], place: usize) -> u32
 }
 
 /// The number in the sixteen octets from a place on.
-pub fn address_at(octets: &[u8], place: usize) -> u128
+pub fn u128_at(octets: &[u8], place: usize) -> u128
     requires { place + 16 ≤ length octets.now }
     ensures { result ≡ big_number 16 (drop place octets.now) }
 {

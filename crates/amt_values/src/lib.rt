@@ -23,7 +23,7 @@ pub use address::{Ip, from_wire16, wire16};
 pub use bytes::{Bytes, INPUT_LIMIT};
 pub use cut::cut_at;
 pub use endpoint::Endpoint;
-pub use fields::{address_at, number_at, short_at};
+pub use fields::{u16_at, u32_at, u128_at};
 pub use group::forwardable;
 pub use mac::Mac48;
 pub use moment::Moment;

@@ -13,7 +13,7 @@ use Rattle.group_records.specs.declared.family.Family.{Family}
 use Rattle.group_records.specs.declared.family.Family.TheVariants.{V4, V6}
 use Rattle.group_records.specs.CarriedRecord.{CarriedRecord, record_of_kind, known_record, known_records}
 use Rattle.group_records.specs.Family.{address_in, kind_of, width}
-use Rattle.group_records.specs.Reading.{Gives, records_at, all_record_faults, record_at, first_report_fault, head_length, record_count, record_faults, record_length, records_in, report_head_faults, report_of, source_count}
+use Rattle.group_records.specs.Reading.{GivesRecords, carried_records_at, all_record_faults, carried_record_at, first_report_fault, head_length, record_count, record_faults, record_length, records_in, report_head_faults, report_of, source_count}
 use Rattle.group_records.proofs.Numbers.{length-numbers_at}
 use Rattle.group_records.proofs.RecordOctets.{whole_record}
 use Rattle.group_records.proofs.RecordLists.{later_faults}
@@ -32,24 +32,24 @@ width-some V4 count = omega arith
 width-some V6 count = omega arith
 
 -- a record and its sources take at least as many octets
-record_at-few : (family : Family) (bytes : List ℕ) → item_count (known_record family (record_at family bytes)) ≤ record_length family bytes
-record_at-few family bytes =
-    let carried = record_at family bytes in
+carried_record_at-few : (family : Family) (bytes : List ℕ) → item_count (known_record family (carried_record_at family bytes)) ≤ record_length family bytes
+carried_record_at-few family bytes =
+    let carried = carried_record_at family bytes in
     let few = record_of_kind-few (kind_of carried.kind) family carried in
     let count = length-numbers_at (width family) (source_count bytes) (drop (head_length family) bytes) in
     let some = width-some family (source_count bytes) in omega arith
 
 known_records-few : (family : Family) (index count : ℕ) (bytes : List ℕ) → first_holding (all_record_faults family index count bytes) ≡ None
-    → item_count (known_records family (records_at family count bytes)) ≤ length bytes
+    → item_count (known_records family (carried_records_at family count bytes)) ≤ length bytes
 known_records-few family index zero bytes none = omega arith
 known_records-few family index (suc count) bytes none =
     let both = first_holding-both_none (record_faults family index bytes) (later_faults family index count bytes) none in
     let whole = whole_record family index bytes both.0 in
     let left = drop (record_length family bytes) bytes in
     let later = known_records-few family (suc index) count left both.1 in
-    let first = record_at-few family bytes in
+    let first = carried_record_at-few family bytes in
     let after = length-drop (record_length family bytes) bytes in
-    let all = item_count-append (known_record family (record_at family bytes)) (known_records family (records_at family count left)) in omega arith
+    let all = item_count-append (known_record family (carried_record_at family bytes)) (known_records family (carried_records_at family count left)) in omega arith
 
 read-few : (family : Family) (pseudo_header payload : List ℕ) (records : List Record) → report_of family pseudo_header payload ≡ Ok records
     → item_count records ≤ length payload
@@ -63,6 +63,6 @@ read-few family pseudo_header payload records same =
     subst (λ (all : List Record). item_count all ≤ length payload) (sym read.1) fits
 
 pub answer_few : (family : Family) (pseudo_header payload : List ℕ) (answer : Result (List Record) ReadFault)
-    → Gives answer (report_of family pseudo_header payload) → IfOk answer (λ records. item_count records ≤ length payload)
+    → GivesRecords answer (report_of family pseudo_header payload) → IfOk answer (λ records. item_count records ≤ length payload)
 answer_few family pseudo_header payload (Ok records) gives = read-few family pseudo_header payload records gives
 answer_few family pseudo_header payload (Err fault) gives = tt

@@ -16,7 +16,7 @@ use Rattle.source_filter.specs.declared.fault.ReportFault.TheVariants.{Sum}
 use Rattle.group_records.specs.declared.family.Family.{Family}
 use Rattle.group_records.specs.CarriedRecord.{known_record, known_records}
 use Rattle.group_records.specs.Family.{address_in, kind_of, width}
-use Rattle.group_records.specs.Reading.{records_at, all_record_faults, asks_memory, record_at, numbers_at, record_faults, record_length, records_reading, wanted_sum, wrong_sum}
+use Rattle.group_records.specs.Reading.{carried_records_at, all_record_faults, asks_memory, carried_record_at, numbers_at, record_faults, record_length, records_reading, wanted_sum, wrong_sum}
 use Rattle.group_records.proofs.RecordLists.{later_faults}
 
 pub wrong_sum-none : (pseudo_header payload : List ℕ) → length pseudo_header % 2 ≡ 0 → AreOctets pseudo_header → AreOctets payload
@@ -89,14 +89,14 @@ fault_step family count index left rest first below none after same =
 
 pub known_step : (family : Family) (count index : ℕ) (records whole : List Record) (left rest : List ℕ) → index < count
     → rest ≡ drop (record_length family left) left
-    → records ++ known_records family (records_at family (count - index) left) ≡ whole
-    → (records ++ known_record family (record_at family left)) ++ known_records family (records_at family (count - (index + 1)) rest) ≡ whole
+    → records ++ known_records family (carried_records_at family (count - index) left) ≡ whole
+    → (records ++ known_record family (carried_record_at family left)) ++ known_records family (carried_records_at family (count - (index + 1)) rest) ≡ whole
 known_step family count index records whole left rest below after same =
     let next : suc (count - (index + 1)) ≡ count - index = omega arith in
-    let known = known_record family (record_at family left) in
-    append_assoc records known (known_records family (records_at family (count - (index + 1)) rest))
-    ∙ (ap (λ (xs : List ℕ). records ++ (known ++ known_records family (records_at family (count - (index + 1)) xs))) after
-    ∙ (ap (λ (n : ℕ). records ++ known_records family (records_at family n left)) next ∙ same))
+    let known = known_record family (carried_record_at family left) in
+    append_assoc records known (known_records family (carried_records_at family (count - (index + 1)) rest))
+    ∙ (ap (λ (xs : List ℕ). records ++ (known ++ known_records family (carried_records_at family (count - (index + 1)) xs))) after
+    ∙ (ap (λ (n : ℕ). records ++ known_records family (carried_records_at family n left)) next ∙ same))
 
 -- what the whole walk reads, by its first fault
 pub reading-err : (family : Family) (count : ℕ) (bytes : List ℕ) (fault : ReportFault)
@@ -104,19 +104,19 @@ pub reading-err : (family : Family) (count : ℕ) (bytes : List ℕ) (fault : Re
     → records_reading family count bytes ≡ Err fault
 unfolding records_reading
 reading-err family count bytes fault first =
-    ap (λ (f : Option ReportFault). unless f (known_records family (records_at family count bytes))) first
+    ap (λ (f : Option ReportFault). unless f (known_records family (carried_records_at family count bytes))) first
 
 pub reading-ok : (family : Family) (count index : ℕ) (records : List Record) (left bytes : List ℕ) → count ≤ index
     → first_holding (all_record_faults family index (count - index) left) ≡ first_holding (all_record_faults family 0 count bytes)
-    → records ++ known_records family (records_at family (count - index) left) ≡ known_records family (records_at family count bytes)
+    → records ++ known_records family (carried_records_at family (count - index) left) ≡ known_records family (carried_records_at family count bytes)
     → records_reading family count bytes ≡ Ok records
 unfolding records_reading
 reading-ok family count index records left bytes all fault known =
     let done : count - index ≡ 0 = omega arith in
     let faultless = rw done at fault in
     let kept = rw done at known in
-    let ok : unless None (known_records family (records_at family count bytes)) ≡ Ok records = ap Ok (sym kept ∙ append-nil records) in
-    subst (λ (f : Option ReportFault). unless f (known_records family (records_at family count bytes)) ≡ Ok records) faultless ok
+    let ok : unless None (known_records family (carried_records_at family count bytes)) ≡ Ok records = ap Ok (sym kept ∙ append-nil records) in
+    subst (λ (f : Option ReportFault). unless f (known_records family (carried_records_at family count bytes)) ≡ Ok records) faultless ok
 
 -- a record that is there in full, and is kept, asks memory
 pub asks_here : (family : Family) (count index : ℕ) (left : List ℕ) → index < count → record_length family left ≤ length left

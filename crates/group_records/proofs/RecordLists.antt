@@ -11,8 +11,8 @@ use Rattle.source_filter.specs.declared.fault.ReportFault.{ReportFault}
 use Rattle.group_records.specs.declared.family.Family.{Family}
 use Rattle.group_records.specs.CarriedRecord.{CarriedRecord, IsCarriedRecord, record_octets, known_record, known_records}
 use Rattle.group_records.specs.Report.{AreRecords}
-use Rattle.group_records.specs.Reading.{records_at, all_record_faults, record_at, record_faults, record_length}
-use Rattle.group_records.proofs.RecordOctets.{record_at-lawful, record_at-spelled, past_record, record_faults-spelled, spelled-record_at, whole_record}
+use Rattle.group_records.specs.Reading.{carried_records_at, all_record_faults, carried_record_at, record_faults, record_length}
+use Rattle.group_records.proofs.RecordOctets.{carried_record_at-lawful, carried_record_at-spelled, past_record, record_faults-spelled, spelled-carried_record_at, whole_record}
 
 -- what is wrong with the records after the one at the head
 abbrev pub later_faults : Family → ℕ → ℕ → List ℕ → Conditions ReportFault
@@ -33,23 +33,23 @@ all_record_faults-spelled family index (first ∷ others) rest lawful =
     (first_holding-later (record_faults family index bytes) (later_faults family index (length others) bytes) (record_faults-spelled family index first after here)
     ∙ subst AreUnfaulted (sym (past_record family first after here)) later)
 
-pub records_at-spelled : (family : Family) (carried : List CarriedRecord) (rest : List ℕ) → All (IsCarriedRecord family) carried
-    → records_at family (length carried) (flat_map (record_octets family) carried ++ rest) ≡ carried
-records_at-spelled family [] rest lawful = refl
-records_at-spelled family (first ∷ others) rest lawful =
+pub carried_records_at-spelled : (family : Family) (carried : List CarriedRecord) (rest : List ℕ) → All (IsCarriedRecord family) carried
+    → carried_records_at family (length carried) (flat_map (record_octets family) carried ++ rest) ≡ carried
+carried_records_at-spelled family [] rest lawful = refl
+carried_records_at-spelled family (first ∷ others) rest lawful =
     let here = All-head (IsCarriedRecord family) first others lawful in
     let after = flat_map (record_octets family) others ++ rest in
     let apart = append_assoc (record_octets family first) (flat_map (record_octets family) others) rest in
-    let later = records_at-spelled family others rest (All-tail (IsCarriedRecord family) first others lawful) in
-    ap (λ (xs : List ℕ). records_at family (suc (length others)) xs) apart
-    ∙ (ap (λ (xs : List ℕ). record_at family (record_octets family first ++ after) ∷ records_at family (length others) xs)
+    let later = carried_records_at-spelled family others rest (All-tail (IsCarriedRecord family) first others lawful) in
+    ap (λ (xs : List ℕ). carried_records_at family (suc (length others)) xs) apart
+    ∙ (ap (λ (xs : List ℕ). carried_record_at family (record_octets family first ++ after) ∷ carried_records_at family (length others) xs)
     (past_record family first after here)
-    ∙ (ap (λ (xs : List CarriedRecord). record_at family (record_octets family first ++ after) ∷ xs) later
-    ∙ ap (λ (x : CarriedRecord). x ∷ others) (record_at-spelled family first after here)))
+    ∙ (ap (λ (xs : List CarriedRecord). carried_record_at family (record_octets family first ++ after) ∷ xs) later
+    ∙ ap (λ (x : CarriedRecord). x ∷ others) (carried_record_at-spelled family first after here)))
 
 pub AreRecords-read : (family : Family) (index count : ℕ) (bytes : List ℕ) → AreOctets bytes
     → first_holding (all_record_faults family index count bytes) ≡ None
-    → AreRecords family count (known_records family (records_at family count bytes)) bytes
+    → AreRecords family count (known_records family (carried_records_at family count bytes)) bytes
 AreRecords-read family index zero bytes small none =
     record { carried = []; rest = bytes; number = refl; lawful = λ k d below. absurd (omega arith); spelled = refl; known = refl }
 AreRecords-read family index (suc count) bytes small none =
@@ -57,13 +57,13 @@ AreRecords-read family index (suc count) bytes small none =
     let whole = whole_record family index bytes both.0 in
     let left = drop (record_length family bytes) bytes in
     let later = AreRecords-read family (suc index) count left (AreOctets-drop (record_length family bytes) bytes small) both.1 in
-    let first = record_at family bytes in
+    let first = carried_record_at family bytes in
     record {
       carried = first ∷ later.carried;
       rest = later.rest;
       number = ap suc later.number;
-      lawful = All-cons (IsCarriedRecord family) first later.carried (record_at-lawful family bytes small whole) later.lawful;
-      spelled = spelled-record_at family bytes small whole
+      lawful = All-cons (IsCarriedRecord family) first later.carried (carried_record_at-lawful family bytes small whole) later.lawful;
+      spelled = spelled-carried_record_at family bytes small whole
           ∙ (ap (λ (xs : List ℕ). record_octets family first ++ xs) later.spelled
           ∙ sym (append_assoc (record_octets family first) (flat_map (record_octets family) later.carried) later.rest));
       known = ap (λ (records : List Record). known_record family first ++ records) later.known;
@@ -71,9 +71,9 @@ AreRecords-read family index (suc count) bytes small none =
 
 -- octets are so many records of one list
 pub AreRecords-once : (family : Family) (index count : ℕ) (records : List Record) (bytes : List ℕ) → AreRecords family count records bytes
-    → (first_holding (all_record_faults family index count bytes) ≡ None) × (known_records family (records_at family count bytes) ≡ records)
+    → (first_holding (all_record_faults family index count bytes) ≡ None) × (known_records family (carried_records_at family count bytes) ≡ records)
 AreRecords-once family index count records bytes are =
     let none = all_record_faults-spelled family index are.carried are.rest are.lawful in
-    let read = records_at-spelled family are.carried are.rest are.lawful in
-    let read_here : records_at family count bytes ≡ are.carried = rw (are.spelled, sym are.number) read in
+    let read = carried_records_at-spelled family are.carried are.rest are.lawful in
+    let read_here : carried_records_at family count bytes ≡ are.carried = rw (are.spelled, sym are.number) read in
     (rw (are.spelled, sym are.number) none, ap (λ (carried : List CarriedRecord). known_records family carried) read_here ∙ sym are.known)

@@ -12,7 +12,7 @@ use Rattle.contract_words.proofs.ConditionLaws.{NoneHolds-of, first_holding-none
 use Rattle.group_records.specs.declared.family.Family.{Family}
 use Rattle.group_records.specs.CarriedRecord.{CarriedRecord, IsCarriedRecord, record_octets}
 use Rattle.group_records.specs.Family.{width}
-use Rattle.group_records.specs.Reading.{record_at, head_length, numbers_at, record_faults, record_length, source_count}
+use Rattle.group_records.specs.Reading.{carried_record_at, head_length, numbers_at, record_faults, record_length, source_count}
 use Rattle.group_records.proofs.Numbers.{drop-past, take-part, length-numbers_at, length-spelled_numbers, numbers_at-fit, numbers_at-spelled, spelled-numbers_at}
 
 same_carried : (one other : CarriedRecord) → one.kind ≡ other.kind → one.group ≡ other.group → one.sources ≡ other.sources
@@ -71,9 +71,9 @@ past_sources family carried rest =
     ∙ drop-past octets (flat_map (big_bytes (width family)) carried.sources) _ (length-spelled_numbers (width family) carried.sources))
 
 -- a record's octets are read as the record
-pub record_at-spelled : (family : Family) (carried : CarriedRecord) (rest : List ℕ) → IsCarriedRecord family carried
-    → record_at family (record_octets family carried ++ rest) ≡ carried
-record_at-spelled family carried rest lawful =
+pub carried_record_at-spelled : (family : Family) (carried : CarriedRecord) (rest : List ℕ) → IsCarriedRecord family carried
+    → carried_record_at family (record_octets family carried ++ rest) ≡ carried
+carried_record_at-spelled family carried rest lawful =
     let bytes = record_octets family carried ++ rest in
     let count = source_count-spelled family carried rest lawful in
     let group : big_number (width family) (drop 4 bytes) ≡ carried.group =
@@ -87,7 +87,7 @@ record_at-spelled family carried rest lawful =
     ap (λ (n : ℕ). take (length carried.auxiliary / 4 * 4) (drop (head_length family + n * width family) bytes)) count
     ∙ (ap (λ (xs : List ℕ). take (length carried.auxiliary / 4 * 4) xs) (past_sources family carried rest)
     ∙ take-part (length carried.auxiliary / 4 * 4) carried.auxiliary rest (sym (auxiliary-octets family carried lawful))) in
-    same_carried (record_at family bytes) carried refl group sources auxiliary
+    same_carried (carried_record_at family bytes) carried refl group sources auxiliary
 
 pub past_record : (family : Family) (carried : CarriedRecord) (rest : List ℕ) → IsCarriedRecord family carried
     → drop (record_length family (record_octets family carried ++ rest)) (record_octets family carried ++ rest) ≡ rest
@@ -125,14 +125,14 @@ cut : (n place : ℕ) (bytes : List ℕ) → drop place bytes ≡ take n (drop p
 cut n place bytes = sym (take-append-drop n (drop place bytes)) ∙ ap (λ (xs : List ℕ). take n (drop place bytes) ++ xs) (drop-drop n place bytes)
 
 auxiliary_at-length : (family : Family) (bytes : List ℕ) → record_length family bytes ≤ length bytes
-    → length (record_at family bytes).auxiliary ≡ slice_index bytes 1 * 4
+    → length (carried_record_at family bytes).auxiliary ≡ slice_index bytes 1 * 4
 auxiliary_at-length family bytes whole =
     let place = head_length family + source_count bytes * width family in
     length-take-le (slice_index bytes 1 * 4) (drop place bytes) (omega (arith, length-drop place bytes))
 
-pub record_at-lawful : (family : Family) (bytes : List ℕ) → AreOctets bytes → record_length family bytes ≤ length bytes
-    → IsCarriedRecord family (record_at family bytes)
-record_at-lawful family bytes small whole =
+pub carried_record_at-lawful : (family : Family) (bytes : List ℕ) → AreOctets bytes → record_length family bytes ≤ length bytes
+    → IsCarriedRecord family (carried_record_at family bytes)
+carried_record_at-lawful family bytes small whole =
     let auxiliary = auxiliary_at-length family bytes whole in
     let words = small 1 in
     let place = head_length family + source_count bytes * width family in
@@ -148,9 +148,9 @@ record_at-lawful family bytes small whole =
     }
 
 -- octets that hold a record in full are its octets, and the rest
-pub spelled-record_at : (family : Family) (bytes : List ℕ) → AreOctets bytes → record_length family bytes ≤ length bytes
-    → bytes ≡ record_octets family (record_at family bytes) ++ drop (record_length family bytes) bytes
-spelled-record_at family bytes small whole =
+pub spelled-carried_record_at : (family : Family) (bytes : List ℕ) → AreOctets bytes → record_length family bytes ≤ length bytes
+    → bytes ≡ record_octets family (carried_record_at family bytes) ++ drop (record_length family bytes) bytes
+spelled-carried_record_at family bytes small whole =
     let octets = width family in
     let count = source_count bytes in
     let words = slice_index bytes 1 in
@@ -163,7 +163,7 @@ spelled-record_at family bytes small whole =
     let count_octets = bytes_high_first-take 2 (drop 2 bytes) after_two (AreOctets-drop 2 bytes small) in
     let group_octets = bytes_high_first-take octets (drop 4 bytes) after_four (AreOctets-drop 4 bytes small) in
     let sources_octets = spelled-numbers_at octets count (drop head bytes) (AreOctets-drop head bytes small) after_head in
-    let carried = record_at family bytes in
+    let carried = carried_record_at family bytes in
     let auxiliary_cut : drop place bytes ≡ carried.auxiliary ++ rest = cut (words * 4) place bytes in
     let sources_cut : drop head bytes ≡ flat_map (big_bytes octets) carried.sources ++ (carried.auxiliary ++ rest) =
     sources_octets ∙ ap (λ (xs : List ℕ). flat_map (big_bytes octets) carried.sources ++ xs) (drop-drop (count * octets) head bytes ∙ auxiliary_cut) in

@@ -16,7 +16,7 @@ use Rattle.group_records.specs.declared.family.Family.{Family}
 use Rattle.group_records.specs.declared.family.Family.TheVariants.{V4, V6}
 use Rattle.group_records.specs.Family.{is_old_report, report_type}
 use Rattle.group_records.specs.Report.{IsReport, IsSomeReport}
-use Rattle.group_records.specs.Reading.{Gives, all_record_faults, cause_in, first_report_fault, record_count, records_in, report_head_faults, report_of}
+use Rattle.group_records.specs.Reading.{GivesRecords, all_record_faults, report_fault_in, first_report_fault, record_count, records_in, report_head_faults, report_of}
 use Rattle.group_records.proofs.RecordLists.{AreRecords-once, AreRecords-read}
 
 -- what is wrong with the records of a payload
@@ -24,13 +24,13 @@ abbrev walk_faults : Family → List ℕ → Conditions ReportFault
 walk_faults family payload = all_record_faults family 0 (record_count payload) (drop 8 payload)
 
 -- a report's head has no fault
-record IsHead (family : Family) (pseudo_header payload : List ℕ) : Type 0 where
+record IsReportHead (family : Family) (pseudo_header payload : List ℕ) : Type 0 where
   whole : 8 ≤ length payload
   kind : slice_index payload 0 ≡ report_type family
   right_sum : IsRight (pseudo_header ++ payload)
 
 report_head_faults-none : (family : Family) (pseudo_header payload : List ℕ) → first_holding (report_head_faults family pseudo_header payload) ≡ None
-    → IsHead family pseudo_header payload
+    → IsReportHead family pseudo_header payload
 report_head_faults-none family pseudo_header payload none =
     let all = NoneHolds-of (report_head_faults family pseudo_header payload) none in
     record { whole = ltb-false (length payload) 8 all.0; kind = holds_not _ _ all.1.1.0; right_sum = holds_not _ _ all.1.1.1.0 }
@@ -40,7 +40,7 @@ not_old : (family : Family) (kind : ℕ) → kind ≡ report_type family → is_
 not_old V4 kind same = rw same refl
 not_old V6 kind same = rw same refl
 
-none-report_head_faults : (family : Family) (pseudo_header payload : List ℕ) → IsHead family pseudo_header payload
+none-report_head_faults : (family : Family) (pseudo_header payload : List ℕ) → IsReportHead family pseudo_header payload
     → first_holding (report_head_faults family pseudo_header payload) ≡ None
 none-report_head_faults family pseudo_header payload head =
     let long = le-ltb (length payload) 8 head.whole in
@@ -103,31 +103,31 @@ first_report_fault-none family pseudo_header payload small = (
 )
 
 pub answer_found : (family : Family) (pseudo_header payload : List ℕ) (answer : Result (List Record) ReadFault) → AreOctets payload
-    → Gives answer (report_of family pseudo_header payload) → IfOk answer (λ records. IsReport family pseudo_header records payload)
+    → GivesRecords answer (report_of family pseudo_header payload) → IfOk answer (λ records. IsReport family pseudo_header records payload)
 answer_found family pseudo_header payload (Ok records) small gives = read_is_report family pseudo_header payload records small gives
 answer_found family pseudo_header payload (Err fault) small gives = tt
 
 pub answer_only : (family : Family) (pseudo_header payload : List ℕ) (answer : Result (List Record) ReadFault)
-    → Gives answer (report_of family pseudo_header payload) → (records : List Record) → IsReport family pseudo_header records payload
-    → Gives answer (Ok records)
+    → GivesRecords answer (report_of family pseudo_header payload) → (records : List Record) → IsReport family pseudo_header records payload
+    → GivesRecords answer (Ok records)
 answer_only family pseudo_header payload answer gives records report =
-    subst (Gives answer) (report_is_read family pseudo_header payload records report) gives
+    subst (GivesRecords answer) (report_is_read family pseudo_header payload records report) gives
 
 pub answer_refused : (family : Family) (pseudo_header payload : List ℕ) (answer : Result (List Record) ReadFault)
-    → Gives answer (report_of family pseudo_header payload)
+    → GivesRecords answer (report_of family pseudo_header payload)
     → MatchResult answer (λ _. first_report_fault family pseudo_header payload ≡ None)
-    (λ fault. Tells (first_report_fault family pseudo_header payload) (cause_in fault))
+    (λ fault. Tells (first_report_fault family pseudo_header payload) (report_fault_in fault))
 unfolding report_of
 answer_refused family pseudo_header payload answer gives =
-    refused_by cause_in (λ _. Unit {0}) (first_report_fault family pseudo_header payload) (records_in family payload) answer gives
+    refused_by report_fault_in (λ _. Unit {0}) (first_report_fault family pseudo_header payload) (records_in family payload) answer gives
 
 pub answer_fault : (family : Family) (pseudo_header payload : List ℕ) (answer : Result (List Record) ReadFault)
-    → Gives answer (report_of family pseudo_header payload) → (fault : ReportFault)
-    → first_report_fault family pseudo_header payload ≡ Some fault → Gives answer (Err fault)
+    → GivesRecords answer (report_of family pseudo_header payload) → (fault : ReportFault)
+    → first_report_fault family pseudo_header payload ≡ Some fault → GivesRecords answer (Err fault)
 unfolding report_of
 answer_fault family pseudo_header payload answer gives fault first =
     let reading : report_of family pseudo_header payload ≡ Err fault = ap (λ (f : Option ReportFault). unless f (records_in family payload)) first in
-    subst (Gives answer) reading gives
+    subst (GivesRecords answer) reading gives
 
 -- a payload is a report of one list of records
 pub IsReport_once : (family : Family) (pseudo_header payload : List ℕ) (records others : List Record)

@@ -187,29 +187,29 @@ records-lawful family (first ∷ others) of_family fitting few =
     (records-lawful family others (All-tail (IsOfFamily family) first others of_family) (All-tail HasFittingAddresses first others fitting)
     (All-tail HasFewSources first others few))
 
-abbrev pub octets_in : Family → Record → ℕ
-octets_in family group_record = head_length family + length group_record.sources * width family
+abbrev pub written_length : Family → Record → ℕ
+written_length family group_record = head_length family + length group_record.sources * width family
 
 length-written_records : (family : Family) (records : List Record) → All (IsOfFamily family) records
-    → length (flat_map written_record records) ≡ sum_by (octets_in family) records
+    → length (flat_map written_record records) ≡ sum_by (written_length family) records
 length-written_records family [] of_family = refl
 length-written_records family (first ∷ others) of_family =
     let here = length-written_record family first (All-head (IsOfFamily family) first others of_family) in
     let later = length-written_records family others (All-tail (IsOfFamily family) first others of_family) in
     let both = length-append (written_record first) (flat_map written_record others) in
-    rw (sum_by-cons (octets_in family) first others) (omega (arith, both))
+    rw (sum_by-cons (written_length family) first others) (omega (arith, both))
 
-few_by : (family : Family) (records : List Record) (limit : ℕ) → sum_by (octets_in family) records ≤ limit → limit < 65536 → All HasFewSources records
+few_by : (family : Family) (records : List Record) (limit : ℕ) → sum_by (written_length family) records ≤ limit → limit < 65536 → All HasFewSources records
 few_by family [] limit short small = All-nil HasFewSources
 few_by family (first ∷ others) limit short small =
-    let apart = rw (sum_by-cons (octets_in family) first others) at short in
+    let apart = rw (sum_by-cons (written_length family) first others) at short in
     let some = width-some family (length first.sources) in
     All-cons HasFewSources first others (omega arith) (few_by family others limit (omega arith) small)
 
-count_by : (family : Family) (records : List Record) → length records ≤ sum_by (octets_in family) records
+count_by : (family : Family) (records : List Record) → length records ≤ sum_by (written_length family) records
 count_by family [] = omega arith
 count_by family (first ∷ others) =
-    let later = count_by family others in rw (sum_by-cons (octets_in family) first others) (omega arith)
+    let later = count_by family others in rw (sum_by-cons (written_length family) first others) (omega arith)
 
 -- a short report has few records, and each of them few sources
 pub short-few_sources : (family : Family) (records : List Record) → report_length family records ≤ 1400 → All HasFewSources records

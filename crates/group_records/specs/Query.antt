@@ -38,8 +38,8 @@ abbrev pub after_group : Family → List ℕ → List ℕ
 after_group family payload = drop (group_offset family + width family) payload
 
 -- the octet with the flag and the robustness variable
-abbrev pub query_flags : Family → List ℕ → ℕ
-query_flags family payload = slice_index (after_group family payload) 0
+abbrev pub robustness_octet : Family → List ℕ → ℕ
+robustness_octet family payload = slice_index (after_group family payload) 0
 
 -- of that octet the robustness variable (RFC 3376, section 4.1.6)
 abbrev pub robustness_in : ℕ → ℕ
@@ -58,31 +58,31 @@ abbrev pub least_query_length : Family → ℕ
 least_query_length family = group_offset family + width family + 4
 
 -- and with as many as the payload states
-abbrev pub query_length : Family → List ℕ → ℕ
-query_length family payload = least_query_length family + query_source_count family payload * width family
+abbrev pub stated_query_length : Family → List ℕ → ℕ
+stated_query_length family payload = least_query_length family + query_source_count family payload * width family
 
 -- a query of these values, with all of its sources. These, reserved octets and bits, and what
 -- follows the last source may be any.
 pub record IsQuery (family : Family) (pseudo_header : List ℕ) (query : QueryRead) (payload : List ℕ) : Type 0 where
-  pub whole : query_length family payload ≤ length payload
+  pub whole : stated_query_length family payload ≤ length payload
   pub kind : slice_index payload 0 ≡ query_type family
   pub right_sum : IsRight (pseudo_header ++ payload)
   pub max_code : max_code_of family payload ≡ query.fields.max_code
   pub group : address_in family (group_number family payload) ≡ query.group
-  pub suppress : suppresses (query_flags family payload) ≡ query.suppress
-  pub robustness : robustness_in (query_flags family payload) ≡ query.fields.robustness
+  pub suppress : suppresses (robustness_octet family payload) ≡ query.suppress
+  pub robustness : robustness_in (robustness_octet family payload) ≡ query.fields.robustness
   pub interval_code : slice_index (after_group family payload) 1 ≡ query.fields.interval_code
   pub sources : query_source_count family payload ≡ query.sources
 
 -- that query
-abbrev pub query_at : Family → List ℕ → QueryRead
-query_at family payload = record {
+abbrev pub query_values : Family → List ℕ → QueryRead
+query_values family payload = record {
   fields = record {
     max_code = max_code_of family payload;
-    robustness = robustness_in (query_flags family payload);
+    robustness = robustness_in (robustness_octet family payload);
     interval_code = slice_index (after_group family payload) 1;
   };
-  suppress = suppresses (query_flags family payload);
+  suppress = suppresses (robustness_octet family payload);
   group = address_in family (group_number family payload);
   sources = query_source_count family payload;
 }
@@ -118,7 +118,7 @@ written_query family pseudo_header fields =
 
 -- fewer octets than the query takes with its sources
 abbrev pub missing_sources : Family → List ℕ → Bool × ReportFault
-missing_sources family payload = (nat_lt (length payload) (query_length family payload), SourceShort 0)
+missing_sources family payload = (nat_lt (length payload) (stated_query_length family payload), SourceShort 0)
 
 -- what is wrong with a query, in order: too few octets, another type, a wrong sum, sources that aren't all
 -- there (RFC 3376, section 4.1; RFC 3810, section 5.1)
@@ -136,7 +136,7 @@ first_query_fault family pseudo_header payload = first_holding (query_faults fam
 
 -- the values of the query that the payload is, unless there is a first fault
 unfoldable pub query_of : Family → List ℕ → List ℕ → Result QueryRead ReportFault
-query_of family pseudo_header payload = unless (first_query_fault family pseudo_header payload) (query_at family payload)
+query_of family pseudo_header payload = unless (first_query_fault family pseudo_header payload) (query_values family payload)
 
 -- a fault that a query may have: no older version of it is told apart, and it has no records but
 -- one list of sources

@@ -1,7 +1,7 @@
 -- The first fault of a payload, its records where there is none, and what may be answered.
 use Rattle.std.specs.Prelude.{◌≡◌, ℕ, zero, suc, ◌+◌, ◌*◌, ◌==◌, nat_lt, nat_le, not, ◌&&◌, ◌||◌, Bool, true, false, is_some, List, [], ◌∷◌, ◌++◌, length, drop, take, slice_index, Option, Some, None, Result}
 use Rattle.byteorder.specs.Endian.{big_number}
-use Rattle.contract_words.specs.Answer.{Gives as GivesBy}
+use Rattle.contract_words.specs.Answer.{Gives}
 use Rattle.contract_words.specs.Conditions.{Conditions, first_holding, unless}
 use Rattle.inner_datagrams.specs.Checksum.{internet_sum_of, has_right_sum}
 use Rattle.source_filter.specs.declared.record.Record.{Record}
@@ -31,8 +31,8 @@ abbrev pub record_length : Family → List ℕ → ℕ
 record_length family bytes = head_length family + source_count bytes * width family + slice_index bytes 1 * 4
 
 -- that record
-abbrev pub record_at : Family → List ℕ → CarriedRecord
-record_at family bytes = record {
+abbrev pub carried_record_at : Family → List ℕ → CarriedRecord
+carried_record_at family bytes = record {
   kind = slice_index bytes 0;
   group = big_number (width family) (drop 4 bytes);
   sources = numbers_at (width family) (source_count bytes) (drop (head_length family) bytes);
@@ -40,10 +40,10 @@ record_at family bytes = record {
 }
 
 -- so many records, one after another
-abbrev pub records_at : Family → ℕ → List ℕ → List CarriedRecord
-records_at family zero bytes = []
-records_at family (suc count) bytes =
-    record_at family bytes ∷ records_at family count (drop (record_length family bytes) bytes)
+abbrev pub carried_records_at : Family → ℕ → List ℕ → List CarriedRecord
+carried_records_at family zero bytes = []
+carried_records_at family (suc count) bytes =
+    carried_record_at family bytes ∷ carried_records_at family count (drop (record_length family bytes) bytes)
 
 -- what is wrong with the record at the head of the octets, which has this number: fewer octets are left than
 -- its own head has, or than all of it takes (RFC 3376, section 4.2.4; RFC 3810, section 5.2.4)
@@ -107,11 +107,11 @@ pub record AsksMemory (family : Family) (pseudo_header payload : List ℕ) : Typ
 -- the known ones of so many records, unless there is a first fault
 unfoldable pub records_reading : Family → ℕ → List ℕ → Result (List Record) ReportFault
 records_reading family count bytes =
-    unless (first_holding (all_record_faults family 0 count bytes)) (known_records family (records_at family count bytes))
+    unless (first_holding (all_record_faults family 0 count bytes)) (known_records family (carried_records_at family count bytes))
 
 -- the known records that stand in a payload
 abbrev pub records_in : Family → List ℕ → List Record
-records_in family payload = known_records family (records_at family (record_count payload) (drop 8 payload))
+records_in family payload = known_records family (carried_records_at family (record_count payload) (drop 8 payload))
 
 -- the records of the report that the payload is, unless there is a first fault
 unfoldable pub report_of : Family → List ℕ → List ℕ → Result (List Record) ReportFault
@@ -119,10 +119,10 @@ report_of family pseudo_header payload =
     unless (first_report_fault family pseudo_header payload) (records_in family payload)
 
 -- the fault of a report that is told; out of memory tells none
-abbrev pub cause_in : ReadFault → Option ReportFault
-cause_in (Report fault) = Some fault
-cause_in Memory = None
+abbrev pub report_fault_in : ReadFault → Option ReportFault
+report_fault_in (Report fault) = Some fault
+report_fault_in Memory = None
 
 -- what was answered is this reading of the octets, or there was no memory for the records
-abbrev pub Gives : Result (List Record) ReadFault → Result (List Record) ReportFault → Type 0
-Gives answer reading = GivesBy cause_in (λ _. Unit {0}) answer reading
+abbrev pub GivesRecords : Result (List Record) ReadFault → Result (List Record) ReportFault → Type 0
+GivesRecords answer reading = Gives report_fault_in (λ _. Unit {0}) answer reading

@@ -28,7 +28,7 @@ pub fn width(family: Family) -> usize
 }
 
 // The address in the first octets.
-pub fn address_at(family: Family, octets: &[u8]) -> Ip
+pub fn first_address(family: Family, octets: &[u8]) -> Ip
     requires { width family ≤ length octets.now }
     ensures { result ≡ address_in family (big_number (width family) octets.now) }
 {

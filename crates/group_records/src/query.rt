@@ -4,9 +4,9 @@ ghost use Rattle.std.specs.Prelude.{◌≡◌, ◌≤◌, ◌%◌, [], ◌∷◌
 ghost use Rattle.source_filter.specs.declared.query.QueryRead.{QueryRead as QueryReadValue};
 ghost use Rattle.source_filter.specs.declared.fault.ReportFault.{ReportFault as ReportFaultValue};
 ghost use Rattle.contract_words.specs.Conditions.{first_holding};
-ghost use Rattle.group_records.specs.Query.{IsQuery, IsQueryFault, first_query_fault, group_offset, max_code_of, query_at, query_of, least_query_length, query_length, query_type, missing_sources, robustness_in, suppresses};
+ghost use Rattle.group_records.specs.Query.{IsQuery, IsQueryFault, first_query_fault, group_offset, max_code_of, query_values, query_of, least_query_length, stated_query_length, query_type, missing_sources, robustness_in, suppresses};
 
-use crate::family::{Family, address_at, width};
+use crate::family::{Family, first_address, width};
 use crate::record::source_count;
 use crate::report::sum_fault;
 use amt_values::INPUT_LIMIT;
@@ -71,9 +71,9 @@ fn suppresses(flags: u8) -> bool
 }
 
 // The values of the query that stands in the octets.
-fn query_at(family: Family, payload: &[u8]) -> QueryRead
+fn query_values(family: Family, payload: &[u8]) -> QueryRead
     requires { least_query_length family ≤ length payload.now }
-    ensures { result ≡ query_at family payload.now }
+    ensures { result ≡ query_values family payload.now }
 {
     let (_, group) = payload.split_at(group_offset(family));
     let (_, after_group) = payload.split_at(group_offset(family) + width(family));
@@ -85,15 +85,15 @@ fn query_at(family: Family, payload: &[u8]) -> QueryRead
             interval_code: after_group[1],
         },
         suppress: suppresses(flags),
-        group: address_at(family, group),
+        group: first_address(family, group),
         sources: source_count(after_group),
     }
 }
 
 // The octets that the query takes with its sources.
-fn query_length(family: Family, payload: &[u8]) -> usize
+fn stated_query_length(family: Family, payload: &[u8]) -> usize
     requires { least_query_length family ≤ length payload.now }
-    ensures { result ≡ query_length family payload.now }
+    ensures { result ≡ stated_query_length family payload.now }
 {
     let (_, after_group) = payload.split_at(group_offset(family) + width(family));
     least_query_length(family) + usize::from(source_count(after_group)) * width(family)
@@ -104,7 +104,7 @@ fn sources_fault(family: Family, payload: &[u8]) -> Option<ReportFault>
     requires { least_query_length family ≤ length payload.now }
     ensures { result ≡ first_holding (missing_sources family payload.now ∷ []) }
 {
-    if payload.len() < query_length(family, payload) {
+    if payload.len() < stated_query_length(family, payload) {
         return Some(ReportFault::SourceShort(0));
     }
     None
@@ -163,6 +163,6 @@ pub fn read_query(
 {
     match query_fault(family, pseudo_header, payload) {
         Some(fault) => Err(fault),
-        None => Ok(query_at(family, payload)),
+        None => Ok(query_values(family, payload)),
     }
 }

@@ -4,9 +4,9 @@ ghost use Rattle.std.specs.Prelude.{◌≡◌, ◌≤◌, ◌*◌, ◌++◌, dro
 ghost use Rattle.contract_words.specs.Conditions.{first_holding};
 ghost use Rattle.group_records.specs.Family.{address_in, kind_of, width};
 ghost use Rattle.group_records.specs.CarriedRecord.{known_record};
-ghost use Rattle.group_records.specs.Reading.{record_at, head_length, numbers_at, record_faults, record_length, source_count};
+ghost use Rattle.group_records.specs.Reading.{carried_record_at, head_length, numbers_at, record_faults, record_length, source_count};
 
-use crate::family::{Family, address_at, width};
+use crate::family::{Family, first_address, width};
 use byteorder::{BigEndian, ByteOrder};
 use source_filter::{Ips, Record, RecordKind, Records, ReportFault};
 use std::alloc::{AllocError, Global};
@@ -78,7 +78,7 @@ fn read_sources(alloc: Global, family: Family, count: u16, octets: &[u8]) -> Res
     let mut sources = Ips::new(alloc);
     let mut left = octets;
     for _ in 0..count {
-        sources.push(address_at(family, left))?;
+        sources.push(first_address(family, left))?;
         let (_, rest) = left.split_at(width(family));
         left = rest;
     }
@@ -97,7 +97,7 @@ pub fn append_record(
     requires whole { record_length family octets.now ≤ length octets.now }
     ensures asks { OnErr result (is_some (kind_of (slice_index octets.now 0)) ≡ true) }
     ensures kept { OnOk result (records.new
-        ≡ records.old ++ known_record family (record_at family octets.now)) }
+        ≡ records.old ++ known_record family (carried_record_at family octets.now)) }
 {
     let Some(kind) = kind_of(octets[0]) else {
         return Ok(());
@@ -106,7 +106,7 @@ pub fn append_record(
     let (_, sources) = group_and_sources.split_at(width(family));
     records.push(Record {
         kind,
-        group: address_at(family, group_and_sources),
+        group: first_address(family, group_and_sources),
         sources: read_sources(alloc, family, source_count(octets), sources)?,
     })
 }

@@ -8,7 +8,7 @@ ghost use Rattle.source_filter.specs.declared.record.Record.{Record as RecordVal
 ghost use Rattle.source_filter.specs.declared.fault.ReadFault.TheVariants.{Memory};
 ghost use Rattle.source_filter.specs.declared.fault.ReportFault.{ReportFault as ReportFaultValue};
 ghost use Rattle.group_records.specs.Report.{IsReport, IsSomeReport};
-ghost use Rattle.group_records.specs.Reading.{AsksMemory, Gives, asks_memory, cause_in, first_report_fault, kind_faults, records_reading, report_head_faults, report_of, wrong_sum};
+ghost use Rattle.group_records.specs.Reading.{AsksMemory, GivesRecords, asks_memory, report_fault_in, first_report_fault, kind_faults, records_reading, report_head_faults, report_of, wrong_sum};
 
 use crate::family::{Family, is_old_report, report_type};
 use crate::record::{after_record, append_record, record_fault};
@@ -74,7 +74,7 @@ fn read_records(
     count: u16,
     octets: &[u8],
 ) -> Result<Records, ReadFault>
-    ensures value { Gives result (records_reading family count octets.now) }
+    ensures value { GivesRecords result (records_reading family count octets.now) }
     ensures memory { result ≡ Err Memory → asks_memory family count octets.now ≡ true }
 {
     let mut records = Records::new(alloc);
@@ -102,7 +102,7 @@ fn read(
     requires pseudo_header_even { length pseudo_header.now % 2 ≡ 0 }
     requires pseudo_header_most { length pseudo_header.now ≤ 65535 }
     requires payload_most { length payload.now ≤ INPUT_LIMIT }
-    ensures value { Gives result (report_of family pseudo_header.now payload.now) }
+    ensures value { GivesRecords result (report_of family pseudo_header.now payload.now) }
     ensures memory { result ≡ Err Memory → AsksMemory family pseudo_header.now payload.now }
 {
     if let Some(fault) = report_head_fault(family, pseudo_header, payload) {
@@ -138,7 +138,7 @@ pub fn read_report(
     ensures found { IfOk result (λ records. IsReport family pseudo_header.now records payload.now) }
     ensures only { (records : List RecordValue)
         → IsReport family pseudo_header.now records payload.now
-        → Gives result (Ok records) }
+        → GivesRecords result (Ok records) }
     ensures one { (records others : List RecordValue)
         → IsReport family pseudo_header.now records payload.now
         → IsReport family pseudo_header.now others payload.now
@@ -153,12 +153,13 @@ pub fn read_report(
 
     ensures refused { MatchResult result
         (λ _. first_report_fault family pseudo_header.now payload.now ≡ None)
-        (λ fault. Tells (first_report_fault family pseudo_header.now payload.now) (cause_in fault)) }
+        (λ fault. Tells (first_report_fault family pseudo_header.now payload.now)
+        (report_fault_in fault)) }
     ensures fault { (fault : ReportFaultValue)
         → first_report_fault family pseudo_header.now payload.now ≡ Some fault
-        → Gives result (Err fault) }
+        → GivesRecords result (Err fault) }
     ensures memory { result ≡ Err Memory → AsksMemory family pseudo_header.now payload.now }
-    ensures value { Gives result (report_of family pseudo_header.now payload.now) }
+    ensures value { GivesRecords result (report_of family pseudo_header.now payload.now) }
     ensures few { IfOk result (λ records. item_count records ≤ length payload.now) }
 {
     read(alloc, family, pseudo_header, payload)

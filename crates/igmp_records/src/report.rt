@@ -6,7 +6,7 @@ ghost use Rattle.source_filter.specs.declared.record.Record.{Record as RecordVal
 ghost use Rattle.source_filter.specs.declared.fault.ReadFault.TheVariants.{Memory};
 ghost use Rattle.source_filter.specs.declared.fault.ReportFault.{ReportFault as ReportFaultValue};
 ghost use Rattle.contract_words.specs.Answer.{Tells};
-ghost use Rattle.group_records.specs.Reading.{Gives, cause_in};
+ghost use Rattle.group_records.specs.Reading.{GivesRecords, report_fault_in};
 ghost use Rattle.igmp_records.specs.Report.{AreRecords4, AsksMemory4, IsReport4, IsSomeReport4, first_report_fault4, report4_of, report_length4, written_report4};
 
 use amt_values::{Bytes, INPUT_LIMIT};
@@ -24,7 +24,7 @@ pub fn read_report4(alloc: Global, payload: &[u8]) -> Result<Records, ReadFault>
 
     ensures found { IfOk result (λ records. IsReport4 records payload.now) }
     ensures only { (records : List RecordValue) → IsReport4 records payload.now
-        → Gives result (Ok records) }
+        → GivesRecords result (Ok records) }
     ensures one { (records others : List RecordValue) → IsReport4 records payload.now
         → IsReport4 others payload.now → records ≡ others }
 
@@ -35,11 +35,11 @@ pub fn read_report4(alloc: Global, payload: &[u8]) -> Result<Records, ReadFault>
 
     ensures refused { MatchResult result
         (λ _. first_report_fault4 payload.now ≡ None)
-        (λ fault. Tells (first_report_fault4 payload.now) (cause_in fault)) }
+        (λ fault. Tells (first_report_fault4 payload.now) (report_fault_in fault)) }
     ensures fault { (fault : ReportFaultValue) → first_report_fault4 payload.now ≡ Some fault
-        → Gives result (Err fault) }
+        → GivesRecords result (Err fault) }
     ensures memory { result ≡ Err Memory → AsksMemory4 payload.now }
-    ensures value { Gives result (report4_of payload.now) }
+    ensures value { GivesRecords result (report4_of payload.now) }
     ensures few { IfOk result (λ records. item_count records ≤ length payload.now) }
 {
     read_report(alloc, Family::V4, &[], payload)

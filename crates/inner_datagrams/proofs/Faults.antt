@@ -4,7 +4,7 @@ use Rattle.std.proofs.lemmas.Bool.{eqb-true, ne_eqb}
 use Rattle.amt_values.specs.declared.address.Ip.{Ip}
 use Rattle.amt_values.specs.declared.address.Ip.TheVariants.{V4, V6}
 use Rattle.contract_words.specs.Conditions.{Conditions, first_holding}
-use Rattle.inner_datagrams.specs.Header.{ip_version}
+use Rattle.amt_values.specs.IpHeader.{ip_version}
 use Rattle.inner_datagrams.specs.Inner.{IsInner, IsInner4, IsInner6}
 use Rattle.inner_datagrams.specs.Fault.{first_inner_fault, version_faults, faults4, faults6}
 use Rattle.inner_datagrams.specs.Reading.{HasParts, inner_at, inner4_at, inner6_at, payload_of, payload_start}

@@ -2,7 +2,8 @@
 use Rattle.std.proofs.Common.{◌≡◌, ℕ, List, length, ltb, false, None, refl, sym, arith}
 use Rattle.std.proofs.lemmas.Bool.{le-ltb, ltb-false}
 use Rattle.contract_words.specs.Conditions.{first_holding}
-use Rattle.inner_datagrams.specs.Header.{ip_version, header_octets, source_number, destination_number}
+use Rattle.amt_values.specs.IpHeader.{ip_version}
+use Rattle.inner_datagrams.specs.Header.{header_octets, source_number, destination_number}
 use Rattle.inner_datagrams.specs.Inner.{IsInner4}
 use Rattle.inner_datagrams.specs.Fault.{faults4}
 use Rattle.inner_datagrams.specs.Reading.{payload_of}

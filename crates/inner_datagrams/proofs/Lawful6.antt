@@ -2,7 +2,7 @@
 use Rattle.std.proofs.Common.{◌≡◌, ◌⊎◌, inl, inr, ℕ, ◌≤◌, List, length, drop, ltb, eqb, cond, Bool, true, false, ◌&&◌, None, refl, sym, arith}
 use Rattle.std.proofs.lemmas.Bool.{le-ltb, ltb-false, eqb-true}
 use Rattle.contract_words.specs.Conditions.{first_holding}
-use Rattle.inner_datagrams.specs.Header.{ip_version}
+use Rattle.amt_values.specs.IpHeader.{ip_version}
 use Rattle.inner_datagrams.specs.Header6.{next_header, has_hop_by_hop, hop_by_hop_next, hop_by_hop_end, headers_end6, last_next_header, source_number6, destination_number6}
 use Rattle.inner_datagrams.specs.Inner.{FollowsHeader, FollowsHopByHop, IsInner6}
 use Rattle.inner_datagrams.specs.Fault.{faults6}

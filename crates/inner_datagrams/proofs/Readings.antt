@@ -3,7 +3,7 @@ use Rattle.std.proofs.Common.{◌≡◌, ℕ, ◌≤◌, List, length, Bool, tru
 use Rattle.std.specs.Result.{IfOk, IsOkAnd, MatchResult}
 use Rattle.amt_values.specs.declared.address.Ip.{Ip}
 use Rattle.contract_words.specs.Conditions.{unless}
-use Rattle.inner_datagrams.specs.Header.{ip_version}
+use Rattle.amt_values.specs.IpHeader.{ip_version}
 use Rattle.inner_datagrams.specs.Inner.{IsInner}
 use Rattle.inner_datagrams.specs.Fault.{first_inner_fault}
 use Rattle.inner_datagrams.specs.Reading.{HasParts, inner_at, inner4_at, inner6_at, payload_in, payload_of, payload_start}

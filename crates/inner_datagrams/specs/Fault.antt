@@ -2,7 +2,8 @@
 use Rattle.std.specs.Prelude.{ℕ, ◌==◌, ◌&&◌, ◌||◌, nat_lt, not, Bool, List, [], ◌∷◌, ◌++◌, length, Option, if◌then◌else◌}
 use Rattle.contract_words.specs.Conditions.{Conditions, first_holding}
 use Rattle.inner_datagrams.specs.Checksum.{internet_sum_of, has_right_sum}
-use Rattle.inner_datagrams.specs.Header.{ip_version, header_words, header_octets, header_of, total_length, fragment_bits, protocol_number, header_sum, with_zero_sum}
+use Rattle.amt_values.specs.IpHeader.{ip_version, total_length}
+use Rattle.inner_datagrams.specs.Header.{header_words, header_octets, header_of, fragment_bits, protocol_number, header_sum, with_zero_sum}
 use Rattle.inner_datagrams.specs.Header6.{whole_length6, has_hop_by_hop, hop_by_hop_end, last_next_header}
 use Rattle.inner_datagrams.specs.declared.inner.InnerFault.{InnerFault}
 use Rattle.inner_datagrams.specs.declared.inner.InnerFault.TheVariants.{Version, ShortHeader, HeaderLength, TotalLength, HeaderSum, Fragment, Protocol, Extension}

@@ -1,10 +1,6 @@
 -- The fields of an IPv4 header (RFC 791, section 3.1).
-use Rattle.std.specs.Prelude.{ℕ, ◌*◌, ◌/◌, ◌%◌, ◌^◌, List, ◌∷◌, ◌++◌, take, drop, slice_index}
+use Rattle.std.specs.Prelude.{ℕ, ◌*◌, ◌%◌, ◌^◌, List, ◌∷◌, ◌++◌, take, drop, slice_index}
 use Rattle.byteorder.specs.Endian.{big_number}
-
--- of any IP datagram, the high half of the first octet
-abbrev pub ip_version : List ℕ → ℕ
-ip_version bytes = slice_index bytes 0 / 16
 
 -- the header's words of 32 bits, options included
 abbrev pub header_words : List ℕ → ℕ
@@ -17,10 +13,6 @@ header_octets bytes = 4 * header_words bytes
 -- the octets of the header itself, options included
 abbrev pub header_of : List ℕ → List ℕ
 header_of bytes = take (header_octets bytes) bytes
-
--- the octets of header and payload
-abbrev pub total_length : List ℕ → ℕ
-total_length bytes = big_number 2 (drop 2 bytes)
 
 -- the flag "more fragments" and the offset of a fragment: both zero where the datagram is whole
 abbrev pub fragment_bits : List ℕ → ℕ

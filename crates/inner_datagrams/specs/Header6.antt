@@ -1,10 +1,7 @@
 -- The fields of an IPv6 header (RFC 8200, section 3), and of a hop-by-hop header after it (section 4.3).
 use Rattle.std.specs.Prelude.{ℕ, ◌+◌, ◌*◌, ◌==◌, Bool, List, drop, slice_index, if◌then◌else◌}
 use Rattle.byteorder.specs.Endian.{big_number}
-
--- the octets after the IPv6 header, those of extension headers among them
-abbrev pub payload_length : List ℕ → ℕ
-payload_length bytes = big_number 2 (drop 4 bytes)
+use Rattle.amt_values.specs.IpHeader.{payload_length}
 
 -- the octets of the whole datagram
 abbrev pub whole_length6 : List ℕ → ℕ

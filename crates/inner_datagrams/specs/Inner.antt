@@ -3,7 +3,8 @@ use Rattle.std.specs.Prelude.{◌≡◌, ◌⊎◌, ℕ, ◌≤◌, List, length
 use Rattle.amt_values.specs.declared.address.Ip.{Ip}
 use Rattle.amt_values.specs.declared.address.Ip.TheVariants.{V4, V6}
 use Rattle.inner_datagrams.specs.Checksum.{IsRight}
-use Rattle.inner_datagrams.specs.Header.{ip_version, header_words, header_octets, header_of, total_length, fragment_bits, protocol_number, source_number, destination_number}
+use Rattle.amt_values.specs.IpHeader.{ip_version, total_length}
+use Rattle.inner_datagrams.specs.Header.{header_words, header_octets, header_of, fragment_bits, protocol_number, source_number, destination_number}
 use Rattle.inner_datagrams.specs.Header6.{whole_length6, next_header, hop_by_hop_next, hop_by_hop_end, source_number6, destination_number6}
 
 -- an IPv4 datagram that carries IGMP and is no fragment (RFC 791, section 3.1). The type of service,

@@ -2,7 +2,8 @@
 use Rattle.std.specs.Prelude.{◌≡◌, ℕ, ◌-◌, ◌==◌, List, length, take, drop, if◌then◌else◌}
 use Rattle.amt_values.specs.declared.address.Ip.{Ip}
 use Rattle.amt_values.specs.declared.address.Ip.TheVariants.{V4, V6}
-use Rattle.inner_datagrams.specs.Header.{ip_version, header_octets, source_number, destination_number}
+use Rattle.amt_values.specs.IpHeader.{ip_version}
+use Rattle.inner_datagrams.specs.Header.{header_octets, source_number, destination_number}
 use Rattle.inner_datagrams.specs.Header6.{headers_end6, source_number6, destination_number6}
 use Rattle.inner_datagrams.specs.declared.inner.Inner.{Inner}
 

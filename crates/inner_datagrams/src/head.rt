@@ -6,7 +6,7 @@ ghost use Rattle.inner_datagrams.specs.Head.{IsHead, first_head_fault, head4_at,
 ghost use Rattle.inner_datagrams.specs.declared.head.Head.{Head as HeadValue};
 ghost use Rattle.inner_datagrams.specs.declared.head.HeadFault.{HeadFault as HeadFaultValue};
 
-use amt_values::{INPUT_LIMIT, Ip, address_at, number_at};
+use amt_values::{INPUT_LIMIT, Ip, u32_at, u128_at};
 
 /// The addresses of a native multicast packet, both of one family.
 #[derive(Clone, Copy, Debug, PartialEq, Eq)]
@@ -44,7 +44,7 @@ fn short_header(need: u32, bytes: &[u8]) -> Option<HeadFault>
 }
 
 // The head of these addresses.
-fn head_of(source: Ip, group: Ip) -> Head
+fn head_with(source: Ip, group: Ip) -> Head
     ensures source { result.source ≡ source }
     ensures group { result.group ≡ group }
 {
@@ -59,7 +59,7 @@ fn head4(bytes: &[u8]) -> Result<Head, HeadFault>
 {
     match short_header(20, bytes) {
         Some(fault) => Err(fault),
-        None => Ok(head_of(Ip::V4(number_at(bytes, 12)), Ip::V4(number_at(bytes, 16)))),
+        None => Ok(head_with(Ip::V4(u32_at(bytes, 12)), Ip::V4(u32_at(bytes, 16)))),
     }
 }
 
@@ -71,7 +71,7 @@ fn head6(bytes: &[u8]) -> Result<Head, HeadFault>
 {
     match short_header(40, bytes) {
         Some(fault) => Err(fault),
-        None => Ok(head_of(Ip::V6(address_at(bytes, 8)), Ip::V6(address_at(bytes, 24)))),
+        None => Ok(head_with(Ip::V6(u128_at(bytes, 8)), Ip::V6(u128_at(bytes, 24)))),
     }
 }
 

@@ -8,7 +8,7 @@ ghost use Rattle.inner_datagrams.specs.Reading.{inner4_at, parts4};
 
 use crate::checksum::{expected_sum, has_right_sum};
 use crate::inner::{Inner, InnerFault};
-use amt_values::{INPUT_LIMIT, Ip, number_at, short_at};
+use amt_values::{INPUT_LIMIT, Ip, u16_at, u32_at};
 
 // The octets of the header, if as many as it states are there.
 fn stated_header(bytes: &[u8]) -> Result<usize, InnerFault>
@@ -41,7 +41,7 @@ fn total_fault(bytes: &[u8]) -> Option<InnerFault>
     ensures { result ≡ first_holding (wrong_total bytes.now ∷ []) }
 {
     let have = bytes.len() as u32;
-    let total = short_at(bytes, 2) as u32;
+    let total = u16_at(bytes, 2) as u32;
     if total != have {
         return Some(InnerFault::TotalLength(total, have));
     }
@@ -77,7 +77,7 @@ fn sum_fault(bytes: &[u8], end: usize) -> Option<InnerFault>
         return None;
     }
     let want = expected_sum(header);
-    Some(InnerFault::HeaderSum(want, short_at(bytes, 10)))
+    Some(InnerFault::HeaderSum(want, u16_at(bytes, 10)))
 }
 
 // The fault that more fragments follow or others come before.
@@ -85,7 +85,7 @@ fn fragment_fault(bytes: &[u8]) -> Option<InnerFault>
     requires { 20 ≤ length bytes.now }
     ensures { result ≡ first_holding (fragment bytes.now ∷ []) }
 {
-    match short_at(bytes, 6) & 0x3fff {
+    match u16_at(bytes, 6) & 0x3fff {
         0 => None,
         bits => Some(InnerFault::Fragment(bits)),
     }
@@ -139,11 +139,6 @@ pub fn read_inner4(bytes: &[u8]) -> Result<Inner, InnerFault>
     let start = header_end(bytes)?;
     match header_fault(bytes, start) {
         Some(fault) => Err(fault),
-        None => Ok(parts4(
-            number_at(bytes, 12),
-            number_at(bytes, 16),
-            start,
-            bytes.len(),
-        )),
+        None => Ok(parts4(u32_at(bytes, 12), u32_at(bytes, 16), start, bytes.len())),
     }
 }

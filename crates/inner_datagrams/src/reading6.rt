@@ -7,7 +7,7 @@ ghost use Rattle.inner_datagrams.specs.Header6.{headers_end6, hop_by_hop_end, ho
 ghost use Rattle.inner_datagrams.specs.Reading.{inner6_at, parts6};
 
 use crate::inner::{Inner, InnerFault};
-use amt_values::{INPUT_LIMIT, Ip, address_at, short_at};
+use amt_values::{INPUT_LIMIT, Ip, u16_at, u128_at};
 
 // The fault that the length of the whole isn't that of the bytes.
 fn total_fault(bytes: &[u8]) -> Option<InnerFault>
@@ -16,7 +16,7 @@ fn total_fault(bytes: &[u8]) -> Option<InnerFault>
     ensures { result ≡ first_holding (wrong_total6 bytes.now ∷ []) }
 {
     let have = bytes.len() as u32;
-    let whole = 40 + short_at(bytes, 4) as u32;
+    let whole = 40 + u16_at(bytes, 4) as u32;
     if whole != have {
         return Some(InnerFault::TotalLength(whole, have));
     }
@@ -97,11 +97,6 @@ pub fn read_inner6(bytes: &[u8]) -> Result<Inner, InnerFault>
     let (start, kind) = headers(bytes)?;
     match next_header_fault(kind) {
         Some(fault) => Err(fault),
-        None => Ok(parts6(
-            address_at(bytes, 8),
-            address_at(bytes, 24),
-            start,
-            bytes.len(),
-        )),
+        None => Ok(parts6(u128_at(bytes, 8), u128_at(bytes, 24), start, bytes.len())),
     }
 }

@@ -6,7 +6,7 @@ ghost use Rattle.source_filter.specs.declared.record.Record.{Record as RecordVal
 ghost use Rattle.source_filter.specs.declared.fault.ReadFault.TheVariants.{Memory};
 ghost use Rattle.source_filter.specs.declared.fault.ReportFault.{ReportFault as ReportFaultValue};
 ghost use Rattle.contract_words.specs.Answer.{Tells};
-ghost use Rattle.group_records.specs.Reading.{Gives, cause_in};
+ghost use Rattle.group_records.specs.Reading.{GivesRecords, report_fault_in};
 ghost use Rattle.mld_records.specs.Report.{AreRecords6, AsksMemory6, IsReport6, IsSomeReport6, first_report_fault6, report6_of, report_length6, written_report6};
 
 use crate::header::pseudo_header;
@@ -32,7 +32,7 @@ pub fn read_report6(
     ensures found { IfOk result (λ records. IsReport6 source destination records payload.now) }
     ensures only { (records : List RecordValue)
         → IsReport6 source destination records payload.now
-        → Gives result (Ok records) }
+        → GivesRecords result (Ok records) }
     ensures one { (records others : List RecordValue)
         → IsReport6 source destination records payload.now
         → IsReport6 source destination others payload.now
@@ -47,12 +47,13 @@ pub fn read_report6(
 
     ensures refused { MatchResult result
         (λ _. first_report_fault6 source destination payload.now ≡ None)
-        (λ fault. Tells (first_report_fault6 source destination payload.now) (cause_in fault)) }
+        (λ fault. Tells (first_report_fault6 source destination payload.now)
+        (report_fault_in fault)) }
     ensures fault { (fault : ReportFaultValue)
         → first_report_fault6 source destination payload.now ≡ Some fault
-        → Gives result (Err fault) }
+        → GivesRecords result (Err fault) }
     ensures memory { result ≡ Err Memory → AsksMemory6 source destination payload.now }
-    ensures value { Gives result (report6_of source destination payload.now) }
+    ensures value { GivesRecords result (report6_of source destination payload.now) }
     ensures few { IfOk result (λ records. item_count records ≤ length payload.now) }
 {
     let header = pseudo_header(source, destination, payload.len() as u32);

@@ -1,7 +1,7 @@
 //! The messages, read and written. It knows public calls alone.
 
 ghost use Rattle.std.specs.Prelude.{IfSome};
-ghost use Rattle.amt_messages.specs.Conditions.{IsSendable};
+ghost use Rattle.amt_messages.specs.Messages.{IsSendable};
 
 use amt_messages::*;
 use amt_values::Bytes;

@@ -18,7 +18,7 @@ use Rattle.inner_datagrams.proofs.Faults.{IsLawful-inner}
 use Rattle.inner_datagrams.proofs.Readings.{IsReading, answer_found, answer_payload}
 use Rattle.group_records.specs.declared.family.Family.{Family}
 use Rattle.group_records.specs.declared.family.Family.TheVariants.{V4 as Igmp, V6 as Mld}
-use Rattle.group_records.specs.Reading.{Gives, report_of}
+use Rattle.group_records.specs.Reading.{GivesRecords, report_of}
 use Rattle.group_records.specs.Report.{IsReport}
 use Rattle.group_records.proofs.ReportReadings.{answer_found as report_found, answer_only as report_only}
 use Rattle.mld_records.specs.PseudoHeader.{pseudo_header}
@@ -30,12 +30,12 @@ answer_of : Result (List Record) ReportFault → Result (List Record) ReadFault
 answer_of (Ok records) = Ok records
 answer_of (Err fault) = Err (Report fault)
 
-answer_of-gives : (reading : Result (List Record) ReportFault) → Gives (answer_of reading) reading
+answer_of-gives : (reading : Result (List Record) ReportFault) → GivesRecords (answer_of reading) reading
 unfolding answer_of
 answer_of-gives (Ok records) = refl
 answer_of-gives (Err fault) = refl
 
-answer_of-only : (reading : Result (List Record) ReportFault) (records : List Record) → Gives (answer_of reading) (Ok records) → reading ≡ Ok records
+answer_of-only : (reading : Result (List Record) ReportFault) (records : List Record) → GivesRecords (answer_of reading) (Ok records) → reading ≡ Ok records
 unfolding answer_of
 answer_of-only (Ok found) records gives = sym gives
 answer_of-only (Err fault) records gives = sym gives

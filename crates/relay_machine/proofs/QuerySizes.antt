@@ -1,6 +1,6 @@
 -- How long the datagrams of General Queries are.
 use Rattle.std.proofs.Common.{◌≡◌, ℕ, ◌+◌, ◌≤◌, Bool, true, false, List, [], length, Some, if◌then◌else◌, refl, arith}
-use Rattle.amt_messages.specs.Inner.{inner_length_of}
+use Rattle.amt_messages.specs.StatedLength.{inner_length_of}
 use Rattle.group_records.specs.declared.family.Family.TheVariants.{V4}
 use Rattle.group_records.specs.Query.{written_query}
 use Rattle.group_records.proofs.WrittenQuery.{length-written_query}

@@ -1,6 +1,6 @@
 //! What a datagram comes to: its source, its octets, its type, and the message by its own file.
 ghost use Rattle.std.specs.Prelude.{◌≡◌, ◌≤◌, length, OnErr};
-ghost use Rattle.amt_messages.specs.Conditions.{IsSendable};
+ghost use Rattle.amt_messages.specs.Messages.{IsSendable};
 ghost use Rattle.amt_messages.specs.Refusal.{message_of};
 ghost use Rattle.amt_values.specs.Endpoint.{endpoint_of};
 ghost use Rattle.amt_values.specs.Octets.{AreOctets};

@@ -1,7 +1,7 @@
 //! The report in an Update: reading it, and the records of it that a relay keeps. It knows no table.
 ghost use Rattle.std.specs.Prelude.{◌≡◌, ◌≤◌, length, IfOk};
 ghost use Rattle.source_filter.specs.Record.{item_count};
-ghost use Rattle.group_records.specs.Reading.{Gives as Reads};
+ghost use Rattle.group_records.specs.Reading.{GivesRecords};
 ghost use Rattle.relay_machine.specs.Reading.{Gives};
 ghost use Rattle.relay_machine.specs.Updates.{carried_report, forwardable_records, report_in};
 
@@ -24,7 +24,7 @@ pub enum Unread {
 // counts the datagram's addresses, and else of IGMPv3.
 fn read_carried(alloc: Global, place: &Inner, payload: &[u8]) -> Result<Records, ReadFault>
     requires { length payload.now ≤ 65535 }
-    ensures value { Reads result
+    ensures value { GivesRecords result
         (carried_report place.now.source place.now.destination payload.now) }
     ensures few { IfOk result (λ records. item_count records ≤ 65535) }
 {

@@ -37,7 +37,7 @@ pub struct Setup {
 
 impl Setup {
     ghost use Rattle.std.specs.Prelude.{IfOk};
-    ghost use Rattle.amt_messages.specs.Conditions.{IsSendable};
+    ghost use Rattle.amt_messages.specs.Messages.{IsSendable};
     ghost use Rattle.relay_machine.specs.Queries.{general_query, query_for};
     ghost use Rattle.relay_machine.specs.Settings.{AreLawfulSettings};
 

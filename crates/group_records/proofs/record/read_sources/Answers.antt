@@ -11,5 +11,5 @@ loop-preserved c =
     let step = sources_step c.args.family c.args.count c.loop.counter c.loop.sources _ left rest c.loop-test.true after c.loop.invariant.read in
     record {
       enough = enough_step (width c.args.family) c.args.count c.loop.counter left rest c.loop-test.true after c.loop.invariant.enough;
-      read = rw (c.in_ok-push.ensures.ok, c.address_at.ensures) step;
+      read = rw (c.in_ok-push.ensures.ok, c.first_address.ensures) step;
     }

@@ -6,7 +6,7 @@ use Rattle.amt_values.specs.EndpointValue.{EndpointValue}
 use Rattle.amt_values.specs.declared.address.Ip.{Ip}
 use Rattle.amt_values.specs.declared.address.Ip.TheVariants.{V4, V6}
 use Rattle.amt_values.specs.declared.mac.Mac48.{Mac48}
-use Rattle.amt_messages.specs.Inner.{inner_length_of}
+use Rattle.amt_messages.specs.StatedLength.{inner_length_of}
 use Rattle.amt_messages.specs.Layout.{named_gateway_octets}
 use Rattle.amt_messages.specs.declared.message.Message.{Message}
 use Rattle.amt_messages.specs.declared.message.Message.TheVariants.{Discovery, Advertisement, Request, Query, Update, Multicast, Teardown}

@@ -1,18 +1,6 @@
 -- The length that the IP datagram at the head of some octets states of itself.
-use Rattle.std.specs.Prelude.{ℕ, ◌+◌, ◌/◌, ◌==◌, nat_lt, List, length, drop, slice_index, Option, Some, None, if◌then◌else◌}
-use Rattle.byteorder.specs.Endian.{big_number}
-
--- the version of an IP header, the high half of its first octet (RFC 791, section 3.1; RFC 8200, section 3)
-abbrev pub ip_version : List ℕ → ℕ
-ip_version octets = slice_index octets 0 / 16
-
--- the Total Length of an IPv4 datagram, which counts its header (RFC 791, section 3.1)
-abbrev pub total_length : List ℕ → ℕ
-total_length octets = big_number 2 (drop 2 octets)
-
--- the Payload Length of an IPv6 datagram, which counts what follows the header of 40 octets (RFC 8200, section 3)
-abbrev pub payload_length : List ℕ → ℕ
-payload_length octets = big_number 2 (drop 4 octets)
+use Rattle.std.specs.Prelude.{ℕ, ◌+◌, ◌==◌, nat_lt, List, length, Option, Some, None, if◌then◌else◌}
+use Rattle.amt_values.specs.IpHeader.{ip_version, total_length, payload_length}
 
 -- no IPv4 datagram is shorter than the least header, of 20 octets
 abbrev pub ipv4_length : List ℕ → Option ℕ
