@@ -1,10 +1,12 @@
 -- Sets of sources, as listed sources are put into them or taken out one by one.
-use Rattle.std.proofs.Common.{◌≡◌, Bool, true, false, not, cond, ◌&&◌, ◌||◌, List, [], ◌∷◌, ◌++◌, refl, sym, ap, subst, ◌∙◌}
+use Rattle.std.proofs.Common.{◌≡◌, ℕ, ◌+◌, ◌<◌, Bool, true, false, not, cond, ◌&&◌, ◌||◌, List, [], ◌∷◌, ◌++◌, length, take, get_or, refl, sym, ap, subst, ◌∙◌}
 use Rattle.std.specs.BTreeSet.{BTreeSet, IsOrdered, Updates}
 use Rattle.std.specs.Ordering.{eq_by_cmp}
 use Rattle.std.specs.declared.cmp.Ordering.{Ordering}
 use Rattle.std.proofs.lemmas.Cmp.{eq_by_cmp_equiv}
+use Rattle.std.proofs.lemmas.List.{take_more}
 use Rattle.amt_values.specs.declared.address.Ip.{Ip}
+use Rattle.amt_values.specs.declared.address.Ip.TheVariants.{V4}
 use Rattle.amt_values.specs.Order.{ip_order}
 use Rattle.amt_values.proofs.Orders.{ip_order-exact, ip_order-total}
 use Rattle.source_filter.specs.Filter.{FilterValue, ascending_sources}
@@ -12,31 +14,38 @@ use Rattle.contract_words.specs.Ascending.{IsAscending, difference, has, union}
 use Rattle.source_filter.specs.declared.mode.Mode.{Mode}
 use Rattle.contract_words.proofs.AscendingLaws.{IsAscending-filter, IsAscending-ascending, has-append, has-difference, has-union, ascending-fixed, same_ascending}
 
--- what stands in the set: the old sources and those put in
-pub record IsUnited (old done held : List Ip) : Type 0 where
+-- the set after some sources: whether it has one, by whether it was in the old ones, and is among those
+pub record IsHeld (keeps : Bool → Bool → Bool) (old done held : List Ip) : Type 0 where
   pub ascends : IsAscending ip_order held
-  pub each : (source : Ip) → has ip_order held source ≡ (has ip_order old source || has ip_order done source)
+  pub each : (source : Ip) → has ip_order held source ≡ keeps (has ip_order old source) (has ip_order done source)
 
--- what stands in the set: the old sources without those taken out
-pub record IsReduced (old done held : List Ip) : Type 0 where
-  pub ascends : IsAscending ip_order held
-  pub each : (source : Ip) → has ip_order held source ≡ (has ip_order old source && not (has ip_order done source))
+-- those are put in
+abbrev pub put_in : Bool → Bool → Bool
+put_in old done = old || done
 
-united_one : (last old done : Bool) → cond last true (old || done) ≡ (old || (done || (last || false)))
-united_one true true done = refl
-united_one true false true = refl
-united_one true false false = refl
-united_one false true done = refl
-united_one false false true = refl
-united_one false false false = refl
+-- those are taken out
+abbrev pub taken_out : Bool → Bool → Bool
+taken_out old done = old && not done
 
-reduced_one : (last old done : Bool) → cond last false (old && not done) ≡ (old && not (done || (last || false)))
-reduced_one true true true = refl
-reduced_one true true false = refl
-reduced_one true false done = refl
-reduced_one false true true = refl
-reduced_one false true false = refl
-reduced_one false false done = refl
+-- one more source changes what is had of it alone
+abbrev pub IsOneMore : (Bool → Bool → Bool) → Bool → Type 0
+IsOneMore keeps present = (last old done : Bool) → cond last present (keeps old done) ≡ keeps old (done || (last || false))
+
+pub one_in : IsOneMore put_in true
+one_in true true done = refl
+one_in true false true = refl
+one_in true false false = refl
+one_in false true done = refl
+one_in false false true = refl
+one_in false false false = refl
+
+pub one_out : IsOneMore taken_out false
+one_out true true true = refl
+one_out true true false = refl
+one_out true false done = refl
+one_out false true true = refl
+one_out false true false = refl
+one_out false false done = refl
 
 -- a set that ascends and has this source or not, by the order of addresses
 record IsUpdated (before after : BTreeSet Ip) (source : Ip) (present : Bool) : Type 0 where
@@ -55,37 +64,30 @@ updated cmp before after source present same ordered updates =
       each = λ other. told.0 other ∙ ap (λ (test : Bool). cond test present (has ip_order before.keys other)) (turned source other);
     }
 
--- one more source is put in
-pub IsUnited-more : (cmp : Ip → Ip → Ordering) (old done : List Ip) (before after : BTreeSet Ip) (source : Ip) → cmp ≡ ip_order → IsOrdered cmp after → Updates cmp before after source true
-    → IsUnited old done before.keys → IsUnited old (done ++ source ∷ []) after.keys
-IsUnited-more cmp old done before after source same ordered updates so_far =
-    let now = updated cmp before after source true same ordered updates in
-    record {
+-- one more of the listed sources is put in or taken out
+pub IsHeld-more : (keeps : Bool → Bool → Bool) (present : Bool) → IsOneMore keeps present → (cmp : Ip → Ip → Ordering)
+    (old listed : List Ip) (k : ℕ) (before after : BTreeSet Ip) → cmp ≡ ip_order → IsOrdered cmp after
+    → Updates cmp before after (get_or listed k (V4 0)) present → k < length listed
+    → IsHeld keeps old (take k listed) before.keys → IsHeld keeps old (take (k + 1) listed) after.keys
+IsHeld-more keeps present one_more cmp old listed k before after same ordered updates more so_far =
+    let source = get_or listed k (V4 0) in
+    let done = take k listed in
+    let now = updated cmp before after source present same ordered updates in
+    subst (λ (all : List Ip). IsHeld keeps old all after.keys) (sym (take_more listed k (V4 0) more))
+    (record {
       ascends = now.ascends;
-      each = λ other. now.each other ∙ ap (cond (eq_by_cmp ip_order other source) true) (so_far.each other)
-          ∙ united_one (eq_by_cmp ip_order other source) (has ip_order old other) (has ip_order done other)
-          ∙ sym (ap (λ (test : Bool). has ip_order old other || test) (has-append ip_order done (source ∷ []) other));
-    }
+      each = λ other. now.each other ∙ ap (cond (eq_by_cmp ip_order other source) present) (so_far.each other)
+          ∙ one_more (eq_by_cmp ip_order other source) (has ip_order old other) (has ip_order done other)
+          ∙ sym (ap (λ (test : Bool). keeps (has ip_order old other) test) (has-append ip_order done (source ∷ []) other));
+    })
 
--- one more source is taken out
-pub IsReduced-more : (cmp : Ip → Ip → Ordering) (old done : List Ip) (before after : BTreeSet Ip) (source : Ip) → cmp ≡ ip_order → IsOrdered cmp after → Updates cmp before after source false
-    → IsReduced old done before.keys → IsReduced old (done ++ source ∷ []) after.keys
-IsReduced-more cmp old done before after source same ordered updates so_far =
-    let now = updated cmp before after source false same ordered updates in
-    record {
-      ascends = now.ascends;
-      each = λ other. now.each other ∙ ap (cond (eq_by_cmp ip_order other source) false) (so_far.each other)
-          ∙ reduced_one (eq_by_cmp ip_order other source) (has ip_order old other) (has ip_order done other)
-          ∙ sym (ap (λ (test : Bool). has ip_order old other && not test) (has-append ip_order done (source ∷ []) other));
-    }
-
-pub united : (old done held : List Ip) → IsUnited old done held → held ≡ union ip_order old done
-united old done held all =
+pub union_held : (old done held : List Ip) → IsHeld put_in old done held → held ≡ union ip_order old done
+union_held old done held all =
     same_ascending ip_order-total ip_order-exact held (union ip_order old done) all.ascends (IsAscending-ascending ip_order-total (old ++ done))
     (λ source. all.each source ∙ sym (has-union ip_order-total old done source))
 
-pub reduced : (old done held : List Ip) → IsAscending ip_order old → IsReduced old done held → held ≡ difference ip_order old done
-reduced old done held ascends all =
+pub difference_held : (old done held : List Ip) → IsAscending ip_order old → IsHeld taken_out old done held → held ≡ difference ip_order old done
+difference_held old done held ascends all =
     same_ascending ip_order-total ip_order-exact held (difference ip_order old done) all.ascends (IsAscending-filter ip_order (λ source. not (has ip_order done source)) old ascends)
     (λ source. all.each source ∙ sym (has-difference ip_order-exact old done source))
 
