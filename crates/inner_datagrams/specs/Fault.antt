@@ -23,13 +23,13 @@ header_length_faults bytes =
     ∷ (nat_lt (length bytes) (header_octets bytes), ShortHeader (header_octets bytes) (length bytes))
     ∷ []
 
--- the length of the whole isn't that of the bytes
-abbrev pub wrong_total : List ℕ → Bool × InnerFault
-wrong_total bytes = (not (total_length bytes == length bytes), TotalLength (total_length bytes) (length bytes))
+-- the length of the whole that a header states isn't that of the bytes (RFC 791, section 3.1; RFC 8200, section 3)
+abbrev pub wrong_total : ℕ → List ℕ → Bool × InnerFault
+wrong_total stated bytes = (not (stated == length bytes), TotalLength stated (length bytes))
 
 -- lengths of the header and of the whole that aren't those of the bytes
 abbrev pub length_faults : List ℕ → Conditions InnerFault
-length_faults bytes = header_length_faults bytes ++ wrong_total bytes ∷ []
+length_faults bytes = header_length_faults bytes ++ wrong_total (total_length bytes) bytes ∷ []
 
 -- the header's words don't add up (RFC 791, section 3.1)
 abbrev pub wrong_header_sum : List ℕ → Bool × InnerFault
@@ -48,16 +48,12 @@ other_protocol protocol = (not (protocol == 2), Protocol protocol)
 abbrev pub header_faults : List ℕ → Conditions InnerFault
 header_faults bytes = wrong_header_sum bytes ∷ fragment bytes ∷ other_protocol (protocol_number bytes) ∷ []
 
--- the length of the whole that an IPv6 header states isn't that of the bytes (RFC 8200, section 3)
-abbrev pub wrong_total6 : List ℕ → Bool × InnerFault
-wrong_total6 bytes = (not (whole_length6 bytes == length bytes), TotalLength (whole_length6 bytes) (length bytes))
-
 -- lengths of the IPv6 header and of the whole that aren't those of the bytes, and that of a
 -- hop-by-hop header, which has at least 8 octets (RFC 8200, section 4.3)
 abbrev pub length_faults6 : List ℕ → Conditions InnerFault
 length_faults6 bytes =
     (nat_lt (length bytes) 40, ShortHeader 40 (length bytes))
-    ∷ wrong_total6 bytes
+    ∷ wrong_total (whole_length6 bytes) bytes
     ∷ (has_hop_by_hop bytes && nat_lt (length bytes) 48, ShortHeader 48 (length bytes))
     ∷ (has_hop_by_hop bytes && nat_lt (length bytes) (hop_by_hop_end bytes), ShortHeader (hop_by_hop_end bytes) (length bytes))
     ∷ []

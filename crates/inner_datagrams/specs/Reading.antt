@@ -17,23 +17,15 @@ pub record HasParts (source destination : Ip) (payload bytes : List ℕ) (inner 
   pub goes_to : inner.destination ≡ destination
   pub carries : payload_of inner.start inner.end bytes ≡ payload
 
--- an IPv4 datagram of these parts
-abbrev pub parts4 : ℕ → ℕ → ℕ → ℕ → Inner
-parts4 source destination start end =
-    record { source = V4 source; destination = V4 destination; start = start; end = end }
-
--- those parts by their places in the bytes (RFC 791, section 3.1)
+-- the parts of an IPv4 datagram by their places in the bytes (RFC 791, section 3.1)
 abbrev pub inner4_at : List ℕ → Inner
-inner4_at bytes = parts4 (source_number bytes) (destination_number bytes) (header_octets bytes) (length bytes)
+inner4_at bytes =
+    record { source = V4 (source_number bytes); destination = V4 (destination_number bytes); start = header_octets bytes; end = length bytes }
 
--- an IPv6 datagram of these parts
-abbrev pub parts6 : ℕ → ℕ → ℕ → ℕ → Inner
-parts6 source destination start end =
-    record { source = V6 source; destination = V6 destination; start = start; end = end }
-
--- those parts by their places in the bytes (RFC 8200, sections 3 and 4.3)
+-- the parts of an IPv6 datagram by their places in the bytes (RFC 8200, sections 3 and 4.3)
 abbrev pub inner6_at : List ℕ → Inner
-inner6_at bytes = parts6 (source_number6 bytes) (destination_number6 bytes) (headers_end6 bytes) (length bytes)
+inner6_at bytes =
+    record { source = V6 (source_number6 bytes); destination = V6 (destination_number6 bytes); start = headers_end6 bytes; end = length bytes }
 
 -- the parts of a datagram, by its version
 abbrev pub inner_at : List ℕ → Inner

@@ -1,6 +1,10 @@
 //! What is read of an inner datagram, and its faults. It must not know how it is read.
 
-use amt_values::Ip;
+ghost use Rattle.std.specs.Prelude.{◌≡◌, ◌≤◌, ◌∷◌, [], length};
+ghost use Rattle.contract_words.specs.Conditions.{first_holding};
+ghost use Rattle.inner_datagrams.specs.Fault.{wrong_total};
+
+use amt_values::{INPUT_LIMIT, Ip};
 
 /// An IP datagram that carries membership messages, read in place.
 #[derive(Clone, Copy, Debug, PartialEq, Eq)]
@@ -42,4 +46,16 @@ pub enum InnerFault {
     /// Another extension header of IPv6 follows: a second one of hop-by-hop options, or one of the
     /// kinds 43, 51 and 60.
     Extension(u8),
+}
+
+// The fault that the length of the whole which a header states isn't that of the bytes.
+pub fn total_fault(stated: u32, bytes: &[u8]) -> Option<InnerFault>
+    requires { length bytes.now ≤ INPUT_LIMIT }
+    ensures { result ≡ first_holding (wrong_total stated bytes.now ∷ []) }
+{
+    let have = bytes.len() as u32;
+    if stated != have {
+        return Some(InnerFault::TotalLength(stated, have));
+    }
+    None
 }

@@ -2,12 +2,12 @@
 
 ghost use Rattle.std.specs.Prelude.{◌≡◌, ◌≤◌, ◌∷◌, ◌++◌, [], length, IfOk};
 ghost use Rattle.contract_words.specs.Conditions.{first_holding, unless};
-ghost use Rattle.inner_datagrams.specs.Fault.{faults4, fragment, header_faults, header_length_faults, length_faults, other_protocol, wrong_header_sum, wrong_total};
+ghost use Rattle.inner_datagrams.specs.Fault.{faults4, fragment, header_faults, header_length_faults, length_faults, other_protocol, wrong_header_sum};
 ghost use Rattle.inner_datagrams.specs.Header.{header_octets};
-ghost use Rattle.inner_datagrams.specs.Reading.{inner4_at, parts4};
+ghost use Rattle.inner_datagrams.specs.Reading.{inner4_at};
 
 use crate::checksum::{expected_sum, has_right_sum};
-use crate::inner::{Inner, InnerFault};
+use crate::inner::{Inner, InnerFault, total_fault};
 use amt_values::{INPUT_LIMIT, Ip, u16_at, u32_at};
 
 // The octets of the header, if as many as it states are there.
@@ -34,20 +34,6 @@ fn stated_header(bytes: &[u8]) -> Result<usize, InnerFault>
     Ok(need as usize)
 }
 
-// The fault that the length of the whole isn't that of the bytes.
-fn total_fault(bytes: &[u8]) -> Option<InnerFault>
-    requires least { 20 ≤ length bytes.now }
-    requires most { length bytes.now ≤ INPUT_LIMIT }
-    ensures { result ≡ first_holding (wrong_total bytes.now ∷ []) }
-{
-    let have = bytes.len() as u32;
-    let total = u16_at(bytes, 2) as u32;
-    if total != have {
-        return Some(InnerFault::TotalLength(total, have));
-    }
-    None
-}
-
 // Where the header ends, if the lengths that it states are those of the bytes.
 fn header_end(bytes: &[u8]) -> Result<usize, InnerFault>
     requires { length bytes.now ≤ INPUT_LIMIT }
@@ -58,7 +44,7 @@ fn header_end(bytes: &[u8]) -> Result<usize, InnerFault>
     ensures within { IfOk result (λ end. end ≤ length bytes.now) }
 {
     let end = stated_header(bytes)?;
-    match total_fault(bytes) {
+    match total_fault(u16_at(bytes, 2) as u32, bytes) {
         Some(fault) => Err(fault),
         None => Ok(end),
     }
@@ -118,18 +104,6 @@ fn header_fault(bytes: &[u8], end: usize) -> Option<InnerFault>
     protocol_fault(bytes[9])
 }
 
-// The datagram of these parts.
-fn parts4(source: u32, destination: u32, start: usize, end: usize) -> Inner
-    ensures { result ≡ parts4 source destination start end }
-{
-    Inner {
-        source: Ip::V4(source),
-        destination: Ip::V4(destination),
-        start,
-        end,
-    }
-}
-
 // The IPv4 datagram that the bytes are, or their first fault.
 pub fn read_inner4(bytes: &[u8]) -> Result<Inner, InnerFault>
     requires { length bytes.now ≤ INPUT_LIMIT }
@@ -139,6 +113,11 @@ pub fn read_inner4(bytes: &[u8]) -> Result<Inner, InnerFault>
     let start = header_end(bytes)?;
     match header_fault(bytes, start) {
         Some(fault) => Err(fault),
-        None => Ok(parts4(u32_at(bytes, 12), u32_at(bytes, 16), start, bytes.len())),
+        None => Ok(Inner {
+            source: Ip::V4(u32_at(bytes, 12)),
+            destination: Ip::V4(u32_at(bytes, 16)),
+            start,
+            end: bytes.len(),
+        }),
     }
 }

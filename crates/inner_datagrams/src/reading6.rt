@@ -1,27 +1,13 @@
 //! The headers of an IPv6 datagram are read here. It must not know IPv4 or the payload.
 
-ghost use Rattle.std.specs.Prelude.{◌≡◌, ◌≤◌, ◌∷◌, [], length, IfOk};
+ghost use Rattle.std.specs.Prelude.{◌≡◌, ◌≤◌, length, IfOk};
 ghost use Rattle.contract_words.specs.Conditions.{first_holding, unless};
-ghost use Rattle.inner_datagrams.specs.Fault.{faults6, hop_by_hop_faults, length_faults6, next_header_faults, wrong_total6};
+ghost use Rattle.inner_datagrams.specs.Fault.{faults6, hop_by_hop_faults, length_faults6, next_header_faults};
 ghost use Rattle.inner_datagrams.specs.Header6.{headers_end6, hop_by_hop_end, hop_by_hop_next, last_next_header};
-ghost use Rattle.inner_datagrams.specs.Reading.{inner6_at, parts6};
+ghost use Rattle.inner_datagrams.specs.Reading.{inner6_at};
 
-use crate::inner::{Inner, InnerFault};
+use crate::inner::{Inner, InnerFault, total_fault};
 use amt_values::{INPUT_LIMIT, Ip, u16_at, u128_at};
-
-// The fault that the length of the whole isn't that of the bytes.
-fn total_fault(bytes: &[u8]) -> Option<InnerFault>
-    requires least { 40 ≤ length bytes.now }
-    requires most { length bytes.now ≤ INPUT_LIMIT }
-    ensures { result ≡ first_holding (wrong_total6 bytes.now ∷ []) }
-{
-    let have = bytes.len() as u32;
-    let whole = 40 + u16_at(bytes, 4) as u32;
-    if whole != have {
-        return Some(InnerFault::TotalLength(whole, have));
-    }
-    None
-}
 
 // Where a hop-by-hop header ends and what it says to follow, if all of it is there.
 fn hop_by_hop(bytes: &[u8]) -> Result<(usize, u8), InnerFault>
@@ -56,7 +42,7 @@ fn headers(bytes: &[u8]) -> Result<(usize, u8), InnerFault>
     if have < 40 {
         return Err(InnerFault::ShortHeader(40, have));
     }
-    if let Some(fault) = total_fault(bytes) {
+    if let Some(fault) = total_fault(40 + u16_at(bytes, 4) as u32, bytes) {
         return Err(fault);
     }
     match bytes[6] {
@@ -77,18 +63,6 @@ fn next_header_fault(kind: u8) -> Option<InnerFault>
     }
 }
 
-// The datagram of these parts.
-fn parts6(source: u128, destination: u128, start: usize, end: usize) -> Inner
-    ensures { result ≡ parts6 source destination start end }
-{
-    Inner {
-        source: Ip::V6(source),
-        destination: Ip::V6(destination),
-        start,
-        end,
-    }
-}
-
 // The IPv6 datagram that the bytes are, or their first fault.
 pub fn read_inner6(bytes: &[u8]) -> Result<Inner, InnerFault>
     requires { length bytes.now ≤ INPUT_LIMIT }
@@ -97,6 +71,11 @@ pub fn read_inner6(bytes: &[u8]) -> Result<Inner, InnerFault>
     let (start, kind) = headers(bytes)?;
     match next_header_fault(kind) {
         Some(fault) => Err(fault),
-        None => Ok(parts6(u128_at(bytes, 8), u128_at(bytes, 24), start, bytes.len())),
+        None => Ok(Inner {
+            source: Ip::V6(u128_at(bytes, 8)),
+            destination: Ip::V6(u128_at(bytes, 24)),
+            start,
+            end: bytes.len(),
+        }),
     }
 }
