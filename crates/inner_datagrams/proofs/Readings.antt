@@ -100,3 +100,6 @@ answer_read_back answer bytes same source destination payload short written =
     both_ok answer (HasParts source destination payload bytes) (λ (inner : Inner). inner.start ≡ written_headers source)
     (answer_only answer bytes same source destination payload lawful)
     (subst (λ (place : ℕ). IfOk answer (λ inner. inner.start ≡ place)) start (answer_start answer bytes same))
+
+-- what `read_inner` ensures of its reading
+pub ruleset answers = (answer_found, answer_only, answer_start, answer_end, answer_bounds, answer_payload, answer_refused, answer_read_back)

@@ -36,6 +36,7 @@ fn read(bytes: &[u8]) -> Result<Inner, InnerFault>
 /// The type of service or traffic class, the identification, the flags but "more fragments", the
 /// flow label, the time to live or hop limit, the addresses and the options may be any. The faults
 /// are tried in the order of `InnerFault`.
+#[tactic(auto, using(crate::proofs::Readings::answers))]
 pub fn read_inner(bytes: &[u8]) -> Result<Inner, InnerFault>
     requires { length bytes.now ≤ INPUT_LIMIT }
     ensures found { IfOk result (λ inner.
