@@ -1,16 +1,17 @@
 -- Reading by the refusals and the places of fields is the relation between octets and messages.
-use Rattle.std.proofs.Common.{◌≡◌, ℕ, ◌+◌, ◌/◌, ◌%◌, ◌<◌, ◌≤◌, List, length, take, drop, slice_index, Bool, true, false, ◌&&◌, eqb, leb, ltb, Option, Some, None, Ok, refl, sym, subst, ap, ◌∙◌, arith, length-drop, cond}
+use Rattle.std.proofs.Common.{◌≡◌, ℕ, ◌+◌, ◌/◌, ◌%◌, ◌<◌, ◌≤◌, List, length, take, drop, slice_index, Bool, true, false, ◌&&◌, eqb, leb, ltb, Option, Some, None, Ok, refl, sym, subst, ap, ap₂, ◌∙◌, arith, length-drop, cond}
 use Rattle.std.proofs.lemmas.Bool.{le-ltb, ne_eqb}
 use Rattle.amt_values.specs.EndpointValue.{EndpointValue}
+use Rattle.amt_values.specs.declared.address.Ip.{Ip}
 use Rattle.amt_values.specs.declared.address.Ip.TheVariants.{V4, V6}
 use Rattle.amt_values.specs.declared.mac.Mac48.{Mac48}
 use Rattle.amt_messages.specs.declared.message.Message.{Message}
 use Rattle.amt_messages.specs.declared.message.Message.TheVariants.{Discovery, Advertisement, Request, Query, Update, Multicast, Teardown}
 use Rattle.amt_messages.specs.StatedLength.{inner_length_of}
-use Rattle.amt_messages.specs.Layout.{Spells, IsQuery, has_flag, query_length, gateway_at}
+use Rattle.amt_messages.specs.Layout.{Spells, IsAdvertisement, IsQuery, has_flag, query_length, gateway_at}
 use Rattle.contract_words.specs.Conditions.{NoneHolds}
 use Rattle.contract_words.proofs.ConditionLaws.{first_holding-none, skips_same}
-use Rattle.amt_messages.specs.Refusal.{first_refusal, refusals, length_refusals, advertisement_length, is_unknown, stated_inner, message_at, message_of}
+use Rattle.amt_messages.specs.Refusal.{first_refusal, refusals, length_refusals, advertisement_length, is_unknown, stated_inner, message_at, message_of, relay_at}
 use Rattle.amt_messages.proofs.InnerLength.{inner_length_of-least, inner_length_of-take}
 
 -- octets of version 0 and a known type are refused by their length alone
@@ -66,6 +67,15 @@ spelled_query limited named mac nonce inner seen bytes h says enough =
     reading_unrefused bytes (Query limited mac nonce inner seen) unrefused
     (rw (h.kind.first, states, sym h.g_flag, says, sym h.l_flag, sym h.mac_field, sym h.nonce_field, sym h.inner_field) refl)
 
+spelled_advertisement : (nonce address octets : ℕ) (relay : Ip) (bytes : List ℕ) → IsAdvertisement nonce address octets bytes
+    → advertisement_length (8 + octets) ≡ 8 + octets → relay_at bytes ≡ relay → message_of bytes ≡ Ok (Advertisement nonce relay)
+spelled_advertisement nonce address octets relay bytes h right says =
+    let whole = h.kind.octets in
+    let fits = same_length (advertisement_length (length bytes)) (length bytes) (rw whole (sym right)) in
+    let unrefused = unrefused_by 2 bytes (omega arith) (omega arith) h.kind.first refl (refl, fits) in
+    reading_unrefused bytes (Advertisement nonce relay) unrefused
+    (rw h.kind.first (ap₂ (λ (n : ℕ) (ip : Ip). Advertisement n ip) (sym h.nonce_field) says))
+
 -- what octets spell is read
 pub spelled_is_read : (message : Message) (bytes : List ℕ) → Spells message bytes → message_of bytes ≡ Ok message
 spelled_is_read (Discovery nonce) bytes h =
@@ -73,17 +83,9 @@ spelled_is_read (Discovery nonce) bytes h =
     let unrefused = unrefused_by 1 bytes (omega arith) (omega arith) h.kind.first refl (refl, same_length 8 (length bytes) octets) in
     reading_unrefused bytes (Discovery nonce) unrefused (rw h.kind.first (ap (λ (n : ℕ). Discovery n) (sym h.nonce_field)))
 spelled_is_read (Advertisement nonce (V4 address)) bytes h =
-    let octets = h.kind.octets in
-    let fits = same_length (advertisement_length (length bytes)) (length bytes) (rw octets refl) in
-    let unrefused = unrefused_by 2 bytes (omega arith) (omega arith) h.kind.first refl (refl, fits) in
-    reading_unrefused bytes (Advertisement nonce (V4 address)) unrefused
-    (rw (h.kind.first, octets, sym h.nonce_field, sym h.address_field) refl)
+    spelled_advertisement nonce address 4 (V4 address) bytes h refl (rw (h.kind.octets, sym h.address_field) refl)
 spelled_is_read (Advertisement nonce (V6 address)) bytes h =
-    let octets = h.kind.octets in
-    let fits = same_length (advertisement_length (length bytes)) (length bytes) (rw octets refl) in
-    let unrefused = unrefused_by 2 bytes (omega arith) (omega arith) h.kind.first refl (refl, fits) in
-    reading_unrefused bytes (Advertisement nonce (V6 address)) unrefused
-    (rw (h.kind.first, octets, sym h.nonce_field, sym h.address_field) refl)
+    spelled_advertisement nonce address 16 (V6 address) bytes h refl (rw (h.kind.octets, sym h.address_field) refl)
 spelled_is_read (Request v6 nonce) bytes h =
     let octets = h.kind.octets in
     let unrefused = unrefused_by 3 bytes (omega arith) (omega arith) h.kind.first refl (refl, same_length 8 (length bytes) octets) in
