@@ -85,3 +85,6 @@ unrefused-spelled bytes = (
 -- a message spells the octets exactly where it is what is read of them
 pub Spells-read : (bytes : List ℕ) (message : Message) → Spells message bytes ↔ (message_of bytes ≡ Ok message)
 Spells-read bytes message = (spelled_is_read message bytes, read_is_spelled bytes message)
+
+-- what `decode` ensures of its reading
+pub ruleset answers = (answer_found, answer_only, answer_back, answer_sendable, answer_refused, Spells_unique, unrefused-spelled, Spells-read)

@@ -77,6 +77,7 @@ fn read(alloc: Global, bytes: &[u8]) -> Result<Message, DecodeFault>
 ///
 /// Reserved bits are ignored. The refusals are tried in the order of `Refused`. Memory is asked for
 /// the inner datagram of a Query or an Update, and for the packet of Multicast Data; for nothing else.
+#[tactic(auto, using(crate::proofs::Answered::answers))]
 pub fn decode(alloc: Global, bytes: &[u8]) -> Result<Message, DecodeFault>
     requires { length bytes.now ≤ 65535 }
     ensures found { IfOk result (λ message. Spells message bytes.now) }
