@@ -24,14 +24,14 @@ fn no_group(family: Family) -> Ip
 }
 
 // The octets of IGMP before the group, with a zero in place of the checksum.
-fn head4(max_code: u8) -> [u8; 4]
+fn before_group4(max_code: u8) -> [u8; 4]
     ensures { result ≡ query_type V4 ∷ max_code ∷ 0 ∷ 0 ∷ [] }
 {
     [query_type(Family::V4), max_code, 0, 0]
 }
 
 // Those of MLD.
-fn head6(max_code: u16) -> [u8; 8]
+fn before_group6(max_code: u16) -> [u8; 8]
     ensures { result ≡ query_type V6 ∷ 0 ∷ 0 ∷ 0 ∷ big_bytes 2 max_code ++ 0 ∷ 0 ∷ [] }
 {
     let [high, low] = max_code.to_be_bytes();
@@ -49,8 +49,8 @@ fn unsummed_query(
 {
     let mut octets = Vec::new(alloc);
     match family {
-        Family::V4 => octets.extend_from_slice(&head4(fields.max_code as u8))?,
-        Family::V6 => octets.extend_from_slice(&head6(fields.max_code))?,
+        Family::V4 => octets.extend_from_slice(&before_group4(fields.max_code as u8))?,
+        Family::V6 => octets.extend_from_slice(&before_group6(fields.max_code))?,
     }
     append_address(no_group(family), &mut octets)?;
     octets.extend_from_slice(&[fields.robustness, fields.interval_code, 0, 0])?;
