@@ -117,7 +117,8 @@ membership_in-of endpoint (membership ∷ rest) endpoint_group of apart =
     let elsewhere = apart_by endpoint_group.endpoint endpoint_group.endpoint endpoint_group.group membership refl (ap (same_endpoint endpoint_group.endpoint) here ∙ apart) in
     rw elsewhere (membership_in-of endpoint rest endpoint_group of.1 apart)
 
-prefix_of : (P : Membership → Type 0) (xs ys : List Membership) → AllByRecursion P (xs ++ ys) → AllByRecursion P xs
+-- what holds of all holds of the first ones
+pub prefix_of : (P : Membership → Type 0) (xs ys : List Membership) → AllByRecursion P (xs ++ ys) → AllByRecursion P xs
 prefix_of P [] ys each = tt
 prefix_of P (x ∷ xs) ys each = (each.0, prefix_of P xs ys each.1)
 

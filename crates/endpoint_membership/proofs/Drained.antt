@@ -1,12 +1,13 @@
 -- What an iterator over a vector's items gave, once it is drained.
-use Rattle.std.proofs.Common.{◌≡◌, ◌+◌, List, [], ◌∷◌, ◌++◌, length, Global, sym, ap, ◌∙◌, arith}
+use Rattle.std.proofs.Common.{◌≡◌, ◌+◌, List, [], ◌∷◌, ◌++◌, length, Global, Option, Some, sym, ap, subst, ◌∙◌, arith}
 use Rattle.std.specs.Iterator.{Drains, Yields}
 use Rattle.std.specs.Vec.Iter.{into_iter_items, into_iter_len, into_iter_steps}
 use Rattle.std.specs.declared.vec.IntoIter.{IntoIter}
-use Rattle.std.proofs.lemmas.List.{append-nil, length-append, nil_from_length}
+use Rattle.std.proofs.lemmas.List.{append_assoc, append-nil, length-append, nil_from_length}
 
 module _ {X : Type 0} where
-  given_so_far : (from to : IntoIter X Global) (items : List X) → Yields into_iter_steps from items to
+  -- what was given, and what is left, are the items
+  pub given_so_far : (from to : IntoIter X Global) (items : List X) → Yields into_iter_steps from items to
       → (into_iter_items from ≡ items ++ into_iter_items to) × (into_iter_len to + length items ≡ into_iter_len from)
   given_so_far from to [] led = let same = ap into_iter_len led in (ap into_iter_items led, omega arith)
   given_so_far from to (first ∷ items) (next, step, led) =
@@ -20,3 +21,10 @@ module _ {X : Type 0} where
       let count = given.1 in
       let none = nil_from_length (into_iter_items to) (omega arith) in
       sym (append-nil items) ∙ ap (λ (rest : List X). items ++ rest) (sym none) ∙ sym given.0 ∙ has
+
+  -- what a loop has taken, with the item at hand, begins the items
+  pub begun : (all items : List X) (item : X) (from to next : IntoIter X Global) (given : Option X) → into_iter_items from ≡ all → Yields into_iter_steps from items to → given ≡ Some item → into_iter_steps to given next
+      → all ≡ (items ++ item ∷ []) ++ into_iter_items next
+  begun all items item from to next given has led is step =
+      let last = subst (λ (one : Option X). into_iter_steps to one next) is step in
+      sym has ∙ (given_so_far from to items led).0 ∙ ap (λ (more : List X). items ++ more) last.0 ∙ sym (append_assoc items (item ∷ []) (into_iter_items next))

@@ -55,17 +55,14 @@ only_false : (test : Bool) → false ≡ (test && false)
 only_false true = refl
 only_false false = refl
 
--- one more filter makes one more membership, or none
-pub one_more_membership : (endpoint : EndpointValue) (done : List (Ip × RenewedFilter)) (group : Ip) (renewed_filter : RenewedFilter) (rows more : List Membership) → wants_any renewed_filter.filter ≡ true → rows ≡ filter_map (membership_of_entry endpoint) done
-    → more ≡ rows ++ made endpoint group renewed_filter.filter renewed_filter.renewed ∷ [] → more ≡ filter_map (membership_of_entry endpoint) (done ++ (group, renewed_filter) ∷ [])
-one_more_membership endpoint done group renewed_filter rows more stands so_far pushed =
-    pushed ∙ ap (λ (before : List Membership). before ++ made endpoint group renewed_filter.filter renewed_filter.renewed ∷ []) so_far
-    ∙ sym (filter_map-append (membership_of_entry endpoint) done ((group, renewed_filter) ∷ []) ∙ rw stands refl)
+-- one more entry, which gives an item
+pub one_more_given : {A B : Type 0} (give : A → Option B) (done : List A) (entry : A) (item : B) (so_far more : List B) → give entry ≡ Some item → so_far ≡ filter_map give done → more ≡ so_far ++ item ∷ []
+    → more ≡ filter_map give (done ++ entry ∷ [])
+one_more_given give done entry item so_far more is same pushed = pushed ∙ ap (λ before. before ++ item ∷ []) same ∙ sym (filter_map-append give done (entry ∷ []) ∙ rw is refl)
 
-pub no_more_memberships : (endpoint : EndpointValue) (done : List (Ip × RenewedFilter)) (group : Ip) (renewed_filter : RenewedFilter) (rows : List Membership) → wants_any renewed_filter.filter ≡ false → rows ≡ filter_map (membership_of_entry endpoint) done
-    → rows ≡ filter_map (membership_of_entry endpoint) (done ++ (group, renewed_filter) ∷ [])
-no_more_memberships endpoint done group renewed_filter rows falls so_far =
-    so_far ∙ sym (filter_map-append (membership_of_entry endpoint) done ((group, renewed_filter) ∷ []) ∙ rw falls (append-nil (filter_map (membership_of_entry endpoint) done)))
+-- one more entry, which gives none
+pub none_more_given : {A B : Type 0} (give : A → Option B) (done : List A) (entry : A) (so_far : List B) → give entry ≡ None → so_far ≡ filter_map give done → so_far ≡ filter_map give (done ++ entry ∷ [])
+none_more_given give done entry so_far is same = same ∙ sym (filter_map-append give done (entry ∷ []) ∙ rw is (append-nil (filter_map give done)))
 
 -- a map after its group's filter was replaced
 pub one_applied : (group : Ip) (group_record : Record) (moment : ℕ) (before after : Option RenewedFilter) (key : Bool) → key ≡ same_group group group_record.group
@@ -177,7 +174,8 @@ AreOf-filters endpoint (entry ∷ rest) =
     AreOf-cons_option endpoint (membership_of_entry endpoint entry) (filter_map (membership_of_entry endpoint) rest)
     (λ membership given. ap (λ (at : EndpointGroup). at.endpoint) (its_endpoint_group endpoint entry membership given)) (AreOf-filters endpoint rest)
 
-endpoint_group_by_group : (endpoint : EndpointValue) (one other : Ip) → endpoint_group_order (endpoint_group endpoint one) (endpoint_group endpoint other) ≡ ip_order one other
+-- pairs of one endpoint compare as their groups do
+pub endpoint_group_by_group : (endpoint : EndpointValue) (one other : Ip) → endpoint_group_order (endpoint_group endpoint one) (endpoint_group endpoint other) ≡ ip_order one other
 endpoint_group_by_group endpoint one other = rw (tied_itself endpoint_order-total endpoint) refl
 
 AreAfter-filters : (endpoint : EndpointValue) (group : Ip) (entries : List (Ip × RenewedFilter)) → AllByRecursion (λ later. ip_order group later ≡ Less) (keys_of entries)

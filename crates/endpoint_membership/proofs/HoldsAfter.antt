@@ -1,5 +1,5 @@
 -- Tables that stand for a log, and what each call leaves.
-use Rattle.std.proofs.Common.{◌≤◌, ◌≡◌, ℕ, ◌<◌, max, List, [], ◌∷◌, ◌++◌, reverse, filter, Some, None, refl, sym, ap, subst, ◌∙◌, arith}
+use Rattle.std.proofs.Common.{◌≤◌, ◌≡◌, ℕ, ◌<◌, max, List, [], ◌∷◌, ◌++◌, reverse, filter, Some, refl, sym, ap, subst, ◌∙◌, arith}
 use Rattle.std.specs.List.Sorted.{IsStrictlySortedBy}
 use Rattle.std.proofs.lemmas.List.{reverse-append}
 use Rattle.amt_values.specs.EndpointValue.{EndpointValue}
@@ -10,7 +10,7 @@ use Rattle.endpoint_membership.specs.declared.change.Change.TheVariants.{Reporte
 use Rattle.endpoint_membership.specs.Membership.{Membership, is_fresh, membership_order}
 use Rattle.endpoint_membership.specs.declared.limits.LimitFault.{LimitFault}
 use Rattle.endpoint_membership.specs.declared.limits.Limits.{Limits}
-use Rattle.endpoint_membership.specs.Stored.{is_of_another, is_counted}
+use Rattle.endpoint_membership.specs.Stored.{is_of_another}
 use Rattle.endpoint_membership.specs.Limits.{IsWithin, first_limit}
 use Rattle.endpoint_membership.specs.Log.{brought, latest}
 use Rattle.endpoint_membership.specs.EndpointMemberships.{AreOwn}
@@ -102,10 +102,9 @@ fresh_are settings table log at moment is holds =
     rows_are settings.lifetime (max at (latest log)) log rows
     (subst (λ (later : ℕ). AreMembershipsAt settings.lifetime later (reverse log) rows) now (fresh_rows settings table log (Mark at) moment holds is))
 
--- the memberships that count at the table's own moment are all that there are now
-pub rows_now : (settings : TableSettings) (table : TableValue) (log : List Change) → Holds settings table log → filter (is_counted table.lifetime table.moment None) table.rows ≡ memberships_now settings log
-rows_now settings table log holds =
-    fresh_are settings table log 0 table.moment (omega arith) holds ∙ ap (λ (moment : ℕ). memberships_at settings.lifetime moment log) (omega arith)
+-- the memberships are those by the log
+pub rows_now : (settings : TableSettings) (table : TableValue) (log : List Change) → Holds settings table log → table.rows ≡ memberships_now settings log
+rows_now settings table log holds = rows_are settings.lifetime (latest log) log table.rows holds.rows
 
 pub IsAscending-none : IsAscending membership_order []
 unfolding IsStrictlySortedBy

@@ -197,21 +197,21 @@ counted_by false same membership rest more is equal = rw is equal
 uncounted_by : (fresh same : Bool) (membership : Membership) (rest : List Membership) → same ≡ true → rest ≡ [] → cond (not same && fresh) (membership ∷ rest) rest ≡ []
 uncounted_by fresh same membership rest is none = rw is none
 
-counted_before : (lifetime moment : ℕ) (endpoint : EndpointValue) (rows : List Membership) → AreNotOf endpoint rows → filter (is_counted lifetime moment (Some endpoint)) rows ≡ filter (is_fresh lifetime moment) rows
+counted_before : (lifetime moment : ℕ) (endpoint : EndpointValue) (rows : List Membership) → AreNotOf endpoint rows → filter (is_counted lifetime moment endpoint) rows ≡ filter (is_fresh lifetime moment) rows
 counted_before lifetime moment endpoint [] none = refl
 counted_before lifetime moment endpoint (membership ∷ rest) none =
     counted_by (is_fresh lifetime moment membership) (same_endpoint membership.endpoint endpoint) membership _ _ none.0 (counted_before lifetime moment endpoint rest none.1)
 
-counted_own : (lifetime moment : ℕ) (endpoint : EndpointValue) (rows : List Membership) → AreOf endpoint rows → filter (is_counted lifetime moment (Some endpoint)) rows ≡ []
+counted_own : (lifetime moment : ℕ) (endpoint : EndpointValue) (rows : List Membership) → AreOf endpoint rows → filter (is_counted lifetime moment endpoint) rows ≡ []
 counted_own lifetime moment endpoint [] of = refl
 counted_own lifetime moment endpoint (membership ∷ rest) of =
     uncounted_by (is_fresh lifetime moment membership) (same_endpoint membership.endpoint endpoint) membership _ of.0 (counted_own lifetime moment endpoint rest of.1)
 
 -- the memberships of other endpoints that still count
 others_are : (lifetime moment : ℕ) (endpoint : EndpointValue) (rows before own following : List Membership) → IsParted endpoint rows before own following
-    → filter (is_counted lifetime moment (Some endpoint)) rows ≡ filter (is_fresh lifetime moment) before ++ filter (is_fresh lifetime moment) following
+    → filter (is_counted lifetime moment endpoint) rows ≡ filter (is_fresh lifetime moment) before ++ filter (is_fresh lifetime moment) following
 others_are lifetime moment endpoint rows before own following parts =
-    let test = is_counted lifetime moment (Some endpoint) in
+    let test = is_counted lifetime moment endpoint in
     ap (filter test) parts.whole ∙ filter-append test before (own ++ following)
     ∙ ap (λ (rest : List Membership). filter test before ++ rest) (filter-append test own following
     ∙ ap (λ (none : List Membership). none ++ filter test following) (counted_own lifetime moment endpoint own parts.of)
@@ -222,7 +222,7 @@ others_are lifetime moment endpoint rows before own following parts =
 pub first_limit_is : (lifetime moment : ℕ) (limits : Limits) (endpoint : EndpointValue) (records : List Record) (rows own : List Membership) → IsAscending membership_order rows → AreOf endpoint own
     → filter (is_fresh lifetime moment) own ≡ own
     → first_limit limits endpoint records (filter (is_fresh lifetime moment) (earlier endpoint rows ++ (own ++ later endpoint rows)))
-    ≡ limit_by limits (length own) (live_count (filter (is_counted lifetime moment (Some endpoint)) rows) + (if is_empty own then 0 else 1)) (find (is_over limits.sources records) own)
+    ≡ limit_by limits (length own) (live_count (filter (is_counted lifetime moment endpoint) rows) + (if is_empty own then 0 else 1)) (find (is_over limits.sources records) own)
 first_limit_is lifetime moment limits endpoint records rows own ascends of fresh =
     let parts = parted endpoint rows ascends in
     let test = is_fresh lifetime moment in

@@ -6,7 +6,7 @@ use Rattle.std.specs.Ordering.{is_eq, ordering_then}
 use Rattle.std.specs.declared.cmp.Ordering.{Ordering}
 use Rattle.std.specs.declared.cmp.Ordering.TheVariants.{Less, Equal, Greater}
 use Rattle.std.proofs.lemmas.Cmp.{tied_itself}
-use Rattle.std.proofs.lemmas.List.{append-nil, map-append}
+use Rattle.std.proofs.lemmas.List.{map-append}
 use Rattle.std.proofs.lemmas.List.Elements.{filter-append}
 use Rattle.std.proofs.lemmas.Map.Keys.{sorted_head, sorted_tail}
 use Rattle.amt_values.specs.Order.{ip_order, endpoint_order}
@@ -37,7 +37,8 @@ between_by Less Less one two three is goes before after same =
 between_by Less Greater one two three is goes before after same = let wrong = ap (λ (o : Ordering). ordering_then o (ip_order two.group three.group)) (sym goes) ∙ after in absurd cc
 between_by Greater second one two three is goes before after same = let wrong = ap (λ (o : Ordering). ordering_then o (ip_order one.group two.group)) (sym is) ∙ before in absurd cc
 
-last_in : (P : Membership → Type 0) (rows : List Membership) (membership : Membership) → AllByRecursion P (rows ++ membership ∷ []) → P membership
+-- what holds of all holds of the last
+pub last_in : (P : Membership → Type 0) (rows : List Membership) (membership : Membership) → AllByRecursion P (rows ++ membership ∷ []) → P membership
 last_in P [] membership each = each.0
 last_in P (first ∷ rows) membership each = last_in P rows membership each.1
 
@@ -135,9 +136,6 @@ live_count-push rows membership ascends =
 
 pub filter-push_yes : (test : Membership → Bool) (rows : List Membership) (membership : Membership) → test membership ≡ true → filter test (rows ++ membership ∷ []) ≡ filter test rows ++ membership ∷ []
 filter-push_yes test rows membership passes = filter-append test rows (membership ∷ []) ∙ rw passes refl
-
-pub filter-push_no : (test : Membership → Bool) (rows : List Membership) (membership : Membership) → test membership ≡ false → filter test (rows ++ membership ∷ []) ≡ filter test rows
-filter-push_no test rows membership fails = filter-append test rows (membership ∷ []) ∙ rw fails (append-nil (filter test rows))
 
 -- one more membership that counts
 pub more_live : (test : Membership → Bool) (rows : List Membership) (membership : Membership) (count step : ℕ) (last : Option EndpointValue) → IsAscending membership_order (rows ++ membership ∷ []) → test membership ≡ true

@@ -1,7 +1,8 @@
 -- What the memberships of an endpoint after its report may be, whatever log the memberships before stood for.
-use Rattle.std.proofs.Common.{◌≡◌, ℕ, ◌+◌, ◌≤◌, ◌<◌, ◌^◌, Bool, true, false, cond, ◌||◌, if◌then◌else◌, List, [], ◌∷◌, ◌++◌, filter, length, map, Option, Some, None, is_some, sum_by, unwrap_or, refl, sym, ap, subst, ◌∙◌, arith}
+use Rattle.std.proofs.Common.{◌≡◌, ℕ, ◌+◌, ◌≤◌, ◌<◌, ◌^◌, Bool, true, false, cond, ◌||◌, if◌then◌else◌, List, [], ◌∷◌, ◌++◌, filter, length, map, Option, Some, None, is_some, sum_by, unwrap_or, inl, inr, true≢false, refl, sym, ap, subst, ◌∙◌, arith}
 use Rattle.std.specs.List.{AllByRecursion, find, list_any}
-use Rattle.std.proofs.lemmas.Bool.{lt-ltb}
+use Rattle.std.proofs.lemmas.Bool.{cases_Bool, lt-ltb}
+use Rattle.std.specs.Option.{option_or}
 use Rattle.std.specs.Ordering.{is_eq}
 use Rattle.std.proofs.lemmas.Cmp.{tied_itself}
 use Rattle.std.proofs.lemmas.Map.Views.{tells_apart}
@@ -19,20 +20,20 @@ use Rattle.endpoint_membership.specs.declared.limits.LimitFault.{LimitFault}
 use Rattle.endpoint_membership.specs.declared.limits.Limits.{Limits}
 use Rattle.endpoint_membership.specs.Stored.{earlier, is_counted, later, only}
 use Rattle.endpoint_membership.specs.Limits.{IsWithin, first_limit, group_count, live_count, size}
-use Rattle.endpoint_membership.specs.EndpointMemberships.{limit_by, AreOf, AreOwn, filter_or_nothing, is_over, membership_of_renewed, renewed_filter_after_all, renewed_filter_of}
+use Rattle.endpoint_membership.specs.EndpointMemberships.{limit_by, AreGone, AreOf, AreOwn, filter_or_nothing, is_over, membership_of_renewed, renewed_filter_after_all, renewed_filter_of}
 use Rattle.endpoint_membership.specs.Log.{is_empty, on_group}
 use Rattle.endpoint_membership.specs.declared.after_report.RenewedFilter.{RenewedFilter}
-use Rattle.endpoint_membership.specs.EndpointGroup.{EndpointGroup, same_endpoint, same_group}
+use Rattle.endpoint_membership.specs.EndpointGroup.{EndpointGroup, endpoint_group_order, same_endpoint, same_group}
 use Rattle.source_filter.specs.Filter.{wants_any}
 use Rattle.endpoint_membership.specs.Memberships.{membership_in}
 use Rattle.endpoint_membership.specs.Table.{AreLawful}
 use Rattle.endpoint_membership.proofs.ReportBounds.{All-at, All-from_membership_in, few_groups, sources-filter_after_all, sum_by-on_group}
 use Rattle.endpoint_membership.proofs.MembershipsByLog.{membership_by}
 use Rattle.endpoint_membership.proofs.LimitByOwn.{first_limit_is}
-use Rattle.endpoint_membership.proofs.MembershipIn.{membership_in-filter}
+use Rattle.endpoint_membership.proofs.MembershipIn.{membership_in-filter, same_rows}
 use Rattle.endpoint_membership.proofs.ThreeParts.{IsAscending-replaced, is_of, parted}
 use Rattle.endpoint_membership.proofs.AfterReport.{renewed_filter_after_all-is}
-use Rattle.endpoint_membership.proofs.AfterEntries.{membership_in-others, membership_in-three}
+use Rattle.endpoint_membership.proofs.AfterEntries.{membership_in-of, membership_in-others, membership_in-three}
 use Rattle.endpoint_membership.proofs.WithinLimits.{IsWithin-filter, IsWithin-report, its_endpoint_group, on_none}
 
 abbrev endpoint_group : EndpointValue → Ip → EndpointGroup
@@ -175,6 +176,44 @@ own_few lifetime moment endpoint records rows own some ascends owned =
     (λ silent. is_some-found (membership_in rows (endpoint_group endpoint group)) membership (only_found (is_fresh lifetime moment) (membership_in rows (endpoint_group endpoint group)) membership
     ((own_row lifetime moment endpoint records rows own group membership some owned found).old (on_none group records (sym (has-groups records group) ∙ silent))))))
 
+-- what is left of a pair of the endpoint at a moment, where its memberships were replaced
+left_own : (test : Membership → Bool) (here : Bool) (own old : Option Membership) → (here ≡ true → own ≡ None) → (own ≡ None → here ≡ false → only test old ≡ None) → only test (if here then None else option_or own old) ≡ only test own
+left_own test true own old none all = ap (only test) (sym (none refl))
+left_own test false None old none all = all refl refl
+left_own test false (Some membership) old none all = refl
+
+not_gone : (here of : Bool) → of ≡ false → (here ≡ true → of ≡ true) → here ≡ false
+not_gone true of apart its = absurd (true≢false (sym (its refl) ∙ apart))
+not_gone false of apart its = refl
+
+-- what is left of a pair of another endpoint
+left_other : (test : Membership → Bool) (here : Bool) (own old : Option Membership) → here ≡ false → own ≡ None → only test (if here then None else option_or own old) ≡ only test old
+left_other test here own old out none = rw (out, none) refl
+
+-- Memberships that were set pair by pair are those with the endpoint's replaced, once what has expired
+-- is gone.
+pub purged_is : (lifetime moment : ℕ) (endpoint : EndpointValue) (records : List Record) (rows own now : List Membership) (gone : List EndpointGroup) → IsAscending membership_order rows → IsAscending membership_order now
+    → AreOwn lifetime moment endpoint records rows own → AreGone lifetime moment endpoint rows own gone
+    → ((at : EndpointGroup) → membership_in now at ≡ (if has endpoint_group_order gone at then None else option_or (membership_in own at) (membership_in rows at)))
+    → filter (is_fresh lifetime moment) now ≡ replaced lifetime moment endpoint rows own
+purged_is lifetime moment endpoint records rows own now gone ascends ascend owned left each =
+    let test = is_fresh lifetime moment in
+    let parts = parted endpoint rows ascends in
+    let all = earlier endpoint rows ++ (own ++ later endpoint rows) in
+    let ascend_all = IsAscending-replaced endpoint rows own ascends owned.ascends owned.of in
+    same_rows (filter test now) (filter test all) (IsAscending-filter membership_order test now ascend) (IsAscending-filter membership_order test all ascend_all)
+    (λ at. membership_in-filter test now at ascend ∙ ap (only test) (each at) ∙ elim (cases_Bool (same_endpoint at.endpoint endpoint)) [
+      | inl same ↦
+          let exact = ap (λ (one : EndpointValue). endpoint_group one at.group) (tells_apart endpoint_order-exact at.endpoint endpoint same) in
+          left_own test (has endpoint_group_order gone at) (membership_in own at) (membership_in rows at) (left.none at)
+          (λ none out. ap (λ (one : EndpointGroup). only test (membership_in rows one)) exact ∙ left.all at.group (ap (membership_in own) (sym exact) ∙ none) (ap (has endpoint_group_order gone) (sym exact) ∙ out))
+          ∙ ap (only test) (sym (membership_in-three endpoint (earlier endpoint rows) own (later endpoint rows) at parts.earlier parts.later same))
+      | inr apart ↦
+          left_other test (has endpoint_group_order gone at) (membership_in own at) (membership_in rows at) (not_gone (has endpoint_group_order gone at) (same_endpoint at.endpoint endpoint) apart (left.of at)) (membership_in-of endpoint own at owned.of apart)
+          ∙ ap (only test) (ap (λ (whole : List Membership). membership_in whole at) parts.whole
+          ∙ membership_in-others endpoint (earlier endpoint rows) (filter (is_of endpoint) rows) own (later endpoint rows) at parts.of owned.of apart)
+    ] ∙ sym (membership_in-filter test all at ascend_all))
+
 -- memberships within the limits stay so by a report that passes none
 pub IsWithin-replaced : (limits : Limits) (lifetime moment : ℕ) (endpoint : EndpointValue) (records : List Record) (rows own : List Membership) → 0 < lifetime → IsAscending membership_order rows
     → AreOwn lifetime moment endpoint records rows own → IsWithin limits rows → first_limit limits endpoint records (replaced lifetime moment endpoint rows own) ≡ None
@@ -196,7 +235,7 @@ IsWithin-replaced limits lifetime moment endpoint records rows own some ascends 
 -- the first limit that a report passes, as the code finds it by the endpoint's memberships
 abbrev pub limit_by_own : ℕ → ℕ → Limits → EndpointValue → List Record → List Membership → List Membership → Option LimitFault
 limit_by_own lifetime moment limits endpoint records rows own =
-    limit_by limits (length own) (live_count (filter (is_counted lifetime moment (Some endpoint)) rows) + (if is_empty own then 0 else 1)) (find (is_over limits.sources records) own)
+    limit_by limits (length own) (live_count (filter (is_counted lifetime moment endpoint) rows) + (if is_empty own then 0 else 1)) (find (is_over limits.sources records) own)
 
 pub first_limit_found : (lifetime moment : ℕ) (limits : Limits) (endpoint : EndpointValue) (records : List Record) (rows own slice : List Membership) (result : Option LimitFault) → 0 < lifetime → IsAscending membership_order rows
     → AreOwn lifetime moment endpoint records rows own → slice ≡ own → result ≡ limit_by_own lifetime moment limits endpoint records rows slice

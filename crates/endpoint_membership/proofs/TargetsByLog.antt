@@ -1,5 +1,5 @@
 -- The endpoints that want a packet, by the memberships and by the log.
-use Rattle.std.proofs.Common.{◌≡◌, ℕ, ◌≤◌, ◌<◌, ◌↔◌, max, Bool, true, false, cond, ◌&&◌, ◌||◌, List, [], ◌∷◌, ◌++◌, reverse, filter, length, Option, Some, None, is_some, Contains, refl, sym, ap, ◌∙◌, arith, inl, inr}
+use Rattle.std.proofs.Common.{◌≡◌, ℕ, ◌≤◌, ◌↔◌, max, Bool, true, false, cond, ◌&&◌, ◌||◌, List, [], ◌∷◌, ◌++◌, reverse, filter, length, Option, Some, None, is_some, Contains, refl, sym, ap, ◌∙◌, arith, inl, inr}
 use Rattle.std.specs.List.{AllByRecursion}
 use Rattle.std.specs.List.Sorted.{IsStrictlySortedBy}
 use Rattle.std.specs.Ordering.{is_eq, ordering_then}
@@ -7,8 +7,7 @@ use Rattle.std.specs.declared.cmp.Ordering.{Ordering}
 use Rattle.std.specs.declared.cmp.Ordering.TheVariants.{Less, Equal, Greater}
 use Rattle.std.proofs.lemmas.Bool.{cases_Bool}
 use Rattle.std.proofs.lemmas.Cmp.{eq_by_cmp_equiv, tied_itself}
-use Rattle.std.proofs.lemmas.List.{length-append, length-map, reverse-append}
-use Rattle.std.proofs.lemmas.List.Elements.{filter-append}
+use Rattle.std.proofs.lemmas.List.{reverse-append}
 use Rattle.std.proofs.lemmas.Map.Views.{Contains-from_any, list_any-from_Contains, tells_apart}
 use Rattle.amt_values.specs.declared.address.Ip.{Ip}
 use Rattle.amt_values.specs.Order.{ip_order, endpoint_order}
@@ -97,19 +96,6 @@ length-targets lifetime moment group source rows ascends =
     (ascending-fixed endpoint_order-total endpoint_order-exact (targets_in lifetime moment group source rows) (IsAscending-targets lifetime moment group source rows ascends)) in
     omega (arith, once, live_count-filter test rows)
 
--- before the last membership there is room for its endpoint
-pub room_left : (test : Membership → Bool) (rows before following : List Membership) (membership : Membership) → rows ≡ (before ++ membership ∷ []) ++ following → test membership ≡ true
-    → length (endpoints_of (filter test before)) < length (endpoints_of (filter test rows))
-room_left test rows before following membership whole passes =
-    let more : filter test (before ++ membership ∷ []) ≡ filter test before ++ membership ∷ [] = filter-append test before (membership ∷ []) ∙ rw passes refl in
-    let all = ap (filter test) whole ∙ filter-append test (before ++ membership ∷ []) following ∙ ap (λ (some : List Membership). some ++ filter test following) more in
-    let long = ap (λ (some : List Membership). length some) all in
-    let outer = length-append (filter test before ++ membership ∷ []) (filter test following) in
-    let inner = length-append (filter test before) (membership ∷ []) in
-    let first = length-map (filter test before) (λ (one : Membership). one.endpoint) in
-    let second = length-map (filter test rows) (λ (one : Membership). one.endpoint) in
-    omega (arith, long, outer, inner, first, second)
-
 seen_by : (here : Bool) (membership : Membership) (later : Option Membership) (more : Bool) → more ≡ is_some later → (here || more) ≡ is_some (cond here (Some membership) later)
 seen_by true membership later more same = refl
 seen_by false membership later more same = same
@@ -130,7 +116,7 @@ has-endpoints group (membership ∷ rows) endpoint on =
     seen_by (same_endpoint endpoint membership.endpoint) membership (membership_in rows (at endpoint group)) (has endpoint_order (endpoints_of rows) endpoint) (has-endpoints group rows endpoint on.1)
     ∙ ap (λ (test : Bool). is_some (cond test (Some membership) (membership_in rows (at endpoint group)))) (sym here)
 
-has-targets : (lifetime moment : ℕ) (group source : Ip) (rows : List Membership) (endpoint : EndpointValue) → IsAscending membership_order rows
+pub has-targets : (lifetime moment : ℕ) (group source : Ip) (rows : List Membership) (endpoint : EndpointValue) → IsAscending membership_order rows
     → has endpoint_order (targets_in lifetime moment group source rows) endpoint ≡ is_some (only (is_target lifetime moment group source) (membership_in rows (at endpoint group)))
 has-targets lifetime moment group source rows endpoint ascends =
     let test = is_target lifetime moment group source in

@@ -1,6 +1,5 @@
 -- Memberships that ascend fall into three parts: of earlier endpoints, of one endpoint, and of later ones.
 use Rattle.std.proofs.Common.{◌≡◌, ℕ, suc, ◌+◌, ◌≤◌, Bool, cond, not, List, [], ◌∷◌, ◌++◌, take, drop, filter, refl, sym, ap, subst, ◌∙◌, arith}
-use Rattle.std.specs.List.{splice}
 use Rattle.std.specs.Ordering.{is_eq, is_lt, ordering_reverse, ordering_then}
 use Rattle.std.specs.declared.cmp.Ordering.{Ordering}
 use Rattle.std.specs.declared.cmp.Ordering.TheVariants.{Less, Equal, Greater}
@@ -137,11 +136,6 @@ start_before_end endpoint [] = omega arith
 start_before_end endpoint (membership ∷ rest) =
     rw (endpoint_order-total.antisymm endpoint membership.endpoint)
     (start_before_end_by (endpoint_order membership.endpoint endpoint) (start_of endpoint rest) (end_of endpoint rest) (start_before_end endpoint rest))
-
--- other memberships in the place of the endpoint's
-pub spliced_is : (endpoint : EndpointValue) (rows items own : List Membership) (start end : ℕ) → start ≡ start_of endpoint rows → end ≡ end_of endpoint rows → items ≡ own
-    → splice rows start end items ≡ earlier endpoint rows ++ (own ++ later endpoint rows)
-spliced_is endpoint rows items own start end starts ends same = rw (starts, ends, same) refl
 
 -- memberships ascend with other memberships of the endpoint in the place of its memberships
 pub IsAscending-replaced : (endpoint : EndpointValue) (rows own : List Membership) → IsAscending membership_order rows → IsAscending membership_order own → AreOf endpoint own

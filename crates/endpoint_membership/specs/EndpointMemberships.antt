@@ -1,15 +1,15 @@
 -- The memberships of one endpoint after its report, as a table finds them. No public contract says
 -- these words.
-use Rattle.std.specs.Prelude.{◌≡◌, ℕ, Bool, true, List, [], ◌∷◌, Option, Some, None, ◌&&◌, length, nat_lt}
+use Rattle.std.specs.Prelude.{◌≡◌, ℕ, Bool, true, false, List, [], ◌∷◌, Option, Some, None, ◌&&◌, length, nat_lt, if◌then◌else◌}
 use Rattle.std.specs.List.{AllByRecursion, list_any}
 use Rattle.std.specs.Option.{option_map}
 use Rattle.amt_values.specs.declared.address.Ip.{Ip}
 use Rattle.amt_values.specs.EndpointValue.{EndpointValue}
-use Rattle.contract_words.specs.Ascending.{IsAscending}
+use Rattle.contract_words.specs.Ascending.{IsAscending, has}
 use Rattle.contract_words.specs.Conditions.{first_holding, first_of}
-use Rattle.source_filter.specs.Filter.{FilterValue, filter_after, nothing}
+use Rattle.source_filter.specs.Filter.{FilterValue, filter_after, nothing, wants_any}
 use Rattle.source_filter.specs.declared.record.Record.{Record}
-use Rattle.endpoint_membership.specs.EndpointGroup.{same_endpoint, same_group}
+use Rattle.endpoint_membership.specs.EndpointGroup.{EndpointGroup, endpoint_group_order, same_endpoint, same_group}
 use Rattle.endpoint_membership.specs.Limits.{count_conditions, size}
 use Rattle.endpoint_membership.specs.Log.{on_group}
 use Rattle.endpoint_membership.specs.Membership.{Membership, is_fresh, membership_order}
@@ -84,3 +84,15 @@ pub record AreOwn (lifetime moment : ℕ) (endpoint : EndpointValue) (records : 
   pub each : (group : Ip) → membership_in own (record { endpoint = endpoint; group = group })
       ≡ membership_of_renewed endpoint group (renewed_filter_after_all moment (on_group group records)
       (renewed_filter_of (only (is_fresh lifetime moment) (membership_in rows (record { endpoint = endpoint; group = group })))))
+
+-- the pair of an entry of a map of filters, where nothing is wanted of its group
+abbrev pub gone_of_entry : EndpointValue → Ip × RenewedFilter → Option EndpointGroup
+gone_of_entry endpoint entry = if wants_any entry.1.filter then None else Some (record { endpoint = endpoint; group = entry.0 })
+
+-- pairs of the endpoint that have no membership after its report; of all others of the endpoint that
+-- have none afterwards, none counts at the moment anyway
+pub record AreGone (lifetime moment : ℕ) (endpoint : EndpointValue) (rows own : List Membership) (gone : List EndpointGroup) : Type 0 where
+  pub of : (at : EndpointGroup) → has endpoint_group_order gone at ≡ true → same_endpoint at.endpoint endpoint ≡ true
+  pub none : (at : EndpointGroup) → has endpoint_group_order gone at ≡ true → membership_in own at ≡ None
+  pub all : (group : Ip) → membership_in own (record { endpoint = endpoint; group = group }) ≡ None → has endpoint_group_order gone (record { endpoint = endpoint; group = group }) ≡ false
+      → only (is_fresh lifetime moment) (membership_in rows (record { endpoint = endpoint; group = group })) ≡ None

@@ -7,6 +7,7 @@ pub mod Limits
 pub mod Log
 pub mod Membership
 pub mod Memberships
+pub mod Parts
 pub mod Stored
 pub mod Table
 pub mod Targets

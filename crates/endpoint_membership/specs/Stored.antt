@@ -1,5 +1,5 @@
 -- Memberships as a table stores them: an ascending list. No public contract says these words.
-use Rattle.std.specs.Prelude.{ℕ, not, Bool, true, false, ◌&&◌, List, [], ◌∷◌, map, take, drop, Option, Some, None, if◌then◌else◌}
+use Rattle.std.specs.Prelude.{ℕ, not, Bool, false, ◌&&◌, List, [], ◌∷◌, map, take, drop, is_some, Option, Some, None, if◌then◌else◌}
 use Rattle.std.specs.List.{filter, prefix_len}
 use Rattle.std.specs.Option.{option_or}
 use Rattle.std.specs.Ordering.{is_lt}
@@ -7,13 +7,22 @@ use Rattle.amt_values.specs.declared.address.Ip.{Ip}
 use Rattle.amt_values.specs.Order.{endpoint_order}
 use Rattle.amt_values.specs.EndpointValue.{EndpointValue}
 use Rattle.source_filter.specs.Filter.{admits}
-use Rattle.endpoint_membership.specs.EndpointGroup.{same_endpoint, same_group}
-use Rattle.endpoint_membership.specs.Membership.{Membership, is_fresh}
+use Rattle.endpoint_membership.specs.EndpointGroup.{EndpointGroup, same_endpoint, same_endpoint_group, same_group}
+use Rattle.endpoint_membership.specs.Membership.{Membership, endpoint_group_of, is_fresh}
+use Rattle.endpoint_membership.specs.Memberships.{membership_in}
 
 -- a membership where it passes the test
 abbrev pub only : (Membership → Bool) → Option Membership → Option Membership
 only test None = None
 only test (Some membership) = if test membership then Some membership else None
+
+-- a membership of another pair
+abbrev pub is_not_at : EndpointGroup → Membership → Bool
+is_not_at at membership = not (same_endpoint_group at (endpoint_group_of membership))
+
+-- some of the rows is of the membership's pair
+abbrev pub is_known : List Membership → Membership → Bool
+is_known rows membership = is_some (membership_in rows (endpoint_group_of membership))
 
 -- a membership of another endpoint
 abbrev pub is_of_another : EndpointValue → Membership → Bool
@@ -43,14 +52,9 @@ earlier endpoint rows = take (start_of endpoint rows) rows
 abbrev pub later : EndpointValue → List Membership → List Membership
 later endpoint rows = drop (end_of endpoint rows) rows
 
--- of another endpoint than this one, if one is named
-abbrev pub is_other : Option EndpointValue → Membership → Bool
-is_other None membership = true
-is_other (Some endpoint) membership = is_of_another endpoint membership
-
--- a membership that counts at the moment, of another endpoint than this one, if one is named
-abbrev pub is_counted : ℕ → ℕ → Option EndpointValue → Membership → Bool
-is_counted lifetime moment besides membership = is_other besides membership && is_fresh lifetime moment membership
+-- a membership of another endpoint that counts at the moment
+abbrev pub is_counted : ℕ → ℕ → EndpointValue → Membership → Bool
+is_counted lifetime moment besides membership = is_of_another besides membership && is_fresh lifetime moment membership
 
 -- the endpoint of the last one
 abbrev pub last_of : List Membership → Option EndpointValue

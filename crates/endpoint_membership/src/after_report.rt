@@ -9,17 +9,27 @@ ghost use Rattle.amt_values.specs.Order.{ip_order};
 ghost use Rattle.contract_words.specs.Ascending.{IsAscending};
 ghost use Rattle.endpoint_membership.specs.Membership.{is_fresh, membership_order};
 ghost use Rattle.endpoint_membership.specs.Stored.{only};
-ghost use Rattle.endpoint_membership.specs.EndpointMemberships.{AreOwn, is_own, membership_of_entry, renewed_filter_after_all, renewed_filter_of};
+ghost use Rattle.endpoint_membership.specs.EndpointMemberships.{AreGone, AreOwn, gone_of_entry, membership_of_entry, renewed_filter_after_all};
 ghost use Rattle.endpoint_membership.specs.Log.{on_group};
 ghost use Rattle.source_filter.specs.Filter.{wants_any};
 ghost use Rattle.endpoint_membership.specs.EndpointGroup.{same_group};
 ghost use Rattle.endpoint_membership.specs.Memberships.{membership_in};
 
+use crate::keys::EndpointGroup;
+use crate::parts::StoredMemberships;
 use crate::stored::StoredMembership;
 use amt_values::{Endpoint, Ip, Moment};
 use source_filter::{Filter, MutableFilter, Record, Records};
 use std::alloc::{AllocError, Global};
 use std::collections::BTreeMap;
+
+/// The memberships of an endpoint after its report, by group, and its pairs of which nothing is
+/// wanted any more.
+#[derive(Debug, Drop)]
+pub struct OwnAfter {
+    pub memberships: Vec<StoredMembership>,
+    pub gone: Vec<EndpointGroup>,
+}
 
 /// A group's filter while the records of a report are applied, and when it was last renewed.
 #[derive(Debug, Drop)]
@@ -28,34 +38,8 @@ pub struct RenewedFilter {
     pub renewed: Moment,
 }
 
-fn is_own(
-    membership: &StoredMembership,
-    endpoint: &Endpoint,
-    moment: Moment,
-    lifetime_ms: u64,
-) -> bool
-    requires { lifetime_ms ≤ 1000000000 }
-    ensures { result ≡ is_own lifetime_ms moment endpoint.now membership.now }
-{
-    membership.is_of(endpoint) && membership.is_fresh(moment, lifetime_ms)
-}
-
-// The filter of a membership, and when it was renewed.
-fn renewed_filter_of(
-    alloc: Global,
-    membership: &StoredMembership,
-) -> Result<RenewedFilter, AllocError>
-    ensures { IfOk result
-        (λ renewed_filter. renewed_filter_of (Some membership.now) ≡ Some renewed_filter) }
-{
-    Ok(RenewedFilter {
-        filter: MutableFilter::of_filter(alloc, membership.filter())?,
-        renewed: membership.renewed(),
-    })
-}
-
 // Puts this filter in the place of the group's.
-fn set_filter(
+pub fn set_filter(
     filters: &mut BTreeMap<Ip, RenewedFilter>,
     group: Ip,
     renewed_filter: RenewedFilter,
@@ -67,32 +51,6 @@ fn set_filter(
         Ok(_) => Ok(()),
         Err(_) => Err(AllocError),
     }
-}
-
-// What the endpoint wants of each group before a report.
-fn filters_before(
-    alloc: Global,
-    rows: &[StoredMembership],
-    endpoint: &Endpoint,
-    moment: Moment,
-    lifetime_ms: u64,
-) -> Result<BTreeMap<Ip, RenewedFilter>, AllocError>
-    requires { lifetime_ms ≤ 1000000000 }
-    ensures { IfOk result (λ filters. IsAscending membership_order rows.now → (group : Address)
-        → get ip_order filters group ≡ renewed_filter_of (only (is_fresh lifetime_ms moment)
-        (membership_in rows.now (record { endpoint = endpoint.now; group = group })))) }
-{
-    let mut filters = BTreeMap::new(alloc);
-    for membership in rows {
-        if is_own(membership, endpoint, moment, lifetime_ms) {
-            set_filter(
-                &mut filters,
-                membership.group(),
-                renewed_filter_of(alloc, membership)?,
-            )?;
-        }
-    }
-    Ok(filters)
 }
 
 // Applies one record to the filter of its group, which is out of the map meanwhile: after an error
@@ -163,44 +121,54 @@ fn membership_of(
     ))
 }
 
-// The memberships that filters make, by group.
+// The memberships that filters make, by group, and the groups of which nothing is wanted.
 fn memberships_of_filters(
     alloc: Global,
     endpoint: &Endpoint,
     filters: BTreeMap<Ip, RenewedFilter>,
-) -> Result<Vec<StoredMembership>, AllocError>
-    ensures rows { IfOk result
-        (λ rows. rows.items ≡ filter_map (membership_of_entry endpoint.now) filters.entries) }
+) -> Result<OwnAfter, AllocError>
+    ensures rows { IfOk result (λ after. after.memberships.items
+        ≡ filter_map (membership_of_entry endpoint.now) filters.entries) }
+    ensures gone { IfOk result
+        (λ after. after.gone.items ≡ filter_map (gone_of_entry endpoint.now) filters.entries) }
     ensures ordered { OnOk result (IsOrdered ip_order filters) }
 {
-    let mut rows = Vec::with_capacity(alloc, filters.len())?;
+    let mut memberships = Vec::with_capacity(alloc, filters.len())?;
+    let mut gone = Vec::new(alloc);
     for (group, renewed_filter) in filters {
         if wants_any(&renewed_filter) {
-            rows.push(membership_of(alloc, endpoint, group, &renewed_filter)?)?;
+            memberships.push(membership_of(alloc, endpoint, group, &renewed_filter)?)?;
+        } else {
+            gone.push(EndpointGroup {
+                endpoint: *endpoint,
+                group,
+            })?;
         }
     }
-    Ok(rows)
+    Ok(OwnAfter { memberships, gone })
 }
 
 // The memberships of the endpoint after its records, by group.
 //
 // A report may hold thousands of records of one source each on one group, and anyone may send it.
-// So records change sets in place, and each list is made once, at the end: a report costs the table's
-// memberships and, with n for the endpoint's sources and those of the report and its records,
-// n log n steps, however the sources are spread over records.
+// So records change sets in place, and each list is made once, at the end: with n for the endpoint's
+// sources and those of the report and its records, a report costs n log n steps, however the sources
+// are spread over records, and a logarithm of the table's memberships.
 pub fn memberships_after(
     alloc: Global,
-    rows: &[StoredMembership],
+    rows: &StoredMemberships,
     endpoint: &Endpoint,
     records: &Records,
     moment: Moment,
     lifetime_ms: u64,
-) -> Result<Vec<StoredMembership>, AllocError>
+) -> Result<OwnAfter, AllocError>
     requires { lifetime_ms ≤ 1000000000 }
-    ensures { IsAscending membership_order rows.now → IfOk result (λ own.
-        AreOwn lifetime_ms moment endpoint.now records.now rows.now own.items) }
+    ensures own { IfOk result (λ after. AreOwn lifetime_ms moment endpoint.now records.now
+        rows.now after.memberships.items) }
+    ensures gone { IfOk result (λ after. AreGone lifetime_ms moment endpoint.now rows.now
+        after.memberships.items after.gone.items) }
 {
-    let mut filters = filters_before(alloc, rows, endpoint, moment, lifetime_ms)?;
+    let mut filters = rows.own_filters(alloc, endpoint, moment, lifetime_ms)?;
     apply_records(alloc, &mut filters, records.as_slice(), moment)?;
     memberships_of_filters(alloc, endpoint, filters)
 }

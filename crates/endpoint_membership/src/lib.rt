@@ -9,12 +9,12 @@
 mod after_report;
 mod change;
 mod first_limit;
+mod keys;
 mod laws;
 mod limits;
-mod live;
+mod parts;
 mod row;
 mod stored;
-mod stored_list;
 mod table;
 mod targets;
 

@@ -1,13 +1,38 @@
 //! A membership as a table stores it. It must not know lists of them, reports or limits.
 
-ghost use Rattle.std.specs.Prelude.{◌≡◌, ◌≤◌};
-ghost use Rattle.endpoint_membership.specs.EndpointGroup.{same_endpoint};
-ghost use Rattle.endpoint_membership.specs.Membership.{is_fresh};
-ghost use Rattle.endpoint_membership.specs.Stored.{is_after, is_before};
+ghost use Rattle.std.specs.Prelude.{◌≡◌, ◌+◌, ◌≤◌, nat_lt};
+ghost use Rattle.endpoint_membership.specs.Membership.{endpoint_group_of};
+ghost use Rattle.endpoint_membership.specs.Parts.{stored_filter};
 
+use crate::keys::EndpointGroup;
 use amt_values::{Endpoint, Ip, Moment};
 use source_filter::Filter;
 use std::marker::Model;
+
+/// What an endpoint wants of a group, and when it was last renewed.
+#[derive(Debug, Drop)]
+pub struct StoredFilter {
+    pub filter: Filter,
+    pub renewed: Moment,
+}
+
+impl StoredFilter {
+    /// Whether less than a lifetime has passed since the last renewal.
+    pub fn is_fresh(&self, moment: Moment, lifetime_ms: u64) -> bool
+        requires { lifetime_ms ≤ 1000000000 }
+        ensures { result ≡ nat_lt moment (self.now.renewed + lifetime_ms) }
+    {
+        is_in_time(self.renewed, moment, lifetime_ms)
+    }
+}
+
+/// Whether less than a lifetime has passed since the renewal (RFC 3376, section 8.4).
+pub fn is_in_time(renewed: Moment, moment: Moment, lifetime_ms: u64) -> bool
+    requires { lifetime_ms ≤ 1000000000 }
+    ensures { result ≡ nat_lt moment (renewed + lifetime_ms) }
+{
+    moment.ms() < renewed.ms() + lifetime_ms
+}
 
 /// The membership of an endpoint in a group.
 #[derive(Debug, Drop)]
@@ -45,12 +70,6 @@ impl StoredMembership {
         }
     }
 
-    pub fn endpoint(&self) -> Endpoint
-        ensures { result ≡ self.now.endpoint }
-    {
-        self.endpoint
-    }
-
     pub fn group(&self) -> Ip
         ensures { result ≡ self.now.group }
     {
@@ -70,31 +89,23 @@ impl StoredMembership {
         self.renewed
     }
 
-    /// Whether less than a lifetime has passed since the last renewal.
-    pub fn is_fresh(&self, moment: Moment, lifetime_ms: u64) -> bool
-        requires { lifetime_ms ≤ 1000000000 }
-        ensures { result ≡ is_fresh lifetime_ms moment self.now }
+    /// Whose membership it is, and in which group.
+    pub fn endpoint_group(&self) -> EndpointGroup
+        ensures { result ≡ endpoint_group_of self.now }
     {
-        moment.ms() < self.renewed.ms() + lifetime_ms
+        EndpointGroup {
+            endpoint: self.endpoint,
+            group: self.group,
+        }
     }
 
-    pub fn is_of(&self, endpoint: &Endpoint) -> bool
-        ensures { result ≡ same_endpoint self.now.endpoint endpoint.now }
+    /// What a table keeps at its endpoint and group.
+    pub fn into_stored_filter(self) -> StoredFilter
+        ensures { result ≡ stored_filter self }
     {
-        self.endpoint == *endpoint
-    }
-
-    /// Whether its endpoint comes before this one.
-    pub fn is_before(&self, endpoint: &Endpoint) -> bool
-        ensures { result ≡ is_before endpoint.now self.now }
-    {
-        self.endpoint < *endpoint
-    }
-
-    /// Whether its endpoint comes after this one.
-    pub fn is_after(&self, endpoint: &Endpoint) -> bool
-        ensures { result ≡ is_after endpoint.now self.now }
-    {
-        *endpoint < self.endpoint
+        StoredFilter {
+            filter: self.filter,
+            renewed: self.renewed,
+        }
     }
 }

@@ -9,21 +9,21 @@ ghost use Rattle.contract_words.specs.Ascending.{IsAscending};
 ghost use Rattle.endpoint_membership.specs.Admission.{is_admitted};
 ghost use Rattle.endpoint_membership.specs.Stored.{is_counted};
 ghost use Rattle.endpoint_membership.specs.Limits.{AreFew, IsWithin, live_count, size};
-ghost use Rattle.endpoint_membership.specs.EndpointMemberships.{limit_by, AreOwn, is_over};
+ghost use Rattle.endpoint_membership.specs.EndpointMemberships.{limit_by, AreGone, AreOwn, is_over};
 ghost use Rattle.endpoint_membership.specs.Log.{is_empty, latest};
 ghost use Rattle.endpoint_membership.specs.Memberships.{is_live, rows_of, memberships_at};
 ghost use Rattle.endpoint_membership.specs.Table.{ForLog, Holds, IsWithinLimits, OnLimit, OnMemory, limit_passed, memberships_now};
 ghost use Rattle.endpoint_membership.specs.Targets.{targets_of};
 ghost use Rattle.endpoint_membership.specs.declared.change.Change.TheVariants.{Clear, Mark, Reported};
 
-use crate::after_report::memberships_after;
+use crate::after_report::{OwnAfter, memberships_after};
 use crate::first_limit::limit_passed;
 use crate::limits::{AcceptFault, LimitFault, Limits};
-use crate::live::{count_live, one_unless};
-use crate::row::{Rows, show};
+use crate::parts::StoredMemberships;
+use crate::parts::live::one_unless;
+use crate::row::Rows;
 use crate::stored::StoredMembership;
-use crate::stored_list::{StoredMemberships, is_live};
-use crate::targets::{Targets, collect_targets};
+use crate::targets::Targets;
 use amt_values::{Endpoint, Ip, Moment};
 use source_filter::Records;
 use std::alloc::{AllocError, Global};
@@ -114,7 +114,7 @@ impl Table {
     {
         self.moment = self.moment.later(at);
         self.rows.purge(self.moment, self.lifetime_ms);
-        let live = is_live(self.rows.as_slice(), endpoint);
+        let live = self.rows.is_live(endpoint);
         self.rows.drop_endpoint(endpoint);
         live
     }
@@ -125,7 +125,7 @@ impl Table {
         ensures { ForLog self.now (λ settings log.
             result ≡ live_count (memberships_now settings log)) }
     {
-        count_live(self.rows.as_slice(), &None, self.moment, self.lifetime_ms) as u32
+        self.rows.live_count() as u32
     }
 
     /// The memberships, by endpoint and then by group.
@@ -134,7 +134,7 @@ impl Table {
             rows ≡ rows_of settings.lifetime (latest log) log)) }
         ensures bounded { IsWithinLimits self.now → IfOk result (AreFew self.now.limits) }
     {
-        show(alloc, self.rows.as_slice())
+        self.rows.show(alloc)
     }
 
     /// Who gets a copy of a packet from the source to the group, at the later of the table's moment
@@ -154,14 +154,8 @@ impl Table {
         ensures few { length out.new.endpoints ≤ live_count self.now.rows }
     {
         let later = self.moment.later(at);
-        collect_targets(
-            self.rows.as_slice(),
-            group,
-            source,
-            later,
-            self.lifetime_ms,
-            out,
-        );
+        self.rows
+            .collect_targets(group, source, later, self.lifetime_ms, out);
     }
 
     // The endpoint's memberships after a report at the moment.
@@ -171,12 +165,20 @@ impl Table {
         endpoint: &Endpoint,
         records: &Records,
         moment: Moment,
-    ) -> Result<Vec<StoredMembership>, AllocError>
-        ensures { IfOk result (λ own. AreOwn self.now.lifetime moment endpoint.now records.now
-            self.now.rows own.items) }
+    ) -> Result<OwnAfter, AllocError>
+        ensures own { IfOk result (λ after. AreOwn self.now.lifetime moment endpoint.now records.now
+            self.now.rows after.memberships.items) }
+        ensures gone { IfOk result (λ after. AreGone self.now.lifetime moment endpoint.now
+            self.now.rows after.memberships.items after.gone.items) }
     {
-        let rows = self.rows.as_slice();
-        memberships_after(alloc, rows, endpoint, records, moment, self.lifetime_ms)
+        memberships_after(
+            alloc,
+            &self.rows,
+            endpoint,
+            records,
+            moment,
+            self.lifetime_ms,
+        )
     }
 
     // The first limit that a report passes, if these are its endpoint's memberships afterwards.
@@ -191,16 +193,11 @@ impl Table {
         requires groups { length own.now < 2 ^ 32 }
         requires sources { AllByRecursion (λ membership. size membership < 2 ^ 32) own.now }
         ensures { result ≡ limit_by self.now.limits (length own.now)
-            (live_count (filter (is_counted self.now.lifetime moment (Some endpoint.now)) self.now.rows)
+            (live_count (filter (is_counted self.now.lifetime moment endpoint.now) self.now.rows)
             + (if is_empty own.now then 0 else 1))
             (find (is_over self.now.limits.sources records.now) own.now) }
     {
-        let others = count_live(
-            self.rows.as_slice(),
-            &Some(*endpoint),
-            moment,
-            self.lifetime_ms,
-        );
+        let others = self.rows.count_live(endpoint, moment, self.lifetime_ms);
         let live = others + one_unless(own.is_empty());
         limit_passed(&self.limits, own, records.as_slice(), live)
     }
@@ -241,15 +238,16 @@ impl Table {
             (log ++ Reported endpoint.now records.now at.now ∷ [])) → ⊥)) }
     {
         let moment = self.moment.later(at);
-        let own = match self.own_after(alloc, endpoint, records, moment) {
-            Ok(own) => own,
+        let after = match self.own_after(alloc, endpoint, records, moment) {
+            Ok(after) => after,
             Err(_) => return Err(AcceptFault::Memory),
         };
-        if let Some(fault) = self.limit_passed(endpoint, records, &own, moment) {
+        if let Some(fault) = self.limit_passed(endpoint, records, &after.memberships, moment) {
             self.advance(at);
             return Err(AcceptFault::Limit(fault));
         }
-        match self.rows.replace(endpoint, own) {
+        let OwnAfter { memberships, gone } = after;
+        match self.rows.replace(alloc, memberships, &gone) {
             Ok(()) => {}
             Err(_) => return Err(AcceptFault::Memory),
         }

@@ -1,10 +1,8 @@
 //! Which endpoints get a copy of a packet. It must not know the log, or what a packet is.
 
 ghost use Rattle.std.specs.Prelude.{◌≡◌, ◌<◌, ◌≤◌, [], ◌∷◌, ◌++◌, length, IfOk};
-ghost use Rattle.endpoint_membership.specs.Stored.{is_target, targets_in};
 
-use crate::stored::StoredMembership;
-use amt_values::{Endpoint, Ip, Moment};
+use amt_values::Endpoint;
 use std::alloc::{AllocError, Global};
 use std::marker::Model;
 
@@ -50,58 +48,19 @@ impl Targets {
         self.endpoints.len()
     }
 
-    fn clear(&mut self)
+    /// Takes all endpoints out; the room stays.
+    pub fn clear(&mut self)
         ensures endpoints { self.new.endpoints ≡ [] }
         ensures room { self.new.room ≡ self.old.room }
     {
         self.endpoints.clear();
     }
 
-    fn push(&mut self, endpoint: Endpoint)
+    pub(crate) fn push(&mut self, endpoint: Endpoint)
         requires { length self.old.endpoints < self.old.room }
         ensures endpoints { self.new.endpoints ≡ self.old.endpoints ++ endpoint ∷ [] }
         ensures room { self.new.room ≡ self.old.room }
     {
         self.endpoints.push_reserved(endpoint);
-    }
-}
-
-fn is_target(
-    membership: &StoredMembership,
-    group: &Ip,
-    source: &Ip,
-    moment: Moment,
-    lifetime_ms: u64,
-) -> bool
-    requires { lifetime_ms ≤ 1000000000 }
-    ensures { result ≡ is_target lifetime_ms moment group.now source.now membership.now }
-{
-    membership.group() == *group
-        && membership.is_fresh(moment, lifetime_ms)
-        && membership.filter().admits(source)
-}
-
-// Replaces what is in `out` by the endpoints of the memberships that let the packet in. An endpoint
-// has one membership in a group, so none comes twice.
-pub fn collect_targets(
-    rows: &[StoredMembership],
-    group: &Ip,
-    source: &Ip,
-    moment: Moment,
-    lifetime_ms: u64,
-    out: &mut Targets,
-)
-    requires lifetime { lifetime_ms ≤ 1000000000 }
-    requires room { length (targets_in lifetime_ms moment group.now source.now rows.now)
-        ≤ out.old.room }
-    ensures endpoints { out.new.endpoints
-        ≡ targets_in lifetime_ms moment group.now source.now rows.now }
-    ensures room { out.new.room ≡ out.old.room }
-{
-    out.clear();
-    for membership in rows {
-        if is_target(membership, group, source, moment, lifetime_ms) {
-            out.push(membership.endpoint());
-        }
     }
 }

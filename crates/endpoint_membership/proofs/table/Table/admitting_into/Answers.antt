@@ -2,9 +2,7 @@ use Rattle.std.proofs.Common.{List, length, sym, ap, subst, ◌∙◌, arith}
 use Rattle.amt_values.specs.Order.{endpoint_order}
 use Rattle.amt_values.specs.EndpointValue.{EndpointValue}
 use Rattle.contract_words.specs.Ascending.{IsAscending, has}
-use Rattle.endpoint_membership.specs.Membership.{Membership}
 use Rattle.endpoint_membership.specs.Admission.{is_admitted}
-use Rattle.endpoint_membership.specs.Stored.{targets_in}
 use Rattle.endpoint_membership.specs.Limits.{live_count}
 use Rattle.endpoint_membership.specs.Table.{Holds, TableValue}
 use Rattle.endpoint_membership.proofs.TargetsByLog.{Contains-has, IsAscending-targets, has-targets_of, length-targets, targets_are}
@@ -14,7 +12,6 @@ pub collect_targets-requires-clause-room : goal.collect_targets-requires-clause-
 collect_targets-requires-clause-room c =
     let lifetime = c.self.inside.lifetime_ms in
     let few = length-targets lifetime c.later-later.result c.args.group.now c.args.source.now c.self.inside.rows c.self.invariant.1 in
-    let same = ap (λ (rows : List Membership). length (targets_in lifetime c.later-later.result c.args.group.now c.args.source.now rows)) c.as_slice.ensures in
     let live = ap (λ (table : TableValue). live_count table.rows) c.self.view_is in
     let room = c.requires.room in
     omega arith
@@ -23,7 +20,6 @@ pub returns-clause-targets : goal.returns-clause-targets
 returns-clause-targets c settings log holds =
     let inside = subst (λ (table : TableValue). Holds settings table log) (sym c.self.view_is) holds in
     c.collect_targets.ensures.endpoints
-    ∙ ap (targets_in c.self.inside.lifetime_ms c.later-later.result c.args.group.now c.args.source.now) c.as_slice.ensures
     ∙ targets_are settings _ log c.args.group.now c.args.source.now c.args.at.now c.later-later.result c.later-later.ensures inside
 
 pub returns-clause-exactly : goal.returns-clause-exactly
@@ -34,15 +30,13 @@ returns-clause-exactly c settings log holds endpoint =
 
 pub returns-clause-ascending : goal.returns-clause-ascending
 returns-clause-ascending c =
-    subst (IsAscending endpoint_order) (sym (c.collect_targets.ensures.endpoints
-    ∙ ap (targets_in c.self.inside.lifetime_ms c.later-later.result c.args.group.now c.args.source.now) c.as_slice.ensures))
+    subst (IsAscending endpoint_order) (sym (c.collect_targets.ensures.endpoints))
     (IsAscending-targets c.self.inside.lifetime_ms c.later-later.result c.args.group.now c.args.source.now c.self.inside.rows c.self.invariant.1)
 
 pub returns-clause-few : goal.returns-clause-few
 returns-clause-few c =
     let lifetime = c.self.inside.lifetime_ms in
     let few = length-targets lifetime c.later-later.result c.args.group.now c.args.source.now c.self.inside.rows c.self.invariant.1 in
-    let all = ap (λ (endpoints : List EndpointValue). length endpoints) (c.collect_targets.ensures.endpoints
-    ∙ ap (targets_in lifetime c.later-later.result c.args.group.now c.args.source.now) c.as_slice.ensures) in
+    let all = ap (λ (endpoints : List EndpointValue). length endpoints) (c.collect_targets.ensures.endpoints) in
     let live = ap (λ (table : TableValue). live_count table.rows) c.self.view_is in
     omega arith

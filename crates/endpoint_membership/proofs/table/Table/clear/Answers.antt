@@ -20,7 +20,7 @@ invariant_of-self c =
 pub returns-clause-live : goal.returns-clause-live
 returns-clause-live c settings log holds =
     let inside = subst (λ (table : TableValue). Holds settings table log) (sym c.self.view_is) holds in
-    c.is_live-live.ensures ∙ ap (is_live c.args.endpoint.now) (c.as_slice.ensures ∙ c.purge.ensures
+    c.is_live-live.ensures ∙ ap (is_live c.args.endpoint.now) (c.purge.ensures
     ∙ fresh_are settings _ log c.args.at.now c.later-self-inside.result c.later-self-inside.ensures inside)
 
 pub returns-clause-stands : goal.returns-clause-stands
@@ -39,6 +39,6 @@ returns-clause-within c within =
 pub returns-clause-same : goal.returns-clause-same
 returns-clause-same c settings log holds before none =
     let inside = subst (λ (table : TableValue). Holds settings table log) (sym c.self.view_is) holds in
-    let fresh = sym (ap (is_live c.args.endpoint.now) c.as_slice.ensures) ∙ sym c.is_live-live.ensures ∙ none in
+    let fresh = sym c.is_live-live.ensures ∙ none in
     none_cleared settings _ log c.args.endpoint.now c.args.at.now c.later-self-inside.result c.purge.new.self c.drop_endpoint.new.self
     c.later-self-inside.ensures c.purge.ensures c.drop_endpoint.ensures inside before fresh ∙ c.self.view_is

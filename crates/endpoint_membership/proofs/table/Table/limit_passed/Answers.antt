@@ -1,8 +1,5 @@
-use Rattle.std.proofs.Common.{Some, sym, ap, subst, arith}
-use Rattle.contract_words.specs.Ascending.{IsAscending}
+use Rattle.std.proofs.Common.{sym, subst, arith}
 use Rattle.endpoint_membership.specs.Stored.{is_counted}
-use Rattle.endpoint_membership.specs.Limits.{live_count}
-use Rattle.endpoint_membership.specs.Membership.{membership_order}
 use Rattle.endpoint_membership.specs.Table.{IsWithinLimits}
 use Rattle.endpoint_membership.proofs.CountedRows.{live_count-filter}
 use Rattle.endpoint_membership.proofs.table.Table.limit_passed.Goals as goal
@@ -10,9 +7,8 @@ use Rattle.endpoint_membership.proofs.table.Table.limit_passed.Goals as goal
 pub overflow_add-live : goal.overflow_add-live
 overflow_add-live c =
     let within = subst IsWithinLimits (sym c.self.view_is) c.requires.within in
-    let count = c.count_live-others.ensures (subst (IsAscending membership_order) (sym c.as_slice.ensures) c.self.invariant.1) in
-    let fewer = live_count-filter (is_counted c.self.inside.lifetime_ms c.args.moment (Some c.args.endpoint.now)) c.as_slice.result.now in
-    let all = ap live_count c.as_slice.ensures in
+    let count = c.count_live-others.ensures in
+    let fewer = live_count-filter (is_counted c.self.inside.lifetime_ms c.args.moment c.args.endpoint.now) c.self.inside.rows in
     let most = within.endpoints in
     let lawful = c.self.invariant.0.endpoints in
     let step = c.one_unless.ensures.most in
@@ -21,9 +17,8 @@ overflow_add-live c =
 pub limit_passed-requires-clause-endpoints : goal.limit_passed-requires-clause-endpoints
 limit_passed-requires-clause-endpoints c =
     let within = subst IsWithinLimits (sym c.self.view_is) c.requires.within in
-    let count = c.count_live-others.ensures (subst (IsAscending membership_order) (sym c.as_slice.ensures) c.self.invariant.1) in
-    let fewer = live_count-filter (is_counted c.self.inside.lifetime_ms c.args.moment (Some c.args.endpoint.now)) c.as_slice.result.now in
-    let all = ap live_count c.as_slice.ensures in
+    let count = c.count_live-others.ensures in
+    let fewer = live_count-filter (is_counted c.self.inside.lifetime_ms c.args.moment c.args.endpoint.now) c.self.inside.rows in
     let most = within.endpoints in
     let lawful = c.self.invariant.0.endpoints in
     let step = c.one_unless.ensures.most in

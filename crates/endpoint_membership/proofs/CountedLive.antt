@@ -1,0 +1,145 @@
+-- Counting live endpoints along a map of filters, and without one that is named.
+use Rattle.std.proofs.Common.{◌≡◌, ℕ, ◌+◌, ◌-◌, ◌≤◌, Bool, true, false, not, cond, ◌&&◌, ◌||◌, List, [], ◌∷◌, ◌++◌, filter, map, length, Option, Some, if◌then◌else◌, refl, sym, ap, subst, append_assoc, ◌∙◌, arith}
+use Rattle.std.specs.BTreeMap.{BTreeMap, IsOrdered}
+use Rattle.std.specs.Ordering.{is_eq}
+use Rattle.std.proofs.lemmas.Cmp.{tied_itself}
+use Rattle.std.proofs.lemmas.List.{map-append}
+use Rattle.amt_values.specs.EndpointValue.{EndpointValue}
+use Rattle.amt_values.specs.Order.{endpoint_order}
+use Rattle.amt_values.proofs.Orders.{endpoint_order-exact, endpoint_order-total}
+use Rattle.contract_words.specs.Ascending.{IsAscending, ascending, has, placed}
+use Rattle.contract_words.proofs.AscendingLaws.{IsAscending-ascending, IsAscending-placed, has-ascending, has-filter, has-placed, same_ascending}
+use Rattle.endpoint_membership.specs.EndpointGroup.{EndpointGroup, endpoint_group_order, same_endpoint}
+use Rattle.endpoint_membership.specs.Limits.{live_count}
+use Rattle.endpoint_membership.specs.Membership.{Membership, is_fresh, membership_order}
+use Rattle.endpoint_membership.specs.Memberships.{is_live}
+use Rattle.endpoint_membership.specs.Parts.{stored_membership}
+use Rattle.endpoint_membership.specs.Stored.{ends_with, is_counted, is_of_another, is_of_another, last_of}
+use Rattle.endpoint_membership.specs.declared.stored.StoredFilter.{StoredFilter}
+use Rattle.endpoint_membership.proofs.AfterEntries.{IsAscending-prefix, same_back, same_endpoint-exact}
+use Rattle.endpoint_membership.proofs.LimitByOwn.{endpoints_of, length-placed_new}
+use Rattle.endpoint_membership.proofs.LiveEndpoints.{filter-push_yes, last_of-push, more_live}
+use Rattle.endpoint_membership.proofs.StoredView.{IsAscending-stored}
+
+shown-push : (done : List (EndpointGroup × StoredFilter)) (entry : EndpointGroup × StoredFilter) → map stored_membership (done ++ entry ∷ []) ≡ map stored_membership done ++ stored_membership entry ∷ []
+shown-push done entry = map-append stored_membership done (entry ∷ [])
+
+so_far_ascends : (filters : BTreeMap EndpointGroup StoredFilter) (done rest : List (EndpointGroup × StoredFilter)) (entry : EndpointGroup × StoredFilter) → IsOrdered endpoint_group_order filters → filters.entries ≡ done ++ entry ∷ rest
+    → IsAscending membership_order (map stored_membership done ++ stored_membership entry ∷ [])
+so_far_ascends filters done rest entry ordered is =
+    let before = map stored_membership done in
+    let whole = ap (map stored_membership) is ∙ map-append stored_membership done (entry ∷ rest) ∙ sym (append_assoc before (stored_membership entry ∷ []) (map stored_membership rest)) in
+    IsAscending-prefix (before ++ stored_membership entry ∷ []) (map stored_membership rest) (subst (IsAscending membership_order) whole (IsAscending-stored filters ordered))
+
+-- the count after one more entry of the map that counts
+pub more_counted : (filters : BTreeMap EndpointGroup StoredFilter) (done rest : List (EndpointGroup × StoredFilter)) (entry : EndpointGroup × StoredFilter) (test : Membership → Bool) (count step : ℕ) (last : Option EndpointValue)
+    → IsOrdered endpoint_group_order filters → filters.entries ≡ done ++ entry ∷ rest → test (stored_membership entry) ≡ true
+    → count ≡ live_count (filter test (map stored_membership done)) → last ≡ last_of (filter test (map stored_membership done)) → step ≡ (if ends_with last entry.0.endpoint then 0 else 1)
+    → count + step ≡ live_count (filter test (map stored_membership (done ++ entry ∷ [])))
+more_counted filters done rest entry test count step last ordered is passes so_far ends more =
+    more_live test (map stored_membership done) (stored_membership entry) count step last (so_far_ascends filters done rest entry ordered is) passes so_far ends more
+    ∙ sym (ap (λ (rows : List Membership). live_count (filter test rows)) (shown-push done entry))
+
+-- the last endpoint that counts is then that of the entry
+pub last_counted : (done : List (EndpointGroup × StoredFilter)) (entry : EndpointGroup × StoredFilter) (test : Membership → Bool) → test (stored_membership entry) ≡ true
+    → Some entry.0.endpoint ≡ last_of (filter test (map stored_membership (done ++ entry ∷ [])))
+last_counted done entry test passes =
+    sym (ap (λ (rows : List Membership). last_of (filter test rows)) (shown-push done entry)
+    ∙ ap last_of (filter-push_yes test (map stored_membership done) (stored_membership entry) passes) ∙ last_of-push (filter test (map stored_membership done)) (stored_membership entry))
+
+is_one_of : (rows : List Membership) (endpoint : EndpointValue) → has endpoint_order (endpoints_of rows) endpoint ≡ is_live endpoint rows
+is_one_of [] endpoint = refl
+is_one_of (membership ∷ rest) endpoint =
+    ap (λ (test : Bool). test || has endpoint_order (endpoints_of rest) endpoint) (same_back endpoint membership.endpoint)
+    ∙ ap (λ (test : Bool). same_endpoint membership.endpoint endpoint || test) (is_one_of rest endpoint)
+
+endpoints_by : (keeps : Bool) (membership : Membership) (rest : List Membership) (others : List EndpointValue) → endpoints_of rest ≡ others
+    → endpoints_of (cond keeps (membership ∷ rest) rest) ≡ cond keeps (membership.endpoint ∷ others) others
+endpoints_by true membership rest others is = ap (λ (all : List EndpointValue). membership.endpoint ∷ all) is
+endpoints_by false membership rest others is = is
+
+other_endpoints : (endpoint : EndpointValue) (rows : List Membership) → endpoints_of (filter (is_of_another endpoint) rows) ≡ filter (λ (one : EndpointValue). not (same_endpoint one endpoint)) (endpoints_of rows)
+other_endpoints endpoint [] = refl
+other_endpoints endpoint (membership ∷ rest) =
+    endpoints_by (is_of_another endpoint membership) membership (filter (is_of_another endpoint) rest) (filter (λ (one : EndpointValue). not (same_endpoint one endpoint)) (endpoints_of rest)) (other_endpoints endpoint rest)
+
+has-others : (endpoint : EndpointValue) (rows : List Membership) (one : EndpointValue)
+    → has endpoint_order (endpoints_of (filter (is_of_another endpoint) rows)) one ≡ (has endpoint_order (endpoints_of rows) one && not (same_endpoint one endpoint))
+has-others endpoint rows one =
+    ap (λ (all : List EndpointValue). has endpoint_order all one) (other_endpoints endpoint rows)
+    ∙ has-filter endpoint_order-exact (λ (tunnel : EndpointValue). not (same_endpoint tunnel endpoint)) (endpoints_of rows) one
+
+put_back : (same listed : Bool) → (same ≡ true → listed ≡ true) → listed ≡ (same || (listed && not same))
+put_back true listed is = is refl
+put_back false true is = refl
+put_back false false is = refl
+
+all_left : (same listed : Bool) → (same ≡ true → listed ≡ false) → listed ≡ (listed && not same)
+all_left true listed is = rw (is refl) refl
+all_left false true is = refl
+all_left false false is = refl
+
+left_out : (same listed : Bool) → same ≡ true → (listed && not same) ≡ false
+left_out true true is = refl
+left_out true false is = refl
+left_out false listed is = cc
+
+besides_by : (live : Bool) (endpoint : EndpointValue) (rows : List Membership) → has endpoint_order (endpoints_of rows) endpoint ≡ live
+    → live_count rows ≡ live_count (filter (is_of_another endpoint) rows) + (if live then 1 else 0)
+besides_by true endpoint rows is =
+    let all = endpoints_of rows in
+    let others = endpoints_of (filter (is_of_another endpoint) rows) in
+    let itself = ap is_eq (tied_itself endpoint_order-total endpoint) in
+    let same = same_ascending endpoint_order-total endpoint_order-exact (ascending endpoint_order all) (placed endpoint_order endpoint (ascending endpoint_order others))
+    (IsAscending-ascending endpoint_order-total all) (IsAscending-placed endpoint_order-total endpoint (ascending endpoint_order others) (IsAscending-ascending endpoint_order-total others))
+    (λ one. has-ascending endpoint_order-total all one
+    ∙ put_back (same_endpoint one endpoint) (has endpoint_order all one) (λ here. ap (has endpoint_order all) (same_endpoint-exact one endpoint here) ∙ is)
+    ∙ sym (has-placed endpoint_order-total endpoint (ascending endpoint_order others) one
+    ∙ ap (λ (test : Bool). same_endpoint one endpoint || test) (has-ascending endpoint_order-total others one ∙ has-others endpoint rows one))) in
+    let whole = ap (λ (tunnels : List EndpointValue). length tunnels) same in
+    let longer = length-placed_new endpoint (ascending endpoint_order others)
+    (has-ascending endpoint_order-total others endpoint ∙ has-others endpoint rows endpoint ∙ left_out (same_endpoint endpoint endpoint) (has endpoint_order all endpoint) itself) in
+    omega (arith, whole, longer)
+besides_by false endpoint rows is =
+    let all = endpoints_of rows in
+    let others = endpoints_of (filter (is_of_another endpoint) rows) in
+    let same = same_ascending endpoint_order-total endpoint_order-exact (ascending endpoint_order all) (ascending endpoint_order others) (IsAscending-ascending endpoint_order-total all) (IsAscending-ascending endpoint_order-total others)
+    (λ one. has-ascending endpoint_order-total all one
+    ∙ all_left (same_endpoint one endpoint) (has endpoint_order all one) (λ here. ap (has endpoint_order all) (same_endpoint-exact one endpoint here) ∙ is)
+    ∙ sym (has-ascending endpoint_order-total others one ∙ has-others endpoint rows one)) in
+    let whole = ap (λ (tunnels : List EndpointValue). length tunnels) same in
+    omega (arith, whole)
+
+-- one live endpoint less where the named one is live
+live_count-besides : (endpoint : EndpointValue) (rows : List Membership) → live_count rows ≡ live_count (filter (is_of_another endpoint) rows) + (if is_live endpoint rows then 1 else 0)
+live_count-besides endpoint rows = besides_by (is_live endpoint rows) endpoint rows (is_one_of rows endpoint)
+
+less_by : (live : Bool) (all others step : ℕ) → all ≡ others + (if live then 1 else 0) → step ≡ (if not live then 0 else 1) → (step ≤ all) × (all - step ≡ others)
+less_by true all others step is less = (omega arith, omega arith)
+less_by false all others step is less = (omega arith, omega arith)
+
+-- one is taken off the live endpoints where the named one is live
+pub one_less : (endpoint : EndpointValue) (rows : List Membership) (live : Bool) (all step : ℕ) → all ≡ live_count rows → live ≡ is_live endpoint rows → step ≡ (if not live then 0 else 1)
+    → (step ≤ all) × (all - step ≡ live_count (filter (is_of_another endpoint) rows))
+one_less endpoint rows live all step count lives less =
+    less_by live all (live_count (filter (is_of_another endpoint) rows)) step
+    (count ∙ live_count-besides endpoint rows ∙ ap (λ (one : Bool). live_count (filter (is_of_another endpoint) rows) + (if one then 1 else 0)) (sym lives)) less
+
+both_by : (other fresh : Bool) (test : Membership → Bool) (membership : Membership) (rest kept : List Membership) → test membership ≡ other → rest ≡ filter test kept
+    → cond (other && fresh) (membership ∷ rest) rest ≡ filter test (cond fresh (membership ∷ kept) kept)
+both_by true true test membership rest kept passes is = rw passes (ap (λ (rows : List Membership). membership ∷ rows) is)
+both_by true false test membership rest kept passes is = is
+both_by false true test membership rest kept passes is = rw passes is
+both_by false false test membership rest kept passes is = is
+
+counted_are : (lifetime moment : ℕ) (besides : EndpointValue) (rows : List Membership) → filter (is_counted lifetime moment besides) rows ≡ filter (is_of_another besides) (filter (is_fresh lifetime moment) rows)
+counted_are lifetime moment besides [] = refl
+counted_are lifetime moment besides (membership ∷ rest) =
+    both_by (is_of_another besides membership) (is_fresh lifetime moment membership) (is_of_another besides) membership (filter (is_counted lifetime moment besides) rest) (filter (is_fresh lifetime moment) rest) refl
+    (counted_are lifetime moment besides rest)
+
+-- where all memberships are fresh, those count that are not of the named endpoint
+pub all_counted : (lifetime moment : ℕ) (besides : EndpointValue) (rows : List Membership) → filter (is_fresh lifetime moment) rows ≡ rows
+    → live_count (filter (is_of_another besides) rows) ≡ live_count (filter (is_counted lifetime moment besides) rows)
+all_counted lifetime moment besides rows fresh =
+    sym (ap live_count (counted_are lifetime moment besides rows) ∙ ap (λ (kept : List Membership). live_count (filter (is_of_another besides) kept)) fresh)

@@ -1,0 +1,13 @@
+use Rattle.std.proofs.Common.{◌≡◌}
+use Rattle.std.specs.Option.{option_or}
+use Rattle.contract_words.specs.Ascending.{IsAscending}
+use Rattle.endpoint_membership.specs.EndpointGroup.{EndpointGroup}
+use Rattle.endpoint_membership.specs.Membership.{membership_order}
+use Rattle.endpoint_membership.specs.Memberships.{membership_in}
+use Rattle.endpoint_membership.proofs.parts.StoredMemberships.insert_all.Given as goal
+
+abbrev pub invariant-loop-membership : goal.invariant-loop-membership
+invariant-loop-membership l = record {
+  ascends : IsAscending membership_order l.self;
+  each : (at : EndpointGroup) → membership_in l.self at ≡ option_or (membership_in l.yielded at) (membership_in l.initial.self at);
+}

@@ -1,0 +1,31 @@
+use Rattle.std.proofs.Common.{false, sym, ap, ◌∙◌}
+use Rattle.std.proofs.lemmas.Bool.{eqb-false, eqb-true, not-false, not-true}
+use Rattle.std.specs.BTreeSet.{contains}
+use Rattle.endpoint_membership.specs.Parts.{renewal_order}
+use Rattle.endpoint_membership.specs.declared.keys.Renewal.{Renewal}
+use Rattle.endpoint_membership.specs.declared.stored.StoredFilter.{StoredFilter}
+use Rattle.endpoint_membership.proofs.PartOrders.{renewal_at}
+use Rattle.endpoint_membership.proofs.RenewedTogether.{renewals_updated}
+use Rattle.endpoint_membership.proofs.ReplacedFilters.{old_renewal_out, same_renewal_stays}
+use Rattle.endpoint_membership.proofs.parts.renew.put_membership.Goals as goal
+
+pub returns-then-ne-clause-renewals : goal.returns-then-ne-clause-renewals
+returns-then-ne-clause-renewals c renewal =
+    let key = c.renewal_of-renewal.result.at in
+    let was = c.in-Some.old in
+    let now = c.into_stored_filter.result in
+    let moment = ap (λ (stored : StoredFilter). stored.renewed) c.into_stored_filter.ensures ∙ sym (ap (λ (one : Renewal). one.renewed) c.renewal_of-renewal.ensures) in
+    let apart = eqb-false was.renewed c.renewal_of-renewal.result.renewed (not-true _ (sym c.ne.ensures ∙ c.if-ne.true)) in
+    old_renewal_out c.args.filters.now c.put_filter.new.filters key was now renewal (contains renewal_order c.args.renewals.now renewal) _
+    (sym c.put_filter.ensures.old ∙ c.in-Some.is) c.put_filter.ensures.new (λ same. apart (same ∙ moment))
+    (renewals_updated c.args.renewals.now c.remove.new.self (renewal_at was.renewed key) false c.remove.ensures.updates renewal)
+
+pub returns-in-Some-clause-renewals : goal.returns-in-Some-clause-renewals
+returns-in-Some-clause-renewals c renewal =
+    let key = c.renewal_of-renewal.result.at in
+    let was = c.in-Some.old in
+    let now = c.into_stored_filter.result in
+    let moment = ap (λ (stored : StoredFilter). stored.renewed) c.into_stored_filter.ensures ∙ sym (ap (λ (one : Renewal). one.renewed) c.renewal_of-renewal.ensures) in
+    let same = eqb-true was.renewed c.renewal_of-renewal.result.renewed (not-false _ (sym c.ne.ensures ∙ c.if-ne.false)) in
+    same_renewal_stays c.args.filters.now c.put_filter.new.filters key was now renewal (contains renewal_order c.args.renewals.now renewal)
+    (sym c.put_filter.ensures.old ∙ c.in-Some.is) c.put_filter.ensures.new (same ∙ sym moment)

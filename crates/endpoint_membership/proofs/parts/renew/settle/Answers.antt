@@ -1,0 +1,37 @@
+use Rattle.std.proofs.Common.{List, option_map, sym, ap, subst, ◌∙◌}
+use Rattle.std.specs.BTreeMap.{get}
+use Rattle.std.specs.Option.{option_or}
+use Rattle.std.specs.Vec.Iter.{into_iter_items}
+use Rattle.std.proofs.lemmas.Map.Keys.{sorted_tail}
+use Rattle.contract_words.specs.Ascending.{IsAscending}
+use Rattle.endpoint_membership.specs.EndpointGroup.{endpoint_group_order}
+use Rattle.endpoint_membership.specs.Membership.{Membership, endpoint_group_of, membership_order}
+use Rattle.endpoint_membership.specs.Memberships.{membership_in}
+use Rattle.endpoint_membership.specs.Parts.{AreRenewalsOf, stored_filter}
+use Rattle.endpoint_membership.proofs.ReplacedFilters.{ArePresent, first_put, first_settled, same_found}
+use Rattle.endpoint_membership.proofs.parts.renew.settle.Goals as goal
+
+pub put_membership-requires : goal.put_membership-requires
+put_membership-requires c =
+    let before = c.loop-membership.invariant in
+    let given = subst (ArePresent c.args.filters.now) c.in-Some.ensures.steps.0 before.present in
+    same_found c.args.filters.now c.loop-membership.filters before.keys (endpoint_group_of c.in-Some.membership) ∙ given.0
+
+pub loop-membership-preserved : goal.loop-membership-preserved
+loop-membership-preserved c =
+    let membership = c.in-Some.membership in
+    let rest = into_iter_items c.next.new.self in
+    let filters = c.loop-membership.filters in
+    let after = c.put_membership.new.filters in
+    let before = c.loop-membership.invariant in
+    let given = c.in-Some.ensures.steps.0 in
+    let ascends = subst (IsAscending membership_order) given before.ascend in
+    record {
+      ascend = sorted_tail membership_order membership rest ascends;
+      present = (subst (ArePresent c.args.filters.now) given before.present).1;
+      staged = first_settled membership rest filters after c.loop-membership.renewals c.put_membership.new.renewals ascends c.put_membership.ensures.new
+          (subst (λ (left : List Membership). AreRenewalsOf left filters c.loop-membership.renewals) given before.staged) c.put_membership.ensures.renewals;
+      new = λ at. first_put membership rest filters after at ascends c.put_membership.ensures.new
+          ∙ ap (λ (left : List Membership). option_or (option_map stored_filter (membership_in left at)) (get endpoint_group_order filters at)) (sym given) ∙ before.new at;
+      keys = c.put_membership.ensures.keys ∙ before.keys;
+    }

@@ -1,0 +1,91 @@
+-- The four parts in which a table stores its memberships, and that they agree. No public contract
+-- says these words.
+use Rattle.std.specs.Prelude.{◌≡◌, ℕ, ◌+◌, ◌-◌, zero, suc, ◌==◌, if◌then◌else◌, Bool, false, ◌||◌, List, map, is_some, Option, Some, None}
+use Rattle.std.specs.BTreeMap.{BTreeMap, IsOrdered, get}
+use Rattle.std.specs.BTreeSet as sorted
+use Rattle.std.specs.BTreeSet.{BTreeSet}
+use Rattle.std.specs.List.{list_any}
+use Rattle.std.specs.Ordering.{eq_by_cmp, nat_cmp, on, then_cmp}
+use Rattle.std.specs.declared.cmp.Ordering.{Ordering}
+use Rattle.amt_values.specs.EndpointValue.{EndpointValue}
+use Rattle.amt_values.specs.Order.{ip_order, endpoint_order}
+use Rattle.endpoint_membership.specs.EndpointGroup.{EndpointGroup, endpoint_group_order, same_endpoint}
+use Rattle.endpoint_membership.specs.Limits.{group_count}
+use Rattle.endpoint_membership.specs.Membership.{Membership, endpoint_group_of}
+use Rattle.endpoint_membership.specs.declared.keys.GroupMember.{GroupMember}
+use Rattle.endpoint_membership.specs.declared.keys.Renewal.{Renewal}
+use Rattle.endpoint_membership.specs.declared.stored.StoredFilter.{StoredFilter}
+
+-- by moment, then endpoint and group
+abbrev pub renewal_order : Renewal → Renewal → Ordering
+renewal_order = then_cmp (on (λ renewal. renewal.renewed) nat_cmp) (on (λ renewal. renewal.at) endpoint_group_order)
+
+-- by group, then endpoint
+abbrev pub group_member_order : GroupMember → GroupMember → Ordering
+group_member_order = then_cmp (on (λ member. member.group) ip_order) (on (λ member. member.endpoint) endpoint_order)
+
+-- the membership that an entry stands for
+abbrev pub stored_membership : EndpointGroup × StoredFilter → Membership
+stored_membership entry = record { endpoint = entry.0.endpoint; group = entry.0.group; filter = entry.1.filter; renewed = entry.1.renewed }
+
+-- the memberships that a map of filters stands for, by endpoint, then group
+abbrev pub stored_memberships : BTreeMap EndpointGroup StoredFilter → List Membership
+stored_memberships filters = map stored_membership filters.entries
+
+-- what a table keeps at the membership's endpoint and group
+abbrev pub stored_filter : Membership → StoredFilter
+stored_filter membership = record { filter = membership.filter; renewed = membership.renewed }
+
+-- when the membership was last renewed, by its endpoint and group
+abbrev pub renewal_of : Membership → Renewal
+renewal_of membership = record { renewed = membership.renewed; at = endpoint_group_of membership }
+
+-- one of the memberships was last renewed so
+abbrev pub is_renewal_in : List Membership → Renewal → Bool
+is_renewal_in memberships renewal = list_any (λ membership. eq_by_cmp renewal_order renewal (renewal_of membership)) memberships
+
+-- the filter was last renewed at the moment
+abbrev pub is_renewed_at : ℕ → Option StoredFilter → Bool
+is_renewed_at moment None = false
+is_renewed_at moment (Some stored) = stored.renewed == moment
+
+-- the filter of the pair was last renewed so
+abbrev pub is_stored : BTreeMap EndpointGroup StoredFilter → Renewal → Bool
+is_stored filters renewal = is_renewed_at renewal.renewed (get endpoint_group_order filters renewal.at)
+
+-- the renewals are those of the memberships and of the filters
+abbrev pub AreRenewalsOf : List Membership → BTreeMap EndpointGroup StoredFilter → BTreeSet Renewal → Type 0
+AreRenewalsOf memberships filters renewals =
+    (renewal : Renewal) → sorted.contains renewal_order renewals renewal ≡ (is_renewal_in memberships renewal || is_stored filters renewal)
+
+-- a number, and nothing for 0
+abbrev pub some_unless_zero : ℕ → Option ℕ
+some_unless_zero zero = None
+some_unless_zero (suc n) = Some (suc n)
+
+-- the pair as a member of its group
+abbrev pub member_of : EndpointGroup → GroupMember
+member_of at = record { group = at.group; endpoint = at.endpoint }
+
+-- a count with one more
+abbrev pub one_more : Option ℕ → Option ℕ
+one_more None = Some 1
+one_more (Some n) = Some (n + 1)
+
+-- a count with one less, and nothing for 0
+abbrev pub one_less : Option ℕ → Option ℕ
+one_less None = None
+one_less (Some n) = some_unless_zero (n - 1)
+
+-- the endpoint has another count, and no other endpoint has
+abbrev pub IsCounted : EndpointValue → Option ℕ → BTreeMap EndpointValue ℕ → BTreeMap EndpointValue ℕ → Type 0
+IsCounted endpoint count before after =
+    (other : EndpointValue) → get endpoint_order after other ≡ if same_endpoint endpoint other then count else get endpoint_order before other
+
+-- Each filter has its renewal, each pair its member, each endpoint the number of its groups; and there
+-- is nothing more.
+pub record AreAgreed (filters : BTreeMap EndpointGroup StoredFilter) (renewals : BTreeSet Renewal) (members : BTreeSet GroupMember) (counts : BTreeMap EndpointValue ℕ) : Type 0 where
+  pub ordered : IsOrdered endpoint_group_order filters
+  pub renewed : (renewal : Renewal) → sorted.contains renewal_order renewals renewal ≡ is_renewed_at renewal.renewed (get endpoint_group_order filters renewal.at)
+  pub joined : (member : GroupMember) → sorted.contains group_member_order members member ≡ is_some (get endpoint_group_order filters (record { endpoint = member.endpoint; group = member.group }))
+  pub counted : (endpoint : EndpointValue) → get endpoint_order counts endpoint ≡ some_unless_zero (group_count endpoint (stored_memberships filters))

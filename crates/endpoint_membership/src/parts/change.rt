@@ -1,0 +1,160 @@
+//! One membership more, and one less. It must not know when a membership expires.
+
+ghost use Rattle.std.specs.Prelude.{◌≡◌, ◌<◌, ◌^◌, false, true, None, Some, OnOk, OnErr};
+ghost use Rattle.std.specs.BTreeMap.{get, insert_entry, IsOrdered, IsUnchanged, Updates};
+ghost use Rattle.std.specs.BTreeSet as sorted;
+ghost use Rattle.std.specs.List.{filter};
+ghost use Rattle.std.specs.Map.{count_at};
+ghost use Rattle.contract_words.specs.Ascending.{placed};
+ghost use Rattle.amt_values.specs.Order.{endpoint_order};
+ghost use Rattle.endpoint_membership.specs.EndpointGroup.{endpoint_group_order};
+ghost use Rattle.endpoint_membership.specs.Membership.{membership_order};
+ghost use Rattle.endpoint_membership.specs.Memberships.{membership_in};
+ghost use Rattle.endpoint_membership.specs.Parts.{IsCounted, group_member_order, member_of, one_less, one_more, renewal_order, stored_membership};
+ghost use Rattle.endpoint_membership.specs.Stored.{is_not_at};
+
+use super::StoredMemberships;
+use crate::keys::{EndpointGroup, GroupMember, Renewal};
+use crate::stored::StoredFilter;
+use amt_values::Endpoint;
+use std::alloc::AllocError;
+use std::collections::{BTreeMap, BTreeSet};
+
+impl StoredMemberships {
+    /// Adds the membership of a pair that has none. Out of memory nothing changes.
+    pub fn insert(&mut self, at: EndpointGroup, stored: StoredFilter) -> Result<(), AllocError>
+        requires absent { membership_in self.old at ≡ None }
+        ensures ok { OnOk result
+            (self.new ≡ placed membership_order (stored_membership (at, stored)) self.old) }
+        ensures err { OnErr result (self.new ≡ self.old) }
+    {
+        // A count is at most the number of filters, so it has room for one more.
+        prove!(self.filters.len() < usize::MAX);
+        let renewal = Renewal {
+            renewed: stored.renewed,
+            at,
+        };
+        insert_keys(&mut self.renewals, &mut self.members, renewal)?;
+        let Ok(()) = insert_counted(&mut self.filters, &mut self.counts, at, stored) else {
+            remove_keys(&mut self.renewals, &mut self.members, &renewal);
+            return Err(AllocError);
+        };
+        Ok(())
+    }
+
+    /// Takes the membership of the pair away, if there is one.
+    pub fn remove(&mut self, at: &EndpointGroup)
+        ensures { self.new ≡ filter (is_not_at at.now) self.old }
+    {
+        let Some(stored) = self.filters.remove(at) else {
+            return;
+        };
+        let renewal = Renewal {
+            renewed: stored.renewed,
+            at: *at,
+        };
+        remove_keys(&mut self.renewals, &mut self.members, &renewal);
+        count_less(&mut self.counts, &at.endpoint);
+    }
+}
+
+fn member_of(at: &EndpointGroup) -> GroupMember
+    ensures { result ≡ member_of at.now }
+{
+    GroupMember {
+        group: at.group,
+        endpoint: at.endpoint,
+    }
+}
+
+// Puts in a renewal and its member, both or neither.
+fn insert_keys(
+    renewals: &mut BTreeSet<Renewal>,
+    members: &mut BTreeSet<GroupMember>,
+    renewal: Renewal,
+) -> Result<(), AllocError>
+    requires absent { sorted.contains renewal_order renewals.old renewal ≡ false }
+    ensures renewals { OnOk result
+        (sorted.Updates renewal_order renewals.old renewals.new renewal true) }
+    ensures members { OnOk result
+        (sorted.Updates group_member_order members.old members.new (member_of renewal.at) true) }
+    ensures err_renewals { OnErr result
+        (sorted.IsSameSet renewal_order renewals.new renewals.old) }
+    ensures err_members { OnErr result
+        (sorted.IsSameSet group_member_order members.new members.old) }
+{
+    renewals.insert(renewal)?;
+    let Ok(_) = members.insert(member_of(&renewal.at)) else {
+        renewals.remove(&renewal);
+        return Err(AllocError);
+    };
+    Ok(())
+}
+
+// Takes out a renewal and its member.
+fn remove_keys(
+    renewals: &mut BTreeSet<Renewal>,
+    members: &mut BTreeSet<GroupMember>,
+    renewal: &Renewal,
+)
+    ensures renewals { sorted.Updates renewal_order renewals.old renewals.new renewal.now false }
+    ensures members { sorted.Updates group_member_order members.old members.new
+        (member_of renewal.now.at) false }
+{
+    renewals.remove(renewal);
+    members.remove(&member_of(&renewal.at));
+}
+
+// Puts in a filter and counts it, both or neither.
+fn insert_counted(
+    filters: &mut BTreeMap<EndpointGroup, StoredFilter>,
+    counts: &mut BTreeMap<Endpoint, usize>,
+    at: EndpointGroup,
+    stored: StoredFilter,
+) -> Result<(), AllocError>
+    requires absent { get endpoint_group_order filters.old at ≡ None }
+    requires room { count_at (get endpoint_order counts.old) at.endpoint < 2 ^ 63 }
+    ensures filters { OnOk result
+        (Updates endpoint_group_order filters.old filters.new at (Some stored)) }
+    ensures entries { OnOk result
+        (filters.new.entries ≡ insert_entry endpoint_group_order filters.old.entries at stored) }
+    ensures ordered { IsOrdered endpoint_group_order filters.new }
+    ensures counts { OnOk result (IsCounted at.endpoint
+        (one_more (get endpoint_order counts.old at.endpoint)) counts.old counts.new) }
+    ensures err_filters { OnErr result (IsUnchanged filters.old filters.new) }
+    ensures err_counts { OnErr result (IsUnchanged counts.old counts.new) }
+{
+    filters.insert(at, stored)?;
+    let Ok(()) = count_more(counts, at.endpoint) else {
+        filters.remove(&at);
+        return Err(AllocError);
+    };
+    Ok(())
+}
+
+// Counts one more of the endpoint.
+fn count_more(counts: &mut BTreeMap<Endpoint, usize>, endpoint: Endpoint) -> Result<(), AllocError>
+    requires { count_at (get endpoint_order counts.old) endpoint < 2 ^ 63 }
+    ensures ok { OnOk result (IsCounted endpoint
+        (one_more (get endpoint_order counts.old endpoint)) counts.old counts.new) }
+    ensures err { OnErr result (IsUnchanged counts.old counts.new) }
+{
+    let count = counts.get(&endpoint).copied().unwrap_or(0);
+    counts.insert(endpoint, count + 1)?;
+    Ok(())
+}
+
+// Counts one less of the endpoint.
+fn count_less(counts: &mut BTreeMap<Endpoint, usize>, endpoint: &Endpoint)
+    ensures { IsCounted endpoint.now
+        (one_less (get endpoint_order counts.old endpoint.now)) counts.old counts.new }
+{
+    let Some(count) = counts.get_mut(endpoint) else {
+        return;
+    };
+    if *count > 1 {
+        *count -= 1;
+        return;
+    }
+    counts.remove(endpoint);
+}

@@ -1,0 +1,62 @@
+//! What an endpoint wants of each group before a report. It must not know the log or limits.
+
+ghost use Rattle.std.specs.Prelude.{◌≡◌, ◌≤◌, IfOk};
+ghost use Rattle.std.specs.BTreeMap.{get};
+ghost use Rattle.amt_values.specs.declared.address.Ip.{Ip as Address};
+ghost use Rattle.amt_values.specs.Order.{ip_order};
+ghost use Rattle.endpoint_membership.specs.EndpointMemberships.{renewed_filter_of};
+ghost use Rattle.endpoint_membership.specs.Membership.{is_fresh};
+ghost use Rattle.endpoint_membership.specs.Memberships.{membership_in};
+ghost use Rattle.endpoint_membership.specs.Stored.{only};
+
+use super::StoredMemberships;
+use crate::after_report::{RenewedFilter, set_filter};
+use crate::keys::EndpointGroup;
+use crate::stored::StoredFilter;
+use amt_values::{Endpoint, Ip, Moment};
+use source_filter::MutableFilter;
+use std::alloc::{AllocError, Global};
+use std::collections::BTreeMap;
+
+// The filter as records change it.
+fn renewed_filter_of(alloc: Global, stored: &StoredFilter) -> Result<RenewedFilter, AllocError>
+    ensures { IfOk result (λ renewed_filter. renewed_filter
+        ≡ record { filter = stored.now.filter; renewed = stored.now.renewed }) }
+{
+    Ok(RenewedFilter {
+        filter: MutableFilter::of_filter(alloc, &stored.filter)?,
+        renewed: stored.renewed,
+    })
+}
+
+impl StoredMemberships {
+    /// The filters of the endpoint's memberships, by group. It goes over the endpoint's memberships
+    /// and no others.
+    pub fn own_filters(
+        &self,
+        alloc: Global,
+        endpoint: &Endpoint,
+        moment: Moment,
+        lifetime_ms: u64,
+    ) -> Result<BTreeMap<Ip, RenewedFilter>, AllocError>
+        requires { lifetime_ms ≤ 1000000000 }
+        ensures { IfOk result (λ filters. (group : Address)
+            → get ip_order filters group ≡ renewed_filter_of (only (is_fresh lifetime_ms moment)
+            (membership_in self.now (record { endpoint = endpoint.now; group = group })))) }
+    {
+        let least = EndpointGroup {
+            endpoint: *endpoint,
+            group: Ip::V4(0),
+        };
+        let mut filters = BTreeMap::new(alloc);
+        for (at, stored) in self.filters.range(least..) {
+            if at.endpoint != *endpoint {
+                break;
+            }
+            if stored.is_fresh(moment, lifetime_ms) {
+                set_filter(&mut filters, at.group, renewed_filter_of(alloc, stored)?)?;
+            }
+        }
+        Ok(filters)
+    }
+}

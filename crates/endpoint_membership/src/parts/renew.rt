@@ -1,0 +1,179 @@
+//! Memberships that are renewed, all or none. It must not know reports.
+
+ghost use Rattle.std.specs.Prelude.{◌≡◌, [], true, not, ◌&&◌, ◌||◌, is_some, Some, option_map, OnOk, OnErr, if◌then◌else◌};
+ghost use Rattle.std.specs.BTreeMap.{get, keys};
+ghost use Rattle.std.specs.BTreeSet.{contains};
+ghost use Rattle.std.specs.List.{AllByRecursion};
+ghost use Rattle.std.specs.Option.{option_or};
+ghost use Rattle.contract_words.specs.Ascending.{IsAscending};
+ghost use Rattle.endpoint_membership.specs.EndpointGroup.{EndpointGroup as Pair, endpoint_group_order, same_endpoint_group};
+ghost use Rattle.endpoint_membership.specs.Membership.{endpoint_group_of, membership_order};
+ghost use Rattle.endpoint_membership.specs.Memberships.{membership_in};
+ghost use Rattle.endpoint_membership.specs.Parts.{AreRenewalsOf, is_renewal_in, is_stored, renewal_of, renewal_order, stored_filter};
+ghost use Rattle.endpoint_membership.specs.declared.keys.Renewal.{Renewal as Renewed};
+
+use super::StoredMemberships;
+use crate::keys::{EndpointGroup, Renewal};
+use crate::stored::{StoredFilter, StoredMembership};
+use std::alloc::AllocError;
+use std::collections::{BTreeMap, BTreeSet};
+
+impl StoredMemberships {
+    /// Puts memberships in the place of those of their pairs, each of which has one. All new renewals
+    /// go in before an old one comes out, so that out of memory nothing changes.
+    pub fn renew(&mut self, memberships: Vec<StoredMembership>) -> Result<(), AllocError>
+        requires ascend { IsAscending membership_order memberships.items }
+        requires present { AllByRecursion (λ membership.
+            is_some (membership_in self.old (endpoint_group_of membership)) ≡ true) memberships.items }
+        ensures ok { OnOk result ((at : Pair) → membership_in self.new at
+            ≡ option_or (membership_in memberships.items at) (membership_in self.old at)) }
+        ensures ascends { IsAscending membership_order self.new }
+        ensures err { OnErr result (self.new ≡ self.old) }
+    {
+        stage(&self.filters, &mut self.renewals, &memberships)?;
+        settle(&mut self.filters, &mut self.renewals, memberships);
+        Ok(())
+    }
+}
+
+fn renewal_of(membership: &StoredMembership) -> Renewal
+    ensures { result ≡ renewal_of membership.now }
+{
+    Renewal {
+        renewed: membership.renewed(),
+        at: membership.endpoint_group(),
+    }
+}
+
+fn is_stored(filters: &BTreeMap<EndpointGroup, StoredFilter>, renewal: &Renewal) -> bool
+    ensures { result ≡ is_stored filters.now renewal.now }
+{
+    match filters.get(&renewal.at) {
+        Some(stored) => stored.renewed == renewal.renewed,
+        None => false,
+    }
+}
+
+// Puts the renewals of memberships in, up to a refusal.
+fn put_renewals(
+    renewals: &mut BTreeSet<Renewal>,
+    memberships: &[StoredMembership],
+) -> Result<(), AllocError>
+    ensures ok { OnOk result ((renewal : Renewed) → contains renewal_order renewals.new renewal
+        ≡ (is_renewal_in memberships.now renewal || contains renewal_order renewals.old renewal)) }
+    ensures err { OnErr result ((renewal : Renewed) → contains renewal_order renewals.new renewal
+        ≡ ((is_renewal_in memberships.now renewal && contains renewal_order renewals.new renewal)
+        || contains renewal_order renewals.old renewal)) }
+{
+    for membership in memberships {
+        match renewals.insert(renewal_of(membership)) {
+            Ok(_) => {}
+            Err(_) => return Err(AllocError),
+        }
+    }
+    Ok(())
+}
+
+// Takes the renewals of memberships out, except those of the filters.
+fn take_renewals(
+    filters: &BTreeMap<EndpointGroup, StoredFilter>,
+    renewals: &mut BTreeSet<Renewal>,
+    memberships: &[StoredMembership],
+)
+    ensures { (renewal : Renewed) → contains renewal_order renewals.new renewal
+        ≡ (contains renewal_order renewals.old renewal
+        && not (is_renewal_in memberships.now renewal && not (is_stored filters.now renewal))) }
+{
+    for membership in memberships {
+        let renewal = renewal_of(membership);
+        if !is_stored(filters, &renewal) {
+            renewals.remove(&renewal);
+        }
+    }
+}
+
+// Puts the renewals of memberships beside those of the filters, or changes nothing. What a refusal
+// has to take out is known without a list of it, since the filters are still the old ones.
+fn stage(
+    filters: &BTreeMap<EndpointGroup, StoredFilter>,
+    renewals: &mut BTreeSet<Renewal>,
+    memberships: &[StoredMembership],
+) -> Result<(), AllocError>
+    requires { AreRenewalsOf [] filters.now renewals.old }
+    ensures ok { OnOk result (AreRenewalsOf memberships.now filters.now renewals.new) }
+    ensures err { OnErr result (AreRenewalsOf [] filters.now renewals.new) }
+{
+    match put_renewals(renewals, memberships) {
+        Ok(()) => Ok(()),
+        Err(_) => {
+            take_renewals(filters, renewals, memberships);
+            Err(AllocError)
+        }
+    }
+}
+
+// Puts a filter in the place of the pair's, which it gives back.
+fn put_filter(
+    filters: &mut BTreeMap<EndpointGroup, StoredFilter>,
+    at: EndpointGroup,
+    stored: StoredFilter,
+) -> Option<StoredFilter>
+    requires { is_some (get endpoint_group_order filters.old at) ≡ true }
+    ensures old { result ≡ get endpoint_group_order filters.old at }
+    ensures new { (other : Pair) → get endpoint_group_order filters.new other
+        ≡ (if same_endpoint_group at other then Some stored else get endpoint_group_order filters.old other) }
+    ensures keys { keys filters.new ≡ keys filters.old }
+{
+    match filters.insert(at, stored) {
+        Ok(old) => old,
+        // Only a pair that has no filter is refused.
+        Err(_) => unreachable!(),
+    }
+}
+
+// Puts a membership in the place of that of its pair, whose renewal comes out if it is another.
+fn put_membership(
+    filters: &mut BTreeMap<EndpointGroup, StoredFilter>,
+    renewals: &mut BTreeSet<Renewal>,
+    membership: StoredMembership,
+)
+    requires { is_some (get endpoint_group_order filters.old (endpoint_group_of membership)) ≡ true }
+    ensures new { (at : Pair) → get endpoint_group_order filters.new at
+        ≡ (if same_endpoint_group (endpoint_group_of membership) at then Some (stored_filter membership)
+        else get endpoint_group_order filters.old at) }
+    ensures keys { keys filters.new ≡ keys filters.old }
+    ensures renewals { (renewal : Renewed) → contains renewal_order renewals.new renewal
+        ≡ (contains renewal_order renewals.old renewal
+        && not (is_stored filters.old renewal && not (is_stored filters.new renewal))) }
+{
+    let renewal = renewal_of(&membership);
+    if let Some(old) = put_filter(filters, renewal.at, membership.into_stored_filter()) {
+        if old.renewed != renewal.renewed {
+            renewals.remove(&Renewal {
+                renewed: old.renewed,
+                at: renewal.at,
+            });
+        }
+    }
+}
+
+// Puts memberships in the place of those of their pairs. Their renewals are there already.
+fn settle(
+    filters: &mut BTreeMap<EndpointGroup, StoredFilter>,
+    renewals: &mut BTreeSet<Renewal>,
+    memberships: Vec<StoredMembership>,
+)
+    requires ascend { IsAscending membership_order memberships.items }
+    requires present { AllByRecursion (λ membership.
+        is_some (get endpoint_group_order filters.old (endpoint_group_of membership)) ≡ true) memberships.items }
+    requires staged { AreRenewalsOf memberships.items filters.old renewals.old }
+    ensures new { (at : Pair) → get endpoint_group_order filters.new at
+        ≡ option_or (option_map stored_filter (membership_in memberships.items at))
+        (get endpoint_group_order filters.old at) }
+    ensures keys { keys filters.new ≡ keys filters.old }
+    ensures renewals { AreRenewalsOf [] filters.new renewals.new }
+{
+    for membership in memberships {
+        put_membership(filters, renewals, membership);
+    }
+}

@@ -1,0 +1,35 @@
+//! Memberships as they are shown. It must not know limits.
+
+ghost use Rattle.std.specs.Prelude.{◌≡◌, map, IfOk};
+ghost use Rattle.endpoint_membership.specs.Memberships.{row_of};
+ghost use Rattle.endpoint_membership.specs.Parts.{stored_membership};
+
+use super::StoredMemberships;
+use crate::keys::EndpointGroup;
+use crate::row::{Row, Rows};
+use crate::stored::StoredFilter;
+use source_filter::copy_filter;
+use std::alloc::{AllocError, Global};
+
+fn row_of(alloc: Global, at: &EndpointGroup, stored: &StoredFilter) -> Result<Row, AllocError>
+    ensures { IfOk result (λ row. row ≡ row_of (stored_membership (at.now, stored.now))) }
+{
+    Ok(Row {
+        endpoint: at.endpoint,
+        group: at.group,
+        filter: copy_filter(alloc, &stored.filter)?,
+    })
+}
+
+impl StoredMemberships {
+    /// The memberships as rows, in their order.
+    pub fn show(&self, alloc: Global) -> Result<Rows, AllocError>
+        ensures { IfOk result (λ all. all ≡ map row_of self.now) }
+    {
+        let mut all = Rows::new(alloc);
+        for (at, stored) in &self.filters {
+            all.push(row_of(alloc, at, stored)?)?;
+        }
+        Ok(all)
+    }
+}
