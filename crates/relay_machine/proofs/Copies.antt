@@ -1,5 +1,7 @@
 -- To whom a packet goes.
-use Rattle.std.proofs.Common.{◌≡◌, ℕ, ◌↔◌, Bool, true, false, List, [], ◌∷◌, length, nat_lt, None, Result, Ok, Err, refl, sym, ap, subst, ◌∙◌, arith, suc}
+use Rattle.std.proofs.Common.{◌≡◌, ◌≤◌, ℕ, ◌↔◌, Bool, true, false, List, [], ◌∷◌, length, nat_lt, None, Result, Ok, Err, refl, sym, ap, subst, ◌∙◌, arith, suc}
+use Rattle.std.proofs.Math.Logic.{∥∥₁_elim}
+use Rattle.std.specs.Coded.{le_prop}
 use Rattle.std.specs.List.{Contains}
 use Rattle.std.proofs.lemmas.Bool.{le-ltb}
 use Rattle.std.proofs.lemmas.List.Elements.{All-map}
@@ -12,11 +14,9 @@ use Rattle.inner_datagrams.specs.Head.{head_of}
 use Rattle.inner_datagrams.specs.declared.head.Head.{Head}
 use Rattle.inner_datagrams.proofs.Heads.{answer_only}
 use Rattle.response_mac.specs.declared.secret.Secret.{Secret}
-use Rattle.endpoint_membership.specs.Limits.{live_count}
-use Rattle.endpoint_membership.specs.Log.{latest}
-use Rattle.endpoint_membership.specs.Table.{Holds, TableValue, TableSettings, memberships_now}
+use Rattle.endpoint_membership.specs.Table.{Holds, TableValue, TableSettings}
 use Rattle.endpoint_membership.specs.declared.change.Change.{Change}
-use Rattle.endpoint_membership.proofs.MembershipsByLog.{rows_are}
+use Rattle.endpoint_membership.specs.declared.limits.Limits.{Limits}
 use Rattle.endpoint_membership.proofs.TargetsByLog.{IsAscending-targets_of, targets_want}
 use Rattle.relay_machine.specs.declared.event.Event.{Event}
 use Rattle.relay_machine.specs.declared.event.Event.TheVariants.{Packet}
@@ -35,13 +35,10 @@ use Rattle.relay_machine.specs.Settings.{membership_interval_ms, table_settings_
 use Rattle.relay_machine.specs.State.{HasLog}
 use Rattle.relay_machine.proofs.Answering.{answered-unchanged}
 
--- as many endpoints as a table that represents a log counts are those of its rows
-pub live_count-found : (terms : TableSettings) (table : TableValue) (found : ℕ) → HasLog terms table
-    → ((by : TableSettings) (log : List Change) → Holds by table log → found ≡ live_count (memberships_now by log)) → live_count table.rows ≡ found
-live_count-found terms table found has_log counts =
-    let log = has_log.0 in
-    let holds = has_log.1 in
-    ap live_count (rows_are terms.lifetime (latest log) log table.rows holds.rows) ∙ sym (counts terms log holds)
+-- room for as many endpoints as the settings allow is enough for a table that represents some log by them
+pub table_room : (terms : TableSettings) (table : TableValue) (room : ℕ) → ∥ HasLog terms table ∥₁ → terms.limits.endpoints ≤ room → table.limits.endpoints ≤ room
+table_room terms table room has_log enough =
+    ∥∥₁_elim has_log le_prop (λ found. subst (λ (limits : Limits). limits.endpoints ≤ room) (sym found.1.limits) enough)
 
 -- copies go to the targets
 receivers-copies : (targets : List EndpointValue) (packet : List ℕ) → receivers (copies targets packet) ≡ targets
@@ -93,7 +90,7 @@ head_to_copy-ok limit head packet to_copy =
     let found = answer_only (head_of packet) packet refl head to_copy.begins in
     rw (short, found, to_copy.scope) refl
 
-length-copies : (targets : List EndpointValue) (packet : List ℕ) → length (copies targets packet) ≡ length targets
+pub length-copies : (targets : List EndpointValue) (packet : List ℕ) → length (copies targets packet) ≡ length targets
 length-copies [] packet = refl
 length-copies (endpoint ∷ later) packet = ap (λ (n : ℕ). suc n) (length-copies later packet)
 

@@ -1,11 +1,12 @@
 -- Where one more event leaves a relay.
-use Rattle.std.proofs.Common.{◌≡◌, ℕ, max, Bool, true, false, List, [], ◌∷◌, ◌++◌, Option, Some, None, Result, Ok, Err, refl, sym, ap, subst, ◌∙◌, arith}
+use Rattle.std.proofs.Common.{◌≡◌, ◌≤◌, ℕ, max, Bool, true, false, List, [], ◌∷◌, ◌++◌, Option, Some, None, Result, Ok, Err, refl, sym, ap, subst, ◌∙◌, arith}
 use mathlib.Core.HLevel.{is_prop→PathP}
 use Rattle.std.proofs.Math.Logic.{∥∥₁_elim, ∥∥₁_map, ∥∥₁_prop}
 use Rattle.std.proofs.Props.{props}
 use Rattle.std.proofs.lemmas.List.{append-nil, reverse-append, reverse-reverse}
 use Rattle.std.proofs.lemmas.List.Elements.{filter_map-append}
 use Rattle.std.proofs.lemmas.List.Sums.{fold-append}
+use Rattle.std.specs.Coded.{le_prop}
 use Rattle.std.specs.List.{fold, filter_map}
 use Rattle.std.specs.Result.{IfOk, OnErr}
 use Rattle.amt_values.specs.Endpoint.{endpoint_of}
@@ -23,6 +24,7 @@ use Rattle.endpoint_membership.specs.Limits.{AreFew, IsWithin}
 use Rattle.endpoint_membership.specs.Log.{latest}
 use Rattle.endpoint_membership.specs.Memberships.{is_live}
 use Rattle.endpoint_membership.specs.Table.{Holds, IsWithinLimits, TableValue, TableSettings, limit_passed, memberships_now}
+use Rattle.endpoint_membership.specs.Targets.{TargetsValue}
 use Rattle.endpoint_membership.specs.declared.change.Change.{Change}
 use Rattle.endpoint_membership.specs.declared.change.Change.TheVariants.{Mark, Clear, Reported}
 use Rattle.endpoint_membership.specs.declared.limits.LimitFault.{LimitFault}
@@ -99,13 +101,20 @@ AreFew-settings relay rows few =
 within_prop : (table : TableValue) → IsProp (IsWithinLimits table)
 within_prop table = hlevel props
 
+no_targets_prop : (targets : TargetsValue) → IsProp (targets.endpoints ≡ [])
+no_targets_prop targets = hlevel props
+
 -- relays that keep the same are one
-pub same_relay : (relay : Relay) (table : TableValue) (within : IsWithinLimits table) (has_log : ∥ HasLog (table_settings_of relay.setup.settings) table ∥₁)
-    → table ≡ relay.table → record relay { table = table; within = within; has_log = has_log } ≡ relay
-same_relay relay table within has_log same = λ i. record relay {
+pub same_relay : (relay : Relay) (table : TableValue) (targets : TargetsValue) (within : IsWithinLimits table) (has_log : ∥ HasLog (table_settings_of relay.setup.settings) table ∥₁)
+    (has_room : relay.setup.settings.limits.endpoints ≤ targets.room) (no_targets : targets.endpoints ≡ []) → table ≡ relay.table → targets ≡ relay.targets
+    → record relay { table = table; targets = targets; within = within; has_log = has_log; has_room = has_room; no_targets = no_targets } ≡ relay
+same_relay relay table targets within has_log has_room no_targets same same_targets = λ i. record relay {
   table = same i;
+  targets = same_targets i;
   within = is_prop→PathP (λ j. IsWithinLimits (same j)) (λ j. within_prop (same j)) within relay.within i;
   has_log = is_prop→PathP (λ j. ∥ HasLog (table_settings_of relay.setup.settings) (same j) ∥₁) (λ j. ∥∥₁_prop) has_log relay.has_log i;
+  has_room = is_prop→PathP (λ j. relay.setup.settings.limits.endpoints ≤ (same_targets j).room) (λ j. le_prop) has_room relay.has_room i;
+  no_targets = is_prop→PathP (λ j. (same_targets j).endpoints ≡ []) (λ j. no_targets_prop (same_targets j)) no_targets relay.no_targets i;
 }
 
 -- a new relay

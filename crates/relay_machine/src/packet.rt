@@ -1,7 +1,7 @@
-//! To whom a packet is copied. It reads the packet's head, and changes nothing.
+//! To whom a packet is copied. It reads the packet's head, and leaves the relay as it was.
 ghost use Rattle.std.specs.Prelude.{◌≡◌, ◌≤◌, [], length, nat_lt, IfOk};
 ghost use Rattle.endpoint_membership.specs.Log.{latest};
-ghost use Rattle.endpoint_membership.specs.Table.{IsWithinLimits, TableSettings};
+ghost use Rattle.endpoint_membership.specs.Table.{ForLogBy, IsWithinLimits, TableSettings};
 ghost use Rattle.relay_machine.specs.EventAnswer.{packet_answer};
 ghost use Rattle.relay_machine.specs.Logs.{AnswersByLog, IfOkForLogBy};
 ghost use Rattle.relay_machine.specs.Packets.{copies, head_to_copy, targets_at};
@@ -44,17 +44,17 @@ fn head_to_copy(limit: u32, packet: &[u8]) -> Result<Head, Outcome>
     }
 }
 
-// The endpoints that want the source in the group at the table's moment.
-fn targets(alloc: Global, table: &Table, head: &Head) -> Result<Targets, AllocError>
+// Puts in the endpoints that want the source in the group at the table's moment. There is room for
+// them all, so this takes no memory.
+fn find_targets(table: &Table, head: &Head, targets: &mut Targets)
     requires within { IsWithinLimits table.now }
-    requires has_log { ∥ ((terms : TableSettings) × HasLog terms table.now) ∥₁ }
-    ensures wanted { (terms : TableSettings) → IfOkForLogBy terms table.now result (λ log targets.
-        targets.endpoints ≡ targets_at terms log (latest log) head.now) }
-    ensures few { IfOk result (λ targets. length targets.endpoints ≤ 4294967295) }
+    requires room { table.now.limits.endpoints ≤ targets.old.room }
+    ensures wanted { (terms : TableSettings) → ForLogBy terms table.now (λ log.
+        targets.new.endpoints ≡ targets_at terms log (latest log) head.now) }
+    ensures few { length targets.new.endpoints ≤ table.now.limits.endpoints }
+    ensures room { targets.new.room ≡ targets.old.room }
 {
-    let mut targets = Targets::new(alloc, table.live_endpoints())?;
-    table.admitting_into(&head.group, &head.source, &table.now(), &mut targets);
-    Ok(targets)
+    table.admitting_into(&head.group, &head.source, &table.now(), targets);
 }
 
 // The packet to each of these endpoints. What carries it is the same for all, and is written once.
@@ -72,30 +72,58 @@ fn copies(alloc: Global, targets: &[Endpoint], packet: &[u8]) -> Result<Sends, A
     Ok(sends)
 }
 
+// The packet to each endpoint that wants its source in its group at the table's moment. No target is
+// kept, not even where memory ran out, since a relay that keeps any isn't as before.
+fn copies_for(
+    alloc: Global,
+    table: &Table,
+    targets: &mut Targets,
+    head: &Head,
+    packet: &[u8],
+) -> Result<Sends, AllocError>
+    requires within { IsWithinLimits table.now }
+    requires room { table.now.limits.endpoints ≤ targets.old.room }
+    requires size { length packet.now ≤ 65000 }
+    ensures copies { (terms : TableSettings) → IfOkForLogBy terms table.now result (λ log sends.
+        sends ≡ copies (targets_at terms log (latest log) head.now) packet.now) }
+    ensures few { IfOk result (λ sends. length sends ≤ table.now.limits.endpoints) }
+    ensures empty { targets.new.endpoints ≡ [] }
+    ensures room { targets.new.room ≡ targets.old.room }
+{
+    find_targets(table, head, targets);
+    let sends = copies(alloc, targets.as_slice(), packet);
+    targets.clear();
+    sends
+}
+
 // What a packet comes to: a copy for each endpoint that wants it. The packet goes as it came: its TTL
 // isn't lowered, and a fragment is copied as any other packet.
 pub fn take_packet(
     alloc: Global,
     setup: &Setup,
     table: &Table,
+    targets: &mut Targets,
     packet: &Bytes,
 ) -> Result<Step, AllocError>
     requires within { IsWithinLimits table.now }
     requires has_log { ∥ HasLog (table_settings_of setup.now.settings) table.now ∥₁ }
+    requires room { setup.now.settings.limits.endpoints ≤ targets.old.room }
+    requires empty { targets.old.endpoints ≡ [] }
     requires size { length packet.now ≤ 65535 }
-    ensures { AnswersByLog (table_settings_of setup.now.settings) table.now table.now result (λ log.
+    ensures answers { AnswersByLog (table_settings_of setup.now.settings) table.now table.now result (λ log.
         packet_answer (targets_at (table_settings_of setup.now.settings) log (latest log)) packet.now
         (head_to_copy setup.now.settings.packet_limit packet.now)) }
+    ensures same { targets.new ≡ targets.old }
 {
     let packet = packet.as_slice();
     let head = match head_to_copy(setup.settings.packet_limit, packet) {
         Ok(head) => head,
         Err(outcome) => return Ok(Step::quiet(alloc, outcome)),
     };
-    let targets = targets(alloc, table, &head)?;
-    let sends = copies(alloc, targets.as_slice(), packet)?;
+    let sends = copies_for(alloc, table, targets, &head, packet)?;
+    let copied = sends.len() as u32;
     Ok(Step {
-        outcome: Outcome::Copied(targets.len() as u32),
+        outcome: Outcome::Copied(copied),
         sends,
         change: None,
     })

@@ -1,4 +1,5 @@
 //! The relay as a machine: where it starts, what is read off it, and one step. It knows no message.
+ghost use Rattle.std.specs.Prelude.{◌≡◌, ◌≤◌, []};
 ghost use Rattle.endpoint_membership.specs.Table.{IsWithinLimits};
 ghost use Rattle.relay_machine.specs.Settings.{table_settings_of};
 ghost use Rattle.relay_machine.specs.State.{HasLog};
@@ -12,7 +13,7 @@ use crate::sends::Step;
 use crate::settings::Settings;
 use crate::setup::Setup;
 use amt_values::Moment;
-use endpoint_membership::{Change, Rows, Table};
+use endpoint_membership::{Change, Rows, Table, Targets};
 use response_mac::{Secret, Secrets};
 use std::alloc::{AllocError, Global};
 
@@ -21,13 +22,20 @@ use std::alloc::{AllocError, Global};
 /// Contracts see each of its fields, so where they say that a relay is as before, nothing more was
 /// kept; a cell, of which they see nothing, none of its fields is. What the table keeps is within the
 /// limits, and represents some log.
+///
+/// The room for a packet's receivers is taken once, for as many as the limits allow, so that a packet
+/// takes memory for its sends alone. It is no state of the protocol: contracts see how much room there
+/// is, which never changes, and that no receiver is in it between events.
 #[derive(Debug, Drop)]
 pub struct Relay {
     setup: Setup,
     secrets: Secrets,
     table: Table,
+    targets: Targets,
     ghost within: { IsWithinLimits table } by { Prim.hlevel props },
     ghost has_log: { ∥ HasLog (table_settings_of setup.settings) table ∥₁ },
+    ghost has_room: { setup.settings.limits.endpoints ≤ targets.room },
+    ghost no_targets: { targets.endpoints ≡ [] } by { Prim.hlevel props },
 }
 
 impl Relay {
@@ -62,10 +70,12 @@ impl Relay {
             (memberships_now (table_settings_of settings) (accepted_log settings secret events)) }
     {
         let table = Table::new(alloc, settings.limits, settings.lifetime_ms())?;
+        let targets = Targets::new(alloc, settings.limits.endpoints)?;
         Ok(Relay {
             setup: Setup::new(settings),
             secrets: Secrets::new(secret),
             table,
+            targets,
         })
     }
 
@@ -166,7 +176,9 @@ impl Relay {
                 let setup = &self.setup;
                 take_datagram(alloc, setup, &self.secrets, &mut self.table, from, bytes)
             }
-            Event::Packet { bytes } => take_packet(alloc, &self.setup, &self.table, bytes),
+            Event::Packet { bytes } => {
+                take_packet(alloc, &self.setup, &self.table, &mut self.targets, bytes)
+            }
             Event::Rotate(secret) => {
                 self.secrets.rotate(*secret);
                 Ok(Step::quiet(alloc, Outcome::Rotated))

@@ -33,6 +33,7 @@ pub struct Setup {
     ghost code_fits: { igmp.max_code ≤ 255 },
     ghost robustness_fits: { settings.robustness ≤ 7 },
     ghost packets_fit: { settings.packet_limit ≤ 65000 },
+    ghost endpoints_fit: { settings.limits.endpoints ≤ 65536 },
 }
 
 impl Setup {

@@ -9,7 +9,7 @@ pub returns-clause-stands : goal.returns-clause-stands
 returns-clause-stands c =
     let settings = c.args.settings in
     let holds = subst (λ (lifetime : ℕ). Holds (record { limits = settings.limits; lifetime = lifetime }) c.in_ok-table.table []) c.lifetime_ms.ensures c.in_ok-table.ensures.stands in
-    RelayAt-new _ settings c.args.secret c.new-2.ensures c.new-3.ensures holds
+    RelayAt-new _ settings c.args.secret c.new-3.ensures c.new-4.ensures holds
 
 pub returns-clause-within : goal.returns-clause-within
 returns-clause-within c events = always_within c.args.settings c.args.secret events
@@ -19,3 +19,6 @@ returns-in_err-table-clause-within c events = always_within c.args.settings c.ar
 
 pub new-requires : goal.new-requires
 new-requires c = rw c.lifetime_ms.ensures (AreLawful-settings c.args.settings c.requires)
+
+pub returns-in_err-targets-clause-within : goal.returns-in_err-targets-clause-within
+returns-in_err-targets-clause-within c events = always_within c.args.settings c.args.secret events

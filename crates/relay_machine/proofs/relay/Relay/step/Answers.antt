@@ -1,8 +1,9 @@
-use Rattle.std.proofs.Common.{◌≡◌, ℕ, max, ◌++◌, ◌∷◌, [], Option, refl, sym, subst, ap, ◌∙◌}
+use Rattle.std.proofs.Common.{◌≡◌, ◌≤◌, ℕ, max, ◌++◌, ◌∷◌, [], Option, refl, sym, subst, ap, ◌∙◌}
 use Rattle.std.proofs.Math.Logic.{∥∥₁_map}
 use Rattle.std.proofs.lemmas.Result.{IfOk-weaker}
 use Rattle.amt_values.specs.Octets.{AreOctets}
 use Rattle.endpoint_membership.specs.Table.{Holds}
+use Rattle.endpoint_membership.specs.Targets.{TargetsValue}
 use Rattle.endpoint_membership.specs.declared.change.Change.{Change}
 use Rattle.relay_machine.specs.declared.event.Event.TheVariants.{Datagram, Packet}
 use Rattle.relay_machine.specs.Accepted.{accepted_log, with_change}
@@ -18,12 +19,24 @@ pub invariant_of-self : goal.invariant_of-self
 invariant_of-self c = record {
   within = c.advance.ensures.within c.args.self.now.within;
   has_log = ∥∥₁_map c.args.self.now.has_log (λ found. (_, c.advance.ensures.stands _ found.0 found.1));
+  has_room = c.args.self.now.has_room;
+  no_targets = c.args.self.now.no_targets;
 }
 
 pub invariant_of-self-in-Datagram : goal.invariant_of-self-in-Datagram
 invariant_of-self-in-Datagram c = record {
   within = c.take_datagram.ensures.within;
   has_log = HasLog-answered _ _ _ _ c.take_datagram.result c.args.self.now.has_log c.take_datagram.ensures.answers c.take_datagram.ensures.err;
+  has_room = c.args.self.now.has_room;
+  no_targets = c.args.self.now.no_targets;
+}
+
+pub invariant_of-self-in-Packet : goal.invariant_of-self-in-Packet
+invariant_of-self-in-Packet c = record {
+  within = c.args.self.now.within;
+  has_log = c.args.self.now.has_log;
+  has_room = subst (λ (targets : TargetsValue). (settings_of c.args.self.now).limits.endpoints ≤ targets.room) (sym c.take_packet.ensures.same) c.args.self.now.has_room;
+  no_targets = ap (λ (targets : TargetsValue). targets.endpoints) c.take_packet.ensures.same ∙ c.args.self.now.no_targets;
 }
 
 pub returns-in-Moment-clause-next : goal.returns-in-Moment-clause-next
@@ -74,7 +87,7 @@ returns-in-Datagram-clause-published c log holds =
 
 pub returns-in-Datagram-clause-same : goal.returns-in-Datagram-clause-same
 returns-in-Datagram-clause-same c settings first events at payload =
-    IfOk-weaker c.take_datagram.result _ _ (λ step is none. same_relay c.args.self.now _ _ _ (is.same none))
+    IfOk-weaker c.take_datagram.result _ _ (λ step is none. same_relay c.args.self.now _ _ _ _ _ _ (is.same none) refl)
     (c.take_datagram.ensures.answers (accepted_log settings first events) (StandsFor-accepted c.args.self.now settings first events at))
 
 pub returns-in-Datagram-clause-updated : goal.returns-in-Datagram-clause-updated
@@ -99,23 +112,23 @@ returns-in-Datagram-clause-torn_only c settings first events at =
 pub returns-in-Packet-clause-outcome : goal.returns-in-Packet-clause-outcome
 returns-in-Packet-clause-outcome c settings first events at =
     rw c.in-Packet.is (IfOk-weaker c.take_packet.result _ _ (λ step is. is.outcome)
-    (answered-after c.args.self.now _ settings first events (Packet c.in-Packet.bytes) c.take_packet.result at c.take_packet.ensures))
+    (answered-after c.args.self.now _ settings first events (Packet c.in-Packet.bytes) c.take_packet.result at c.take_packet.ensures.answers))
 
 pub returns-in-Packet-clause-sends : goal.returns-in-Packet-clause-sends
 returns-in-Packet-clause-sends c settings first events at =
     rw c.in-Packet.is (IfOk-weaker c.take_packet.result _ _ (λ step is. is.sends)
-    (answered-after c.args.self.now _ settings first events (Packet c.in-Packet.bytes) c.take_packet.result at c.take_packet.ensures))
+    (answered-after c.args.self.now _ settings first events (Packet c.in-Packet.bytes) c.take_packet.result at c.take_packet.ensures.answers))
 
 pub returns-in-Packet-clause-change : goal.returns-in-Packet-clause-change
 returns-in-Packet-clause-change c settings first events at =
     rw c.in-Packet.is (IfOk-weaker c.take_packet.result _ _ (λ step is. is.change)
-    (answered-after c.args.self.now _ settings first events (Packet c.in-Packet.bytes) c.take_packet.result at c.take_packet.ensures))
+    (answered-after c.args.self.now _ settings first events (Packet c.in-Packet.bytes) c.take_packet.result at c.take_packet.ensures.answers))
 
 pub returns-in-Packet-clause-next : goal.returns-in-Packet-clause-next
 returns-in-Packet-clause-next c settings first events at =
     rw c.in-Packet.is (IfOk-weaker c.take_packet.result _ _
     (λ step is. RelayAt-payload c.args.self.now _ settings first events (Packet c.in-Packet.bytes) at tt refl refl is.stands)
-    (answered-after c.args.self.now _ settings first events (Packet c.in-Packet.bytes) c.take_packet.result at c.take_packet.ensures))
+    (answered-after c.args.self.now _ settings first events (Packet c.in-Packet.bytes) c.take_packet.result at c.take_packet.ensures.answers))
 
 pub returns-in-Packet-clause-within : goal.returns-in-Packet-clause-within
 returns-in-Packet-clause-within c settings first events at =
@@ -125,14 +138,19 @@ returns-in-Packet-clause-within c settings first events at =
 
 pub returns-in-Packet-clause-published : goal.returns-in-Packet-clause-published
 returns-in-Packet-clause-published c log holds =
-    IfOk-weaker c.take_packet.result _ _ (λ step is. is.published) (c.take_packet.ensures log holds)
+    IfOk-weaker c.take_packet.result _ _ (λ step is. is.published) (c.take_packet.ensures.answers log holds)
+
+pub returns-in-Packet-clause-same : goal.returns-in-Packet-clause-same
+returns-in-Packet-clause-same c settings first events at payload =
+    IfOk-weaker c.take_packet.result _ _ (λ step is none. same_relay c.args.self.now _ _ _ _ _ _ refl c.take_packet.ensures.same)
+    (c.take_packet.ensures.answers (accepted_log settings first events) (StandsFor-accepted c.args.self.now settings first events at))
 
 pub returns-in-Packet-clause-copies : goal.returns-in-Packet-clause-copies
 returns-in-Packet-clause-copies c settings first events at packet head is to_copy =
     let same : packet ≡ c.in-Packet.bytes = cc in
     rw same (IfOk-weaker c.take_packet.result _ _
     (λ step answered. AreCopies-answered settings first events c.in-Packet.bytes head step answered.outcome answered.sends (subst (IsToCopy settings.packet_limit head) same to_copy))
-    (answered-after c.args.self.now _ settings first events (Packet c.in-Packet.bytes) c.take_packet.result at c.take_packet.ensures))
+    (answered-after c.args.self.now _ settings first events (Packet c.in-Packet.bytes) c.take_packet.result at c.take_packet.ensures.answers))
 
 pub returns-in-Packet-clause-updated_only : goal.returns-in-Packet-clause-updated_only
 returns-in-Packet-clause-updated_only c settings first events at =
