@@ -3,10 +3,14 @@
 usage: python3 bench/mixed.py joins ENDPOINTS             settings, and a join of each endpoint
        python3 bench/mixed.py updates ENDPOINTS COUNT     the same, and so many renewals
        python3 bench/mixed.py packets ENDPOINTS COUNT     the same, and so many packets, each copied once
+       python3 bench/mixed.py moments ENDPOINTS COUNT     the same, and so many moments, at which nothing expires
+       python3 bench/mixed.py expiry ENDPOINTS            the same, and a moment at which all have expired
+       python3 bench/mixed.py receivers ENDPOINTS COUNT   the same, a join of 1,000 of them to one group more,
+                                                          and so many packets to that group
        python3 bench/mixed.py mixed ENDPOINTS OCTETS      the same, and Requests, renewals and packets in
                                                           turn, up to so many octets of script
 
-There are at most 16,384 endpoints. Each has a group of its own; every other one is joined in MLDv2.
+There are at most 65,536 endpoints. Each has a group of its own; every other one is joined in MLDv2.
 The response MACs are of a secret of 32 zero octets.
 """
 import hashlib
@@ -14,7 +18,7 @@ import hmac
 import itertools
 import sys
 
-SETTINGS = ["set relay 192.0.2.1", "set endpoints 16384", "set groups 16", "set sources 64"]
+SETTINGS = ["set relay 192.0.2.1", "set endpoints 65536", "set groups 16", "set sources 64"]
 NONCE = bytes.fromhex("0a0b0c0d")
 LINK = bytes.fromhex("fe800000000000000000000000000002")
 ROUTERS = bytes.fromhex("ff020000000000000000000000000016")
@@ -38,26 +42,27 @@ def group6(index):
     return bytes.fromhex("ff3e") + index.to_bytes(14, "big")
 
 
-def report4(index):
-    body = bytes.fromhex("000000000001" "04000000") + group4(index)
+def report4(group):
+    body = bytes.fromhex("000000000001" "04000000") + group4(group)
     body = b"\x22\0" + checksum(b"\x22\0" + body) + body[2:]
     front = bytes.fromhex("46c0%04x000000000102" % (24 + len(body)))
     back = bytes.fromhex("0a000002" "e0000016" "94040000")
     return front + checksum(front + back) + back + body
 
 
-def report6(index):
-    body = bytes.fromhex("000000000001" "04000000") + group6(index)
+def report6(group):
+    body = bytes.fromhex("000000000001" "04000000") + group6(group)
     pseudo = LINK + ROUTERS + bytes.fromhex("%08x" "0000003a" % (2 + len(body)))
     body = b"\x8f\0" + checksum(pseudo + b"\x8f\0" + body) + body[2:]
     front = bytes.fromhex("60000000%04x0001" % (8 + len(body)))
     return front + LINK + ROUTERS + bytes.fromhex("3a00050200000100") + body
 
 
-def update(index):
+def update(index, group=None):
+    group = index if group is None else group
     address = bytes(12) + (0x0a000000 + index).to_bytes(4, "big")
     mac = hmac.new(bytes(32), address + (5000).to_bytes(2, "big") + NONCE, hashlib.sha256).digest()[:6]
-    inner = report6(index) if index % 2 else report4(index)
+    inner = report6(group) if group % 2 else report4(group)
     return f"dg {peer(index)} {(bytes([5, 0]) + mac + NONCE + inner).hex()}"
 
 
@@ -79,7 +84,16 @@ def main():
     # A stride by which the endpoints come in no order.
     drawn = (step * 7919 % endpoints for step in itertools.count())
     lines = SETTINGS + [update(index) for index in range(endpoints)]
-    if kind in ("updates", "packets"):
+    if kind == "receivers":
+        # A group that is nobody's own, joined by endpoints that stand far apart.
+        shared = 65536
+        lines += [update(many * endpoints // 1000, shared) for many in range(1000)]
+        lines += [packet(shared)] * int(sys.argv[3])
+    elif kind == "moments":
+        lines += [f"at {moment}" for moment in range(1, int(sys.argv[3]) + 1)]
+    elif kind == "expiry":
+        lines.append("at 260000")
+    elif kind in ("updates", "packets"):
         line = update if kind == "updates" else packet
         lines += [line(next(drawn)) for _ in range(int(sys.argv[3]))]
     elif kind == "mixed":

@@ -9,7 +9,7 @@ set -eu
 here=$(cd "$(dirname "$0")/.." && pwd)
 amt=${1:-$here/crates/amt/out/amt}
 runs=5
-count=1000
+count=20000
 work=$(mktemp -d)
 trap 'rm -rf "$work"' EXIT
 
@@ -52,6 +52,18 @@ replay() {
     median "$work/times"
 }
 
+# each BEFORE AFTER COUNT: the milliseconds between, in microseconds for each
+each() {
+    awk "BEGIN { printf \"%.1f\", ($2 - $1) * 1000 / $3 }"
+}
+
+# peak FILE: the most memory that a replay of it takes, in KB
+peak() {
+    python3 -c 'import resource, subprocess, sys
+subprocess.run([sys.argv[1], "replay", "relay"], stdin=open(sys.argv[2]), stdout=subprocess.DEVNULL)
+print(resource.getrusage(resource.RUSAGE_CHILDREN).ru_maxrss)' "$amt" "$1"
+}
+
 median() {
     sort -n "$1" | sed -n "$((runs / 2 + 1))p"
 }
@@ -71,15 +83,30 @@ for kind in discovery request mixed; do
     done
 done
 
-# What so many lines more cost, in microseconds a line. Each packet goes to one endpoint.
-printf '\n%-10s %8s %10s %10s\n' endpoints 'joins ms' 'update us' 'packet us'
-for endpoints in 100 1000 10000; do
+# What so many lines more cost, in microseconds a line. Each packet goes to one endpoint, nothing
+# expires at a moment, and in the last column each endpoint expires once.
+printf '\n%-10s %8s %10s %10s %10s %10s %8s\n' \
+    endpoints 'joins ms' 'update us' 'packet us' 'moment us' 'expiry us' 'peak KB'
+for endpoints in 100 1000 10000 65536; do
     mixed joins $endpoints > "$work/joins"
     mixed updates $endpoints $count > "$work/updates"
     mixed packets $endpoints $count > "$work/packets"
+    mixed moments $endpoints $count > "$work/moments"
+    mixed expiry $endpoints > "$work/expiry"
     j=$(replay "$work/joins")
     u=$(replay "$work/updates")
     p=$(replay "$work/packets")
-    printf '%-10s %8s %10s %10s\n' $endpoints "$j" \
-        $(((u - j) * 1000 / count)) $(((p - j) * 1000 / count))
+    m=$(replay "$work/moments")
+    e=$(replay "$work/expiry")
+    printf '%-10s %8s %10s %10s %10s %10s %8s\n' $endpoints "$j" \
+        "$(each "$j" "$u" $count)" "$(each "$j" "$p" $count)" "$(each "$j" "$m" $count)" \
+        "$(each "$j" "$e" $endpoints)" "$(peak "$work/joins")"
+done
+
+# A packet that goes to 1,000 endpoints.
+printf '\n%-10s %14s\n' endpoints 'to 1,000 us'
+for endpoints in 1000 65536; do
+    mixed receivers $endpoints 0 > "$work/none"
+    mixed receivers $endpoints 100 > "$work/some"
+    printf '%-10s %14s\n' $endpoints "$(each "$(replay "$work/none")" "$(replay "$work/some")" 100)"
 done
