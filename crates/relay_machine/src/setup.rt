@@ -11,7 +11,7 @@ use amt_values::{Bytes, Endpoint};
 use igmp_records::{value_code4, write_query4};
 use inner_datagrams::{write_inner4, write_inner6};
 use mld_records::{value_code6, write_query6};
-use response_mac::{Secret, mac};
+use response_mac::MacKey;
 use source_filter::QueryFields;
 use std::alloc::{AllocError, Global};
 
@@ -77,18 +77,18 @@ impl Setup {
         write_inner6(alloc, source, ALL_NODES, query.as_slice())
     }
 
-    /// The Query that answers a source's Request under this secret, for MLD where `v6` is true.
+    /// The Query that answers a source's Request under this key, for MLD where `v6` is true.
     pub fn query_for(
         &self,
         alloc: Global,
-        secret: &Secret,
+        key: &MacKey,
         v6: bool,
         limited: bool,
         source: Endpoint,
         nonce: u32,
     ) -> Result<Message, AllocError>
         ensures value { IfOk result
-            (λ query. query ≡ query_for self.now.settings secret.now v6 limited source nonce) }
+            (λ query. query ≡ query_for self.now.settings key.now v6 limited source nonce) }
         ensures sendable { IfOk result IsSendable }
     {
         let inner = match v6 {
@@ -97,7 +97,7 @@ impl Setup {
         };
         Ok(Message::Query {
             limited,
-            mac: mac(secret, &source, nonce),
+            mac: key.mac(&source, nonce),
             nonce,
             inner,
             seen: Some(source),

@@ -1,7 +1,8 @@
 //! HMAC with SHA-256. It must not know what the key and the text are for.
 
-ghost use Rattle.std.specs.Prelude.{◌≡◌, ◌-◌, ◌≤◌, ◌++◌, length, map, replicate, bit_xor};
-ghost use Rattle.response_mac.specs.Hmac.{block_octets, key_block, hmac_of};
+ghost use Rattle.std.specs.Prelude.{◌≡◌, ◌-◌, ◌≤◌, ℕ, List, ◌++◌, length, map, replicate, bit_xor};
+ghost use Rattle.sha2.specs.Hashers.{Holds256};
+ghost use Rattle.response_mac.specs.Hmac.{block_octets, hmac_of, ipad, key_block, opad, padded_key};
 
 use sha2::{Digest, Sha256};
 
@@ -16,18 +17,34 @@ const OUTER_PAD: u8 = 0x5c;
 ///
 /// A short key and itself with zeros after are one key, and so are a key above 64 octets and its
 /// digest: let no peer choose keys.
-#[tactic(auto, unfolding(crate::specs::Hmac::hmac_of))]
 pub fn hmac_sha256(key: &[u8], message: &[u8]) -> [u8; 32]
     ensures { result ≡ hmac_of key.now message.now }
 {
+    let (inner, outer) = pad_states(key);
+    digest_after_pads(inner, outer, message)
+}
+
+/// SHA-256 after the key with the inner pad, and after the key with the outer pad: all that HMAC
+/// needs of a key (RFC 2104, section 4).
+pub fn pad_states(key: &[u8]) -> (Sha256, Sha256)
+    ensures inner { Holds256 result.0 (padded_key key.now ipad) }
+    ensures outer { Holds256 result.1 (padded_key key.now opad) }
+{
     let block = key_block(key);
-    let mut inner = Sha256::new();
-    inner.update(&padded_block(&block, INNER_PAD));
-    inner.update(message);
-    let mut outer = Sha256::new();
-    outer.update(&padded_block(&block, OUTER_PAD));
-    outer.update(&inner.finalize());
-    outer.finalize()
+    (
+        Sha256::new_with_prefix(&padded_block(&block, INNER_PAD)),
+        Sha256::new_with_prefix(&padded_block(&block, OUTER_PAD)),
+    )
+}
+
+/// HMAC of the key whose two states these are.
+#[tactic(auto, unfolding(crate::specs::Hmac::hmac_of))]
+pub fn digest_after_pads(inner: Sha256, outer: Sha256, message: &[u8]) -> [u8; 32]
+    ensures { (key : List ℕ) → Holds256 inner (padded_key key ipad) → Holds256 outer (padded_key key opad)
+        → result ≡ hmac_of key message.now }
+{
+    let inner_digest = inner.chain_update(message).finalize();
+    outer.chain_update(&inner_digest).finalize()
 }
 
 fn key_block(key: &[u8]) -> [u8; BLOCK_OCTETS]

@@ -2,15 +2,17 @@
 //!
 //! Contract: a MAC is good exactly where the current or the previous secret gives it.
 //! It knows no message, socket or moment.
-//! Standard: RFC 7450, sections 5.1.4, 5.3.5 and 5.3.6; RFC 2104, sections 2 and 5.
+//! Standard: RFC 7450, sections 5.1.4, 5.3.5 and 5.3.6; RFC 2104, sections 2, 4 and 5.
 #![tactic(auto)]
 
 mod hmac;
+mod mac_key;
 mod response;
 mod secret;
 mod secrets;
 
 pub use hmac::hmac_sha256;
+pub use mac_key::MacKey;
 pub use response::mac;
 pub use secret::Secret;
 pub use secrets::Secrets;

@@ -3,7 +3,7 @@
 ghost use Rattle.std.specs.Prelude.{◌≡◌};
 ghost use Rattle.response_mac.specs.ResponseMac.{authenticated_octets, leftmost_48_bits, mac_of};
 
-use crate::hmac::hmac_sha256;
+use crate::mac_key::MacKey;
 use crate::secret::Secret;
 use amt_values::{Endpoint, Mac48};
 use byteorder::{BigEndian, ByteOrder};
@@ -11,15 +11,14 @@ use byteorder::{BigEndian, ByteOrder};
 /// The response MAC that a relay sends to an endpoint in answer to its request.
 ///
 /// RFC 7450, section 5.3.5, leaves its computation to the relay.
-#[tactic(auto, unfolding(crate::specs::ResponseMac::mac_of))]
 pub fn mac(secret: &Secret, endpoint: &Endpoint, nonce: u32) -> Mac48
     ensures { result ≡ mac_of secret.now endpoint.now nonce }
 {
-    leftmost_48_bits(&hmac_sha256(&secret.0, &authenticated_octets(endpoint, nonce)))
+    MacKey::new(*secret).mac(endpoint, nonce)
 }
 
 // Each part has a fixed length, so that no two requests have the same octets.
-fn authenticated_octets(endpoint: &Endpoint, nonce: u32) -> [u8; 22]
+pub fn authenticated_octets(endpoint: &Endpoint, nonce: u32) -> [u8; 22]
     ensures { result ≡ authenticated_octets endpoint.now nonce }
 {
     let mut octets = [0; 22];

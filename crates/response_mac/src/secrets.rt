@@ -4,16 +4,17 @@ ghost use Rattle.std.specs.Prelude.{◌≡◌, ◌↔◌, ◌≤◌, Some, List,
 ghost use Rattle.response_mac.specs.declared.secret.Secret.{Secret};
 ghost use Rattle.response_mac.specs.ResponseMac.{IsGood, is_good, mac_of, same_mac, secrets_after};
 
-use crate::response;
+use crate::mac_key::MacKey;
 use crate::secret::Secret;
 use amt_values::{Endpoint, Mac48};
+use std::mem;
 
 /// The secrets whose response MACs a relay accepts.
-#[derive(Clone, Copy, Debug)]
+#[derive(Debug, Drop)]
 pub struct Secrets {
-    pub current: Secret,
+    pub current: MacKey,
     /// None before the first rotation.
-    pub previous: Option<Secret>,
+    pub previous: Option<MacKey>,
 }
 
 impl Secrets {
@@ -22,7 +23,7 @@ impl Secrets {
         ensures { result ≡ secrets_after first [] }
     {
         Secrets {
-            current: first,
+            current: MacKey::new(first),
             previous: None,
         }
     }
@@ -37,8 +38,8 @@ impl Secrets {
             → self.old ≡ secrets_after first changes
             → self.new ≡ secrets_after first (changes ++ new ∷ []) }
     {
-        self.previous = Some(self.current);
-        self.current = new;
+        let old = mem::replace(&mut self.current, MacKey::new(new));
+        self.previous = Some(old);
     }
 
     /// Whether one of the two secrets gives this MAC for the endpoint and the nonce.
@@ -58,11 +59,11 @@ impl Secrets {
     }
 }
 
-fn is_given_by(secret: &Secret, endpoint: &Endpoint, nonce: u32, mac: &Mac48) -> bool
-    ensures given { IsTrue result ↔ (mac.now ≡ mac_of secret.now endpoint.now nonce) }
-    ensures test { result ≡ same_mac mac.now (mac_of secret.now endpoint.now nonce) }
+fn is_given_by(key: &MacKey, endpoint: &Endpoint, nonce: u32, mac: &Mac48) -> bool
+    ensures given { IsTrue result ↔ (mac.now ≡ mac_of key.now endpoint.now nonce) }
+    ensures test { result ≡ same_mac mac.now (mac_of key.now endpoint.now nonce) }
 {
-    is_same(mac, &response::mac(secret, endpoint, nonce))
+    is_same(mac, &key.mac(endpoint, nonce))
 }
 
 // Each octet is looked at, whatever those before it were: otherwise a forger could tell by the time

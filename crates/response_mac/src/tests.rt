@@ -95,7 +95,7 @@ fn holds_after(secrets: &mut Secrets, mac: &Mac48, new: u8) -> bool {
 fn a_mac_is_good_until_the_second_rotation(rt: HostRuntime) {
     let mut secrets = Secrets::new(Secret([1; 32]));
     let endpoint = Endpoint::named(GATEWAY, 5000);
-    let given = mac(&secrets.current, &endpoint, NONCE);
+    let given = secrets.current.mac(&endpoint, NONCE);
     assert!(rt; secrets.matches(&endpoint, NONCE, &given), "current");
     assert!(rt; holds_after(&mut secrets, &given, 2), "previous");
     assert!(rt; !holds_after(&mut secrets, &given, 3), "the one before");
@@ -108,7 +108,7 @@ fn is_good_with(bit: usize, address: u128, port: u16, nonce: u32) -> bool
 {
     let mut secrets = Secrets::new(Secret([1; 32]));
     secrets.rotate(Secret([2; 32]));
-    let mut turned = mac(&secrets.current, &Endpoint::named(GATEWAY, 5000), NONCE);
+    let mut turned = secrets.current.mac(&Endpoint::named(GATEWAY, 5000), NONCE);
     if bit < 48 {
         turned.0[bit / 8] ^= 1 << (bit % 8);
     }
