@@ -16,7 +16,7 @@ use Rattle.endpoint_membership.specs.EndpointGroup.{same_endpoint}
 use Rattle.endpoint_membership.specs.Limits.{group_count, live_count}
 use Rattle.endpoint_membership.specs.Membership.{Membership}
 use Rattle.endpoint_membership.specs.Memberships.{is_live}
-use Rattle.endpoint_membership.specs.Parts.{IsCounted, one_less, one_more, some_unless_zero}
+use Rattle.endpoint_membership.specs.Parts.{HasNumber, one_less, one_more, some_unless_zero}
 use Rattle.endpoint_membership.proofs.AfterEntries.{same_back}
 
 abbrev Counts : Type 0
@@ -30,18 +30,18 @@ none_by true mine its none here = here refl ∙ none ∙ sym (ap one_less none)
 none_by false mine its none here = refl
 
 -- an endpoint with no count keeps none
-pub IsCounted-none : (counts : Counts) (endpoint : EndpointValue) → get endpoint_order counts endpoint ≡ None → IsCounted endpoint (one_less (get endpoint_order counts endpoint)) counts counts
-IsCounted-none counts endpoint none other =
+pub HasNumber-none : (counts : Counts) (endpoint : EndpointValue) → get endpoint_order counts endpoint ≡ None → HasNumber endpoint (one_less (get endpoint_order counts endpoint)) counts counts
+HasNumber-none counts endpoint none other =
     none_by (same_endpoint endpoint other) (get endpoint_order counts endpoint) (get endpoint_order counts other) none (count_here counts endpoint other)
 
 at_most_one : (n : ℕ) → n ≤ 1 → some_unless_zero (n - 1) ≡ None
 at_most_one n few = let none : n - 1 ≡ 0 = omega arith in ap some_unless_zero none
 
 -- the last group of an endpoint takes its count away
-pub IsCounted-last : (before after : Counts) (endpoint : EndpointValue) (n : ℕ) → get endpoint_order before endpoint ≡ Some n → n ≤ 1
+pub HasNumber-last : (before after : Counts) (endpoint : EndpointValue) (n : ℕ) → get endpoint_order before endpoint ≡ Some n → n ≤ 1
     → ((other : EndpointValue) → get endpoint_order after other ≡ (if same_endpoint endpoint other then None else get endpoint_order before other))
-    → IsCounted endpoint (one_less (get endpoint_order before endpoint)) before after
-IsCounted-last before after endpoint n is few out other =
+    → HasNumber endpoint (one_less (get endpoint_order before endpoint)) before after
+HasNumber-last before after endpoint n is few out other =
     out other ∙ ap (λ (count : Option ℕ). if same_endpoint endpoint other then count else get endpoint_order before other) (sym (ap one_less is ∙ at_most_one n few))
 
 -- the groups of an endpoint with one membership in front
@@ -84,7 +84,7 @@ more_by true mine its (suc n) m here is more =
 more_by false mine its n m here is more = let same : m ≡ n = omega arith in is ∙ sym (ap some_unless_zero same)
 
 -- the counts of memberships among which one more is the endpoint's
-pub counted-more : (before after : Counts) (endpoint other : EndpointValue) (n m : ℕ) → IsCounted endpoint (one_more (get endpoint_order before endpoint)) before after
+pub counted-more : (before after : Counts) (endpoint other : EndpointValue) (n m : ℕ) → HasNumber endpoint (one_more (get endpoint_order before endpoint)) before after
     → get endpoint_order before other ≡ some_unless_zero n → m ≡ cond (same_endpoint endpoint other) 1 0 + n → get endpoint_order after other ≡ some_unless_zero m
 counted-more before after endpoint other n m now is more =
     now other ∙ more_by (same_endpoint endpoint other) (get endpoint_order before endpoint) (get endpoint_order before other) n m (count_here before endpoint other) is more
@@ -95,7 +95,7 @@ less_by true mine its (suc n) m here is less = let one : suc n - 1 ≡ m = omega
 less_by false mine its n m here is less = let same : n ≡ m = omega arith in is ∙ ap some_unless_zero same
 
 -- the counts of memberships among which one less is the endpoint's
-pub counted-less : (before after : Counts) (endpoint other : EndpointValue) (n m : ℕ) → IsCounted endpoint (one_less (get endpoint_order before endpoint)) before after
+pub counted-less : (before after : Counts) (endpoint other : EndpointValue) (n m : ℕ) → HasNumber endpoint (one_less (get endpoint_order before endpoint)) before after
     → get endpoint_order before other ≡ some_unless_zero n → m + cond (same_endpoint endpoint other) 1 0 ≡ n → get endpoint_order after other ≡ some_unless_zero m
 counted-less before after endpoint other n m now is less =
     now other ∙ less_by (same_endpoint endpoint other) (get endpoint_order before endpoint) (get endpoint_order before other) n m (count_here before endpoint other) is less

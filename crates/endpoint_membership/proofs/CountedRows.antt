@@ -1,10 +1,8 @@
 -- Lists that ascend have no repeats, so their lengths count; and a filter raises no count.
-use Rattle.std.proofs.Common.{◌≡◌, ◌+◌, ◌≤◌, suc, Bool, true, false, cond, not, ◌||◌, List, [], ◌∷◌, length, map, filter, refl, sym, ◌∙◌, arith}
+use Rattle.std.proofs.Common.{◌≡◌, ◌≤◌, Bool, true, false, cond, not, ◌||◌, List, [], ◌∷◌, length, map, filter, refl, sym, ◌∙◌, arith}
 use Rattle.std.specs.Cmp.{IsTotalOrder}
-use Rattle.std.specs.Ordering.{eq_by_cmp, is_eq, match_ordering}
 use Rattle.std.specs.declared.cmp.Ordering.{Ordering}
-use Rattle.std.specs.declared.cmp.Ordering.TheVariants.{Less, Equal, Greater}
-use Rattle.std.proofs.lemmas.Bool.{or_parts, or_right}
+use Rattle.std.proofs.lemmas.Bool.{or_right}
 use Rattle.std.proofs.lemmas.Cmp.{eq_by_cmp_equiv}
 use Rattle.std.proofs.lemmas.List.Filters.{sum_by-filter_both}
 use Rattle.std.proofs.lemmas.Map.Keys.{IsDistinct-from_sorted}
@@ -13,7 +11,7 @@ use Rattle.std.proofs.lemmas.Map.Made.{length-le_from_is_member}
 use Rattle.amt_values.specs.Order.{endpoint_order}
 use Rattle.amt_values.specs.EndpointValue.{EndpointValue}
 use Rattle.amt_values.proofs.Orders.{endpoint_order-exact, endpoint_order-total}
-use Rattle.contract_words.specs.Ascending.{IsAscending, has, placed, ascending}
+use Rattle.contract_words.specs.Ascending.{IsAscending, has, ascending}
 use Rattle.contract_words.proofs.AscendingLaws.{IsAscending-ascending, has-ascending}
 use Rattle.endpoint_membership.specs.Limits.{group_count, live_count}
 use Rattle.endpoint_membership.specs.EndpointGroup.{same_endpoint}
@@ -23,19 +21,6 @@ use Rattle.endpoint_membership.specs.Membership.{Membership}
 pub length-within : {K : Type 0} (order : K → K → Ordering) → IsTotalOrder order → CmpEqualImpliesEq order → (xs ys : List K) → IsAscending order xs → IsAscending order ys
     → ((s : K) → has order xs s ≡ true → has order ys s ≡ true) → length xs ≤ length ys
 length-within order total exact xs ys first second each = length-le_from_is_member (eq_by_cmp_equiv total) xs ys (IsDistinct-from_sorted order xs first) each
-
-length-placed_by : {K : Type 0} (order : K → K → Ordering) (o : Ordering) (x y : K) (ys : List K) → is_eq o ≡ false → length (placed order x ys) ≡ length ys + 1
-    → length (match_ordering o (x ∷ y ∷ ys) (y ∷ ys) (y ∷ placed order x ys)) ≡ suc (length ys) + 1
-length-placed_by order Less x y ys apart more = omega arith
-length-placed_by order Equal x y ys apart more = cc
-length-placed_by order Greater x y ys apart more = omega arith
-
--- a new item makes a set longer by one
-pub length-placed-new : {K : Type 0} (order : K → K → Ordering) (x : K) (xs : List K) → has order xs x ≡ false → length (placed order x xs) ≡ length xs + 1
-length-placed-new order x [] none = refl
-length-placed-new order x (y ∷ ys) none =
-    let both = or_parts (eq_by_cmp order x y) (has order ys x) none in
-    length-placed_by order (order x y) x y ys both.0 (length-placed-new order x ys both.1)
 
 abbrev endpoints : List Membership → List EndpointValue
 endpoints rows = map (λ membership. membership.endpoint) rows

@@ -18,7 +18,7 @@ use Rattle.endpoint_membership.specs.Membership.{Membership, endpoint_group_of, 
 use Rattle.endpoint_membership.specs.Memberships.{membership_in}
 use Rattle.endpoint_membership.specs.Parts.{is_renewed_at, renewal_order, stored_memberships}
 use Rattle.endpoint_membership.specs.Stored.{is_not_at, only}
-use Rattle.endpoint_membership.specs.declared.keys.Renewal.{Renewal}
+use Rattle.endpoint_membership.specs.declared.keys.LastRenewal.{LastRenewal}
 use Rattle.endpoint_membership.specs.declared.stored.StoredFilter.{StoredFilter}
 use Rattle.endpoint_membership.proofs.MembershipIn.{membership_in-after, membership_in-filter, same_endpoint_group-exact, same_rows}
 use Rattle.endpoint_membership.proofs.StoredView.{IsAscending-stored, membership_in-stored, membership_with}
@@ -88,9 +88,9 @@ kept_by lifetime moment at None fresh = refl
 kept_by lifetime moment at (Some stored) fresh = rw (fresh stored refl) refl
 
 -- where each renewal is fresh, each membership is
-pub all_fresh : (lifetime moment : ℕ) (filters : BTreeMap EndpointGroup StoredFilter) (renewals : BTreeSet Renewal) → IsOrdered endpoint_group_order filters
-    → ((renewal : Renewal) → sorted.contains renewal_order renewals renewal ≡ is_renewed_at renewal.renewed (get endpoint_group_order filters renewal.at))
-    → ((renewal : Renewal) → sorted.contains renewal_order renewals renewal ≡ true → nat_lt moment (renewal.renewed + lifetime) ≡ true)
+pub all_fresh : (lifetime moment : ℕ) (filters : BTreeMap EndpointGroup StoredFilter) (renewals : BTreeSet LastRenewal) → IsOrdered endpoint_group_order filters
+    → ((renewal : LastRenewal) → sorted.contains renewal_order renewals renewal ≡ is_renewed_at renewal.renewed (get endpoint_group_order filters renewal.at))
+    → ((renewal : LastRenewal) → sorted.contains renewal_order renewals renewal ≡ true → nat_lt moment (renewal.renewed + lifetime) ≡ true)
     → filter (is_fresh lifetime moment) (stored_memberships filters) ≡ stored_memberships filters
 all_fresh lifetime moment filters renewals ordered renewed fresh =
     filter_all (is_fresh lifetime moment) (stored_memberships filters) (IsAscending-stored filters ordered)
@@ -98,10 +98,10 @@ all_fresh lifetime moment filters renewals ordered renewed fresh =
     (λ stored found. fresh (record { renewed = stored.renewed; at = at }) (renewed (record { renewed = stored.renewed; at = at }) ∙ ap (is_renewed_at stored.renewed) found ∙ eq-eqb stored.renewed stored.renewed refl))))
 
 -- where the first renewal is fresh, all are
-pub fresh_after : (lifetime moment : ℕ) (order : Renewal → Renewal → Ordering) (renewals : BTreeSet Renewal) (first renewal : Renewal) → order ≡ renewal_order → sorted.IsLowerBound order renewals first → moment < first.renewed + lifetime
+pub fresh_after : (lifetime moment : ℕ) (order : LastRenewal → LastRenewal → Ordering) (renewals : BTreeSet LastRenewal) (first renewal : LastRenewal) → order ≡ renewal_order → sorted.IsLowerBound order renewals first → moment < first.renewed + lifetime
     → sorted.contains renewal_order renewals renewal ≡ true → nat_lt moment (renewal.renewed + lifetime) ≡ true
 fresh_after lifetime moment order renewals first renewal same least fresh has =
-    let bound = subst (λ (one : Renewal → Renewal → Ordering). sorted.IsLowerBound one renewals first) same least renewal has in
+    let bound = subst (λ (one : LastRenewal → LastRenewal → Ordering). sorted.IsLowerBound one renewals first) same least renewal has in
     let later = le_from_not_gt first.renewed renewal.renewed (not_gt_first (nat_cmp first.renewed renewal.renewed) (endpoint_group_order first.at renewal.at) bound) in
     grind (arith, nat_tests)
 
@@ -114,10 +114,10 @@ none_in test [] empty = refl
 none_in test (key ∷ keys) empty = cc
 
 -- a set with no first renewal has none
-pub fresh_none : (lifetime moment : ℕ) (renewals : BTreeSet Renewal) (renewal : Renewal) → (IsSome {T = Renewal} None ↔ (0 < length renewals.keys))
+pub fresh_none : (lifetime moment : ℕ) (renewals : BTreeSet LastRenewal) (renewal : LastRenewal) → (IsSome {T = LastRenewal} None ↔ (0 < length renewals.keys))
     → sorted.contains renewal_order renewals renewal ≡ true → nat_lt moment (renewal.renewed + lifetime) ≡ true
 fresh_none lifetime moment renewals renewal some has =
-    let none = none_in (λ (one : Renewal). is_eq (renewal_order renewal one)) renewals.keys (empty_by (length renewals.keys) some.1) in cc
+    let none = none_in (λ (one : LastRenewal). is_eq (renewal_order renewal one)) renewals.keys (empty_by (length renewals.keys) some.1) in cc
 
 expired_by : (lifetime moment : ℕ) (at : EndpointGroup) (renewed : ℕ) (found : Option StoredFilter) → is_renewed_at renewed found ≡ true → renewed + lifetime ≤ moment
     → IsSome (membership_with at found) × (only (is_fresh lifetime moment) (membership_with at found) ≡ None)
@@ -128,7 +128,7 @@ expired_by lifetime moment at renewed (Some stored) is past =
     (refl, rw stale refl)
 
 -- the membership of a renewal that is not fresh is there, and is not fresh
-pub expired : (lifetime moment : ℕ) (filters : BTreeMap EndpointGroup StoredFilter) (first : Renewal) → is_renewed_at first.renewed (get endpoint_group_order filters first.at) ≡ true → first.renewed + lifetime ≤ moment
+pub expired : (lifetime moment : ℕ) (filters : BTreeMap EndpointGroup StoredFilter) (first : LastRenewal) → is_renewed_at first.renewed (get endpoint_group_order filters first.at) ≡ true → first.renewed + lifetime ≤ moment
     → IsSome (membership_in (stored_memberships filters) first.at) × (only (is_fresh lifetime moment) (membership_in (stored_memberships filters) first.at) ≡ None)
 expired lifetime moment filters first is past =
     rw (membership_in-stored filters first.at) (expired_by lifetime moment first.at first.renewed (get endpoint_group_order filters first.at) is past)

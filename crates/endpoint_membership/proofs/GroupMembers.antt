@@ -32,7 +32,7 @@ use Rattle.endpoint_membership.specs.Memberships.{membership_in}
 use Rattle.endpoint_membership.specs.Parts.{AreAgreed, group_member_order, stored_membership, stored_memberships}
 use Rattle.endpoint_membership.specs.Stored.{is_target, only, targets_in}
 use Rattle.endpoint_membership.specs.declared.keys.GroupMember.{GroupMember}
-use Rattle.endpoint_membership.specs.declared.keys.Renewal.{Renewal}
+use Rattle.endpoint_membership.specs.declared.keys.LastRenewal.{LastRenewal}
 use Rattle.endpoint_membership.specs.declared.stored.StoredFilter.{StoredFilter}
 use Rattle.endpoint_membership.proofs.KeysTogether.{filter-none, filter-wider, in_range-shares, least_number, others, same-ne}
 use Rattle.endpoint_membership.proofs.StoredView.{IsAscending-stored, membership_in-stored, membership_with}
@@ -102,7 +102,7 @@ abbrev pub AreMembersOf : List GroupMember → List Membership → Type 0
 AreMembersOf members rows = (member : GroupMember) → has group_member_order members member ≡ is_some (membership_in rows (pair member.endpoint member.group))
 
 -- the members of a table are those of its memberships
-pub AreMembersOf-agreed : (filters : BTreeMap EndpointGroup StoredFilter) (renewals : BTreeSet Renewal) (members : BTreeSet GroupMember) (counts : BTreeMap EndpointValue ℕ) → AreAgreed filters renewals members counts
+pub AreMembersOf-agreed : (filters : BTreeMap EndpointGroup StoredFilter) (renewals : BTreeSet LastRenewal) (members : BTreeSet GroupMember) (counts : BTreeMap EndpointValue ℕ) → AreAgreed filters renewals members counts
     → AreMembersOf members.keys (stored_memberships filters)
 AreMembersOf-agreed filters renewals members counts agreed member =
     let at = pair member.endpoint member.group in
@@ -271,7 +271,7 @@ walked order group endpoint members range start rest seen same least between beg
     ∙ rest_so_far deref seen start rest yields
 
 -- what the members of a table give is what its memberships give
-pub targets_among-table : (lifetime moment : ℕ) (group source : Ip) (order : GroupMember → GroupMember → Ordering) (filters : BTreeMap EndpointGroup StoredFilter) (renewals : BTreeSet Renewal) (members : BTreeSet GroupMember)
+pub targets_among-table : (lifetime moment : ℕ) (group source : Ip) (order : GroupMember → GroupMember → Ordering) (filters : BTreeMap EndpointGroup StoredFilter) (renewals : BTreeSet LastRenewal) (members : BTreeSet GroupMember)
     (counts : BTreeMap EndpointValue ℕ) (rows : List Membership) → order ≡ group_member_order → AreAgreed filters renewals members counts → stored_memberships filters ≡ rows → IsAscending order members.keys
     → targets_among lifetime moment group source rows members.keys ≡ targets_in lifetime moment group source rows
 targets_among-table lifetime moment group source order filters renewals members counts rows same agreed view ordered =

@@ -22,10 +22,10 @@ use Rattle.endpoint_membership.specs.EndpointGroup.{EndpointGroup, endpoint_grou
 use Rattle.endpoint_membership.specs.Limits.{group_count}
 use Rattle.endpoint_membership.specs.Membership.{Membership, membership_order}
 use Rattle.endpoint_membership.specs.Memberships.{membership_in}
-use Rattle.endpoint_membership.specs.Parts.{AreAgreed, IsCounted, group_member_order, is_renewed_at, member_of, one_less, one_more, renewal_order, some_unless_zero, stored_membership, stored_memberships}
+use Rattle.endpoint_membership.specs.Parts.{AreAgreed, HasNumber, group_member_order, is_renewed_at, member_of, one_less, one_more, renewal_order, some_unless_zero, stored_membership, stored_memberships}
 use Rattle.endpoint_membership.specs.Stored.{is_not_at, only}
 use Rattle.endpoint_membership.specs.declared.keys.GroupMember.{GroupMember}
-use Rattle.endpoint_membership.specs.declared.keys.Renewal.{Renewal}
+use Rattle.endpoint_membership.specs.declared.keys.LastRenewal.{LastRenewal}
 use Rattle.endpoint_membership.specs.declared.stored.StoredFilter.{StoredFilter}
 use Rattle.endpoint_membership.proofs.CountedParts.{counted-less, counted-more, group_count-cons}
 use Rattle.endpoint_membership.proofs.EndpointGroupOrder.{endpoint_group_order-exact, endpoint_group_order-total}
@@ -133,7 +133,7 @@ then_eq Less second = refl
 then_eq Equal second = refl
 then_eq Greater second = refl
 
-abbrev renewal_of : EndpointGroup → StoredFilter → Renewal
+abbrev renewal_of : EndpointGroup → StoredFilter → LastRenewal
 renewal_of at stored = record { renewed = stored.renewed; at = at }
 
 abbrev pair_of : GroupMember → EndpointGroup
@@ -142,7 +142,7 @@ pair_of member = record { endpoint = member.endpoint; group = member.group }
 nat_eq-is : (one other : ℕ) → is_eq (nat_cmp one other) ≡ (one == other)
 nat_eq-is one other = grind (arith, nat_tests)
 
-renewal_at : (at : EndpointGroup) (stored : StoredFilter) (renewal : Renewal) → is_at (renewal_order (renewal_of at stored)) renewal ≡ ((stored.renewed == renewal.renewed) && same_endpoint_group at renewal.at)
+renewal_at : (at : EndpointGroup) (stored : StoredFilter) (renewal : LastRenewal) → is_at (renewal_order (renewal_of at stored)) renewal ≡ ((stored.renewed == renewal.renewed) && same_endpoint_group at renewal.at)
 renewal_at at stored renewal = then_eq (nat_cmp stored.renewed renewal.renewed) (endpoint_group_order at renewal.at) ∙ ap (λ (moment : Bool). moment && same_endpoint_group at renewal.at) (nat_eq-is stored.renewed renewal.renewed)
 
 member_at : (at : EndpointGroup) (member : GroupMember) → is_at (group_member_order (member_of at)) member ≡ same_endpoint_group at (pair_of member)
@@ -174,11 +174,11 @@ at_pair filters at other found is same = ap (get endpoint_group_order filters) (
 -- ---- the parts together
 
 -- parts that agree do so with one membership more
-pub AreAgreed-more : (filters filters_after : Filters) (renewals renewals_after : BTreeSet Renewal) (members members_after : BTreeSet GroupMember) (counts counts_after : Counts) (at : EndpointGroup) (stored : StoredFilter)
+pub AreAgreed-more : (filters filters_after : Filters) (renewals renewals_after : BTreeSet LastRenewal) (members members_after : BTreeSet GroupMember) (counts counts_after : Counts) (at : EndpointGroup) (stored : StoredFilter)
     → AreAgreed filters renewals members counts → get endpoint_group_order filters at ≡ None
     → Updates endpoint_group_order filters filters_after at (Some stored) → filters_after.entries ≡ insert_entry endpoint_group_order filters.entries at stored → IsOrdered endpoint_group_order filters_after
     → sorted.Updates renewal_order renewals renewals_after (renewal_of at stored) true → sorted.Updates group_member_order members members_after (member_of at) true
-    → IsCounted at.endpoint (one_more (get endpoint_order counts at.endpoint)) counts counts_after → AreAgreed filters_after renewals_after members_after counts_after
+    → HasNumber at.endpoint (one_more (get endpoint_order counts at.endpoint)) counts counts_after → AreAgreed filters_after renewals_after members_after counts_after
 AreAgreed-more filters filters_after renewals renewals_after members members_after counts counts_after at stored agreed none updates entries ordered renewing joining counting = record {
   ordered = ordered;
   renewed = λ renewal. renewing.0 renewal
@@ -196,11 +196,11 @@ AreAgreed-more filters filters_after renewals renewals_after members members_aft
 }
 
 -- parts that agree do so with one membership less
-pub AreAgreed-less : (filters filters_after : Filters) (renewals renewals_after : BTreeSet Renewal) (members members_after : BTreeSet GroupMember) (counts counts_after : Counts) (at : EndpointGroup) (stored : StoredFilter)
+pub AreAgreed-less : (filters filters_after : Filters) (renewals renewals_after : BTreeSet LastRenewal) (members members_after : BTreeSet GroupMember) (counts counts_after : Counts) (at : EndpointGroup) (stored : StoredFilter)
     → AreAgreed filters renewals members counts → get endpoint_group_order filters at ≡ Some stored
     → Updates endpoint_group_order filters filters_after at None → filters_after.entries ≡ remove_entry (is_at (endpoint_group_order at)) filters.entries → IsOrdered endpoint_group_order filters_after
     → sorted.Updates renewal_order renewals renewals_after (renewal_of at stored) false → sorted.Updates group_member_order members members_after (member_of at) false
-    → IsCounted at.endpoint (one_less (get endpoint_order counts at.endpoint)) counts counts_after → AreAgreed filters_after renewals_after members_after counts_after
+    → HasNumber at.endpoint (one_less (get endpoint_order counts at.endpoint)) counts counts_after → AreAgreed filters_after renewals_after members_after counts_after
 AreAgreed-less filters filters_after renewals renewals_after members members_after counts counts_after at stored agreed some updates entries ordered ending leaving counting = record {
   ordered = ordered;
   renewed = λ renewal. ending.0 renewal
@@ -218,13 +218,13 @@ AreAgreed-less filters filters_after renewals renewals_after members members_aft
 }
 
 -- a pair with no filter has no renewal and no member
-pub keys-absent : (filters : Filters) (renewals : BTreeSet Renewal) (members : BTreeSet GroupMember) (counts : Counts) (at : EndpointGroup) (stored : StoredFilter) → AreAgreed filters renewals members counts
+pub keys-absent : (filters : Filters) (renewals : BTreeSet LastRenewal) (members : BTreeSet GroupMember) (counts : Counts) (at : EndpointGroup) (stored : StoredFilter) → AreAgreed filters renewals members counts
     → get endpoint_group_order filters at ≡ None → (sorted.contains renewal_order renewals (renewal_of at stored) ≡ false) × (sorted.contains group_member_order members (member_of at) ≡ false)
 keys-absent filters renewals members counts at stored agreed none =
     (agreed.renewed (renewal_of at stored) ∙ ap (is_renewed_at stored.renewed) none, agreed.joined (member_of at) ∙ ap is_some none)
 
 -- parts with the same entries and keys agree
-pub AreAgreed-same : (filters filters_after : Filters) (renewals renewals_after : BTreeSet Renewal) (members members_after : BTreeSet GroupMember) (counts counts_after : Counts) → AreAgreed filters renewals members counts
+pub AreAgreed-same : (filters filters_after : Filters) (renewals renewals_after : BTreeSet LastRenewal) (members members_after : BTreeSet GroupMember) (counts counts_after : Counts) → AreAgreed filters renewals members counts
     → filters_after.entries ≡ filters.entries → sorted.IsSameSet renewal_order renewals_after renewals → sorted.IsSameSet group_member_order members_after members → counts_after.entries ≡ counts.entries
     → AreAgreed filters_after renewals_after members_after counts_after
 AreAgreed-same filters filters_after renewals renewals_after members members_after counts counts_after agreed same_filters same_renewals same_members same_counts = record {

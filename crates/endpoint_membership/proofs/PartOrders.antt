@@ -13,28 +13,28 @@ use Rattle.endpoint_membership.specs.EndpointGroup.{EndpointGroup, endpoint_grou
 use Rattle.endpoint_membership.specs.Parts.{group_member_order, renewal_order}
 use Rattle.endpoint_membership.specs.contracts.keys.EndpointGroupOrd as pairs
 use Rattle.endpoint_membership.specs.contracts.keys.GroupMemberOrd as members
-use Rattle.endpoint_membership.specs.contracts.keys.RenewalOrd as renewals
+use Rattle.endpoint_membership.specs.contracts.keys.LastRenewalOrd as renewals
 use Rattle.endpoint_membership.specs.declared.keys.GroupMember.{GroupMember}
-use Rattle.endpoint_membership.specs.declared.keys.Renewal.{Renewal}
+use Rattle.endpoint_membership.specs.declared.keys.LastRenewal.{LastRenewal}
 use Rattle.endpoint_membership.proofs.EndpointGroupOrder.{endpoint_group_order-exact, endpoint_group_order-total}
 
 pub pairs_compared : (pairs.TheImpl.ghosts).cmp ≡ endpoint_group_order
 pairs_compared = ap (λ (groups : Ip → Ip → Ordering). then_cmp (on (λ (one : EndpointGroup). one.endpoint) endpoint_order) (on (λ (one : EndpointGroup). one.group) groups)) compared
 
 pub renewals_compared : (renewals.TheImpl.ghosts).cmp ≡ renewal_order
-renewals_compared = ap (λ (order : EndpointGroup → EndpointGroup → Ordering). then_cmp (on (λ (renewal : Renewal). renewal.renewed) nat_cmp) (on (λ (renewal : Renewal). renewal.at) order)) pairs_compared
+renewals_compared = ap (λ (order : EndpointGroup → EndpointGroup → Ordering). then_cmp (on (λ (renewal : LastRenewal). renewal.renewed) nat_cmp) (on (λ (renewal : LastRenewal). renewal.at) order)) pairs_compared
 
 pub members_compared : (members.TheImpl.ghosts).cmp ≡ group_member_order
 members_compared = ap (λ (groups : Ip → Ip → Ordering). then_cmp (on (λ (member : GroupMember). member.group) groups) (on (λ (member : GroupMember). member.endpoint) endpoint_order)) compared
 
 pub renewal_order-total : IsTotalOrder renewal_order
-renewal_order-total = then_total (on_total (λ (renewal : Renewal). renewal.renewed) nat_cmp_total) (on_total (λ (renewal : Renewal). renewal.at) endpoint_group_order-total)
+renewal_order-total = then_total (on_total (λ (renewal : LastRenewal). renewal.renewed) nat_cmp_total) (on_total (λ (renewal : LastRenewal). renewal.at) endpoint_group_order-total)
 
 pub group_member_order-total : IsTotalOrder group_member_order
 group_member_order-total = then_total (on_total (λ (member : GroupMember). member.group) ip_order-total) (on_total (λ (member : GroupMember). member.endpoint) endpoint_order-total)
 
 -- the renewal of the pair at the moment
-abbrev pub renewal_at : ℕ → EndpointGroup → Renewal
+abbrev pub renewal_at : ℕ → EndpointGroup → LastRenewal
 renewal_at moment at = record { renewed = moment; at = at }
 
 -- renewals that the order ties are one

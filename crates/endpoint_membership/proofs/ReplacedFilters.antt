@@ -22,7 +22,7 @@ use Rattle.endpoint_membership.specs.Membership.{Membership, endpoint_group_of, 
 use Rattle.endpoint_membership.specs.Memberships.{membership_in}
 use Rattle.endpoint_membership.specs.Parts.{AreAgreed, AreRenewalsOf, is_renewal_in, is_renewed_at, is_stored, renewal_of, renewal_order, some_unless_zero, stored_filter, stored_membership, stored_memberships}
 use Rattle.endpoint_membership.specs.declared.keys.GroupMember.{GroupMember}
-use Rattle.endpoint_membership.specs.declared.keys.Renewal.{Renewal}
+use Rattle.endpoint_membership.specs.declared.keys.LastRenewal.{LastRenewal}
 use Rattle.endpoint_membership.specs.declared.stored.StoredFilter.{StoredFilter}
 use Rattle.endpoint_membership.proofs.EndpointGroupOrder.{endpoint_group_order-total}
 use Rattle.endpoint_membership.proofs.MembershipIn.{AreAfter, membership_in-after, same_endpoint_group-exact}
@@ -34,7 +34,7 @@ use Rattle.endpoint_membership.proofs.StoredView.{membership_in-stored, membersh
 abbrev pub IsPut : BTreeMap EndpointGroup StoredFilter → BTreeMap EndpointGroup StoredFilter → EndpointGroup → StoredFilter → Type 0
 IsPut before after key stored = (other : EndpointGroup) → get endpoint_group_order after other ≡ cond (same_endpoint_group key other) (Some stored) (get endpoint_group_order before other)
 
-same_renewal-is : (one other : Renewal) → same_renewal one other ≡ ((one.renewed == other.renewed) && same_endpoint_group one.at other.at)
+same_renewal-is : (one other : LastRenewal) → same_renewal one other ≡ ((one.renewed == other.renewed) && same_endpoint_group one.at other.at)
 same_renewal-is one other =
     sym (ap (λ (same : Bool). same && same_endpoint_group one.at other.at) (unsigned_ties one.renewed other.renewed) ∙ tied_then (nat_cmp one.renewed other.renewed) (endpoint_group_order one.at other.at))
 
@@ -42,12 +42,12 @@ is_renewed_at-put : (here : Bool) (moment : ℕ) (stored : StoredFilter) (old : 
 is_renewed_at-put true moment stored old = refl
 is_renewed_at-put false moment stored old = refl
 
-is_stored-put : (before after : BTreeMap EndpointGroup StoredFilter) (key : EndpointGroup) (stored : StoredFilter) (renewal : Renewal) → IsPut before after key stored
+is_stored-put : (before after : BTreeMap EndpointGroup StoredFilter) (key : EndpointGroup) (stored : StoredFilter) (renewal : LastRenewal) → IsPut before after key stored
     → is_stored after renewal ≡ cond (same_endpoint_group key renewal.at) (stored.renewed == renewal.renewed) (is_stored before renewal)
 is_stored-put before after key stored renewal put =
     ap (is_renewed_at renewal.renewed) (put renewal.at) ∙ is_renewed_at-put (same_endpoint_group key renewal.at) renewal.renewed stored (get endpoint_group_order before renewal.at)
 
-is_stored-here : (filters : BTreeMap EndpointGroup StoredFilter) (key : EndpointGroup) (stored : StoredFilter) (renewal : Renewal) → get endpoint_group_order filters key ≡ Some stored
+is_stored-here : (filters : BTreeMap EndpointGroup StoredFilter) (key : EndpointGroup) (stored : StoredFilter) (renewal : LastRenewal) → get endpoint_group_order filters key ≡ Some stored
     → same_endpoint_group key renewal.at ≡ true → is_stored filters renewal ≡ (stored.renewed == renewal.renewed)
 is_stored-here filters key stored renewal is here =
     ap (λ (at : EndpointGroup). is_renewed_at renewal.renewed (get endpoint_group_order filters at)) (sym (same_endpoint_group-exact key renewal.at here)) ∙ ap (is_renewed_at renewal.renewed) is
@@ -73,7 +73,7 @@ without false true = refl
 without false false = refl
 
 -- the old renewal of the pair is out
-pub old_renewal_out : (before after : BTreeMap EndpointGroup StoredFilter) (key : EndpointGroup) (was now : StoredFilter) (renewal : Renewal) (there left : Bool)
+pub old_renewal_out : (before after : BTreeMap EndpointGroup StoredFilter) (key : EndpointGroup) (was now : StoredFilter) (renewal : LastRenewal) (there left : Bool)
     → get endpoint_group_order before key ≡ Some was → IsPut before after key now → (was.renewed ≡ now.renewed → ⊥)
     → left ≡ cond (same_renewal (renewal_at was.renewed key) renewal) false there → left ≡ (there && not (is_stored before renewal && not (is_stored after renewal)))
 old_renewal_out before after key was now renewal there left is put apart out =
@@ -88,7 +88,7 @@ old_renewal_out before after key was now renewal there left is put apart out =
     ∙ ap (λ (test : Bool). is_stored before renewal && not test) (sym (is_stored-put before after key now renewal put)))
 
 -- where the moment stays, the renewal does
-pub same_renewal_stays : (before after : BTreeMap EndpointGroup StoredFilter) (key : EndpointGroup) (was now : StoredFilter) (renewal : Renewal) (there : Bool)
+pub same_renewal_stays : (before after : BTreeMap EndpointGroup StoredFilter) (key : EndpointGroup) (was now : StoredFilter) (renewal : LastRenewal) (there : Bool)
     → get endpoint_group_order before key ≡ Some was → IsPut before after key now → was.renewed ≡ now.renewed → there ≡ (there && not (is_stored before renewal && not (is_stored after renewal)))
 same_renewal_stays before after key was now renewal there is put same =
     without false there
@@ -128,7 +128,7 @@ first_put membership rest before after at ascends put =
     ∙ put_first (same_endpoint_group at key) membership later old
     (λ here. ap (membership_in rest) (same_endpoint_group-exact at key here) ∙ membership_in-after key rest (sorted_head membership_order membership rest ascends))
 
-is_renewal_in-after : (renewal : Renewal) (rows : List Membership) → AreAfter renewal.at rows → is_renewal_in rows renewal ≡ false
+is_renewal_in-after : (renewal : LastRenewal) (rows : List Membership) → AreAfter renewal.at rows → is_renewal_in rows renewal ≡ false
 is_renewal_in-after renewal [] after = refl
 is_renewal_in-after renewal (membership ∷ rest) after =
     let apart = same_renewal-is renewal (renewal_of membership) ∙ and_right (renewal.renewed == membership.renewed) (same_endpoint_group renewal.at (endpoint_group_of membership)) (ap is_eq after.0) in
@@ -149,9 +149,9 @@ settled_by false false false true none = refl
 settled_by false false false false none = refl
 
 -- the renewals are those of the filters and of the memberships that are left
-pub first_settled : (membership : Membership) (rest : List Membership) (before after : BTreeMap EndpointGroup StoredFilter) (renewals left : BTreeSet Renewal) → IsAscending membership_order (membership ∷ rest)
+pub first_settled : (membership : Membership) (rest : List Membership) (before after : BTreeMap EndpointGroup StoredFilter) (renewals left : BTreeSet LastRenewal) → IsAscending membership_order (membership ∷ rest)
     → IsPut before after (endpoint_group_of membership) (stored_filter membership) → AreRenewalsOf (membership ∷ rest) before renewals
-    → ((renewal : Renewal) → sorted.contains renewal_order left renewal ≡ (sorted.contains renewal_order renewals renewal && not (is_stored before renewal && not (is_stored after renewal))))
+    → ((renewal : LastRenewal) → sorted.contains renewal_order left renewal ≡ (sorted.contains renewal_order renewals renewal && not (is_stored before renewal && not (is_stored after renewal))))
     → AreRenewalsOf rest after left
 first_settled membership rest before after renewals left ascends put are out renewal =
     let key = endpoint_group_of membership in
@@ -181,7 +181,7 @@ same_group_count endpoint before after same =
     group_count-keys endpoint before.entries ∙ ap (count_by (λ (key : EndpointGroup). same_endpoint key.endpoint endpoint)) (sym same) ∙ sym (group_count-keys endpoint after.entries)
 
 -- the parts agree after filters were put at keys that were there, with their renewals
-pub AreAgreed-put : (before after : BTreeMap EndpointGroup StoredFilter) (renewals left : BTreeSet Renewal) (members : BTreeSet GroupMember) (counts : BTreeMap EndpointValue ℕ) → AreAgreed before renewals members counts
+pub AreAgreed-put : (before after : BTreeMap EndpointGroup StoredFilter) (renewals left : BTreeSet LastRenewal) (members : BTreeSet GroupMember) (counts : BTreeMap EndpointValue ℕ) → AreAgreed before renewals members counts
     → keys after ≡ keys before → AreRenewalsOf [] after left → AreAgreed after left members counts
 AreAgreed-put before after renewals left members counts agreed same are = record {
   ordered = subst (IsStrictlySortedBy endpoint_group_order) (sym same) agreed.ordered;

@@ -1,6 +1,6 @@
 -- Memberships that ascend fall into three parts: of earlier endpoints, of one endpoint, and of later ones.
-use Rattle.std.proofs.Common.{◌≡◌, ℕ, suc, ◌+◌, ◌≤◌, Bool, cond, not, List, [], ◌∷◌, ◌++◌, take, drop, filter, refl, sym, ap, subst, ◌∙◌, arith}
-use Rattle.std.specs.Ordering.{is_eq, is_lt, ordering_reverse, ordering_then}
+use Rattle.std.proofs.Common.{◌≡◌, ℕ, suc, ◌+◌, Bool, List, [], ◌∷◌, ◌++◌, take, drop, filter, refl, sym, ap, subst, ◌∙◌, arith}
+use Rattle.std.specs.Ordering.{is_eq, ordering_reverse, ordering_then}
 use Rattle.std.specs.declared.cmp.Ordering.{Ordering}
 use Rattle.std.specs.declared.cmp.Ordering.TheVariants.{Less, Equal, Greater}
 use Rattle.std.proofs.lemmas.Map.Keys.{sorted_head, sorted_tail}
@@ -123,19 +123,6 @@ pub parted : (endpoint : EndpointValue) (rows : List Membership) → IsAscending
 parted endpoint [] ascends = record { whole = refl; earlier = tt; of = tt; later = tt }
 parted endpoint (membership ∷ rest) ascends =
     parted_by (endpoint_order membership.endpoint endpoint) endpoint membership rest refl ascends (parted endpoint rest (sorted_tail membership_order membership rest ascends))
-
-start_before_end_by : (order : Ordering) (start end : ℕ) → start ≤ end
-    → cond (is_lt order) (1 + start) 0 ≤ cond (not (is_lt (ordering_reverse order))) (1 + end) 0
-start_before_end_by Less start end before = omega arith
-start_before_end_by Equal start end before = omega arith
-start_before_end_by Greater start end before = omega arith
-
--- the endpoint's memberships end where they start, or after that
-pub start_before_end : (endpoint : EndpointValue) (rows : List Membership) → start_of endpoint rows ≤ end_of endpoint rows
-start_before_end endpoint [] = omega arith
-start_before_end endpoint (membership ∷ rest) =
-    rw (endpoint_order-total.antisymm endpoint membership.endpoint)
-    (start_before_end_by (endpoint_order membership.endpoint endpoint) (start_of endpoint rest) (end_of endpoint rest) (start_before_end endpoint rest))
 
 -- memberships ascend with other memberships of the endpoint in the place of its memberships
 pub IsAscending-replaced : (endpoint : EndpointValue) (rows own : List Membership) → IsAscending membership_order rows → IsAscending membership_order own → AreOf endpoint own

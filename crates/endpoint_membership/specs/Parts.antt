@@ -13,11 +13,11 @@ use Rattle.endpoint_membership.specs.EndpointGroup.{EndpointGroup, endpoint_grou
 use Rattle.endpoint_membership.specs.Limits.{group_count}
 use Rattle.endpoint_membership.specs.Membership.{Membership, endpoint_group_of}
 use Rattle.endpoint_membership.specs.declared.keys.GroupMember.{GroupMember}
-use Rattle.endpoint_membership.specs.declared.keys.Renewal.{Renewal}
+use Rattle.endpoint_membership.specs.declared.keys.LastRenewal.{LastRenewal}
 use Rattle.endpoint_membership.specs.declared.stored.StoredFilter.{StoredFilter}
 
 -- by moment, then endpoint and group
-abbrev pub renewal_order : Renewal → Renewal → Ordering
+abbrev pub renewal_order : LastRenewal → LastRenewal → Ordering
 renewal_order = then_cmp (on (λ renewal. renewal.renewed) nat_cmp) (on (λ renewal. renewal.at) endpoint_group_order)
 
 -- by group, then endpoint
@@ -37,11 +37,11 @@ abbrev pub stored_filter : Membership → StoredFilter
 stored_filter membership = record { filter = membership.filter; renewed = membership.renewed }
 
 -- when the membership was last renewed, by its endpoint and group
-abbrev pub renewal_of : Membership → Renewal
+abbrev pub renewal_of : Membership → LastRenewal
 renewal_of membership = record { renewed = membership.renewed; at = endpoint_group_of membership }
 
 -- one of the memberships was last renewed so
-abbrev pub is_renewal_in : List Membership → Renewal → Bool
+abbrev pub is_renewal_in : List Membership → LastRenewal → Bool
 is_renewal_in memberships renewal = list_any (λ membership. eq_by_cmp renewal_order renewal (renewal_of membership)) memberships
 
 -- the filter was last renewed at the moment
@@ -50,13 +50,13 @@ is_renewed_at moment None = false
 is_renewed_at moment (Some stored) = stored.renewed == moment
 
 -- the filter of the pair was last renewed so
-abbrev pub is_stored : BTreeMap EndpointGroup StoredFilter → Renewal → Bool
+abbrev pub is_stored : BTreeMap EndpointGroup StoredFilter → LastRenewal → Bool
 is_stored filters renewal = is_renewed_at renewal.renewed (get endpoint_group_order filters renewal.at)
 
 -- the renewals are those of the memberships and of the filters
-abbrev pub AreRenewalsOf : List Membership → BTreeMap EndpointGroup StoredFilter → BTreeSet Renewal → Type 0
+abbrev pub AreRenewalsOf : List Membership → BTreeMap EndpointGroup StoredFilter → BTreeSet LastRenewal → Type 0
 AreRenewalsOf memberships filters renewals =
-    (renewal : Renewal) → sorted.contains renewal_order renewals renewal ≡ (is_renewal_in memberships renewal || is_stored filters renewal)
+    (renewal : LastRenewal) → sorted.contains renewal_order renewals renewal ≡ (is_renewal_in memberships renewal || is_stored filters renewal)
 
 -- a number, and nothing for 0
 abbrev pub some_unless_zero : ℕ → Option ℕ
@@ -78,14 +78,14 @@ one_less None = None
 one_less (Some n) = some_unless_zero (n - 1)
 
 -- the endpoint has another count, and no other endpoint has
-abbrev pub IsCounted : EndpointValue → Option ℕ → BTreeMap EndpointValue ℕ → BTreeMap EndpointValue ℕ → Type 0
-IsCounted endpoint count before after =
+abbrev pub HasNumber : EndpointValue → Option ℕ → BTreeMap EndpointValue ℕ → BTreeMap EndpointValue ℕ → Type 0
+HasNumber endpoint count before after =
     (other : EndpointValue) → get endpoint_order after other ≡ if same_endpoint endpoint other then count else get endpoint_order before other
 
 -- Each filter has its renewal, each pair its member, each endpoint the number of its groups; and there
 -- is nothing more.
-pub record AreAgreed (filters : BTreeMap EndpointGroup StoredFilter) (renewals : BTreeSet Renewal) (members : BTreeSet GroupMember) (counts : BTreeMap EndpointValue ℕ) : Type 0 where
+pub record AreAgreed (filters : BTreeMap EndpointGroup StoredFilter) (renewals : BTreeSet LastRenewal) (members : BTreeSet GroupMember) (counts : BTreeMap EndpointValue ℕ) : Type 0 where
   pub ordered : IsOrdered endpoint_group_order filters
-  pub renewed : (renewal : Renewal) → sorted.contains renewal_order renewals renewal ≡ is_renewed_at renewal.renewed (get endpoint_group_order filters renewal.at)
+  pub renewed : (renewal : LastRenewal) → sorted.contains renewal_order renewals renewal ≡ is_renewed_at renewal.renewed (get endpoint_group_order filters renewal.at)
   pub joined : (member : GroupMember) → sorted.contains group_member_order members member ≡ is_some (get endpoint_group_order filters (record { endpoint = member.endpoint; group = member.group }))
   pub counted : (endpoint : EndpointValue) → get endpoint_order counts endpoint ≡ some_unless_zero (group_count endpoint (stored_memberships filters))

@@ -1,4 +1,5 @@
--- Memberships as a table stores them: an ascending list. No public contract says these words.
+-- The memberships of a table as the ascending list that its calls are proved by. No public contract says
+-- these words.
 use Rattle.std.specs.Prelude.{ℕ, not, Bool, false, ◌&&◌, List, [], ◌∷◌, map, take, drop, is_some, Option, Some, None, if◌then◌else◌}
 use Rattle.std.specs.List.{filter, prefix_len}
 use Rattle.std.specs.Option.{option_or}

@@ -2,22 +2,18 @@
 //! endpoints.
 
 ghost use Rattle.std.specs.Prelude.{◌≡◌, ◌≤◌, [], ◌∷◌, IfOk, OnOk, Some, if◌then◌else◌};
-ghost use Rattle.std.specs.BTreeMap.{BTreeMap as Map, get, IsOrdered};
+ghost use Rattle.std.specs.BTreeMap.{get, IsOrdered};
 ghost use Rattle.std.specs.List.{filter_map};
 ghost use Rattle.amt_values.specs.declared.address.Ip.{Ip as Address};
 ghost use Rattle.amt_values.specs.Order.{ip_order};
-ghost use Rattle.contract_words.specs.Ascending.{IsAscending};
-ghost use Rattle.endpoint_membership.specs.Membership.{is_fresh, membership_order};
-ghost use Rattle.endpoint_membership.specs.Stored.{only};
 ghost use Rattle.endpoint_membership.specs.EndpointMemberships.{AreGone, AreOwn, gone_of_entry, membership_of_entry, renewed_filter_after_all};
 ghost use Rattle.endpoint_membership.specs.Log.{on_group};
 ghost use Rattle.source_filter.specs.Filter.{wants_any};
 ghost use Rattle.endpoint_membership.specs.EndpointGroup.{same_group};
-ghost use Rattle.endpoint_membership.specs.Memberships.{membership_in};
 
 use crate::keys::EndpointGroup;
 use crate::parts::StoredMemberships;
-use crate::stored::StoredMembership;
+use crate::stored::OwnMembership;
 use amt_values::{Endpoint, Ip, Moment};
 use source_filter::{Filter, MutableFilter, Record, Records};
 use std::alloc::{AllocError, Global};
@@ -27,7 +23,7 @@ use std::collections::BTreeMap;
 /// wanted any more.
 #[derive(Debug, Drop)]
 pub struct OwnAfter {
-    pub memberships: Vec<StoredMembership>,
+    pub memberships: Vec<OwnMembership>,
     pub gone: Vec<EndpointGroup>,
 }
 
@@ -105,7 +101,7 @@ fn membership_of(
     endpoint: &Endpoint,
     group: Ip,
     renewed_filter: &RenewedFilter,
-) -> Result<StoredMembership, AllocError>
+) -> Result<OwnMembership, AllocError>
     ensures { IfOk result (λ membership. membership ≡ record {
       endpoint = endpoint.now;
       group = group;
@@ -113,7 +109,7 @@ fn membership_of(
       renewed = renewed_filter.now.renewed;
     }) }
 {
-    Ok(StoredMembership::new(
+    Ok(OwnMembership::new(
         *endpoint,
         group,
         Filter::of_mutable(alloc, &renewed_filter.filter)?,
@@ -152,8 +148,8 @@ fn memberships_of_filters(
 //
 // A report may hold thousands of records of one source each on one group, and anyone may send it.
 // So records change sets in place, and each list is made once, at the end: with n for the endpoint's
-// sources and those of the report and its records, a report costs n log n steps, however the sources
-// are spread over records, and a logarithm of the table's memberships.
+// sources and those of the report and its records, this costs n log n steps, however the sources are
+// spread over records.
 pub fn memberships_after(
     alloc: Global,
     rows: &StoredMemberships,

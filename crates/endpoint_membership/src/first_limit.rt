@@ -9,7 +9,7 @@ ghost use Rattle.endpoint_membership.specs.Limits.{count_conditions, size};
 ghost use Rattle.endpoint_membership.specs.EndpointGroup.{same_group};
 
 use crate::limits::{LimitFault, Limits};
-use crate::stored::StoredMembership;
+use crate::stored::OwnMembership;
 use amt_values::Ip;
 use source_filter::Record;
 
@@ -27,17 +27,17 @@ fn is_reported(records: &[Record], group: &Ip) -> bool
         .any(|group_record| is_on(group_record, group))
 }
 
-fn is_over(membership: &StoredMembership, records: &[Record], most: u32) -> bool
+fn is_over(membership: &OwnMembership, records: &[Record], most: u32) -> bool
     ensures { result ≡ is_over most records.now membership.now }
 {
     membership.filter().sources().len() > most as usize && is_reported(records, &membership.group())
 }
 
 fn find_over<'a>(
-    own: &'a [StoredMembership],
+    own: &'a [OwnMembership],
     records: &[Record],
     most: u32,
-) -> Option<&'a StoredMembership>
+) -> Option<&'a OwnMembership>
     ensures { option_copied result ≡ find (is_over most records.now) own.now }
 {
     own.iter()
@@ -62,7 +62,7 @@ fn count_passed(limits: &Limits, groups: usize, live: usize) -> Option<LimitFaul
 // of live endpoints.
 pub fn limit_passed(
     limits: &Limits,
-    own: &[StoredMembership],
+    own: &[OwnMembership],
     records: &[Record],
     live: usize,
 ) -> Option<LimitFault>

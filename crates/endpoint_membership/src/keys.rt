@@ -22,7 +22,7 @@ impl Model for EndpointGroup {
 
 /// When a membership was last renewed. In this order memberships expire.
 #[derive(Clone, Copy, Debug, PartialEq, Eq, PartialOrd, Ord)]
-pub struct Renewal {
+pub struct LastRenewal {
     pub renewed: Moment,
     pub at: EndpointGroup,
 }

@@ -9,7 +9,7 @@
 
 ghost use Rattle.std.specs.Prelude.{◌≡◌, []};
 
-use crate::keys::{EndpointGroup, GroupMember, Renewal};
+use crate::keys::{EndpointGroup, GroupMember, LastRenewal};
 use crate::stored::StoredFilter;
 use amt_values::Endpoint;
 use std::alloc::Global;
@@ -31,7 +31,7 @@ mod targets;
 #[derive(Debug, Drop)]
 pub struct StoredMemberships {
     filters: BTreeMap<EndpointGroup, StoredFilter>,
-    renewals: BTreeSet<Renewal>,
+    renewals: BTreeSet<LastRenewal>,
     members: BTreeSet<GroupMember>,
     counts: BTreeMap<Endpoint, usize>,
 }

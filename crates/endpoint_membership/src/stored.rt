@@ -1,4 +1,5 @@
-//! A membership as a table stores it. It must not know lists of them, reports or limits.
+//! What a table keeps of a membership, and a membership on its way in. It must not know lists of them,
+//! reports or limits.
 
 ghost use Rattle.std.specs.Prelude.{◌≡◌, ◌+◌, ◌≤◌, nat_lt};
 ghost use Rattle.endpoint_membership.specs.Membership.{endpoint_group_of};
@@ -34,16 +35,16 @@ pub fn is_in_time(renewed: Moment, moment: Moment, lifetime_ms: u64) -> bool
     moment.ms() < renewed.ms() + lifetime_ms
 }
 
-/// The membership of an endpoint in a group.
+/// A membership of an endpoint after its report, on its way into the table.
 #[derive(Debug, Drop)]
-pub struct StoredMembership {
+pub struct OwnMembership {
     endpoint: Endpoint,
     group: Ip,
     filter: Filter,
     renewed: Moment,
 }
 
-impl Model for StoredMembership {
+impl Model for OwnMembership {
     ghost use Rattle.endpoint_membership.specs.Membership.{Membership};
 
     ghost Value = { Membership };
@@ -53,7 +54,7 @@ impl Model for StoredMembership {
     ghost inverse = { λ m. record { endpoint = m.endpoint; group = m.group; filter = m.filter; renewed = m.renewed } };
 }
 
-impl StoredMembership {
+impl OwnMembership {
     pub fn new(endpoint: Endpoint, group: Ip, filter: Filter, renewed: Moment) -> Self
         ensures { result ≡ record {
           endpoint = endpoint;
@@ -62,7 +63,7 @@ impl StoredMembership {
           renewed = renewed;
         } }
     {
-        StoredMembership {
+        OwnMembership {
             endpoint,
             group,
             filter,

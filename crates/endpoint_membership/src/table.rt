@@ -22,7 +22,7 @@ use crate::limits::{AcceptFault, LimitFault, Limits};
 use crate::parts::StoredMemberships;
 use crate::parts::live::one_unless;
 use crate::row::Rows;
-use crate::stored::StoredMembership;
+use crate::stored::OwnMembership;
 use crate::targets::Targets;
 use amt_values::{Endpoint, Ip, Moment};
 use source_filter::Records;
@@ -186,7 +186,7 @@ impl Table {
         &self,
         endpoint: &Endpoint,
         records: &Records,
-        own: &[StoredMembership],
+        own: &[OwnMembership],
         moment: Moment,
     ) -> Option<LimitFault>
         requires within { IsWithinLimits self.now }

@@ -10,11 +10,11 @@ ghost use Rattle.amt_values.specs.Order.{endpoint_order};
 ghost use Rattle.endpoint_membership.specs.EndpointGroup.{endpoint_group_order};
 ghost use Rattle.endpoint_membership.specs.Membership.{membership_order};
 ghost use Rattle.endpoint_membership.specs.Memberships.{membership_in};
-ghost use Rattle.endpoint_membership.specs.Parts.{IsCounted, group_member_order, member_of, one_less, one_more, renewal_order, stored_membership};
+ghost use Rattle.endpoint_membership.specs.Parts.{HasNumber, group_member_order, member_of, one_less, one_more, renewal_order, stored_membership};
 ghost use Rattle.endpoint_membership.specs.Stored.{is_not_at};
 
 use super::StoredMemberships;
-use crate::keys::{EndpointGroup, GroupMember, Renewal};
+use crate::keys::{EndpointGroup, GroupMember, LastRenewal};
 use crate::stored::StoredFilter;
 use amt_values::Endpoint;
 use std::alloc::AllocError;
@@ -30,7 +30,7 @@ impl StoredMemberships {
     {
         // A count is at most the number of filters, so it has room for one more.
         prove!(self.filters.len() < usize::MAX);
-        let renewal = Renewal {
+        let renewal = LastRenewal {
             renewed: stored.renewed,
             at,
         };
@@ -49,7 +49,7 @@ impl StoredMemberships {
         let Some(stored) = self.filters.remove(at) else {
             return;
         };
-        let renewal = Renewal {
+        let renewal = LastRenewal {
             renewed: stored.renewed,
             at: *at,
         };
@@ -69,9 +69,9 @@ fn member_of(at: &EndpointGroup) -> GroupMember
 
 // Puts in a renewal and its member, both or neither.
 fn insert_keys(
-    renewals: &mut BTreeSet<Renewal>,
+    renewals: &mut BTreeSet<LastRenewal>,
     members: &mut BTreeSet<GroupMember>,
-    renewal: Renewal,
+    renewal: LastRenewal,
 ) -> Result<(), AllocError>
     requires absent { sorted.contains renewal_order renewals.old renewal ≡ false }
     ensures renewals { OnOk result
@@ -93,9 +93,9 @@ fn insert_keys(
 
 // Takes out a renewal and its member.
 fn remove_keys(
-    renewals: &mut BTreeSet<Renewal>,
+    renewals: &mut BTreeSet<LastRenewal>,
     members: &mut BTreeSet<GroupMember>,
-    renewal: &Renewal,
+    renewal: &LastRenewal,
 )
     ensures renewals { sorted.Updates renewal_order renewals.old renewals.new renewal.now false }
     ensures members { sorted.Updates group_member_order members.old members.new
@@ -119,7 +119,7 @@ fn insert_counted(
     ensures entries { OnOk result
         (filters.new.entries ≡ insert_entry endpoint_group_order filters.old.entries at stored) }
     ensures ordered { IsOrdered endpoint_group_order filters.new }
-    ensures counts { OnOk result (IsCounted at.endpoint
+    ensures counts { OnOk result (HasNumber at.endpoint
         (one_more (get endpoint_order counts.old at.endpoint)) counts.old counts.new) }
     ensures err_filters { OnErr result (IsUnchanged filters.old filters.new) }
     ensures err_counts { OnErr result (IsUnchanged counts.old counts.new) }
@@ -135,7 +135,7 @@ fn insert_counted(
 // Counts one more of the endpoint.
 fn count_more(counts: &mut BTreeMap<Endpoint, usize>, endpoint: Endpoint) -> Result<(), AllocError>
     requires { count_at (get endpoint_order counts.old) endpoint < 2 ^ 63 }
-    ensures ok { OnOk result (IsCounted endpoint
+    ensures ok { OnOk result (HasNumber endpoint
         (one_more (get endpoint_order counts.old endpoint)) counts.old counts.new) }
     ensures err { OnErr result (IsUnchanged counts.old counts.new) }
 {
@@ -146,7 +146,7 @@ fn count_more(counts: &mut BTreeMap<Endpoint, usize>, endpoint: Endpoint) -> Res
 
 // Counts one less of the endpoint.
 fn count_less(counts: &mut BTreeMap<Endpoint, usize>, endpoint: &Endpoint)
-    ensures { IsCounted endpoint.now
+    ensures { HasNumber endpoint.now
         (one_less (get endpoint_order counts.old endpoint.now)) counts.old counts.new }
 {
     let Some(count) = counts.get_mut(endpoint) else {

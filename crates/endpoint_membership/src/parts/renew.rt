@@ -10,18 +10,18 @@ ghost use Rattle.endpoint_membership.specs.EndpointGroup.{EndpointGroup as Pair,
 ghost use Rattle.endpoint_membership.specs.Membership.{endpoint_group_of, membership_order};
 ghost use Rattle.endpoint_membership.specs.Memberships.{membership_in};
 ghost use Rattle.endpoint_membership.specs.Parts.{AreRenewalsOf, is_renewal_in, is_stored, renewal_of, renewal_order, stored_filter};
-ghost use Rattle.endpoint_membership.specs.declared.keys.Renewal.{Renewal as Renewed};
+ghost use Rattle.endpoint_membership.specs.declared.keys.LastRenewal.{LastRenewal as Renewed};
 
 use super::StoredMemberships;
-use crate::keys::{EndpointGroup, Renewal};
-use crate::stored::{StoredFilter, StoredMembership};
+use crate::keys::{EndpointGroup, LastRenewal};
+use crate::stored::{OwnMembership, StoredFilter};
 use std::alloc::AllocError;
 use std::collections::{BTreeMap, BTreeSet};
 
 impl StoredMemberships {
     /// Puts memberships in the place of those of their pairs, each of which has one. All new renewals
     /// go in before an old one comes out, so that out of memory nothing changes.
-    pub fn renew(&mut self, memberships: Vec<StoredMembership>) -> Result<(), AllocError>
+    pub fn renew(&mut self, memberships: Vec<OwnMembership>) -> Result<(), AllocError>
         requires ascend { IsAscending membership_order memberships.items }
         requires present { AllByRecursion (λ membership.
             is_some (membership_in self.old (endpoint_group_of membership)) ≡ true) memberships.items }
@@ -36,16 +36,16 @@ impl StoredMemberships {
     }
 }
 
-fn renewal_of(membership: &StoredMembership) -> Renewal
+fn renewal_of(membership: &OwnMembership) -> LastRenewal
     ensures { result ≡ renewal_of membership.now }
 {
-    Renewal {
+    LastRenewal {
         renewed: membership.renewed(),
         at: membership.endpoint_group(),
     }
 }
 
-fn is_stored(filters: &BTreeMap<EndpointGroup, StoredFilter>, renewal: &Renewal) -> bool
+fn is_stored(filters: &BTreeMap<EndpointGroup, StoredFilter>, renewal: &LastRenewal) -> bool
     ensures { result ≡ is_stored filters.now renewal.now }
 {
     match filters.get(&renewal.at) {
@@ -56,8 +56,8 @@ fn is_stored(filters: &BTreeMap<EndpointGroup, StoredFilter>, renewal: &Renewal)
 
 // Puts the renewals of memberships in, up to a refusal.
 fn put_renewals(
-    renewals: &mut BTreeSet<Renewal>,
-    memberships: &[StoredMembership],
+    renewals: &mut BTreeSet<LastRenewal>,
+    memberships: &[OwnMembership],
 ) -> Result<(), AllocError>
     ensures ok { OnOk result ((renewal : Renewed) → contains renewal_order renewals.new renewal
         ≡ (is_renewal_in memberships.now renewal || contains renewal_order renewals.old renewal)) }
@@ -77,8 +77,8 @@ fn put_renewals(
 // Takes the renewals of memberships out, except those of the filters.
 fn take_renewals(
     filters: &BTreeMap<EndpointGroup, StoredFilter>,
-    renewals: &mut BTreeSet<Renewal>,
-    memberships: &[StoredMembership],
+    renewals: &mut BTreeSet<LastRenewal>,
+    memberships: &[OwnMembership],
 )
     ensures { (renewal : Renewed) → contains renewal_order renewals.new renewal
         ≡ (contains renewal_order renewals.old renewal
@@ -96,8 +96,8 @@ fn take_renewals(
 // has to take out is known without a list of it, since the filters are still the old ones.
 fn stage(
     filters: &BTreeMap<EndpointGroup, StoredFilter>,
-    renewals: &mut BTreeSet<Renewal>,
-    memberships: &[StoredMembership],
+    renewals: &mut BTreeSet<LastRenewal>,
+    memberships: &[OwnMembership],
 ) -> Result<(), AllocError>
     requires { AreRenewalsOf [] filters.now renewals.old }
     ensures ok { OnOk result (AreRenewalsOf memberships.now filters.now renewals.new) }
@@ -134,8 +134,8 @@ fn put_filter(
 // Puts a membership in the place of that of its pair, whose renewal comes out if it is another.
 fn put_membership(
     filters: &mut BTreeMap<EndpointGroup, StoredFilter>,
-    renewals: &mut BTreeSet<Renewal>,
-    membership: StoredMembership,
+    renewals: &mut BTreeSet<LastRenewal>,
+    membership: OwnMembership,
 )
     requires { is_some (get endpoint_group_order filters.old (endpoint_group_of membership)) ≡ true }
     ensures new { (at : Pair) → get endpoint_group_order filters.new at
@@ -149,7 +149,7 @@ fn put_membership(
     let renewal = renewal_of(&membership);
     if let Some(old) = put_filter(filters, renewal.at, membership.into_stored_filter()) {
         if old.renewed != renewal.renewed {
-            renewals.remove(&Renewal {
+            renewals.remove(&LastRenewal {
                 renewed: old.renewed,
                 at: renewal.at,
             });
@@ -160,8 +160,8 @@ fn put_membership(
 // Puts memberships in the place of those of their pairs. Their renewals are there already.
 fn settle(
     filters: &mut BTreeMap<EndpointGroup, StoredFilter>,
-    renewals: &mut BTreeSet<Renewal>,
-    memberships: Vec<StoredMembership>,
+    renewals: &mut BTreeSet<LastRenewal>,
+    memberships: Vec<OwnMembership>,
 )
     requires ascend { IsAscending membership_order memberships.items }
     requires present { AllByRecursion (λ membership.

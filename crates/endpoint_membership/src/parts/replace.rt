@@ -11,15 +11,15 @@ ghost use Rattle.endpoint_membership.specs.Stored.{is_known};
 
 use super::StoredMemberships;
 use crate::keys::EndpointGroup;
-use crate::stored::StoredMembership;
+use crate::stored::OwnMembership;
 use std::alloc::{AllocError, Global};
 
 /// Memberships of pairs that have none yet, these pairs, and memberships of pairs that have one.
 #[derive(Debug, Drop)]
 struct Parted {
-    added: Vec<StoredMembership>,
+    added: Vec<OwnMembership>,
     pairs: Vec<EndpointGroup>,
-    kept: Vec<StoredMembership>,
+    kept: Vec<OwnMembership>,
 }
 
 impl StoredMemberships {
@@ -29,11 +29,7 @@ impl StoredMemberships {
         self.filters.contains_key(at)
     }
 
-    fn parted(
-        &self,
-        alloc: Global,
-        memberships: Vec<StoredMembership>,
-    ) -> Result<Parted, AllocError>
+    fn parted(&self, alloc: Global, memberships: Vec<OwnMembership>) -> Result<Parted, AllocError>
         ensures added { IfOk result (λ parted. parted.added.items
             ≡ filter (λ membership. not (is_known self.now membership)) memberships.items) }
         ensures pairs { IfOk result (λ parted. parted.pairs.items
@@ -57,7 +53,7 @@ impl StoredMemberships {
     }
 
     // Out of memory some of the memberships are in.
-    fn insert_all(&mut self, added: Vec<StoredMembership>) -> Result<(), AllocError>
+    fn insert_all(&mut self, added: Vec<OwnMembership>) -> Result<(), AllocError>
         requires ascend { IsAscending membership_order added.items }
         requires old { IsAscending membership_order self.old }
         requires absent { AllByRecursion
@@ -89,8 +85,8 @@ impl StoredMemberships {
     // Out of memory some of those to be added are in.
     fn set_both(
         &mut self,
-        added: Vec<StoredMembership>,
-        kept: Vec<StoredMembership>,
+        added: Vec<OwnMembership>,
+        kept: Vec<OwnMembership>,
     ) -> Result<(), AllocError>
         requires old { IsAscending membership_order self.old }
         requires added { IsAscending membership_order added.items }
@@ -141,7 +137,7 @@ impl StoredMemberships {
     pub fn replace(
         &mut self,
         alloc: Global,
-        memberships: Vec<StoredMembership>,
+        memberships: Vec<OwnMembership>,
         gone: &[EndpointGroup],
     ) -> Result<(), AllocError>
         requires old { IsAscending membership_order self.old }

@@ -6,7 +6,7 @@ use Rattle.contract_words.specs.Ascending.{IsAscending}
 use Rattle.endpoint_membership.specs.Membership.{Membership, is_fresh, membership_order}
 use Rattle.endpoint_membership.specs.Memberships.{membership_in}
 use Rattle.endpoint_membership.specs.Stored.{only}
-use Rattle.endpoint_membership.specs.declared.keys.Renewal.{Renewal}
+use Rattle.endpoint_membership.specs.declared.keys.LastRenewal.{LastRenewal}
 use Rattle.endpoint_membership.proofs.Expiry.{IfNone-from, all_fresh, expired, fresh_after, fresh_none}
 use Rattle.endpoint_membership.proofs.PartOrders.{renewals_compared}
 use Rattle.endpoint_membership.proofs.StoredView.{IsAscending-stored}
@@ -34,7 +34,7 @@ returns-clause-some c =
     let fails = sym c.is_in_time.ensures ∙ c.if-is_in_time.false in
     subst (λ (rows : List Membership). IsSome (membership_in rows first.at) × (only (is_fresh c.args.lifetime_ms c.args.moment) (membership_in rows first.at) ≡ None)) c.self.view_is
     (expired c.args.lifetime_ms c.args.moment inside.filters first
-    (sym (c.self.invariant.renewed first) ∙ subst (λ (order : Renewal → Renewal → Ordering). sorted.contains order inside.renewals first ≡ true) renewals_compared c.in_ok-first.ensures.member) (grind (arith, nat_tests)))
+    (sym (c.self.invariant.renewed first) ∙ subst (λ (order : LastRenewal → LastRenewal → Ordering). sorted.contains order inside.renewals first ≡ true) renewals_compared c.in_ok-first.ensures.member) (grind (arith, nat_tests)))
 
 pub returns-in_err-first-clause-ascends : goal.returns-in_err-first-clause-ascends
 returns-in_err-first-clause-ascends c = subst (IsAscending membership_order) c.self.view_is (IsAscending-stored c.self.inside.filters c.self.invariant.ordered)

@@ -6,7 +6,7 @@ use Rattle.std.specs.Map.{remove_entry}
 use Rattle.std.specs.declared.cmp.Ordering.{Ordering}
 use Rattle.amt_values.specs.Order.{endpoint_order}
 use Rattle.endpoint_membership.specs.EndpointGroup.{EndpointGroup}
-use Rattle.endpoint_membership.specs.Parts.{IsCounted, group_member_order, member_of, one_less, renewal_order}
+use Rattle.endpoint_membership.specs.Parts.{HasNumber, group_member_order, member_of, one_less, renewal_order}
 use Rattle.endpoint_membership.specs.Stored.{is_not_at}
 use Rattle.endpoint_membership.proofs.OneMembership.{AreAgreed-less, rows-left}
 use Rattle.endpoint_membership.proofs.PartOrders.{pairs_compared}
@@ -32,7 +32,7 @@ invariant_of-self-2 c =
     (subst (λ (order : Order). IsOrdered order c.remove.new.self) pairs_compared c.remove.ensures.ordered)
     (subst (λ (at : EndpointGroup). sorted.Updates renewal_order c.self.inside.renewals c.remove_keys.new.renewals (record { renewed = c.in-Some.stored.renewed; at = at }) false) c.at.view_is c.remove_keys.ensures.renewals)
     (subst (λ (at : EndpointGroup). sorted.Updates group_member_order c.self.inside.members c.remove_keys.new.members (member_of at) false) c.at.view_is c.remove_keys.ensures.members)
-    (subst (λ (at : EndpointGroup). IsCounted at.endpoint (one_less (get endpoint_order c.self.inside.counts at.endpoint)) c.self.inside.counts c.count_less.new.counts) c.at.view_is c.count_less.ensures)
+    (subst (λ (at : EndpointGroup). HasNumber at.endpoint (one_less (get endpoint_order c.self.inside.counts at.endpoint)) c.self.inside.counts c.count_less.new.counts) c.at.view_is c.count_less.ensures)
 
 pub returns : goal.returns
 returns c =

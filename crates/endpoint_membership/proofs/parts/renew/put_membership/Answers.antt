@@ -2,7 +2,7 @@ use Rattle.std.proofs.Common.{false, sym, ap, ◌∙◌}
 use Rattle.std.proofs.lemmas.Bool.{eqb-false, eqb-true, not-false, not-true}
 use Rattle.std.specs.BTreeSet.{contains}
 use Rattle.endpoint_membership.specs.Parts.{renewal_order}
-use Rattle.endpoint_membership.specs.declared.keys.Renewal.{Renewal}
+use Rattle.endpoint_membership.specs.declared.keys.LastRenewal.{LastRenewal}
 use Rattle.endpoint_membership.specs.declared.stored.StoredFilter.{StoredFilter}
 use Rattle.endpoint_membership.proofs.PartOrders.{renewal_at}
 use Rattle.endpoint_membership.proofs.RenewedTogether.{renewals_updated}
@@ -14,7 +14,7 @@ returns-then-ne-clause-renewals c renewal =
     let key = c.renewal_of-renewal.result.at in
     let was = c.in-Some.old in
     let now = c.into_stored_filter.result in
-    let moment = ap (λ (stored : StoredFilter). stored.renewed) c.into_stored_filter.ensures ∙ sym (ap (λ (one : Renewal). one.renewed) c.renewal_of-renewal.ensures) in
+    let moment = ap (λ (stored : StoredFilter). stored.renewed) c.into_stored_filter.ensures ∙ sym (ap (λ (one : LastRenewal). one.renewed) c.renewal_of-renewal.ensures) in
     let apart = eqb-false was.renewed c.renewal_of-renewal.result.renewed (not-true _ (sym c.ne.ensures ∙ c.if-ne.true)) in
     old_renewal_out c.args.filters.now c.put_filter.new.filters key was now renewal (contains renewal_order c.args.renewals.now renewal) _
     (sym c.put_filter.ensures.old ∙ c.in-Some.is) c.put_filter.ensures.new (λ same. apart (same ∙ moment))
@@ -25,7 +25,7 @@ returns-in-Some-clause-renewals c renewal =
     let key = c.renewal_of-renewal.result.at in
     let was = c.in-Some.old in
     let now = c.into_stored_filter.result in
-    let moment = ap (λ (stored : StoredFilter). stored.renewed) c.into_stored_filter.ensures ∙ sym (ap (λ (one : Renewal). one.renewed) c.renewal_of-renewal.ensures) in
+    let moment = ap (λ (stored : StoredFilter). stored.renewed) c.into_stored_filter.ensures ∙ sym (ap (λ (one : LastRenewal). one.renewed) c.renewal_of-renewal.ensures) in
     let same = eqb-true was.renewed c.renewal_of-renewal.result.renewed (not-false _ (sym c.ne.ensures ∙ c.if-ne.false)) in
     same_renewal_stays c.args.filters.now c.put_filter.new.filters key was now renewal (contains renewal_order c.args.renewals.now renewal)
     (sym c.put_filter.ensures.old ∙ c.in-Some.is) c.put_filter.ensures.new (same ∙ sym moment)

@@ -3,7 +3,7 @@ use Rattle.std.specs.BTreeSet.{contains}
 use Rattle.std.proofs.lemmas.List.{take_more}
 use Rattle.endpoint_membership.specs.Membership.{Membership}
 use Rattle.endpoint_membership.specs.Parts.{is_renewal_in, renewal_order}
-use Rattle.endpoint_membership.specs.declared.keys.Renewal.{Renewal}
+use Rattle.endpoint_membership.specs.declared.keys.LastRenewal.{LastRenewal}
 use Rattle.endpoint_membership.proofs.RenewedTogether.{one_more_in, refused_in, renewals_updated}
 use Rattle.endpoint_membership.proofs.parts.renew.put_renewals.Goals as goal
 
@@ -20,4 +20,4 @@ loop-membership-preserved c renewal =
 
 pub returns-in-Err-clause-err : goal.returns-in-Err-clause-err
 returns-in-Err-clause-err c renewal =
-    refused_in c.loop-membership.membership-index c.args.memberships.now renewal (contains renewal_order c.args.renewals.now renewal) _ (ap (λ (keys : List Renewal). contains renewal_order (record { keys = keys }) renewal) c.in-Err.ensures.err ∙ c.loop-membership.invariant renewal)
+    refused_in c.loop-membership.membership-index c.args.memberships.now renewal (contains renewal_order c.args.renewals.now renewal) _ (ap (λ (keys : List LastRenewal). contains renewal_order (record { keys = keys }) renewal) c.in-Err.ensures.err ∙ c.loop-membership.invariant renewal)

@@ -3,7 +3,7 @@ use Rattle.std.specs.BTreeSet.{BTreeSet, contains}
 use Rattle.std.proofs.lemmas.List.{take_more}
 use Rattle.endpoint_membership.specs.Membership.{Membership}
 use Rattle.endpoint_membership.specs.Parts.{is_renewal_in, is_stored, renewal_order}
-use Rattle.endpoint_membership.specs.declared.keys.Renewal.{Renewal}
+use Rattle.endpoint_membership.specs.declared.keys.LastRenewal.{LastRenewal}
 use Rattle.endpoint_membership.proofs.RenewedTogether.{one_more_out, renewals_updated, taken_out}
 use Rattle.endpoint_membership.proofs.parts.renew.take_renewals.Goals.{then-not-is_stored, else-not-is_stored}
 use Rattle.endpoint_membership.proofs.parts.renew.take_renewals.Goals as goal
@@ -20,8 +20,8 @@ loop-membership-preserved c renewal =
     one_more_out (take k rows) item key renewal stored old _ _ c.renewal_of-renewal.ensures (c.loop-membership.invariant renewal)
     (elim c.if-not-is_stored.branch [
       | then-not-is_stored w ↦ taken_out c.args.filters.now key renewal false _ _ (sym c.is_stored.ensures ∙ w.if-not-is_stored.true)
-          (ap (λ (renewals : BTreeSet Renewal). contains renewal_order renewals renewal) w.renewals-is ∙ renewals_updated c.loop-membership.renewals w.remove.new.self key false w.remove.ensures.updates renewal)
+          (ap (λ (renewals : BTreeSet LastRenewal). contains renewal_order renewals renewal) w.renewals-is ∙ renewals_updated c.loop-membership.renewals w.remove.new.self key false w.remove.ensures.updates renewal)
       | else-not-is_stored w ↦ taken_out c.args.filters.now key renewal true _ _ (sym c.is_stored.ensures ∙ w.if-not-is_stored.false)
-          (ap (λ (renewals : BTreeSet Renewal). contains renewal_order renewals renewal) w.renewals-is)
+          (ap (λ (renewals : BTreeSet LastRenewal). contains renewal_order renewals renewal) w.renewals-is)
     ])
     ∙ ap (λ (done : List Membership). old && not (is_renewal_in done renewal && not stored)) (sym more)
