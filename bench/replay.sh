@@ -1,7 +1,8 @@
 #!/bin/sh
 # Times the proved binary over scripts of Discovery, of Request and of mixed lines, beside sed over the
-# same octets; then the cost of one update and of one packet by the number of live tunnel endpoints. It
-# builds nothing: `rt run` in crates/amt leaves the binary at crates/amt/out/amt.
+# same octets; then the cost of one update, packet and moment by the number of live tunnel endpoints, and
+# of a packet to 1,000 of them. It builds nothing: `rt run` in crates/amt leaves the binary at
+# crates/amt/out/amt.
 #
 # usage: bench/replay.sh [BINARY]
 set -eu
