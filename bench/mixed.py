@@ -18,7 +18,7 @@ import hmac
 import itertools
 import sys
 
-SETTINGS = ["set relay 192.0.2.1", "set endpoints 65536", "set groups 16", "set sources 64"]
+SETTINGS = ["set relay 192.0.2.1", "set endpoints 65536", "set groups 4", "set sources 64"]
 NONCE = bytes.fromhex("0a0b0c0d")
 LINK = bytes.fromhex("fe800000000000000000000000000002")
 ROUTERS = bytes.fromhex("ff020000000000000000000000000016")
