@@ -1,5 +1,6 @@
 pub mod Bad
 pub mod Begun
+mod Digits
 pub mod Firsts
 pub mod Forms
 pub mod Glyphs
