@@ -7,18 +7,22 @@
 //! Standard: RFC 3376, sections 3.2, 4.1 and 4.2.12; RFC 3810, section 5.1.
 #![tactic(auto)]
 
+mod changes;
 mod fault;
 mod filter;
 mod ips;
+mod merging;
 mod mode;
 mod mutable;
 mod query;
 mod record;
 mod records;
 
+pub use changes::diff;
 pub use fault::{ReadFault, ReportFault};
 pub use filter::{Filter, copy_filter};
 pub use ips::Ips;
+pub use merging::merge;
 pub use mode::Mode;
 pub use mutable::MutableFilter;
 pub use query::{QueryFields, QueryRead};
