@@ -19,7 +19,7 @@ impl<T> Model for Items<T> {
 }
 
 impl<T: Drop> Items<T> {
-    ghost use Rattle.std.specs.Prelude.{◌≡◌, [], ◌∷◌, ◌++◌, length, OnOk, OnErr};
+    ghost use Rattle.std.specs.Prelude.{◌≡◌, [], ◌∷◌, ◌++◌, length, IfOk, OnOk, OnErr};
 
     /// No item. It takes no memory.
     pub fn new(alloc: Global) -> Self
@@ -28,6 +28,15 @@ impl<T: Drop> Items<T> {
         Items {
             items: Vec::new(alloc),
         }
+    }
+
+    /// No item, and room for so many.
+    pub fn with_room(alloc: Global, room: usize) -> Result<Self, AllocError>
+        ensures { IfOk result (λ list. list ≡ []) }
+    {
+        Ok(Items {
+            items: Vec::with_capacity(alloc, room)?,
+        })
     }
 
     pub fn as_slice(&self) -> &[T]

@@ -6,6 +6,7 @@ pub mod Forms
 pub mod Glyphs
 pub mod Numbers
 pub mod Peers
+mod Plain
 pub mod Sayings
 pub mod Splitting
 pub mod Taking
