@@ -1,4 +1,4 @@
--- The four parts in which a table stores its memberships, and that they agree. No public contract
+-- The parts in which a table stores its memberships, and that they agree. No public contract
 -- says these words.
 use Rattle.std.specs.Prelude.{◌≡◌, ℕ, ◌+◌, ◌-◌, zero, suc, ◌==◌, if◌then◌else◌, Bool, false, ◌||◌, List, map, Option, Some, None}
 use Rattle.std.specs.BTreeMap.{BTreeMap, get}
