@@ -31,12 +31,12 @@ pub read_into : (before room buf more rest resized : List ℕ) (start len n : �
 read_into before room buf more rest resized start len n begins is reaches fits =
     let front : take start resized ≡ before = ap (λ (m : ℕ). take m resized) begins ∙ (ap (take (length before)) is ∙ take-append_seam before room) in
     let whole : (take start resized ++ (buf ++ more)) ++ rest ≡ before ++ (buf ++ (more ++ rest)) =
-        ap (λ (xs : List ℕ). (xs ++ (buf ++ more)) ++ rest) front
-        ∙ (append_assoc before (buf ++ more) rest ∙ ap (λ (xs : List ℕ). before ++ xs) (append_assoc buf more rest)) in
+    ap (λ (xs : List ℕ). (xs ++ (buf ++ more)) ++ rest) front
+    ∙ (append_assoc before (buf ++ more) rest ∙ ap (λ (xs : List ℕ). before ++ xs) (append_assoc buf more rest)) in
     let inner : take len ((take start resized ++ (buf ++ more)) ++ rest) ≡ before ++ buf =
-        ap (take len) whole
-        ∙ (ap (λ (m : ℕ). take m (before ++ (buf ++ (more ++ rest)))) (reaches ∙ ap (λ (m : ℕ). m + length buf) begins)
-        ∙ (take-append-add before (buf ++ (more ++ rest)) (length buf) ∙ ap (λ (xs : List ℕ). before ++ xs) (take-append_seam buf (more ++ rest)))) in
+    ap (take len) whole
+    ∙ (ap (λ (m : ℕ). take m (before ++ (buf ++ (more ++ rest)))) (reaches ∙ ap (λ (m : ℕ). m + length buf) begins)
+    ∙ (take-append-add before (buf ++ (more ++ rest)) (length buf) ∙ ap (λ (xs : List ℕ). before ++ xs) (take-append_seam buf (more ++ rest)))) in
     ap (take (start + n)) inner ∙ (ap (λ (m : ℕ). take (m + n) (before ++ buf)) begins ∙ take-append-add before buf n)
 
 -- n bytes from a place on are before those from the place n further

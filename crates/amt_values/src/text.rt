@@ -71,15 +71,13 @@ impl Display for Peer {
 // What is printed of an IPv4 address names it.
 fn v4_text_names(number: u32)
     ensures { IsIpText (V4 number) (v4_text number) }
-{
-}
+{}
 
 // What is printed of an IPv6 address names it.
 #[tactic(auto, using(crate::proofs::V6Texts::v6_printed))]
 fn v6_text_names(number: u128)
     ensures { IsIpText (V6 number) (v6_text number) }
-{
-}
+{}
 
 // What is printed of an address names it. It does nothing when it runs.
 fn text_names(ip: &Ip)
