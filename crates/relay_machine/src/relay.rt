@@ -24,8 +24,8 @@ use std::alloc::{AllocError, Global};
 /// limits, and represents some log.
 ///
 /// The room for a packet's receivers is taken once, for as many as the limits allow, so that a packet
-/// takes memory for its sends alone. It is no state of the protocol: contracts see how much room there
-/// is, which never changes, and that no receiver is in it between events.
+/// takes memory for its sends alone. It is no state of the protocol: contracts see that there is room for
+/// as many as the limits allow, and that no receiver is in it between events.
 #[derive(Debug, Drop)]
 pub struct Relay {
     setup: Setup,

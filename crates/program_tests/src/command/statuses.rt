@@ -8,8 +8,6 @@ const SCRIPT: &str = "set relay 192.0.2.1\ndg 198.51.100.7:5000 0100000001020304
 
 const TEXT: &str = "= 1 advertised\n> 198.51.100.7:5000 0200000001020304c0000201\n. 1\n";
 
-const STEP: &str = "= 1 advertised\n> 198.51.100.7:5000 0200000001020304c0000201\n";
-
 const USAGE: &str =
     "amt: usage: replay relay|gateway|pair, dump, vectors, load SEED N, relay FILE, gateway FILE\n";
 
@@ -17,12 +15,13 @@ const USAGE: &str =
 enum Input {
     Text(&'static str),
     LineFeeds(usize),
+    Discoveries(u32),
 }
 
 // Words, input and the calls that fail; the status, the output, and the line on standard error.
 type Case = (&'static str, Input, Failing, u8, &'static str, &'static str);
 
-const CASES: [Case; 17] = [
+const CASES: [Case; 16] = [
     ("", Input::Text(""), NONE_FAILS, 2, "", USAGE),
     ("jump", Input::Text(""), NONE_FAILS, 2, "", USAGE),
     ("replay", Input::Text(SCRIPT), NONE_FAILS, 2, "", USAGE),
@@ -69,16 +68,8 @@ const CASES: [Case; 17] = [
         "",
         "amt: write fault\n",
     ),
-    (
-        "replay relay",
-        Input::Text(SCRIPT),
-        (0, 2, 0),
-        5,
-        STEP,
-        "amt: write fault\n",
-    ),
-    // The third write never comes.
-    ("replay relay", Input::Text(SCRIPT), (0, 3, 0), 0, TEXT, ""),
+    // A short text is one write: the second never comes.
+    ("replay relay", Input::Text(SCRIPT), (0, 2, 0), 0, TEXT, ""),
     // A line that can not be written leaves the status.
     ("jump", Input::Text(""), (0, 0, 1), 2, "", ""),
     ("replay relay", Input::Text("jump"), (0, 0, 1), 3, "", ""),
@@ -105,10 +96,20 @@ const TOO_LONG: [Case; 2] = [
     ),
 ];
 
+// A relay's address, and so many Discoveries of one gateway.
+fn discoveries(alloc: Global, count: u32) -> Result<Bytes, AllocError> {
+    let mut script = Bytes::copied(alloc, b"set relay 192.0.2.1\n")?;
+    for _ in 0..count {
+        script.append(b"dg 198.51.100.7:5000 0100000001020304\n")?;
+    }
+    Ok(script)
+}
+
 fn octets_of(alloc: Global, input: Input) -> Result<Bytes, AllocError> {
     match input {
         Input::Text(text) => Bytes::copied(alloc, text.as_bytes()),
         Input::LineFeeds(count) => Ok(Bytes::from(vec![in alloc; b'\n'; count]?)),
+        Input::Discoveries(count) => discoveries(alloc, count),
     }
 }
 
@@ -126,6 +127,36 @@ fn are_cases(rt: &impl Abort, alloc: Global, cases: &[Case]) {
 #[test]
 fn each_status_has_its_cause_and_its_line(rt: HostRuntime) {
     are_cases(&rt, rt.alloc(), &CASES);
+}
+
+// The answers to the first so many of them.
+fn answers(alloc: Global, count: u32) -> Result<String, AllocError> {
+    let mut text = String::new(alloc);
+    for number in 1..=count {
+        write!(
+            text,
+            "= {number} advertised\n> 198.51.100.7:5000 0200000001020304c0000201\n"
+        )?;
+    }
+    Ok(text)
+}
+
+// Of the text of 1,500 Discoveries, which has 93,393 octets and a last line, so many answers are
+// written where this write fails.
+fn is_cut(rt: &impl Abort, alloc: Global, failing: u64, count: u32) {
+    let words = "replay relay";
+    let ended = end_of(alloc, words, Input::Discoveries(1500), (0, failing, 0));
+    match answers(alloc, count) {
+        Ok(text) => is_ended(rt, words, ended, 5, text.as_str(), "amt: write fault\n"),
+        Err(_) => is_out_of_memory(rt, words),
+    }
+}
+
+// The answer with the number 1,058 ends at octet 65,547.
+#[test]
+fn a_long_text_is_written_in_pieces_of_64_kib(rt: HostRuntime) {
+    is_cut(&rt, rt.alloc(), 1, 0);
+    is_cut(&rt, rt.alloc(), 2, 1058);
 }
 
 #[test]
