@@ -1,7 +1,8 @@
 #!/bin/sh
-# Times the proved binary over scripts of Discovery, of Request and of mixed lines, beside sed over the
+# What the proved binary costs over scripts of Discovery, of Request and of mixed lines, beside sed over the
 # same octets; then the cost of one update, packet and moment by the number of live tunnel endpoints, and
-# of a packet to 1,000 of them. It builds nothing: `rt run` in crates/amt leaves the binary at
+# of a packet to 1,000 of them. Times are of the processor, and the least of some runs, so that other work
+# on the machine disturbs them little. It builds nothing: `rt run` in crates/amt leaves the binary at
 # crates/amt/out/amt.
 #
 # usage: bench/replay.sh [BINARY]
@@ -37,20 +38,19 @@ script() {
     yes "$line" | head -n $(($2 * 1048576 / (${#line} + 1) - 1))
 }
 
-# milliseconds COMMAND..: how long it takes, its output thrown away
-milliseconds() {
-    start=$(date +%s%N)
-    "$@" > /dev/null
-    end=$(date +%s%N)
-    echo $(((end - start) / 1000000))
+# cost FILE COMMAND..: its milliseconds and its peak KB over the file
+cost() {
+    python3 "$here/bench/cost.py" $runs "$@"
 }
 
-# replay FILE: the median of its times
+# replay FILE: the milliseconds of its replay
 replay() {
-    for run in $(seq $runs); do
-        milliseconds sh -c '"$0" replay relay < "$1"' "$amt" "$1"
-    done > "$work/times"
-    median "$work/times"
+    cost "$1" "$amt" replay relay | cut -d ' ' -f 1
+}
+
+# peak FILE: the most memory that a replay of it takes, in KB
+peak() {
+    cost "$1" "$amt" replay relay | cut -d ' ' -f 2
 }
 
 # each BEFORE AFTER COUNT: the milliseconds between, in microseconds for each
@@ -58,29 +58,15 @@ each() {
     awk "BEGIN { printf \"%.1f\", ($2 - $1) * 1000 / $3 }"
 }
 
-# peak FILE: the most memory that a replay of it takes, in KB
-peak() {
-    python3 -c 'import resource, subprocess, sys
-subprocess.run([sys.argv[1], "replay", "relay"], stdin=open(sys.argv[2]), stdout=subprocess.DEVNULL)
-print(resource.getrusage(resource.RUSAGE_CHILDREN).ru_maxrss)' "$amt" "$1"
-}
-
-median() {
-    sort -n "$1" | sed -n "$((runs / 2 + 1))p"
-}
-
-printf '%-10s %4s %8s %8s %7s\n' lines MiB 'amt ms' 'sed ms' ratio
+printf '%-10s %4s %8s %8s %7s %9s\n' lines MiB 'amt ms' 'sed ms' ratio 'peak KB'
 for kind in discovery request mixed; do
     for mib in 1 4 16; do
         input=$work/$kind.$mib
         script "$kind" "$mib" > "$input"
-        for run in $(seq $runs); do
-            milliseconds sed 's/dg /> /' "$input"
-        done > "$work/sed"
         a=$(replay "$input")
-        s=$(median "$work/sed")
+        s=$(cost "$input" sed 's/dg /> /' | cut -d ' ' -f 1)
         ratio=$(awk "BEGIN { printf \"%.1f\", $a / ($s > 0 ? $s : 1) }")
-        printf '%-10s %4s %8s %8s %7s\n' "$kind" "$mib" "$a" "$s" "$ratio"
+        printf '%-10s %4s %8s %8s %7s %9s\n' "$kind" "$mib" "$a" "$s" "$ratio" "$(peak "$input")"
     done
 done
 
