@@ -104,10 +104,10 @@ is_some-only test membership found is = ap (λ (one : Option Membership). is_som
 -- ---- rows
 
 -- one row more
-pub rows-push : (rows : List Membership) (seen : List (Bor EndpointGroup)) (at : Bor EndpointGroup) (membership : Membership) (before after : List Row) (row : Row) → membership_in rows at.now ≡ Some membership → row ≡ row_of membership
-    → before ≡ map row_of (seen_memberships rows seen) → after ≡ before ++ row ∷ [] → after ≡ map row_of (seen_memberships rows (seen ++ at ∷ []))
-rows-push rows seen at membership before after row is shown so_far more =
-    more ∙ ap (λ (first : List Row). first ++ row ∷ []) so_far ∙ ap (λ (last : Row). map row_of (seen_memberships rows seen) ++ last ∷ []) shown
+pub rows-push : (rows : List Membership) (seen : List (Bor EndpointGroup)) (at : Bor EndpointGroup) (membership : Membership) (before after : List Row) → membership_in rows at.now ≡ Some membership
+    → before ≡ map row_of (seen_memberships rows seen) → after ≡ before ++ row_of membership ∷ [] → after ≡ map row_of (seen_memberships rows (seen ++ at ∷ []))
+rows-push rows seen at membership before after is so_far more =
+    more ∙ ap (λ (first : List Row). first ++ row_of membership ∷ []) so_far
     ∙ sym (ap (map row_of) (seen-push rows seen at (Some membership) is) ∙ map-append row_of (seen_memberships rows seen) (membership ∷ []))
 
 -- ---- counts

@@ -1,6 +1,6 @@
 //! Memberships as they are shown. It must not know limits.
 
-ghost use Rattle.std.specs.Prelude.{◌≡◌, map, IfOk};
+ghost use Rattle.std.specs.Prelude.{◌≡◌, [], ◌∷◌, ◌++◌, map, IfOk, OnOk};
 ghost use Rattle.endpoint_membership.specs.Memberships.{row_of};
 ghost use Rattle.endpoint_membership.specs.Parts.{stored_membership};
 
@@ -21,6 +21,19 @@ fn row_of(alloc: Global, at: &EndpointGroup, stored: &StoredFilter) -> Result<Ro
     })
 }
 
+fn push_row(
+    alloc: Global,
+    all: &mut Rows,
+    at: &EndpointGroup,
+    stored: &StoredFilter,
+) -> Result<(), AllocError>
+    ensures { OnOk result
+        (all.new ≡ all.old ++ row_of (stored_membership (at.now, stored.now)) ∷ []) }
+{
+    all.push(row_of(alloc, at, stored)?)?;
+    Ok(())
+}
+
 impl StoredMemberships {
     /// The memberships as rows, in their order.
     pub fn show(&self, alloc: Global) -> Result<Rows, AllocError>
@@ -29,7 +42,10 @@ impl StoredMemberships {
         let mut all = Rows::new(alloc);
         for at in self.filters.pairs() {
             if let Some(stored) = self.filters.get(at) {
-                all.push(row_of(alloc, at, stored)?)?;
+                match push_row(alloc, &mut all, at, stored) {
+                    Ok(()) => {}
+                    Err(full) => return Err(full),
+                }
             }
         }
         Ok(all)

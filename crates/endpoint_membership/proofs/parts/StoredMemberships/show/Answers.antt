@@ -4,12 +4,12 @@ use Rattle.endpoint_membership.specs.Parts.{stored_membership}
 use Rattle.endpoint_membership.proofs.PairsWalked.{all_seen, rows-push, seen-none, stored_at}
 use Rattle.endpoint_membership.proofs.parts.StoredMemberships.show.Goals as goal
 
-pub loop-at-preserved-in_ok-push : goal.loop-at-preserved-in_ok-push
-loop-at-preserved-in_ok-push c =
+pub loop-at-preserved-in-Ok : goal.loop-at-preserved-in-Ok
+loop-at-preserved-in-Ok c =
     let at = c.in-Some.at.now in
     let stored = c.in-Some-get.stored.now in
-    rows-push c.args.self.now c.loop-at.yielded c.in-Some.at (stored_membership (at, stored)) c.loop-at.all c.push.new.self c.in_ok-row_of.field-0
-    (stored_at c.self.inside.filters c.args.self.now at (Some stored) c.self.view_is c.in-Some-get.ensures.value) c.in_ok-row_of.ensures c.loop-at.invariant c.in_ok-push.ensures.ok
+    rows-push c.args.self.now c.loop-at.yielded c.in-Some.at (stored_membership (at, stored)) c.loop-at.all c.push_row.new.all
+    (stored_at c.self.inside.filters c.args.self.now at (Some stored) c.self.view_is c.in-Some-get.ensures.value) c.loop-at.invariant c.in-Ok.ensures
 
 pub loop-at-preserved : goal.loop-at-preserved
 loop-at-preserved c =
