@@ -31,3 +31,7 @@ module _ {K : Type 0} (order : K → K → Ordering) where
   -- the items of xs that ys lacks
   abbrev pub difference : List K → List K → List K
   difference xs ys = filter (λ x. not (has ys x)) xs
+
+  -- the items of xs that ys has too
+  abbrev pub intersection : List K → List K → List K
+  intersection xs ys = filter (λ x. has ys x) xs

@@ -10,6 +10,7 @@
 mod fault;
 mod filter;
 mod ips;
+mod merging;
 mod mode;
 mod mutable;
 mod query;
@@ -19,6 +20,7 @@ mod records;
 pub use fault::{ReadFault, ReportFault};
 pub use filter::{Filter, copy_filter};
 pub use ips::Ips;
+pub use merging::merge;
 pub use mode::Mode;
 pub use mutable::MutableFilter;
 pub use query::{QueryFields, QueryRead};

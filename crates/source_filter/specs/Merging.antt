@@ -1,0 +1,56 @@
+-- The one filter of an interface for all its sockets (RFC 3376, section 3.2).
+use Rattle.std.specs.Prelude.{List, [], ◌∷◌, ◌++◌, Option, Some, None}
+use Rattle.amt_values.specs.declared.address.Ip.{Ip}
+use Rattle.amt_values.specs.Order.{ip_order}
+use Rattle.contract_words.specs.Ascending.{difference, intersection}
+use Rattle.source_filter.specs.Filter.{FilterValue, ascending_sources}
+use Rattle.source_filter.specs.declared.mode.Mode.{Mode}
+use Rattle.source_filter.specs.declared.mode.Mode.TheVariants.{Include, Exclude}
+
+-- the list of a filter in this mode, and none of one in the other
+abbrev pub include_list : Mode → List Ip → List (List Ip)
+include_list Include sources = sources ∷ []
+include_list Exclude sources = []
+
+abbrev pub exclude_list : Mode → List Ip → List (List Ip)
+exclude_list Include sources = []
+exclude_list Exclude sources = sources ∷ []
+
+-- the lists of the filters in INCLUDE mode
+abbrev pub include_lists : List FilterValue → List (List Ip)
+include_lists [] = []
+include_lists (filter ∷ more) = include_list filter.mode filter.sources ++ include_lists more
+
+-- the lists of the filters in EXCLUDE mode
+abbrev pub exclude_lists : List FilterValue → List (List Ip)
+exclude_lists [] = []
+exclude_lists (filter ∷ more) = exclude_list filter.mode filter.sources ++ exclude_lists more
+
+-- the sources of all lists, one list after another
+abbrev pub joined : List (List Ip) → List Ip
+joined [] = []
+joined (first ∷ more) = first ++ joined more
+
+-- the sources that some list has
+abbrev pub union_of : List (List Ip) → List Ip
+union_of source_lists = ascending_sources (joined source_lists)
+
+-- the sources of a list that all the others have too
+abbrev pub narrowed : List Ip → List (List Ip) → List Ip
+narrowed first [] = first
+narrowed first (next ∷ more) = narrowed (intersection ip_order first next) more
+
+-- the sources that each list has; of no lists there are none that can be named
+abbrev pub intersection_of : List (List Ip) → Option (List Ip)
+intersection_of [] = None
+intersection_of (first ∷ more) = Some (narrowed first more)
+
+-- by what the filters in EXCLUDE mode exclude together, and what those in INCLUDE mode include
+abbrev pub merged_by : Option (List Ip) → List Ip → FilterValue
+merged_by None included = record { mode = Include; sources = included }
+merged_by (Some excluded) included = record { mode = Exclude; sources = difference ip_order excluded included }
+
+-- where some filter is in EXCLUDE mode, EXCLUDE of the intersection of their lists, less each source in
+-- an INCLUDE list; else INCLUDE of the union
+abbrev pub merged : List FilterValue → FilterValue
+merged filters = merged_by (intersection_of (exclude_lists filters)) (union_of (include_lists filters))
