@@ -1,5 +1,6 @@
 -- How sockets are kept: by name, with a tally of each group. No public contract says these words.
 use Rattle.std.specs.Prelude.{◌≡◌, ℕ, ◌+◌, ◌-◌, ◌*◌, ◌≤◌, nat_lt, not, ◌&&◌, ◌||◌, Bool, true, false, is_some, List, [], ◌∷◌, length, All, sum_by, count_by, Option, Some, None, if◌then◌else◌}
+use Rattle.std.specs.BTreeMap.{BTreeMap, IsOrdered}
 use Rattle.std.specs.Global.{Vec}
 use Rattle.std.specs.List.{filter_map, find, list_any}
 use Rattle.std.specs.Option.{option_map, unwrap_or}
@@ -38,6 +39,10 @@ one_where wants = if wants then 1 else 0
 -- a group without sockets or farewell
 abbrev pub blank : Tally
 blank = record { sockets = 0; wanting = 0; sources = 0; left = None }
+
+-- the group has neither socket nor farewell
+abbrev pub is_blank : Tally → Bool
+is_blank tally = not (nat_lt 0 tally.sockets) && not (is_some tally.left)
 
 -- the tally of the group
 abbrev pub tally_at : List (Ip × Tally) → Ip → Tally
@@ -102,6 +107,10 @@ tally_fresh moment tally = record {
   left = if may_be_due moment tally.left then tally.left else None;
 }
 
+-- the farewell can't be due any more
+abbrev pub has_old : ℕ → Tally → Bool
+has_old moment tally = is_some tally.left && not (may_be_due moment tally.left)
+
 -- the tally of one group is another one, and no other is
 abbrev pub HasTally : Ip → Tally → List (Ip × Tally) → List (Ip × Tally) → Type 0
 HasTally group tally before after =
@@ -110,6 +119,11 @@ HasTally group tally before after =
 -- each tally is another one
 abbrev pub HasTallies : (Tally → Tally) → List (Ip × Tally) → List (Ip × Tally) → Type 0
 HasTallies to before after = (group : Ip) → tally_at after group ≡ to (tally_at before group)
+
+-- the tallies ascend by group, and each has a socket or a farewell
+pub record AreNeeded (tallies : BTreeMap Ip Tally) : Type 0 where
+  pub ordered : IsOrdered ip_order tallies
+  pub some : All (λ entry. is_blank entry.1 ≡ false) tallies.entries
 
 -- the farewell of an entry
 abbrev pub farewell_of : Ip × Tally → Option Farewell
@@ -152,11 +166,10 @@ said_of family sockets at keep entry =
 abbrev pub some_recent : ℕ → ℕ → List (Ip × Tally) → Bool
 some_recent at keep tallies = list_any (λ entry. is_recent at keep entry.1.left) tallies
 
--- The tallies are those of the sockets, of each group with a socket or a farewell and of no other. The
--- sockets are lawful, and the raw report of either family is within the limits.
+-- The tallies are those of the sockets. The groups are forwarded, the sources are of their families,
+-- and the raw report of either family is within the limits.
 pub record IsConsistent (moment : ℕ) (sockets : List Socket) (tallies : List (Ip × Tally)) : Type 0 where
   pub tallied : (group : Ip) → tally_at tallies group ≡ tally_of (tally_at tallies group).left group sockets
-  pub needed : All (λ entry. nat_lt 0 entry.1.sockets || is_some entry.1.left ≡ true) tallies
   pub forwarded : All (λ entry. is_forwardable entry.0 ≡ true) tallies
   pub family : All (λ socket. AreOfGroup socket.group socket.filter) sockets
   pub few : All (λ entry. entry.1.sources ≤ 32) tallies

@@ -1,17 +1,17 @@
 //! The tallies of groups. They must not know names or the filters of single sockets.
 
-ghost use Rattle.std.specs.Prelude.{◌≡◌, ◌+◌, ◌≤◌, ◌<◌, ◌^◌, [], true, IfOk, OnOk, OnErr, nat_lt};
-ghost use Rattle.std.specs.List.{flat_map};
-ghost use Rattle.socket_merge.specs.Kept.{HasTallies, HasTally, octets_besides, said_of, some_recent, tally_at, tally_changed, tally_fresh, tally_left, tally_with, tally_without};
+ghost use Rattle.std.specs.Prelude.{◌≡◌, ◌+◌, ◌<◌, ◌^◌, [], true, false, IfNone, IfOk, IfSome, OnOk, OnErr, nat_lt};
+ghost use Rattle.amt_values.specs.declared.address.Ip.{Ip};
+ghost use Rattle.socket_merge.specs.Kept.{HasTallies, HasTally, has_old, is_blank, tally_at, tally_changed, tally_fresh, tally_left, tally_with, tally_without};
 
-use crate::named::NamedSockets;
-use crate::stored::{Share, Tally};
+use crate::stored::{Share, Tally, may_be_due};
 use amt_values::{Ip, Moment};
-use group_records::Family;
-use source_filter::Records;
 use std::alloc::{AllocError, Global};
 use std::collections::BTreeMap;
 use std::marker::Model;
+
+pub mod octets;
+mod report;
 
 /// A tally of each group with a socket or a farewell, by group.
 #[derive(Debug, Drop)]
@@ -21,16 +21,15 @@ pub struct Groups {
 
 impl Model for Groups {
     ghost use Rattle.std.specs.Prelude.{List};
-    ghost use Rattle.std.specs.BTreeMap.{IsOrdered};
-    ghost use Rattle.amt_values.specs.Order.{ip_order};
     ghost use Rattle.amt_values.specs.declared.address.Ip.{Ip};
+    ghost use Rattle.socket_merge.specs.Kept.{AreNeeded};
     ghost use Rattle.socket_merge.specs.declared.stored.Tally.{Tally};
 
     ghost Value = { List (Ip × Tally) };
 
     ghost view = { λ s. s.tallies.entries };
 
-    ghost invariant = { λ s. IsOrdered ip_order s.tallies };
+    ghost invariant = { λ s. AreNeeded s.tallies };
 }
 
 impl Groups {
@@ -46,12 +45,46 @@ impl Groups {
     pub fn tally(&self, group: &Ip) -> Tally
         ensures { result ≡ tally_at self.now group.now }
     {
-        Tally {
-            sockets: 0,
-            wanting: 0,
-            sources: 0,
-            left: None,
+        match self.tallies.get(group) {
+            Some(tally) => *tally,
+            None => Tally::blank(),
         }
+    }
+
+    // Replaces the tally of a group that has one; a blank tally isn't kept.
+    fn set(&mut self, group: &Ip, tally: Tally)
+        requires { is_blank (tally_at self.old group.now) ≡ true → is_blank tally ≡ true }
+        ensures { HasTally group.now tally self.old self.new }
+    {
+        if tally.is_blank() {
+            self.tallies.remove(group);
+            return;
+        }
+        if let Some(kept) = self.tallies.get_mut(group) {
+            *kept = tally;
+        }
+    }
+
+    // The first group with a socket.
+    fn first_with_sockets(&self) -> Option<Ip>
+        ensures some { IfSome result
+            (λ group. nat_lt 0 (tally_at self.now group).sockets ≡ true) }
+        ensures none { IfNone result
+            ((group : Ip) → nat_lt 0 (tally_at self.now group).sockets ≡ false) }
+    {
+        let (group, _) = self.tallies.iter().find(|(_, tally)| tally.sockets > 0)?;
+        Some(*group)
+    }
+
+    // The first group whose farewell can't be due any more.
+    fn first_old(&self, moment: Moment) -> Option<Ip>
+        ensures some { IfSome result (λ group. has_old moment (tally_at self.now group) ≡ true) }
+        ensures none { IfNone result
+            ((group : Ip) → has_old moment (tally_at self.now group) ≡ false) }
+    {
+        let (group, _) = self.tallies.iter().find(|(_, tally)| tally.left.is_some()
+            && !may_be_due(moment, tally.left))?;
+        Some(*group)
     }
 
     /// Counts a socket of the group. Out of memory nothing changes.
@@ -62,7 +95,11 @@ impl Groups {
             (tally_with share (tally_at self.old group)) self.old self.new) }
         ensures err { OnErr result (self.new ≡ self.old) }
     {
-        Err(AllocError)
+        let tally = self.tally(&group).with(share);
+        match self.tallies.insert(group, tally) {
+            Ok(_) => Ok(()),
+            Err(_) => Err(AllocError),
+        }
     }
 
     /// Counts another filter of a socket of the group.
@@ -71,58 +108,51 @@ impl Groups {
         requires room { (tally_at self.old group.now).sources + after.sources < 2 ^ 63 }
         ensures { HasTally group.now
             (tally_changed moment before after (tally_at self.old group.now)) self.old self.new }
-    {}
+    {
+        let tally = self.tally(group).changed(moment, before, after);
+        self.set(group, tally);
+    }
 
     /// Counts one socket of the group less.
     pub fn remove(&mut self, group: &Ip, share: Share, moment: Moment)
         ensures { HasTally group.now
             (tally_without moment share (tally_at self.old group.now)) self.old self.new }
-    {}
+    {
+        let tally = self.tally(group).without(moment, share);
+        self.set(group, tally);
+    }
 
     /// Counts no sockets.
     pub fn leave_all(&mut self, moment: Moment)
         ensures { HasTallies (tally_left moment) self.old self.new }
-    {}
+    {
+        while let Some(group) = self.first_with_sockets() {
+            let tally = self.tally(&group).emptied(moment);
+            self.set(&group, tally);
+        }
+    }
 
     /// Drops the farewells that can't be due any more.
     pub fn drop_old(&mut self, moment: Moment)
         ensures { HasTallies (tally_fresh moment) self.old self.new }
-    {}
-
-    /// The octets of the raw report of the family without the record of one group.
-    pub fn octets_besides(&self, family: Family, moment: Moment, group: &Ip) -> usize
-        requires { octets_besides family moment group.now self.now ≤ 1400 }
-        ensures { result ≡ octets_besides family moment group.now self.now }
     {
-        8
-    }
-
-    /// Whether some farewell lasts at the moment.
-    pub fn some_recent(&self, at: Moment, keep_ms: u64) -> bool
-        ensures { result ≡ some_recent at keep_ms self.now }
-    {
-        false
-    }
-
-    /// What is said of each group of the family, by group.
-    pub fn report(
-        &self,
-        alloc: Global,
-        named: &NamedSockets,
-        family: Family,
-        at: Moment,
-        keep_ms: u64,
-    ) -> Result<Records, AllocError>
-        ensures { IfOk result (λ records.
-            records ≡ flat_map (said_of family named.now at keep_ms) self.now) }
-    {
-        Err(AllocError)
+        while let Some(group) = self.first_old(moment) {
+            let tally = self.tally(&group).fresh(moment);
+            self.set(&group, tally);
+        }
     }
 
     /// Equal tallies that own their memory.
     pub fn copy(&self, alloc: Global) -> Result<Groups, AllocError>
         ensures { IfOk result (λ copy. copy ≡ self.now) }
     {
-        Err(AllocError)
+        let mut copy = Groups::new(alloc);
+        for (group, tally) in self.tallies.iter() {
+            match copy.tallies.insert(*group, *tally) {
+                Ok(_) => {}
+                Err(_) => return Err(AllocError),
+            }
+        }
+        Ok(copy)
     }
 }

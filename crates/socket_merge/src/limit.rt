@@ -7,6 +7,7 @@ ghost use Rattle.socket_merge.specs.Refusal.{family_of, limit_conditions};
 
 use crate::fault::SocketFault;
 use crate::groups::Groups;
+use crate::groups::octets::raw_octets;
 use amt_values::{Ip, Moment};
 use group_records::Family;
 
@@ -17,17 +18,6 @@ pub fn family_of(group: &Ip) -> Family
     match *group {
         Ip::V4(_) => Family::V4,
         Ip::V6(_) => Family::V6,
-    }
-}
-
-// The octets of a raw record of so many sources.
-fn raw_octets(family: Family, sources: usize) -> usize
-    requires { sources ≤ 32 }
-    ensures { result ≡ raw_octets family sources }
-{
-    match family {
-        Family::V4 => 8 + sources * 4,
-        Family::V6 => 20 + sources * 16,
     }
 }
 
