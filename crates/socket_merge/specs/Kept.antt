@@ -1,5 +1,5 @@
 -- How sockets are kept: by name, with a tally of each group. No public contract says these words.
-use Rattle.std.specs.Prelude.{◌≡◌, ℕ, ◌+◌, ◌-◌, ◌*◌, ◌≤◌, nat_lt, not, ◌&&◌, ◌||◌, Bool, true, false, is_some, List, [], ◌∷◌, length, All, sum_by, count_by, Option, Some, None, if◌then◌else◌}
+use Rattle.std.specs.Prelude.{◌≡◌, ℕ, ◌+◌, ◌-◌, ◌*◌, ◌^◌, ◌<◌, ◌≤◌, nat_lt, not, ◌&&◌, ◌||◌, Bool, true, false, is_some, List, [], ◌∷◌, length, All, sum_by, count_by, Option, Some, None, if◌then◌else◌}
 use Rattle.std.specs.BTreeMap.{BTreeMap, IsOrdered}
 use Rattle.std.specs.Global.{Vec}
 use Rattle.std.specs.List.{filter_map, find, list_any}
@@ -56,6 +56,12 @@ tally_of left group sockets = record {
   sources = sum_by (λ socket. length socket.filter.sources) (on_group group sockets);
   left = left;
 }
+
+-- one more socket, with so many sources, can be counted
+pub record HasRoom (tally : Tally) (more : ℕ) : Type 0 where
+  pub sockets : tally.sockets < 2 ^ 63
+  pub wanting : tally.wanting ≤ tally.sockets
+  pub sources : tally.sources + more < 2 ^ 63
 
 -- a farewell ends where the group is wanted again
 abbrev pub left_with : Share → Option ℕ → Option ℕ

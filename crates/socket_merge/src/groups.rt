@@ -1,8 +1,8 @@
 //! The tallies of groups. They must not know names or the filters of single sockets.
 
-ghost use Rattle.std.specs.Prelude.{◌≡◌, ◌+◌, ◌<◌, ◌^◌, [], true, false, IfNone, IfOk, IfSome, OnOk, OnErr, nat_lt};
+ghost use Rattle.std.specs.Prelude.{◌≡◌, [], true, false, IfNone, IfOk, IfSome, OnOk, OnErr, nat_lt};
 ghost use Rattle.amt_values.specs.declared.address.Ip.{Ip};
-ghost use Rattle.socket_merge.specs.Kept.{HasTallies, HasTally, has_old, is_blank, tally_at, tally_changed, tally_fresh, tally_left, tally_with, tally_without};
+ghost use Rattle.socket_merge.specs.Kept.{HasRoom, HasTallies, HasTally, has_old, is_blank, tally_at, tally_changed, tally_fresh, tally_left, tally_with, tally_without};
 
 use crate::stored::{Share, Tally, may_be_due};
 use amt_values::{Ip, Moment};
@@ -89,23 +89,20 @@ impl Groups {
 
     /// Counts a socket of the group. Out of memory nothing changes.
     pub fn add(&mut self, group: Ip, share: Share) -> Result<(), AllocError>
-        requires room { (tally_at self.old group).sources + share.sources < 2 ^ 63 }
-        requires room_for_one { (tally_at self.old group).sockets < 2 ^ 63 }
+        requires { HasRoom (tally_at self.old group) share.sources }
         ensures ok { OnOk result (HasTally group
             (tally_with share (tally_at self.old group)) self.old self.new) }
         ensures err { OnErr result (self.new ≡ self.old) }
     {
         let tally = self.tally(&group).with(share);
-        match self.tallies.insert(group, tally) {
-            Ok(_) => Ok(()),
-            Err(_) => Err(AllocError),
-        }
+        self.tallies.insert(group, tally)?;
+        Ok(())
     }
 
     /// Counts another filter of a socket of the group.
     pub fn change(&mut self, group: &Ip, before: Share, after: Share, moment: Moment)
         requires some { nat_lt 0 (tally_at self.old group.now).sockets ≡ true }
-        requires room { (tally_at self.old group.now).sources + after.sources < 2 ^ 63 }
+        requires room { HasRoom (tally_at self.old group.now) after.sources }
         ensures { HasTally group.now
             (tally_changed moment before after (tally_at self.old group.now)) self.old self.new }
     {

@@ -8,7 +8,7 @@ ghost use Rattle.group_records.specs.Written.{IsOfFamily, report_length};
 ghost use Rattle.socket_merge.specs.FullReport.{family_by, full_report_of, is_quiet};
 ghost use Rattle.socket_merge.specs.History.{Change, Close, LeaveAll, Open, moment_read, socket_named, with_call};
 ghost use Rattle.socket_merge.specs.Interface.{interface, wants};
-ghost use Rattle.socket_merge.specs.Kept.{HasTally, share_of, tally_at, tally_with};
+ghost use Rattle.socket_merge.specs.Kept.{HasRoom, HasTally, share_of, tally_at, tally_with};
 ghost use Rattle.socket_merge.specs.Refusal.{is_open, raw_report_length, refusal_of};
 ghost use Rattle.socket_merge.specs.Sockets.{AnswersRefusal, AreOfGroup, AreOfSocket, ForHistory, HasNoOldFarewell, SocketsHold};
 
@@ -251,8 +251,7 @@ fn insert_both(
     filter: &Filter,
 ) -> Result<(), AllocError>
     requires absent { socket_named name.now named.old ≡ None }
-    requires room { (tally_at groups.old group.now).sources + length filter.now.sources < 2 ^ 63 }
-    requires room_for_one { (tally_at groups.old group.now).sockets < 2 ^ 63 }
+    requires room { HasRoom (tally_at groups.old group.now) (length filter.now.sources) }
     ensures named { OnOk result (named.new ≡ named.old
         ++ record { name = name.now; group = group.now; filter = filter.now } ∷ []) }
     ensures groups { OnOk result (HasTally group.now

@@ -1,10 +1,10 @@
 //! What is kept of a socket and of a group. It must not know names or reports.
 
-ghost use Rattle.std.specs.Prelude.{◌≡◌, ◌+◌, ◌≤◌, ◌<◌, ◌^◌};
+ghost use Rattle.std.specs.Prelude.{◌≡◌};
 ghost use Rattle.source_filter.specs.Filter.{wants_any};
 ghost use Rattle.socket_merge.specs.FullReport.{is_recent};
 ghost use Rattle.socket_merge.specs.Refusal.{may_be_due};
-ghost use Rattle.socket_merge.specs.Kept.{blank, is_blank, left_with, left_without, one_where, share_of, tally_changed, tally_fresh, tally_left, tally_with, tally_without};
+ghost use Rattle.socket_merge.specs.Kept.{HasRoom, blank, is_blank, left_with, left_without, one_where, share_of, tally_changed, tally_fresh, tally_left, tally_with, tally_without};
 
 use amt_values::{Ip, Moment};
 use source_filter::{Filter, Mode};
@@ -50,8 +50,8 @@ pub struct Tally {
     pub wanting: usize,
     /// How many sources they list, with repeats.
     pub sources: usize,
-    /// When the group stopped being wanted.
-    pub left: Option<Moment>,
+    /// When the group stopped being wanted, in milliseconds.
+    pub left: Option<u64>,
 }
 
 impl Tally {
@@ -75,9 +75,7 @@ impl Tally {
 
     /// With a socket more.
     pub fn with(&self, share: Share) -> Tally
-        requires sockets { self.now.sockets < 2 ^ 63 }
-        requires wanting { self.now.wanting ≤ self.now.sockets }
-        requires sources { self.now.sources + share.sources < 2 ^ 63 }
+        requires { HasRoom self.now share.sources }
         ensures { result ≡ tally_with share self.now }
     {
         Tally {
@@ -103,9 +101,7 @@ impl Tally {
 
     /// Where one of the sockets has another filter.
     pub fn changed(&self, moment: Moment, before: Share, after: Share) -> Tally
-        requires sockets { self.now.sockets < 2 ^ 63 }
-        requires wanting { self.now.wanting ≤ self.now.sockets }
-        requires sources { self.now.sources + after.sources < 2 ^ 63 }
+        requires { HasRoom self.now after.sources }
         ensures { result ≡ tally_changed moment before after self.now }
     {
         let others = self.wanting.saturating_sub(one_where(before.wants));
@@ -153,37 +149,37 @@ fn one_where(wants: bool) -> usize
     if wants { 1 } else { 0 }
 }
 
-fn left_with(share: Share, left: Option<Moment>) -> Option<Moment>
+fn left_with(share: Share, left: Option<u64>) -> Option<u64>
     ensures { result ≡ left_with share left }
 {
     if share.wants { None } else { left }
 }
 
-fn left_without(moment: Moment, before: usize, after: usize, left: Option<Moment>) -> Option<Moment>
+fn left_without(moment: Moment, before: usize, after: usize, left: Option<u64>) -> Option<u64>
     ensures { result ≡ left_without moment before after left }
 {
     if before > 0 && after == 0 {
-        return Some(moment);
+        return Some(moment.ms());
     }
     left
 }
 
 /// Whether a farewell may still be due: the group was left at most 100,000 s before.
-pub fn may_be_due(moment: Moment, left: Option<Moment>) -> bool
+pub fn may_be_due(moment: Moment, left: Option<u64>) -> bool
     ensures { result ≡ may_be_due moment left }
 {
     match left {
-        Some(left) => moment.ms() <= left.ms() + LONGEST_FAREWELL_MS,
+        Some(left) => moment.ms() <= left.saturating_add(LONGEST_FAREWELL_MS),
         None => false,
     }
 }
 
 /// Whether a farewell that lasts so long is due at the moment.
-pub fn is_recent(at: Moment, keep_ms: u64, left: Option<Moment>) -> bool
+pub fn is_recent(at: Moment, keep_ms: u64, left: Option<u64>) -> bool
     ensures { result ≡ is_recent at keep_ms left }
 {
     match left {
-        Some(left) => at.ms() < left.ms() + keep_ms.min(LONGEST_FAREWELL_MS),
+        Some(left) => at.ms() < left.saturating_add(keep_ms.min(LONGEST_FAREWELL_MS)),
         None => false,
     }
 }
