@@ -12,9 +12,6 @@ use Rattle.amt_messages.specs.declared.message.Message.{Message}
 use Rattle.amt_messages.specs.declared.message.Message.TheVariants.{Discovery, Advertisement, Request, Query, Update, Multicast, Teardown}
 
 -- the address has 32 or 128 bits
-abbrev pub IsAddress : Ip → Type 0
-IsAddress (V4 address) = address < 2 ^ 32
-IsAddress (V6 address) = address < 2 ^ 128
 
 -- a response MAC has six octets
 abbrev pub IsMac : Mac48 → Type 0

@@ -3,6 +3,7 @@ pub mod Dotted
 pub mod Joined
 pub mod Lengths
 pub mod NetworkOrder
+pub mod OnePeer
 pub mod Orders
 pub mod Numerals
 pub mod PeerTexts

@@ -1,5 +1,5 @@
 -- IP addresses as numbers.
-use Rattle.std.specs.Prelude.{ℕ, ◌/◌, ◌%◌, ◌^◌, ◌==◌, ◌||◌, Bool, false, if◌then◌else◌}
+use Rattle.std.specs.Prelude.{ℕ, ◌/◌, ◌%◌, ◌^◌, ◌<◌, ◌==◌, ◌||◌, Bool, false, if◌then◌else◌}
 use Rattle.amt_values.specs.declared.address.Ip.{Ip}
 use Rattle.amt_values.specs.declared.address.Ip.TheVariants.{V4, V6}
 
@@ -10,6 +10,11 @@ is_compatible number = number / 2 ^ 32 == 0
 -- the number is in ::ffff:0:0/96, as an IPv4-mapped address is (RFC 4291, section 2.5.5.2)
 abbrev pub is_mapped : ℕ → Bool
 is_mapped number = number / 2 ^ 32 == 0xffff
+
+-- the number of the address has its 32 or 128 bits
+abbrev pub IsAddress : Ip → Type 0
+IsAddress (V4 number) = number < 2 ^ 32
+IsAddress (V6 number) = number < 2 ^ 128
 
 -- what 16 octets carry of an address
 abbrev pub number_of : Ip → ℕ

@@ -1,7 +1,7 @@
 //! IP addresses, and the one number that stands for each in 16 octets. It must not know ports.
 
 ghost use Rattle.std.specs.Prelude.{◌≡◌, false};
-ghost use Rattle.amt_values.specs.Address.{is_mapped, number_of, address_of, has_ipv4_prefix};
+ghost use Rattle.amt_values.specs.Address.{IsAddress, is_mapped, number_of, address_of, has_ipv4_prefix};
 
 /// An IP address: its 32 or 128 bits as a number, the first octet highest.
 ///
@@ -14,6 +14,7 @@ pub enum Ip {
 
 /// The address as 16 octets carry it: IPv4 stands after 96 zero bits.
 pub fn wire16(ip: &Ip) -> u128
+    ensures address { IsAddress ip.now }
     ensures value { result ≡ number_of ip.now }
     ensures one_form { has_ipv4_prefix ip.now ≡ false → is_mapped result ≡ false }
 {

@@ -1,6 +1,6 @@
 //! Tunnel endpoints and their one form. It must not know messages or memberships.
 
-ghost use Rattle.std.specs.Prelude.{◌≡◌, ◌↔◌, Some, IsNone, true, false};
+ghost use Rattle.std.specs.Prelude.{◌≡◌, ◌↔◌, Some, IsNone, IfSome, true, false};
 
 use crate::address::{from_wire16, has_ipv4_prefix, wire16};
 use crate::peer::Peer;
@@ -31,7 +31,8 @@ impl Model for Endpoint {
 }
 
 impl Endpoint {
-    ghost use Rattle.amt_values.specs.Address.{is_mapped, has_ipv4_prefix};
+    ghost use Rattle.amt_values.specs.declared.peer.Peer.{Peer};
+    ghost use Rattle.amt_values.specs.Address.{IsAddress, is_mapped, has_ipv4_prefix};
     ghost use Rattle.amt_values.specs.Endpoint.{endpoint_of, endpoint_named, peer_of};
 
     /// The endpoint of a datagram's source.
@@ -41,6 +42,10 @@ impl Endpoint {
     pub fn of(peer: &Peer) -> Option<Endpoint>
         ensures value { result ≡ endpoint_of peer.now }
         ensures none { IsNone result ↔ (has_ipv4_prefix peer.now.ip ≡ true) }
+        ensures back { IfSome result (λ tunnel. peer_of tunnel ≡ peer.now) }
+        ensures one_peer { IfSome result
+            (λ tunnel. (other : Peer) → IsAddress other.ip
+            → endpoint_of other ≡ Some tunnel → other ≡ peer.now) }
     {
         if has_ipv4_prefix(&peer.ip) {
             return None;

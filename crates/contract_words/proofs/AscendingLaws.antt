@@ -12,7 +12,7 @@ use Rattle.std.proofs.lemmas.List.Kept.{IsStrictlySortedBy-filter}
 use Rattle.std.proofs.lemmas.Map.Keys.{sorted_tail}
 use Rattle.std.proofs.lemmas.Map.Lookups.{CmpEqualImpliesEq, btree_set_from_contains}
 use Rattle.std.proofs.lemmas.Map.Views.{any-filter_same}
-use Rattle.contract_words.specs.Ascending.{has, IsAscending, placed, ascending, union, difference}
+use Rattle.contract_words.specs.Ascending.{has, IsAscending, placed, ascending, union, difference, intersection}
 
 twice : (a b c : Bool) → a ≡ b → (b || c) ≡ (a || (b || c))
 twice true b c same = ap (λ t. t || c) (sym same)
@@ -63,6 +63,9 @@ module _ {K : Type 0} {order : K → K → Ordering} where
 
   pub has-difference : CmpEqualImpliesEq order → (xs ys : List K) (s : K) → has order (difference order xs ys) s ≡ (has order xs s && not (has order ys s))
   has-difference exact xs ys s = has-filter exact (λ x. not (has order ys x)) xs s
+
+  pub has-intersection : CmpEqualImpliesEq order → (xs ys : List K) (s : K) → has order (intersection order xs ys) s ≡ (has order xs s && has order ys s)
+  has-intersection exact xs ys s = has-filter exact (λ x. has order ys x) xs s
 
   module _ (total : IsTotalOrder order) where
     has-placed_by : (o : Ordering) (x y : K) (ys : List K) (s : K) → order x y ≡ o → has order (placed order x ys) s ≡ (eq_by_cmp order s x || has order ys s)

@@ -6,7 +6,7 @@ use Rattle.std.proofs.lemmas.Map.Views.{tells_apart}
 use Rattle.amt_values.specs.declared.address.Ip.{Ip}
 use Rattle.amt_values.specs.EndpointValue.{EndpointValue}
 use Rattle.amt_values.proofs.Orders.{endpoint_order-exact, endpoint_order-total}
-use Rattle.source_filter.specs.Filter.{FilterValue}
+use Rattle.source_filter.specs.Filter.{FilterValue, filter_after_all}
 use Rattle.source_filter.specs.declared.mode.Mode.{Mode}
 use Rattle.source_filter.specs.declared.mode.Mode.TheVariants.{Include, Exclude}
 use Rattle.source_filter.specs.declared.record.Record.{Record}
@@ -16,7 +16,7 @@ use Rattle.endpoint_membership.specs.Membership.{Membership, is_fresh}
 use Rattle.endpoint_membership.specs.Stored.{earlier, later, only}
 use Rattle.endpoint_membership.specs.Log.{is_empty, latest, on_group}
 use Rattle.endpoint_membership.specs.declared.after_report.RenewedFilter.{RenewedFilter}
-use Rattle.endpoint_membership.specs.EndpointMemberships.{AreOwn, filter_after_all, filter_or_nothing, membership_of_renewed, renewed_filter_after, renewed_filter_after_all, renewed_filter_of}
+use Rattle.endpoint_membership.specs.EndpointMemberships.{AreOwn, filter_or_nothing, membership_of_renewed, renewed_filter_after, renewed_filter_after_all, renewed_filter_of}
 use Rattle.endpoint_membership.specs.EndpointGroup.{EndpointGroup, same_endpoint}
 use Rattle.endpoint_membership.specs.Memberships.{membership_of, membership_in, membership_at}
 use Rattle.endpoint_membership.specs.Table.{AreMembershipsAt}

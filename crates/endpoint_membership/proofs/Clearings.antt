@@ -13,7 +13,7 @@ use Rattle.endpoint_membership.specs.Admission.{HasNoMembership}
 use Rattle.endpoint_membership.specs.Stored.{is_of_another, only}
 use Rattle.endpoint_membership.specs.Limits.{IsWithin}
 use Rattle.endpoint_membership.specs.Log.{brought, concerns, is_empty, latest, records_at}
-use Rattle.endpoint_membership.specs.EndpointMemberships.{filter_after_all}
+use Rattle.source_filter.specs.Filter.{filter_after_all}
 use Rattle.endpoint_membership.specs.EndpointGroup.{EndpointGroup, same_endpoint, same_group}
 use Rattle.endpoint_membership.specs.Memberships.{is_live, membership_of, membership_in, rows_of, row_of, membership_at, memberships_at}
 use Rattle.endpoint_membership.specs.Table.{Holds, TableValue, TableSettings, memberships_now}

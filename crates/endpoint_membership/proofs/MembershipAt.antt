@@ -3,7 +3,7 @@ use Rattle.std.proofs.Common.{◌≡◌, ℕ, ◌+◌, ◌≤◌, ◌<◌, Bool,
 use Rattle.std.proofs.lemmas.Grind.{reverse_onto}
 use Rattle.amt_values.specs.declared.address.Ip.{Ip}
 use Rattle.amt_values.specs.EndpointValue.{EndpointValue}
-use Rattle.source_filter.specs.Filter.{FilterValue, nothing}
+use Rattle.source_filter.specs.Filter.{FilterValue, filter_after_all, nothing}
 use Rattle.source_filter.specs.declared.mode.Mode.{Mode}
 use Rattle.source_filter.specs.declared.mode.Mode.TheVariants.{Include, Exclude}
 use Rattle.source_filter.specs.declared.record.Record.{Record}
@@ -12,7 +12,6 @@ use Rattle.endpoint_membership.specs.declared.change.Change.TheVariants.{Reporte
 use Rattle.endpoint_membership.specs.Membership.{Membership, is_fresh}
 use Rattle.endpoint_membership.specs.Stored.{only}
 use Rattle.endpoint_membership.specs.Log.{concerns, is_empty, latest, leaving, live_chain, on_group, records_at, renewed_at}
-use Rattle.endpoint_membership.specs.EndpointMemberships.{filter_after_all}
 use Rattle.endpoint_membership.specs.EndpointGroup.{EndpointGroup, same_endpoint}
 use Rattle.endpoint_membership.specs.Memberships.{membership_of, membership_at}
 use Rattle.endpoint_membership.specs.GroupFilter.{filter_of}

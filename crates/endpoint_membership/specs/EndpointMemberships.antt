@@ -20,11 +20,6 @@ use Rattle.endpoint_membership.specs.declared.limits.LimitFault.{LimitFault}
 use Rattle.endpoint_membership.specs.declared.limits.LimitFault.TheVariants.{Sources}
 use Rattle.endpoint_membership.specs.declared.limits.Limits.{Limits}
 
--- the filter after records, oldest first
-abbrev pub filter_after_all : FilterValue → List Record → FilterValue
-filter_after_all filter [] = filter
-filter_after_all filter (group_record ∷ later) = filter_after_all (filter_after filter group_record) later
-
 -- a membership of the endpoint that counts at the moment
 abbrev pub is_own : ℕ → ℕ → EndpointValue → Membership → Bool
 is_own lifetime moment endpoint membership = same_endpoint membership.endpoint endpoint && is_fresh lifetime moment membership

@@ -1,9 +1,9 @@
 -- A written report is read back, and its length.
-use Rattle.std.proofs.Common.{◌≡◌, ℕ, ◌+◌, ◌*◌, ◌%◌, ◌^◌, ◌<◌, ◌≤◌, List, [], ◌∷◌, ◌++◌, length, length-append, map, true, Option, Some, refl, sym, subst, ap, ◌∙◌, arith}
+use Rattle.std.proofs.Common.{◌≡◌, ℕ, ◌+◌, ◌*◌, ◌%◌, ◌^◌, ◌<◌, ◌≤◌, List, [], ◌∷◌, ◌++◌, length, take, get_or, length-append, map, true, Option, Some, refl, sym, subst, ap, ◌∙◌, arith}
 use Rattle.std.proofs.Math.Nat.{suc-mul}
 use Rattle.std.proofs.lemmas.List.{append-nil, length-map}
 use Rattle.std.proofs.lemmas.List.Elements.{All-cons, All-head, All-nil, All-tail}
-use Rattle.std.proofs.lemmas.List.Sums.{sum_by-cons}
+use Rattle.std.proofs.lemmas.List.Sums.{sum_by-cons, sum_by_more_le}
 use Rattle.std.specs.List.{All, flat_map, sum_by}
 use Rattle.byteorder.specs.Endian.{big_bytes}
 use Rattle.byteorder.specs.Numbers.{big_number-reads_back, length-bytes_high_first}
@@ -15,6 +15,7 @@ use Rattle.inner_datagrams.specs.Checksum.{internet_sum_of, IsRight}
 use Rattle.source_filter.specs.declared.record.Record.{Record}
 use Rattle.source_filter.specs.declared.record.RecordKind.{RecordKind}
 use Rattle.source_filter.specs.declared.record.RecordKind.TheVariants.{IsIn, IsEx, ToIn, ToEx, Allow, Block}
+use Rattle.source_filter.specs.Record.{item_count}
 use Rattle.group_records.specs.declared.family.Family.{Family}
 use Rattle.group_records.specs.declared.family.Family.TheVariants.{V4, V6}
 use Rattle.group_records.specs.CarriedRecord.{CarriedRecord, IsCarriedRecord, record_octets, record_of_kind, known_record, known_records}
@@ -199,6 +200,28 @@ length-written_records family (first ∷ others) of_family =
     let both = length-append (written_record first) (flat_map written_record others) in
     rw (sum_by-cons (written_length family) first others) (omega (arith, both))
 
+width-most : (family : Family) (count : ℕ) → width family + count * width family ≤ 16 + 16 * count
+width-most V4 count = omega arith
+width-most V6 count = omega arith
+
+-- a record and its sources take at most 20 octets each
+pub written_length-most : (family : Family) (records : List Record) → sum_by (written_length family) records ≤ 20 * item_count records
+written_length-most family [] = omega arith
+written_length-most family (first ∷ others) =
+    let here = width-most family (length first.sources) in
+    let later = written_length-most family others in
+    let items = sum_by-cons (λ (one : Record). length one.sources) first others in
+    rw (sum_by-cons (written_length family) first others) (omega arith)
+
+-- so the records up to one of few take few octets
+pub octets-few : (family : Family) (records items : List Record) (k : ℕ) (next : Record) (octets : ℕ) → item_count records ≤ 16777216 → items ≡ records
+    → k < length items → next ≡ get_or items k next → octets ≡ 8 + sum_by (written_length family) (take k records) → octets + written_length family next < 400000000
+octets-few family records items k next octets few same more is so_far =
+    let most = written_length-most family records in
+    let within = subst (λ (all : List Record). k < length all) same more in
+    let part = sum_by_more_le (written_length family) records k next within in
+    let here = ap (written_length family) (is ∙ ap (λ (all : List Record). get_or all k next) same) in omega arith
+
 few_by : (family : Family) (records : List Record) (limit : ℕ) → sum_by (written_length family) records ≤ limit → limit < 65536 → All HasFewSources records
 few_by family [] limit short small = All-nil HasFewSources
 few_by family (first ∷ others) limit short small =
@@ -211,12 +234,24 @@ count_by family [] = omega arith
 count_by family (first ∷ others) =
     let later = count_by family others in rw (sum_by-cons (written_length family) first others) (omega arith)
 
+items_by : (family : Family) (records : List Record) → item_count records ≤ sum_by (written_length family) records
+items_by family [] = omega arith
+items_by family (first ∷ others) =
+    let here = width-some family (length first.sources) in
+    let later = items_by family others in
+    let items = sum_by-cons (λ (one : Record). length one.sources) first others in
+    rw (sum_by-cons (written_length family) first others) (omega arith)
+
 -- a short report has few records, and each of them few sources
 pub short-few_sources : (family : Family) (records : List Record) → report_length family records ≤ 1400 → All HasFewSources records
 short-few_sources family records short = few_by family records 1400 (omega arith) (omega arith)
 
 pub short-few_records : (family : Family) (records : List Record) → report_length family records ≤ 1400 → length records < 65536
 short-few_records family records short = let count = count_by family records in omega arith
+
+-- nor many of both together
+pub short-few_items : (family : Family) (records : List Record) → report_length family records ≤ 1400 → item_count records ≤ 16777216
+short-few_items family records short = let few = items_by family records in omega arith
 
 pub length-report_with_sum : (family : Family) (checksum : ℕ) (records : List Record) → All (IsOfFamily family) records
     → length (report_with_sum checksum family records) ≡ report_length family records

@@ -24,4 +24,4 @@ pub use family::Family;
 pub use general::write_query;
 pub use query::read_query;
 pub use report::read_report;
-pub use writing::{REPORT_LIMIT, report_length, write_report};
+pub use writing::{ITEM_LIMIT, REPORT_LIMIT, report_length, write_report};

@@ -7,6 +7,7 @@ ghost use Rattle.amt_values.specs.Octets.{AreOctets};
 ghost use Rattle.inner_datagrams.specs.Checksum.{internet_sum_of};
 ghost use Rattle.group_records.specs.Family.{report_type};
 ghost use Rattle.group_records.specs.Report.{IsReport};
+ghost use Rattle.source_filter.specs.Record.{item_count};
 ghost use Rattle.group_records.specs.Written.{address_octets, kind_number, report_length, report_with_sum, written_record, written_report, FitsOctets, HasFittingAddresses, IsOfFamily};
 
 use crate::family::{Family, report_type, width};
@@ -19,6 +20,9 @@ use std::alloc::{AllocError, Global};
 /// The most octets of a report that is written. Further records go into further reports (RFC 3376,
 /// section 4.2.16).
 pub const REPORT_LIMIT: usize = 1_400;
+
+/// The most records and sources together of which the length of a report is computed.
+pub const ITEM_LIMIT: usize = 16_777_216;
 
 // The type of a record.
 fn kind_number(kind: RecordKind) -> u8
@@ -130,8 +134,10 @@ pub fn fill_sum(pseudo_header: &[u8], message: &mut [u8])
 }
 
 /// The octets of the report that is written of these records.
+///
+/// It may be more than a report has: whoever collects records is to learn how much too long they are.
 pub fn report_length(family: Family, records: &Records) -> usize
-    requires { report_length family records.now ≤ REPORT_LIMIT }
+    requires { item_count records.now ≤ ITEM_LIMIT }
     ensures { result ≡ report_length family records.now }
 {
     let mut octets = 8;

@@ -1,3 +1,5 @@
+pub mod AppliedChanges
 pub mod FilterAfter
 pub mod Compared
+pub mod MergedFilters
 pub mod SourceSets

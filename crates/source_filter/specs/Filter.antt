@@ -69,3 +69,8 @@ filter_after filter group_record = record {
   mode = mode_after group_record.kind filter.mode;
   sources = sources_after group_record.kind filter.mode filter.sources group_record.sources;
 }
+
+-- the filter after records, oldest first
+abbrev pub filter_after_all : FilterValue → List Record → FilterValue
+filter_after_all filter [] = filter
+filter_after_all filter (group_record ∷ later) = filter_after_all (filter_after filter group_record) later

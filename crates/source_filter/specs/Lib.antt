@@ -1,3 +1,4 @@
+pub mod Changes
 pub mod Filter
 pub mod Merging
 pub mod Record

@@ -7,11 +7,12 @@ use Rattle.source_filter.specs.Filter.{FilterValue, ascending_sources}
 use Rattle.source_filter.specs.declared.mode.Mode.{Mode}
 use Rattle.source_filter.specs.declared.mode.Mode.TheVariants.{Include, Exclude}
 
--- the list of a filter in this mode, and none of one in the other
+-- the list of a filter in INCLUDE mode
 abbrev pub include_list : Mode → List Ip → List (List Ip)
 include_list Include sources = sources ∷ []
 include_list Exclude sources = []
 
+-- the list of a filter in EXCLUDE mode
 abbrev pub exclude_list : Mode → List Ip → List (List Ip)
 exclude_list Include sources = []
 exclude_list Exclude sources = sources ∷ []
@@ -27,30 +28,31 @@ exclude_lists [] = []
 exclude_lists (filter ∷ more) = exclude_list filter.mode filter.sources ++ exclude_lists more
 
 -- the sources of all lists, one list after another
-abbrev pub joined : List (List Ip) → List Ip
-joined [] = []
-joined (first ∷ more) = first ++ joined more
+abbrev pub all_sources : List (List Ip) → List Ip
+all_sources [] = []
+all_sources (first ∷ more) = first ++ all_sources more
 
 -- the sources that some list has
 abbrev pub union_of : List (List Ip) → List Ip
-union_of source_lists = ascending_sources (joined source_lists)
+union_of source_lists = ascending_sources (all_sources source_lists)
 
--- the sources of a list that all the others have too
-abbrev pub narrowed : List Ip → List (List Ip) → List Ip
-narrowed first [] = first
-narrowed first (next ∷ more) = narrowed (intersection ip_order first next) more
+-- the sources of a list that all others have too
+abbrev pub common_sources : List Ip → List (List Ip) → List Ip
+common_sources first [] = first
+common_sources first (next ∷ more) = common_sources (intersection ip_order first next) more
 
--- the sources that each list has; of no lists there are none that can be named
+-- the sources that each list has, where there is a list
 abbrev pub intersection_of : List (List Ip) → Option (List Ip)
 intersection_of [] = None
-intersection_of (first ∷ more) = Some (narrowed first more)
+intersection_of (first ∷ more) = Some (common_sources first more)
 
--- by what the filters in EXCLUDE mode exclude together, and what those in INCLUDE mode include
+-- by the sources that all filters in EXCLUDE mode exclude, where there is one, and those that some filter
+-- in INCLUDE mode includes
 abbrev pub merged_by : Option (List Ip) → List Ip → FilterValue
 merged_by None included = record { mode = Include; sources = included }
 merged_by (Some excluded) included = record { mode = Exclude; sources = difference ip_order excluded included }
 
--- where some filter is in EXCLUDE mode, EXCLUDE of the intersection of their lists, less each source in
--- an INCLUDE list; else INCLUDE of the union
+-- where some filter is in EXCLUDE mode, EXCLUDE of the intersection of the EXCLUDE lists, less each source
+-- in an INCLUDE list; else INCLUDE of the union of all lists
 abbrev pub merged : List FilterValue → FilterValue
 merged filters = merged_by (intersection_of (exclude_lists filters)) (union_of (include_lists filters))

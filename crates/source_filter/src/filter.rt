@@ -6,7 +6,7 @@ ghost use Rattle.amt_values.specs.declared.address.Ip.{Ip};
 ghost use Rattle.source_filter.specs.Record.{lists};
 ghost use Rattle.contract_words.specs.Ascending.{IsAscending};
 
-use crate::ips::{Ips, ascending_ips};
+use crate::ips::{Ips, ascending_ips, is_among};
 use crate::mode::Mode;
 use crate::mutable::MutableFilter;
 use crate::record::Record;
@@ -52,6 +52,14 @@ impl Filter {
     {
         let sources = ascending_ips(Vec::from_slice(alloc, sources)?);
         Ok(Filter { mode, sources })
+    }
+
+    // A filter of sources that ascend already.
+    pub(crate) fn of_ascending(mode: Mode, sources: Ips) -> Filter
+        requires { IsAscending ip_order sources }
+        ensures { result ≡ record { mode = mode; sources = sources } }
+    {
+        Filter { mode, sources }
     }
 
     pub fn mode(&self) -> Mode
@@ -112,13 +120,6 @@ impl Filter {
             sources,
         })
     }
-}
-
-fn is_among(ascending: &[Ip], source: &Ip) -> bool
-    requires { IsAscending ip_order ascending.now }
-    ensures { result ≡ lists ascending.now source.now }
-{
-    ascending.binary_search(source).is_ok()
 }
 
 /// An equal filter that owns its memory.

@@ -7,6 +7,7 @@
 //! Standard: RFC 3376, sections 3.2, 4.1 and 4.2.12; RFC 3810, section 5.1.
 #![tactic(auto)]
 
+mod changes;
 mod fault;
 mod filter;
 mod ips;
@@ -17,6 +18,7 @@ mod query;
 mod record;
 mod records;
 
+pub use changes::diff;
 pub use fault::{ReadFault, ReportFault};
 pub use filter::{Filter, copy_filter};
 pub use ips::Ips;

@@ -1,20 +1,107 @@
-//! The filters of a group as one filter. It must not know sockets.
-// A stub: its body is not written. The contract stands for the one that another clone brings.
+//! The one filter of an interface for all its sockets. It must not know records, names or moments.
 
-ghost use Rattle.std.specs.Prelude.{◌≡◌, IfOk};
+ghost use Rattle.std.specs.Prelude.{◌≡◌, [], ◌∷◌, ◌++◌, Some, IfOk, IfSome, OnOk};
 ghost use Rattle.std.specs.List.{list_any};
+ghost use Rattle.std.specs.Option.{option_to_list};
+ghost use Rattle.amt_values.specs.Order.{ip_order};
 ghost use Rattle.amt_values.specs.declared.address.Ip.{Ip};
+ghost use Rattle.contract_words.specs.Ascending.{IsAscending};
 ghost use Rattle.source_filter.specs.Filter.{admits};
-ghost use Rattle.source_filter.specs.Merging.{merged};
+ghost use Rattle.source_filter.specs.Merging.{exclude_list, exclude_lists, include_list, include_lists, intersection_of, all_sources, merged, union_of};
 
 use crate::filter::Filter;
+use crate::ips::{Ips, ascending_ips, difference, intersection};
+use crate::mode::Mode;
+use amt_values::Ip;
 use std::alloc::{AllocError, Global};
 
-/// One filter that lets in what some filter lets in (RFC 3376, section 3.2).
-pub fn merge(_alloc: Global, filters: &[Filter]) -> Result<Filter, AllocError>
+/// The filter that admits what some of these filters admits, as an interface has it for the filters
+/// of its sockets (RFC 3376, section 3.2).
+pub fn merge(alloc: Global, filters: &[Filter]) -> Result<Filter, AllocError>
     ensures value { IfOk result (λ filter. filter ≡ merged filters.now) }
     ensures admits { IfOk result (λ filter. (source : Ip)
         → admits filter source ≡ list_any (λ one. admits one source) filters.now) }
 {
-    Err(AllocError)
+    merged_filter(alloc, filters)
+}
+
+// The merged filter alone. What it admits follows from it.
+fn merged_filter(alloc: Global, filters: &[Filter]) -> Result<Filter, AllocError>
+    ensures { IfOk result (λ filter. filter ≡ merged filters.now) }
+{
+    let included = included_sources(alloc, filters)?;
+    match excluded_sources(alloc, filters)? {
+        None => Ok(Filter::of_ascending(Mode::Include, included)),
+        Some(excluded) => {
+            let left = difference(alloc, excluded.as_slice(), included.as_slice())?;
+            Ok(Filter::of_ascending(Mode::Exclude, left))
+        }
+    }
+}
+
+// The sources that some filter in INCLUDE mode lists.
+fn included_sources(alloc: Global, filters: &[Filter]) -> Result<Ips, AllocError>
+    ensures value { IfOk result (λ included. included ≡ union_of (include_lists filters.now)) }
+    ensures ascending { IfOk result (IsAscending ip_order) }
+{
+    let mut included = Vec::new(alloc);
+    for filter in filters {
+        append_included(filter, &mut included)?;
+    }
+    Ok(ascending_ips(included))
+}
+
+// Puts those at the end that this filter lists, where it is in INCLUDE mode.
+fn append_included(filter: &Filter, included: &mut Vec<Ip>) -> Result<(), AllocError>
+    ensures { OnOk result (included.new.items
+        ≡ included.old.items ++ all_sources (include_list filter.now.mode filter.now.sources)) }
+{
+    match filter.mode() {
+        Mode::Include => included.extend_from_slice(filter.sources()),
+        Mode::Exclude => Ok(()),
+    }
+}
+
+// The sources that each filter in EXCLUDE mode lists, where there is one.
+fn excluded_sources(alloc: Global, filters: &[Filter]) -> Result<Option<Ips>, AllocError>
+    ensures value { IfOk result
+        (λ excluded. excluded ≡ intersection_of (exclude_lists filters.now)) }
+    ensures ascending { IfOk result (λ excluded. IfSome excluded (IsAscending ip_order)) }
+{
+    let mut excluded = None;
+    for filter in filters {
+        excluded = still_excluded(alloc, excluded, filter)?;
+    }
+    Ok(excluded)
+}
+
+// The excluded sources after one more filter.
+fn still_excluded(
+    alloc: Global,
+    excluded: Option<Ips>,
+    filter: &Filter,
+) -> Result<Option<Ips>, AllocError>
+    requires { IfSome excluded (IsAscending ip_order) }
+    ensures value { IfOk result (λ after. after ≡ intersection_of
+        (option_to_list excluded ++ exclude_list filter.now.mode filter.now.sources)) }
+    ensures ascending { IfOk result (λ after. IfSome after (IsAscending ip_order)) }
+{
+    match filter.mode() {
+        Mode::Include => Ok(excluded),
+        Mode::Exclude => Ok(Some(common_sources(alloc, excluded, filter.sources())?)),
+    }
+}
+
+// Those of the excluded sources that this list has too; where none were excluded before, all of it.
+fn common_sources(alloc: Global, excluded: Option<Ips>, sources: &[Ip]) -> Result<Ips, AllocError>
+    requires before { IfSome excluded (IsAscending ip_order) }
+    requires sources { IsAscending ip_order sources.now }
+    ensures value { IfOk result
+        (λ after. Some after ≡ intersection_of (option_to_list excluded ++ sources.now ∷ [])) }
+    ensures ascending { IfOk result (IsAscending ip_order) }
+{
+    match excluded {
+        None => Ips::copied(alloc, sources),
+        Some(excluded) => intersection(alloc, excluded.as_slice(), sources),
+    }
 }
