@@ -3,9 +3,10 @@ use Rattle.std.proofs.Common.{◌≡◌, ℕ, zero, suc, ◌+◌, ◌*◌, ◌^�
 use Rattle.std.specs.List.{range_with_len}
 use Rattle.amt_values.specs.declared.address.Ip.{Ip}
 use Rattle.amt_values.specs.declared.address.Ip.TheVariants.{V4, V6}
+use Rattle.source_filter.specs.Changes.{changes_on}
 use Rattle.source_filter.specs.Filter.{FilterValue}
 use Rattle.source_filter.specs.declared.mode.Mode.TheVariants.{Include, Exclude}
-use Rattle.source_filter.specs.declared.record.RecordKind.TheVariants.{IsIn, IsEx, ToIn}
+use Rattle.source_filter.specs.declared.record.RecordKind.TheVariants.{IsIn, IsEx, ToIn, Block}
 use Rattle.group_records.specs.declared.family.Family.TheVariants.{V4 as Family4, V6 as Family6}
 use Rattle.socket_merge.specs.History.{AcceptedCall, SocketCall, Open, Change, Close, LeaveAll, with_call, open_sockets}
 use Rattle.socket_merge.specs.Interface.{interface, is_wanted, left_at, wants}
@@ -190,3 +191,7 @@ ascending6 = refl
 all_left : full_report_of Family4 (with_call 10 LeaveAll mixed) 10 60 ≡ record { kind = ToIn; group = group 1; sources = [] } ∷ record { kind = ToIn; group = group 2; sources = [] } ∷ []
 unfolding full_report_of
 all_left = refl
+
+-- what closing the third of the merged sockets reports
+blocked : changes_on (interface three (group 1)) (interface two_left (group 1)) (group 1) ≡ record { kind = Block; group = group 1; sources = V4 2 ∷ [] } ∷ []
+blocked = refl
