@@ -1,0 +1,1 @@
+use Rattle.socket_merge.proofs.Wanted.{All-merged, length-merged, wants_any-merged}
