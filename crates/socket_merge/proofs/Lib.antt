@@ -1,2 +1,3 @@
+pub mod Amounts
 mod Rows
 pub mod Wanted

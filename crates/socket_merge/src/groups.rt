@@ -2,7 +2,7 @@
 
 ghost use Rattle.std.specs.Prelude.{◌≡◌, [], true, false, IfNone, IfOk, IfSome, OnOk, OnErr, nat_lt};
 ghost use Rattle.amt_values.specs.declared.address.Ip.{Ip};
-ghost use Rattle.socket_merge.specs.Kept.{HasRoom, HasTallies, HasTally, has_old, is_blank, tally_at, tally_changed, tally_fresh, tally_left, tally_with, tally_without};
+ghost use Rattle.socket_merge.specs.Kept.{AreOrdered, HasRoom, HasTallies, HasTally, has_old, is_blank, tally_at, tally_changed, tally_fresh, tally_left, tally_with, tally_without};
 
 use crate::stored::{Share, Tally, may_be_due};
 use amt_values::{Ip, Moment};
@@ -92,6 +92,7 @@ impl Groups {
         requires { HasRoom (tally_at self.old group) share.sources }
         ensures ok { OnOk result (HasTally group
             (tally_with share (tally_at self.old group)) self.old self.new) }
+        ensures ordered { AreOrdered self.new }
         ensures err { OnErr result (self.new ≡ self.old) }
     {
         let tally = self.tally(&group).with(share);
@@ -103,8 +104,9 @@ impl Groups {
     pub fn change(&mut self, group: &Ip, before: Share, after: Share, moment: Moment)
         requires some { nat_lt 0 (tally_at self.old group.now).sockets ≡ true }
         requires room { HasRoom (tally_at self.old group.now) after.sources }
-        ensures { HasTally group.now
+        ensures changed { HasTally group.now
             (tally_changed moment before after (tally_at self.old group.now)) self.old self.new }
+        ensures ordered { AreOrdered self.new }
     {
         let tally = self.tally(group).changed(moment, before, after);
         self.set(group, tally);
@@ -112,8 +114,9 @@ impl Groups {
 
     /// Counts one socket of the group less.
     pub fn remove(&mut self, group: &Ip, share: Share, moment: Moment)
-        ensures { HasTally group.now
+        ensures without { HasTally group.now
             (tally_without moment share (tally_at self.old group.now)) self.old self.new }
+        ensures ordered { AreOrdered self.new }
     {
         let tally = self.tally(group).without(moment, share);
         self.set(group, tally);
@@ -121,7 +124,8 @@ impl Groups {
 
     /// Counts no sockets.
     pub fn leave_all(&mut self, moment: Moment)
-        ensures { HasTallies (tally_left moment) self.old self.new }
+        ensures left { HasTallies (tally_left moment) self.old self.new }
+        ensures ordered { AreOrdered self.new }
     {
         while let Some(group) = self.first_with_sockets() {
             let tally = self.tally(&group).emptied(moment);
@@ -131,7 +135,8 @@ impl Groups {
 
     /// Drops the farewells that can't be due any more.
     pub fn drop_old(&mut self, moment: Moment)
-        ensures { HasTallies (tally_fresh moment) self.old self.new }
+        ensures fresh { HasTallies (tally_fresh moment) self.old self.new }
+        ensures ordered { AreOrdered self.new }
     {
         while let Some(group) = self.first_old(moment) {
             let tally = self.tally(&group).fresh(moment);
