@@ -1,3 +1,5 @@
 pub mod Amounts
+pub mod Farewells
+pub mod HoldsAfter
 mod Rows
 pub mod Wanted
