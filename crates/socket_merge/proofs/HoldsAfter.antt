@@ -15,87 +15,17 @@ use Rattle.socket_merge.specs.Refusal.{may_be_due}
 use Rattle.socket_merge.specs.Sockets.{IsKept}
 use Rattle.socket_merge.specs.declared.stored.Share.{Share}
 use Rattle.socket_merge.specs.declared.stored.Tally.{Tally}
-use Rattle.socket_merge.proofs.Amounts.{AreApart, found_has_name, length-as_sum, part, sum_by-changed, sum_by-closed, sum_by-on_group, with_filter}
+use Rattle.socket_merge.proofs.Counted.{AreOthersSame, AreTallied, AreTallied-fresh, AreTallied-same, Counts, Counts-changed, Counts-closed, Counts-left, Counts-of, Counts-opened, IsNamed, amount, is_wanted-counted, others_changed, others_closed, others_opened, replaced, same_counts, tally_of-counts}
 use Rattle.socket_merge.proofs.Farewells.{Follows, IsKept-after, IsKept-fresh, IsKept-none, none_kept}
 use Rattle.socket_merge.proofs.Wanted.{same_group-exact, same_group-itself, wants_any-merged}
 
-pub same_group-turned : (one other : Ip) → same_group one other ≡ same_group other one
-same_group-turned one other = (eq_by_cmp_equiv ip_order-total).symm one other
-
-any_first : (test rest : Bool) (number : ℕ) → rest ≡ ltb 0 number → (test || rest) ≡ ltb 0 (cond test 1 0 + number)
-any_first true rest number is = sym (lt-ltb 0 (1 + number) (omega arith))
-any_first false rest number is = is ∙ ap (ltb 0) (omega arith)
-
-list_any-counted : {X Y : Type 0} (p : Y → Bool) (h : X → Y) (xs : List X) → list_any p (map h xs) ≡ ltb 0 (count_by (λ x. p (h x)) xs)
-list_any-counted p h [] = refl
-list_any-counted p h (x ∷ xs) =
-    any_first (p (h x)) (list_any p (map h xs)) (count_by (λ y. p (h y)) xs) (list_any-counted p h xs)
-    ∙ ap (ltb 0) (sym (sum_by-cons (λ y. cond (p (h y)) 1 0) x xs))
-
--- a socket counts once
-abbrev pub one : Socket → ℕ
-one socket = 1
-
--- and where it wants some source
-abbrev pub wanting : Socket → ℕ
-wanting socket = cond (wants_any socket.filter) 1 0
-
--- and for each source that it lists
-abbrev pub listing : Socket → ℕ
-listing socket = length socket.filter.sources
-
--- what the sockets of a group come to by a measure
-abbrev pub amount : (Socket → ℕ) → Ip → List Socket → ℕ
-amount measure group sockets = sum_by (part measure group) sockets
-
--- the tally counts the sockets of the group
-pub record Counts (tally : Tally) (group : Ip) (sockets : List Socket) : Type 0 where
-  pub number : tally.sockets ≡ amount one group sockets
-  pub wanting : tally.wanting ≡ amount wanting group sockets
-  pub sources : tally.sources ≡ amount listing group sockets
-
-number-is : (group : Ip) (sockets : List Socket) → length (on_group group sockets) ≡ amount one group sockets
-number-is group sockets = length-as_sum (on_group group sockets) ∙ sum_by-on_group one group sockets
-
-wanting-is : (group : Ip) (sockets : List Socket) → count_by (λ socket. wants_any socket.filter) (on_group group sockets) ≡ amount wanting group sockets
-wanting-is group sockets = sum_by-on_group wanting group sockets
-
-sources-is : (group : Ip) (sockets : List Socket) → sum_by listing (on_group group sockets) ≡ amount listing group sockets
-sources-is group sockets = sum_by-on_group listing group sockets
-
-pub Counts-of : (tally : Tally) (group : Ip) (sockets : List Socket) → tally ≡ tally_of tally.left group sockets → Counts tally group sockets
-Counts-of tally group sockets is = record {
-  number = ap (λ (kept : Tally). kept.sockets) is ∙ number-is group sockets;
-  wanting = ap (λ (kept : Tally). kept.wanting) is ∙ wanting-is group sockets;
-  sources = ap (λ (kept : Tally). kept.sources) is ∙ sources-is group sockets;
-}
-
-abbrev tally_by : Option ℕ → ℕ → ℕ → ℕ → Tally
-tally_by left sockets wanting sources = record { sockets = sockets; wanting = wanting; sources = sources; left = left }
-
-pub tally_of-counts : (tally : Tally) (group : Ip) (sockets : List Socket) → Counts tally group sockets → tally ≡ tally_of tally.left group sockets
-tally_of-counts tally group sockets counts =
-    ap (λ (number : ℕ). tally_by tally.left number tally.wanting tally.sources) (counts.number ∙ sym (number-is group sockets))
-    ∙ ap (λ (number : ℕ). tally_by tally.left (length (on_group group sockets)) number tally.sources) (counts.wanting ∙ sym (wanting-is group sockets))
-    ∙ ap (tally_by tally.left (length (on_group group sockets)) (count_by (λ socket. wants_any socket.filter) (on_group group sockets))) (counts.sources ∙ sym (sources-is group sockets))
-
 -- the tallies of all groups stand for a history
 pub record Stands (history : List AcceptedCall) (tally : Ip → Tally) : Type 0 where
-  pub tallied : (group : Ip) → tally group ≡ tally_of (tally group).left group (open_sockets history)
+  pub tallied : AreTallied (open_sockets history) tally
   pub kept : (group : Ip) → IsKept history group (tally group).left
-
-pub is_wanted-counted : (history : List AcceptedCall) (group : Ip) (tally : Tally) → Counts tally group (open_sockets history) → is_wanted history group ≡ ltb 0 tally.wanting
-is_wanted-counted history group tally counts =
-    wants_any-merged (filters_on group (open_sockets history))
-    ∙ list_any-counted wants_any (λ (socket : Socket). socket.filter) (on_group group (open_sockets history))
-    ∙ ap (ltb 0) (wanting-is group (open_sockets history) ∙ sym counts.wanting)
 
 stays_wanted : (wanted : Bool) (moment : ℕ) (kept : Option ℕ) → (wanted ≡ true → kept ≡ None) → Follows wanted wanted moment kept kept
 stays_wanted wanted moment kept none = record { returns = none; leaves = λ no yes. absurd cc; stays = λ no again. refl }
-
-same_counts : (tally : Tally) (group : Ip) (before after : List Socket) → Counts tally group before → ((measure : Socket → ℕ) → amount measure group after ≡ amount measure group before) → Counts tally group after
-same_counts tally group before after counts same =
-    record { number = counts.number ∙ sym (same one); wanting = counts.wanting ∙ sym (same wanting); sources = counts.sources ∙ sym (same listing) }
 
 -- a tally that counts the sockets after a call, and follows its farewell
 pub record IsNext (newest : AcceptedCall) (history : List AcceptedCall) (group : Ip) (before after : Tally) : Type 0 where
@@ -123,10 +53,6 @@ pub none_left : (history : List AcceptedCall) (tally : Ip → Tally) (group : Ip
 none_left history tally group stands wanted =
     none_kept history group (tally group).left (is_wanted-counted history group (tally group) (Counts-of (tally group) group (open_sockets history) (stands.tallied group)) ∙ wanted) (stands.kept group)
 
--- the tally of one group is another one
-abbrev pub replaced : Ip → Tally → (Ip → Tally) → Ip → Tally
-replaced group after tally other = cond (same_group group other) after (tally other)
-
 next_by : (test : Bool) (newest : AcceptedCall) (history : List AcceptedCall) (tally : Ip → Tally) (group other : Ip) (after : Tally) → same_group group other ≡ test → Stands history tally
     → (test ≡ false → (measure : Socket → ℕ) → amount measure other (open_sockets (newest ∷ history)) ≡ amount measure other (open_sockets history))
     → IsNext newest history group (tally group) after → IsNext newest history other (tally other) (cond test after (tally other))
@@ -138,15 +64,14 @@ next_by false newest history tally group other after is stands same next = recor
 
 -- a call that changes one group
 pub Stands-replaced : (newest : AcceptedCall) (history : List AcceptedCall) (tally : Ip → Tally) (group : Ip) (after : Tally) → latest history ≤ newest.moment → Stands history tally
-    → ((other : Ip) → same_group group other ≡ false → (measure : Socket → ℕ) → amount measure other (open_sockets (newest ∷ history)) ≡ amount measure other (open_sockets history))
-    → IsNext newest history group (tally group) after → Stands (newest ∷ history) (replaced group after tally)
+    → AreOthersSame group (open_sockets history) (open_sockets (newest ∷ history)) → IsNext newest history group (tally group) after → Stands (newest ∷ history) (replaced group after tally)
 Stands-replaced newest history tally group after onward stands same next =
     Stands-next newest history tally (replaced group after tally) onward stands (λ other. next_by (same_group group other) newest history tally group other after refl stands (same other) next)
 
 -- tallies that are equal stand for it too
 pub Stands-same : (history : List AcceptedCall) (tally others : Ip → Tally) → ((group : Ip) → others group ≡ tally group) → Stands history tally → Stands history others
 Stands-same history tally others same stands = record {
-  tallied = λ group. subst (λ (kept : Tally). kept ≡ tally_of kept.left group (open_sockets history)) (sym (same group)) (stands.tallied group);
+  tallied = AreTallied-same (open_sockets history) tally others same stands.tallied;
   kept = λ group. subst (λ (kept : Tally). IsKept history group kept.left) (sym (same group)) (stands.kept group);
 }
 
@@ -183,82 +108,46 @@ follows_change old true moment before kept none =
 follows_change old false moment before kept none =
     follows_without moment before ((before - cond old 1 0) + 0) kept kept (λ some. none (omega arith)) (λ no again. refl)
 
-part_by : (measure : Socket → ℕ) (group : Ip) (socket : Socket) → same_group group socket.group ≡ true → part measure group socket ≡ measure socket
-part_by measure group socket same = ap (λ (test : Bool). cond test (measure socket) 0) same
-
-part_of_other : (measure : Socket → ℕ) (group : Ip) (socket : Socket) → same_group socket.group group ≡ false → part measure group socket ≡ 0
-part_of_other measure group socket same = ap (λ (test : Bool). cond test (measure socket) 0) (same_group-turned group socket.group ∙ same)
-
-own_part : (measure : Socket → ℕ) (socket : Socket) → part measure socket.group socket ≡ measure socket
-own_part measure socket = part_by measure socket.group socket (same_group-itself socket.group)
-
 -- a socket is opened
 pub Stands-opened : (history : List AcceptedCall) (tally : Ip → Tally) (at : ℕ) (name : List ℕ) (group : Ip) (filter : FilterValue) → Stands history tally
     → Stands (with_call at (Open name group filter) history) (replaced group (tally_with (share_of filter) (tally group)) tally)
 Stands-opened history tally at name group filter stands =
     let socket : Socket = record { name = name; group = group; filter = filter } in
-    let sockets = open_sockets history in
-    let pushed : (measure : Socket → ℕ) (other : Ip) → amount measure other (sockets ++ socket ∷ []) ≡ amount measure other sockets + part measure other socket =
-        λ measure other. sum_by_push (part measure other) sockets socket in
-    let counts = Counts-of (tally group) group sockets (stands.tallied group) in
+    let counts = Counts-of (tally group) group (open_sockets history) (stands.tallied group) in
     Stands-replaced (record { moment = max (latest history) at; call = Open name group filter }) history tally group (tally_with (share_of filter) (tally group)) (omega arith) stands
-    (λ other another measure. omega (arith, pushed measure other, part_of_other measure other socket another))
+    (others_opened (open_sockets history) socket)
     (record {
-      counts = record {
-        number = omega (arith, counts.number, pushed one group, own_part one socket);
-        wanting = omega (arith, counts.wanting, pushed wanting group, own_part wanting socket);
-        sources = omega (arith, counts.sources, pushed listing group, own_part listing socket);
-      };
+      counts = Counts-opened (open_sockets history) socket (tally group) counts;
       follows = follows_with (wants_any filter) (max (latest history) at) (tally group).wanting (tally group).left (λ some. none_left history tally group stands (lt-ltb 0 (tally group).wanting some));
     })
 
 -- a socket is closed
-pub Stands-closed : (history : List AcceptedCall) (tally : Ip → Tally) (at : ℕ) (name : List ℕ) (socket : Socket) → Stands history tally → AreApart (open_sockets history)
-    → socket_named name (open_sockets history) ≡ Some socket
+pub Stands-closed : (history : List AcceptedCall) (tally : Ip → Tally) (at : ℕ) (name : List ℕ) (socket : Socket) → Stands history tally → IsNamed name socket (open_sockets history)
     → Stands (with_call at (Close name) history) (replaced socket.group (tally_without (max (latest history) at) (share_of socket.filter) (tally socket.group)) tally)
-Stands-closed history tally at name socket stands apart is =
+Stands-closed history tally at name socket stands is =
     let moment = max (latest history) at in
     let group = socket.group in
-    let newest : AcceptedCall = record { moment = moment; call = Close name } in
-    let less : (measure : Socket → ℕ) (other : Ip) → amount measure other (open_sockets (newest ∷ history)) + part measure other socket ≡ amount measure other (open_sockets history) =
-        λ measure other. sum_by-closed (part measure other) name socket (open_sockets history) (apart name) is in
     let counts = Counts-of (tally group) group (open_sockets history) (stands.tallied group) in
-    Stands-replaced newest history tally group (tally_without moment (share_of socket.filter) (tally group)) (omega arith) stands
-    (λ other another measure. omega (arith, less measure other, part_of_other measure other socket another))
+    Stands-replaced (record { moment = moment; call = Close name }) history tally group (tally_without moment (share_of socket.filter) (tally group)) (omega arith) stands
+    (others_closed name socket (open_sockets history) is)
     (record {
-      counts = record {
-        number = omega (arith, counts.number, less one group, own_part one socket);
-        wanting = omega (arith, counts.wanting, less wanting group, own_part wanting socket);
-        sources = omega (arith, counts.sources, less listing group, own_part listing socket);
-      };
+      counts = Counts-closed name socket (open_sockets history) moment (tally group) is counts;
       follows = follows_without moment (tally group).wanting ((tally group).wanting - one_where (wants_any socket.filter)) (tally group).left (tally group).left
           (λ some. none_left history tally group stands (lt-ltb 0 (tally group).wanting (omega arith))) (λ none again. refl);
     })
 
 -- a socket has another filter
-pub Stands-changed : (history : List AcceptedCall) (tally : Ip → Tally) (at : ℕ) (name : List ℕ) (filter : FilterValue) (socket : Socket) → Stands history tally → AreApart (open_sockets history)
-    → socket_named name (open_sockets history) ≡ Some socket
+pub Stands-changed : (history : List AcceptedCall) (tally : Ip → Tally) (at : ℕ) (name : List ℕ) (filter : FilterValue) (socket : Socket) → Stands history tally → IsNamed name socket (open_sockets history)
     → Stands (with_call at (Change name filter) history)
     (replaced socket.group (tally_changed (max (latest history) at) (share_of socket.filter) (share_of filter) (tally socket.group)) tally)
-Stands-changed history tally at name filter socket stands apart is =
+Stands-changed history tally at name filter socket stands is =
     let moment = max (latest history) at in
     let group = socket.group in
-    let after : Socket = with_filter filter socket in
-    let newest : AcceptedCall = record { moment = moment; call = Change name filter } in
-    let other_filter : (measure : Socket → ℕ) (other : Ip) → amount measure other (open_sockets (newest ∷ history)) + part measure other socket
-        ≡ amount measure other (open_sockets history) + part measure other after =
-        λ measure other. sum_by-changed (part measure other) name filter socket (open_sockets history) (apart name) is in
-    let holds : (measure : Socket → ℕ) → part measure group socket ≤ amount measure group (open_sockets history) =
-        λ measure. omega (arith, sum_by-closed (part measure group) name socket (open_sockets history) (apart name) is) in
     let counts = Counts-of (tally group) group (open_sockets history) (stands.tallied group) in
-    Stands-replaced newest history tally group (tally_changed moment (share_of socket.filter) (share_of filter) (tally group)) (omega arith) stands
-    (λ other another measure. omega (arith, other_filter measure other, part_of_other measure other socket another, part_of_other measure other after another))
+    Stands-replaced (record { moment = moment; call = Change name filter }) history tally group (tally_changed moment (share_of socket.filter) (share_of filter) (tally group)) (omega arith) stands
+    (others_changed name filter socket (open_sockets history) is)
     (record {
-      counts = record {
-        number = omega (arith, counts.number, other_filter one group, own_part one socket, own_part one after);
-        wanting = omega (arith, counts.wanting, other_filter wanting group, holds wanting, own_part wanting socket, own_part wanting after);
-        sources = omega (arith, counts.sources, other_filter listing group, holds listing, own_part listing socket, own_part listing after);
-      };
+      counts = Counts-changed name filter socket (open_sockets history) moment (tally group) is counts;
       follows = follows_change (wants_any socket.filter) (wants_any filter) moment (tally group).wanting (tally group).left
           (λ some. none_left history tally group stands (lt-ltb 0 (tally group).wanting some));
     })
@@ -270,14 +159,14 @@ Stands-left history tally at stands =
     let moment = max (latest history) at in
     Stands-next (record { moment = moment; call = LeaveAll }) history tally (λ group. tally_left moment (tally group)) (omega arith) stands
     (λ group. record {
-      counts = record { number = refl; wanting = refl; sources = refl };
+      counts = Counts-left moment group (tally group);
       follows = follows_without moment (tally group).wanting 0 (tally group).left (tally group).left (λ some. absurd (omega arith)) (λ none again. refl);
     })
 
 -- farewells that can't be due any more are dropped
 pub Stands-fresh : (history : List AcceptedCall) (tally : Ip → Tally) → Stands history tally → Stands history (λ group. tally_fresh (latest history) (tally group))
 Stands-fresh history tally stands = record {
-  tallied = λ group. ap (λ (kept : Tally). tally_fresh (latest history) (record { sockets = kept.sockets; wanting = kept.wanting; sources = kept.sources; left = (tally group).left })) (stands.tallied group);
+  tallied = AreTallied-fresh (latest history) (open_sockets history) tally stands.tallied;
   kept = λ group. IsKept-fresh history group (tally group).left (stands.kept group);
 }
 

@@ -1,4 +1,5 @@
 pub mod Amounts
+pub mod Counted
 pub mod Farewells
 pub mod HoldsAfter
 mod Rows
