@@ -1,4 +1,5 @@
 pub mod Amounts
+pub mod ByGroup
 pub mod Counted
 pub mod Farewells
 pub mod HoldsAfter

@@ -29,7 +29,7 @@ pub same_group-itself : (group : Ip) → same_group group group ≡ true
 same_group-itself group = ap is_eq (tied_itself ip_order-total group)
 
 -- the list has an item
-abbrev some_item : {X : Type 0} → List X → Bool
+abbrev pub some_item : {X : Type 0} → List X → Bool
 some_item [] = false
 some_item (x ∷ xs) = true
 
