@@ -14,7 +14,7 @@ sum_by-cond : {X : Type 0} (f : X → ℕ) (test : Bool) (x : X) (xs : List X) �
 sum_by-cond f true x xs = sum_by-cons f x xs
 sum_by-cond f false x xs = omega arith
 
-sum_by-filter : {X : Type 0} (f : X → ℕ) (p : X → Bool) (xs : List X) → sum_by f (filter p xs) ≡ sum_by (λ x. cond (p x) (f x) 0) xs
+pub sum_by-filter : {X : Type 0} (f : X → ℕ) (p : X → Bool) (xs : List X) → sum_by f (filter p xs) ≡ sum_by (λ x. cond (p x) (f x) 0) xs
 sum_by-filter f p [] = refl
 sum_by-filter f p (x ∷ xs) = omega (arith, sum_by-cond f (p x) x (filter p xs), sum_by-filter f p xs, sum_by-cons (λ y. cond (p y) (f y) 0) x xs)
 

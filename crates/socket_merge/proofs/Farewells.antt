@@ -42,7 +42,7 @@ is_recent-kept None (Some moment) at now keep is onward = let some = is.honest m
 is_recent-kept (Some moment) None at now keep is onward = let old = too_old at moment is in sym (le-ltb now (moment + min keep longest_farewell) (omega arith))
 is_recent-kept (Some moment) (Some other) at now keep is onward = ap (is_recent now keep) (sym (is.honest other refl))
 
-nothing_kept : (kept : Option ℕ) (at : ℕ) → KeptBy None at kept → kept ≡ None
+pub nothing_kept : (kept : Option ℕ) (at : ℕ) → KeptBy None at kept → kept ≡ None
 nothing_kept None at is = refl
 nothing_kept (Some moment) at is = let some = is.honest moment refl in absurd cc
 

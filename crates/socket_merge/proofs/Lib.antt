@@ -3,5 +3,6 @@ pub mod ByGroup
 pub mod Counted
 pub mod Farewells
 pub mod HoldsAfter
+pub mod RawReport
 mod Rows
 pub mod Wanted

@@ -1,2 +1,1 @@
-use Rattle.socket_merge.proofs.ByGroup.{left_in-farewells}
-use Rattle.socket_merge.proofs.HoldsAfter.{Stands}
+use Rattle.socket_merge.proofs.RawReport.{raw-by_groups}
