@@ -90,7 +90,7 @@ renamed_first : (test : Bool) (filter : FilterValue) (first : Socket) (more chan
 renamed_first true filter first more changed rest same none = absurd (omega arith)
 renamed_first false filter first more changed rest same none = ap (λ sockets. first ∷ sockets) (same (omega arith))
 
-none_refiltered : (name : List ℕ) (filter : FilterValue) (sockets : List Socket) → count_by (has_name name) sockets ≡ 0 → map (refiltered name filter) sockets ≡ sockets
+pub none_refiltered : (name : List ℕ) (filter : FilterValue) (sockets : List Socket) → count_by (has_name name) sockets ≡ 0 → map (refiltered name filter) sockets ≡ sockets
 none_refiltered name filter [] none = refl
 none_refiltered name filter (first ∷ more) none =
     renamed_first (has_name name first) filter first more (map (refiltered name filter) more) (count_by (has_name name) more)

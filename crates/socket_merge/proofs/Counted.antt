@@ -3,7 +3,7 @@ use Rattle.std.proofs.Common.{◌≡◌, ℕ, ◌+◌, ◌-◌, ◌≤◌, ◌<�
 use Rattle.std.specs.List.{count_by, find, list_any, sum_by}
 use Rattle.std.proofs.lemmas.Bool.{lt-ltb, le-ltb, ltb-true, ltb-false}
 use Rattle.std.proofs.lemmas.Cmp.{eq_by_cmp_equiv}
-use Rattle.std.proofs.lemmas.List.Sums.{sum_by-cons, sum_by_push}
+use Rattle.std.proofs.lemmas.List.Sums.{sum_by-cons, sum_by-le-sum_by, sum_by_push}
 use Rattle.amt_values.specs.declared.address.Ip.{Ip}
 use Rattle.amt_values.proofs.Orders.{ip_order-total}
 use Rattle.source_filter.specs.Filter.{FilterValue, wants_any}
@@ -209,3 +209,15 @@ AreTallied-left moment tally group = tally_of-counts (tally_left moment (tally g
 pub AreTallied-fresh : (moment : ℕ) (sockets : List Socket) (tally : Ip → Tally) → AreTallied sockets tally → AreTallied sockets (λ group. tally_fresh moment (tally group))
 AreTallied-fresh moment sockets tally tallied group =
     ap (λ (kept : Tally). tally_fresh moment (record { sockets = kept.sockets; wanting = kept.wanting; sources = kept.sources; left = (tally group).left })) (tallied group)
+
+part_less : (test wants : Bool) → cond test (cond wants 1 0) 0 ≤ cond test 1 0
+part_less true true = omega arith
+part_less true false = omega arith
+part_less false wants = omega arith
+
+pub wanting-le : (group : Ip) (sockets : List Socket) → amount wanting group sockets ≤ amount one group sockets
+wanting-le group sockets = sum_by-le-sum_by (part wanting group) (part one group) sockets (λ socket. part_less (same_group group socket.group) _)
+
+-- no more sockets want some source than there are
+pub wanting_few : (tally : Tally) (group : Ip) (sockets : List Socket) → Counts tally group sockets → tally.wanting ≤ tally.sockets
+wanting_few tally group sockets counts = omega (arith, counts.number, counts.wanting, wanting-le group sockets)

@@ -29,7 +29,7 @@ use Rattle.socket_merge.specs.declared.stored.Share.{Share}
 use Rattle.socket_merge.specs.declared.stored.Tally.{Tally}
 use Rattle.socket_merge.proofs.Amounts.{has_name, part, sum_by-filter, with_filter}
 use Rattle.socket_merge.proofs.ByGroup.{besides, sum_by-keys, sum_by-split, sum_by-within, tally_at-absent}
-use Rattle.socket_merge.proofs.Counted.{Counts, Counts-of, amount, is_wanted-counted, one, replaced, wanting}
+use Rattle.socket_merge.proofs.Counted.{Counts, Counts-of, amount, is_wanted-counted, one, replaced, wanting, wanting-le}
 use Rattle.socket_merge.proofs.Farewells.{KeptBy, KeptBy-of, may_be_due-kept, nothing_kept}
 use Rattle.socket_merge.proofs.HoldsAfter.{Stands}
 use Rattle.socket_merge.proofs.Wanted.{same_group-itself}
@@ -67,14 +67,6 @@ unopened_by LeaveAll sockets earlier group before none = refl
 pub unopened : (history : List AcceptedCall) (group : Ip) → has ip_order (groups_opened history) group ≡ false → amount one group (open_sockets history) ≡ 0
 unopened [] group none = refl
 unopened (newest ∷ older) group none = unopened_by newest.call (open_sockets older) (groups_opened older) group (unopened older group) none
-
-part_less : (test wants : Bool) → cond test (cond wants 1 0) 0 ≤ cond test 1 0
-part_less true true = omega arith
-part_less true false = omega arith
-part_less false wants = omega arith
-
-wanting-le : (group : Ip) (sockets : List Socket) → amount wanting group sockets ≤ amount one group sockets
-wanting-le group sockets = sum_by-le-sum_by (part wanting group) (part one group) sockets (λ socket. part_less (same_group group socket.group) _)
 
 unwanted : (history : List AcceptedCall) (group : Ip) → has ip_order (groups_opened history) group ≡ false → is_wanted history group ≡ false
 unwanted history group none =
