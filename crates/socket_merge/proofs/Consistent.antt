@@ -18,7 +18,7 @@ use Rattle.socket_merge.specs.declared.stored.Share.{Share}
 use Rattle.socket_merge.specs.declared.stored.Tally.{Tally}
 use Rattle.socket_merge.proofs.Amounts.{AreApart, AreApart-changed, AreApart-closed, AreApart-opened, has_name, none_refiltered, with_filter}
 use Rattle.socket_merge.proofs.Counted.{AreOthersSame, AreTallied, AreTallied-fresh, AreTallied-left, AreTallied-replaced, AreTallied-same, Counts, Counts-changed, Counts-closed, Counts-of, Counts-opened, CountsOne, CountsOne-of, IsNamed, others_changed, others_closed, others_opened, replaced, wanting_few}
-use Rattle.socket_merge.proofs.RawReport.{IsLess, IsLess-fresh, IsLess-later, IsLess-left, IsLess-without, family_is, octets-after, octets-fall, octets_besides-le, octets_in-other, octets_in-own, of_own_family}
+use Rattle.socket_merge.proofs.RawOctets.{IsLess, IsLess-fresh, IsLess-later, IsLess-left, IsLess-without, family_is, octets-after, octets-fall, octets_besides-le, octets_in-other, octets_in-own, of_own_family}
 use Rattle.socket_merge.proofs.Wanted.{same_group-exact}
 
 -- each socket's sources are of its group's family

@@ -4,6 +4,6 @@ pub mod Consistent
 pub mod Counted
 pub mod Farewells
 pub mod HoldsAfter
-pub mod RawReport
+pub mod RawOctets
 mod Rows
 pub mod Wanted

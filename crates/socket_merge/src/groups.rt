@@ -54,7 +54,8 @@ impl Groups {
     // Replaces the tally of a group that has one; a blank tally isn't kept.
     fn set(&mut self, group: &Ip, tally: Tally)
         requires { is_blank (tally_at self.old group.now) ≡ true → is_blank tally ≡ true }
-        ensures { HasTally group.now tally self.old self.new }
+        ensures set { HasTally group.now tally self.old self.new }
+        ensures ordered { AreOrdered self.new }
     {
         if tally.is_blank() {
             self.tallies.remove(group);
@@ -71,6 +72,7 @@ impl Groups {
             (λ group. nat_lt 0 (tally_at self.now group).sockets ≡ true) }
         ensures none { IfNone result
             ((group : Ip) → nat_lt 0 (tally_at self.now group).sockets ≡ false) }
+        ensures ordered { AreOrdered self.now }
     {
         let (group, _) = self.tallies.iter().find(|(_, tally)| tally.sockets > 0)?;
         Some(*group)
@@ -81,6 +83,7 @@ impl Groups {
         ensures some { IfSome result (λ group. has_old moment (tally_at self.now group) ≡ true) }
         ensures none { IfNone result
             ((group : Ip) → has_old moment (tally_at self.now group) ≡ false) }
+        ensures ordered { AreOrdered self.now }
     {
         let (group, _) = self.tallies.iter().find(|(_, tally)| tally.left.is_some()
             && !may_be_due(moment, tally.left))?;
