@@ -1,1 +1,2 @@
+pub mod NamedOnes
 mod Rows
