@@ -1,16 +1,27 @@
-use Rattle.std.proofs.Common.{rules, ◌≡◌, List, [], ◌∷◌, ◌++◌, ◌&&◌, None, IfOk, OnOk, OnErr, ℕ, ◌+◌, ◌-◌, ◌*◌, ◌<◌, ◌≤◌, length, ◌/◌, ◌%◌, Bool, true, false, nat_eq, nat_lt, slice_index_or, slice_set, bit_and, bit_or, Fits, w8, w32, w64, Bor, MutBor}
+use Rattle.std.proofs.Common.{ℕ, List, MutBor, map, sym, ap, ◌∙◌}
+use Rattle.std.specs.Global.{Vec}
 use Rattle.std.specs.Option.{option_map}
-use Rattle.socket_merge.specs.History.{Change, Close, Socket, sockets_after, socket_named}
-use Rattle.socket_merge.specs.FullReport.{is_empty}
-use Rattle.socket_merge.specs.Interface.{filters_on, same_group, some_admits}
-use Rattle.source_filter.specs.Filter.{admits}
-use Rattle.socket_merge.specs.Kept.{share_of}
+use Rattle.indexmap.specs.IndexMap.{IndexMap}
+use Rattle.socket_merge.specs.History.{Socket, refiltered}
+use Rattle.socket_merge.specs.Kept.{socket_of}
+use Rattle.socket_merge.specs.declared.stored.StoredSocket.{StoredSocket}
+use Rattle.socket_merge.proofs.NamedOnes.{refiltered-none, refiltered-written}
 use Rattle.socket_merge.proofs.named.NamedSockets.set_filter.Goals as goal
 
--- src/named.rt:93:13
 pub returns-in_default : goal.returns-in_default
-returns-in_default c = ?
+returns-in_default c =
+    let es = c.self.inside.sockets.entries in
+    let lost = sym (ap (option_map (λ (x : MutBor StoredSocket). x.now)) c.in_default.is) ∙ c.get_mut.ensures.value in
+    ap (λ (sockets : IndexMap (Vec ℕ) StoredSocket _). map socket_of sockets.entries) c.get_mut.follows.holds-at-none
+    ∙ refiltered-none c.args.name.now c.args.filter es (sym lost)
+    ∙ ap (map (refiltered c.args.name.now c.args.filter)) c.self.view_is
 
--- src/named.rt:89:5
 pub returns : goal.returns
-returns c = ?
+returns c =
+    let es = c.self.inside.sockets.entries in
+    let old = c.in-Some.socket.now in
+    let to : StoredSocket = record { group = old.group; filter = c.args.filter } in
+    let found = sym (ap (option_map (λ (x : MutBor StoredSocket). x.now)) c.in-Some.is) ∙ c.get_mut.ensures.value in
+    ap (map socket_of) (c.get_mut.follows.holds to).0
+    ∙ refiltered-written c.args.name.now c.args.filter es old c.get_mut.ensures.unique (sym found)
+    ∙ ap (map (refiltered c.args.name.now c.args.filter)) c.self.view_is

@@ -1,12 +1,16 @@
-use Rattle.std.proofs.Common.{rules, ◌≡◌, List, [], ◌∷◌, ◌++◌, ◌&&◌, None, IfOk, OnOk, OnErr, ℕ, ◌+◌, ◌-◌, ◌*◌, ◌<◌, ◌≤◌, length, ◌/◌, ◌%◌, Bool, true, false, nat_eq, nat_lt, slice_index_or, slice_set, bit_and, bit_or, Fits, w8, w32, w64, Bor, MutBor}
-use Rattle.std.specs.Option.{option_map}
-use Rattle.socket_merge.specs.History.{Change, Close, Socket, sockets_after, socket_named}
-use Rattle.socket_merge.specs.FullReport.{is_empty}
-use Rattle.socket_merge.specs.Interface.{filters_on, same_group, some_admits}
-use Rattle.source_filter.specs.Filter.{admits}
-use Rattle.socket_merge.specs.Kept.{share_of}
+use Rattle.std.proofs.Common.{rules, tests, ap, ◌∙◌}
+use Rattle.std.specs.Map.{values_of}
+use Rattle.std.specs.Map.Iter.{deref}
+use Rattle.std.proofs.lemmas.Iterator.Consumers.{YieldsList-from_rest}
+use Rattle.std.proofs.lemmas.Iterator.Search.{any_from_yields_List}
+use Rattle.socket_merge.specs.Interface.{some_admits}
+use Rattle.socket_merge.proofs.NamedOnes.{admits_stored, some_admits-stored}
 use Rattle.socket_merge.proofs.named.NamedSockets.some_admits.Goals as goal
 
--- src/named.rt:126:5
 pub returns : goal.returns
-returns c = ?
+returns c =
+    let group = c.args.group.now in
+    let source = c.args.source.now in
+    any_from_yields_List (admits_stored group source) _ _ c.any.result c.any.ensures.ran (YieldsList-from_rest {shows = deref} (values_of c.self.inside.sockets.entries) c.values.ensures.rest) (λ x b q k. search (rules, tests))
+    ∙ some_admits-stored group source c.self.inside.sockets.entries
+    ∙ ap (some_admits group source) c.self.view_is
