@@ -1,2 +1,3 @@
 pub mod NamedOnes
 mod Rows
+pub mod Tallies

@@ -1,12 +1,21 @@
-use Rattle.std.proofs.Common.{rules, ◌≡◌, [], true, false, IfNone, IfOk, IfSome, OnOk, OnErr, nat_lt, ℕ, ◌+◌, ◌-◌, ◌*◌, ◌<◌, ◌≤◌, length, ◌/◌, ◌%◌, Bool, nat_eq, List, ◌∷◌, ◌++◌, slice_index_or, slice_set, bit_and, bit_or, Fits, w8, w32, w64, Bor, MutBor}
+use Rattle.std.proofs.Common.{Bor, List, sym, ap, ◌∙◌}
+use Rattle.std.specs.Option.{option_map}
 use Rattle.amt_values.specs.declared.address.Ip.{Ip}
-use Rattle.socket_merge.specs.Kept.{HasRoom, HasTallies, HasTally, has_old, is_blank, tally_at, tally_changed, tally_fresh, tally_left, tally_with, tally_without}
+use Rattle.source_filter.proofs.Compared.{compared}
+use Rattle.socket_merge.specs.Kept.{blank, tally_at}
+use Rattle.socket_merge.specs.declared.stored.Tally.{Tally}
+use Rattle.socket_merge.proofs.Tallies.{blank-missing, tally_at-found}
 use Rattle.socket_merge.proofs.groups.Groups.tally.Goals as goal
 
--- src/groups.rt:45:5
 pub returns-in-Some : goal.returns-in-Some
-returns-in-Some c = ?
+returns-in-Some c =
+    let found = sym c.get.ensures.value ∙ ap (option_map (λ (x : Bor Tally). x.now)) c.in-Some.is in
+    sym (tally_at-found _ compared c.self.inside.tallies c.self.inside.tallies c.args.group.now c.in-Some.tally.now found)
+    ∙ ap (λ (entries : List (Ip × Tally)). tally_at entries c.args.group.now) c.self.view_is
 
--- src/groups.rt:45:5
 pub returns-in-None : goal.returns-in-None
-returns-in-None c = ?
+returns-in-None c =
+    let none = sym c.get.ensures.value ∙ ap (option_map (λ (x : Bor Tally). x.now)) c.in-None.is in
+    c.blank.ensures
+    ∙ sym (blank-missing _ compared c.self.inside.tallies c.self.inside.tallies c.args.group.now blank none)
+    ∙ ap (λ (entries : List (Ip × Tally)). tally_at entries c.args.group.now) c.self.view_is
