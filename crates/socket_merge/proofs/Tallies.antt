@@ -1,15 +1,15 @@
 -- The tally of a group after the map of tallies changes.
-use Rattle.std.proofs.Common.{◌≡◌, ℕ, ◌<◌, Bool, true, false, true≢false, cond, not, ◌&&◌, List, [], ◌∷◌, ◌++◌, map, filter, nat_lt, length, get_or, is_some, Option, None, Some, if◌then◌else◌, refl, sym, ap, subst, ◌∙◌, arith}
+use Rattle.std.proofs.Common.{◌≡◌, ℕ, ◌<◌, Bool, true, false, true≢false, cond, not, ◌&&◌, ◌||◌, ◌+◌, List, [], ◌∷◌, ◌++◌, map, filter, nat_lt, length, get_or, is_some, Option, None, Some, if◌then◌else◌, refl, sym, ap, subst, ◌∙◌, arith}
 use Rattle.std.specs.BTreeMap.{BTreeMap, IsOrdered, get, get_by, insert_entry, is_at, Updates, UpdatesBy}
 use Rattle.std.specs.Cmp.{IsTotalOrder, eq_by_cmp_equiv}
-use Rattle.std.specs.List.{All, AllByRecursion, find, IsDistinct}
+use Rattle.std.specs.List.{All, AllByRecursion, find, list_any, IsDistinct}
 use Rattle.std.specs.Map.{lookup, keys_of, values_of, remove_entry, set_value}
 use Rattle.std.specs.Map.Calls.{RetainsPairs}
 use Rattle.std.specs.Option.{option_map, unwrap_or}
 use Rattle.std.specs.Ordering.{eq_by_cmp, is_eq}
 use Rattle.std.specs.declared.cmp.Ordering.{Ordering}
 use Rattle.std.proofs.lemmas.Bool.Decides.{nat_tests}
-use Rattle.std.proofs.lemmas.List.Elements.{All-from_recursion, recursion_from_All, All-map, filter_passes}
+use Rattle.std.proofs.lemmas.List.Elements.{All-from_recursion, recursion_from_All, All-map, All-weaker, filter_passes}
 use Rattle.std.proofs.lemmas.Map.Entries.{lookup-filter-values, option_filter}
 use Rattle.std.proofs.lemmas.Map.Keys.{IsDistinct-from_sorted}
 use Rattle.std.proofs.lemmas.Map.Made.{lookup-map_values, keys_of-map_values}
@@ -18,7 +18,8 @@ use Rattle.amt_values.proofs.Orders.{ip_order-total}
 use Rattle.amt_values.specs.Order.{ip_order}
 use Rattle.amt_values.specs.declared.address.Ip.{Ip}
 use Rattle.socket_merge.specs.Interface.{same_group}
-use Rattle.socket_merge.specs.Kept.{AreNeeded, HasTallies, HasTally, blank, is_blank, tally_at}
+use Rattle.socket_merge.specs.Kept.{AreNeeded, HasTallies, HasTally, blank, is_blank, tally_at, tally_with}
+use Rattle.socket_merge.specs.declared.stored.Share.{Share}
 use Rattle.socket_merge.specs.declared.stored.Tally.{Tally}
 
 -- an entry is kept where its tally isn't blank
@@ -176,3 +177,39 @@ module _ (to : Tally → Tally) (stays : to blank ≡ blank) where
       ∙ ap (option_filter is_kept) (lookup-map_values to (is_at (ip_order group)) es))
       ∙ each_of (lookup (is_at (ip_order group)) es)
       ∙ ap to (sym (tally_at-lookup es group))
+
+-- ---- answers
+
+-- the same of equal tallies before
+pub HasTally-as : (group : Ip) (one other : Tally) (before older after : List (Ip × Tally)) → one ≡ other → before ≡ older → HasTally group one before after → HasTally group other older after
+HasTally-as group one other before older after tally entries has at =
+    has at ∙ ap (λ (value : Tally). if same_group group at then value else tally_at before at) tally
+    ∙ ap (λ (es : List (Ip × Tally)). if same_group group at then other else tally_at es at) entries
+
+pub HasTallies-as : (to : Tally → Tally) (before older after kept : List (Ip × Tally)) → before ≡ older → after ≡ kept → HasTallies to before kept → HasTallies to older after
+HasTallies-as to before older after kept same entries has group =
+    ap (λ (es : List (Ip × Tally)). tally_at es group) entries ∙ has group ∙ ap (λ (es : List (Ip × Tally)). to (tally_at es group)) same
+
+-- a group with a socket more isn't blank
+pub some_with : (share : Share) (tally : Tally) → is_blank (tally_with share tally) ≡ false
+some_with share tally =
+    let some : not (nat_lt 0 (tally.sockets + 1)) ≡ false = grind (arith, nat_tests) in
+    ap (λ (b : Bool). b && (not (nat_lt 0 (tally_with share tally).wanting) && (not (nat_lt 0 (tally_with share tally).sources) && not (is_some (tally_with share tally).left)))) some
+
+not_blank : (b : Bool) → not b ≡ true → b ≡ false
+not_blank true is = cc
+not_blank false is = refl
+
+-- only needed entries are kept
+pub AreNeeded-kept : (by : Ip → Ip → Ordering) → by ≡ ip_order → (n : BTreeMap Ip Tally) (es : List (Ip × Tally)) → IsOrdered by n → n.entries ≡ filter (λ (e : Ip × Tally). is_kept e.1) es → AreNeeded n
+AreNeeded-kept by compared n es ordered entries = record {
+  ordered = subst (λ (order : Ip → Ip → Ordering). IsOrdered order n) compared ordered;
+  some = subst (All (λ (e : Ip × Tally). is_blank e.1 ≡ false)) (sym entries)
+      (All-weaker (λ (e : Ip × Tally). is_kept e.1 ≡ true) (λ (e : Ip × Tally). is_blank e.1 ≡ false) (λ e is. not_blank (is_blank e.1) is) (filter (λ (e : Ip × Tally). is_kept e.1) es)
+      (filter_passes (λ (e : Ip × Tally). is_kept e.1) es));
+}
+
+-- a test of the tallies is a test of the entries
+pub list_any-values : (test : Tally → Bool) (es : List (Ip × Tally)) → list_any test (values_of es) ≡ list_any (λ (e : Ip × Tally). test e.1) es
+list_any-values test [] = refl
+list_any-values test (e ∷ es) = ap (λ (b : Bool). test e.1 || b) (list_any-values test es)
