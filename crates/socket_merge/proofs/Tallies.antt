@@ -6,12 +6,14 @@ use Rattle.std.specs.List.{All, AllByRecursion, find, list_any, IsDistinct}
 use Rattle.std.specs.Map.{lookup, keys_of, values_of, remove_entry, set_value}
 use Rattle.std.specs.Map.Calls.{RetainsPairs}
 use Rattle.std.specs.Option.{option_map, unwrap_or}
-use Rattle.std.specs.Ordering.{eq_by_cmp, is_eq}
+use Rattle.std.specs.List.Sorted.{IsStrictlySortedBy}
+use Rattle.std.specs.Ordering.{eq_by_cmp, is_eq, match_ordering, ordering_reverse}
 use Rattle.std.specs.declared.cmp.Ordering.{Ordering}
+use Rattle.std.specs.declared.cmp.Ordering.TheVariants.{Less, Equal, Greater}
 use Rattle.std.proofs.lemmas.Bool.Decides.{nat_tests}
 use Rattle.std.proofs.lemmas.List.Elements.{All-from_recursion, recursion_from_All, All-map, All-weaker, filter_passes}
 use Rattle.std.proofs.lemmas.Map.Entries.{lookup-filter-values, option_filter}
-use Rattle.std.proofs.lemmas.Map.Keys.{IsDistinct-from_sorted}
+use Rattle.std.proofs.lemmas.Map.Keys.{IsDistinct-from_sorted, sorted_head, sorted_tail}
 use Rattle.std.proofs.lemmas.Map.Made.{lookup-map_values, keys_of-map_values}
 use Rattle.std.proofs.lemmas.Map.Views.{All-values-insert_entry, All-map-remove_entry, All-values-set_value}
 use Rattle.amt_values.proofs.Orders.{ip_order-total}
@@ -213,3 +215,31 @@ AreNeeded-kept by compared n es ordered entries = record {
 pub list_any-values : (test : Tally → Bool) (es : List (Ip × Tally)) → list_any test (values_of es) ≡ list_any (λ (e : Ip × Tally). test e.1) es
 list_any-values test [] = refl
 list_any-values test (e ∷ es) = ap (λ (b : Bool). test e.1 || b) (list_any-values test es)
+
+-- ---- in a walk
+
+each_at : {X : Type 0} (P : X → Type 0) (done : List X) (x : X) (rest : List X) → AllByRecursion P (done ++ x ∷ rest) → P x
+each_at P [] x rest each = each.0
+each_at P (first ∷ done) x rest each = each_at P done x rest each.1
+
+-- what holds of each item holds of the one at hand
+pub All-at : {X : Type 0} (P : X → Type 0) (done : List X) (x : X) (rest : List X) → All P (done ++ x ∷ rest) → P x
+All-at P done x rest all = each_at P done x rest (recursion_from_All P (done ++ x ∷ rest) all)
+
+each_key : (P : Ip → Type 0) (done : List (Ip × Tally)) (e : Ip × Tally) (rest : List (Ip × Tally)) → AllByRecursion P (keys_of (done ++ e ∷ rest)) → P e.0
+each_key P [] e rest each = each.0
+each_key P (first ∷ done) e rest each = each_key P done e rest each.1
+
+last_by : (o : Ordering) (first : Ip × Tally) (e : Ip × Tally) (done : List (Ip × Tally)) → o ≡ Greater → insert_entry ip_order done e.0 e.1 ≡ done ++ e ∷ []
+    → match_ordering o (e ∷ first ∷ done) ((first.0, e.1) ∷ done) (first ∷ insert_entry ip_order done e.0 e.1) ≡ first ∷ (done ++ e ∷ [])
+last_by Less first e done is rest = cc
+last_by Equal first e done is rest = cc
+last_by Greater first e done is rest = ap (λ es. first ∷ es) rest
+
+-- the entry at hand goes to the end of those before it
+pub inserted_last : (done : List (Ip × Tally)) (e : Ip × Tally) (rest : List (Ip × Tally)) → IsStrictlySortedBy ip_order (keys_of (done ++ e ∷ rest)) → insert_entry ip_order done e.0 e.1 ≡ done ++ e ∷ []
+inserted_last [] e rest sorted = refl
+inserted_last (first ∷ done) e rest sorted =
+    let less = each_key (λ q. ip_order first.0 q ≡ Less) done e rest (sorted_head ip_order first.0 (keys_of (done ++ e ∷ rest)) sorted) in
+    last_by (ip_order e.0 first.0) first e done (ip_order-total.antisymm e.0 first.0 ∙ ap ordering_reverse less)
+    (inserted_last done e rest (sorted_tail ip_order first.0 (keys_of (done ++ e ∷ rest)) sorted))
