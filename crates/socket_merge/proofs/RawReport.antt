@@ -1,7 +1,9 @@
 -- The octets of a report in which nothing is merged, by the tallies.
-use Rattle.std.proofs.Common.{◌≡◌, ℕ, ◌+◌, ◌≤◌, Bool, true, false, not, List, [], ◌∷◌, ◌++◌, if◌then◌else◌, refl, sym, ap, subst, ◌∙◌, arith}
+use Rattle.std.proofs.Common.{◌≡◌, ℕ, ◌+◌, ◌≤◌, Bool, true, false, not, List, [], ◌∷◌, ◌++◌, if◌then◌else◌, nat_lt, refl, sym, ap, subst, ◌∙◌, arith}
 use Rattle.std.specs.Cmp.{eq_by_cmp_equiv}
-use Rattle.std.specs.List.{sum_by}
+use Rattle.std.specs.List.{flat_map, sum_by}
+use Rattle.std.proofs.lemmas.List.{append-nil}
+use Rattle.std.proofs.lemmas.List.Concat.{flat_map-append}
 use Rattle.std.proofs.lemmas.List.Sums.{sum_by-append, sum_by-cons, sum_by_push}
 use Rattle.amt_values.proofs.Orders.{ip_order-total}
 use Rattle.amt_values.specs.contracts.address.IpPartialEq as ips
@@ -11,9 +13,13 @@ use Rattle.group_records.specs.Written.{is_of_family}
 use Rattle.group_records.specs.contracts.family.FamilyPartialEq as families
 use Rattle.group_records.specs.declared.family.Family.{Family}
 use Rattle.group_records.specs.declared.family.Family.TheVariants.{V4, V6}
+use Rattle.source_filter.specs.Merging.{merged}
+use Rattle.source_filter.specs.declared.record.Record.{Record}
 use Rattle.source_filter.proofs.Compared.{tied}
-use Rattle.socket_merge.specs.Interface.{same_group}
-use Rattle.socket_merge.specs.Kept.{octets_besides, octets_in}
+use Rattle.socket_merge.specs.FullReport.{farewell, is_recent, states}
+use Rattle.socket_merge.specs.History.{Socket}
+use Rattle.socket_merge.specs.Interface.{filters_on, same_group}
+use Rattle.socket_merge.specs.Kept.{octets_besides, octets_in, said_of}
 use Rattle.socket_merge.specs.Refusal.{family_of}
 use Rattle.socket_merge.specs.declared.stored.Tally.{Tally}
 
@@ -58,3 +64,13 @@ module _ (family : Family) (moment : ℕ) (group : Ip) (done : List (Ip × Tally
       let all : sum_by weight es ≡ sum_by weight (done ++ e ∷ rest) = ap (sum_by weight) whole in
       let one = here other in
       omega arith
+
+-- nothing is said of a group of another family
+pub nothing_said : (family : Family) (sockets : List Socket) (at keep : ℕ) (done : List (Ip × Tally)) (e : Ip × Tally) → is_of_family family e.0 ≡ false
+    → flat_map (said_of family sockets at keep) done ≡ flat_map (said_of family sockets at keep) (done ++ e ∷ [])
+nothing_said family sockets at keep done e other =
+    let said = said_of family sockets at keep in
+    let nothing : said e ≡ [] = ap (λ (b : Bool). if not b then [] else (if nat_lt 0 e.1.wanting then states e.0 (merged (filters_on e.0 sockets)) ∷ [] else (if is_recent at keep e.1.left then farewell e.0 ∷ [] else []))) other in
+    sym (append-nil (flat_map said done))
+    ∙ ap (λ (records : List Record). flat_map said done ++ (records ++ [])) (sym nothing)
+    ∙ sym (flat_map-append said done (e ∷ []))
