@@ -1,9 +1,13 @@
 pub mod Amounts
 pub mod ByGroup
+pub mod Calls
 pub mod Consistent
 pub mod Counted
 pub mod Farewells
 pub mod HoldsAfter
+pub mod NamedOnes
 pub mod RawOctets
+pub mod RawReport
 mod Rows
+pub mod Tallies
 pub mod Wanted

@@ -41,9 +41,9 @@ one_where wants = if wants then 1 else 0
 abbrev pub blank : Tally
 blank = record { sockets = 0; wanting = 0; sources = 0; left = None }
 
--- the group has neither socket nor farewell
+-- the group has neither sockets nor a farewell
 abbrev pub is_blank : Tally → Bool
-is_blank tally = not (nat_lt 0 tally.sockets) && not (is_some tally.left)
+is_blank tally = not (nat_lt 0 tally.sockets) && (not (nat_lt 0 tally.wanting) && (not (nat_lt 0 tally.sources) && not (is_some tally.left)))
 
 -- the tally of the group
 abbrev pub tally_at : List (Ip × Tally) → Ip → Tally
@@ -113,10 +113,6 @@ tally_fresh moment tally = record {
   sources = tally.sources;
   left = if may_be_due moment tally.left then tally.left else None;
 }
-
--- the farewell can't be due any more
-abbrev pub has_old : ℕ → Tally → Bool
-has_old moment tally = is_some tally.left && not (may_be_due moment tally.left)
 
 -- the tally of one group is another one, and no other is
 abbrev pub HasTally : Ip → Tally → List (Ip × Tally) → List (Ip × Tally) → Type 0

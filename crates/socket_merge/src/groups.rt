@@ -1,10 +1,9 @@
 //! The tallies of groups. They must not know names or the filters of single sockets.
 
-ghost use Rattle.std.specs.Prelude.{◌≡◌, [], true, false, IfNone, IfOk, IfSome, OnOk, OnErr, nat_lt};
-ghost use Rattle.amt_values.specs.declared.address.Ip.{Ip};
-ghost use Rattle.socket_merge.specs.Kept.{AreOrdered, HasRoom, HasTallies, HasTally, has_old, is_blank, tally_at, tally_changed, tally_fresh, tally_left, tally_with, tally_without};
+ghost use Rattle.std.specs.Prelude.{◌≡◌, [], true, not, IfOk, OnOk, OnErr, nat_lt};
+ghost use Rattle.socket_merge.specs.Kept.{AreOrdered, HasRoom, HasTallies, HasTally, is_blank, tally_at, tally_changed, tally_fresh, tally_left, tally_with, tally_without};
 
-use crate::stored::{Share, Tally, may_be_due};
+use crate::stored::{Share, Tally};
 use amt_values::{Ip, Moment};
 use std::alloc::{AllocError, Global};
 use std::collections::BTreeMap;
@@ -61,33 +60,10 @@ impl Groups {
             self.tallies.remove(group);
             return;
         }
-        if let Some(kept) = self.tallies.get_mut(group) {
-            *kept = tally;
-        }
-    }
-
-    // The first group with a socket.
-    fn first_with_sockets(&self) -> Option<Ip>
-        ensures some { IfSome result
-            (λ group. nat_lt 0 (tally_at self.now group).sockets ≡ true) }
-        ensures none { IfNone result
-            ((group : Ip) → nat_lt 0 (tally_at self.now group).sockets ≡ false) }
-        ensures ordered { AreOrdered self.now }
-    {
-        let (group, _) = self.tallies.iter().find(|(_, tally)| tally.sockets > 0)?;
-        Some(*group)
-    }
-
-    // The first group whose farewell can't be due any more.
-    fn first_old(&self, moment: Moment) -> Option<Ip>
-        ensures some { IfSome result (λ group. has_old moment (tally_at self.now group) ≡ true) }
-        ensures none { IfNone result
-            ((group : Ip) → has_old moment (tally_at self.now group) ≡ false) }
-        ensures ordered { AreOrdered self.now }
-    {
-        let (group, _) = self.tallies.iter().find(|(_, tally)| tally.left.is_some()
-            && !may_be_due(moment, tally.left))?;
-        Some(*group)
+        let Some(kept) = self.tallies.get_mut(group) else {
+            return;
+        };
+        *kept = tally;
     }
 
     /// Counts a socket of the group. Out of memory nothing changes.
@@ -130,10 +106,7 @@ impl Groups {
         ensures left { HasTallies (tally_left moment) self.old self.new }
         ensures ordered { AreOrdered self.new }
     {
-        while let Some(group) = self.first_with_sockets() {
-            let tally = self.tally(&group).emptied(moment);
-            self.set(&group, tally);
-        }
+        self.tallies.retain(|_, tally| empty(tally, moment));
     }
 
     /// Drops the farewells that can't be due any more.
@@ -141,10 +114,7 @@ impl Groups {
         ensures fresh { HasTallies (tally_fresh moment) self.old self.new }
         ensures ordered { AreOrdered self.new }
     {
-        while let Some(group) = self.first_old(moment) {
-            let tally = self.tally(&group).fresh(moment);
-            self.set(&group, tally);
-        }
+        self.tallies.retain(|_, tally| freshen(tally, moment));
     }
 
     /// Equal tallies that own their memory.
@@ -160,4 +130,22 @@ impl Groups {
         }
         Ok(copy)
     }
+}
+
+// Leaves a tally without sockets; whether something is left.
+fn empty(tally: &mut Tally, moment: Moment) -> bool
+    ensures emptied { tally.new ≡ tally_left moment tally.old }
+    ensures some { result ≡ not (is_blank tally.new) }
+{
+    *tally = tally.emptied(moment);
+    !tally.is_blank()
+}
+
+// Leaves a tally without a farewell that can't be due any more; whether something is left.
+fn freshen(tally: &mut Tally, moment: Moment) -> bool
+    ensures freshened { tally.new ≡ tally_fresh moment tally.old }
+    ensures some { result ≡ not (is_blank tally.new) }
+{
+    *tally = tally.fresh(moment);
+    !tally.is_blank()
 }

@@ -70,7 +70,7 @@ impl Tally {
     pub fn is_blank(&self) -> bool
         ensures { result ≡ is_blank self.now }
     {
-        self.sockets == 0 && self.left.is_none()
+        self.sockets == 0 && self.wanting == 0 && self.sources == 0 && self.left.is_none()
     }
 
     /// With a socket more.
