@@ -8,6 +8,7 @@ pub mod HoldsAfter
 pub mod NamedOnes
 pub mod RawOctets
 pub mod RawReport
+pub mod Refused
 mod Rows
 pub mod Tallies
 pub mod Wanted

@@ -130,7 +130,7 @@ place-is history tally group stands =
     (not_empty (on_group group (open_sockets history)) ∙ ap (ltb 0) (sym (ap (λ (one : Tally). one.sockets) (stands.tallied group))))
     ∙ ap (λ (due : Bool). ltb 0 (tally group).sockets || due) (sym (may_be_due-kept (left_at history group) (tally group).left (latest history) (latest history) kept (omega arith)))
 
-sources-are : (history : List AcceptedCall) (tally : Ip → Tally) (group : Ip) → Stands history tally → length (raw_sources group (open_sockets history)) ≡ (tally group).sources
+pub sources-are : (history : List AcceptedCall) (tally : Ip → Tally) (group : Ip) → Stands history tally → length (raw_sources group (open_sockets history)) ≡ (tally group).sources
 sources-are history tally group stands =
     length-flat_map (λ (socket : Socket). socket.filter.sources) (on_group group (open_sockets history)) ∙ sym (ap (λ (one : Tally). one.sources) (stands.tallied group))
 
@@ -183,7 +183,7 @@ octets-raw family history tallies ordered stands =
         (none_opened family history (tally_at tallies) stands) in
     omega (arith, sum_by-keys (octets_in family (latest history)) tallies ordered, alike, raw-by_groups family history (tally_at tallies) stands)
 
-own_after : (group : Ip) (after : Tally) (tally : Ip → Tally) → replaced group after tally group ≡ after
+pub own_after : (group : Ip) (after : Tally) (tally : Ip → Tally) → replaced group after tally group ≡ after
 own_after group after tally = ap (λ (test : Bool). cond test after (tally group)) (same_group-itself group)
 
 others_by : (test : Bool) (octets : Tally → ℕ) (after tally : Tally) → cond test 0 (octets (cond test after tally)) ≡ cond test 0 (octets tally)
@@ -225,7 +225,7 @@ raw-replaced family history tallies group after ordered stands some =
     ∙ octets-replaced family (latest history) tallies group after groups now ordered (IsAscending-ascending ip_order-total (groups_opened history))
         (has-ascending ip_order-total (groups_opened history) group ∙ some) (λ other. refl) (none_opened family history now stands)
 
-listed_by : (test : Bool) (number : ℕ) → (test ≡ false → number ≡ 0) → 0 < number → test ≡ true
+pub listed_by : (test : Bool) (number : ℕ) → (test ≡ false → number ≡ 0) → 0 < number → test ≡ true
 listed_by true number none some = refl
 listed_by false number none some = absurd (omega (arith, none refl))
 

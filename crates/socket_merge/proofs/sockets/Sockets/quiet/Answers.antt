@@ -1,0 +1,2 @@
+use Rattle.socket_merge.proofs.Refused.{refusal-changed}
+use Rattle.socket_merge.proofs.Calls.{drops_old}
