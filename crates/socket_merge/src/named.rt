@@ -1,6 +1,6 @@
 //! Open sockets by name. They must not know moments, farewells or reports.
 
-ghost use Rattle.std.specs.Prelude.{◌≡◌, List, [], ◌∷◌, ◌++◌, ◌&&◌, None, IfOk, OnOk, OnErr};
+ghost use Rattle.std.specs.Prelude.{◌≡◌, ◌<◌, ◌^◌, List, [], ◌∷◌, ◌++◌, ◌&&◌, None, length, IfOk, OnOk, OnErr};
 ghost use Rattle.std.specs.Option.{option_map};
 ghost use Rattle.socket_merge.specs.History.{Change, Close, Socket, sockets_after, socket_named};
 ghost use Rattle.socket_merge.specs.FullReport.{is_empty};
@@ -44,9 +44,12 @@ impl NamedSockets {
 
     /// The group of the socket of this name, and what its filter adds to the group.
     pub fn find(&self, name: &[u8]) -> Option<(Ip, Share)>
-        ensures { result ≡ option_map (λ socket. (socket.group, share_of socket.filter))
+        ensures found { result ≡ option_map (λ socket. (socket.group, share_of socket.filter))
             (socket_named name.now self.now) }
+        ensures few { length self.now < 2 ^ 63 }
     {
+        let sockets = self.sockets.len();
+        prove!(sockets < 1 << 63);
         let socket = self.sockets.get(name)?;
         Some((socket.group, share_of(&socket.filter)))
     }
