@@ -1,4 +1,4 @@
 pub mod NamedOnes
-pub mod RawReport
 mod Rows
 pub mod Tallies
+pub mod WalkedGroups

@@ -5,7 +5,7 @@ use Rattle.std.proofs.lemmas.Map.Iter.{rest_so_far}
 use Rattle.amt_values.specs.declared.address.Ip.{Ip}
 use Rattle.socket_merge.specs.Kept.{octets_besides, octets_in}
 use Rattle.socket_merge.specs.declared.stored.Tally.{Tally}
-use Rattle.socket_merge.proofs.RawReport.{octets_more, octets_room, same_group-ne}
+use Rattle.socket_merge.proofs.WalkedGroups.{octets_more, octets_room, same_group-ne}
 use Rattle.socket_merge.proofs.groups.Groups.octets_besides.Goals as goal
 
 pub overflow_add-octets : goal.overflow_add-octets

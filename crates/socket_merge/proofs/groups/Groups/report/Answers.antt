@@ -8,7 +8,7 @@ use Rattle.group_records.specs.contracts.family.FamilyPartialEq as families
 use Rattle.group_records.specs.declared.family.Family.{Family}
 use Rattle.socket_merge.specs.Kept.{said_of}
 use Rattle.socket_merge.specs.declared.stored.Tally.{Tally}
-use Rattle.socket_merge.proofs.RawReport.{nothing_said, other_family}
+use Rattle.socket_merge.proofs.WalkedGroups.{nothing_said, other_family}
 use Rattle.socket_merge.proofs.groups.Groups.report.Goals as goal
 
 pub loop-group-preserved : goal.loop-group-preserved
