@@ -1,4 +1,12 @@
+pub mod Amounts
+pub mod ByGroup
+pub mod Consistent
+pub mod Counted
+pub mod Farewells
+pub mod HoldsAfter
 pub mod NamedOnes
+pub mod RawReport
 mod Rows
 pub mod Tallies
 pub mod WalkedGroups
+pub mod Wanted

@@ -3,6 +3,7 @@ use Rattle.std.specs.Prelude.{◌≡◌, ℕ, ◌+◌, ◌-◌, ◌*◌, ◌^◌
 use Rattle.std.specs.BTreeMap.{BTreeMap, IsOrdered}
 use Rattle.std.specs.Global.{Vec}
 use Rattle.std.specs.List.{filter_map, find, list_any}
+use Rattle.std.specs.Map.{keys_of}
 use Rattle.std.specs.Option.{option_map, unwrap_or}
 use Rattle.amt_values.specs.declared.address.Ip.{Ip}
 use Rattle.amt_values.specs.Group.{is_forwardable}
@@ -16,7 +17,7 @@ use Rattle.group_records.specs.Reading.{head_length}
 use Rattle.group_records.specs.Written.{is_of_family}
 use Rattle.group_records.specs.declared.family.Family.{Family}
 use Rattle.socket_merge.specs.FullReport.{farewell, is_recent, states}
-use Rattle.socket_merge.specs.History.{Socket}
+use Rattle.socket_merge.specs.History.{Socket, same_name}
 use Rattle.socket_merge.specs.Interface.{filters_on, on_group, same_group}
 use Rattle.socket_merge.specs.Refusal.{may_be_due}
 use Rattle.socket_merge.specs.Sockets.{AreOfGroup, Farewell}
@@ -168,11 +169,17 @@ said_of family sockets at keep entry =
 abbrev pub some_recent : ℕ → ℕ → List (Ip × Tally) → Bool
 some_recent at keep tallies = list_any (λ entry. is_recent at keep entry.1.left) tallies
 
--- The tallies are those of the sockets. The groups are forwarded, the sources are of their families,
--- and the raw report of either family is within the limits.
+-- the tallies ascend by group
+abbrev pub AreOrdered : List (Ip × Tally) → Type 0
+AreOrdered tallies = IsAscending ip_order (keys_of tallies)
+
+-- The tallies are those of the sockets, of which no two have one name. The groups are forwarded, the
+-- sources are of their families, and the raw report of either family is within the limits.
 pub record IsConsistent (moment : ℕ) (sockets : List Socket) (tallies : List (Ip × Tally)) : Type 0 where
+  pub ordered : AreOrdered tallies
   pub tallied : (group : Ip) → tally_at tallies group ≡ tally_of (tally_at tallies group).left group sockets
-  pub forwarded : All (λ entry. is_forwardable entry.0 ≡ true) tallies
+  pub apart : (name : List ℕ) → count_by (λ socket. same_name name socket.name) sockets ≤ 1
+  pub forwarded : (group : Ip) → is_blank (tally_at tallies group) ≡ false → is_forwardable group ≡ true
   pub family : All (λ socket. AreOfGroup socket.group socket.filter) sockets
-  pub few : All (λ entry. entry.1.sources ≤ 32) tallies
+  pub few : (group : Ip) → (tally_at tallies group).sources ≤ 32
   pub short : (family : Family) → octets_of family moment tallies ≤ 1400

@@ -1,7 +1,7 @@
 //! The tallies of groups. They must not know names or the filters of single sockets.
 
 ghost use Rattle.std.specs.Prelude.{◌≡◌, [], true, not, IfOk, OnOk, OnErr, nat_lt};
-ghost use Rattle.socket_merge.specs.Kept.{HasRoom, HasTallies, HasTally, is_blank, tally_at, tally_changed, tally_fresh, tally_left, tally_with, tally_without};
+ghost use Rattle.socket_merge.specs.Kept.{AreOrdered, HasRoom, HasTallies, HasTally, is_blank, tally_at, tally_changed, tally_fresh, tally_left, tally_with, tally_without};
 
 use crate::stored::{Share, Tally};
 use amt_values::{Ip, Moment};
@@ -53,7 +53,8 @@ impl Groups {
     // Replaces the tally of a group that has one; a blank tally isn't kept.
     fn set(&mut self, group: &Ip, tally: Tally)
         requires { is_blank (tally_at self.old group.now) ≡ true → is_blank tally ≡ true }
-        ensures { HasTally group.now tally self.old self.new }
+        ensures set { HasTally group.now tally self.old self.new }
+        ensures ordered { AreOrdered self.new }
     {
         if tally.is_blank() {
             self.tallies.remove(group);
@@ -70,6 +71,7 @@ impl Groups {
         requires { HasRoom (tally_at self.old group) share.sources }
         ensures ok { OnOk result (HasTally group
             (tally_with share (tally_at self.old group)) self.old self.new) }
+        ensures ordered { AreOrdered self.new }
         ensures err { OnErr result (self.new ≡ self.old) }
     {
         let tally = self.tally(&group).with(share);
@@ -81,8 +83,9 @@ impl Groups {
     pub fn change(&mut self, group: &Ip, before: Share, after: Share, moment: Moment)
         requires some { nat_lt 0 (tally_at self.old group.now).sockets ≡ true }
         requires room { HasRoom (tally_at self.old group.now) after.sources }
-        ensures { HasTally group.now
+        ensures changed { HasTally group.now
             (tally_changed moment before after (tally_at self.old group.now)) self.old self.new }
+        ensures ordered { AreOrdered self.new }
     {
         let tally = self.tally(group).changed(moment, before, after);
         self.set(group, tally);
@@ -90,8 +93,9 @@ impl Groups {
 
     /// Counts one socket of the group less.
     pub fn remove(&mut self, group: &Ip, share: Share, moment: Moment)
-        ensures { HasTally group.now
+        ensures without { HasTally group.now
             (tally_without moment share (tally_at self.old group.now)) self.old self.new }
+        ensures ordered { AreOrdered self.new }
     {
         let tally = self.tally(group).without(moment, share);
         self.set(group, tally);
@@ -99,14 +103,16 @@ impl Groups {
 
     /// Counts no sockets.
     pub fn leave_all(&mut self, moment: Moment)
-        ensures { HasTallies (tally_left moment) self.old self.new }
+        ensures left { HasTallies (tally_left moment) self.old self.new }
+        ensures ordered { AreOrdered self.new }
     {
         self.tallies.retain(|_, tally| empty(tally, moment));
     }
 
     /// Drops the farewells that can't be due any more.
     pub fn drop_old(&mut self, moment: Moment)
-        ensures { HasTallies (tally_fresh moment) self.old self.new }
+        ensures fresh { HasTallies (tally_fresh moment) self.old self.new }
+        ensures ordered { AreOrdered self.new }
     {
         self.tallies.retain(|_, tally| freshen(tally, moment));
     }

@@ -8,7 +8,7 @@ ghost use Rattle.group_records.specs.Written.{IsOfFamily, report_length};
 ghost use Rattle.socket_merge.specs.FullReport.{family_by, full_report_of, is_quiet};
 ghost use Rattle.socket_merge.specs.History.{Change, Close, LeaveAll, Open, moment_read, socket_named, with_call};
 ghost use Rattle.socket_merge.specs.Interface.{interface, wants};
-ghost use Rattle.socket_merge.specs.Kept.{HasRoom, HasTally, share_of, tally_at, tally_with};
+ghost use Rattle.socket_merge.specs.Kept.{AreOrdered, HasRoom, HasTally, share_of, tally_at, tally_with};
 ghost use Rattle.socket_merge.specs.Refusal.{is_open, raw_report_length, refusal_of};
 ghost use Rattle.socket_merge.specs.Sockets.{AnswersRefusal, AreOfGroup, AreOfSocket, ForHistory, HasNoOldFarewell, SocketsHold};
 
@@ -256,6 +256,7 @@ fn insert_both(
         ++ record { name = name.now; group = group.now; filter = filter.now } ∷ []) }
     ensures groups { OnOk result (HasTally group.now
         (tally_with (share_of filter.now) (tally_at groups.old group.now)) groups.old groups.new) }
+    ensures ordered { OnOk result (AreOrdered groups.new) }
     ensures err_named { OnErr result (named.new ≡ named.old) }
     ensures err_groups { OnErr result (groups.new ≡ groups.old) }
 {
