@@ -5,7 +5,7 @@ pub mod Counted
 pub mod Farewells
 pub mod HoldsAfter
 pub mod NamedOnes
-pub mod RawReport
+pub mod RawOctets
 mod Rows
 pub mod Tallies
 pub mod WalkedGroups
