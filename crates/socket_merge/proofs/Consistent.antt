@@ -52,7 +52,8 @@ replaced_by P true group other after tally is own same = subst (λ (at : Ip). P 
 replaced_by P false group other after tally is own same = same
 
 not_blank : (tally : Tally) → 0 < tally.sockets → is_blank tally ≡ false
-not_blank tally some = ap (λ (test : Bool). not test && not (is_some tally.left)) (lt-ltb 0 tally.sockets some)
+not_blank tally some =
+    ap (λ (test : Bool). not test && (not (ltb 0 tally.wanting) && (not (ltb 0 tally.sources) && not (is_some tally.left)))) (lt-ltb 0 tally.sockets some)
 
 IsShrunk-later : (earlier later : ℕ) (tally : Tally) → earlier ≤ later → IsShrunk earlier later tally tally
 IsShrunk-later earlier later tally onward = record { less = IsLess-later earlier later tally onward; some = λ some. some }
@@ -60,29 +61,36 @@ IsShrunk-later earlier later tally onward = record { less = IsLess-later earlier
 IsShrunk-without : (earlier later : ℕ) (share : Share) (tally : Tally) → 0 < tally.sockets → IsShrunk earlier later tally (tally_without later share tally)
 IsShrunk-without earlier later share tally some = record { less = IsLess-without earlier later later share tally some; some = λ _. not_blank tally some }
 
-and_false : (test : Bool) → (test && false) ≡ false
-and_false true = refl
-and_false false = refl
+-- a tally with these numbers, whether it wants some and lists some
+abbrev blank_by : Bool → Bool → Bool → Option ℕ → Bool
+blank_by sockets wanting sources left = not sockets && (not wanting && (not sources && not (is_some left)))
 
-left_some : (number wanting moment : ℕ) (left : Option ℕ) → wanting ≤ number → (not (ltb 0 0) && not (is_some (left_without moment wanting 0 left))) ≡ false
-    → (not (ltb 0 number) && not (is_some left)) ≡ false
-left_some number zero moment None few some = absurd cc
-left_some number zero moment (Some left) few some = and_false (not (ltb 0 number))
-left_some number (suc wanting) moment left few some = ap (λ (test : Bool). not test && not (is_some left)) (lt-ltb 0 number (omega arith))
+left_kept : (sockets sources : Bool) (left : Option ℕ) → not (is_some left) ≡ false → blank_by sockets false sources left ≡ false
+left_kept true sources left some = refl
+left_kept false true left some = refl
+left_kept false false left some = some
+
+left_some : (number wanting moment : ℕ) (sources : Bool) (left : Option ℕ) → wanting ≤ number
+    → (not (ltb 0 0) && (not (ltb 0 0) && (not (ltb 0 0) && not (is_some (left_without moment wanting 0 left))))) ≡ false
+    → blank_by (ltb 0 number) (ltb 0 wanting) sources left ≡ false
+left_some number zero moment sources left few some = left_kept (ltb 0 number) sources left some
+left_some number (suc wanting) moment sources left few some = ap (λ (test : Bool). blank_by test (ltb 0 (suc wanting)) sources left) (lt-ltb 0 number (omega arith))
 
 IsShrunk-left : (earlier later : ℕ) (tally : Tally) → tally.wanting ≤ tally.sockets → earlier ≤ later → IsShrunk earlier later tally (tally_left later tally)
 IsShrunk-left earlier later tally few onward = record {
   less = IsLess-left earlier later tally few onward;
-  some = left_some tally.sockets tally.wanting later tally.left few;
+  some = left_some tally.sockets tally.wanting later (ltb 0 tally.sources) tally.left few;
 }
 
-fresh_some : (test number : Bool) (left : Option ℕ) → (not number && not (is_some (cond test left None))) ≡ false → (not number && not (is_some left)) ≡ false
-fresh_some true number left some = some
-fresh_some false true left some = refl
-fresh_some false false left some = absurd cc
+fresh_some : (test sockets wanting sources : Bool) (left : Option ℕ) → blank_by sockets wanting sources (cond test left None) ≡ false → blank_by sockets wanting sources left ≡ false
+fresh_some true sockets wanting sources left some = some
+fresh_some false true wanting sources left some = refl
+fresh_some false false true sources left some = refl
+fresh_some false false false true left some = refl
+fresh_some false false false false left some = absurd cc
 
 IsShrunk-fresh : (moment : ℕ) (tally : Tally) → IsShrunk moment moment tally (tally_fresh moment tally)
-IsShrunk-fresh moment tally = record { less = IsLess-fresh moment tally; some = fresh_some (may_be_due moment tally.left) (ltb 0 tally.sockets) tally.left }
+IsShrunk-fresh moment tally = record { less = IsLess-fresh moment tally; some = fresh_some (may_be_due moment tally.left) (ltb 0 tally.sockets) (ltb 0 tally.wanting) (ltb 0 tally.sources) tally.left }
 
 -- a socket is closed
 pub IsConsistent-closed : (earlier later : ℕ) (name : List ℕ) (socket : Socket) (sockets : List Socket) (before after : List (Ip × Tally)) → IsConsistent earlier sockets before → earlier ≤ later

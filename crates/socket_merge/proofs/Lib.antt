@@ -1,5 +1,6 @@
 pub mod Amounts
 pub mod ByGroup
+pub mod Calls
 pub mod Consistent
 pub mod Counted
 pub mod Farewells
