@@ -19,7 +19,7 @@ pub returns-in_default-clause-set : goal.returns-in_default-clause-set
 returns-in_default-clause-set c other =
     let none = sym c.get_mut.ensures.value ∙ ap (option_map (λ (x : MutBor Tally). x.now)) c.in_default.is in
     let missing = ap (λ (entries : List (Ip × Tally)). tally_at entries c.args.group.now) (sym c.self.view_is)
-        ∙ blank-missing _ compared c.self.inside.tallies c.self.inside.tallies c.args.group.now c.args.tally none in
+    ∙ blank-missing _ compared c.self.inside.tallies c.self.inside.tallies c.args.group.now c.args.tally none in
     let some : is_blank c.args.tally ≡ false = sym c.is_blank.ensures ∙ c.if-is_blank.false in
     absurd (true≢false (sym (c.requires (ap is_blank missing)) ∙ some))
 
