@@ -1,4 +1,4 @@
-use Rattle.std.proofs.Common.{◌≡◌, is_some, true, false, true≢false, List, MutBor, refl, sym, ap, ◌∙◌}
+use Rattle.std.proofs.Common.{◌≡◌, is_some, false, true≢false, List, MutBor, refl, sym, ap, ◌∙◌}
 use Rattle.std.specs.Option.{option_map}
 use Rattle.amt_values.specs.declared.address.Ip.{Ip}
 use Rattle.source_filter.proofs.Compared.{compared}

@@ -4,7 +4,7 @@ use Rattle.std.specs.List.{IsDistinct}
 use Rattle.std.specs.Map.{keys_of}
 use Rattle.std.specs.Map.Iter.{deref_pair}
 use Rattle.std.proofs.lemmas.Map.Iter.{rest_so_far}
-use Rattle.socket_merge.specs.History.{Socket, socket_named}
+use Rattle.socket_merge.specs.History.{socket_named}
 use Rattle.socket_merge.specs.Kept.{socket_of}
 use Rattle.socket_merge.specs.declared.stored.StoredSocket.{StoredSocket}
 use Rattle.socket_merge.proofs.NamedOnes.{absent_so_far, same_key}
