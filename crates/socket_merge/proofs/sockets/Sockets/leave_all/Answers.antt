@@ -10,9 +10,10 @@ invariant_of-self c =
     consistent_left c.self.inside.moment c.later-self-inside.result c.self.inside.named c.clear.new.self c.self.inside.groups c.leave_all.new.self c.self.invariant (omega arith)
     (record { rest = c.clear.ensures; tallies = c.leave_all.ensures.left; ordered = c.leave_all.ensures.ordered })
 
-pub returns-clause-stands : goal.returns-clause-stands
-returns-clause-stands c =
-    λ (history : List AcceptedCall) holds.
-        holds_left c.self.inside.moment c.later-self-inside.result c.args.at.now c.self.inside.named c.clear.new.self c.self.inside.groups c.leave_all.new.self history c.self.invariant
-        c.later-self-inside.ensures (record { rest = c.clear.ensures; tallies = c.leave_all.ensures.left; ordered = c.leave_all.ensures.ordered })
-        (subst (λ (value : SocketsValue). SocketsHold value history) (sym c.self.view_is) holds)
+pub returns : goal.returns
+returns c = record {
+  stands = λ (history : List AcceptedCall) holds.
+      holds_left c.self.inside.moment c.later-self-inside.result c.args.at.now c.self.inside.named c.clear.new.self c.self.inside.groups c.leave_all.new.self history c.self.invariant
+      c.later-self-inside.ensures (record { rest = c.clear.ensures; tallies = c.leave_all.ensures.left; ordered = c.leave_all.ensures.ordered })
+      (subst (λ (value : SocketsValue). SocketsHold value history) (sym c.self.view_is) holds);
+}
