@@ -7,8 +7,8 @@ pub mod Farewells
 pub mod HoldsAfter
 pub mod NamedOnes
 pub mod RawOctets
-pub mod RawReport
 pub mod Refused
 mod Rows
 pub mod Tallies
+pub mod WalkedGroups
 pub mod Wanted

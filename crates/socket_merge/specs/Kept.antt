@@ -41,7 +41,7 @@ one_where wants = if wants then 1 else 0
 abbrev pub blank : Tally
 blank = record { sockets = 0; wanting = 0; sources = 0; left = None }
 
--- the group has neither sockets nor a farewell
+-- nothing is counted of the group, and it has no farewell
 abbrev pub is_blank : Tally → Bool
 is_blank tally = not (nat_lt 0 tally.sockets) && (not (nat_lt 0 tally.wanting) && (not (nat_lt 0 tally.sources) && not (is_some tally.left)))
 

@@ -29,7 +29,7 @@ loop-group-preserved c =
     let old = c.loop-group.copy-inside.tallies in
     let begun : c.into_iter-group-iterator.result ≡ es = search rules in
     let whole : es ≡ done ++ entry ∷ c.next.new.self = sym begun ∙ rest_so_far deref_pair c.loop-group.yielded c.into_iter-group-iterator.result c.loop-group.group-iterator c.loop-group.yielded_by
-        ∙ ap (λ (rest : List (Ip × Tally)). done ++ rest) c.in-Some.ensures.steps in
+    ∙ ap (λ (rest : List (Ip × Tally)). done ++ rest) c.in-Some.ensures.steps in
     let some : is_blank entry.1 ≡ false = All-at (λ (e : Ip × Tally). is_blank e.1 ≡ false) done entry c.next.new.self (subst (All (λ (e : Ip × Tally). is_blank e.1 ≡ false)) whole c.self.invariant.some) in
     record {
       entries = c.in-Ok.ensures.entries

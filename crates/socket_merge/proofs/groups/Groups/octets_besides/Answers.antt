@@ -1,11 +1,11 @@
-use Rattle.std.proofs.Common.{◌≡◌, ◌+◌, ◌≤◌, ℕ, List, ◌++◌, ◌∷◌, [], map, sym, ap, subst, ◌∙◌, rules, arith}
+use Rattle.std.proofs.Common.{◌≡◌, ◌+◌, ◌≤◌, ℕ, List, ◌++◌, ◌∷◌, [], map, sym, ap, ◌∙◌, rules, arith}
 use Rattle.std.specs.Map.Iter.{deref_pair}
 use Rattle.std.proofs.lemmas.List.{map-append}
 use Rattle.std.proofs.lemmas.Map.Iter.{rest_so_far}
 use Rattle.amt_values.specs.declared.address.Ip.{Ip}
 use Rattle.socket_merge.specs.Kept.{octets_besides, octets_in}
 use Rattle.socket_merge.specs.declared.stored.Tally.{Tally}
-use Rattle.socket_merge.proofs.RawReport.{octets_more, octets_room, same_group-ne}
+use Rattle.socket_merge.proofs.WalkedGroups.{octets_more, octets_room, same_group-ne}
 use Rattle.socket_merge.proofs.groups.Groups.octets_besides.Goals as goal
 
 pub overflow_add-octets : goal.overflow_add-octets
@@ -16,10 +16,10 @@ overflow_add-octets c =
     let entry = deref_pair (c.in-Some.other, c.in-Some.tally) in
     let begun : c.into_iter-other-iterator.result ≡ es = search rules in
     let whole : es ≡ done ++ entry ∷ c.next.new.self = sym begun ∙ rest_so_far deref_pair c.loop-other.yielded c.into_iter-other-iterator.result c.loop-other.other-iterator c.loop-other.yielded_by
-        ∙ ap (λ (rest : List (Ip × Tally)). done ++ rest) c.in-Some.ensures.steps in
+    ∙ ap (λ (rest : List (Ip × Tally)). done ++ rest) c.in-Some.ensures.steps in
     let room : octets_besides c.args.family c.args.moment group done + octets_in c.args.family c.args.moment entry ≤ 1400 =
-        octets_room c.args.family c.args.moment group done entry c.args.self.now c.next.new.self (sym c.self.view_is ∙ whole)
-        (same_group-ne c.in-Some.other.now group c.ne.result c.ne.ensures c.if-ne.true) c.requires in
+    octets_room c.args.family c.args.moment group done entry c.args.self.now c.next.new.self (sym c.self.view_is ∙ whole)
+    (same_group-ne c.in-Some.other.now group c.ne.result c.ne.ensures c.if-ne.true) c.requires in
     let so_far = c.loop-other.invariant.octets in
     let more = c.octets_in-octets.ensures in
     omega arith

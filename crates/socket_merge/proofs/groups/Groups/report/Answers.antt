@@ -1,14 +1,11 @@
-use Rattle.std.proofs.Common.{◌≡◌, Bool, not, List, ◌++◌, ◌∷◌, [], if◌then◌else◌, nat_lt, map, sym, ap, ◌∙◌}
+use Rattle.std.proofs.Common.{◌≡◌, ◌++◌, ◌∷◌, [], map, sym, ap, ◌∙◌}
 use Rattle.std.specs.List.{flat_map}
 use Rattle.std.specs.Map.Iter.{deref_pair}
-use Rattle.std.proofs.lemmas.List.{append-nil, map-append}
-use Rattle.std.proofs.lemmas.List.Concat.{flat_map-append}
-use Rattle.amt_values.specs.declared.address.Ip.{Ip}
+use Rattle.std.proofs.lemmas.List.{map-append}
 use Rattle.group_records.specs.contracts.family.FamilyPartialEq as families
 use Rattle.group_records.specs.declared.family.Family.{Family}
 use Rattle.socket_merge.specs.Kept.{said_of}
-use Rattle.socket_merge.specs.declared.stored.Tally.{Tally}
-use Rattle.socket_merge.proofs.RawReport.{nothing_said, other_family}
+use Rattle.socket_merge.proofs.WalkedGroups.{nothing_said, other_family}
 use Rattle.socket_merge.proofs.groups.Groups.report.Goals as goal
 
 pub loop-group-preserved : goal.loop-group-preserved

@@ -1,6 +1,5 @@
 use Rattle.std.proofs.Common.{ℕ, List, ◌∷◌, ◌++◌, [], None, ◌≡◌, map, ap, ◌∙◌}
 use Rattle.std.proofs.lemmas.List.{map-append}
-use Rattle.std.specs.Global.{Vec}
 use Rattle.indexmap.specs.IndexMap.{get}
 use Rattle.indexmap.proofs.CallerLemmas.{insert_entry-new}
 use Rattle.socket_merge.specs.History.{Socket, same_name, socket_named}
@@ -16,8 +15,8 @@ returns-in-Ok-clause-ok c =
     let stored : StoredSocket = record { group = c.args.group; filter = c.args.filter } in
     let socket : List ℕ → Socket = λ name. record { name = name; group = c.args.group; filter = c.args.filter } in
     let none : get same_key map0 key ≡ None =
-        absent-lookup (same_name key.items) map0.entries
-        (ap (λ (name : List ℕ). socket_named name (map socket_of map0.entries)) c.in_ok-key.ensures.items ∙ ap (socket_named c.args.name.now) c.self.view_is ∙ c.requires.absent) in
+    absent-lookup (same_name key.items) map0.entries
+    (ap (λ (name : List ℕ). socket_named name (map socket_of map0.entries)) c.in_ok-key.ensures.items ∙ ap (socket_named c.args.name.now) c.self.view_is ∙ c.requires.absent) in
     ap (map socket_of) (c.in-Ok.ensures.entries ∙ insert_entry-new same_key map0 key stored none)
     ∙ map-append socket_of map0.entries ((key, stored) ∷ [])
     ∙ ap (λ (sockets : List Socket). sockets ++ socket key.items ∷ []) c.self.view_is

@@ -1,8 +1,8 @@
-use Rattle.std.proofs.Common.{ℕ, List, MutBor, map, sym, ap, ◌∙◌}
+use Rattle.std.proofs.Common.{ℕ, MutBor, map, sym, ap, ◌∙◌}
 use Rattle.std.specs.Global.{Vec}
 use Rattle.std.specs.Option.{option_map}
 use Rattle.indexmap.specs.IndexMap.{IndexMap}
-use Rattle.socket_merge.specs.History.{Socket, refiltered}
+use Rattle.socket_merge.specs.History.{refiltered}
 use Rattle.socket_merge.specs.Kept.{socket_of}
 use Rattle.socket_merge.specs.declared.stored.StoredSocket.{StoredSocket}
 use Rattle.socket_merge.proofs.NamedOnes.{refiltered-none, refiltered-written}
