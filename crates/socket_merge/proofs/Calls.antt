@@ -1,8 +1,8 @@
 -- What each call of the sockets leaves, by what its private calls answer.
-use Rattle.std.proofs.Common.{◌≡◌, ℕ, ◌+◌, ◌-◌, ◌≤◌, ◌<◌, max, Bool, true, false, cond, is_some, List, [], ◌∷◌, ◌++◌, length, Option, Some, None, refl, sym, ap, subst, ◌∙◌, arith}
+use Rattle.std.proofs.Common.{◌≡◌, ℕ, ◌+◌, ◌-◌, ◌≤◌, ◌<◌, ltb, max, Bool, true, false, cond, is_some, List, [], ◌∷◌, ◌++◌, length, Option, Some, None, refl, sym, ap, subst, ◌∙◌, arith}
 use Rattle.std.specs.List.{All, cons_option}
 use Rattle.std.specs.Option.{option_map}
-use Rattle.std.proofs.lemmas.Bool.{leb-true}
+use Rattle.std.proofs.lemmas.Bool.{leb-true, lt-ltb}
 use Rattle.std.proofs.lemmas.List.Elements.{All-cons, All-nil}
 use Rattle.amt_values.specs.Group.{is_forwardable}
 use Rattle.amt_values.specs.declared.address.Ip.{Ip}
@@ -18,8 +18,9 @@ use Rattle.socket_merge.specs.declared.stored.Share.{Share}
 use Rattle.socket_merge.specs.declared.stored.Tally.{Tally}
 use Rattle.socket_merge.proofs.ByGroup.{AreAt, AreAt-ordered, left_in-farewells}
 use Rattle.socket_merge.proofs.Consistent.{IsConsistent-closed, IsConsistent-fresh, IsConsistent-left, IsConsistent-replaced, IsFit-changed, IsFit-opened}
-use Rattle.socket_merge.proofs.Counted.{AreTallied, IsNamed, others_changed, others_opened, replaced}
+use Rattle.socket_merge.proofs.Counted.{AreTallied, Counts-of, CountsOne-of, IsNamed, others_changed, others_opened, replaced}
 use Rattle.socket_merge.proofs.HoldsAfter.{Stands, Stands-changed, Stands-closed, Stands-fresh, Stands-left, Stands-opened, Stands-same}
+use Rattle.socket_merge.proofs.RawOctets.{octets_besides-le}
 use Rattle.socket_merge.proofs.Refused.{IsWithin-of, limits_of, refusal-changed, refusal-opened}
 
 -- what contracts see of sockets that are kept so
@@ -279,3 +280,30 @@ drops_old later sockets before after fresh ordered =
     are_due later (tally_at after) after
     (λ group moment is. due_by (may_be_due later (tally_at before group).left) (tally_at before group).left later moment refl (ap (λ (one : Tally). one.left) (sym (fresh group)) ∙ is))
     (AreAt-ordered after ordered)
+
+-- the other groups are within the limit
+pub besides_short : (moment later : ℕ) (group : Ip) (sockets : List Socket) (tallies : List (Ip × Tally)) → IsConsistent moment sockets tallies → moment ≤ later
+    → octets_besides (family_of group) later group tallies ≤ 1400
+besides_short moment later group sockets tallies consistent onward =
+    omega (arith, consistent.short (family_of group), octets_besides-le (family_of group) moment later group tallies onward)
+
+-- what the limits of another filter ask for
+pub record MayChange (later : ℕ) (told : Ip × Share) (more : ℕ) (sockets : List Socket) (tallies : List (Ip × Tally)) : Type 0 where
+  pub some : ltb 0 (tally_at tallies told.0).sockets ≡ true
+  pub before : told.1.sources ≤ (tally_at tallies told.0).sources
+  pub short : octets_besides (family_of told.0) later told.0 tallies ≤ 1400
+
+pub MayChange-of : (moment later : ℕ) (name : List ℕ) (told : Ip × Share) (more : ℕ) (sockets : List Socket) (tallies : List (Ip × Tally)) → IsConsistent moment sockets tallies → moment ≤ later
+    → Some told ≡ option_map told_of (socket_named name sockets) → MayChange later told more sockets tallies
+MayChange-of moment later name told more sockets tallies consistent onward same =
+    let found = IsFound-of name sockets told same in
+    let socket = found.socket in
+    let named : IsNamed name socket sockets = record { apart = consistent.apart; found = found.found } in
+    let counts = Counts-of (tally_at tallies socket.group) socket.group sockets (consistent.tallied socket.group) in
+    let here = CountsOne-of name socket sockets (tally_at tallies socket.group) named counts in
+    subst (λ (pair : Ip × Share). MayChange later pair more sockets tallies) (sym found.is)
+    (record {
+      some = lt-ltb 0 (tally_at tallies socket.group).sockets here.number;
+      before = here.sources;
+      short = besides_short moment later socket.group sockets tallies consistent onward;
+    })

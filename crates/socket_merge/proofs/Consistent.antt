@@ -1,9 +1,9 @@
 -- Tallies stay those of the sockets, and the raw report within the limits, through each call.
-use Rattle.std.proofs.Common.{◌≡◌, ℕ, zero, suc, ◌+◌, ◌-◌, ◌≤◌, ◌<◌, Bool, true, false, not, ◌&&◌, cond, ltb, is_some, List, [], ◌∷◌, ◌++◌, filter, length, map, Option, Some, None, refl, sym, ap, subst, ◌∙◌, arith}
+use Rattle.std.proofs.Common.{◌≡◌, ℕ, zero, suc, ◌+◌, ◌-◌, ◌^◌, ◌≤◌, ◌<◌, Bool, true, false, not, ◌&&◌, cond, ltb, is_some, List, [], ◌∷◌, ◌++◌, filter, length, map, Option, Some, None, refl, sym, ap, subst, ◌∙◌, arith}
 use Rattle.std.specs.List.{All, count_by}
 use Rattle.std.proofs.lemmas.Bool.{lt-ltb}
 use Rattle.std.proofs.lemmas.List.Elements.{All-cons, All-filter, All-head, All-nil, All-push, All-same, All-tail}
-use Rattle.std.proofs.lemmas.List.Sums.{sum_by-cons}
+use Rattle.std.proofs.lemmas.List.Sums.{sum_by-cons, sum_by-le-sum_by}
 use Rattle.amt_values.specs.declared.address.Ip.{Ip}
 use Rattle.amt_values.specs.Group.{is_forwardable}
 use Rattle.source_filter.specs.Filter.{FilterValue}
@@ -11,13 +11,13 @@ use Rattle.group_records.specs.Written.{is_of_family}
 use Rattle.group_records.specs.declared.family.Family.{Family}
 use Rattle.socket_merge.specs.History.{Change, Close, Socket, refiltered, socket_named, sockets_after}
 use Rattle.socket_merge.specs.Interface.{same_group}
-use Rattle.socket_merge.specs.Kept.{AreOrdered, HasTallies, HasTally, IsConsistent, blank, is_blank, left_without, octets_besides, octets_in, octets_of, raw_octets, share_of, tally_at, tally_changed, tally_fresh, tally_left, tally_of, tally_with, tally_without}
+use Rattle.socket_merge.specs.Kept.{AreOrdered, HasRoom, HasTallies, HasTally, IsConsistent, blank, is_blank, left_without, octets_besides, octets_in, octets_of, raw_octets, share_of, tally_at, tally_changed, tally_fresh, tally_left, tally_of, tally_with, tally_without}
 use Rattle.socket_merge.specs.Refusal.{family_of, may_be_due}
 use Rattle.socket_merge.specs.Sockets.{AreOfGroup}
 use Rattle.socket_merge.specs.declared.stored.Share.{Share}
 use Rattle.socket_merge.specs.declared.stored.Tally.{Tally}
-use Rattle.socket_merge.proofs.Amounts.{AreApart, AreApart-changed, AreApart-closed, AreApart-opened, has_name, none_refiltered, with_filter}
-use Rattle.socket_merge.proofs.Counted.{AreOthersSame, AreTallied, AreTallied-fresh, AreTallied-left, AreTallied-replaced, AreTallied-same, Counts, Counts-changed, Counts-closed, Counts-of, Counts-opened, CountsOne, CountsOne-of, IsNamed, others_changed, others_closed, others_opened, replaced, wanting_few}
+use Rattle.socket_merge.proofs.Amounts.{AreApart, AreApart-changed, AreApart-closed, AreApart-opened, has_name, length-as_sum, none_refiltered, part, with_filter}
+use Rattle.socket_merge.proofs.Counted.{AreOthersSame, AreTallied, AreTallied-fresh, AreTallied-left, AreTallied-replaced, AreTallied-same, Counts, Counts-changed, Counts-closed, Counts-of, Counts-opened, CountsOne, CountsOne-of, IsNamed, one, others_changed, others_closed, others_opened, replaced, wanting_few}
 use Rattle.socket_merge.proofs.RawOctets.{IsLess, IsLess-fresh, IsLess-later, IsLess-left, IsLess-without, family_is, octets-after, octets-fall, octets_besides-le, octets_in-other, octets_in-own, of_own_family}
 use Rattle.socket_merge.proofs.Wanted.{same_group-exact}
 
@@ -218,4 +218,24 @@ IsFit-changed earlier later name filter socket sockets before consistent found f
       family = family_changed name filter sockets (consistent.apart name) consistent.family family;
       few = few;
       short = short;
+    }
+
+one_or_none : (test : Bool) → cond test 1 0 ≤ 1
+one_or_none true = omega arith
+one_or_none false = omega arith
+
+-- the tally of a group counts no more sockets than there are
+number_few : (group : Ip) (tally : Tally) (sockets : List Socket) → Counts tally group sockets → tally.sockets ≤ length sockets
+number_few group tally sockets counts =
+    omega (arith, counts.number, sum_by-le-sum_by (part one group) (λ socket. 1) sockets (λ socket. one_or_none (same_group group socket.group)), length-as_sum sockets)
+
+-- one more socket of so many sources can be counted
+pub HasRoom-of : (moment : ℕ) (sockets : List Socket) (tallies : List (Ip × Tally)) (group : Ip) (more : ℕ) → IsConsistent moment sockets tallies → length sockets < 2 ^ 63 → more ≤ 16777216
+    → HasRoom (tally_at tallies group) more
+HasRoom-of moment sockets tallies group more consistent few small =
+    let counts = Counts-of (tally_at tallies group) group sockets (consistent.tallied group) in
+    record {
+      sockets = omega (arith, few, number_few group (tally_at tallies group) sockets counts);
+      wanting = wanting_few (tally_at tallies group) group sockets counts;
+      sources = omega (arith, consistent.few group);
     }
