@@ -8,6 +8,7 @@ pub mod HoldsAfter
 pub mod NamedOnes
 pub mod RawOctets
 pub mod Refused
+pub mod Reports
 mod Rows
 pub mod Tallies
 pub mod WalkedGroups

@@ -68,7 +68,7 @@ pub unopened : (history : List AcceptedCall) (group : Ip) → has ip_order (grou
 unopened [] group none = refl
 unopened (newest ∷ older) group none = unopened_by newest.call (open_sockets older) (groups_opened older) group (unopened older group) none
 
-unwanted : (history : List AcceptedCall) (group : Ip) → has ip_order (groups_opened history) group ≡ false → is_wanted history group ≡ false
+pub unwanted : (history : List AcceptedCall) (group : Ip) → has ip_order (groups_opened history) group ≡ false → is_wanted history group ≡ false
 unwanted history group none =
     let counts = Counts-of (tally_of None group (open_sockets history)) group (open_sockets history) refl in
     let few : (tally_of None group (open_sockets history)).wanting ≡ 0 = omega (arith, counts.wanting, wanting-le group (open_sockets history), unopened history group none) in
