@@ -1,9 +1,8 @@
 -- What the sockets of a group come to: a sum over all sockets, and what a call makes of it.
-use Rattle.std.proofs.Common.{◌≡◌, ℕ, ◌+◌, ◌≤◌, ◌<◌, Bool, true, false, not, cond, List, [], ◌∷◌, ◌++◌, length, map, filter, Option, Some, None, refl, sym, ap, ◌∙◌, arith}
+use Rattle.std.proofs.Common.{◌≡◌, ℕ, ◌+◌, ◌≤◌, Bool, true, false, not, cond, List, [], ◌∷◌, ◌++◌, length, map, filter, Option, Some, None, refl, sym, ap, ◌∙◌, arith}
 use Rattle.std.specs.List.{count_by, find, sum_by}
-use Rattle.std.proofs.lemmas.List.Elements.{filter-append}
 use Rattle.std.proofs.lemmas.List.Filters.{sum_by-filter_both}
-use Rattle.std.proofs.lemmas.List.Sums.{sum_by-append, sum_by-cons, sum_by_push}
+use Rattle.std.proofs.lemmas.List.Sums.{sum_by-cons, sum_by_push}
 use Rattle.std.proofs.lemmas.Slice.Eq.{bytes_eq-Decides}
 use Rattle.amt_values.specs.declared.address.Ip.{Ip}
 use Rattle.source_filter.specs.Filter.{FilterValue}
@@ -126,7 +125,7 @@ apart_by false before few none = omega arith
 pub AreApart-opened : (sockets : List Socket) (socket : Socket) → AreApart sockets → socket_named socket.name sockets ≡ None → AreApart (sockets ++ socket ∷ [])
 AreApart-opened sockets socket apart absent name =
     let none : has_name name socket ≡ true → count_by (has_name name) sockets ≡ 0 =
-        λ same. ap (λ (one : List ℕ). count_by (has_name one) sockets) (same_name-exact name socket.name same) ∙ none_passes (has_name socket.name) sockets absent in
+    λ same. ap (λ (one : List ℕ). count_by (has_name one) sockets) (same_name-exact name socket.name same) ∙ none_passes (has_name socket.name) sockets absent in
     let within = apart_by (has_name name socket) (count_by (has_name name) sockets) (apart name) none in
     omega (arith, within, sum_by_push (λ one. cond (has_name name one) 1 0) sockets socket)
 
@@ -143,8 +142,11 @@ named-refiltered name other filter [] = refl
 named-refiltered name other filter (first ∷ more) =
     let here = ap {B = ℕ} (λ (kept : List ℕ). cond (same_name other kept) 1 0) (name_kept (has_name name first) filter first) in
     omega (
-    arith, here, named-refiltered name other filter more, sum_by-cons (λ one. cond (has_name other one) 1 0) first more,
-    sum_by-cons (λ one. cond (has_name other one) 1 0) (refiltered name filter first) (map (refiltered name filter) more)
+      arith,
+      here,
+      named-refiltered name other filter more,
+      sum_by-cons (λ one. cond (has_name other one) 1 0) first more,
+      sum_by-cons (λ one. cond (has_name other one) 1 0) (refiltered name filter first) (map (refiltered name filter) more),
     )
 
 pub AreApart-changed : (name : List ℕ) (filter : FilterValue) (sockets : List Socket) → AreApart sockets → AreApart (map (refiltered name filter) sockets)

@@ -1,12 +1,11 @@
 -- Sums and lists over groups that ascend, and over tallies that ascend by group.
-use Rattle.std.proofs.Common.{◌≡◌, ℕ, ◌+◌, ◌≤◌, ◌<◌, Bool, true, false, not, ◌&&◌, ◌||◌, cond, ltb, List, [], ◌∷◌, ◌++◌, filter, Option, Some, None, refl, sym, ap, ◌∙◌, arith}
-use Rattle.std.specs.List.{AllByRecursion, cons_option, filter_map, find, flat_map, list_any, sum_by}
+use Rattle.std.proofs.Common.{◌≡◌, ℕ, ◌+◌, ◌≤◌, Bool, true, false, not, ◌&&◌, ◌||◌, cond, List, [], ◌∷◌, ◌++◌, filter, Option, Some, None, refl, sym, ap, ◌∙◌, arith}
+use Rattle.std.specs.List.{AllByRecursion, cons_option, find, flat_map, list_any, sum_by}
 use Rattle.std.specs.Map.{keys_of}
 use Rattle.std.specs.Option.{option_map, unwrap_or}
-use Rattle.std.specs.Ordering.{eq_by_cmp, is_eq, ordering_reverse}
+use Rattle.std.specs.Ordering.{is_eq, ordering_reverse}
 use Rattle.std.specs.declared.cmp.Ordering.{Ordering}
 use Rattle.std.specs.declared.cmp.Ordering.TheVariants.{Less, Equal, Greater}
-use Rattle.std.proofs.lemmas.Bool.{le-ltb}
 use Rattle.std.proofs.lemmas.List.Filters.{sum_by-filter_both}
 use Rattle.std.proofs.lemmas.List.Sums.{sum_by-cons, sum_by-le-sum_by}
 use Rattle.std.proofs.lemmas.Map.Keys.{sorted_head, sorted_tail}
@@ -16,7 +15,7 @@ use Rattle.amt_values.proofs.Orders.{ip_order-exact, ip_order-total}
 use Rattle.contract_words.specs.Ascending.{IsAscending, has}
 use Rattle.contract_words.proofs.AscendingLaws.{IsAscending-filter, has-filter, same_ascending}
 use Rattle.socket_merge.specs.Interface.{same_group}
-use Rattle.socket_merge.specs.Kept.{AreOrdered, blank, farewell_of, farewells_in, tally_at}
+use Rattle.socket_merge.specs.Kept.{AreOrdered, blank, farewells_in, tally_at}
 use Rattle.socket_merge.specs.Sockets.{Farewell, left_in}
 use Rattle.socket_merge.specs.declared.stored.Tally.{Tally}
 use Rattle.socket_merge.proofs.Wanted.{same_group-exact, same_group-itself, some_item}
@@ -36,7 +35,7 @@ same_passing : (test : Ip → Bool) (xs ys : List Ip) → IsAscending ip_order x
 same_passing test xs ys first second in_first in_second =
     same_ascending ip_order-total ip_order-exact (filter test xs) (filter test ys) (IsAscending-filter ip_order test xs first) (IsAscending-filter ip_order test ys second)
     (λ group. has-filter ip_order-exact test xs group ∙ both_have (has ip_order xs group) (has ip_order ys group) (test group) (in_first group) (in_second group)
-        ∙ sym (has-filter ip_order-exact test ys group))
+    ∙ sym (has-filter ip_order-exact test ys group))
 
 flat_first : {X : Type 0} (f : Ip → List X) (here : List X) (group : Ip) (passing : List Ip) → f group ≡ here → flat_map f (cond (some_item here) (group ∷ passing) passing) ≡ here ++ flat_map f passing
 flat_first f [] group passing is = refl
@@ -57,7 +56,7 @@ pub flat_map-same : {X : Type 0} (f : Ip → List X) (xs ys : List Ip) → IsAsc
 flat_map-same f xs ys first second in_first in_second =
     sym (flat_map-passing f xs)
     ∙ ap (flat_map f) (same_passing (λ group. some_item (f group)) xs ys first second (λ group some. listed_by (has ip_order xs group) (f group) (in_first group) some)
-        (λ group some. listed_by (has ip_order ys group) (f group) (in_second group) some))
+    (λ group some. listed_by (has ip_order ys group) (f group) (in_second group) some))
     ∙ flat_map-passing f ys
 
 sum_first : (f : Ip → ℕ) (test : Bool) (group : Ip) (passing : List Ip) → (test ≡ false → f group ≡ 0) → sum_by f (cond test (group ∷ passing) passing) ≡ f group + sum_by f passing
@@ -88,8 +87,11 @@ pub sum_by-within : (f g : Ip → ℕ) (xs ys : List Ip) → IsAscending ip_orde
 sum_by-within f g xs ys first second less none =
     let total = ap (sum_by g) (in_both xs ys first second) in
     omega (
-    arith, sum_by-le-sum_by f g xs less, sum_by-passing g (has ip_order ys) xs none, total,
-    sum_by-filter_both (has ip_order xs) (λ group. not (has ip_order xs group)) (λ _. refl) g ys
+      arith,
+      sum_by-le-sum_by f g xs less,
+      sum_by-passing g (has ip_order ys) xs none,
+      total,
+      sum_by-filter_both (has ip_order xs) (λ group. not (has ip_order xs group)) (λ _. refl) g ys,
     )
 
 -- a group that comes before others is none of them
@@ -215,7 +217,7 @@ pub left_in-farewells : (tallies : List (Ip × Tally)) (group : Ip) → AreOrder
 left_in-farewells [] group ordered = refl
 left_in-farewells (entry ∷ rest) group ordered =
     let absent : same_group group entry.0 ≡ true → tally_at rest group ≡ blank =
-        λ same. ap (tally_at rest) (same_group-exact group entry.0 same) ∙ tally_at-absent rest entry.0 (has-before entry.0 (keys_of rest) (sorted_head ip_order entry.0 (keys_of rest) ordered)) in
+    λ same. ap (tally_at rest) (same_group-exact group entry.0 same) ∙ tally_at-absent rest entry.0 (has-before entry.0 (keys_of rest) (sorted_head ip_order entry.0 (keys_of rest) ordered)) in
     left_first (same_group group entry.0) entry.0 entry.1.left (farewells_in rest) group entry.1 (tally_at rest group) refl refl
     (left_in-farewells rest group (sorted_tail ip_order entry.0 (keys_of rest) ordered)) absent
     ∙ ap (λ (one : Tally). one.left) (sym (tally_at-cons entry rest group))

@@ -1,5 +1,5 @@
 -- What each call of the sockets leaves, by what its private calls answer.
-use Rattle.std.proofs.Common.{◌≡◌, ℕ, ◌+◌, ◌-◌, ◌≤◌, ◌<◌, ltb, max, Bool, true, false, cond, is_some, List, [], ◌∷◌, ◌++◌, length, Option, Some, None, refl, sym, ap, subst, ◌∙◌, arith}
+use Rattle.std.proofs.Common.{◌≡◌, ℕ, ◌+◌, ◌-◌, ◌≤◌, ltb, max, Bool, true, false, cond, is_some, List, [], ◌∷◌, ◌++◌, length, Option, Some, None, refl, sym, ap, subst, ◌∙◌, arith}
 use Rattle.std.specs.List.{All, cons_option}
 use Rattle.std.specs.Option.{option_map}
 use Rattle.std.proofs.lemmas.Bool.{leb-true, lt-ltb}
@@ -10,7 +10,7 @@ use Rattle.contract_words.specs.Conditions.{first_holding}
 use Rattle.source_filter.specs.Filter.{FilterValue}
 use Rattle.socket_merge.specs.History.{AcceptedCall, Change, Close, LeaveAll, Open, Socket, latest, open_sockets, socket_named, sockets_after, with_call}
 use Rattle.socket_merge.specs.FullReport.{longest_farewell}
-use Rattle.socket_merge.specs.Kept.{AreOrdered, HasTallies, HasTally, IsConsistent, farewells_in, octets_besides, raw_octets, share_of, tally_at, tally_changed, tally_fresh, tally_left, tally_of, tally_with, tally_without}
+use Rattle.socket_merge.specs.Kept.{AreOrdered, HasTallies, HasTally, IsConsistent, farewells_in, octets_besides, raw_octets, share_of, tally_at, tally_changed, tally_fresh, tally_left, tally_with, tally_without}
 use Rattle.socket_merge.specs.Refusal.{family_of, is_open, may_be_due, refusal_of}
 use Rattle.socket_merge.specs.Sockets.{AreOfGroup, Farewell, HasNoOldFarewell, IsKept, SocketsHold, SocketsValue}
 use Rattle.socket_merge.specs.declared.fault.SocketFault.{SocketFault}
@@ -96,10 +96,10 @@ holds_closed moment later at name sockets left told before after history consist
     let read : later ≡ max (latest history) at = now ∙ ap (λ (one : ℕ). max one at) holds.moment in
     let tally = closed_tally later told socket before after found.is closed.tally in
     let stands = Stands-closed history (tally_at before) at name socket (Stands-of moment sockets before history consistent holds)
-        (IsNamed-of moment name sockets before socket history consistent holds.sockets found.found) in
+    (IsNamed-of moment name sockets before socket history consistent holds.sockets found.found) in
     SocketsHold-of later left after (with_call at (Close name) history) closed.ordered read (closed.rest ∙ ap (sockets_after (Close name)) holds.sockets)
     (Stands-same (with_call at (Close name) history) (replaced socket.group (tally_without (max (latest history) at) (share_of socket.filter) (tally_at before socket.group)) (tally_at before)) (tally_at after)
-        (subst (λ (one : ℕ). HasTally socket.group (tally_without one (share_of socket.filter) (tally_at before socket.group)) before after) read tally) stands)
+    (subst (λ (one : ℕ). HasTally socket.group (tally_without one (share_of socket.filter) (tally_at before socket.group)) before after) read tally) stands)
 
 -- what leaving every group leaves
 pub record IsLeft (later : ℕ) (left : List Socket) (before after : List (Ip × Tally)) : Type 0 where
@@ -118,8 +118,8 @@ holds_left moment later at sockets left before after history consistent now gone
     let read : later ≡ max (latest history) at = now ∙ ap (λ (one : ℕ). max one at) holds.moment in
     SocketsHold-of later left after (with_call at LeaveAll history) gone.ordered read gone.rest
     (Stands-same (with_call at LeaveAll history) (λ group. tally_left (max (latest history) at) (tally_at before group)) (tally_at after)
-        (subst (λ (one : ℕ). HasTallies (tally_left one) before after) read gone.tallies)
-        (Stands-left history (tally_at before) at (Stands-of moment sockets before history consistent holds)))
+    (subst (λ (one : ℕ). HasTallies (tally_left one) before after) read gone.tallies)
+    (Stands-left history (tally_at before) at (Stands-of moment sockets before history consistent holds)))
 
 some_told : (found : Option Socket) → is_some (option_map told_of found) ≡ true → is_some found ≡ true
 some_told None some = absurd cc
@@ -154,12 +154,12 @@ consistent_changed moment later name filter sockets left told before after consi
     let group = socket.group in
     let sources = (tally_at before group).sources - length socket.filter.sources + length filter.sources in
     let within = IsWithin-of sources (octets_besides (family_of group) later group before + raw_octets (family_of group) sources)
-        (subst (λ (pair : Ip × Share). limit_changed later filter pair before ≡ None) found.is none) in
+    (subst (λ (pair : Ip × Share). limit_changed later filter pair before ≡ None) found.is none) in
     let named : IsNamed name socket sockets = record { apart = consistent.apart; found = found.found } in
     subst (λ (all : List Socket). IsConsistent later all after) (sym changed.rest)
     (IsConsistent-replaced moment later group (tally_changed later (share_of socket.filter) (share_of filter) (tally_at before group)) sockets (sockets_after (Change name filter) sockets) before after consistent onward
-        changed.ordered (changed_tally later filter told socket before after found.is changed.tally) (others_changed name filter socket sockets named)
-        (IsFit-changed moment later name filter socket sockets before consistent found.found family within.few within.short))
+    changed.ordered (changed_tally later filter told socket before after found.is changed.tally) (others_changed name filter socket sockets named)
+    (IsFit-changed moment later name filter socket sockets before consistent found.found family within.few within.short))
 
 pub holds_changed : (moment later at : ℕ) (name : List ℕ) (filter : FilterValue) (sockets left : List Socket) (told : Ip × Share) (before after : List (Ip × Tally)) (history : List AcceptedCall)
     → IsConsistent moment sockets before → later ≡ max moment at → Some told ≡ option_map told_of (socket_named name sockets) → IsChanged later name filter sockets left told before after
@@ -170,11 +170,11 @@ holds_changed moment later at name filter sockets left told before after history
     let read : later ≡ max (latest history) at = now ∙ ap (λ (one : ℕ). max one at) holds.moment in
     let tally = changed_tally later filter told socket before after found.is changed.tally in
     let stands = Stands-changed history (tally_at before) at name filter socket (Stands-of moment sockets before history consistent holds)
-        (IsNamed-of moment name sockets before socket history consistent holds.sockets found.found) in
+    (IsNamed-of moment name sockets before socket history consistent holds.sockets found.found) in
     SocketsHold-of later left after (with_call at (Change name filter) history) changed.ordered read (changed.rest ∙ ap (sockets_after (Change name filter)) holds.sockets)
     (Stands-same (with_call at (Change name filter) history)
-        (replaced socket.group (tally_changed (max (latest history) at) (share_of socket.filter) (share_of filter) (tally_at before socket.group)) (tally_at before)) (tally_at after)
-        (subst (λ (one : ℕ). HasTally socket.group (tally_changed one (share_of socket.filter) (share_of filter) (tally_at before socket.group)) before after) read tally) stands)
+    (replaced socket.group (tally_changed (max (latest history) at) (share_of socket.filter) (share_of filter) (tally_at before socket.group)) (tally_at before)) (tally_at after)
+    (subst (λ (one : ℕ). HasTally socket.group (tally_changed one (share_of socket.filter) (share_of filter) (tally_at before socket.group)) before after) read tally) stands)
 
 -- why another filter is refused
 pub refusal_changed : (moment later at : ℕ) (name : List ℕ) (filter : FilterValue) (sockets : List Socket) (told : Ip × Share) (before : List (Ip × Tally)) (history : List AcceptedCall)
@@ -185,7 +185,7 @@ refusal_changed moment later at name filter sockets told before history consiste
     let socket = found.socket in
     let read : later ≡ max (latest history) at = now ∙ ap (λ (one : ℕ). max one at) holds.moment in
     refusal-changed at name filter socket history before consistent.ordered (Stands-of moment sockets before history consistent holds)
-        (IsNamed-of moment name sockets before socket history consistent holds.sockets found.found)
+    (IsNamed-of moment name sockets before socket history consistent holds.sockets found.found)
     ∙ ap (λ (one : ℕ). limit_changed one filter (told_of socket) before) (sym read) ∙ ap (λ (pair : Ip × Share). limit_changed later filter pair before) (sym found.is)
 
 none_told : (found : Option Socket) → option_map told_of found ≡ None → found ≡ None
@@ -218,9 +218,9 @@ consistent_opened moment later socket sockets left before between after consiste
     let within = IsWithin-of sources (octets_besides (family_of group) later group before + raw_octets (family_of group) sources) none in
     subst (λ (all : List Socket). IsConsistent later all after) (sym opened.rest)
     (IsConsistent-fresh later (sockets ++ socket ∷ []) between after
-        (IsConsistent-replaced moment later group (tally_with (share_of socket.filter) (tally_at before group)) sockets (sockets ++ socket ∷ []) before between consistent onward
-            opened.ordered_between opened.tally (others_opened sockets socket) (IsFit-opened moment later socket sockets before consistent absent forwarded family within.few within.short))
-        opened.ordered opened.fresh)
+    (IsConsistent-replaced moment later group (tally_with (share_of socket.filter) (tally_at before group)) sockets (sockets ++ socket ∷ []) before between consistent onward
+    opened.ordered_between opened.tally (others_opened sockets socket) (IsFit-opened moment later socket sockets before consistent absent forwarded family within.few within.short))
+    opened.ordered opened.fresh)
 
 pub holds_opened : (moment later at : ℕ) (name : List ℕ) (group : Ip) (filter : FilterValue) (sockets left : List Socket) (before between after : List (Ip × Tally)) (history : List AcceptedCall)
     → IsConsistent moment sockets before → later ≡ max moment at → IsOpened later (record { name = name; group = group; filter = filter }) sockets left before between after
@@ -230,10 +230,10 @@ holds_opened moment later at name group filter sockets left before between after
     let socket : Socket = record { name = name; group = group; filter = filter } in
     let read : later ≡ latest next = now ∙ ap (λ (one : ℕ). max one at) holds.moment in
     let stands = Stands-same next (replaced group (tally_with (share_of filter) (tally_at before group)) (tally_at before)) (tally_at between) opened.tally
-        (Stands-opened history (tally_at before) at name group filter (Stands-of moment sockets before history consistent holds)) in
+    (Stands-opened history (tally_at before) at name group filter (Stands-of moment sockets before history consistent holds)) in
     SocketsHold-of later left after next opened.ordered read (opened.rest ∙ ap (λ (all : List Socket). all ++ socket ∷ []) holds.sockets)
     (Stands-same next (λ one. tally_fresh (latest next) (tally_at between one)) (tally_at after) (subst (λ (one : ℕ). HasTallies (tally_fresh one) between after) read opened.fresh)
-        (Stands-fresh next (tally_at between) stands))
+    (Stands-fresh next (tally_at between) stands))
 
 -- why a new socket is refused
 pub refusal_opened : (moment later at : ℕ) (name : List ℕ) (group : Ip) (filter : FilterValue) (sockets : List Socket) (before : List (Ip × Tally)) (history : List AcceptedCall)
@@ -242,7 +242,7 @@ pub refusal_opened : (moment later at : ℕ) (name : List ℕ) (group : Ip) (fil
 refusal_opened moment later at name group filter sockets before history consistent now absent holds =
     let read : later ≡ max (latest history) at = now ∙ ap (λ (one : ℕ). max one at) holds.moment in
     refusal-opened at name group filter history before consistent.ordered (Stands-of moment sockets before history consistent holds)
-        (ap (λ (all : List Socket). is_some (socket_named name all)) (sym holds.sockets) ∙ ap is_some absent)
+    (ap (λ (all : List Socket). is_some (socket_named name all)) (sym holds.sockets) ∙ ap is_some absent)
     ∙ ap (λ (one : ℕ). limit_opened one group filter before) (sym read)
 
 -- a name that is taken

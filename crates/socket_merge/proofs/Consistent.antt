@@ -11,14 +11,14 @@ use Rattle.group_records.specs.Written.{is_of_family}
 use Rattle.group_records.specs.declared.family.Family.{Family}
 use Rattle.socket_merge.specs.History.{Change, Close, Socket, refiltered, socket_named, sockets_after}
 use Rattle.socket_merge.specs.Interface.{same_group}
-use Rattle.socket_merge.specs.Kept.{AreOrdered, HasRoom, HasTallies, HasTally, IsConsistent, blank, is_blank, left_without, octets_besides, octets_in, octets_of, raw_octets, share_of, tally_at, tally_changed, tally_fresh, tally_left, tally_of, tally_with, tally_without}
+use Rattle.socket_merge.specs.Kept.{AreOrdered, HasRoom, HasTallies, HasTally, IsConsistent, is_blank, left_without, octets_besides, octets_in, octets_of, raw_octets, share_of, tally_at, tally_changed, tally_fresh, tally_left, tally_with, tally_without}
 use Rattle.socket_merge.specs.Refusal.{family_of, may_be_due}
 use Rattle.socket_merge.specs.Sockets.{AreOfGroup}
 use Rattle.socket_merge.specs.declared.stored.Share.{Share}
 use Rattle.socket_merge.specs.declared.stored.Tally.{Tally}
 use Rattle.socket_merge.proofs.Amounts.{AreApart, AreApart-changed, AreApart-closed, AreApart-opened, has_name, length-as_sum, none_refiltered, part, with_filter}
-use Rattle.socket_merge.proofs.Counted.{AreOthersSame, AreTallied, AreTallied-fresh, AreTallied-left, AreTallied-replaced, AreTallied-same, Counts, Counts-changed, Counts-closed, Counts-of, Counts-opened, CountsOne, CountsOne-of, IsNamed, one, others_changed, others_closed, others_opened, replaced, wanting_few}
-use Rattle.socket_merge.proofs.RawOctets.{IsLess, IsLess-fresh, IsLess-later, IsLess-left, IsLess-without, family_is, octets-after, octets-fall, octets_besides-le, octets_in-other, octets_in-own, of_own_family}
+use Rattle.socket_merge.proofs.Counted.{AreOthersSame, AreTallied, AreTallied-fresh, AreTallied-left, AreTallied-replaced, AreTallied-same, Counts, Counts-changed, Counts-closed, Counts-of, Counts-opened, CountsOne-of, IsNamed, one, others_closed, replaced, wanting_few}
+use Rattle.socket_merge.proofs.RawOctets.{IsLess, IsLess-fresh, IsLess-later, IsLess-left, IsLess-without, family_is, octets-after, octets-fall, octets_besides-le, octets_in-other, octets_in-own}
 use Rattle.socket_merge.proofs.Wanted.{same_group-exact}
 
 -- each socket's sources are of its group's family
@@ -104,10 +104,10 @@ IsConsistent-closed earlier later name socket sockets before after consistent on
     let now = tally_without later (share_of socket.filter) (tally_at before group) in
     IsConsistent-shrunk earlier later sockets (sockets_after (Close name) sockets) before after (replaced group now (tally_at before)) consistent ordered is
     (AreTallied-replaced group sockets (sockets_after (Close name) sockets) (tally_at before) now consistent.tallied (others_closed name socket sockets named)
-        (Counts-closed name socket sockets later (tally_at before group) named counts))
+    (Counts-closed name socket sockets later (tally_at before group) named counts))
     (AreApart-closed (λ one. not (has_name name one)) sockets consistent.apart) (All-filter (λ one. not (has_name name one)) IsOfOwnFamily sockets consistent.family)
     (λ other. replaced_by (IsShrunk earlier later) (same_group group other) group other now (tally_at before) refl
-        (IsShrunk-without earlier later (share_of socket.filter) (tally_at before group) here.number) (IsShrunk-later earlier later (tally_at before other) onward))
+    (IsShrunk-without earlier later (share_of socket.filter) (tally_at before group) here.number) (IsShrunk-later earlier later (tally_at before other) onward))
 
 -- every socket is closed
 pub IsConsistent-left : (earlier later : ℕ) (sockets : List Socket) (before after : List (Ip × Tally)) → IsConsistent earlier sockets before → earlier ≤ later → AreOrdered after

@@ -1,21 +1,17 @@
 -- Tallies that count the sockets of groups, and what each call makes of them.
-use Rattle.std.proofs.Common.{◌≡◌, ℕ, ◌+◌, ◌-◌, ◌≤◌, ◌<◌, max, Bool, true, false, not, ◌&&◌, ◌||◌, cond, ltb, List, [], ◌∷◌, ◌++◌, length, map, Option, Some, None, refl, sym, ap, subst, ◌∙◌, arith}
-use Rattle.std.specs.List.{count_by, find, list_any, sum_by}
-use Rattle.std.proofs.lemmas.Bool.{lt-ltb, le-ltb, ltb-true, ltb-false}
+use Rattle.std.proofs.Common.{◌≡◌, ℕ, ◌+◌, ◌≤◌, ◌<◌, Bool, true, false, ◌||◌, cond, ltb, List, [], ◌∷◌, ◌++◌, length, map, Option, Some, refl, sym, ap, subst, ◌∙◌, arith}
+use Rattle.std.specs.List.{count_by, list_any, sum_by}
+use Rattle.std.proofs.lemmas.Bool.{lt-ltb}
 use Rattle.std.proofs.lemmas.Cmp.{eq_by_cmp_equiv}
 use Rattle.std.proofs.lemmas.List.Sums.{sum_by-cons, sum_by-le-sum_by, sum_by_push}
 use Rattle.amt_values.specs.declared.address.Ip.{Ip}
 use Rattle.amt_values.proofs.Orders.{ip_order-total}
 use Rattle.source_filter.specs.Filter.{FilterValue, wants_any}
-use Rattle.source_filter.specs.Merging.{merged}
 use Rattle.socket_merge.specs.History.{AcceptedCall, Change, Close, Socket, open_sockets, socket_named, sockets_after}
 use Rattle.socket_merge.specs.Interface.{filters_on, is_wanted, on_group, same_group}
-use Rattle.socket_merge.specs.Kept.{left_with, left_without, one_where, share_of, tally_changed, tally_fresh, tally_left, tally_of, tally_with, tally_without}
-use Rattle.socket_merge.specs.Refusal.{may_be_due}
-use Rattle.socket_merge.specs.Sockets.{IsKept}
-use Rattle.socket_merge.specs.declared.stored.Share.{Share}
+use Rattle.socket_merge.specs.Kept.{share_of, tally_changed, tally_fresh, tally_left, tally_of, tally_with, tally_without}
 use Rattle.socket_merge.specs.declared.stored.Tally.{Tally}
-use Rattle.socket_merge.proofs.Amounts.{AreApart, found_has_name, length-as_sum, part, sum_by-changed, sum_by-closed, sum_by-on_group, with_filter}
+use Rattle.socket_merge.proofs.Amounts.{AreApart, length-as_sum, part, sum_by-changed, sum_by-closed, sum_by-on_group, with_filter}
 use Rattle.socket_merge.proofs.Wanted.{same_group-exact, same_group-itself, wants_any-merged}
 
 pub same_group-turned : (one other : Ip) → same_group one other ≡ same_group other one
@@ -95,7 +91,6 @@ part_of_other measure group socket same = ap (λ (test : Bool). cond test (measu
 pub own_part : (measure : Socket → ℕ) (socket : Socket) → part measure socket.group socket ≡ measure socket
 own_part measure socket = part_by measure socket.group socket (same_group-itself socket.group)
 
-
 -- a group is wanted where some socket of it wants a source
 pub is_wanted-counted : (history : List AcceptedCall) (group : Ip) (tally : Tally) → Counts tally group (open_sockets history) → is_wanted history group ≡ ltb 0 tally.wanting
 is_wanted-counted history group tally counts =
@@ -135,7 +130,7 @@ pub Counts-opened : (sockets : List Socket) (socket : Socket) (tally : Tally) �
 Counts-opened sockets socket tally counts =
     let group = socket.group in
     let pushed : (measure : Socket → ℕ) → amount measure group (sockets ++ socket ∷ []) ≡ amount measure group sockets + part measure group socket =
-        λ measure. sum_by_push (part measure group) sockets socket in
+    λ measure. sum_by_push (part measure group) sockets socket in
     record {
       number = omega (arith, counts.number, pushed one, own_part one socket);
       wanting = omega (arith, counts.wanting, pushed wanting, own_part wanting socket);
@@ -159,7 +154,7 @@ pub Counts-closed : (name : List ℕ) (socket : Socket) (sockets : List Socket) 
 Counts-closed name socket sockets moment tally is counts =
     let group = socket.group in
     let less : (measure : Socket → ℕ) → amount measure group (sockets_after (Close name) sockets) + part measure group socket ≡ amount measure group sockets =
-        λ measure. part_closed name socket sockets is measure group in
+    λ measure. part_closed name socket sockets is measure group in
     record {
       number = omega (arith, counts.number, less one, own_part one socket);
       wanting = omega (arith, counts.wanting, less wanting, own_part wanting socket);
@@ -193,7 +188,7 @@ Counts-changed name filter socket sockets moment tally is counts =
     let after : Socket = with_filter filter socket in
     let holds : (measure : Socket → ℕ) → part measure group socket ≤ amount measure group sockets = λ measure. omega (arith, part_closed name socket sockets is measure group) in
     let other_filter : (measure : Socket → ℕ) → amount measure group (sockets_after (Change name filter) sockets) + part measure group socket ≡ amount measure group sockets + part measure group after =
-        λ measure. part_changed name filter socket sockets is measure group in
+    λ measure. part_changed name filter socket sockets is measure group in
     record {
       number = omega (arith, counts.number, other_filter one, own_part one socket, own_part one after);
       wanting = omega (arith, counts.wanting, other_filter wanting, holds wanting, own_part wanting socket, own_part wanting after);

@@ -1,23 +1,16 @@
 -- Tallies of all groups that stand for a history, and what each call makes of them.
-use Rattle.std.proofs.Common.{◌≡◌, ℕ, ◌+◌, ◌-◌, ◌≤◌, ◌<◌, max, Bool, true, false, not, ◌&&◌, ◌||◌, cond, ltb, List, [], ◌∷◌, ◌++◌, length, map, Option, Some, None, refl, sym, ap, subst, ◌∙◌, arith}
-use Rattle.std.specs.List.{count_by, find, list_any, sum_by}
-use Rattle.std.proofs.lemmas.Bool.{lt-ltb, le-ltb, ltb-true, ltb-false}
-use Rattle.std.proofs.lemmas.Cmp.{eq_by_cmp_equiv}
-use Rattle.std.proofs.lemmas.List.Sums.{sum_by-cons, sum_by_push}
+use Rattle.std.proofs.Common.{◌≡◌, ℕ, ◌+◌, ◌-◌, ◌≤◌, ◌<◌, max, Bool, true, false, not, ◌&&◌, cond, ltb, List, [], ◌∷◌, Option, Some, None, refl, sym, ap, subst, ◌∙◌, arith}
+use Rattle.std.proofs.lemmas.Bool.{lt-ltb, ltb-true, ltb-false}
 use Rattle.amt_values.specs.declared.address.Ip.{Ip}
-use Rattle.amt_values.proofs.Orders.{ip_order-total}
 use Rattle.source_filter.specs.Filter.{FilterValue, wants_any}
-use Rattle.source_filter.specs.Merging.{merged}
-use Rattle.socket_merge.specs.History.{AcceptedCall, Change, Close, LeaveAll, Open, Socket, latest, open_sockets, socket_named, with_call}
-use Rattle.socket_merge.specs.Interface.{filters_on, is_wanted, on_group, same_group}
-use Rattle.socket_merge.specs.Kept.{left_with, left_without, one_where, share_of, tally_changed, tally_fresh, tally_left, tally_of, tally_with, tally_without}
-use Rattle.socket_merge.specs.Refusal.{may_be_due}
+use Rattle.socket_merge.specs.History.{AcceptedCall, Change, Close, LeaveAll, Open, Socket, latest, open_sockets, with_call}
+use Rattle.socket_merge.specs.Interface.{is_wanted, same_group}
+use Rattle.socket_merge.specs.Kept.{left_without, one_where, share_of, tally_changed, tally_fresh, tally_left, tally_of, tally_with, tally_without}
 use Rattle.socket_merge.specs.Sockets.{IsKept}
-use Rattle.socket_merge.specs.declared.stored.Share.{Share}
 use Rattle.socket_merge.specs.declared.stored.Tally.{Tally}
 use Rattle.socket_merge.proofs.Counted.{AreOthersSame, AreTallied, AreTallied-fresh, AreTallied-same, Counts, Counts-changed, Counts-closed, Counts-left, Counts-of, Counts-opened, IsNamed, amount, is_wanted-counted, others_changed, others_closed, others_opened, replaced, same_counts, tally_of-counts}
 use Rattle.socket_merge.proofs.Farewells.{Follows, IsKept-after, IsKept-fresh, IsKept-none, none_kept}
-use Rattle.socket_merge.proofs.Wanted.{same_group-exact, same_group-itself, wants_any-merged}
+use Rattle.socket_merge.proofs.Wanted.{same_group-exact}
 
 -- the tallies of all groups stand for a history
 pub record Stands (history : List AcceptedCall) (tally : Ip → Tally) : Type 0 where

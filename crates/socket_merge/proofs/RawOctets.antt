@@ -1,5 +1,5 @@
 -- The octets of the raw report by the tallies, and what calls make of them.
-use Rattle.std.proofs.Common.{◌≡◌, ℕ, zero, suc, ◌+◌, ◌*◌, ◌-◌, ◌≤◌, ◌<◌, max, Bool, true, false, not, ◌&&◌, ◌||◌, cond, ltb, List, [], ◌∷◌, ◌++◌, filter, length, map, Option, Some, None, refl, sym, ap, subst, ◌∙◌, arith}
+use Rattle.std.proofs.Common.{◌≡◌, ℕ, zero, suc, ◌+◌, ◌*◌, ◌≤◌, ◌<◌, Bool, true, false, not, ◌&&◌, ◌||◌, cond, ltb, List, [], ◌∷◌, ◌++◌, filter, length, map, Option, Some, None, refl, sym, ap, subst, ◌∙◌, arith}
 use Rattle.std.specs.List.{sum_by}
 use Rattle.std.specs.Map.{keys_of}
 use Rattle.std.proofs.lemmas.Bool.{le-leb, leb-true, lt-ltb}
@@ -20,16 +20,16 @@ use Rattle.group_records.specs.Reading.{head_length}
 use Rattle.group_records.specs.Written.{is_of_family}
 use Rattle.group_records.specs.declared.family.Family.{Family}
 use Rattle.group_records.specs.declared.family.Family.TheVariants.{V4, V6}
-use Rattle.socket_merge.specs.FullReport.{groups_of, is_empty, longest_farewell}
+use Rattle.socket_merge.specs.FullReport.{is_empty, longest_farewell}
 use Rattle.socket_merge.specs.History.{AcceptedCall, Change, Close, LeaveAll, Open, Socket, SocketCall, group_opened, groups_opened, latest, open_sockets, refiltered, sockets_after}
 use Rattle.socket_merge.specs.Interface.{is_wanted, left_at, on_group, same_group}
-use Rattle.socket_merge.specs.Kept.{AreOrdered, HasTally, blank, has_place_by, left_without, octets_besides, octets_in, octets_of, raw_octets, tally_at, tally_fresh, tally_left, tally_of, tally_without}
+use Rattle.socket_merge.specs.Kept.{AreOrdered, HasTally, has_place_by, left_without, octets_besides, octets_in, octets_of, raw_octets, tally_at, tally_fresh, tally_left, tally_of, tally_without}
 use Rattle.socket_merge.specs.Refusal.{family_of, has_place, may_be_due, raw_record, raw_report_length, raw_sources}
 use Rattle.socket_merge.specs.declared.stored.Share.{Share}
 use Rattle.socket_merge.specs.declared.stored.Tally.{Tally}
 use Rattle.socket_merge.proofs.Amounts.{has_name, part, sum_by-filter, with_filter}
 use Rattle.socket_merge.proofs.ByGroup.{besides, sum_by-keys, sum_by-split, sum_by-within, tally_at-absent}
-use Rattle.socket_merge.proofs.Counted.{Counts, Counts-of, amount, is_wanted-counted, one, replaced, wanting, wanting-le}
+use Rattle.socket_merge.proofs.Counted.{Counts-of, amount, is_wanted-counted, one, replaced, wanting, wanting-le}
 use Rattle.socket_merge.proofs.Farewells.{KeptBy, KeptBy-of, may_be_due-kept, nothing_kept}
 use Rattle.socket_merge.proofs.HoldsAfter.{Stands}
 use Rattle.socket_merge.proofs.Wanted.{same_group-itself}
@@ -47,8 +47,11 @@ amount-refiltered name filter group [] = refl
 amount-refiltered name filter group (first ∷ more) =
     let here = ap {B = ℕ} (λ (at : Ip). cond (same_group group at) 1 0) (group_kept (has_name name first) filter first) in
     omega (
-    arith, here, amount-refiltered name filter group more, sum_by-cons (part one group) first more,
-    sum_by-cons (part one group) (refiltered name filter first) (map (refiltered name filter) more)
+      arith,
+      here,
+      amount-refiltered name filter group more,
+      sum_by-cons (part one group) first more,
+      sum_by-cons (part one group) (refiltered name filter first) (map (refiltered name filter) more),
     )
 
 unopened_by : (call : SocketCall) (sockets : List Socket) (earlier : List Ip) (group : Ip) → (has ip_order earlier group ≡ false → amount one group sockets ≡ 0)
@@ -84,7 +87,7 @@ pub never_left : (history : List AcceptedCall) (group : Ip) → has ip_order (gr
 never_left [] group none = refl
 never_left (newest ∷ older) group none =
     let earlier = (either_false (has ip_order (group_opened newest.call) group) (has ip_order (groups_opened older) group)
-        (sym (has-append ip_order (group_opened newest.call) (groups_opened older) group) ∙ none)).1 in
+    (sym (has-append ip_order (group_opened newest.call) (groups_opened older) group) ∙ none)).1 in
     unleft_by (is_wanted (newest ∷ older) group) (is_wanted older group) newest.moment (left_at older group) (unwanted (newest ∷ older) group none) (unwanted older group earlier)
     (never_left older group earlier)
 
@@ -156,8 +159,8 @@ raw-by_groups family history tally stands =
     let mapped = fold-map (λ (total : ℕ) (one : Record). total + (head_length family + length one.sources * width family)) (raw_record (open_sockets history)) 0 (filter (has_place history) (filter (is_of_family family) groups)) in
     ap (λ (total : ℕ). 8 + total)
     (mapped ∙ sum_by-filter octets (has_place history) (filter (is_of_family family) groups) ∙ sum_by-filter (λ group. cond (has_place history group) (octets group) 0) (is_of_family family) groups
-        ∙ sum_by-same (λ group. cond (is_of_family family group) (cond (has_place history group) (octets group) 0) 0) (λ group. octets_in family (latest history) (group, tally group)) groups
-        (λ group. octets-are family history tally group stands))
+    ∙ sum_by-same (λ group. cond (is_of_family family group) (cond (has_place history group) (octets group) 0) 0) (λ group. octets_in family (latest history) (group, tally group)) groups
+    (λ group. octets-are family history tally group stands))
 
 sum_by-alike : (f : Ip → ℕ) (xs ys : List Ip) → IsAscending ip_order xs → IsAscending ip_order ys → ((group : Ip) → has ip_order xs group ≡ false → f group ≡ 0)
     → ((group : Ip) → has ip_order ys group ≡ false → f group ≡ 0) → sum_by f xs ≡ sum_by f ys
@@ -180,7 +183,7 @@ octets-raw family history tallies ordered stands =
     let octets : Ip → ℕ = λ group. octets_in family (latest history) (group, tally_at tallies group) in
     let groups = ascending ip_order (groups_opened history) in
     let alike = sum_by-alike octets (keys_of tallies) groups ordered (IsAscending-ascending ip_order-total (groups_opened history)) (none_absent family (latest history) tallies)
-        (none_opened family history (tally_at tallies) stands) in
+    (none_opened family history (tally_at tallies) stands) in
     omega (arith, sum_by-keys (octets_in family (latest history)) tallies ordered, alike, raw-by_groups family history (tally_at tallies) stands)
 
 pub own_after : (group : Ip) (after : Tally) (tally : Ip → Tally) → replaced group after tally group ≡ after
@@ -204,14 +207,18 @@ octets-replaced family moment tallies group after groups now ordered ascends som
     let before : Ip → ℕ = λ other. octets_in family moment (other, tally_at tallies other) in
     let own : octets group ≡ octets_in family moment (group, after) = ap (λ (tally : Tally). octets_in family moment (group, tally)) (is group ∙ own_after group after (tally_at tallies)) in
     let others : (other : Ip) → besides group octets other ≡ besides group before other = λ other.
-        ap (λ (tally : Tally). cond (same_group group other) 0 (octets_in family moment (other, tally))) (is other)
-        ∙ others_by (same_group group other) (λ tally. octets_in family moment (other, tally)) after (tally_at tallies other) in
+    ap (λ (tally : Tally). cond (same_group group other) 0 (octets_in family moment (other, tally))) (is other)
+    ∙ others_by (same_group group other) (λ tally. octets_in family moment (other, tally)) after (tally_at tallies other) in
     let alike = sum_by-alike (besides group before) groups (keys_of tallies) ascends ordered
-        (λ other absent. sym (others other) ∙ nothing_besides (same_group group other) (octets other) (none other absent))
-        (λ other absent. nothing_besides (same_group group other) (before other) (none_absent family moment tallies other absent)) in
+    (λ other absent. sym (others other) ∙ nothing_besides (same_group group other) (octets other) (none other absent))
+    (λ other absent. nothing_besides (same_group group other) (before other) (none_absent family moment tallies other absent)) in
     omega (
-    arith, sum_by-split group octets groups ascends some, own, sum_by-same (besides group octets) (besides group before) groups others, alike,
-    sum_by-keys (λ entry. cond (same_group group entry.0) 0 (octets_in family moment entry)) tallies ordered
+      arith,
+      sum_by-split group octets groups ascends some,
+      own,
+      sum_by-same (besides group octets) (besides group before) groups others,
+      alike,
+      sum_by-keys (λ entry. cond (same_group group entry.0) 0 (octets_in family moment entry)) tallies ordered,
     )
 
 -- the raw report after a call that changes one group
@@ -223,7 +230,7 @@ raw-replaced family history tallies group after ordered stands some =
     let now = replaced group after (tally_at tallies) in
     raw-by_groups family history now stands
     ∙ octets-replaced family (latest history) tallies group after groups now ordered (IsAscending-ascending ip_order-total (groups_opened history))
-        (has-ascending ip_order-total (groups_opened history) group ∙ some) (λ other. refl) (none_opened family history now stands)
+    (has-ascending ip_order-total (groups_opened history) group ∙ some) (λ other. refl) (none_opened family history now stands)
 
 pub listed_by : (test : Bool) (number : ℕ) → (test ≡ false → number ≡ 0) → 0 < number → test ≡ true
 listed_by true number none some = refl
@@ -297,9 +304,11 @@ pub octets-fall : (family : Family) (earlier later : ℕ) (before after : List (
     → ((group : Ip) → IsLess earlier later (tally_at before group) (tally_at after group)) → octets_of family later after ≤ octets_of family earlier before
 octets-fall family earlier later before after ordered again less =
     omega (
-    arith, sum_by-keys (octets_in family later) after again, sum_by-keys (octets_in family earlier) before ordered,
-    sum_by-within (λ group. octets_in family later (group, tally_at after group)) (λ group. octets_in family earlier (group, tally_at before group)) (keys_of after) (keys_of before) again ordered
-    (λ group. octets_in-le family earlier later group (tally_at before group) (tally_at after group) (less group)) (none_absent family earlier before)
+      arith,
+      sum_by-keys (octets_in family later) after again,
+      sum_by-keys (octets_in family earlier) before ordered,
+      sum_by-within (λ group. octets_in family later (group, tally_at after group)) (λ group. octets_in family earlier (group, tally_at before group)) (keys_of after) (keys_of before) again ordered
+          (λ group. octets_in-le family earlier later group (tally_at before group) (tally_at after group) (less group)) (none_absent family earlier before),
     )
 
 pub due_earlier : (earlier later : ℕ) (left : Option ℕ) → earlier ≤ later → may_be_due later left ≡ true → may_be_due earlier left ≡ true
@@ -326,7 +335,7 @@ besides_less false after before less = less
 pub octets_besides-le : (family : Family) (earlier later : ℕ) (group : Ip) (tallies : List (Ip × Tally)) → earlier ≤ later → octets_besides family later group tallies ≤ octets_of family earlier tallies
 octets_besides-le family earlier later group tallies onward =
     let less = sum_by-le-sum_by (λ entry. cond (same_group group entry.0) 0 (octets_in family later entry)) (octets_in family earlier) tallies
-        (λ entry. besides_less (same_group group entry.0) (octets_in family later entry) (octets_in family earlier entry) (octets_in-le family earlier later entry.0 entry.1 entry.1 (IsLess-later earlier later entry.1 onward))) in
+    (λ entry. besides_less (same_group group entry.0) (octets_in family later entry) (octets_in family earlier entry) (octets_in-le family earlier later entry.0 entry.1 entry.1 (IsLess-later earlier later entry.1 onward))) in
     omega (arith, less)
 
 -- with a socket less

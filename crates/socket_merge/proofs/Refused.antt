@@ -1,16 +1,13 @@
 -- Why calls are refused, by the tallies.
-use Rattle.std.proofs.Common.{◌≡◌, ℕ, ◌+◌, ◌-◌, ◌≤◌, ◌<◌, max, Bool, true, false, ◌||◌, cond, ltb, is_some, List, [], ◌∷◌, length, Option, Some, None, Result, Ok, Err, refl, sym, ap, subst, ◌∙◌, arith}
-use Rattle.std.specs.Option.{option_map}
+use Rattle.std.proofs.Common.{◌≡◌, ℕ, ◌+◌, ◌-◌, ◌≤◌, ◌<◌, max, Bool, true, false, ◌||◌, cond, List, length, Option, Some, None, Ok, Err, refl, sym, ap, subst, ◌∙◌, arith}
 use Rattle.std.proofs.lemmas.Bool.{ltb-false}
-use Rattle.std.proofs.Math.Bool.{true-or}
 use Rattle.amt_values.specs.declared.address.Ip.{Ip}
 use Rattle.amt_values.specs.Order.{ip_order}
 use Rattle.contract_words.specs.Ascending.{has}
-use Rattle.contract_words.specs.Conditions.{Conditions, NoneHolds, first_holding}
+use Rattle.contract_words.specs.Conditions.{Conditions, first_holding}
 use Rattle.contract_words.proofs.ConditionLaws.{NoneHolds-of}
 use Rattle.source_filter.specs.Filter.{FilterValue}
-use Rattle.socket_merge.specs.History.{AcceptedCall, Change, Close, Open, Socket, groups_opened, latest, open_sockets, socket_named, with_call}
-use Rattle.socket_merge.specs.Interface.{same_group}
+use Rattle.socket_merge.specs.History.{AcceptedCall, Change, Open, Socket, groups_opened, latest, open_sockets, socket_named, with_call}
 use Rattle.socket_merge.specs.Kept.{AreOrdered, octets_besides, raw_octets, share_of, tally_at, tally_changed, tally_of, tally_with}
 use Rattle.socket_merge.specs.Refusal.{change_conditions, family_of, is_open, limit_conditions, limits_after, raw_report_length, raw_sources, refusal_of}
 use Rattle.socket_merge.specs.Sockets.{AnswersRefusal}
@@ -31,10 +28,10 @@ limits_are : (history : List AcceptedCall) (tallies : List (Ip × Tally)) (group
     → has ip_order (groups_opened history) group ≡ true → 0 < after.sockets → limits_after group history ≡ limits_of (latest history) group tallies after.sources
 limits_are history tallies group after ordered stands opened some =
     let sources : length (raw_sources group (open_sockets history)) ≡ after.sources =
-        sources-are history (replaced group after (tally_at tallies)) group stands ∙ ap (λ (tally : Tally). tally.sources) (own_after group after (tally_at tallies)) in
+    sources-are history (replaced group after (tally_at tallies)) group stands ∙ ap (λ (tally : Tally). tally.sources) (own_after group after (tally_at tallies)) in
     let octets : raw_report_length (family_of group) history ≡ octets_besides (family_of group) (latest history) group tallies + raw_octets (family_of group) after.sources =
-        raw-replaced (family_of group) history tallies group after ordered stands opened
-        ∙ ap (λ (own : ℕ). octets_besides (family_of group) (latest history) group tallies + own) (octets_in-own (family_of group) (latest history) group after (of_own_family group) some) in
+    raw-replaced (family_of group) history tallies group after ordered stands opened
+    ∙ ap (λ (own : ℕ). octets_besides (family_of group) (latest history) group tallies + own) (octets_in-own (family_of group) (latest history) group after (of_own_family group) some) in
     ap (λ (number : ℕ). limit_conditions number (raw_report_length (family_of group) history)) sources ∙ ap (limit_conditions after.sources) octets
 
 -- a socket of the name is open
@@ -52,7 +49,7 @@ refusal-opened at name group filter history tallies ordered stands absent =
     let now = tally_with (share_of filter) (tally_at tallies group) in
     ap (λ (test : Bool). cond test (Some Taken) (first_holding (limits_after group after))) absent
     ∙ ap first_holding (limits_are after tallies group now ordered (Stands-opened history (tally_at tallies) at name group filter stands)
-        (ap (λ (test : Bool). test || has ip_order (groups_opened history) group) (same_group-itself group)) (omega arith))
+    (ap (λ (test : Bool). test || has ip_order (groups_opened history) group) (same_group-itself group)) (omega arith))
 
 -- no socket of the name is open
 pub refusal-unknown : (at : ℕ) (name : List ℕ) (filter : FilterValue) (history : List AcceptedCall) → socket_named name (open_sockets history) ≡ None
@@ -80,7 +77,7 @@ refusal-changed at name filter socket history tallies ordered stands named =
     let counts = Counts-of (tally_at tallies group) group (open_sockets history) (stands.tallied group) in
     ap (λ (found : Option Socket). first_holding (change_conditions found after)) named.found
     ∙ ap first_holding (limits_are after tallies group now ordered (Stands-changed history (tally_at tallies) at name filter socket stands named) (opened_before history name socket named)
-        (CountsOne-of name socket (open_sockets history) (tally_at tallies group) named counts).number)
+    (CountsOne-of name socket (open_sockets history) (tally_at tallies group) named counts).number)
 
 -- within the limits
 pub record IsWithin (sources octets : ℕ) : Type 0 where

@@ -1,9 +1,8 @@
 -- What a full report says by the tallies, and how long it is.
-use Rattle.std.proofs.Common.{◌≡◌, ℕ, zero, suc, ◌+◌, ◌*◌, ◌≤◌, ◌<◌, min, Bool, true, false, not, ◌&&◌, ◌||◌, cond, ltb, is_some, List, [], ◌∷◌, ◌++◌, filter, length, map, Option, Some, None, refl, sym, ap, subst, ◌∙◌, arith}
+use Rattle.std.proofs.Common.{◌≡◌, ℕ, ◌+◌, ◌*◌, ◌≤◌, min, Bool, true, false, not, ◌&&◌, ◌||◌, cond, ltb, is_some, List, [], ◌∷◌, ◌++◌, filter, length, map, Option, Some, None, refl, sym, ap, subst, ◌∙◌, arith}
 use Rattle.std.specs.List.{All, flat_map, list_any, sum_by}
 use Rattle.std.specs.Map.{keys_of}
-use Rattle.std.proofs.lemmas.Bool.{le-ltb, lt-ltb, ltb-true, le-leb}
-use Rattle.std.proofs.lemmas.List.{append-nil}
+use Rattle.std.proofs.lemmas.Bool.{lt-ltb, ltb-true, le-leb}
 use Rattle.std.proofs.lemmas.List.Elements.{All-append, All-cons, All-head, All-nil, All-tail}
 use Rattle.std.proofs.lemmas.List.Folds.{fold-map}
 use Rattle.std.proofs.lemmas.List.Sums.{sum_by-append, sum_by-cons, sum_by-le-sum_by}
@@ -24,16 +23,15 @@ use Rattle.group_records.specs.declared.family.Family.TheVariants.{V4, V6}
 use Rattle.socket_merge.specs.FullReport.{farewell, full_on, full_report_of, is_empty, is_quiet, is_recent, longest_farewell, states}
 use Rattle.socket_merge.specs.History.{AcceptedCall, Socket, groups_opened, latest, open_sockets}
 use Rattle.socket_merge.specs.Interface.{filters_on, interface, is_wanted, left_at, on_group, same_group}
-use Rattle.socket_merge.specs.Kept.{AreOrdered, IsConsistent, blank, has_place_by, is_blank, octets_in, octets_of, raw_octets, said_of, some_recent, tally_at, tally_of}
-use Rattle.socket_merge.specs.Refusal.{family_of, may_be_due, raw_report_length}
-use Rattle.socket_merge.specs.Sockets.{AreOfGroup}
+use Rattle.socket_merge.specs.Kept.{AreOrdered, IsConsistent, has_place_by, octets_in, octets_of, raw_octets, said_of, some_recent, tally_at}
+use Rattle.socket_merge.specs.Refusal.{family_of, may_be_due}
 use Rattle.socket_merge.specs.declared.stored.Tally.{Tally}
 use Rattle.socket_merge.proofs.ByGroup.{flat_map-keys, flat_map-same, list_any-keys, sum_by-keys, tally_at-absent}
 use Rattle.socket_merge.proofs.Consistent.{IsOfOwnFamily}
-use Rattle.socket_merge.proofs.Counted.{Counts, Counts-of, is_wanted-counted, wanting_few}
+use Rattle.socket_merge.proofs.Counted.{Counts-of, is_wanted-counted, wanting_few}
 use Rattle.socket_merge.proofs.Farewells.{KeptBy-of, is_recent-kept}
 use Rattle.socket_merge.proofs.HoldsAfter.{Stands}
-use Rattle.socket_merge.proofs.RawOctets.{HasNone, HasNone-absent, HasNone-unopened, family_is, never_left, octets-raw, unwanted}
+use Rattle.socket_merge.proofs.RawOctets.{HasNone-absent, HasNone-unopened, family_is, never_left}
 use Rattle.socket_merge.proofs.Wanted.{All-merged, length-merged, same_group-exact, source_number}
 
 or_there : (first second : Bool) → second ≡ true → (first || second) ≡ true
@@ -91,9 +89,9 @@ some_recent-is history tallies at keep ordered stands onward =
     list_any-keys (λ entry. is_recent at keep entry.1.left) tallies ordered
     ∙ any_agree (λ group. is_recent at keep (tally_at tallies group).left) lasts (keys_of tallies) (λ group. recent-is history (tally_at tallies) at keep group stands onward)
     ∙ any_same lasts (keys_of tallies) (groups_opened history)
-        (λ group yes. passes_by (has ip_order (keys_of tallies) group) (lasts group)
-            (λ absent. sym (recent-is history (tally_at tallies) at keep group stands onward) ∙ ap (is_recent at keep) (HasNone-absent tallies group absent).left) yes)
-        (λ group yes. passes_by (has ip_order (groups_opened history) group) (lasts group) (λ none. ap (is_recent at keep) (never_left history group none)) yes)
+    (λ group yes. passes_by (has ip_order (keys_of tallies) group) (lasts group)
+    (λ absent. sym (recent-is history (tally_at tallies) at keep group stands onward) ∙ ap (is_recent at keep) (HasNone-absent tallies group absent).left) yes)
+    (λ group yes. passes_by (has ip_order (groups_opened history) group) (lasts group) (λ none. ap (is_recent at keep) (never_left history group none)) yes)
 
 -- no socket and no farewell by the tallies
 pub is_quiet-by : (history : List AcceptedCall) (sockets : List Socket) (tallies : List (Ip × Tally)) (at keep : ℕ) → AreOrdered tallies → Stands history (tally_at tallies) → latest history ≤ at
@@ -152,14 +150,14 @@ full_report-is family history sockets tallies at keep ordered stands onward same
     let said : Ip → List Record = λ group. said_of family sockets at keep (group, tally_at tallies group) in
     let groups = ascending ip_order (groups_opened history) in
     let in_keys : (group : Ip) → has ip_order (keys_of tallies) group ≡ false → said group ≡ [] = λ group absent.
-        let is = tally_at-absent tallies group absent in
-        said-none family sockets at keep group (tally_at tallies group) (ap (λ (tally : Tally). tally.wanting) is) (ap (λ (tally : Tally). tally.left) is) in
+    let is = tally_at-absent tallies group absent in
+    said-none family sockets at keep group (tally_at tallies group) (ap (λ (tally : Tally). tally.wanting) is) (ap (λ (tally : Tally). tally.left) is) in
     let in_groups : (group : Ip) → has ip_order groups group ≡ false → said group ≡ [] = λ group absent.
-        let unopened = sym (has-ascending ip_order-total (groups_opened history) group) ∙ absent in
-        let none = HasNone-unopened history (tally_at tallies) group stands unopened in
-        let few = wanting_few (tally_at tallies group) group (open_sockets history) (Counts-of (tally_at tallies group) group (open_sockets history) (stands.tallied group)) in
-        let number = none.sockets in
-        said-none family sockets at keep group (tally_at tallies group) (omega arith) none.left in
+    let unopened = sym (has-ascending ip_order-total (groups_opened history) group) ∙ absent in
+    let none = HasNone-unopened history (tally_at tallies) group stands unopened in
+    let few = wanting_few (tally_at tallies group) group (open_sockets history) (Counts-of (tally_at tallies group) group (open_sockets history) (stands.tallied group)) in
+    let number = none.sockets in
+    said-none family sockets at keep group (tally_at tallies group) (omega arith) none.left in
     flat_map-keys (said_of family sockets at keep) tallies ordered
     ∙ flat_map-same said (keys_of tallies) groups ordered (IsAscending-ascending ip_order-total (groups_opened history)) in_keys in_groups
     ∙ flat_map-agree said (λ group. cond (is_of_family family group) (full_on history at keep group) []) groups (λ group. said-is family history sockets (tally_at tallies) at keep group stands onward same)
@@ -193,12 +191,12 @@ pub said-forwarded : (family : Family) (moment at keep : ℕ) (sockets : List So
 said-forwarded family moment at keep sockets tallies consistent =
     let Forwarded : Record → Type 0 = λ one. is_forwardable one.group ≡ true in
     let each : (group : Ip) → All Forwarded (said_of family sockets at keep (group, tally_at tallies group)) = λ group.
-        let tally = tally_at tallies group in
-        let some : (ltb 0 tally.wanting || is_some tally.left) ≡ true → is_forwardable group ≡ true = λ either.
-            consistent.forwarded group (not_blank_by (ltb 0 tally.sockets) (ltb 0 tally.wanting) (ltb 0 tally.sources) (is_some tally.left) either) in
-        All-said Forwarded (is_of_family family group) (ltb 0 tally.wanting) (is_recent at keep tally.left) group (merged (filters_on group sockets))
-        (λ of wanted. some (ap (λ (test : Bool). test || is_some tally.left) wanted))
-        (λ of lasts. some (or_there (ltb 0 tally.wanting) (is_some tally.left) (recent_some at keep tally.left lasts))) in
+    let tally = tally_at tallies group in
+    let some : (ltb 0 tally.wanting || is_some tally.left) ≡ true → is_forwardable group ≡ true = λ either.
+    consistent.forwarded group (not_blank_by (ltb 0 tally.sockets) (ltb 0 tally.wanting) (ltb 0 tally.sources) (is_some tally.left) either) in
+    All-said Forwarded (is_of_family family group) (ltb 0 tally.wanting) (is_recent at keep tally.left) group (merged (filters_on group sockets))
+    (λ of wanted. some (ap (λ (test : Bool). test || is_some tally.left) wanted))
+    (λ of lasts. some (or_there (ltb 0 tally.wanting) (is_some tally.left) (recent_some at keep tally.left lasts))) in
     subst (All Forwarded) (sym (flat_map-keys (said_of family sockets at keep) tallies consistent.ordered))
     (All-flat_map Forwarded (λ group. said_of family sockets at keep (group, tally_at tallies group)) (keys_of tallies) each)
 
@@ -216,7 +214,7 @@ filters_of_family family group [] of all = All-nil (AreOf family)
 filters_of_family family group (socket ∷ more) of all =
     let own = All-head IsOfOwnFamily socket more all in
     let here : same_group group socket.group ≡ true → AreOf family socket.filter = λ same.
-        subst (λ (one : Family). AreOf one socket.filter) (sym (family_is family group of ∙ ap family_of (same_group-exact group socket.group same))) own in
+    subst (λ (one : Family). AreOf one socket.filter) (sym (family_is family group of ∙ ap family_of (same_group-exact group socket.group same))) own in
     filter_first family (same_group group socket.group) socket (on_group group more) here (filters_of_family family group more of (All-tail IsOfOwnFamily socket more all))
 
 -- and it is of the family, as are its sources
@@ -224,12 +222,12 @@ pub said-of_family : (family : Family) (moment at keep : ℕ) (sockets : List So
     → All (IsOfFamily family) (flat_map (said_of family sockets at keep) tallies)
 said-of_family family moment at keep sockets tallies consistent =
     let each : (group : Ip) → All (IsOfFamily family) (said_of family sockets at keep (group, tally_at tallies group)) = λ group.
-        let tally = tally_at tallies group in
-        All-said (IsOfFamily family) (is_of_family family group) (ltb 0 tally.wanting) (is_recent at keep tally.left) group (merged (filters_on group sockets))
-        (λ of wanted. record {
-          group = of;
-          sources = All-merged (λ source. is_of_family family source ≡ true) (filters_on group sockets) (filters_of_family family group sockets of consistent.family);
-        }) (λ of lasts. record { group = of; sources = All-nil (λ source. is_of_family family source ≡ true) }) in
+    let tally = tally_at tallies group in
+    All-said (IsOfFamily family) (is_of_family family group) (ltb 0 tally.wanting) (is_recent at keep tally.left) group (merged (filters_on group sockets))
+    (λ of wanted. record {
+      group = of;
+      sources = All-merged (λ source. is_of_family family source ≡ true) (filters_on group sockets) (filters_of_family family group sockets of consistent.family);
+    }) (λ of lasts. record { group = of; sources = All-nil (λ source. is_of_family family source ≡ true) }) in
     subst (All (IsOfFamily family)) (sym (flat_map-keys (said_of family sockets at keep) tallies consistent.ordered))
     (All-flat_map (IsOfFamily family) (λ group. said_of family sockets at keep (group, tally_at tallies group)) (keys_of tallies) each)
 
@@ -270,18 +268,20 @@ pub said-short : (family : Family) (moment at keep : ℕ) (sockets : List Socket
 said-short family moment at keep sockets tallies consistent onward =
     let said : Ip → List Record = λ group. said_of family sockets at keep (group, tally_at tallies group) in
     let each : (group : Ip) → sum_by (octets_of_record family) (said group) ≤ octets_in family moment (group, tally_at tallies group) = λ group.
-        let tally = tally_at tallies group in
-        let counts = Counts-of tally group sockets (consistent.tallied group) in
-        let listed = ap (λ (one : Tally). one.sources) (consistent.tallied group) in
-        let few : length (merged (filters_on group sockets)).sources ≤ tally.sources =
-            omega (arith, length-merged (filters_on group sockets), sum_by-mapped source_number (on_group group sockets), listed) in
-        let wanting = wanting_few tally group sockets counts in
-        said_less family (is_of_family family group) (ltb 0 tally.wanting) (is_recent at keep tally.left) (has_place_by moment tally) group (merged (filters_on group sockets)) tally.sources few
-        (λ wanted. let some = ltb-true 0 tally.wanting wanted in ap (λ (test : Bool). test || may_be_due moment tally.left) (lt-ltb 0 tally.sockets (omega arith)))
-        (λ lasts. or_there (ltb 0 tally.sockets) (may_be_due moment tally.left) (due_where_recent moment at keep tally.left onward lasts)) in
+    let tally = tally_at tallies group in
+    let counts = Counts-of tally group sockets (consistent.tallied group) in
+    let listed = ap (λ (one : Tally). one.sources) (consistent.tallied group) in
+    let few : length (merged (filters_on group sockets)).sources ≤ tally.sources =
+    omega (arith, length-merged (filters_on group sockets), sum_by-mapped source_number (on_group group sockets), listed) in
+    let wanting = wanting_few tally group sockets counts in
+    said_less family (is_of_family family group) (ltb 0 tally.wanting) (is_recent at keep tally.left) (has_place_by moment tally) group (merged (filters_on group sockets)) tally.sources few
+    (λ wanted. let some = ltb-true 0 tally.wanting wanted in ap (λ (test : Bool). test || may_be_due moment tally.left) (lt-ltb 0 tally.sockets (omega arith)))
+    (λ lasts. or_there (ltb 0 tally.sockets) (may_be_due moment tally.left) (due_where_recent moment at keep tally.left onward lasts)) in
     let total = ap (sum_by (octets_of_record family)) (flat_map-keys (said_of family sockets at keep) tallies consistent.ordered) in
     omega (
-    arith, total, sum_by-flat_map (octets_of_record family) said (keys_of tallies),
-    sum_by-le-sum_by (λ group. sum_by (octets_of_record family) (said group)) (λ group. octets_in family moment (group, tally_at tallies group)) (keys_of tallies) each,
-    sum_by-keys (octets_in family moment) tallies consistent.ordered
+      arith,
+      total,
+      sum_by-flat_map (octets_of_record family) said (keys_of tallies),
+      sum_by-le-sum_by (λ group. sum_by (octets_of_record family) (said group)) (λ group. octets_in family moment (group, tally_at tallies group)) (keys_of tallies) each,
+      sum_by-keys (octets_in family moment) tallies consistent.ordered,
     )

@@ -8,8 +8,8 @@ use Rattle.source_filter.specs.Filter.{FilterValue}
 use Rattle.source_filter.specs.declared.mode.Mode.TheVariants.{Include, Exclude}
 use Rattle.source_filter.specs.declared.record.RecordKind.TheVariants.{IsIn, IsEx, ToIn, Block}
 use Rattle.group_records.specs.declared.family.Family.TheVariants.{V4 as Family4, V6 as Family6}
-use Rattle.socket_merge.specs.History.{AcceptedCall, SocketCall, Open, Change, Close, LeaveAll, with_call, open_sockets}
-use Rattle.socket_merge.specs.Interface.{interface, is_wanted, left_at, wants}
+use Rattle.socket_merge.specs.History.{AcceptedCall, SocketCall, Open, Change, Close, LeaveAll, with_call}
+use Rattle.socket_merge.specs.Interface.{interface, left_at, wants}
 use Rattle.socket_merge.specs.FullReport.{full_report_of, is_quiet}
 use Rattle.socket_merge.specs.Refusal.{raw_report_length, refusal_of}
 use Rattle.socket_merge.specs.declared.fault.SocketFault.TheVariants.{NoSocket, ReportFull, SourcesFull, Taken}

@@ -1,7 +1,7 @@
 -- What the filters of a group want merged, by what each of them wants.
-use Rattle.std.proofs.Common.{◌≡◌, ℕ, ◌+◌, ◌≤◌, ◌<◌, Bool, true, false, not, cond, ◌||◌, List, [], ◌∷◌, ◌++◌, length, map, filter, Option, Some, None, refl, sym, ap, ◌∙◌, arith}
+use Rattle.std.proofs.Common.{◌≡◌, ℕ, ◌+◌, ◌≤◌, Bool, true, false, not, ◌||◌, List, [], ◌∷◌, ◌++◌, length, filter, refl, ap, ◌∙◌, arith}
 use Rattle.std.specs.List.{All, list_any, sum_by}
-use Rattle.std.specs.Ordering.{eq_by_cmp, is_eq, match_ordering}
+use Rattle.std.specs.Ordering.{is_eq, match_ordering}
 use Rattle.std.specs.declared.cmp.Ordering.{Ordering}
 use Rattle.std.specs.declared.cmp.Ordering.TheVariants.{Less, Equal, Greater}
 use Rattle.std.proofs.Math.Bool.{or-true}
@@ -14,8 +14,8 @@ use Rattle.std.proofs.lemmas.Map.Views.{tells_apart}
 use Rattle.amt_values.specs.declared.address.Ip.{Ip}
 use Rattle.amt_values.specs.Order.{ip_order}
 use Rattle.amt_values.proofs.Orders.{ip_order-exact, ip_order-total}
-use Rattle.contract_words.specs.Ascending.{ascending, difference, has, intersection, placed}
-use Rattle.contract_words.proofs.AscendingLaws.{has-ascending, length-ascending}
+use Rattle.contract_words.specs.Ascending.{ascending, has, intersection, placed}
+use Rattle.contract_words.proofs.AscendingLaws.{length-ascending}
 use Rattle.source_filter.specs.Filter.{FilterValue, wants_any, wants_any_by}
 use Rattle.source_filter.specs.Merging.{all_sources, common_sources, exclude_list, exclude_lists, include_list, include_lists, intersection_of, merged, merged_by, union_of}
 use Rattle.source_filter.specs.declared.mode.Mode.{Mode}
@@ -84,7 +84,10 @@ length-merged_by : (exclude include : List (List Ip))
 length-merged_by [] include = omega (arith, length-ascending ip_order (all_sources include))
 length-merged_by (first ∷ more) include =
     omega (
-    arith, length-filter_le (λ source. not (has ip_order (union_of include) source)) (common_sources first more), length-common_sources first more, length-append first (all_sources more)
+      arith,
+      length-filter_le (λ source. not (has ip_order (union_of include) source)) (common_sources first more),
+      length-common_sources first more,
+      length-append first (all_sources more),
     )
 
 length-first : (mode : Mode) (sources : List Ip) (exclude include : List (List Ip))

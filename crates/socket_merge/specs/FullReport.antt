@@ -14,7 +14,7 @@ use Rattle.source_filter.specs.declared.record.RecordKind.TheVariants.{IsIn, IsE
 use Rattle.group_records.specs.declared.family.Family.{Family}
 use Rattle.group_records.specs.declared.family.Family.TheVariants.{V4, V6}
 use Rattle.group_records.specs.Written.{is_of_family}
-use Rattle.socket_merge.specs.History.{AcceptedCall, Socket, groups_opened, open_sockets}
+use Rattle.socket_merge.specs.History.{AcceptedCall, groups_opened, open_sockets}
 use Rattle.socket_merge.specs.Interface.{interface, is_wanted, left_at}
 
 -- how long a farewell may last, in milliseconds: a longer time is read as this one

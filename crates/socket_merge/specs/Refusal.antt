@@ -1,11 +1,10 @@
 -- Which socket calls are refused: the sockets of a host may list only so many sources that a full
 -- report of either family is one datagram, even where merging saves nothing.
-use Rattle.std.specs.Prelude.{ℕ, ◌+◌, not, nat_le, nat_lt, ◌||◌, Bool, true, false, is_some, List, [], ◌∷◌, length, map, Option, Some, None, if◌then◌else◌}
+use Rattle.std.specs.Prelude.{ℕ, ◌+◌, not, nat_le, nat_lt, ◌||◌, Bool, true, false, is_some, List, [], ◌∷◌, length, map, Option, Some, None}
 use Rattle.std.specs.List.{filter, flat_map}
 use Rattle.amt_values.specs.declared.address.Ip.{Ip}
 use Rattle.amt_values.specs.declared.address.Ip.TheVariants.{V4 as Address4, V6 as Address6}
 use Rattle.contract_words.specs.Conditions.{Conditions, first_holding}
-use Rattle.source_filter.specs.Filter.{FilterValue}
 use Rattle.source_filter.specs.declared.record.Record.{Record}
 use Rattle.source_filter.specs.declared.record.RecordKind.TheVariants.{IsIn}
 use Rattle.group_records.specs.declared.family.Family.{Family}

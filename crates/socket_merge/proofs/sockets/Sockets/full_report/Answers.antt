@@ -1,4 +1,4 @@
-use Rattle.std.proofs.Common.{◌≡◌, ℕ, ◌≤◌, Bool, true, false, max, List, Result, sym, ap, subst, ◌∙◌, arith}
+use Rattle.std.proofs.Common.{◌≡◌, ℕ, ◌≤◌, true, max, List, sym, ap, subst, ◌∙◌, arith}
 use Rattle.std.specs.List.{All, flat_map}
 use Rattle.std.specs.Result.{IfOk}
 use Rattle.std.proofs.lemmas.Result.{IfOk-weaker}
@@ -8,12 +8,12 @@ use Rattle.source_filter.specs.declared.record.Record.{Record}
 use Rattle.group_records.specs.Written.{IsOfFamily, report_length}
 use Rattle.group_records.specs.declared.family.Family.{Family}
 use Rattle.socket_merge.specs.FullReport.{family_by, full_report_of}
-use Rattle.socket_merge.specs.History.{AcceptedCall, Socket, latest, moment_read}
+use Rattle.socket_merge.specs.History.{AcceptedCall, Socket, moment_read}
 use Rattle.socket_merge.specs.Kept.{octets_of, said_of}
 use Rattle.socket_merge.specs.Refusal.{raw_report_length}
 use Rattle.socket_merge.specs.Sockets.{SocketsHold, SocketsValue}
 use Rattle.socket_merge.specs.declared.stored.Tally.{Tally}
-use Rattle.socket_merge.proofs.Calls.{Stands-of, value_of}
+use Rattle.socket_merge.proofs.Calls.{Stands-of}
 use Rattle.socket_merge.proofs.RawOctets.{octets-raw}
 use Rattle.socket_merge.proofs.Reports.{full_report-is, said-forwarded, said-of_family, said-short}
 use Rattle.socket_merge.proofs.sockets.Sockets.full_report.Goals as goal
@@ -21,7 +21,7 @@ use Rattle.socket_merge.proofs.sockets.Sockets.full_report.Goals.{After-report, 
 
 family : (c : After-report) → c.if-v6.family ≡ family_by c.args.v6
 family c = elim c.if-v6.branch [
-  then-v6 w ↦ w.family-is ∙ sym (ap family_by w.if-v6.true)
+  | then-v6 w ↦ w.family-is ∙ sym (ap family_by w.if-v6.true)
   | else-v6 w ↦ w.family-is ∙ sym (ap family_by w.if-v6.false)
 ]
 
@@ -35,15 +35,15 @@ says c = subst (λ (of : Family). IfOk c.report.result (Says of c.later-moment.r
 pub returns-clause-records : goal.returns-clause-records
 returns-clause-records c =
     λ (history : List AcceptedCall) holds.
-        let kept = subst (λ (value : SocketsValue). SocketsHold value history) (sym c.self.view_is) holds in
-        let read : c.later-moment.result ≡ moment_read c.args.at.now history = c.later-moment.ensures ∙ ap (λ (one : ℕ). max one c.args.at.now) kept.moment in
-        IfOk-weaker c.report.result (Says (family_by c.args.v6) c.later-moment.result c.args.keep_ms c.self.inside.named c.self.inside.groups)
-        (λ records. records ≡ full_report_of (family_by c.args.v6) history (moment_read c.args.at.now history) c.args.keep_ms)
-        (λ records is. is
-            ∙ full_report-is (family_by c.args.v6) history c.self.inside.named c.self.inside.groups c.later-moment.result c.args.keep_ms c.self.invariant.ordered
-            (Stands-of c.self.inside.moment c.self.inside.named c.self.inside.groups history c.self.invariant kept) (omega (arith, read)) kept.sockets
-            ∙ ap (λ (at : ℕ). full_report_of (family_by c.args.v6) history at c.args.keep_ms) read)
-        (says c)
+    let kept = subst (λ (value : SocketsValue). SocketsHold value history) (sym c.self.view_is) holds in
+    let read : c.later-moment.result ≡ moment_read c.args.at.now history = c.later-moment.ensures ∙ ap (λ (one : ℕ). max one c.args.at.now) kept.moment in
+    IfOk-weaker c.report.result (Says (family_by c.args.v6) c.later-moment.result c.args.keep_ms c.self.inside.named c.self.inside.groups)
+    (λ records. records ≡ full_report_of (family_by c.args.v6) history (moment_read c.args.at.now history) c.args.keep_ms)
+    (λ records is. is
+    ∙ full_report-is (family_by c.args.v6) history c.self.inside.named c.self.inside.groups c.later-moment.result c.args.keep_ms c.self.invariant.ordered
+    (Stands-of c.self.inside.moment c.self.inside.named c.self.inside.groups history c.self.invariant kept) (omega (arith, read)) kept.sockets
+    ∙ ap (λ (at : ℕ). full_report_of (family_by c.args.v6) history at c.args.keep_ms) read)
+    (says c)
 
 pub returns-clause-forwarded : goal.returns-clause-forwarded
 returns-clause-forwarded c =
@@ -56,7 +56,7 @@ pub returns-clause-family : goal.returns-clause-family
 returns-clause-family c =
     IfOk-weaker c.report.result (Says (family_by c.args.v6) c.later-moment.result c.args.keep_ms c.self.inside.named c.self.inside.groups) (All (IsOfFamily (family_by c.args.v6)))
     (λ records is. subst (All (IsOfFamily (family_by c.args.v6))) (sym is)
-        (said-of_family (family_by c.args.v6) c.self.inside.moment c.later-moment.result c.args.keep_ms c.self.inside.named c.self.inside.groups c.self.invariant))
+    (said-of_family (family_by c.args.v6) c.self.inside.moment c.later-moment.result c.args.keep_ms c.self.inside.named c.self.inside.groups c.self.invariant))
     (says c)
 
 short : (c : After-report) → IfOk c.report.result (λ records. report_length (family_by c.args.v6) records ≤ octets_of (family_by c.args.v6) c.self.inside.moment c.self.inside.groups)
@@ -65,7 +65,7 @@ short c =
     IfOk-weaker c.report.result (Says (family_by c.args.v6) c.later-moment.result c.args.keep_ms c.self.inside.named c.self.inside.groups)
     (λ records. report_length (family_by c.args.v6) records ≤ octets_of (family_by c.args.v6) c.self.inside.moment c.self.inside.groups)
     (λ records is. subst (λ (one : List Record). report_length (family_by c.args.v6) one ≤ octets_of (family_by c.args.v6) c.self.inside.moment c.self.inside.groups) (sym is)
-        (said-short (family_by c.args.v6) c.self.inside.moment c.later-moment.result c.args.keep_ms c.self.inside.named c.self.inside.groups c.self.invariant (omega arith)))
+    (said-short (family_by c.args.v6) c.self.inside.moment c.later-moment.result c.args.keep_ms c.self.inside.named c.self.inside.groups c.self.invariant (omega arith)))
     (says c)
 
 -- the octets by the tallies are those of the raw report
@@ -79,7 +79,7 @@ raw c history holds =
 pub returns-clause-short : goal.returns-clause-short
 returns-clause-short c =
     λ (history : List AcceptedCall) holds.
-        subst (λ (octets : ℕ). IfOk c.report.result (λ records. report_length (family_by c.args.v6) records ≤ octets)) (raw c history holds) (short c)
+    subst (λ (octets : ℕ). IfOk c.report.result (λ records. report_length (family_by c.args.v6) records ≤ octets)) (raw c history holds) (short c)
 
 pub returns-clause-fits : goal.returns-clause-fits
 returns-clause-fits c =
@@ -90,6 +90,6 @@ returns-clause-fits c =
 pub returns-clause-raw_fits : goal.returns-clause-raw_fits
 returns-clause-raw_fits c =
     λ (history : List AcceptedCall) holds.
-        let most = c.self.invariant.short (family_by c.args.v6) in
-        let same = raw c history holds in
-        omega arith
+    let most = c.self.invariant.short (family_by c.args.v6) in
+    let same = raw c history holds in
+    omega arith

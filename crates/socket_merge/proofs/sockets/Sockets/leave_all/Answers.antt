@@ -1,7 +1,7 @@
-use Rattle.std.proofs.Common.{◌≡◌, ℕ, ◌≤◌, List, sym, subst, ◌∙◌, arith}
+use Rattle.std.proofs.Common.{List, sym, subst, arith}
 use Rattle.socket_merge.specs.History.{AcceptedCall}
 use Rattle.socket_merge.specs.Sockets.{SocketsHold, SocketsValue}
-use Rattle.socket_merge.proofs.Calls.{IsLeft, consistent_left, holds_left, value_of}
+use Rattle.socket_merge.proofs.Calls.{consistent_left, holds_left}
 use Rattle.socket_merge.proofs.sockets.Sockets.leave_all.Goals as goal
 
 pub invariant_of-self : goal.invariant_of-self

@@ -1,17 +1,17 @@
-use Rattle.std.proofs.Common.{◌≡◌, ℕ, ◌+◌, ◌-◌, ◌≤◌, Bool, false, is_some, List, length, Option, Some, None, sym, ap, subst, ◌∙◌, arith}
+use Rattle.std.proofs.Common.{◌≡◌, ℕ, ◌+◌, ◌-◌, Bool, false, is_some, List, length, Option, None, sym, ap, subst, ◌∙◌, arith}
 use Rattle.std.specs.Option.{option_map}
 use Rattle.amt_values.specs.declared.address.Ip.{Ip}
 use Rattle.contract_words.specs.Conditions.{first_holding}
 use Rattle.source_filter.specs.Filter.{FilterValue}
 use Rattle.socket_merge.specs.History.{AcceptedCall, Open, Socket, socket_named}
-use Rattle.socket_merge.specs.Kept.{octets_besides, raw_octets, share_of, tally_at}
-use Rattle.socket_merge.specs.Refusal.{family_of, refusal_of}
+use Rattle.socket_merge.specs.Kept.{share_of, tally_at}
+use Rattle.socket_merge.specs.Refusal.{refusal_of}
 use Rattle.socket_merge.specs.Sockets.{SocketsHold, SocketsValue}
 use Rattle.socket_merge.specs.declared.fault.SocketFault.{SocketFault}
 use Rattle.socket_merge.specs.declared.fault.SocketFault.TheVariants.{Taken}
 use Rattle.socket_merge.specs.declared.stored.Share.{Share}
 use Rattle.socket_merge.specs.declared.stored.Tally.{Tally}
-use Rattle.socket_merge.proofs.Calls.{IsOpened, absent_by, besides_short, consistent_opened, drops_old, holds_opened, limit_opened, refusal_opened, taken_by, value_of}
+use Rattle.socket_merge.proofs.Calls.{absent_by, besides_short, consistent_opened, drops_old, holds_opened, limit_opened, refusal_opened, taken_by}
 use Rattle.socket_merge.proofs.Consistent.{HasRoom-of}
 use Rattle.socket_merge.proofs.Refused.{answers_accepted, answers_memory, answers_refused, limits_of, refusal-taken}
 use Rattle.socket_merge.proofs.sockets.Sockets.open.Goals as goal
@@ -19,10 +19,10 @@ use Rattle.socket_merge.proofs.sockets.Sockets.open.Goals as goal
 pub returns-then-is_some-clause-refused : goal.returns-then-is_some-clause-refused
 returns-then-is_some-clause-refused c =
     λ (history : List AcceptedCall) holds.
-        let kept = subst (λ (value : SocketsValue). SocketsHold value history) (sym c.self.view_is) holds in
-        answers_refused (refusal_of c.args.at.now (Open c.args.name.now c.args.group.now c.args.filter.now) history) Taken
-        (refusal-taken c.args.at.now c.args.name.now c.args.group.now c.args.filter.now history
-            (taken_by c.args.name.now c.self.inside.named history (sym (ap is_some c.find.ensures.found) ∙ sym c.is_some.ensures ∙ c.if-is_some.true) kept.sockets))
+    let kept = subst (λ (value : SocketsValue). SocketsHold value history) (sym c.self.view_is) holds in
+    answers_refused (refusal_of c.args.at.now (Open c.args.name.now c.args.group.now c.args.filter.now) history) Taken
+    (refusal-taken c.args.at.now c.args.name.now c.args.group.now c.args.filter.now history
+    (taken_by c.args.name.now c.self.inside.named history (sym (ap is_some c.find.ensures.found) ∙ sym c.is_some.ensures ∙ c.if-is_some.true) kept.sockets))
 
 pub limit_passed-requires-clause-short : goal.limit_passed-requires-clause-short
 limit_passed-requires-clause-short c =
@@ -43,11 +43,11 @@ absent name sockets found some is same none = absent_by name sockets (sym (ap is
 pub returns-in-Some-clause-refused : goal.returns-in-Some-clause-refused
 returns-in-Some-clause-refused c =
     λ (history : List AcceptedCall) holds.
-        let kept = subst (λ (value : SocketsValue). SocketsHold value history) (sym c.self.view_is) holds in
-        answers_refused (refusal_of c.args.at.now (Open c.args.name.now c.args.group.now c.args.filter.now) history) c.in-Some.fault
-        (refusal_opened c.self.inside.moment c.later-moment.result c.args.at.now c.args.name.now c.args.group.now c.args.filter.now c.self.inside.named c.self.inside.groups history c.self.invariant
-            c.later-moment.ensures (absent c.args.name.now c.self.inside.named c.find.result c.is_some.result c.find.ensures.found c.is_some.ensures c.if-is_some.false) kept
-            ∙ limited c.later-moment.result c.args.group.now c.share_of-share.result c.args.filter.now c.self.inside.groups c.limit_passed.result c.share_of-share.ensures c.limit_passed.ensures ∙ c.in-Some.is)
+    let kept = subst (λ (value : SocketsValue). SocketsHold value history) (sym c.self.view_is) holds in
+    answers_refused (refusal_of c.args.at.now (Open c.args.name.now c.args.group.now c.args.filter.now) history) c.in-Some.fault
+    (refusal_opened c.self.inside.moment c.later-moment.result c.args.at.now c.args.name.now c.args.group.now c.args.filter.now c.self.inside.named c.self.inside.groups history c.self.invariant
+    c.later-moment.ensures (absent c.args.name.now c.self.inside.named c.find.result c.is_some.result c.find.ensures.found c.is_some.ensures c.if-is_some.false) kept
+    ∙ limited c.later-moment.result c.args.group.now c.share_of-share.result c.args.filter.now c.self.inside.groups c.limit_passed.result c.share_of-share.ensures c.limit_passed.ensures ∙ c.in-Some.is)
 
 pub insert_both-requires-clause-room : goal.insert_both-requires-clause-room
 insert_both-requires-clause-room c =
@@ -56,11 +56,11 @@ insert_both-requires-clause-room c =
 pub returns-in-Err-clause-refused : goal.returns-in-Err-clause-refused
 returns-in-Err-clause-refused c =
     λ (history : List AcceptedCall) holds.
-        let kept = subst (λ (value : SocketsValue). SocketsHold value history) (sym c.self.view_is) holds in
-        answers_memory (refusal_of c.args.at.now (Open c.args.name.now c.args.group.now c.args.filter.now) history)
-        (refusal_opened c.self.inside.moment c.later-moment.result c.args.at.now c.args.name.now c.args.group.now c.args.filter.now c.self.inside.named c.self.inside.groups history c.self.invariant
-            c.later-moment.ensures (absent c.args.name.now c.self.inside.named c.find.result c.is_some.result c.find.ensures.found c.is_some.ensures c.if-is_some.false) kept
-            ∙ limited c.later-moment.result c.args.group.now c.share_of-share.result c.args.filter.now c.self.inside.groups c.limit_passed.result c.share_of-share.ensures c.limit_passed.ensures ∙ c.in_default.is)
+    let kept = subst (λ (value : SocketsValue). SocketsHold value history) (sym c.self.view_is) holds in
+    answers_memory (refusal_of c.args.at.now (Open c.args.name.now c.args.group.now c.args.filter.now) history)
+    (refusal_opened c.self.inside.moment c.later-moment.result c.args.at.now c.args.name.now c.args.group.now c.args.filter.now c.self.inside.named c.self.inside.groups history c.self.invariant
+    c.later-moment.ensures (absent c.args.name.now c.self.inside.named c.find.result c.is_some.result c.find.ensures.found c.is_some.ensures c.if-is_some.false) kept
+    ∙ limited c.later-moment.result c.args.group.now c.share_of-share.result c.args.filter.now c.self.inside.groups c.limit_passed.result c.share_of-share.ensures c.limit_passed.ensures ∙ c.in_default.is)
 
 pub invariant_of-self-2 : goal.invariant_of-self-2
 invariant_of-self-2 c =
@@ -81,15 +81,15 @@ invariant_of-self-2 c =
 pub returns-clause-stands : goal.returns-clause-stands
 returns-clause-stands c =
     λ (history : List AcceptedCall) holds.
-        holds_opened c.self.inside.moment c.later-moment.result c.args.at.now c.args.name.now c.args.group.now c.args.filter.now c.self.inside.named c.insert_both.new.named c.self.inside.groups
-        c.insert_both.new.groups c.drop_old.new.self history c.self.invariant c.later-moment.ensures
-        (record {
-          rest = c.in-Ok.ensures.named;
-          tally = c.in-Ok.ensures.groups;
-          ordered_between = c.in-Ok.ensures.ordered;
-          fresh = c.drop_old.ensures.fresh;
-          ordered = c.drop_old.ensures.ordered;
-        }) (subst (λ (value : SocketsValue). SocketsHold value history) (sym c.self.view_is) holds)
+    holds_opened c.self.inside.moment c.later-moment.result c.args.at.now c.args.name.now c.args.group.now c.args.filter.now c.self.inside.named c.insert_both.new.named c.self.inside.groups
+    c.insert_both.new.groups c.drop_old.new.self history c.self.invariant c.later-moment.ensures
+    (record {
+      rest = c.in-Ok.ensures.named;
+      tally = c.in-Ok.ensures.groups;
+      ordered_between = c.in-Ok.ensures.ordered;
+      fresh = c.drop_old.ensures.fresh;
+      ordered = c.drop_old.ensures.ordered;
+    }) (subst (λ (value : SocketsValue). SocketsHold value history) (sym c.self.view_is) holds)
 
 pub returns-clause-drops : goal.returns-clause-drops
 returns-clause-drops c = drops_old c.later-moment.result c.insert_both.new.named c.insert_both.new.groups c.drop_old.new.self c.drop_old.ensures.fresh c.drop_old.ensures.ordered
@@ -97,8 +97,8 @@ returns-clause-drops c = drops_old c.later-moment.result c.insert_both.new.named
 pub returns-clause-refused : goal.returns-clause-refused
 returns-clause-refused c =
     λ (history : List AcceptedCall) holds.
-        let kept = subst (λ (value : SocketsValue). SocketsHold value history) (sym c.self.view_is) holds in
-        answers_accepted (refusal_of c.args.at.now (Open c.args.name.now c.args.group.now c.args.filter.now) history)
-        (refusal_opened c.self.inside.moment c.later-moment.result c.args.at.now c.args.name.now c.args.group.now c.args.filter.now c.self.inside.named c.self.inside.groups history c.self.invariant
-            c.later-moment.ensures (absent c.args.name.now c.self.inside.named c.find.result c.is_some.result c.find.ensures.found c.is_some.ensures c.if-is_some.false) kept
-            ∙ limited c.later-moment.result c.args.group.now c.share_of-share.result c.args.filter.now c.self.inside.groups c.limit_passed.result c.share_of-share.ensures c.limit_passed.ensures ∙ c.in_default.is)
+    let kept = subst (λ (value : SocketsValue). SocketsHold value history) (sym c.self.view_is) holds in
+    answers_accepted (refusal_of c.args.at.now (Open c.args.name.now c.args.group.now c.args.filter.now) history)
+    (refusal_opened c.self.inside.moment c.later-moment.result c.args.at.now c.args.name.now c.args.group.now c.args.filter.now c.self.inside.named c.self.inside.groups history c.self.invariant
+    c.later-moment.ensures (absent c.args.name.now c.self.inside.named c.find.result c.is_some.result c.find.ensures.found c.is_some.ensures c.if-is_some.false) kept
+    ∙ limited c.later-moment.result c.args.group.now c.share_of-share.result c.args.filter.now c.self.inside.groups c.limit_passed.result c.share_of-share.ensures c.limit_passed.ensures ∙ c.in_default.is)
