@@ -61,7 +61,7 @@ none_filtered p [] none = refl
 none_filtered p (x ∷ xs) none =
     filtered_first (p x) x xs (filter (λ y. not (p y)) xs) (count_by p xs) (none_filtered p xs) (sym (sum_by-cons (λ y. cond (p y) 1 0) x xs) ∙ none)
 
-some_is : {X : Type 0} (one other : X) → Some one ≡ Some other → one ≡ other
+pub some_is : {X : Type 0} (one other : X) → Some one ≡ Some other → one ≡ other
 some_is one other same = cc
 
 closed_first : (measure : Socket → ℕ) (test : Bool) (first socket : Socket) (found : Option Socket) (more filtered : List Socket) (rest : ℕ)
@@ -151,13 +151,3 @@ named-refiltered name other filter (first ∷ more) =
 
 pub AreApart-changed : (name : List ℕ) (filter : FilterValue) (sockets : List Socket) → AreApart sockets → AreApart (map (refiltered name filter) sockets)
 AreApart-changed name filter sockets apart other = omega (arith, apart other, named-refiltered name other filter sockets)
-
-found_first : (test : Bool) (first socket : Socket) (found : Option Socket) (name : List ℕ) → same_name name first.name ≡ test → (found ≡ Some socket → same_name name socket.name ≡ true)
-    → cond test (Some first) found ≡ Some socket → same_name name socket.name ≡ true
-found_first true first socket found name same after is = ap (λ (one : Socket). same_name name one.name) (sym (some_is first socket is)) ∙ same
-found_first false first socket found name same after is = after is
-
--- the socket that is found has the name
-pub found_has_name : (name : List ℕ) (socket : Socket) (sockets : List Socket) → socket_named name sockets ≡ Some socket → same_name name socket.name ≡ true
-found_has_name name socket [] is = absurd cc
-found_has_name name socket (first ∷ more) is = found_first (same_name name first.name) first socket (socket_named name more) name refl (found_has_name name socket more) is

@@ -16,6 +16,7 @@ use Rattle.socket_merge.specs.Sockets.{AreOfGroup, Farewell, HasNoOldFarewell, I
 use Rattle.socket_merge.specs.declared.fault.SocketFault.{SocketFault}
 use Rattle.socket_merge.specs.declared.stored.Share.{Share}
 use Rattle.socket_merge.specs.declared.stored.Tally.{Tally}
+use Rattle.socket_merge.proofs.Amounts.{some_is}
 use Rattle.socket_merge.proofs.ByGroup.{AreAt, AreAt-ordered, left_in-farewells}
 use Rattle.socket_merge.proofs.Consistent.{IsConsistent-closed, IsConsistent-fresh, IsConsistent-left, IsConsistent-replaced, IsFit-changed, IsFit-opened}
 use Rattle.socket_merge.proofs.Counted.{AreTallied, Counts-of, CountsOne-of, IsNamed, others_changed, others_opened, replaced}
@@ -54,12 +55,9 @@ pub record IsFound (name : List ℕ) (sockets : List Socket) (told : Ip × Share
 abbrev pub told_of : Socket → Ip × Share
 told_of socket = (socket.group, share_of socket.filter)
 
-pair_is : (one other : Ip × Share) → Some one ≡ Some other → one ≡ other
-pair_is one other same = cc
-
 found_by : (name : List ℕ) (sockets : List Socket) (found : Option Socket) (told : Ip × Share) → socket_named name sockets ≡ found → Some told ≡ option_map told_of found → IsFound name sockets told
 found_by name sockets None told is same = absurd cc
-found_by name sockets (Some socket) told is same = record { socket = socket; found = is; is = pair_is told (told_of socket) same }
+found_by name sockets (Some socket) told is same = record { socket = socket; found = is; is = some_is told (told_of socket) same }
 
 pub IsFound-of : (name : List ℕ) (sockets : List Socket) (told : Ip × Share) → Some told ≡ option_map told_of (socket_named name sockets) → IsFound name sockets told
 IsFound-of name sockets told same = found_by name sockets (socket_named name sockets) told refl same
@@ -288,20 +286,20 @@ besides_short moment later group sockets tallies consistent onward =
     omega (arith, consistent.short (family_of group), octets_besides-le (family_of group) moment later group tallies onward)
 
 -- what the limits of another filter ask for
-pub record MayChange (later : ℕ) (told : Ip × Share) (more : ℕ) (sockets : List Socket) (tallies : List (Ip × Tally)) : Type 0 where
+pub record MayChange (later : ℕ) (told : Ip × Share) (tallies : List (Ip × Tally)) : Type 0 where
   pub some : ltb 0 (tally_at tallies told.0).sockets ≡ true
   pub before : told.1.sources ≤ (tally_at tallies told.0).sources
   pub short : octets_besides (family_of told.0) later told.0 tallies ≤ 1400
 
-pub MayChange-of : (moment later : ℕ) (name : List ℕ) (told : Ip × Share) (more : ℕ) (sockets : List Socket) (tallies : List (Ip × Tally)) → IsConsistent moment sockets tallies → moment ≤ later
-    → Some told ≡ option_map told_of (socket_named name sockets) → MayChange later told more sockets tallies
-MayChange-of moment later name told more sockets tallies consistent onward same =
+pub MayChange-of : (moment later : ℕ) (name : List ℕ) (told : Ip × Share) (sockets : List Socket) (tallies : List (Ip × Tally)) → IsConsistent moment sockets tallies → moment ≤ later
+    → Some told ≡ option_map told_of (socket_named name sockets) → MayChange later told tallies
+MayChange-of moment later name told sockets tallies consistent onward same =
     let found = IsFound-of name sockets told same in
     let socket = found.socket in
     let named : IsNamed name socket sockets = record { apart = consistent.apart; found = found.found } in
     let counts = Counts-of (tally_at tallies socket.group) socket.group sockets (consistent.tallied socket.group) in
     let here = CountsOne-of name socket sockets (tally_at tallies socket.group) named counts in
-    subst (λ (pair : Ip × Share). MayChange later pair more sockets tallies) (sym found.is)
+    subst (λ (pair : Ip × Share). MayChange later pair tallies) (sym found.is)
     (record {
       some = lt-ltb 0 (tally_at tallies socket.group).sockets here.number;
       before = here.sources;

@@ -7,6 +7,7 @@ use Rattle.socket_merge.specs.Interface.{is_wanted, left_at}
 use Rattle.socket_merge.specs.FullReport.{is_recent, longest_farewell}
 use Rattle.socket_merge.specs.Refusal.{may_be_due}
 use Rattle.socket_merge.specs.Sockets.{IsKept}
+use Rattle.socket_merge.proofs.Amounts.{some_is}
 
 -- what is kept of a farewell, by when the group was left and the moment of the newest call
 pub record KeptBy (left : Option ℕ) (at : ℕ) (kept : Option ℕ) : Type 0 where
@@ -66,9 +67,6 @@ pub record Follows (wanted before : Bool) (moment : ℕ) (kept after : Option �
   pub leaves : wanted ≡ false → before ≡ true → after ≡ Some moment
   pub stays : wanted ≡ false → before ≡ false → after ≡ kept
 
-some_is : (one other : ℕ) → Some one ≡ Some other → one ≡ other
-some_is one other same = cc
-
 kept_by : (wanted before : Bool) (at moment : ℕ) (left kept after : Option ℕ) → at ≤ moment → KeptBy left at kept → Follows wanted before moment kept after
     → KeptBy (cond wanted None (cond before (Some moment) left)) moment after
 kept_by true before at moment left kept after onward is follows = record {
@@ -103,7 +101,3 @@ fresh_by false left at (Some other) due is = record {
 pub IsKept-fresh : (history : List AcceptedCall) (group : Ip) (kept : Option ℕ) → IsKept history group kept → IsKept history group (cond (may_be_due (latest history) kept) kept None)
 IsKept-fresh history group kept is =
     IsKept-of history group (cond (may_be_due (latest history) kept) kept None) (fresh_by (may_be_due (latest history) kept) (left_at history group) (latest history) kept refl (KeptBy-of history group kept is))
-
--- nothing was left before the first call
-pub IsKept-none : (group : Ip) → IsKept [] group None
-IsKept-none group = record { honest = λ moment same. absurd cc; there = λ moment same recent. absurd cc }

@@ -25,13 +25,13 @@ returns-in_default-clause-refused c =
 pub limit_passed-requires-clause-before : goal.limit_passed-requires-clause-before
 limit_passed-requires-clause-before c =
     let later = c.later-moment.ensures in
-    (MayChange-of c.self.inside.moment c.later-moment.result c.args.name.now (c.in-Some.group, c.in-Some.before) 0 c.self.inside.named c.self.inside.groups c.self.invariant (omega arith)
+    (MayChange-of c.self.inside.moment c.later-moment.result c.args.name.now (c.in-Some.group, c.in-Some.before) c.self.inside.named c.self.inside.groups c.self.invariant (omega arith)
     (sym c.in-Some.is ∙ c.find.ensures.found)).before
 
 pub limit_passed-requires-clause-short : goal.limit_passed-requires-clause-short
 limit_passed-requires-clause-short c =
     let later = c.later-moment.ensures in
-    (MayChange-of c.self.inside.moment c.later-moment.result c.args.name.now (c.in-Some.group, c.in-Some.before) 0 c.self.inside.named c.self.inside.groups c.self.invariant (omega arith)
+    (MayChange-of c.self.inside.moment c.later-moment.result c.args.name.now (c.in-Some.group, c.in-Some.before) c.self.inside.named c.self.inside.groups c.self.invariant (omega arith)
     (sym c.in-Some.is ∙ c.find.ensures.found)).short
 
 limited : (later : ℕ) (group : Ip) (before after : Share) (filter : FilterValue) (tallies : List (Ip × Tally)) (passed : Option SocketFault) → after ≡ share_of filter
@@ -62,7 +62,7 @@ returns-in-Err-clause-refused c =
 pub change-requires-clause-some : goal.change-requires-clause-some
 change-requires-clause-some c =
     let later = c.later-moment.ensures in
-    (MayChange-of c.self.inside.moment c.later-moment.result c.args.name.now (c.in-Some.group, c.in-Some.before) 0 c.self.inside.named c.self.inside.groups c.self.invariant (omega arith)
+    (MayChange-of c.self.inside.moment c.later-moment.result c.args.name.now (c.in-Some.group, c.in-Some.before) c.self.inside.named c.self.inside.groups c.self.invariant (omega arith)
     (sym c.in-Some.is ∙ c.find.ensures.found)).some
 
 pub change-requires-clause-room : goal.change-requires-clause-room
