@@ -48,6 +48,7 @@ impl NamedSockets {
             (socket_named name.now self.now) }
         ensures few { length self.now < 2 ^ 63 }
     {
+        // A count of sockets never overflows by one more.
         let sockets = self.sockets.len();
         prove!(sockets < 1 << 63);
         let socket = self.sockets.get(name)?;
