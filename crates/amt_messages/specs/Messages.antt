@@ -1,17 +1,13 @@
 -- Which messages there are, and which may be written.
 use Rattle.std.specs.Prelude.{◌≡◌, ◌+◌, ◌<◌, ◌≤◌, ◌^◌, false, length, Option, Some, None}
 use Rattle.amt_values.specs.Octets.{AreOctets}
-use Rattle.amt_values.specs.Address.{is_mapped}
+use Rattle.amt_values.specs.Address.{IsAddress, is_mapped}
 use Rattle.amt_values.specs.EndpointValue.{EndpointValue}
-use Rattle.amt_values.specs.declared.address.Ip.{Ip}
-use Rattle.amt_values.specs.declared.address.Ip.TheVariants.{V4, V6}
 use Rattle.amt_values.specs.declared.mac.Mac48.{Mac48}
 use Rattle.amt_messages.specs.StatedLength.{inner_length_of}
 use Rattle.amt_messages.specs.Layout.{named_gateway_octets}
 use Rattle.amt_messages.specs.declared.message.Message.{Message}
 use Rattle.amt_messages.specs.declared.message.Message.TheVariants.{Discovery, Advertisement, Request, Query, Update, Multicast, Teardown}
-
--- the address has 32 or 128 bits
 
 -- a response MAC has six octets
 abbrev pub IsMac : Mac48 → Type 0

@@ -8,6 +8,9 @@ ghost use Rattle.amt_messages.specs.Layout.{gateway_octets};
 use amt_values::{Bytes, Endpoint, Mac48, octets_of_address};
 use std::alloc::{AllocError, Global};
 
+/// A Query of either family, and a Teardown, fit into so many octets.
+const ROOM: usize = 128;
+
 // The first 12 octets of a Query, an Update or a Teardown: type, flags, MAC and nonce.
 pub fn write_head(
     alloc: Global,
@@ -19,7 +22,7 @@ pub fn write_head(
     ensures written { IfOk result (λ bytes. bytes ≡ kind ∷ flags ∷ (mac.now.0 ++ big_bytes 4 nonce)) }
     ensures mac { OnOk result (length mac.now.0 ≡ 6) }
 {
-    let mut bytes = Bytes::new(alloc);
+    let mut bytes = Bytes::with_room(alloc, ROOM)?;
     bytes.append(&[kind, flags])?;
     bytes.append(&mac.0)?;
     bytes.append(&nonce.to_be_bytes())?;

@@ -26,7 +26,7 @@ pub fn write_multicast(alloc: Global, packet: &Bytes) -> Result<Bytes, AllocErro
     ensures written { IfOk result (λ bytes. bytes ≡ spelling_of (Multicast packet.now)) }
     ensures canonical { IfOk result (λ bytes. IsCanonical (Multicast packet.now) bytes) }
 {
-    let mut bytes = Bytes::new(alloc);
+    let mut bytes = Bytes::with_room(alloc, packet.len().saturating_add(2))?;
     bytes.append(&[6, 0])?;
     bytes.append(packet.as_slice())?;
     Ok(bytes)

@@ -24,7 +24,7 @@ fn write_discovery(alloc: Global, nonce: u32) -> Result<Bytes, AllocError>
     ensures written { IfOk result (λ bytes. bytes ≡ spelling_of (Discovery nonce)) }
     ensures canonical { IfOk result (λ bytes. IsCanonical (Discovery nonce) bytes) }
 {
-    let mut bytes = Bytes::new(alloc);
+    let mut bytes = Bytes::with_room(alloc, 8)?;
     bytes.append(&[1, 0, 0, 0])?;
     bytes.append(&nonce.to_be_bytes())?;
     Ok(bytes)
@@ -34,7 +34,7 @@ fn write_advertisement(alloc: Global, nonce: u32, relay: Ip) -> Result<Bytes, Al
     ensures written { IfOk result (λ bytes. bytes ≡ spelling_of (Advertisement nonce relay)) }
     ensures canonical { IfOk result (λ bytes. IsCanonical (Advertisement nonce relay) bytes) }
 {
-    let mut bytes = Bytes::new(alloc);
+    let mut bytes = Bytes::with_room(alloc, 24)?;
     bytes.append(&[2, 0, 0, 0])?;
     bytes.append(&nonce.to_be_bytes())?;
     match relay {
@@ -48,7 +48,7 @@ fn write_request(alloc: Global, v6: bool, nonce: u32) -> Result<Bytes, AllocErro
     ensures written { IfOk result (λ bytes. bytes ≡ spelling_of (Request v6 nonce)) }
     ensures canonical { IfOk result (λ bytes. IsCanonical (Request v6 nonce) bytes) }
 {
-    let mut bytes = Bytes::new(alloc);
+    let mut bytes = Bytes::with_room(alloc, 8)?;
     bytes.append(&[3, request_flags(v6), 0, 0])?;
     bytes.append(&nonce.to_be_bytes())?;
     Ok(bytes)

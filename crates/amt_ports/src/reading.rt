@@ -1,15 +1,16 @@
 //! Reading an input to its end. It must not know what the bytes spell.
 
-ghost use Rattle.std.specs.Prelude.{◌≡◌, ◌+◌, ◌≤◌, length, IfOk, IsErrOf};
+ghost use Rattle.std.specs.Prelude.{◌≡◌, ◌≢◌, ◌+◌, ◌≤◌, ◌<◌, ◌^◌, ◌++◌, length, replicate, vec_len, OnOk, OnErr, IfOk, IfErr, IsErrOf};
+ghost use Rattle.std.specs.Io.KnownBytes.{Keeps};
 ghost use Rattle.amt_ports.specs.Causes.{Rose};
-ghost use Rattle.amt_ports.specs.Reading.{TakesAll, TakesAtMost, TakesMore};
+ghost use Rattle.amt_ports.specs.Reading.{TakesAll, TakesAtMost, TakesMore, TakesNext};
 
 use crate::Source;
 use amt_values::{Bytes, INPUT_LIMIT};
 use std::alloc::Global;
 
-/// How many bytes one read asks for.
-pub const READ_SIZE: usize = 4096;
+/// How many bytes one read asks for: as many as a pipe holds.
+pub const READ_SIZE: usize = 65_536;
 
 /// Why an input was not read to its end.
 #[derive(Clone, Copy, Debug, PartialEq, Eq)]
@@ -20,6 +21,44 @@ pub enum ReadAllFault {
     TooLong,
     /// Memory was refused.
     Memory,
+}
+
+// More room, with zeros in it.
+fn add_room(all: &mut Vec<u8>, size: usize) -> Result<(), ReadAllFault>
+    requires { vec_len all.old + size < 2 ^ 62 }
+    ensures room { OnOk result (all.new.items ≡ all.old.items ++ replicate size 0) }
+    ensures len { OnOk result (vec_len all.new ≡ vec_len all.old + size) }
+    ensures fault { IfErr result (λ fault. fault ≡ ReadAllFault.Memory) }
+{
+    match all.resize(all.len() + size, 0) {
+        Ok(()) => Ok(()),
+        Err(_) => Err(ReadAllFault::Memory),
+    }
+}
+
+// Reads the next bytes into the room after those that were read before.
+fn read_more<S: Source>(source: &mut S, all: &mut Vec<u8>) -> Result<usize, ReadAllFault>
+    requires { vec_len all.old ≤ INPUT_LIMIT }
+    ensures next { IfOk result (TakesNext READ_SIZE (S.left source.old) (S.left source.new)
+        all.old.items all.new.items) }
+    ensures kept { OnErr result (Keeps (S.left source.old) (S.left source.new)) }
+    ensures later { S.faults source.old ≤ S.faults source.new }
+    ensures fault { IfErr result (λ fault. fault ≢ ReadAllFault.TooLong) }
+    ensures read_fault { IsErrOf result ReadAllFault.ReadFault
+        → Rose (S.faults source.old) (S.faults source.new) }
+    ensures quiet { ¬ IsErrOf result ReadAllFault.ReadFault
+        → S.faults source.new ≡ S.faults source.old }
+{
+    let start = all.len();
+    match add_room(all, READ_SIZE) {
+        Ok(()) => {}
+        Err(fault) => return Err(fault),
+    }
+    let Ok(count) = source.read(all.slice_mut(start..)) else {
+        return Err(ReadAllFault::ReadFault);
+    };
+    all.truncate(start + count);
+    Ok(count)
 }
 
 /// Reads to the end of input. What was taken before a refusal is lost: the source gives it no more.
@@ -40,21 +79,17 @@ pub fn read_all<S: Source>(alloc: Global, source: &mut S) -> Result<Bytes, ReadA
     ensures quiet { ¬ IsErrOf result ReadAllFault.ReadFault
         → S.faults source.new ≡ S.faults source.old }
 {
-    let mut all = Bytes::new(alloc);
-    let mut buffer = [0; READ_SIZE];
+    let mut all = Vec::new(alloc);
     loop {
-        let Ok(count) = source.read(&mut buffer) else {
-            return Err(ReadAllFault::ReadFault);
+        let count = match read_more(source, &mut all) {
+            Ok(count) => count,
+            Err(fault) => return Err(fault),
         };
         if count == 0 {
-            return Ok(all);
+            return Ok(Bytes::from(all));
         }
-        if count > INPUT_LIMIT - all.len() {
+        if all.len() > INPUT_LIMIT {
             return Err(ReadAllFault::TooLong);
-        }
-        let (read, _) = buffer.split_at(count);
-        if all.append(read).is_err() {
-            return Err(ReadAllFault::Memory);
         }
     }
 }

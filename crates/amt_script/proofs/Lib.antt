@@ -3,7 +3,8 @@ pub mod Heard
 pub mod Judging
 pub mod Lawful
 pub mod Printed
-pub mod Rows
+pub mod RowLines
+mod Rows
 pub mod Running
 pub mod Runs
 pub mod Says

@@ -1,4 +1,3 @@
-pub mod Counting
 pub mod Fault
 pub mod Printed
 pub mod Reading

@@ -50,13 +50,17 @@ refusal_text (Long need have) = codes "long " ++ (decimal need ++ (codes " " ++ 
 abbrev pub sum_text : ℕ → List ℕ
 sum_text sum = encode_lower (to_be_bytes w16 sum)
 
+-- a wrong checksum: the one wanted, and the one there
+abbrev pub sums_text : ℕ → ℕ → List ℕ
+sums_text want have = codes "sum " ++ (sum_text want ++ (codes " " ++ sum_text have))
+
 -- what is wrong with the datagram in an Update (RFC 791, section 3.1; RFC 8200, sections 3 and 4)
 abbrev pub inner_text : InnerFault → List ℕ
 inner_text (inner.Version version) = codes "version " ++ decimal version
 inner_text (inner.ShortHeader need have) = codes "short " ++ (decimal need ++ (codes " " ++ decimal have))
 inner_text (inner.HeaderLength words) = codes "header " ++ decimal words
 inner_text (inner.TotalLength want have) = codes "length " ++ (decimal want ++ (codes " " ++ decimal have))
-inner_text (inner.HeaderSum want have) = codes "sum " ++ (sum_text want ++ (codes " " ++ sum_text have))
+inner_text (inner.HeaderSum want have) = sums_text want have
 inner_text (inner.Fragment bits) = codes "fragment " ++ decimal bits
 inner_text (inner.Protocol protocol) = codes "protocol " ++ decimal protocol
 inner_text (inner.Extension kind) = codes "extension " ++ decimal kind
@@ -66,7 +70,7 @@ abbrev pub report_text : ReportFault → List ℕ
 report_text (report.Short need have) = codes "short " ++ (decimal need ++ (codes " " ++ decimal have))
 report_text (report.Kind kind) = codes "kind " ++ decimal kind
 report_text (report.OldReport kind) = codes "old " ++ decimal kind
-report_text (report.Sum want have) = codes "sum " ++ (sum_text want ++ (codes " " ++ sum_text have))
+report_text (report.Sum want have) = sums_text want have
 report_text (report.RecordShort index) = codes "record " ++ decimal index
 report_text (report.SourceShort index) = codes "sources " ++ decimal index
 
@@ -129,10 +133,13 @@ unfoldable pub send_text : OneSend → List ℕ
 send_text send =
     codes "> " ++ (peer_text (peer_of send.to) ++ (codes " " ++ (hex_text send.bytes ++ (10 ∷ []))))
 
+-- `= N OUTCOME`
+abbrev pub answer_line : ℕ → Outcome → List ℕ
+answer_line number outcome = codes "= " ++ (decimal number ++ (codes " " ++ (outcome_text outcome ++ (10 ∷ []))))
+
 -- `= N OUTCOME`, and a line for each send
 unfoldable pub step_text : ℕ → Outcome → List OneSend → List ℕ
-step_text number outcome sends =
-    codes "= " ++ (decimal number ++ (codes " " ++ (outcome_text outcome ++ (10 ∷ flat_map send_text sends))))
+step_text number outcome sends = answer_line number outcome ++ flat_map send_text sends
 
 -- a filter mode (RFC 3376, section 3.1)
 abbrev pub mode_text : Mode → List ℕ
@@ -153,10 +160,13 @@ row_text row =
     ++ (ip_text row.group
     ++ (codes " " ++ (mode_text row.filter.mode ++ (codes " " ++ (sources_text row.filter.sources ++ (10 ∷ []))))))))
 
+-- `= N rows R`
+abbrev pub count_line : ℕ → ℕ → List ℕ
+count_line number count = codes "= " ++ (decimal number ++ (codes " rows " ++ (decimal count ++ (10 ∷ []))))
+
 -- `= N rows R`, and a line for each of the R rows
 unfoldable pub rows_text : ℕ → List Row → List ℕ
-rows_text number rows =
-    codes "= " ++ (decimal number ++ (codes " rows " ++ (decimal (length rows) ++ (10 ∷ flat_map row_text rows))))
+rows_text number rows = count_line number (length rows) ++ flat_map row_text rows
 
 -- the events among items
 abbrev pub event_in : RelayItem → Option Event

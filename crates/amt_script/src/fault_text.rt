@@ -1,125 +1,122 @@
 //! The texts of what is wrong with a datagram, a report, a packet or a limit. It knows no script.
 
-ghost use Rattle.std.specs.Prelude.{◌≡◌, IfOk, string_bytes};
-ghost use Rattle.endpoint_membership.specs.declared.limits.LimitFault.TheVariants.{Sources};
-ghost use Rattle.relay_machine.specs.declared.outcome.Outcome.TheVariants.{NotForwarded as NotForwardedFor};
-ghost use Rattle.amt_script.specs.Texts.{head_text, inner_text, limit_text, outcome_text, report_text, sum_text, unlawful_text};
+ghost use Rattle.std.specs.Prelude.{◌≡◌, ◌++◌, OnOk};
+ghost use Rattle.amt_script.specs.Texts.{head_text, inner_text, limit_text, not_forwarded_text, refusal_text, report_text, sum_text, sums_text, unlawful_text};
 
-use amt_values::{Bytes, Ip, print_ip};
+use amt_messages::Refused;
+use amt_values::Bytes;
 use endpoint_membership::LimitFault;
 use inner_datagrams::{HeadFault, InnerFault};
 use relay_machine::{NotForwarded, Unlawful};
 use source_filter::ReportFault;
-use std::alloc::{AllocError, Global};
+use std::alloc::AllocError;
 
-fn print_sum(alloc: Global, sum: u16) -> Result<String, AllocError>
-    ensures { IfOk result (λ text. string_bytes text ≡ sum_text sum) }
+/// Why octets are no message.
+pub fn append_refusal(text: &mut Bytes, refusal: &Refused) -> Result<(), AllocError>
+    ensures { OnOk result (text.new ≡ text.old ++ refusal_text refusal.now) }
 {
-    hex::encode(alloc, sum.to_be_bytes())
-}
-
-fn print_inner(alloc: Global, fault: &InnerFault) -> Result<String, AllocError>
-    ensures { IfOk result (λ text. string_bytes text ≡ inner_text fault.now) }
-{
-    match *fault {
-        InnerFault::Version(version) => format!(in alloc; "version {version}"),
-        InnerFault::ShortHeader(need, have) => format!(in alloc; "short {need} {have}"),
-        InnerFault::HeaderLength(words) => format!(in alloc; "header {words}"),
-        InnerFault::TotalLength(want, have) => format!(in alloc; "length {want} {have}"),
-        InnerFault::HeaderSum(want, have) => {
-            let want = print_sum(alloc, want)?;
-            let have = print_sum(alloc, have)?;
-            format!(in alloc; "sum {want} {have}")
-        }
-        InnerFault::Fragment(bits) => format!(in alloc; "fragment {bits}"),
-        InnerFault::Protocol(protocol) => format!(in alloc; "protocol {protocol}"),
-        InnerFault::Extension(kind) => format!(in alloc; "extension {kind}"),
+    match *refusal {
+        Refused::Empty => text.append(b"empty"),
+        Refused::Version(version) => write!(text, "version {version}"),
+        Refused::Kind(kind) => write!(text, "kind {kind}"),
+        Refused::NoInner => text.append(b"noinner"),
+        Refused::Short(need, have) => write!(text, "short {need} {have}"),
+        Refused::Long(need, have) => write!(text, "long {need} {have}"),
     }
 }
 
-fn print_report(alloc: Global, fault: &ReportFault) -> Result<String, AllocError>
-    ensures { IfOk result (λ text. string_bytes text ≡ report_text fault.now) }
+// A checksum, in four hexadecimal digits.
+fn append_sum(text: &mut Bytes, sum: u16) -> Result<(), AllocError>
+    ensures { OnOk result (text.new ≡ text.old ++ sum_text sum) }
+{
+    let mut digits = [0; 4];
+    let _ = hex::encode_to_slice(sum.to_be_bytes(), &mut digits);
+    text.append(&digits)
+}
+
+// The checksum that is wanted, and the one that is there.
+fn append_sums(text: &mut Bytes, want: u16, have: u16) -> Result<(), AllocError>
+    ensures { OnOk result (text.new ≡ text.old ++ sums_text want have) }
+{
+    text.append(b"sum ")?;
+    append_sum(text, want)?;
+    text.append(b" ")?;
+    append_sum(text, have)
+}
+
+fn append_inner(text: &mut Bytes, fault: &InnerFault) -> Result<(), AllocError>
+    ensures { OnOk result (text.new ≡ text.old ++ inner_text fault.now) }
 {
     match *fault {
-        ReportFault::Short(need, have) => format!(in alloc; "short {need} {have}"),
-        ReportFault::Kind(kind) => format!(in alloc; "kind {kind}"),
-        ReportFault::OldReport(kind) => format!(in alloc; "old {kind}"),
-        ReportFault::Sum(want, have) => {
-            let want = print_sum(alloc, want)?;
-            let have = print_sum(alloc, have)?;
-            format!(in alloc; "sum {want} {have}")
-        }
-        ReportFault::RecordShort(index) => format!(in alloc; "record {index}"),
-        ReportFault::SourceShort(index) => format!(in alloc; "sources {index}"),
+        InnerFault::Version(version) => write!(text, "version {version}"),
+        InnerFault::ShortHeader(need, have) => write!(text, "short {need} {have}"),
+        InnerFault::HeaderLength(words) => write!(text, "header {words}"),
+        InnerFault::TotalLength(want, have) => write!(text, "length {want} {have}"),
+        InnerFault::HeaderSum(want, have) => append_sums(text, want, have),
+        InnerFault::Fragment(bits) => write!(text, "fragment {bits}"),
+        InnerFault::Protocol(protocol) => write!(text, "protocol {protocol}"),
+        InnerFault::Extension(kind) => write!(text, "extension {kind}"),
     }
 }
 
-pub fn print_unlawful(alloc: Global, fault: &Unlawful) -> Result<String, AllocError>
-    ensures { IfOk result (λ text. string_bytes text ≡ unlawful_text fault.now) }
+fn append_report(text: &mut Bytes, fault: &ReportFault) -> Result<(), AllocError>
+    ensures { OnOk result (text.new ≡ text.old ++ report_text fault.now) }
+{
+    match *fault {
+        ReportFault::Short(need, have) => write!(text, "short {need} {have}"),
+        ReportFault::Kind(kind) => write!(text, "kind {kind}"),
+        ReportFault::OldReport(kind) => write!(text, "old {kind}"),
+        ReportFault::Sum(want, have) => append_sums(text, want, have),
+        ReportFault::RecordShort(index) => write!(text, "record {index}"),
+        ReportFault::SourceShort(index) => write!(text, "sources {index}"),
+    }
+}
+
+/// Why an Update has no lawful report.
+pub fn append_unlawful(text: &mut Bytes, fault: &Unlawful) -> Result<(), AllocError>
+    ensures { OnOk result (text.new ≡ text.old ++ unlawful_text fault.now) }
 {
     match *fault {
         Unlawful::Inner(fault) => {
-            let fault = print_inner(alloc, &fault)?;
-            format!(in alloc; "inner {fault}")
+            text.append(b"inner ")?;
+            append_inner(text, &fault)
         }
         Unlawful::Report(fault) => {
-            let fault = print_report(alloc, &fault)?;
-            format!(in alloc; "report {fault}")
+            text.append(b"report ")?;
+            append_report(text, &fault)
         }
     }
 }
 
-fn print_sources(alloc: Global, group: &Ip, count: u32) -> Result<Bytes, AllocError>
-    ensures { IfOk result (λ text. text ≡ limit_text (Sources group.now count)) }
-{
-    let group = print_ip(alloc, group)?;
-    let count = format!(in alloc; " {count}")?;
-    let mut text = Bytes::copied(alloc, b"sources ")?;
-    text.append(group.as_slice())?;
-    text.append(count.as_bytes())?;
-    Ok(text)
-}
-
-pub fn print_limit(alloc: Global, fault: &LimitFault) -> Result<Bytes, AllocError>
-    ensures { IfOk result (λ text. text ≡ limit_text fault.now) }
+/// Which limit was passed, and the number that passes it.
+pub fn append_limit(text: &mut Bytes, fault: &LimitFault) -> Result<(), AllocError>
+    ensures { OnOk result (text.new ≡ text.old ++ limit_text fault.now) }
 {
     match *fault {
-        LimitFault::Sources(group, count) => print_sources(alloc, &group, count),
-        LimitFault::Groups(count) => {
-            let text = format!(in alloc; "groups {count}")?;
-            Bytes::copied(alloc, text.as_bytes())
-        }
-        LimitFault::Endpoints(count) => {
-            let text = format!(in alloc; "endpoints {count}")?;
-            Bytes::copied(alloc, text.as_bytes())
-        }
+        LimitFault::Sources(group, count) => write!(text, "sources {group} {count}"),
+        LimitFault::Groups(count) => write!(text, "groups {count}"),
+        LimitFault::Endpoints(count) => write!(text, "endpoints {count}"),
     }
 }
 
-fn print_head(alloc: Global, fault: &HeadFault) -> Result<String, AllocError>
-    ensures { IfOk result (λ text. string_bytes text ≡ head_text fault.now) }
+fn append_head(text: &mut Bytes, fault: &HeadFault) -> Result<(), AllocError>
+    ensures { OnOk result (text.new ≡ text.old ++ head_text fault.now) }
 {
     match *fault {
-        HeadFault::Version(version) => format!(in alloc; "version {version}"),
-        HeadFault::ShortHeader(need, have) => format!(in alloc; "short {need} {have}"),
+        HeadFault::Version(version) => write!(text, "version {version}"),
+        HeadFault::ShortHeader(need, have) => write!(text, "short {need} {have}"),
     }
 }
 
 /// Why a packet was not copied to anyone.
-pub fn print_not_forwarded(alloc: Global, cause: &NotForwarded) -> Result<Bytes, AllocError>
-    ensures { IfOk result (λ text. text ≡ outcome_text (NotForwardedFor cause.now)) }
+pub fn append_not_forwarded(text: &mut Bytes, cause: &NotForwarded) -> Result<(), AllocError>
+    ensures { OnOk result (text.new ≡ text.old ++ not_forwarded_text cause.now) }
 {
     match *cause {
         NotForwarded::Head(fault) => {
-            let fault = print_head(alloc, &fault)?;
-            let text = format!(in alloc; "notforwarded head {fault}")?;
-            Bytes::copied(alloc, text.as_bytes())
+            text.append(b"head ")?;
+            append_head(text, &fault)
         }
-        NotForwarded::Scope(group) => {
-            let group = print_ip(alloc, &group)?;
-            let mut text = Bytes::copied(alloc, b"notforwarded scope ")?;
-            text.append(group.as_slice())?;
-            Ok(text)
-        }
+        NotForwarded::Scope(group) => write!(text, "scope {group}"),
     }
 }

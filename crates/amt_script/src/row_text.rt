@@ -1,12 +1,12 @@
 //! The text of the memberships that are shown. It knows no relay.
 
-ghost use Rattle.std.specs.Prelude.{◌≡◌, ◌++◌, codes, IfOk, OnOk};
-ghost use Rattle.amt_script.specs.Texts.{mode_text, row_text, rows_text, sources_text};
+ghost use Rattle.std.specs.Prelude.{◌≡◌, ◌++◌, codes, OnOk};
+ghost use Rattle.amt_script.specs.Texts.{count_line, mode_text, row_text, sources_text};
 
-use amt_values::{Bytes, Ip, print_ip, print_peer};
-use endpoint_membership::{Row, Rows};
+use amt_values::{Bytes, Ip, append_numeral};
+use endpoint_membership::Row;
 use source_filter::Mode;
-use std::alloc::{AllocError, Global};
+use std::alloc::AllocError;
 
 fn mode_word(mode: Mode) -> &'static str
     ensures { result.now ≡ mode_text mode }
@@ -17,54 +17,39 @@ fn mode_word(mode: Mode) -> &'static str
     }
 }
 
-fn print_sources(alloc: Global, sources: &[Ip]) -> Result<Bytes, AllocError>
-    ensures { IfOk result (λ text. text ≡ sources_text sources.now) }
+fn append_sources(text: &mut Bytes, sources: &[Ip]) -> Result<(), AllocError>
+    ensures { OnOk result (text.new ≡ text.old ++ sources_text sources.now) }
 {
     let Some((first, rest)) = sources.split_first() else {
-        return Bytes::copied(alloc, b"-");
+        return text.append(b"-");
     };
-    let mut text = print_ip(alloc, first)?;
+    write!(text, "{first}")?;
     for source in rest {
-        let source = print_ip(alloc, source)?;
-        text.append(b",")?;
-        text.append(source.as_slice())?;
+        write!(text, ",{source}")?;
     }
-    Ok(text)
+    Ok(())
 }
 
-// A space, and a field after it.
-fn append_field(text: &mut Bytes, field: &[u8]) -> Result<(), AllocError>
-    ensures { OnOk result (text.new ≡ text.old ++ (codes " " ++ field.now)) }
-{
-    text.append(b" ")?;
-    text.append(field)
-}
-
+/// Puts a membership's line at the end.
 #[tactic(auto, unfolding(crate::specs::Texts::row_text))]
-fn append_row(alloc: Global, text: &mut Bytes, row: &Row) -> Result<(), AllocError>
+pub fn append_row(text: &mut Bytes, row: &Row) -> Result<(), AllocError>
     ensures { OnOk result (text.new ≡ text.old ++ row_text row.now) }
 {
-    let peer = print_peer(alloc, &row.endpoint.peer())?;
-    let group = print_ip(alloc, &row.group)?;
-    let sources = print_sources(alloc, row.filter.sources())?;
-    text.append(b"*")?;
-    append_field(text, peer.as_slice())?;
-    append_field(text, group.as_slice())?;
-    append_field(text, mode_word(row.filter.mode()).as_bytes())?;
-    append_field(text, sources.as_slice())?;
+    let peer = row.endpoint.peer();
+    let group = row.group;
+    let mode = mode_word(row.filter.mode());
+    write!(text, "* {peer} {group} {mode} ")?;
+    append_sources(text, row.filter.sources())?;
     text.append(b"\n")
 }
 
-/// The lines that show the memberships: how many there are, and a line for each.
-#[tactic(auto, unfolding(crate::specs::Texts::rows_text))]
-pub fn print_rows(alloc: Global, number: u64, rows: &Rows) -> Result<Bytes, AllocError>
-    ensures { IfOk result (λ text. text ≡ rows_text number rows.now) }
+/// Puts the line before the memberships at the end: how many there are.
+pub fn append_count(text: &mut Bytes, number: u64, count: u64) -> Result<(), AllocError>
+    ensures { OnOk result (text.new ≡ text.old ++ count_line number count) }
 {
-    let count = rows.len() as u64;
-    let line = format!(in alloc; "= {number} rows {count}\n")?;
-    let mut text = Bytes::copied(alloc, line.as_bytes())?;
-    for row in rows.as_slice() {
-        append_row(alloc, &mut text, row)?;
-    }
-    Ok(text)
+    text.append(b"= ")?;
+    append_numeral(text, number)?;
+    text.append(b" rows ")?;
+    append_numeral(text, count)?;
+    text.append(b"\n")
 }

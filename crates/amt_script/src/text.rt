@@ -1,89 +1,73 @@
 //! The texts of a relay's events and steps. It knows no script and no sink.
 
-ghost use Rattle.std.specs.Prelude.{◌≡◌, ◌++◌, ◌≤◌, codes, decimal, length, OnOk, IfOk, string_bytes};
+ghost use Rattle.std.specs.Prelude.{◌≡◌, ◌++◌, ◌≤◌, codes, decimal, length, OnOk, IfOk};
 ghost use Rattle.relay_machine.specs.EventSize.{IsEvent};
 ghost use Rattle.relay_machine.specs.declared.event.Event.TheVariants as events;
-ghost use Rattle.relay_machine.specs.declared.outcome.Outcome.TheVariants.{Over, Queried};
+ghost use Rattle.relay_machine.specs.declared.outcome.Outcome.TheVariants.{Queried, NotForwarded as NotForwardedFor};
 ghost use Rattle.amt_script.specs.Printed.{IsLineOf, IsLineThatSays};
-ghost use Rattle.amt_script.specs.Texts.{refusal_text, outcome_text, event_line, event_text, send_text, step_text};
+ghost use Rattle.amt_script.specs.Texts.{answer_line, outcome_text, event_line, event_text, send_text, step_text};
 
-use crate::fault_text::{print_limit, print_not_forwarded, print_unlawful};
-use amt_messages::Refused;
-use amt_values::{Bytes, Peer, print_peer};
-use endpoint_membership::LimitFault;
-use relay_machine::{Event, OneSend, Outcome, Step};
-use script_lines::print_hex;
+use crate::fault_text::{append_limit, append_not_forwarded, append_refusal, append_unlawful};
+use amt_values::{Bytes, Peer, append_numeral, print_peer};
+use relay_machine::{Event, NotForwarded, OneSend, Outcome, Step};
+use script_lines::append_hex;
 use std::alloc::{AllocError, Global};
 
-fn print_refusal(alloc: Global, refusal: &Refused) -> Result<String, AllocError>
-    ensures { IfOk result (λ text. string_bytes text ≡ refusal_text refusal.now) }
-{
-    match *refusal {
-        Refused::Empty => String::from_str(alloc, "empty"),
-        Refused::Version(version) => format!(in alloc; "version {version}"),
-        Refused::Kind(kind) => format!(in alloc; "kind {kind}"),
-        Refused::NoInner => String::from_str(alloc, "noinner"),
-        Refused::Short(need, have) => format!(in alloc; "short {need} {have}"),
-        Refused::Long(need, have) => format!(in alloc; "long {need} {have}"),
-    }
-}
-
-fn print_queried(alloc: Global, v6: bool, limited: bool) -> Result<Bytes, AllocError>
-    ensures { IfOk result (λ text. text ≡ outcome_text (Queried v6 limited)) }
+fn append_queried(text: &mut Bytes, v6: bool, limited: bool) -> Result<(), AllocError>
+    ensures { OnOk result (text.new ≡ text.old ++ outcome_text (Queried v6 limited)) }
 {
     match (v6, limited) {
-        (false, false) => Bytes::copied(alloc, b"queried v4"),
-        (false, true) => Bytes::copied(alloc, b"queried v4 limited"),
-        (true, false) => Bytes::copied(alloc, b"queried v6"),
-        (true, true) => Bytes::copied(alloc, b"queried v6 limited"),
+        (false, false) => text.append(b"queried v4"),
+        (false, true) => text.append(b"queried v4 limited"),
+        (true, false) => text.append(b"queried v6"),
+        (true, true) => text.append(b"queried v6 limited"),
     }
 }
 
-fn print_over(alloc: Global, fault: &LimitFault) -> Result<Bytes, AllocError>
-    ensures { IfOk result (λ text. text ≡ outcome_text (Over fault.now)) }
+// A word with a space after it, and a number.
+fn append_numbered(text: &mut Bytes, word: &[u8], number: u64) -> Result<(), AllocError>
+    ensures { OnOk result (text.new ≡ text.old ++ (word.now ++ decimal number)) }
 {
-    let limit = print_limit(alloc, fault)?;
-    let mut text = Bytes::copied(alloc, b"limit ")?;
-    text.append(limit.as_slice())?;
-    Ok(text)
+    text.append(word)?;
+    append_numeral(text, number)
 }
 
-// A word, and the number after it.
-fn print_numbered(alloc: Global, word: &str, number: u64) -> Result<Bytes, AllocError>
-    ensures { IfOk result (λ text. text ≡ word.now ++ (codes " " ++ decimal number)) }
+fn append_unforwarded(text: &mut Bytes, cause: &NotForwarded) -> Result<(), AllocError>
+    ensures { OnOk result (text.new ≡ text.old ++ outcome_text (NotForwardedFor cause.now)) }
 {
-    let text = format!(in alloc; "{word} {number}")?;
-    Bytes::copied(alloc, text.as_bytes())
+    text.append(b"notforwarded ")?;
+    append_not_forwarded(text, cause)
 }
 
-fn print_outcome(alloc: Global, outcome: &Outcome) -> Result<Bytes, AllocError>
-    ensures { IfOk result (λ text. text ≡ outcome_text outcome.now) }
+fn append_outcome(text: &mut Bytes, outcome: &Outcome) -> Result<(), AllocError>
+    ensures { OnOk result (text.new ≡ text.old ++ outcome_text outcome.now) }
 {
     match *outcome {
-        Outcome::Moved(moment) => print_numbered(alloc, "moved", moment.ms()),
-        Outcome::Rotated => Bytes::copied(alloc, b"rotated"),
-        Outcome::BadSource => Bytes::copied(alloc, b"badsource"),
+        Outcome::Moved(moment) => append_numbered(text, b"moved ", moment.ms()),
+        Outcome::Rotated => text.append(b"rotated"),
+        Outcome::BadSource => text.append(b"badsource"),
         Outcome::Undecoded(refusal) => {
-            let refusal = print_refusal(alloc, &refusal)?;
-            let text = format!(in alloc; "refused {refusal}")?;
-            Bytes::copied(alloc, text.as_bytes())
+            text.append(b"refused ")?;
+            append_refusal(text, &refusal)
         }
-        Outcome::WrongKind(kind) => print_numbered(alloc, "wrongkind", u64::from(kind)),
-        Outcome::Advertised => Bytes::copied(alloc, b"advertised"),
-        Outcome::Queried { v6, limited } => print_queried(alloc, v6, limited),
-        Outcome::BadMac => Bytes::copied(alloc, b"badmac"),
+        Outcome::WrongKind(kind) => append_numbered(text, b"wrongkind ", u64::from(kind)),
+        Outcome::Advertised => text.append(b"advertised"),
+        Outcome::Queried { v6, limited } => append_queried(text, v6, limited),
+        Outcome::BadMac => text.append(b"badmac"),
         Outcome::Unlawful(fault) => {
-            let fault = print_unlawful(alloc, &fault)?;
-            let text = format!(in alloc; "unlawful {fault}")?;
-            Bytes::copied(alloc, text.as_bytes())
+            text.append(b"unlawful ")?;
+            append_unlawful(text, &fault)
         }
-        Outcome::Over(fault) => print_over(alloc, &fault),
-        Outcome::Updated => Bytes::copied(alloc, b"updated"),
-        Outcome::NoTunnel => Bytes::copied(alloc, b"notunnel"),
-        Outcome::TornDown => Bytes::copied(alloc, b"torndown"),
-        Outcome::TooBig(size) => print_numbered(alloc, "toobig", u64::from(size)),
-        Outcome::NotForwarded(cause) => print_not_forwarded(alloc, &cause),
-        Outcome::Copied(count) => print_numbered(alloc, "copied", u64::from(count)),
+        Outcome::Over(fault) => {
+            text.append(b"limit ")?;
+            append_limit(text, &fault)
+        }
+        Outcome::Updated => text.append(b"updated"),
+        Outcome::NoTunnel => text.append(b"notunnel"),
+        Outcome::TornDown => text.append(b"torndown"),
+        Outcome::TooBig(size) => append_numbered(text, b"toobig ", u64::from(size)),
+        Outcome::NotForwarded(cause) => append_unforwarded(text, &cause),
+        Outcome::Copied(count) => append_numbered(text, b"copied ", u64::from(count)),
     }
 }
 
@@ -93,11 +77,10 @@ fn print_datagram_line(alloc: Global, from: &Peer, bytes: &Bytes) -> Result<Byte
     ensures says { IfOk result (IsLineThatSays (events.Datagram from.now bytes.now)) }
 {
     let peer = print_peer(alloc, from)?;
-    let hex = print_hex(alloc, bytes.as_slice())?;
     let mut text = Bytes::copied(alloc, b"dg ")?;
     text.append(peer.as_slice())?;
     text.append(b" ")?;
-    text.append(hex.as_bytes())?;
+    append_hex(&mut text, bytes.as_slice())?;
     Ok(text)
 }
 
@@ -106,9 +89,8 @@ fn print_packet_line(alloc: Global, bytes: &Bytes) -> Result<Bytes, AllocError>
     ensures value { IfOk result (λ text. text ≡ event_line (events.Packet bytes.now)) }
     ensures says { IfOk result (IsLineThatSays (events.Packet bytes.now)) }
 {
-    let hex = print_hex(alloc, bytes.as_slice())?;
     let mut text = Bytes::copied(alloc, b"mc ")?;
-    text.append(hex.as_bytes())?;
+    append_hex(&mut text, bytes.as_slice())?;
     Ok(text)
 }
 
@@ -119,16 +101,16 @@ fn print_event_line(alloc: Global, event: &Event) -> Result<Bytes, AllocError>
 {
     match event {
         Event::Moment(moment) => {
-            let ms = moment.ms();
-            let line = format!(in alloc; "at {ms}")?;
-            Bytes::copied(alloc, line.as_bytes())
+            let mut text = Bytes::copied(alloc, b"at ")?;
+            append_numeral(&mut text, moment.ms())?;
+            Ok(text)
         }
         Event::Datagram { from, bytes } => print_datagram_line(alloc, from, bytes),
         Event::Packet { bytes } => print_packet_line(alloc, bytes),
         Event::Rotate(secret) => {
-            let hex = print_hex(alloc, &secret.0)?;
-            let line = format!(in alloc; "secret {hex}")?;
-            Bytes::copied(alloc, line.as_bytes())
+            let mut text = Bytes::copied(alloc, b"secret ")?;
+            append_hex(&mut text, &secret.0)?;
+            Ok(text)
         }
     }
 }
@@ -146,30 +128,43 @@ pub fn print_relay_event(alloc: Global, event: &Event) -> Result<Bytes, AllocErr
 }
 
 #[tactic(auto, unfolding(crate::specs::Texts::send_text))]
-fn append_send(alloc: Global, text: &mut Bytes, send: &OneSend) -> Result<(), AllocError>
+fn append_send(text: &mut Bytes, send: &OneSend) -> Result<(), AllocError>
     ensures { OnOk result (text.new ≡ text.old ++ send_text send.now) }
 {
-    let peer = print_peer(alloc, &send.to.peer())?;
-    let hex = print_hex(alloc, send.bytes.as_slice())?;
-    text.append(b"> ")?;
-    text.append(peer.as_slice())?;
-    text.append(b" ")?;
-    text.append(hex.as_bytes())?;
+    let peer = send.to.peer();
+    write!(text, "> {peer} ")?;
+    append_hex(text, send.bytes.as_slice())?;
     text.append(b"\n")
 }
 
-/// The lines of one step: its number and outcome, and a line for each send.
+// `= N OUTCOME`.
+fn append_answer(text: &mut Bytes, number: u64, outcome: &Outcome) -> Result<(), AllocError>
+    ensures { OnOk result (text.new ≡ text.old ++ answer_line number outcome.now) }
+{
+    text.append(b"= ")?;
+    append_numeral(text, number)?;
+    text.append(b" ")?;
+    append_outcome(text, outcome)?;
+    text.append(b"\n")
+}
+
+/// Puts the lines of one step at the end: its number and outcome, and a line for each send.
 #[tactic(auto, unfolding(crate::specs::Texts::step_text))]
+pub fn append_relay_step(text: &mut Bytes, number: u64, step: &Step) -> Result<(), AllocError>
+    ensures { OnOk result (text.new ≡ text.old ++ step_text number step.now.outcome step.now.sends) }
+{
+    append_answer(text, number, &step.outcome)?;
+    for send in step.sends.as_slice() {
+        append_send(text, send)?;
+    }
+    Ok(())
+}
+
+/// The lines of one step: its number and outcome, and a line for each send.
 pub fn print_relay_step(alloc: Global, number: u64, step: &Step) -> Result<Bytes, AllocError>
     ensures { IfOk result (λ text. text ≡ step_text number step.now.outcome step.now.sends) }
 {
-    let outcome = print_outcome(alloc, &step.outcome)?;
-    let line = format!(in alloc; "= {number} ")?;
-    let mut text = Bytes::copied(alloc, line.as_bytes())?;
-    text.append(outcome.as_slice())?;
-    text.append(b"\n")?;
-    for send in step.sends.as_slice() {
-        append_send(alloc, &mut text, send)?;
-    }
+    let mut text = Bytes::new(alloc);
+    append_relay_step(&mut text, number, step)?;
     Ok(text)
 }

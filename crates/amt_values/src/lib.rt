@@ -27,7 +27,7 @@ pub use fields::{u16_at, u32_at, u128_at};
 pub use group::forwardable;
 pub use mac::Mac48;
 pub use moment::Moment;
-pub use numeral::{NumeralFault, parse_numeral, print_numeral};
+pub use numeral::{NumeralFault, append_numeral, parse_numeral, print_numeral};
 pub use octets::{address_of_octets, octets_of_address};
 pub use order::{order_of_endpoints, order_of_ips};
 pub use peer::Peer;

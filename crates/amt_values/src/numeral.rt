@@ -1,6 +1,6 @@
 //! Decimal numbers as text. It must not know what they count.
 
-ghost use Rattle.std.specs.Prelude.{◌≡◌, ◌<◌, ◌≤◌, ◌^◌, ◌↔◌, ℕ, All, length, slice_index, IsTrue, IsFalse, IfOk, IsErrOf, decimal};
+ghost use Rattle.std.specs.Prelude.{◌≡◌, ◌<◌, ◌≤◌, ◌^◌, ◌↔◌, ℕ, All, length, slice_index, IsTrue, IsFalse, ◌++◌, IfOk, IsErrOf, OnOk, OnErr, decimal};
 ghost use Rattle.std.specs.Char.{IsAsciiDigit};
 ghost use Rattle.amt_values.specs.Numeral.{IsNumeral, numeral_value};
 
@@ -65,10 +65,20 @@ pub fn parse_numeral(text: &[u8]) -> Result<u64, NumeralFault>
     }
 }
 
+/// Puts the decimal digits of a number, without a leading zero, at the end of a text.
+pub fn append_numeral(text: &mut Bytes, number: u64) -> Result<(), AllocError>
+    ensures ok { OnOk result (text.new ≡ text.old ++ decimal number) }
+    ensures err { OnErr result (text.new ≡ text.old) }
+{
+    let mut digits = itoa::Buffer::new();
+    text.append(digits.format(number).as_bytes())
+}
+
 /// The decimal digits of a number, without a leading zero.
 pub fn print_numeral(alloc: Global, number: u64) -> Result<Bytes, AllocError>
     ensures { IfOk result (λ text. text ≡ decimal number) }
 {
-    let text = format!(in alloc; "{number}")?;
-    Bytes::copied(alloc, text.as_bytes())
+    let mut text = Bytes::new(alloc);
+    append_numeral(&mut text, number)?;
+    Ok(text)
 }

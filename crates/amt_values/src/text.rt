@@ -1,6 +1,7 @@
 //! Addresses and peers as text. It must not know the lines that texts stand in.
 
-ghost use Rattle.std.specs.Prelude.{◌≡◌, ◌<◌, ◌^◌, ◌↔◌, ◌≢◌, ◌++◌, ℕ, List, All, IsFalse, IfOk, IfSome, Some, codes, decimal, string_bytes};
+ghost use Rattle.std.specs.Prelude.{◌≡◌, ◌<◌, ◌^◌, ◌↔◌, ◌≢◌, ◌++◌, ℕ, List, All, IsFalse, IfOk, IfSome, Some, codes, decimal};
+ghost use Rattle.std.specs.Fmt.{DisplaysOnOk};
 ghost use Rattle.amt_values.specs.declared.address.Ip.{Ip as IpValue};
 ghost use Rattle.amt_values.specs.declared.address.Ip.TheVariants.{V4, V6};
 ghost use Rattle.amt_values.specs.declared.peer.Peer.{Peer as PeerValue};
@@ -12,71 +13,110 @@ use crate::cut::{after_octet, cut_at};
 use crate::numeral::parse_numeral;
 use crate::peer::Peer;
 use std::alloc::{AllocError, Global};
+use std::fmt::{self, Display};
 use std::net::{Ipv4Addr, Ipv6Addr};
 
 #[tactic(auto, unfolding(std::specs::Net::Addr::IsIpv4OfBits))]
-fn v4_string(alloc: Global, number: u32) -> Result<String, AllocError>
-    ensures { IfOk result (λ text. string_bytes text ≡ v4_text number) }
+fn write_v4<W: fmt::Write>(number: u32, f: &mut fmt::Formatter<W>) -> fmt::Result
+    ensures { DisplaysOnOk W.write_str_gives f.old result (Some (v4_text number)) f.new }
 {
-    let address = Ipv4Addr::from_bits(number);
-    format!(in alloc; "{address}")
+    Display::fmt(&Ipv4Addr::from_bits(number), f)
 }
 
 // The groups alone: the text of std's `Ipv6Addr` has a dotted tail for mapped addresses.
 #[tactic(auto, unfolding(std::specs::Net::Addr::IsIpv6OfBits, crate::specs::Segments::address_segments))]
-fn v6_string(alloc: Global, number: u128) -> Result<String, AllocError>
-    ensures { IfOk result (λ text. string_bytes text ≡ v6_text number) }
+fn write_v6<W: fmt::Write>(number: u128, f: &mut fmt::Formatter<W>) -> fmt::Result
+    ensures { DisplaysOnOk W.write_str_gives f.old result (Some (v6_text number)) f.new }
 {
-    let groups = Ipv6Addr::from_bits(number).hex_groups();
-    format!(in alloc; "{groups}")
+    Display::fmt(&Ipv6Addr::from_bits(number).hex_groups(), f)
 }
 
-fn ip_string(alloc: Global, ip: &Ip) -> Result<String, AllocError>
-    ensures text { IfOk result (λ text. string_bytes text ≡ ip_text ip.now) }
-    ensures back { IfOk result (λ text. IsIpText ip.now (string_bytes text)) }
+/// Four decimal numbers for IPv4, groups of hexadecimal digits for IPv6.
+///
+/// An IPv6 address is printed as RFC 5952, section 4, recommends, and without a dotted tail also in
+/// ::ffff:0:0/96. `parse_ip` reads the text as the address again.
+impl Display for Ip {
+    ghost use Rattle.std.specs.Prelude.{Some};
+    ghost use Rattle.amt_values.specs.Text.{ip_text};
+
+    ghost output = { λ ip. Some (ip_text ip) };
+
+    fn fmt<W: fmt::Write>(&self, f: &mut fmt::Formatter<W>) -> fmt::Result {
+        match *self {
+            Ip::V4(number) => write_v4(number, f),
+            Ip::V6(number) => write_v6(number, f),
+        }
+    }
+}
+
+/// `ADDRESS:PORT`, or `[ADDRESS]:PORT` for IPv6 (RFC 5952, section 6).
+///
+/// The address is as `Ip` prints it. `parse_peer` reads the text as the peer again.
+impl Display for Peer {
+    ghost use Rattle.std.specs.Prelude.{Some};
+    ghost use Rattle.amt_values.specs.Text.{peer_text};
+
+    ghost output = { λ peer. Some (peer_text peer) };
+
+    fn fmt<W: fmt::Write>(&self, f: &mut fmt::Formatter<W>) -> fmt::Result {
+        let address = self.ip;
+        let port = self.port;
+        match address {
+            Ip::V4(_) => write!(f, "{address}:{port}"),
+            Ip::V6(_) => write!(f, "[{address}]:{port}"),
+        }
+    }
+}
+
+// What is printed of an IPv4 address names it.
+fn v4_text_names(number: u32)
+    ensures { IsIpText (V4 number) (v4_text number) }
+{}
+
+// What is printed of an IPv6 address names it.
+#[tactic(auto, using(crate::proofs::V6Texts::v6_printed))]
+fn v6_text_names(number: u128)
+    ensures { IsIpText (V6 number) (v6_text number) }
+{}
+
+// What is printed of an address names it. It does nothing when it runs.
+fn text_names(ip: &Ip)
+    ensures { IsIpText ip.now (ip_text ip.now) }
 {
     match *ip {
-        Ip::V4(number) => v4_string(alloc, number),
-        Ip::V6(number) => v6_string(alloc, number),
+        Ip::V4(number) => v4_text_names(number),
+        Ip::V6(number) => v6_text_names(number),
     }
 }
 
 /// The text of an address: four decimal numbers for IPv4, groups of hexadecimal digits for IPv6.
 ///
-/// An IPv6 address is printed as RFC 5952, section 4, recommends, and without a dotted tail also in
-/// ::ffff:0:0/96. `parse_ip` reads the text as the address again.
+/// `parse_ip` reads it as the address again.
 #[tactic(auto, using(crate::proofs::PrintedTexts::printed_ip))]
 pub fn print_ip(alloc: Global, ip: &Ip) -> Result<Bytes, AllocError>
     ensures text { IfOk result (λ text. text ≡ ip_text ip.now) }
     ensures rule { (text : List ℕ) → IsPrintedIp ip.now text ↔ (text ≡ ip_text ip.now) }
     ensures back { IfOk result (IsIpText ip.now) }
 {
-    let text = ip_string(alloc, ip)?;
-    Bytes::copied(alloc, text.as_bytes())
-}
-
-fn peer_string(alloc: Global, peer: &Peer) -> Result<String, AllocError>
-    ensures text { IfOk result (λ text. string_bytes text ≡ peer_text peer.now) }
-    ensures back { IfOk result (λ text. IsPeerText peer.now (string_bytes text)) }
-{
-    let address = ip_string(alloc, &peer.ip)?;
-    let port = peer.port;
-    match peer.ip {
-        Ip::V4(_) => format!(in alloc; "{address}:{port}"),
-        Ip::V6(_) => format!(in alloc; "[{address}]:{port}"),
-    }
+    text_names(ip);
+    let mut text = Bytes::new(alloc);
+    write!(text, "{ip}")?;
+    Ok(text)
 }
 
 /// The text of a peer: `ADDRESS:PORT`, or `[ADDRESS]:PORT` for IPv6 (RFC 5952, section 6).
 ///
-/// The address is as `print_ip` writes it. `parse_peer` reads the text as the peer again.
+/// `parse_peer` reads it as the peer again.
 pub fn print_peer(alloc: Global, peer: &Peer) -> Result<Bytes, AllocError>
     ensures text { IfOk result (λ text. text ≡ peer_text peer.now) }
     ensures rule { (text : List ℕ) → IsPrintedPeer peer.now text ↔ (text ≡ peer_text peer.now) }
     ensures back { IfOk result (IsPeerText peer.now) }
 {
-    let text = peer_string(alloc, peer)?;
-    Bytes::copied(alloc, text.as_bytes())
+    let Peer { ip, port: _port } = *peer;
+    text_names(&ip);
+    let mut text = Bytes::new(alloc);
+    write!(text, "{peer}")?;
+    Ok(text)
 }
 
 fn parse_v4(text: &[u8]) -> Option<u32>

@@ -1,6 +1,7 @@
 //! A list that owns its memory. It must not know what its items are.
 
 use std::alloc::{AllocError, Global};
+use std::fmt::{self, Display, Write};
 use std::marker::Model;
 
 /// Items in order, of which contracts see the list. Spare room is all that they don't see.
@@ -18,7 +19,7 @@ impl<T> Model for Items<T> {
 }
 
 impl<T: Drop> Items<T> {
-    ghost use Rattle.std.specs.Prelude.{◌≡◌, [], ◌∷◌, ◌++◌, length, OnOk, OnErr};
+    ghost use Rattle.std.specs.Prelude.{◌≡◌, [], ◌∷◌, ◌++◌, length, IfOk, OnOk, OnErr};
 
     /// No item. It takes no memory.
     pub fn new(alloc: Global) -> Self
@@ -27,6 +28,15 @@ impl<T: Drop> Items<T> {
         Items {
             items: Vec::new(alloc),
         }
+    }
+
+    /// No item, and room for so many.
+    pub fn with_room(alloc: Global, room: usize) -> Result<Self, AllocError>
+        ensures { IfOk result (λ list. list ≡ []) }
+    {
+        Ok(Items {
+            items: Vec::with_capacity(alloc, room)?,
+        })
     }
 
     pub fn as_slice(&self) -> &[T]
@@ -39,6 +49,13 @@ impl<T: Drop> Items<T> {
         ensures { result ≡ length self.now }
     {
         self.items.len()
+    }
+
+    /// Lets all items go, and keeps the room.
+    pub fn clear(&mut self)
+        ensures { self.new ≡ [] }
+    {
+        self.items.clear();
     }
 
     /// Puts the item at the end.
@@ -69,6 +86,35 @@ impl<T: Copy + Drop> Items<T> {
         ensures err { OnErr result (self.new ≡ self.old) }
     {
         self.items.extend_from_slice(items)
+    }
+}
+
+impl Write for Items<u8> {
+    ghost use Rattle.std.specs.Prelude.{◌≡◌, ◌++◌};
+
+    ghost write_str_gives = { λ before text after. after ≡ before ++ text };
+
+    fn write_str(&mut self, text: &str) -> fmt::Result {
+        match self.append(text.as_bytes()) {
+            Ok(()) => Ok(()),
+            Err(_) => Err(fmt::Error),
+        }
+    }
+}
+
+impl Items<u8> {
+    ghost use Rattle.std.specs.Prelude.{OnOk};
+    ghost use Rattle.std.specs.Fmt.{AppendsText};
+
+    /// Puts a printed text at the end: what `write!` calls. Where memory runs out, a part of the text
+    /// may stand there.
+    pub fn write_fmt<D: Display + Drop>(&mut self, text: D) -> Result<(), AllocError>
+        ensures { OnOk result (AppendsText self.old self.new (D.output text)) }
+    {
+        match Write::write_fmt(self, text) {
+            Ok(()) => Ok(()),
+            Err(_) => Err(AllocError),
+        }
     }
 }
 

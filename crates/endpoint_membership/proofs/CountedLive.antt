@@ -1,51 +1,19 @@
--- Counting live endpoints along a map of filters, and without one that is named.
-use Rattle.std.proofs.Common.{◌≡◌, ℕ, ◌+◌, ◌-◌, ◌≤◌, Bool, true, false, not, cond, ◌&&◌, ◌||◌, List, [], ◌∷◌, ◌++◌, filter, map, length, Option, Some, if◌then◌else◌, refl, sym, ap, subst, append_assoc, ◌∙◌, arith}
-use Rattle.std.specs.BTreeMap.{BTreeMap, IsOrdered}
+-- Counting live endpoints without one that is named.
+use Rattle.std.proofs.Common.{◌≡◌, ℕ, ◌+◌, ◌-◌, ◌≤◌, Bool, true, false, not, cond, ◌&&◌, ◌||◌, List, [], ◌∷◌, filter, length, if◌then◌else◌, refl, sym, ap, ◌∙◌, arith}
 use Rattle.std.specs.Ordering.{is_eq}
 use Rattle.std.proofs.lemmas.Cmp.{tied_itself}
-use Rattle.std.proofs.lemmas.List.{map-append}
 use Rattle.amt_values.specs.EndpointValue.{EndpointValue}
 use Rattle.amt_values.specs.Order.{endpoint_order}
 use Rattle.amt_values.proofs.Orders.{endpoint_order-exact, endpoint_order-total}
-use Rattle.contract_words.specs.Ascending.{IsAscending, ascending, has, placed}
+use Rattle.contract_words.specs.Ascending.{ascending, has, placed}
 use Rattle.contract_words.proofs.AscendingLaws.{IsAscending-ascending, IsAscending-placed, has-ascending, has-filter, has-placed, same_ascending}
-use Rattle.endpoint_membership.specs.EndpointGroup.{EndpointGroup, endpoint_group_order, same_endpoint}
+use Rattle.endpoint_membership.specs.EndpointGroup.{same_endpoint}
 use Rattle.endpoint_membership.specs.Limits.{live_count}
-use Rattle.endpoint_membership.specs.Membership.{Membership, is_fresh, membership_order}
+use Rattle.endpoint_membership.specs.Membership.{Membership, is_fresh}
 use Rattle.endpoint_membership.specs.Memberships.{is_live}
-use Rattle.endpoint_membership.specs.Parts.{stored_membership}
-use Rattle.endpoint_membership.specs.Stored.{ends_with, is_counted, is_of_another, is_of_another, last_of}
-use Rattle.endpoint_membership.specs.declared.stored.StoredFilter.{StoredFilter}
-use Rattle.endpoint_membership.proofs.AfterEntries.{IsAscending-prefix, same_back, same_endpoint-exact}
+use Rattle.endpoint_membership.specs.Stored.{is_counted, is_of_another, is_of_another}
+use Rattle.endpoint_membership.proofs.AfterEntries.{same_back, same_endpoint-exact}
 use Rattle.endpoint_membership.proofs.LimitByOwn.{endpoints_of, length-placed_new}
-use Rattle.endpoint_membership.proofs.LiveEndpoints.{filter-push_yes, last_of-push, more_live}
-use Rattle.endpoint_membership.proofs.StoredView.{IsAscending-stored}
-
-shown-push : (done : List (EndpointGroup × StoredFilter)) (entry : EndpointGroup × StoredFilter) → map stored_membership (done ++ entry ∷ []) ≡ map stored_membership done ++ stored_membership entry ∷ []
-shown-push done entry = map-append stored_membership done (entry ∷ [])
-
-so_far_ascends : (filters : BTreeMap EndpointGroup StoredFilter) (done rest : List (EndpointGroup × StoredFilter)) (entry : EndpointGroup × StoredFilter) → IsOrdered endpoint_group_order filters → filters.entries ≡ done ++ entry ∷ rest
-    → IsAscending membership_order (map stored_membership done ++ stored_membership entry ∷ [])
-so_far_ascends filters done rest entry ordered is =
-    let before = map stored_membership done in
-    let whole = ap (map stored_membership) is ∙ map-append stored_membership done (entry ∷ rest) ∙ sym (append_assoc before (stored_membership entry ∷ []) (map stored_membership rest)) in
-    IsAscending-prefix (before ++ stored_membership entry ∷ []) (map stored_membership rest) (subst (IsAscending membership_order) whole (IsAscending-stored filters ordered))
-
--- the count after one more entry of the map that counts
-pub more_counted : (filters : BTreeMap EndpointGroup StoredFilter) (done rest : List (EndpointGroup × StoredFilter)) (entry : EndpointGroup × StoredFilter) (test : Membership → Bool) (count step : ℕ) (last : Option EndpointValue)
-    → IsOrdered endpoint_group_order filters → filters.entries ≡ done ++ entry ∷ rest → test (stored_membership entry) ≡ true
-    → count ≡ live_count (filter test (map stored_membership done)) → last ≡ last_of (filter test (map stored_membership done)) → step ≡ (if ends_with last entry.0.endpoint then 0 else 1)
-    → count + step ≡ live_count (filter test (map stored_membership (done ++ entry ∷ [])))
-more_counted filters done rest entry test count step last ordered is passes so_far ends more =
-    more_live test (map stored_membership done) (stored_membership entry) count step last (so_far_ascends filters done rest entry ordered is) passes so_far ends more
-    ∙ sym (ap (λ (rows : List Membership). live_count (filter test rows)) (shown-push done entry))
-
--- the last endpoint that counts is then that of the entry
-pub last_counted : (done : List (EndpointGroup × StoredFilter)) (entry : EndpointGroup × StoredFilter) (test : Membership → Bool) → test (stored_membership entry) ≡ true
-    → Some entry.0.endpoint ≡ last_of (filter test (map stored_membership (done ++ entry ∷ [])))
-last_counted done entry test passes =
-    sym (ap (λ (rows : List Membership). last_of (filter test rows)) (shown-push done entry)
-    ∙ ap last_of (filter-push_yes test (map stored_membership done) (stored_membership entry) passes) ∙ last_of-push (filter test (map stored_membership done)) (stored_membership entry))
 
 is_one_of : (rows : List Membership) (endpoint : EndpointValue) → has endpoint_order (endpoints_of rows) endpoint ≡ is_live endpoint rows
 is_one_of [] endpoint = refl

@@ -1,20 +1,24 @@
 -- The memberships of one endpoint stand together: from the least of its pairs on.
-use Rattle.std.proofs.Common.{◌≡◌, ℕ, ◌==◌, ◌&&◌, Bool, true, false, cond, filter, Option, Some, None, IsSome, IfNone, IfSome, List, [], ◌∷◌, refl, sym, ap, subst, ◌∙◌, arith}
+use Rattle.std.proofs.Common.{◌≡◌, ℕ, ◌==◌, ◌&&◌, Bool, true, false, cond, filter, Option, Some, None, IsSome, is_some, IfNone, IfSome, List, [], ◌∷◌, refl, sym, ap, subst, ◌∙◌, arith}
 use Rattle.std.specs.Bool.{then_some}
-use Rattle.std.specs.BTreeMap.{BTreeMap, IsOrdered, get}
-use Rattle.std.specs.BTreeMap.Range.{IsRangeOf}
+use Rattle.std.specs.BTreeMap.{is_at}
+use Rattle.std.specs.BTreeSet as sorted
+use Rattle.std.specs.BTreeSet.{BTreeSet}
+use Rattle.std.specs.List.{list_any}
 use Rattle.std.specs.Ordering.{is_eq, is_gt, nat_cmp, ordering_reverse}
 use Rattle.std.specs.declared.cmp.Ordering.{Ordering}
 use Rattle.std.specs.declared.cmp.Ordering.TheVariants.{Less, Equal, Greater}
 use Rattle.std.specs.declared.ops.Bound.TheVariants.{Included, Unbounded}
 use Rattle.std.proofs.lemmas.Bool.Decides.{nat_tests}
 use Rattle.std.proofs.lemmas.Cmp.{tied_itself}
+use Rattle.std.proofs.lemmas.Map.Made.{is_some-lookup}
 use Rattle.amt_values.specs.declared.address.Ip.{Ip}
 use Rattle.amt_values.specs.declared.address.Ip.TheVariants.{V4, V6}
 use Rattle.amt_values.specs.EndpointValue.{EndpointValue}
 use Rattle.amt_values.specs.Order.{endpoint_order, ip_order}
 use Rattle.amt_values.proofs.Orders.{endpoint_order-exact, endpoint_order-total}
 use Rattle.endpoint_membership.specs.EndpointGroup.{EndpointGroup, endpoint_group_order, same_endpoint, same_endpoint_group}
+use Rattle.endpoint_membership.specs.Filters.{AreOrdered, FiltersValue, filter_at, pairs_of}
 use Rattle.endpoint_membership.specs.Membership.{Membership, endpoint_group_of}
 use Rattle.endpoint_membership.specs.Memberships.{membership_in}
 use Rattle.endpoint_membership.specs.Parts.{stored_memberships}
@@ -23,6 +27,7 @@ use Rattle.endpoint_membership.specs.declared.stored.StoredFilter.{StoredFilter}
 use Rattle.endpoint_membership.proofs.AfterEntries.{same_endpoint-exact}
 use Rattle.endpoint_membership.proofs.Expiry.{filter_all, not_gt_first}
 use Rattle.endpoint_membership.proofs.MembershipIn.{same_endpoint_group-exact}
+use Rattle.endpoint_membership.proofs.PairsWalked.{has-pairs_of}
 use Rattle.endpoint_membership.proofs.StoredView.{IsAscending-stored, membership_in-stored, membership_with}
 
 -- the pair of the endpoint and the group
@@ -51,8 +56,16 @@ between endpoint group at after before =
     tied_by (endpoint_order endpoint at.endpoint) endpoint at.endpoint refl (not_gt_first (endpoint_order endpoint at.endpoint) (ip_order (V4 0) at.group) after) (not_gt_first (endpoint_order at.endpoint endpoint) (ip_order at.group group) before)
 
 -- the range from the endpoint's least pair on
-abbrev pub IsOwnRange : (EndpointGroup → EndpointGroup → Ordering) → EndpointValue → BTreeMap EndpointGroup StoredFilter → List (EndpointGroup × StoredFilter) → Type 0
-IsOwnRange order endpoint filters entries = IsRangeOf order (Included (endpoint_group endpoint (V4 0))) Unbounded filters entries
+abbrev pub IsOwnRange : (EndpointGroup → EndpointGroup → Ordering) → EndpointValue → BTreeSet EndpointGroup → List EndpointGroup → Type 0
+IsOwnRange order endpoint pairs keys = sorted.IsKeyRangeOf order (Included (endpoint_group endpoint (V4 0))) Unbounded pairs keys
+
+-- the pairs have those with a filter
+contained : (filters : FiltersValue) (pairs : BTreeSet EndpointGroup) (at : EndpointGroup) → pairs.keys ≡ pairs_of filters → sorted.contains endpoint_group_order pairs at ≡ is_some (filter_at filters at)
+contained filters pairs at are = ap (list_any (is_at (endpoint_group_order at))) are ∙ sym (is_some-lookup (is_at (endpoint_group_order at)) filters.entries)
+
+none_where : (found : Option StoredFilter) → is_some found ≡ false → found ≡ None
+none_where None none = refl
+none_where (Some stored) none = cc
 
 another_by : (same : Bool) (endpoint : EndpointValue) (at : EndpointGroup) (found : Option StoredFilter) → same_endpoint at.endpoint endpoint ≡ same → (same ≡ true → found ≡ None)
     → only (is_of_another endpoint) (membership_with at found) ≡ membership_with at found
@@ -60,19 +73,20 @@ another_by same endpoint at None is none = refl
 another_by true endpoint at (Some stored) is none = let wrong = none refl in cc
 another_by false endpoint at (Some stored) is none = rw is refl
 
-no_others : (endpoint : EndpointValue) (filters : BTreeMap EndpointGroup StoredFilter) → IsOrdered endpoint_group_order filters → ((group : Ip) → get endpoint_group_order filters (endpoint_group endpoint group) ≡ None)
+no_others : (endpoint : EndpointValue) (filters : FiltersValue) → AreOrdered filters → ((group : Ip) → filter_at filters (endpoint_group endpoint group) ≡ None)
     → filter (is_of_another endpoint) (stored_memberships filters) ≡ stored_memberships filters
 no_others endpoint filters ordered none =
     filter_all (is_of_another endpoint) (stored_memberships filters) (IsAscending-stored filters ordered)
-    (λ at. rw (membership_in-stored filters at) (another_by (same_endpoint at.endpoint endpoint) endpoint at (get endpoint_group_order filters at) refl
-    (λ same. ap (λ (one : EndpointValue). get endpoint_group_order filters (endpoint_group one at.group)) (same_endpoint-exact at.endpoint endpoint same) ∙ none at.group)))
+    (λ at. rw (membership_in-stored filters at) (another_by (same_endpoint at.endpoint endpoint) endpoint at (filter_at filters at) refl
+    (λ same. ap (λ (one : EndpointValue). filter_at filters (endpoint_group one at.group)) (same_endpoint-exact at.endpoint endpoint same) ∙ none at.group)))
 
 -- an empty range: the endpoint has no membership
-pub none_of : (order : EndpointGroup → EndpointGroup → Ordering) (endpoint : EndpointValue) (filters : BTreeMap EndpointGroup StoredFilter) (entries : List (EndpointGroup × StoredFilter)) → order ≡ endpoint_group_order
-    → IsOrdered endpoint_group_order filters → IsOwnRange order endpoint filters entries → entries ≡ [] → filter (is_of_another endpoint) (stored_memberships filters) ≡ stored_memberships filters
-none_of order endpoint filters entries same ordered range empty =
-    let own = subst (λ (one : EndpointGroup → EndpointGroup → Ordering). IsOwnRange one endpoint filters entries) same range in
-    no_others endpoint filters ordered (λ group. own.5 empty (endpoint_group endpoint group) (own_from_least endpoint group, tt))
+pub none_of : (order : EndpointGroup → EndpointGroup → Ordering) (endpoint : EndpointValue) (filters : FiltersValue) (pairs : BTreeSet EndpointGroup) (keys : List EndpointGroup) → order ≡ endpoint_group_order
+    → AreOrdered filters → pairs.keys ≡ pairs_of filters → IsOwnRange order endpoint pairs keys → keys ≡ [] → filter (is_of_another endpoint) (stored_memberships filters) ≡ stored_memberships filters
+none_of order endpoint filters pairs keys same ordered are range empty =
+    let own = subst (λ (one : EndpointGroup → EndpointGroup → Ordering). IsOwnRange one endpoint pairs keys) same range in
+    no_others endpoint filters ordered (λ group. let at = endpoint_group endpoint group in
+    none_where (filter_at filters at) (sym (contained filters pairs at are) ∙ own.5 empty at (own_from_least endpoint group, tt)))
 
 same_parts : (one other : EndpointValue) → ((one.address == other.address) && (one.port == other.port)) ≡ same_endpoint one other
 same_parts one other = grind (arith, nat_tests)
@@ -83,14 +97,15 @@ first_by true endpoint rows first found is same member = rw is (same refl, membe
 first_by false endpoint rows first found is same member = rw is tt
 
 -- the first pair of the range, where it is of the endpoint
-pub first_found : (order : EndpointGroup → EndpointGroup → Ordering) (endpoint : EndpointValue) (filters : BTreeMap EndpointGroup StoredFilter) (entries : List (EndpointGroup × StoredFilter))
-    (first : EndpointGroup) (stored : StoredFilter) (rest : List (EndpointGroup × StoredFilter)) (own : Bool) (found : Option EndpointGroup) → order ≡ endpoint_group_order
-    → IsOwnRange order endpoint filters entries → entries ≡ (first, stored) ∷ rest → own ≡ ((first.endpoint.address == endpoint.address) && (first.endpoint.port == endpoint.port)) → found ≡ then_some own first
+pub first_found : (order : EndpointGroup → EndpointGroup → Ordering) (endpoint : EndpointValue) (filters : FiltersValue) (pairs : BTreeSet EndpointGroup) (keys : List EndpointGroup)
+    (first : EndpointGroup) (rest : List EndpointGroup) (own : Bool) (found : Option EndpointGroup) → order ≡ endpoint_group_order → pairs.keys ≡ pairs_of filters
+    → IsOwnRange order endpoint pairs keys → keys ≡ first ∷ rest → own ≡ ((first.endpoint.address == endpoint.address) && (first.endpoint.port == endpoint.port)) → found ≡ then_some own first
     → IfSome found (λ at. (at.endpoint ≡ endpoint) × IsSome (membership_in (stored_memberships filters) at))
-first_found order endpoint filters entries first stored rest own found same range is test given =
-    let ours = subst (λ (one : EndpointGroup → EndpointGroup → Ordering). IsOwnRange one endpoint filters entries) same range in
-    let here = subst (λ (some : List (EndpointGroup × StoredFilter)). IsOwnRange endpoint_group_order endpoint filters some) is ours in
-    let member : IsSome (membership_in (stored_memberships filters) first) = rw (membership_in-stored filters first, here.1.1) refl in
+first_found order endpoint filters pairs keys first rest own found same are range is test given =
+    let ours = subst (λ (one : EndpointGroup → EndpointGroup → Ordering). IsOwnRange one endpoint pairs keys) same range in
+    let here = subst (λ (some : List EndpointGroup). IsOwnRange endpoint_group_order endpoint pairs some) is ours in
+    let member : IsSome (membership_in (stored_memberships filters) first) =
+    sym (has-pairs_of filters (stored_memberships filters) first refl) ∙ sym (ap (list_any (is_at (endpoint_group_order first))) are) ∙ here.1.1 in
     first_by own endpoint (stored_memberships filters) first found given (λ yes. same_endpoint-exact first.endpoint endpoint (sym (test ∙ same_parts first.endpoint endpoint) ∙ yes)) member
 
 none_by : (own : Bool) (first : EndpointGroup) (found : Option EndpointGroup) (P : Type 0) → found ≡ then_some own first → (own ≡ false → P) → IfNone found P
@@ -106,16 +121,17 @@ absent_by endpoint group first (Some stored) apart after before =
     let wrong = sym tied ∙ apart in cc
 
 -- where the first pair of the range is of another endpoint, the endpoint has no membership
-pub none_found : (order : EndpointGroup → EndpointGroup → Ordering) (endpoint : EndpointValue) (filters : BTreeMap EndpointGroup StoredFilter) (entries : List (EndpointGroup × StoredFilter))
-    (first : EndpointGroup) (stored : StoredFilter) (rest : List (EndpointGroup × StoredFilter)) (own : Bool) (found : Option EndpointGroup) → order ≡ endpoint_group_order → IsOrdered endpoint_group_order filters
-    → IsOwnRange order endpoint filters entries → entries ≡ (first, stored) ∷ rest → own ≡ ((first.endpoint.address == endpoint.address) && (first.endpoint.port == endpoint.port)) → found ≡ then_some own first
+pub none_found : (order : EndpointGroup → EndpointGroup → Ordering) (endpoint : EndpointValue) (filters : FiltersValue) (pairs : BTreeSet EndpointGroup) (keys : List EndpointGroup)
+    (first : EndpointGroup) (rest : List EndpointGroup) (own : Bool) (found : Option EndpointGroup) → order ≡ endpoint_group_order → AreOrdered filters → pairs.keys ≡ pairs_of filters
+    → IsOwnRange order endpoint pairs keys → keys ≡ first ∷ rest → own ≡ ((first.endpoint.address == endpoint.address) && (first.endpoint.port == endpoint.port)) → found ≡ then_some own first
     → IfNone found (filter (is_of_another endpoint) (stored_memberships filters) ≡ stored_memberships filters)
-none_found order endpoint filters entries first stored rest own found same ordered range is test given =
-    let ours = subst (λ (one : EndpointGroup → EndpointGroup → Ordering). IsOwnRange one endpoint filters entries) same range in
-    let here = subst (λ (some : List (EndpointGroup × StoredFilter)). IsOwnRange endpoint_group_order endpoint filters some) is ours in
+none_found order endpoint filters pairs keys first rest own found same ordered are range is test given =
+    let ours = subst (λ (one : EndpointGroup → EndpointGroup → Ordering). IsOwnRange one endpoint pairs keys) same range in
+    let here = subst (λ (some : List EndpointGroup). IsOwnRange endpoint_group_order endpoint pairs some) is ours in
     none_by own first found (filter (is_of_another endpoint) (stored_memberships filters) ≡ stored_memberships filters) given
-    (λ no. no_others endpoint filters ordered (λ group. absent_by endpoint group first (get endpoint_group_order filters (endpoint_group endpoint group))
-    (sym (test ∙ same_parts first.endpoint endpoint) ∙ no) here.1.0.0 (λ some. here.2 (endpoint_group endpoint group) (own_from_least endpoint group, tt) some)))
+    (λ no. no_others endpoint filters ordered (λ group. absent_by endpoint group first (filter_at filters (endpoint_group endpoint group))
+    (sym (test ∙ same_parts first.endpoint endpoint) ∙ no) here.1.0.0
+    (λ some. here.2 (endpoint_group endpoint group) (own_from_least endpoint group, tt) (contained filters pairs (endpoint_group endpoint group) are ∙ some))))
 
 own_by : (here : Bool) (endpoint : EndpointValue) (at : EndpointGroup) (membership : Membership) (later : Option Membership) → same_endpoint_group at (endpoint_group_of membership) ≡ here → at.endpoint ≡ endpoint
     → only (is_of_another endpoint) later ≡ None → only (is_of_another endpoint) (cond here (Some membership) later) ≡ None

@@ -1,6 +1,5 @@
 -- Memberships in the order of their renewals, and lists from which they are taken one by one.
 use Rattle.std.proofs.Common.{◌≡◌, ℕ, zero, suc, ◌+◌, ◌<◌, ◌≤◌, Bool, true, false, cond, not, nat_lt, List, [], ◌∷◌, length, filter, Option, Some, None, IsSome, IfNone, ◌↔◌, refl, ap, subst, ◌∙◌, arith}
-use Rattle.std.specs.BTreeMap.{BTreeMap, IsOrdered, get}
 use Rattle.std.specs.BTreeSet as sorted
 use Rattle.std.specs.BTreeSet.{BTreeSet}
 use Rattle.std.specs.List.{list_any}
@@ -14,6 +13,7 @@ use Rattle.std.proofs.lemmas.Map.Keys.{le_from_not_gt, sorted_head, sorted_tail}
 use Rattle.contract_words.specs.Ascending.{IsAscending}
 use Rattle.contract_words.proofs.AscendingLaws.{IsAscending-filter}
 use Rattle.endpoint_membership.specs.EndpointGroup.{EndpointGroup, endpoint_group_order, same_endpoint_group}
+use Rattle.endpoint_membership.specs.Filters.{AreOrdered, FiltersValue, filter_at}
 use Rattle.endpoint_membership.specs.Membership.{Membership, endpoint_group_of, is_fresh, membership_order}
 use Rattle.endpoint_membership.specs.Memberships.{membership_in}
 use Rattle.endpoint_membership.specs.Parts.{is_renewed_at, renewal_order, stored_memberships}
@@ -88,13 +88,13 @@ kept_by lifetime moment at None fresh = refl
 kept_by lifetime moment at (Some stored) fresh = rw (fresh stored refl) refl
 
 -- where each renewal is fresh, each membership is
-pub all_fresh : (lifetime moment : ℕ) (filters : BTreeMap EndpointGroup StoredFilter) (renewals : BTreeSet LastRenewal) → IsOrdered endpoint_group_order filters
-    → ((renewal : LastRenewal) → sorted.contains renewal_order renewals renewal ≡ is_renewed_at renewal.renewed (get endpoint_group_order filters renewal.at))
+pub all_fresh : (lifetime moment : ℕ) (filters : FiltersValue) (renewals : BTreeSet LastRenewal) → AreOrdered filters
+    → ((renewal : LastRenewal) → sorted.contains renewal_order renewals renewal ≡ is_renewed_at renewal.renewed (filter_at filters renewal.at))
     → ((renewal : LastRenewal) → sorted.contains renewal_order renewals renewal ≡ true → nat_lt moment (renewal.renewed + lifetime) ≡ true)
     → filter (is_fresh lifetime moment) (stored_memberships filters) ≡ stored_memberships filters
 all_fresh lifetime moment filters renewals ordered renewed fresh =
     filter_all (is_fresh lifetime moment) (stored_memberships filters) (IsAscending-stored filters ordered)
-    (λ at. rw (membership_in-stored filters at) (kept_by lifetime moment at (get endpoint_group_order filters at)
+    (λ at. rw (membership_in-stored filters at) (kept_by lifetime moment at (filter_at filters at)
     (λ stored found. fresh (record { renewed = stored.renewed; at = at }) (renewed (record { renewed = stored.renewed; at = at }) ∙ ap (is_renewed_at stored.renewed) found ∙ eq-eqb stored.renewed stored.renewed refl))))
 
 -- where the first renewal is fresh, all are
@@ -128,7 +128,7 @@ expired_by lifetime moment at renewed (Some stored) is past =
     (refl, rw stale refl)
 
 -- the membership of a renewal that is not fresh is there, and is not fresh
-pub expired : (lifetime moment : ℕ) (filters : BTreeMap EndpointGroup StoredFilter) (first : LastRenewal) → is_renewed_at first.renewed (get endpoint_group_order filters first.at) ≡ true → first.renewed + lifetime ≤ moment
+pub expired : (lifetime moment : ℕ) (filters : FiltersValue) (first : LastRenewal) → is_renewed_at first.renewed (filter_at filters first.at) ≡ true → first.renewed + lifetime ≤ moment
     → IsSome (membership_in (stored_memberships filters) first.at) × (only (is_fresh lifetime moment) (membership_in (stored_memberships filters) first.at) ≡ None)
 expired lifetime moment filters first is past =
-    rw (membership_in-stored filters first.at) (expired_by lifetime moment first.at first.renewed (get endpoint_group_order filters first.at) is past)
+    rw (membership_in-stored filters first.at) (expired_by lifetime moment first.at first.renewed (filter_at filters first.at) is past)

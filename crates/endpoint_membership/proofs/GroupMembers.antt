@@ -1,12 +1,12 @@
 -- The endpoints of a group that get a packet, by the group's members.
-use Rattle.std.proofs.Common.{◌≡◌, ℕ, ◌+◌, ◌<◌, Bor, Bool, true, false, not, cond, ◌&&◌, ◌||◌, List, [], ◌∷◌, ◌++◌, map, filter, length, nat_lt, Option, Some, None, is_some, refl, sym, ap, subst, ◌∙◌, arith}
-use Rattle.std.specs.BTreeMap.{BTreeMap, get}
-use Rattle.std.specs.BTreeMap.Range.{range_contains}
-use Rattle.std.specs.BTreeSet.{BTreeSet, keys_between}
+use Rattle.std.proofs.Common.{◌≡◌, ℕ, ◌+◌, ◌<◌, Bor, Bool, true, false, cond, ◌&&◌, ◌||◌, List, [], ◌∷◌, ◌++◌, map, filter, length, nat_lt, Option, Some, None, is_some, refl, sym, ap, subst, ◌∙◌, arith}
+use Rattle.std.specs.BTreeMap.{BTreeMap, IsOrdered, get, is_at, keys}
+use Rattle.std.specs.BTreeMap.Range.{IsEntryInRange, IsRangeOf, entries_between, range_contains}
 use Rattle.std.specs.Iterator.{Yields}
 use Rattle.std.specs.List.{AllByRecursion}
 use Rattle.std.specs.List.Sorted.{IsStrictlySortedBy}
-use Rattle.std.specs.Map.Iter.{TakesFirst, deref}
+use Rattle.std.specs.Map.{keys_of}
+use Rattle.std.specs.Map.Iter.{TakesFirst, deref_pair}
 use Rattle.std.specs.Ordering.{is_eq, is_le, nat_cmp, ordering_then}
 use Rattle.std.specs.declared.cmp.Ordering.{Ordering}
 use Rattle.std.specs.declared.cmp.Ordering.TheVariants.{Less, Equal, Greater}
@@ -16,27 +16,32 @@ use Rattle.std.proofs.lemmas.Cmp.{eq_by_cmp_equiv, tied_itself}
 use Rattle.std.proofs.lemmas.List.{append-nil, length-append, map-append}
 use Rattle.std.proofs.lemmas.List.Elements.{filter-append}
 use Rattle.std.proofs.lemmas.Map.Iter.{rest_so_far}
+use Rattle.std.proofs.lemmas.Map.Made.{is_some-lookup}
+use Rattle.std.proofs.lemmas.Map.Views.{All-turn}
 use Rattle.std.proofs.lemmas.Map.Lookups.{CmpEqualImpliesEq}
 use Rattle.amt_values.specs.declared.address.Ip.{Ip}
-use Rattle.amt_values.specs.contracts.address.IpPartialEq as groups
 use Rattle.amt_values.specs.Order.{endpoint_order, ip_order}
 use Rattle.amt_values.specs.EndpointValue.{EndpointValue}
 use Rattle.amt_values.proofs.Orders.{both_tied, endpoint_order-exact, endpoint_order-total, ip_order-exact, ip_order-total}
 use Rattle.source_filter.specs.Filter.{admits}
-use Rattle.source_filter.proofs.Compared.{tied as tied_groups}
 use Rattle.contract_words.specs.Ascending.{has, IsAscending}
 use Rattle.contract_words.proofs.AscendingLaws.{Equal-from_test, IsAscending-filter, has-filter, same_ascending}
-use Rattle.endpoint_membership.specs.EndpointGroup.{EndpointGroup, endpoint_group_order, same_group}
+use Rattle.endpoint_membership.specs.EndpointGroup.{EndpointGroup, same_group}
+use Rattle.endpoint_membership.specs.Filters.{AreOrdered, FiltersValue, filter_at, group_member_order}
 use Rattle.endpoint_membership.specs.Membership.{Membership, membership_order}
 use Rattle.endpoint_membership.specs.Memberships.{membership_in}
-use Rattle.endpoint_membership.specs.Parts.{AreAgreed, group_member_order, stored_membership, stored_memberships}
+use Rattle.endpoint_membership.specs.Parts.{stored_membership, stored_memberships}
 use Rattle.endpoint_membership.specs.Stored.{is_target, only, targets_in}
 use Rattle.endpoint_membership.specs.declared.keys.GroupMember.{GroupMember}
-use Rattle.endpoint_membership.specs.declared.keys.LastRenewal.{LastRenewal}
 use Rattle.endpoint_membership.specs.declared.stored.StoredFilter.{StoredFilter}
-use Rattle.endpoint_membership.proofs.KeysTogether.{filter-none, filter-wider, in_range-shares, least_number, others, same-ne}
+use Rattle.endpoint_membership.proofs.KeysTogether.{filter-none, filter-wider, in_range-shares, least_number, others}
+use Rattle.endpoint_membership.proofs.PairsWalked.{stored_at}
 use Rattle.endpoint_membership.proofs.StoredView.{IsAscending-stored, membership_in-stored, membership_with}
 use Rattle.endpoint_membership.proofs.TargetsByLog.{has-targets, IsAscending-targets}
+
+-- the members that a walk over filters has seen
+abbrev pub seen_members : List (Bor GroupMember × Bor StoredFilter) → List GroupMember
+seen_members seen = keys_of (map deref_pair seen)
 
 -- the pair of an endpoint and a group
 abbrev pub pair : EndpointValue → Ip → EndpointGroup
@@ -83,30 +88,23 @@ lets_in-some lifetime moment source rows at stored is =
     ∙ ap (λ (same : Bool). is_some (cond ((same && nat_lt moment (stored.renewed + lifetime)) && admits stored.filter source) (Some membership) None)) (same_itself at.group)
     ∙ counted_by (nat_lt moment (stored.renewed + lifetime)) (admits stored.filter source) membership)
 
-pub lets_in-none : (lifetime moment : ℕ) (source : Ip) (rows : List Membership) (at : EndpointGroup) → membership_in rows at ≡ None → false ≡ lets_in lifetime moment source rows at
-lets_in-none lifetime moment source rows at is = rw is refl
-
--- the membership of a pair is what a search of the map found
-pub stored_at : (order : EndpointGroup → EndpointGroup → Ordering) (filters : BTreeMap EndpointGroup StoredFilter) (rows : List Membership) (at : EndpointGroup) (found : Option StoredFilter) → order ≡ endpoint_group_order
-    → stored_memberships filters ≡ rows → found ≡ get order filters at → membership_in rows at ≡ membership_with at found
-stored_at order filters rows at found same view is =
-    ap (λ (all : List Membership). membership_in all at) (sym view) ∙ membership_in-stored filters at
-    ∙ ap (membership_with at) (sym (is ∙ ap (λ (by : EndpointGroup → EndpointGroup → Ordering). get by filters at) same))
-
 some_with : (at : EndpointGroup) (stored : Option StoredFilter) → is_some (membership_with at stored) ≡ is_some stored
 some_with at None = refl
 some_with at (Some stored) = refl
 
--- a member is in the set where its pair has a membership
+-- each filter stands by group too
+abbrev pub AreByGroup : BTreeMap GroupMember StoredFilter → FiltersValue → Type 0
+AreByGroup kept filters = (member : GroupMember) → get group_member_order kept member ≡ filter_at filters (pair member.endpoint member.group)
+
+-- a member is there where its pair has a membership
 abbrev pub AreMembersOf : List GroupMember → List Membership → Type 0
 AreMembersOf members rows = (member : GroupMember) → has group_member_order members member ≡ is_some (membership_in rows (pair member.endpoint member.group))
 
--- the members of a table are those of its memberships
-pub AreMembersOf-agreed : (filters : BTreeMap EndpointGroup StoredFilter) (renewals : BTreeSet LastRenewal) (members : BTreeSet GroupMember) (counts : BTreeMap EndpointValue ℕ) → AreAgreed filters renewals members counts
-    → AreMembersOf members.keys (stored_memberships filters)
-AreMembersOf-agreed filters renewals members counts agreed member =
+-- the members with a filter are those of the memberships
+AreMembersOf-kept : (kept : BTreeMap GroupMember StoredFilter) (filters : FiltersValue) → AreByGroup kept filters → AreMembersOf (keys kept) (stored_memberships filters)
+AreMembersOf-kept kept filters by_group member =
     let at = pair member.endpoint member.group in
-    agreed.joined member ∙ sym (ap (λ (found : Option Membership). is_some found) (membership_in-stored filters at) ∙ some_with at (get endpoint_group_order filters at))
+    sym (is_some-lookup (is_at (group_member_order member)) kept.entries) ∙ ap is_some (by_group member) ∙ sym (some_with at (filter_at filters at)) ∙ ap is_some (sym (membership_in-stored filters at))
 
 -- all members are of the group
 abbrev AreIn : Ip → List GroupMember → Type 0
@@ -243,16 +241,27 @@ one_more_by : (passes : Bool) (test : GroupMember → Bool) (member : GroupMembe
 one_more_by true test member is = rw is refl
 one_more_by false test member is = rw is refl
 
+-- the filter of a member decides whether its membership lets a packet in
+pub lets_in-kept : (lifetime moment : ℕ) (group source : Ip) (kept : BTreeMap GroupMember StoredFilter) (filters : FiltersValue) (rows : List Membership) (member : GroupMember) (stored : StoredFilter) → AreByGroup kept filters
+    → stored_memberships filters ≡ rows → get group_member_order kept member ≡ Some stored → same_group member.group group ≡ true
+    → (nat_lt moment (stored.renewed + lifetime) && admits stored.filter source) ≡ lets_in lifetime moment source rows (pair member.endpoint group)
+lets_in-kept lifetime moment group source kept filters rows member stored by_group view found same =
+    let at = pair member.endpoint group in
+    let here : filter_at filters at ≡ Some stored = ap (λ (one : Ip). filter_at filters (pair member.endpoint one)) (ip_order-exact group member.group (tied group member.group same)) ∙ sym (by_group member) ∙ found in
+    lets_in-some lifetime moment source rows at stored (stored_at filters rows at (Some stored) view (sym here))
+
 -- one member of the group more
-pub targets_among-more : (lifetime moment : ℕ) (group source : Ip) (rows : List Membership) (seen : List (Bor GroupMember)) (member : Bor GroupMember) (before after : List EndpointValue) (lets : Bool)
-    → same_group member.now.group group ≡ true → lets_in lifetime moment source rows (pair member.now.endpoint group) ≡ lets → before ≡ targets_among lifetime moment group source rows (map deref seen)
-    → after ≡ before ++ cond lets (member.now.endpoint ∷ []) [] → after ≡ targets_among lifetime moment group source rows (map deref (seen ++ member ∷ []))
-targets_among-more lifetime moment group source rows seen member before after lets same is so_far now =
+pub targets_among-more : (lifetime moment : ℕ) (group source : Ip) (rows : List Membership) (seen : List (Bor GroupMember × Bor StoredFilter)) (item : Bor GroupMember × Bor StoredFilter) (before after : List EndpointValue) (lets : Bool)
+    → same_group item.0.now.group group ≡ true → lets_in lifetime moment source rows (pair item.0.now.endpoint group) ≡ lets → before ≡ targets_among lifetime moment group source rows (seen_members seen)
+    → after ≡ before ++ cond lets (item.0.now.endpoint ∷ []) [] → after ≡ targets_among lifetime moment group source rows (seen_members (seen ++ item ∷ []))
+targets_among-more lifetime moment group source rows seen item before after lets same is so_far now =
     let among = targets_among lifetime moment group source rows in
-    let passes = decided lifetime moment group source rows member.now same ∙ is in
-    now ∙ ap (λ (first : List EndpointValue). first ++ cond lets (member.now.endpoint ∷ []) []) so_far
-    ∙ sym (ap among (map-append deref seen (member ∷ [])) ∙ targets_among-append lifetime moment group source rows (map deref seen) (member.now ∷ [])
-    ∙ ap (λ (more : List EndpointValue). among (map deref seen) ++ more) (one_more_by lets (is_target_member lifetime moment group source rows) member.now passes))
+    let member = item.0.now in
+    let passes = decided lifetime moment group source rows member same ∙ is in
+    let more = ap keys_of (map-append deref_pair seen (item ∷ [])) ∙ map-append (λ (entry : GroupMember × StoredFilter). entry.0) (map deref_pair seen) (deref_pair item ∷ []) in
+    now ∙ ap (λ (first : List EndpointValue). first ++ cond lets (member.endpoint ∷ []) []) so_far
+    ∙ sym (ap among more ∙ targets_among-append lifetime moment group source rows (seen_members seen) (member ∷ [])
+    ∙ ap (λ (last : List EndpointValue). among (seen_members seen) ++ last) (one_more_by lets (is_target_member lifetime moment group source rows) member passes))
 
 -- after the last member of the range all are seen
 pub targets_among-end : (lifetime moment : ℕ) (group source : Ip) (rows : List Membership) (members before rest : List GroupMember) → filter (from_least group) members ≡ before ++ rest → rest ≡ []
@@ -261,24 +270,37 @@ targets_among-end lifetime moment group source rows members before rest is none 
     ap (targets_among lifetime moment group source rows) (sym (is ∙ ap (λ (more : List GroupMember). before ++ more) none ∙ append-nil before))
     ∙ targets_among-range lifetime moment group source rows members
 
+keys_by : (keeps : Bool) (entry : GroupMember × StoredFilter) (rest : List (GroupMember × StoredFilter)) (members : List GroupMember) → keys_of rest ≡ members → keys_of (cond keeps (entry ∷ rest) rest) ≡ cond keeps (entry.0 ∷ members) members
+keys_by true entry rest members is = ap (λ (more : List GroupMember). entry.0 ∷ more) is
+keys_by false entry rest members is = is
+
+keys_between-entries : (group : Ip) (entries : List (GroupMember × StoredFilter)) → keys_of (entries_between group_member_order (Included (least_member group)) Unbounded entries) ≡ filter (from_least group) (keys_of entries)
+keys_between-entries group [] = refl
+keys_between-entries group (entry ∷ rest) =
+    keys_by (from_least group entry.0) entry (entries_between group_member_order (Included (least_member group)) Unbounded rest) (filter (from_least group) (keys_of rest)) (keys_between-entries group rest)
+
 -- the part of the members that a walk has seen, and the rest
-pub walked : (order : GroupMember → GroupMember → Ordering) (group : Ip) (endpoint : EndpointValue) (members : BTreeSet GroupMember) (range start rest : List GroupMember) (seen : List (Bor GroupMember)) → order ≡ group_member_order
-    → endpoint ≡ record { address = 0; port = 0 } → range ≡ keys_between order (Included (record { group = group; endpoint = endpoint })) Unbounded members → start ≡ range → Yields (TakesFirst deref) start seen rest
-    → filter (from_least group) members.keys ≡ map deref seen ++ rest
-walked order group endpoint members range start rest seen same least between begins yields =
-    sym (begins ∙ between ∙ ap (λ (by : GroupMember → GroupMember → Ordering). keys_between by (Included (made group endpoint)) Unbounded members) same
-    ∙ ap (λ (first : EndpointValue). keys_between group_member_order (Included (made group first)) Unbounded members) least)
-    ∙ rest_so_far deref seen start rest yields
+pub walked : (order : GroupMember → GroupMember → Ordering) (group : Ip) (endpoint : EndpointValue) (kept : BTreeMap GroupMember StoredFilter) (range start rest : List (GroupMember × StoredFilter)) (seen : List (Bor GroupMember × Bor StoredFilter))
+    → order ≡ group_member_order → endpoint ≡ record { address = 0; port = 0 } → range ≡ entries_between order (Included (record { group = group; endpoint = endpoint })) Unbounded kept.entries → start ≡ range
+    → Yields (TakesFirst deref_pair) start seen rest → filter (from_least group) (keys kept) ≡ seen_members seen ++ keys_of rest
+walked order group endpoint kept range start rest seen same least between begins yields =
+    let whole = begins ∙ between ∙ ap (λ (by : GroupMember → GroupMember → Ordering). entries_between by (Included (made group endpoint)) Unbounded kept.entries) same
+    ∙ ap (λ (first : EndpointValue). entries_between group_member_order (Included (made group first)) Unbounded kept.entries) least in
+    sym (keys_between-entries group kept.entries) ∙ ap keys_of (sym whole ∙ rest_so_far deref_pair seen start rest yields)
+    ∙ map-append (λ (entry : GroupMember × StoredFilter). entry.0) (map deref_pair seen) rest
+
+-- the next filter of the range is the member's
+pub next_found : (order : GroupMember → GroupMember → Ordering) (first : GroupMember) (kept : BTreeMap GroupMember StoredFilter) (range start rest later : List (GroupMember × StoredFilter)) (seen : List (Bor GroupMember × Bor StoredFilter))
+    (next : Option (Bor GroupMember × Bor StoredFilter)) (item : Bor GroupMember × Bor StoredFilter) → order ≡ group_member_order → IsRangeOf order (Included first) Unbounded kept range → start ≡ range
+    → Yields (TakesFirst deref_pair) start seen rest → next ≡ Some item → TakesFirst deref_pair rest next later → get group_member_order kept item.0.now ≡ Some item.1.now
+next_found order first kept range start rest later seen next item same within begins yields is steps =
+    ap (λ (by : GroupMember → GroupMember → Ordering). get by kept item.0.now) (sym same)
+    ∙ (All-turn deref_pair (IsEntryInRange order (Included first) Unbounded kept) range seen start rest later next item within.0 begins yields is steps).1
 
 -- what the members of a table give is what its memberships give
-pub targets_among-table : (lifetime moment : ℕ) (group source : Ip) (order : GroupMember → GroupMember → Ordering) (filters : BTreeMap EndpointGroup StoredFilter) (renewals : BTreeSet LastRenewal) (members : BTreeSet GroupMember)
-    (counts : BTreeMap EndpointValue ℕ) (rows : List Membership) → order ≡ group_member_order → AreAgreed filters renewals members counts → stored_memberships filters ≡ rows → IsAscending order members.keys
-    → targets_among lifetime moment group source rows members.keys ≡ targets_in lifetime moment group source rows
-targets_among-table lifetime moment group source order filters renewals members counts rows same agreed view ordered =
-    let ascends = subst (λ (by : GroupMember → GroupMember → Ordering). IsAscending by members.keys) same ordered in
-    subst (λ (all : List Membership). targets_among lifetime moment group source all members.keys ≡ targets_in lifetime moment group source all) view
-    (targets_among-all lifetime moment group source (stored_memberships filters) members.keys (IsAscending-stored filters agreed.ordered) ascends (AreMembersOf-agreed filters renewals members counts agreed))
-
--- whether two groups differ, as `!=` finds it
-pub same_group-ne : (one other : Ip) (differ answer : Bool) → differ ≡ not ((groups.TheImpl.ghosts).eq one other) → differ ≡ answer → same_group one other ≡ not answer
-same_group-ne one other differ answer is found = same-ne (same_group one other) ((groups.TheImpl.ghosts).eq one other) differ answer (tied_groups one other) is found
+pub targets_among-table : (lifetime moment : ℕ) (group source : Ip) (order : GroupMember → GroupMember → Ordering) (kept : BTreeMap GroupMember StoredFilter) (filters : FiltersValue) (rows : List Membership) → order ≡ group_member_order
+    → AreByGroup kept filters → AreOrdered filters → stored_memberships filters ≡ rows → IsOrdered order kept → targets_among lifetime moment group source rows (keys kept) ≡ targets_in lifetime moment group source rows
+targets_among-table lifetime moment group source order kept filters rows same by_group ordered view ascending =
+    let ascends = subst (λ (by : GroupMember → GroupMember → Ordering). IsOrdered by kept) same ascending in
+    subst (λ (all : List Membership). targets_among lifetime moment group source all (keys kept) ≡ targets_in lifetime moment group source all) view
+    (targets_among-all lifetime moment group source (stored_memberships filters) (keys kept) (IsAscending-stored filters ordered) ascends (AreMembersOf-kept kept filters by_group))

@@ -58,7 +58,7 @@ filter_passes : {K : Type 0} (test : K → Bool) (xs : List K) → AllByRecursio
 filter_passes test [] = tt
 filter_passes test (x ∷ xs) = passes_by test (test x) x (filter test xs) refl (filter_passes test xs)
 
-all_back : {K : Type 0} (P : K → Type 0) (xs ys : List K) → AllByRecursion P (xs ++ ys) → AllByRecursion P ys
+pub all_back : {K : Type 0} (P : K → Type 0) (xs ys : List K) → AllByRecursion P (xs ++ ys) → AllByRecursion P ys
 all_back P [] ys all = all
 all_back P (x ∷ xs) ys all = all_back P xs ys all.1
 

@@ -14,6 +14,7 @@ pub mod FilterMap
 pub mod GonePairs
 pub mod GroupMembers
 pub mod HoldsAfter
+pub mod KeptFilters
 pub mod KeysTogether
 pub mod LimitByOwn
 pub mod LimitOrder
@@ -25,6 +26,7 @@ pub mod MembershipIn
 pub mod MembershipsByLog
 pub mod OneMembership
 pub mod OwnFilters
+pub mod PairsWalked
 pub mod PartOrders
 pub mod RenewedTogether
 pub mod ReplacedFilters

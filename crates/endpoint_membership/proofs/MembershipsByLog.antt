@@ -23,7 +23,7 @@ use Rattle.endpoint_membership.proofs.MembershipAt.{membership_at-is}
 use Rattle.endpoint_membership.proofs.FilterByRecords.{filter_by_records}
 
 -- what a function of pairs gives is a membership of the pair
-abbrev GivesItsEndpointGroup : (EndpointGroup → Option Membership) → Type 0
+abbrev pub GivesItsEndpointGroup : (EndpointGroup → Option Membership) → Type 0
 GivesItsEndpointGroup given = (endpoint_group : EndpointGroup) (membership : Membership) → given endpoint_group ≡ Some membership → endpoint_group_of membership ≡ endpoint_group
 
 pub membership_by : (test : Bool) (one other : Membership) → cond test (Some one) None ≡ Some other → one ≡ other
@@ -59,7 +59,7 @@ endpoint_group_by true false given at endpoint_group same = rw (same refl) (or_n
 endpoint_group_by false listed given at endpoint_group same = refl
 
 -- the membership of a pair is what the function gives of it, where it is one of the pairs
-membership_in-filter_map : (given : EndpointGroup → Option Membership) → GivesItsEndpointGroup given → (endpoint_groups : List EndpointGroup) (endpoint_group : EndpointGroup)
+pub membership_in-filter_map : (given : EndpointGroup → Option Membership) → GivesItsEndpointGroup given → (endpoint_groups : List EndpointGroup) (endpoint_group : EndpointGroup)
     → membership_in (filter_map given endpoint_groups) endpoint_group ≡ cond (has endpoint_group_order endpoint_groups endpoint_group) (given endpoint_group) None
 membership_in-filter_map given its [] endpoint_group = refl
 membership_in-filter_map given its (at ∷ endpoint_groups) endpoint_group =
@@ -85,7 +85,7 @@ IsAscending-cons_option at None rest its after ascends = ascends
 IsAscending-cons_option at (Some membership) rest its after ascends =
     (rw (sym (its membership refl)) at after, ascends)
 
-IsAscending-filter_map : (given : EndpointGroup → Option Membership) → GivesItsEndpointGroup given → (endpoint_groups : List EndpointGroup) → IsAscending endpoint_group_order endpoint_groups → IsAscending membership_order (filter_map given endpoint_groups)
+pub IsAscending-filter_map : (given : EndpointGroup → Option Membership) → GivesItsEndpointGroup given → (endpoint_groups : List EndpointGroup) → IsAscending endpoint_group_order endpoint_groups → IsAscending membership_order (filter_map given endpoint_groups)
 unfolding IsStrictlySortedBy
 IsAscending-filter_map given its [] ascends = tt
 IsAscending-filter_map given its (at ∷ endpoint_groups) ascends =

@@ -10,7 +10,8 @@ use Rattle.amt_values.specs.Order.{endpoint_order}
 use Rattle.amt_values.proofs.Orders.{both_tied, endpoint_order-total, ip_order-total}
 use Rattle.source_filter.proofs.Compared.{compared}
 use Rattle.endpoint_membership.specs.EndpointGroup.{EndpointGroup, endpoint_group_order}
-use Rattle.endpoint_membership.specs.Parts.{group_member_order, renewal_order}
+use Rattle.endpoint_membership.specs.Filters.{group_member_order}
+use Rattle.endpoint_membership.specs.Parts.{renewal_order}
 use Rattle.endpoint_membership.specs.contracts.keys.EndpointGroupOrd as pairs
 use Rattle.endpoint_membership.specs.contracts.keys.GroupMemberOrd as members
 use Rattle.endpoint_membership.specs.contracts.keys.LastRenewalOrd as renewals

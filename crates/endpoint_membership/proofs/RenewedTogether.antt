@@ -1,6 +1,5 @@
 -- Renewals that go in together, and out again where one is refused.
 use Rattle.std.proofs.Common.{◌≡◌, ℕ, Bool, true, false, cond, not, ◌&&◌, ◌||◌, List, [], ◌∷◌, ◌++◌, take, drop, refl, sym, ap, subst, ◌∙◌}
-use Rattle.std.specs.BTreeMap.{BTreeMap}
 use Rattle.std.specs.BTreeSet as sorted
 use Rattle.std.specs.BTreeSet.{BTreeSet}
 use Rattle.std.specs.Ordering.{eq_by_cmp}
@@ -9,12 +8,11 @@ use Rattle.std.proofs.lemmas.Cmp.{eq_by_cmp_equiv}
 use Rattle.std.proofs.lemmas.List.{take-append-drop}
 use Rattle.std.proofs.lemmas.List.Folds.{list_any-append}
 use Rattle.std.proofs.lemmas.Map.Views.{tells_apart}
-use Rattle.endpoint_membership.specs.EndpointGroup.{EndpointGroup}
+use Rattle.endpoint_membership.specs.Filters.{FiltersValue}
 use Rattle.endpoint_membership.specs.contracts.keys.LastRenewalOrd as renewals
 use Rattle.endpoint_membership.specs.Membership.{Membership}
 use Rattle.endpoint_membership.specs.Parts.{AreRenewalsOf, is_renewal_in, is_stored, renewal_of, renewal_order}
 use Rattle.endpoint_membership.specs.declared.keys.LastRenewal.{LastRenewal}
-use Rattle.endpoint_membership.specs.declared.stored.StoredFilter.{StoredFilter}
 use Rattle.endpoint_membership.proofs.PartOrders.{renewal_order-exact, renewal_order-total, renewals_compared}
 
 -- both say the same
@@ -86,7 +84,7 @@ taken_by false true false before same = refl
 taken_by false false stored before same = refl
 
 -- a renewal is taken out where no filter has it
-pub taken_out : (filters : BTreeMap EndpointGroup StoredFilter) (key renewal : LastRenewal) (its before after : Bool) → is_stored filters key ≡ its
+pub taken_out : (filters : FiltersValue) (key renewal : LastRenewal) (its before after : Bool) → is_stored filters key ≡ its
     → after ≡ cond its before (cond (same_renewal key renewal) false before) → after ≡ cond (same_renewal key renewal && not (is_stored filters renewal)) false before
 taken_out filters key renewal its before after is now =
     now ∙ taken_by its (same_renewal key renewal) (is_stored filters renewal) before (λ here. sym is ∙ ap (is_stored filters) (tells_apart renewal_order-exact key renewal here))
@@ -100,7 +98,7 @@ undone_by false true stored is = is
 undone_by false false stored is = is
 
 -- a refusal is undone
-pub undone : (filters : BTreeMap EndpointGroup StoredFilter) (memberships : List Membership) (before put after : BTreeSet LastRenewal) → AreRenewalsOf [] filters before
+pub undone : (filters : FiltersValue) (memberships : List Membership) (before put after : BTreeSet LastRenewal) → AreRenewalsOf [] filters before
     → ((renewal : LastRenewal) → sorted.contains renewal_order put renewal ≡ ((is_renewal_in memberships renewal && sorted.contains renewal_order put renewal) || sorted.contains renewal_order before renewal))
     → ((renewal : LastRenewal) → sorted.contains renewal_order after renewal ≡ (sorted.contains renewal_order put renewal && not (is_renewal_in memberships renewal && not (is_stored filters renewal))))
     → AreRenewalsOf [] filters after

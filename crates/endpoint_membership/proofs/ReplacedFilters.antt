@@ -1,6 +1,6 @@
 -- Filters that take the place of those of their pairs, one after another, and the renewals that stay.
 use Rattle.std.proofs.Common.{◌≡◌, ◌==◌, ℕ, ◌+◌, Bool, true, false, cond, not, ◌&&◌, ◌||◌, List, [], ◌∷◌, map, Option, Some, None, is_some, option_map, refl, sym, ap, subst, ◌∙◌}
-use Rattle.std.specs.BTreeMap.{BTreeMap, get, is_at, keys}
+use Rattle.std.specs.BTreeMap.{BTreeMap, is_at}
 use Rattle.std.specs.BTreeSet as sorted
 use Rattle.std.specs.BTreeSet.{BTreeSet}
 use Rattle.std.specs.Cmp.{tied_then, unsigned_ties}
@@ -17,11 +17,11 @@ use Rattle.std.proofs.lemmas.Map.Made.{is_some-lookup}
 use Rattle.amt_values.specs.EndpointValue.{EndpointValue}
 use Rattle.contract_words.specs.Ascending.{IsAscending}
 use Rattle.endpoint_membership.specs.EndpointGroup.{EndpointGroup, endpoint_group_order, same_endpoint, same_endpoint_group}
+use Rattle.endpoint_membership.specs.Filters.{FiltersValue, filter_at, pairs_of}
 use Rattle.endpoint_membership.specs.Limits.{group_count}
 use Rattle.endpoint_membership.specs.Membership.{Membership, endpoint_group_of, membership_order}
 use Rattle.endpoint_membership.specs.Memberships.{membership_in}
 use Rattle.endpoint_membership.specs.Parts.{AreAgreed, AreRenewalsOf, is_renewal_in, is_renewed_at, is_stored, renewal_of, renewal_order, some_unless_zero, stored_filter, stored_membership, stored_memberships}
-use Rattle.endpoint_membership.specs.declared.keys.GroupMember.{GroupMember}
 use Rattle.endpoint_membership.specs.declared.keys.LastRenewal.{LastRenewal}
 use Rattle.endpoint_membership.specs.declared.stored.StoredFilter.{StoredFilter}
 use Rattle.endpoint_membership.proofs.EndpointGroupOrder.{endpoint_group_order-total}
@@ -31,8 +31,8 @@ use Rattle.endpoint_membership.proofs.RenewedTogether.{same_renewal}
 use Rattle.endpoint_membership.proofs.StoredView.{membership_in-stored, membership_with}
 
 -- after is before with the filter at the pair
-abbrev pub IsPut : BTreeMap EndpointGroup StoredFilter → BTreeMap EndpointGroup StoredFilter → EndpointGroup → StoredFilter → Type 0
-IsPut before after key stored = (other : EndpointGroup) → get endpoint_group_order after other ≡ cond (same_endpoint_group key other) (Some stored) (get endpoint_group_order before other)
+abbrev pub IsPut : FiltersValue → FiltersValue → EndpointGroup → StoredFilter → Type 0
+IsPut before after key stored = (other : EndpointGroup) → filter_at after other ≡ cond (same_endpoint_group key other) (Some stored) (filter_at before other)
 
 same_renewal-is : (one other : LastRenewal) → same_renewal one other ≡ ((one.renewed == other.renewed) && same_endpoint_group one.at other.at)
 same_renewal-is one other =
@@ -42,15 +42,15 @@ is_renewed_at-put : (here : Bool) (moment : ℕ) (stored : StoredFilter) (old : 
 is_renewed_at-put true moment stored old = refl
 is_renewed_at-put false moment stored old = refl
 
-is_stored-put : (before after : BTreeMap EndpointGroup StoredFilter) (key : EndpointGroup) (stored : StoredFilter) (renewal : LastRenewal) → IsPut before after key stored
+is_stored-put : (before after : FiltersValue) (key : EndpointGroup) (stored : StoredFilter) (renewal : LastRenewal) → IsPut before after key stored
     → is_stored after renewal ≡ cond (same_endpoint_group key renewal.at) (stored.renewed == renewal.renewed) (is_stored before renewal)
 is_stored-put before after key stored renewal put =
-    ap (is_renewed_at renewal.renewed) (put renewal.at) ∙ is_renewed_at-put (same_endpoint_group key renewal.at) renewal.renewed stored (get endpoint_group_order before renewal.at)
+    ap (is_renewed_at renewal.renewed) (put renewal.at) ∙ is_renewed_at-put (same_endpoint_group key renewal.at) renewal.renewed stored (filter_at before renewal.at)
 
-is_stored-here : (filters : BTreeMap EndpointGroup StoredFilter) (key : EndpointGroup) (stored : StoredFilter) (renewal : LastRenewal) → get endpoint_group_order filters key ≡ Some stored
+is_stored-here : (filters : FiltersValue) (key : EndpointGroup) (stored : StoredFilter) (renewal : LastRenewal) → filter_at filters key ≡ Some stored
     → same_endpoint_group key renewal.at ≡ true → is_stored filters renewal ≡ (stored.renewed == renewal.renewed)
 is_stored-here filters key stored renewal is here =
-    ap (λ (at : EndpointGroup). is_renewed_at renewal.renewed (get endpoint_group_order filters at)) (sym (same_endpoint_group-exact key renewal.at here)) ∙ ap (is_renewed_at renewal.renewed) is
+    ap (λ (at : EndpointGroup). is_renewed_at renewal.renewed (filter_at filters at)) (sym (same_endpoint_group-exact key renewal.at here)) ∙ ap (is_renewed_at renewal.renewed) is
 
 not_both : (test : Bool) → (test && not test) ≡ false
 not_both true = refl
@@ -73,8 +73,8 @@ without false true = refl
 without false false = refl
 
 -- the old renewal of the pair is out
-pub old_renewal_out : (before after : BTreeMap EndpointGroup StoredFilter) (key : EndpointGroup) (was now : StoredFilter) (renewal : LastRenewal) (there left : Bool)
-    → get endpoint_group_order before key ≡ Some was → IsPut before after key now → (was.renewed ≡ now.renewed → ⊥)
+pub old_renewal_out : (before after : FiltersValue) (key : EndpointGroup) (was now : StoredFilter) (renewal : LastRenewal) (there left : Bool)
+    → filter_at before key ≡ Some was → IsPut before after key now → (was.renewed ≡ now.renewed → ⊥)
     → left ≡ cond (same_renewal (renewal_at was.renewed key) renewal) false there → left ≡ (there && not (is_stored before renewal && not (is_stored after renewal)))
 old_renewal_out before after key was now renewal there left is put apart out =
     let old = renewal_at was.renewed key in
@@ -88,8 +88,8 @@ old_renewal_out before after key was now renewal there left is put apart out =
     ∙ ap (λ (test : Bool). is_stored before renewal && not test) (sym (is_stored-put before after key now renewal put)))
 
 -- where the moment stays, the renewal does
-pub same_renewal_stays : (before after : BTreeMap EndpointGroup StoredFilter) (key : EndpointGroup) (was now : StoredFilter) (renewal : LastRenewal) (there : Bool)
-    → get endpoint_group_order before key ≡ Some was → IsPut before after key now → was.renewed ≡ now.renewed → there ≡ (there && not (is_stored before renewal && not (is_stored after renewal)))
+pub same_renewal_stays : (before after : FiltersValue) (key : EndpointGroup) (was now : StoredFilter) (renewal : LastRenewal) (there : Bool)
+    → filter_at before key ≡ Some was → IsPut before after key now → was.renewed ≡ now.renewed → there ≡ (there && not (is_stored before renewal && not (is_stored after renewal)))
 same_renewal_stays before after key was now renewal there is put same =
     without false there
     ∙ ap (λ (gone : Bool). there && not gone)
@@ -98,11 +98,11 @@ same_renewal_stays before after key was now renewal there is put same =
     ∙ ap (λ (test : Bool). is_stored before renewal && not test) (sym (is_stored-put before after key now renewal put)))
 
 -- each membership's pair has a filter
-abbrev pub ArePresent : BTreeMap EndpointGroup StoredFilter → List Membership → Type 0
-ArePresent filters memberships = AllByRecursion (λ membership. is_some (get endpoint_group_order filters (endpoint_group_of membership)) ≡ true) memberships
+abbrev pub ArePresent : FiltersValue → List Membership → Type 0
+ArePresent filters memberships = AllByRecursion (λ membership. is_some (filter_at filters (endpoint_group_of membership)) ≡ true) memberships
 
 -- the same keys are found where the keys are the same
-pub same_found : (before after : BTreeMap EndpointGroup StoredFilter) → keys after ≡ keys before → (at : EndpointGroup) → is_some (get endpoint_group_order after at) ≡ is_some (get endpoint_group_order before at)
+pub same_found : (before after : FiltersValue) → pairs_of after ≡ pairs_of before → (at : EndpointGroup) → is_some (filter_at after at) ≡ is_some (filter_at before at)
 same_found before after same at =
     let test = is_at (endpoint_group_order at) in
     is_some-lookup test after.entries ∙ ap (list_any test) same ∙ sym (is_some-lookup test before.entries)
@@ -116,14 +116,14 @@ same_back : (one other : EndpointGroup) → same_endpoint_group one other ≡ sa
 same_back one other = (eq_by_cmp_equiv endpoint_group_order-total).symm one other
 
 -- putting the first membership leaves what the others are to make of the filters
-pub first_put : (membership : Membership) (rest : List Membership) (before after : BTreeMap EndpointGroup StoredFilter) (at : EndpointGroup) → IsAscending membership_order (membership ∷ rest)
+pub first_put : (membership : Membership) (rest : List Membership) (before after : FiltersValue) (at : EndpointGroup) → IsAscending membership_order (membership ∷ rest)
     → IsPut before after (endpoint_group_of membership) (stored_filter membership)
-    → option_or (option_map stored_filter (membership_in rest at)) (get endpoint_group_order after at)
-    ≡ option_or (option_map stored_filter (membership_in (membership ∷ rest) at)) (get endpoint_group_order before at)
+    → option_or (option_map stored_filter (membership_in rest at)) (filter_at after at)
+    ≡ option_or (option_map stored_filter (membership_in (membership ∷ rest) at)) (filter_at before at)
 first_put membership rest before after at ascends put =
     let key = endpoint_group_of membership in
     let later = membership_in rest at in
-    let old = get endpoint_group_order before at in
+    let old = filter_at before at in
     ap (option_or (option_map stored_filter later)) (put at ∙ ap (λ (here : Bool). cond here (Some (stored_filter membership)) old) (same_back key at))
     ∙ put_first (same_endpoint_group at key) membership later old
     (λ here. ap (membership_in rest) (same_endpoint_group-exact at key here) ∙ membership_in-after key rest (sorted_head membership_order membership rest ascends))
@@ -149,7 +149,7 @@ settled_by false false false true none = refl
 settled_by false false false false none = refl
 
 -- the renewals are those of the filters and of the memberships that are left
-pub first_settled : (membership : Membership) (rest : List Membership) (before after : BTreeMap EndpointGroup StoredFilter) (renewals left : BTreeSet LastRenewal) → IsAscending membership_order (membership ∷ rest)
+pub first_settled : (membership : Membership) (rest : List Membership) (before after : FiltersValue) (renewals left : BTreeSet LastRenewal) → IsAscending membership_order (membership ∷ rest)
     → IsPut before after (endpoint_group_of membership) (stored_filter membership) → AreRenewalsOf (membership ∷ rest) before renewals
     → ((renewal : LastRenewal) → sorted.contains renewal_order left renewal ≡ (sorted.contains renewal_order renewals renewal && not (is_stored before renewal && not (is_stored after renewal))))
     → AreRenewalsOf rest after left
@@ -175,18 +175,17 @@ group_count-keys endpoint entries =
     ∙ sym (fold-map (λ (count : ℕ) (key : EndpointGroup). count + cond (same_endpoint key.endpoint endpoint) 1 0) (λ (entry : EndpointGroup × StoredFilter). entry.0) 0 entries)
 
 -- an endpoint's number of groups depends on the keys alone
-pub same_group_count : (endpoint : EndpointValue) (before after : BTreeMap EndpointGroup StoredFilter) → keys after ≡ keys before
+pub same_group_count : (endpoint : EndpointValue) (before after : FiltersValue) → pairs_of after ≡ pairs_of before
     → group_count endpoint (stored_memberships before) ≡ group_count endpoint (stored_memberships after)
 same_group_count endpoint before after same =
     group_count-keys endpoint before.entries ∙ ap (count_by (λ (key : EndpointGroup). same_endpoint key.endpoint endpoint)) (sym same) ∙ sym (group_count-keys endpoint after.entries)
 
 -- the parts agree after filters were put at keys that were there, with their renewals
-pub AreAgreed-put : (before after : BTreeMap EndpointGroup StoredFilter) (renewals left : BTreeSet LastRenewal) (members : BTreeSet GroupMember) (counts : BTreeMap EndpointValue ℕ) → AreAgreed before renewals members counts
-    → keys after ≡ keys before → AreRenewalsOf [] after left → AreAgreed after left members counts
-AreAgreed-put before after renewals left members counts agreed same are = record {
+pub AreAgreed-put : (before after : FiltersValue) (renewals left : BTreeSet LastRenewal) (counts : BTreeMap EndpointValue ℕ) → AreAgreed before renewals counts
+    → pairs_of after ≡ pairs_of before → AreRenewalsOf [] after left → AreAgreed after left counts
+AreAgreed-put before after renewals left counts agreed same are = record {
   ordered = subst (IsStrictlySortedBy endpoint_group_order) (sym same) agreed.ordered;
   renewed = are;
-  joined = λ member. agreed.joined member ∙ sym (same_found before after same (record { endpoint = member.endpoint; group = member.group }));
   counted = λ endpoint. agreed.counted endpoint ∙ ap some_unless_zero (same_group_count endpoint before after same);
 }
 
@@ -195,12 +194,12 @@ is_some-with at None = refl
 is_some-with at (Some stored) = refl
 
 -- a pair has a filter where it has a membership
-pub ArePresent-stored : (filters : BTreeMap EndpointGroup StoredFilter) (memberships : List Membership)
+pub ArePresent-stored : (filters : FiltersValue) (memberships : List Membership)
     → AllByRecursion (λ membership. is_some (membership_in (stored_memberships filters) (endpoint_group_of membership)) ≡ true) memberships → ArePresent filters memberships
 ArePresent-stored filters [] present = tt
 ArePresent-stored filters (membership ∷ rest) present =
     let at = endpoint_group_of membership in
-    (sym (ap is_some (membership_in-stored filters at) ∙ is_some-with at (get endpoint_group_order filters at)) ∙ present.0, ArePresent-stored filters rest present.1)
+    (sym (ap is_some (membership_in-stored filters at) ∙ is_some-with at (filter_at filters at)) ∙ present.0, ArePresent-stored filters rest present.1)
 
 either_by : (here : Bool) (at : EndpointGroup) (membership : Membership) (later : Option Membership) (old : Option StoredFilter) → (here ≡ true → at ≡ endpoint_group_of membership)
     → membership_with at (option_or (option_map stored_filter later) old) ≡ option_or later (membership_with at old)
@@ -216,8 +215,8 @@ either (membership ∷ rest) at old =
     either_by (same_endpoint_group at key) at membership (membership_in rest at) old (same_endpoint_group-exact at key) (either rest at old)
 
 -- the memberships that were put, or else the old ones
-pub memberships_put : (memberships : List Membership) (before after : BTreeMap EndpointGroup StoredFilter) (at : EndpointGroup)
-    → get endpoint_group_order after at ≡ option_or (option_map stored_filter (membership_in memberships at)) (get endpoint_group_order before at)
+pub memberships_put : (memberships : List Membership) (before after : FiltersValue) (at : EndpointGroup)
+    → filter_at after at ≡ option_or (option_map stored_filter (membership_in memberships at)) (filter_at before at)
     → membership_in (stored_memberships after) at ≡ option_or (membership_in memberships at) (membership_in (stored_memberships before) at)
 memberships_put memberships before after at put =
-    membership_in-stored after at ∙ ap (membership_with at) put ∙ either memberships at (get endpoint_group_order before at) ∙ ap (option_or (membership_in memberships at)) (sym (membership_in-stored before at))
+    membership_in-stored after at ∙ ap (membership_with at) put ∙ either memberships at (filter_at before at) ∙ ap (option_or (membership_in memberships at)) (sym (membership_in-stored before at))

@@ -1,6 +1,5 @@
 -- A map of filters as the list of memberships that it stands for.
 use Rattle.std.proofs.Common.{◌≡◌, Bool, true, false, cond, List, [], ◌∷◌, map, Option, Some, refl, sym, ap}
-use Rattle.std.specs.BTreeMap.{BTreeMap, IsOrdered, get}
 use Rattle.std.specs.List.{AllByRecursion}
 use Rattle.std.specs.Map.{keys_of, lookup}
 use Rattle.std.specs.Option.{option_map}
@@ -10,6 +9,7 @@ use Rattle.std.proofs.lemmas.Map.Keys.{sorted_head, sorted_tail}
 use Rattle.std.specs.List.Sorted.{IsStrictlySortedBy}
 use Rattle.contract_words.specs.Ascending.{IsAscending}
 use Rattle.endpoint_membership.specs.EndpointGroup.{EndpointGroup, endpoint_group_order, same_endpoint_group}
+use Rattle.endpoint_membership.specs.Filters.{AreOrdered, FiltersValue, filter_at}
 use Rattle.endpoint_membership.specs.Membership.{Membership, endpoint_group_of, membership_order}
 use Rattle.endpoint_membership.specs.Memberships.{membership_in}
 use Rattle.endpoint_membership.specs.Parts.{stored_membership, stored_memberships}
@@ -31,7 +31,7 @@ ascending [] ordered = tt
 ascending (entry ∷ rest) ordered = (above entry.0 rest (sorted_head endpoint_group_order entry.0 (keys_of rest) ordered), ascending rest (sorted_tail endpoint_group_order entry.0 (keys_of rest) ordered))
 
 -- the memberships of a map ascend
-pub IsAscending-stored : (filters : BTreeMap EndpointGroup StoredFilter) → IsOrdered endpoint_group_order filters → IsAscending membership_order (stored_memberships filters)
+pub IsAscending-stored : (filters : FiltersValue) → AreOrdered filters → IsAscending membership_order (stored_memberships filters)
 IsAscending-stored filters ordered = ascending filters.entries ordered
 
 found_by : (here : Bool) (at key : EndpointGroup) (stored : StoredFilter) (later : Option StoredFilter) (rest : Option Membership) → same_endpoint_group at key ≡ here → rest ≡ membership_with at later
@@ -45,5 +45,5 @@ found at [] = refl
 found at (entry ∷ rest) = found_by (same_endpoint_group at entry.0) at entry.0 entry.1 _ _ refl (found at rest)
 
 -- the membership of a pair is what the map has at it
-pub membership_in-stored : (filters : BTreeMap EndpointGroup StoredFilter) (at : EndpointGroup) → membership_in (stored_memberships filters) at ≡ membership_with at (get endpoint_group_order filters at)
+pub membership_in-stored : (filters : FiltersValue) (at : EndpointGroup) → membership_in (stored_memberships filters) at ≡ membership_with at (filter_at filters at)
 membership_in-stored filters at = found at filters.entries

@@ -2,6 +2,7 @@ pub mod Admission
 pub mod Chain
 pub mod EndpointGroup
 pub mod EndpointMemberships
+pub mod Filters
 pub mod GroupFilter
 pub mod Limits
 pub mod Log

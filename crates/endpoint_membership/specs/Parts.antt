@@ -1,18 +1,18 @@
--- The four parts in which a table stores its memberships, and that they agree. No public contract
+-- The parts in which a table stores its memberships, and that they agree. No public contract
 -- says these words.
-use Rattle.std.specs.Prelude.{◌≡◌, ℕ, ◌+◌, ◌-◌, zero, suc, ◌==◌, if◌then◌else◌, Bool, false, ◌||◌, List, map, is_some, Option, Some, None}
-use Rattle.std.specs.BTreeMap.{BTreeMap, IsOrdered, get}
+use Rattle.std.specs.Prelude.{◌≡◌, ℕ, ◌+◌, ◌-◌, zero, suc, ◌==◌, if◌then◌else◌, Bool, false, ◌||◌, List, map, Option, Some, None}
+use Rattle.std.specs.BTreeMap.{BTreeMap, get}
 use Rattle.std.specs.BTreeSet as sorted
 use Rattle.std.specs.BTreeSet.{BTreeSet}
 use Rattle.std.specs.List.{list_any}
 use Rattle.std.specs.Ordering.{eq_by_cmp, nat_cmp, on, then_cmp}
 use Rattle.std.specs.declared.cmp.Ordering.{Ordering}
 use Rattle.amt_values.specs.EndpointValue.{EndpointValue}
-use Rattle.amt_values.specs.Order.{ip_order, endpoint_order}
+use Rattle.amt_values.specs.Order.{endpoint_order}
 use Rattle.endpoint_membership.specs.EndpointGroup.{EndpointGroup, endpoint_group_order, same_endpoint}
+use Rattle.endpoint_membership.specs.Filters.{AreOrdered, FiltersValue, filter_at}
 use Rattle.endpoint_membership.specs.Limits.{group_count}
 use Rattle.endpoint_membership.specs.Membership.{Membership, endpoint_group_of}
-use Rattle.endpoint_membership.specs.declared.keys.GroupMember.{GroupMember}
 use Rattle.endpoint_membership.specs.declared.keys.LastRenewal.{LastRenewal}
 use Rattle.endpoint_membership.specs.declared.stored.StoredFilter.{StoredFilter}
 
@@ -20,16 +20,12 @@ use Rattle.endpoint_membership.specs.declared.stored.StoredFilter.{StoredFilter}
 abbrev pub renewal_order : LastRenewal → LastRenewal → Ordering
 renewal_order = then_cmp (on (λ renewal. renewal.renewed) nat_cmp) (on (λ renewal. renewal.at) endpoint_group_order)
 
--- by group, then endpoint
-abbrev pub group_member_order : GroupMember → GroupMember → Ordering
-group_member_order = then_cmp (on (λ member. member.group) ip_order) (on (λ member. member.endpoint) endpoint_order)
-
 -- the membership that an entry stands for
 abbrev pub stored_membership : EndpointGroup × StoredFilter → Membership
 stored_membership entry = record { endpoint = entry.0.endpoint; group = entry.0.group; filter = entry.1.filter; renewed = entry.1.renewed }
 
--- the memberships that a map of filters stands for, by endpoint, then group
-abbrev pub stored_memberships : BTreeMap EndpointGroup StoredFilter → List Membership
+-- the memberships that filters stand for, by endpoint, then group
+abbrev pub stored_memberships : FiltersValue → List Membership
 stored_memberships filters = map stored_membership filters.entries
 
 -- what a table keeps at the membership's endpoint and group
@@ -50,11 +46,11 @@ is_renewed_at moment None = false
 is_renewed_at moment (Some stored) = stored.renewed == moment
 
 -- the filter of the pair was last renewed so
-abbrev pub is_stored : BTreeMap EndpointGroup StoredFilter → LastRenewal → Bool
-is_stored filters renewal = is_renewed_at renewal.renewed (get endpoint_group_order filters renewal.at)
+abbrev pub is_stored : FiltersValue → LastRenewal → Bool
+is_stored filters renewal = is_renewed_at renewal.renewed (filter_at filters renewal.at)
 
 -- the renewals are those of the memberships and of the filters
-abbrev pub AreRenewalsOf : List Membership → BTreeMap EndpointGroup StoredFilter → BTreeSet LastRenewal → Type 0
+abbrev pub AreRenewalsOf : List Membership → FiltersValue → BTreeSet LastRenewal → Type 0
 AreRenewalsOf memberships filters renewals =
     (renewal : LastRenewal) → sorted.contains renewal_order renewals renewal ≡ (is_renewal_in memberships renewal || is_stored filters renewal)
 
@@ -62,10 +58,6 @@ AreRenewalsOf memberships filters renewals =
 abbrev pub some_unless_zero : ℕ → Option ℕ
 some_unless_zero zero = None
 some_unless_zero (suc n) = Some (suc n)
-
--- the pair as a member of its group
-abbrev pub member_of : EndpointGroup → GroupMember
-member_of at = record { group = at.group; endpoint = at.endpoint }
 
 -- a count with one more
 abbrev pub one_more : Option ℕ → Option ℕ
@@ -82,10 +74,8 @@ abbrev pub HasNumber : EndpointValue → Option ℕ → BTreeMap EndpointValue �
 HasNumber endpoint count before after =
     (other : EndpointValue) → get endpoint_order after other ≡ if same_endpoint endpoint other then count else get endpoint_order before other
 
--- Each filter has its renewal, each pair its member, each endpoint the number of its groups; and there
--- is nothing more.
-pub record AreAgreed (filters : BTreeMap EndpointGroup StoredFilter) (renewals : BTreeSet LastRenewal) (members : BTreeSet GroupMember) (counts : BTreeMap EndpointValue ℕ) : Type 0 where
-  pub ordered : IsOrdered endpoint_group_order filters
-  pub renewed : (renewal : LastRenewal) → sorted.contains renewal_order renewals renewal ≡ is_renewed_at renewal.renewed (get endpoint_group_order filters renewal.at)
-  pub joined : (member : GroupMember) → sorted.contains group_member_order members member ≡ is_some (get endpoint_group_order filters (record { endpoint = member.endpoint; group = member.group }))
+-- Each filter has its renewal, each endpoint the number of its groups; and there is nothing more.
+pub record AreAgreed (filters : FiltersValue) (renewals : BTreeSet LastRenewal) (counts : BTreeMap EndpointValue ℕ) : Type 0 where
+  pub ordered : AreOrdered filters
+  pub renewed : (renewal : LastRenewal) → sorted.contains renewal_order renewals renewal ≡ is_renewed_at renewal.renewed (filter_at filters renewal.at)
   pub counted : (endpoint : EndpointValue) → get endpoint_order counts endpoint ≡ some_unless_zero (group_count endpoint (stored_memberships filters))

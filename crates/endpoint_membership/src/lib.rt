@@ -8,6 +8,7 @@
 
 mod after_report;
 mod change;
+mod filters;
 mod first_limit;
 mod keys;
 mod laws;

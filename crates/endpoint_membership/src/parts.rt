@@ -1,16 +1,17 @@
-//! The memberships of a table, in four parts that agree. It must not know the log, reports or limits.
+//! The memberships of a table, in parts that agree. It must not know the log, reports or limits.
 //!
 //! ```text
-//! filters    endpoint, group            -> filter, renewed      the memberships
-//! renewals   renewed, endpoint, group                           in the order in which they expire
-//! members    group, endpoint                                    who may get a packet to a group
-//! counts     endpoint                   -> its groups           who is live
+//! filters
+//!   by_group    group, endpoint            -> filter, renewed      who may get a packet to a group
+//!   pairs       endpoint, group                                    what memberships an endpoint has
+//! renewals      renewed, endpoint, group                           in the order in which they expire
+//! counts        endpoint                   -> its groups           who is live
 //! ```
 
 ghost use Rattle.std.specs.Prelude.{◌≡◌, []};
 
-use crate::keys::{EndpointGroup, GroupMember, LastRenewal};
-use crate::stored::StoredFilter;
+use crate::filters::StoredFilters;
+use crate::keys::LastRenewal;
 use amt_values::Endpoint;
 use std::alloc::Global;
 use std::collections::{BTreeMap, BTreeSet};
@@ -27,12 +28,11 @@ mod targets;
 
 /// The memberships of a table, by endpoint and then by group.
 ///
-/// Nothing is kept but the memberships: they say what is in each of the four parts.
+/// Nothing is kept but the memberships: they say what is in each of the parts.
 #[derive(Debug, Drop)]
 pub struct StoredMemberships {
-    filters: BTreeMap<EndpointGroup, StoredFilter>,
+    filters: StoredFilters,
     renewals: BTreeSet<LastRenewal>,
-    members: BTreeSet<GroupMember>,
     counts: BTreeMap<Endpoint, usize>,
 }
 
@@ -45,7 +45,7 @@ impl Model for StoredMemberships {
 
     ghost view = { λ s. stored_memberships s.filters };
 
-    ghost invariant = { λ s. AreAgreed s.filters s.renewals s.members s.counts };
+    ghost invariant = { λ s. AreAgreed s.filters s.renewals s.counts };
 }
 
 impl StoredMemberships {
@@ -53,9 +53,8 @@ impl StoredMemberships {
         ensures { result ≡ [] }
     {
         StoredMemberships {
-            filters: BTreeMap::new(alloc),
+            filters: StoredFilters::new(alloc),
             renewals: BTreeSet::new(alloc),
-            members: BTreeSet::new(alloc),
             counts: BTreeMap::new(alloc),
         }
     }

@@ -140,9 +140,10 @@ pub fn report_length(family: Family, records: &Records) -> usize
     requires { item_count records.now ≤ ITEM_LIMIT }
     ensures { result ≡ report_length family records.now }
 {
+    let width = width(family);
     let mut octets = 8;
     for group_record in records.as_slice() {
-        octets += 4 + width(family) + group_record.sources.len() * width(family);
+        octets += 4 + width + group_record.sources.len() * width;
     }
     octets
 }

@@ -18,6 +18,18 @@ const FIRST: Ip = Ip::V4(0xc633_6401);
 
 const SECOND: Ip = Ip::V4(0xc633_6402);
 
+const A: Ip = Ip::V4(0xc000_020a);
+
+const B: Ip = Ip::V4(0xc000_020b);
+
+const C: Ip = Ip::V4(0xc000_020c);
+
+const D: Ip = Ip::V4(0xc000_020d);
+
+const E: Ip = Ip::V4(0xc000_020e);
+
+const F: Ip = Ip::V4(0xc000_020f);
+
 const SITE: Ip = Ip::V6(0x2001_0db8_0000_0000_0000_0000_0000_0001);
 
 // A filter as tests write it: mode and sources, a source that it admits and one that it doesn't.
@@ -135,4 +147,127 @@ fn are_the_two(answer: Result<Records, AllocError>) -> bool {
 #[test]
 fn copies_of_records_keep_the_order_and_the_repeats(rt: HostRuntime) {
     assert!(rt; are_the_two(copies_of_two(rt.alloc())));
+}
+
+// A filter as tests write it: its mode and its sources.
+type Sketch<'a> = (Mode, &'a [Ip]);
+
+// The filters of some sockets, and the one of their interface. The letters are those of the
+// examples in RFC 3376, section 3.2.
+const MERGES: [(&[Sketch<'static>], Sketch<'static>); 11] = [
+    (&[], (Include, &[])),
+    (&[(Include, &[ONE, TWO])], (Include, &[ONE, TWO])),
+    (&[(Exclude, &[])], (Exclude, &[])),
+    (
+        &[
+            (Include, &[A, B, C]),
+            (Include, &[B, C, D]),
+            (Include, &[E, F]),
+        ],
+        (Include, &[A, B, C, D, E, F]),
+    ),
+    (
+        &[
+            (Exclude, &[A, B, C, D]),
+            (Exclude, &[B, C, D, E]),
+            (Include, &[D, E, F]),
+        ],
+        (Exclude, &[B, C]),
+    ),
+    (&[(Exclude, &[B, C]), (Exclude, &[])], (Exclude, &[])),
+    (
+        &[(Exclude, &[A, B]), (Exclude, &[B, C]), (Include, &[B])],
+        (Exclude, &[]),
+    ),
+    (&[(Exclude, &[A, B]), (Exclude, &[B, C])], (Exclude, &[B])),
+    (
+        &[(Include, &[A]), (Exclude, &[A, B]), (Include, &[C])],
+        (Exclude, &[B]),
+    ),
+    (&[(Exclude, &[A, B]), (Include, &[])], (Exclude, &[A, B])),
+    (
+        &[(Include, &[SITE]), (Include, &[ONE])],
+        (Include, &[ONE, SITE]),
+    ),
+];
+
+fn filters_of(alloc: Global, sketches: &[Sketch]) -> Result<Vec<Filter>, AllocError> {
+    let mut filters = Vec::new(alloc);
+    for (mode, sources) in sketches {
+        filters.push(Filter::new(alloc, *mode, sources)?)?;
+    }
+    Ok(filters)
+}
+
+fn merged(alloc: Global, sketches: &[Sketch]) -> Result<Filter, AllocError> {
+    let filters = filters_of(alloc, sketches)?;
+    merge(alloc, &filters)
+}
+
+fn is_sketched(answer: Result<Filter, AllocError>, sketch: &Sketch) -> bool {
+    match answer {
+        Ok(filter) => filter.mode() == sketch.0 && filter.sources() == sketch.1,
+        Err(_) => false,
+    }
+}
+
+#[test]
+fn an_interface_wants_what_some_socket_wants(rt: HostRuntime) {
+    for (sketches, wanted) in &MERGES {
+        let is = is_sketched(merged(rt.alloc(), sketches), wanted);
+        assert!(rt; is, "{sketches:?}");
+    }
+}
+
+// The filter before and after, and the records that tell of the change (RFC 3376, section 5.1).
+const DIFFS: [(Sketch<'static>, Sketch<'static>, &[(RecordKind, &[Ip])]); 17] = [
+    (
+        (Include, &[A, B]),
+        (Include, &[B, C]),
+        &[(Allow, &[C]), (Block, &[A])],
+    ),
+    ((Include, &[A]), (Include, &[A, B]), &[(Allow, &[B])]),
+    ((Include, &[A, B]), (Include, &[B]), &[(Block, &[A])]),
+    ((Include, &[A, B]), (Include, &[A, B]), &[]),
+    ((Include, &[]), (Include, &[B, A]), &[(Allow, &[A, B])]),
+    ((Include, &[A, B]), (Include, &[]), &[(Block, &[A, B])]),
+    ((Include, &[]), (Include, &[]), &[]),
+    (
+        (Exclude, &[A, B]),
+        (Exclude, &[B, C]),
+        &[(Allow, &[A]), (Block, &[C])],
+    ),
+    ((Exclude, &[]), (Exclude, &[B]), &[(Block, &[B])]),
+    ((Exclude, &[A, B]), (Exclude, &[]), &[(Allow, &[A, B])]),
+    ((Exclude, &[A, B]), (Exclude, &[A, B]), &[]),
+    ((Include, &[A, B]), (Exclude, &[B, C]), &[(ToEx, &[B, C])]),
+    ((Include, &[A]), (Exclude, &[]), &[(ToEx, &[])]),
+    ((Include, &[]), (Exclude, &[]), &[(ToEx, &[])]),
+    ((Exclude, &[A, B]), (Include, &[B, C]), &[(ToIn, &[B, C])]),
+    ((Exclude, &[A]), (Include, &[]), &[(ToIn, &[])]),
+    ((Exclude, &[]), (Include, &[SITE]), &[(ToIn, &[SITE])]),
+];
+
+fn changes(alloc: Global, old: &Sketch, new: &Sketch) -> Result<Records, AllocError> {
+    let old = Filter::new(alloc, old.0, old.1)?;
+    let new = Filter::new(alloc, new.0, new.1)?;
+    diff(alloc, &old, &new, &GROUP)
+}
+
+fn are_about(answer: Result<Records, AllocError>, wanted: &[(RecordKind, &[Ip])]) -> bool {
+    let Ok(records) = answer else {
+        return false;
+    };
+    let records = records.as_slice();
+    let mut pairs = records.iter().zip(wanted);
+    records.len() == wanted.len()
+        && pairs.all(|(one, (kind, sources))| is_about(one, *kind, sources))
+}
+
+#[test]
+fn a_change_of_a_filter_is_told_as_the_table_says(rt: HostRuntime) {
+    for (old, new, wanted) in &DIFFS {
+        let are = are_about(changes(rt.alloc(), old, new), wanted);
+        assert!(rt; are, "{old:?} to {new:?}");
+    }
 }

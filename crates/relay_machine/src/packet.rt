@@ -64,7 +64,7 @@ fn copies(alloc: Global, targets: &[Endpoint], packet: &[u8]) -> Result<Sends, A
 {
     let packet = Bytes::copied(alloc, packet)?;
     let data = encode(alloc, &Message::Multicast { packet })?;
-    let mut sends = Sends::new(alloc);
+    let mut sends = Sends::with_room(alloc, targets.len())?;
     for to in targets {
         let bytes = Bytes::copied(alloc, data.as_slice())?;
         sends.push(OneSend { to: *to, bytes })?;

@@ -70,7 +70,7 @@ impl Step {
         ensures change { IfOk result (λ step. step.change ≡ None) }
     {
         let bytes = encode(alloc, message)?;
-        let mut sends = Sends::new(alloc);
+        let mut sends = Sends::with_room(alloc, 1)?;
         sends.push(OneSend { to, bytes })?;
         Ok(Step {
             outcome,

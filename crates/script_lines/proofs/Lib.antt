@@ -1,10 +1,12 @@
 pub mod Bad
 pub mod Begun
+mod Digits
 pub mod Firsts
 pub mod Forms
 pub mod Glyphs
 pub mod Numbers
 pub mod Peers
+mod Plain
 pub mod Sayings
 pub mod Splitting
 pub mod Taking

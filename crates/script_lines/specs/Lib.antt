@@ -1,3 +1,4 @@
+pub mod Counting
 pub mod Form
 pub mod Kind
 pub mod Lines

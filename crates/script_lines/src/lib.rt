@@ -2,12 +2,13 @@
 //!
 //! Contract: octets are read as a script of a kind exactly where their lines say its statements, else as the
 //! first bad line and the first reason in it; a kind says what a line says, and what is wrong with it.
-//! It knows no machine, no device and no kind of script.
+//! It knows no machine, no kind of script, and sinks by their trait alone.
 //! Standard: none of its own; the formats stand in docs/FORMATS.md.
 #![tactic(auto)]
 
 mod fault;
 mod fields;
+mod held;
 mod kind;
 mod lines;
 mod reading;
@@ -17,10 +18,11 @@ mod values;
 
 pub use fault::{LineError, RunFault, ScriptError};
 pub use fields::{next_field, only_field, two_fields};
+pub use held::{write_held, write_much};
 pub use kind::ScriptKind;
 pub use reading::read_script;
 pub use reason::Reason;
-pub use text::{print_closing, print_hex};
+pub use text::{append_closing, append_hex};
 pub use values::{
     OctetsError, read_address4, read_address6, read_moment, read_number, read_octets, read_secret,
 };

@@ -1,6 +1,7 @@
 //! Reads the lines of a script of any kind. What a line says is its kind's affair.
 
 ghost use Rattle.std.specs.Prelude.{◌≡◌, ◌↔◌, ◌≤◌, ◌==◌, ℕ, List, [], ◌∷◌, ◌++◌, length, slice_index, IsTrue, IfOk, IfErr, OnOk};
+ghost use Rattle.std.specs.Int.{IsInRange};
 ghost use Rattle.std.specs.Str.Lines.{lines};
 ghost use Rattle.script_lines.specs.Kind.{IsLawfulKind};
 ghost use Rattle.script_lines.specs.Lines.{IsPlain};
@@ -17,10 +18,21 @@ use std::alloc::Global;
 // The most octets of a line, without its line feed and the carriage return before it.
 const MOST_OCTETS_OF_A_LINE: usize = 140_000;
 
+fn is_printable(octet: u8) -> bool
+    ensures { IsTrue result ↔ IsInRange 32 126 octet }
+{
+    (32 <= octet) & (octet <= 126)
+}
+
 fn is_plain(line: &[u8]) -> bool
     ensures { IsTrue result ↔ IsPlain line.now }
 {
-    line.iter().all(|octet| 32 <= *octet && *octet <= 126)
+    // No early end, so that many octets are tried at once.
+    let mut plain = true;
+    for octet in line {
+        plain &= is_printable(*octet);
+    }
+    plain
 }
 
 // The line of this first field is a comment.

@@ -1,28 +1,50 @@
 //! What several kinds of script print. It knows no machine.
 
-ghost use Rattle.std.specs.Prelude.{◌≡◌, IfOk, string_bytes};
+ghost use Rattle.std.specs.Prelude.{◌≡◌, ◌≤◌, ◌++◌, length, OnOk};
+ghost use Rattle.hex.specs.Hex.{encode_lower};
 ghost use Rattle.amt_values.specs.Octets.{AreOctets};
 ghost use Rattle.script_lines.specs.Texts.{hex_text, closing_text};
 
-use amt_values::Bytes;
-use std::alloc::{AllocError, Global};
+use amt_values::{Bytes, append_numeral};
+use std::alloc::AllocError;
 
-/// Octets as pairs of hexadecimal digits, or a dash for none.
-pub fn print_hex(alloc: Global, octets: &[u8]) -> Result<String, AllocError>
-    ensures text { IfOk result (λ text. string_bytes text ≡ hex_text octets.now) }
+/// How many octets are turned into digits at once.
+const PIECE: usize = 32;
+
+// Puts octets at the end as pairs of hexadecimal digits.
+fn append_digits(text: &mut Bytes, octets: &[u8]) -> Result<(), AllocError>
+    requires { length octets.now ≤ 32 }
+    ensures { OnOk result (text.new ≡ text.old ++ encode_lower octets.now) }
+{
+    let mut room = [0; 2 * PIECE];
+    let (digits, _) = room.split_at_mut(2 * octets.len());
+    let _ = hex::encode_to_slice(octets, digits);
+    text.append(digits)
+}
+
+/// Puts octets at the end as pairs of hexadecimal digits, or a dash for none.
+pub fn append_hex(text: &mut Bytes, octets: &[u8]) -> Result<(), AllocError>
+    ensures text { OnOk result (text.new ≡ text.old ++ hex_text octets.now) }
     ensures octets { AreOctets octets.now }
 {
     if octets.is_empty() {
-        return String::from_str(alloc, "-");
+        return text.append(b"-");
     }
-    hex::encode(alloc, octets)
+    let mut rest = octets;
+    while rest.len() > PIECE {
+        let (piece, more) = rest.split_at(PIECE);
+        append_digits(text, piece)?;
+        rest = more;
+    }
+    append_digits(text, rest)
 }
 
-/// The last line: the number of items.
+/// Puts the last line at the end: the number of items.
 #[tactic(auto, unfolding(crate::specs::Texts::closing_text))]
-pub fn print_closing(alloc: Global, count: u64) -> Result<Bytes, AllocError>
-    ensures { IfOk result (λ text. text ≡ closing_text count) }
+pub fn append_closing(text: &mut Bytes, count: u64) -> Result<(), AllocError>
+    ensures { OnOk result (text.new ≡ text.old ++ closing_text count) }
 {
-    let line = format!(in alloc; ". {count}\n")?;
-    Bytes::copied(alloc, line.as_bytes())
+    text.append(b". ")?;
+    append_numeral(text, count)?;
+    text.append(b"\n")
 }

@@ -2,9 +2,10 @@
 //! of a report, and the fields of a query with their codes.
 //!
 //! Contract: a filter after a record admits a source by what the record says, where the record
-//! speaks of it, and as before elsewhere.
+//! speaks of it, and as before elsewhere; a merged filter admits a source exactly where some filter
+//! does; the change records from one filter to another make the other of the one.
 //! It reads and writes no octets, and knows no tunnel endpoint or moment.
-//! Standard: RFC 3376, sections 3.2, 4.1 and 4.2.12; RFC 3810, section 5.1.
+//! Standard: RFC 3376, sections 3.2, 4.1, 4.2.12 and 5.1; RFC 3810, section 5.1.
 #![tactic(auto)]
 
 mod changes;

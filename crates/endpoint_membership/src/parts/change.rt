@@ -1,24 +1,25 @@
 //! One membership more, and one less. It must not know when a membership expires.
 
-ghost use Rattle.std.specs.Prelude.{◌≡◌, ◌<◌, ◌^◌, false, true, None, Some, OnOk, OnErr};
-ghost use Rattle.std.specs.BTreeMap.{get, insert_entry, IsOrdered, IsUnchanged, Updates};
-ghost use Rattle.std.specs.BTreeSet as sorted;
+ghost use Rattle.std.specs.Prelude.{◌≡◌, ◌<◌, ◌^◌, None, Some, OnOk, OnErr};
+ghost use Rattle.std.specs.BTreeMap.{get, insert_entry, IsUnchanged};
 ghost use Rattle.std.specs.List.{filter};
 ghost use Rattle.std.specs.Map.{count_at};
 ghost use Rattle.contract_words.specs.Ascending.{placed};
 ghost use Rattle.amt_values.specs.Order.{endpoint_order};
 ghost use Rattle.endpoint_membership.specs.EndpointGroup.{endpoint_group_order};
+ghost use Rattle.endpoint_membership.specs.Filters.{AreOrdered, IsSetAt, filter_at};
 ghost use Rattle.endpoint_membership.specs.Membership.{membership_order};
 ghost use Rattle.endpoint_membership.specs.Memberships.{membership_in};
-ghost use Rattle.endpoint_membership.specs.Parts.{HasNumber, group_member_order, member_of, one_less, one_more, renewal_order, stored_membership};
+ghost use Rattle.endpoint_membership.specs.Parts.{HasNumber, one_less, one_more, stored_membership};
 ghost use Rattle.endpoint_membership.specs.Stored.{is_not_at};
 
 use super::StoredMemberships;
-use crate::keys::{EndpointGroup, GroupMember, LastRenewal};
+use crate::filters::StoredFilters;
+use crate::keys::{EndpointGroup, LastRenewal};
 use crate::stored::StoredFilter;
 use amt_values::Endpoint;
 use std::alloc::AllocError;
-use std::collections::{BTreeMap, BTreeSet};
+use std::collections::BTreeMap;
 
 impl StoredMemberships {
     /// Adds the membership of a pair that has none. Out of memory nothing changes.
@@ -34,9 +35,9 @@ impl StoredMemberships {
             renewed: stored.renewed,
             at,
         };
-        insert_keys(&mut self.renewals, &mut self.members, renewal)?;
+        self.renewals.insert(renewal)?;
         let Ok(()) = insert_counted(&mut self.filters, &mut self.counts, at, stored) else {
-            remove_keys(&mut self.renewals, &mut self.members, &renewal);
+            self.renewals.remove(&renewal);
             return Err(AllocError);
         };
         Ok(())
@@ -49,79 +50,30 @@ impl StoredMemberships {
         let Some(stored) = self.filters.remove(at) else {
             return;
         };
-        let renewal = LastRenewal {
+        self.renewals.remove(&LastRenewal {
             renewed: stored.renewed,
             at: *at,
-        };
-        remove_keys(&mut self.renewals, &mut self.members, &renewal);
+        });
         count_less(&mut self.counts, &at.endpoint);
     }
 }
 
-fn member_of(at: &EndpointGroup) -> GroupMember
-    ensures { result ≡ member_of at.now }
-{
-    GroupMember {
-        group: at.group,
-        endpoint: at.endpoint,
-    }
-}
-
-// Puts in a renewal and its member, both or neither.
-fn insert_keys(
-    renewals: &mut BTreeSet<LastRenewal>,
-    members: &mut BTreeSet<GroupMember>,
-    renewal: LastRenewal,
-) -> Result<(), AllocError>
-    requires absent { sorted.contains renewal_order renewals.old renewal ≡ false }
-    ensures renewals { OnOk result
-        (sorted.Updates renewal_order renewals.old renewals.new renewal true) }
-    ensures members { OnOk result
-        (sorted.Updates group_member_order members.old members.new (member_of renewal.at) true) }
-    ensures err_renewals { OnErr result
-        (sorted.IsSameSet renewal_order renewals.new renewals.old) }
-    ensures err_members { OnErr result
-        (sorted.IsSameSet group_member_order members.new members.old) }
-{
-    renewals.insert(renewal)?;
-    let Ok(_) = members.insert(member_of(&renewal.at)) else {
-        renewals.remove(&renewal);
-        return Err(AllocError);
-    };
-    Ok(())
-}
-
-// Takes out a renewal and its member.
-fn remove_keys(
-    renewals: &mut BTreeSet<LastRenewal>,
-    members: &mut BTreeSet<GroupMember>,
-    renewal: &LastRenewal,
-)
-    ensures renewals { sorted.Updates renewal_order renewals.old renewals.new renewal.now false }
-    ensures members { sorted.Updates group_member_order members.old members.new
-        (member_of renewal.now.at) false }
-{
-    renewals.remove(renewal);
-    members.remove(&member_of(&renewal.at));
-}
-
 // Puts in a filter and counts it, both or neither.
 fn insert_counted(
-    filters: &mut BTreeMap<EndpointGroup, StoredFilter>,
+    filters: &mut StoredFilters,
     counts: &mut BTreeMap<Endpoint, usize>,
     at: EndpointGroup,
     stored: StoredFilter,
 ) -> Result<(), AllocError>
-    requires absent { get endpoint_group_order filters.old at ≡ None }
+    requires absent { filter_at filters.old at ≡ None }
     requires room { count_at (get endpoint_order counts.old) at.endpoint < 2 ^ 63 }
-    ensures filters { OnOk result
-        (Updates endpoint_group_order filters.old filters.new at (Some stored)) }
+    ensures filters { OnOk result (IsSetAt at (Some stored) filters.old filters.new) }
     ensures entries { OnOk result
         (filters.new.entries ≡ insert_entry endpoint_group_order filters.old.entries at stored) }
-    ensures ordered { IsOrdered endpoint_group_order filters.new }
+    ensures ordered { OnOk result (AreOrdered filters.new) }
     ensures counts { OnOk result (HasNumber at.endpoint
         (one_more (get endpoint_order counts.old at.endpoint)) counts.old counts.new) }
-    ensures err_filters { OnErr result (IsUnchanged filters.old filters.new) }
+    ensures err_filters { OnErr result (filters.new ≡ filters.old) }
     ensures err_counts { OnErr result (IsUnchanged counts.old counts.new) }
 {
     filters.insert(at, stored)?;

@@ -14,7 +14,7 @@ use amt_values::{Endpoint, Ip, Moment};
 
 impl StoredMemberships {
     /// The membership that was renewed first, where that was not in time. The memberships ascend: a
-    /// caller that reads none of the four parts knows it from here.
+    /// caller that reads none of the parts knows it from here.
     pub fn first_expired(&self, moment: Moment, lifetime_ms: u64) -> Option<EndpointGroup>
         requires { lifetime_ms ≤ 1000000000 }
         ensures some { IfSome result (λ at. IsSome (membership_in self.now at)
@@ -50,7 +50,7 @@ impl StoredMemberships {
             endpoint: *endpoint,
             group: Ip::V4(0),
         };
-        let (first, _) = self.filters.range(start..).next()?;
+        let first = self.filters.pairs().range(start..).next()?;
         (first.endpoint == *endpoint).then_some(*first)
     }
 

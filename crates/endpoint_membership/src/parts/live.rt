@@ -1,11 +1,11 @@
 //! How many endpoints are live. It must not know limits.
 
-ghost use Rattle.std.specs.Prelude.{◌≡◌, ◌≤◌, if◌then◌else◌};
+ghost use Rattle.std.specs.Prelude.{◌≡◌, ◌≤◌, is_some, if◌then◌else◌};
 ghost use Rattle.std.specs.List.{filter};
 ghost use Rattle.endpoint_membership.specs.Limits.{live_count};
-ghost use Rattle.endpoint_membership.specs.Memberships.{is_live};
+ghost use Rattle.endpoint_membership.specs.Memberships.{is_live, membership_in};
 ghost use Rattle.endpoint_membership.specs.Parts.{stored_membership};
-ghost use Rattle.endpoint_membership.specs.Stored.{ends_with, is_counted, is_of_another};
+ghost use Rattle.endpoint_membership.specs.Stored.{ends_with, is_counted, is_of_another, only};
 
 use super::StoredMemberships;
 use crate::keys::EndpointGroup;
@@ -76,6 +76,24 @@ impl StoredMemberships {
         self.live_count() - one_unless(!self.is_live(besides))
     }
 
+    // Whether the membership of the pair, if it has one, counts.
+    fn counts_at(
+        &self,
+        at: &EndpointGroup,
+        besides: &Endpoint,
+        moment: Moment,
+        lifetime_ms: u64,
+    ) -> bool
+        requires { lifetime_ms ≤ 1000000000 }
+        ensures { result ≡ is_some (only (is_counted lifetime_ms moment besides.now)
+            (membership_in self.now at.now)) }
+    {
+        match self.filters.get(at) {
+            Some(stored) => is_counted(at, stored, besides, moment, lifetime_ms),
+            None => false,
+        }
+    }
+
     // The same of those that have not expired. The memberships of an endpoint stand together, so each
     // is compared with the last one that counted.
     fn count_fresh(&self, besides: &Endpoint, moment: Moment, lifetime_ms: u64) -> usize
@@ -84,8 +102,8 @@ impl StoredMemberships {
     {
         let mut count = 0;
         let mut last = None;
-        for (at, stored) in &self.filters {
-            if is_counted(at, stored, besides, moment, lifetime_ms) {
+        for at in self.filters.pairs() {
+            if self.counts_at(at, besides, moment, lifetime_ms) {
                 count += one_unless(ends_with(&last, &at.endpoint));
                 last = Some(at.endpoint);
             }

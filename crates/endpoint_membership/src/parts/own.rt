@@ -49,12 +49,14 @@ impl StoredMemberships {
             group: Ip::V4(0),
         };
         let mut filters = BTreeMap::new(alloc);
-        for (at, stored) in self.filters.range(least..) {
+        for at in self.filters.pairs().range(least..) {
             if at.endpoint != *endpoint {
                 break;
             }
-            if stored.is_fresh(moment, lifetime_ms) {
-                set_filter(&mut filters, at.group, renewed_filter_of(alloc, stored)?)?;
+            if let Some(stored) = self.filters.get(at) {
+                if stored.is_fresh(moment, lifetime_ms) {
+                    set_filter(&mut filters, at.group, renewed_filter_of(alloc, stored)?)?;
+                }
             }
         }
         Ok(filters)

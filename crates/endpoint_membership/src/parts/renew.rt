@@ -1,22 +1,23 @@
 //! Memberships that are renewed, all or none. It must not know reports.
 
-ghost use Rattle.std.specs.Prelude.{◌≡◌, [], true, not, ◌&&◌, ◌||◌, is_some, Some, option_map, OnOk, OnErr, if◌then◌else◌};
-ghost use Rattle.std.specs.BTreeMap.{get, keys};
+ghost use Rattle.std.specs.Prelude.{◌≡◌, [], true, not, ◌&&◌, ◌||◌, is_some, Some, option_map, OnOk, OnErr};
 ghost use Rattle.std.specs.BTreeSet.{contains};
 ghost use Rattle.std.specs.List.{AllByRecursion};
 ghost use Rattle.std.specs.Option.{option_or};
 ghost use Rattle.contract_words.specs.Ascending.{IsAscending};
-ghost use Rattle.endpoint_membership.specs.EndpointGroup.{EndpointGroup as Pair, endpoint_group_order, same_endpoint_group};
+ghost use Rattle.endpoint_membership.specs.EndpointGroup.{EndpointGroup as Pair};
+ghost use Rattle.endpoint_membership.specs.Filters.{IsSetAt, filter_at, pairs_of};
 ghost use Rattle.endpoint_membership.specs.Membership.{endpoint_group_of, membership_order};
 ghost use Rattle.endpoint_membership.specs.Memberships.{membership_in};
 ghost use Rattle.endpoint_membership.specs.Parts.{AreRenewalsOf, is_renewal_in, is_stored, renewal_of, renewal_order, stored_filter};
 ghost use Rattle.endpoint_membership.specs.declared.keys.LastRenewal.{LastRenewal as Renewed};
 
 use super::StoredMemberships;
-use crate::keys::{EndpointGroup, LastRenewal};
-use crate::stored::{OwnMembership, StoredFilter};
+use crate::filters::StoredFilters;
+use crate::keys::LastRenewal;
+use crate::stored::OwnMembership;
 use std::alloc::AllocError;
-use std::collections::{BTreeMap, BTreeSet};
+use std::collections::BTreeSet;
 
 impl StoredMemberships {
     /// Puts memberships in the place of those of their pairs, each of which has one. All new renewals
@@ -45,7 +46,7 @@ fn renewal_of(membership: &OwnMembership) -> LastRenewal
     }
 }
 
-fn is_stored(filters: &BTreeMap<EndpointGroup, StoredFilter>, renewal: &LastRenewal) -> bool
+fn is_stored(filters: &StoredFilters, renewal: &LastRenewal) -> bool
     ensures { result ≡ is_stored filters.now renewal.now }
 {
     match filters.get(&renewal.at) {
@@ -76,7 +77,7 @@ fn put_renewals(
 
 // Takes the renewals of memberships out, except those of the filters.
 fn take_renewals(
-    filters: &BTreeMap<EndpointGroup, StoredFilter>,
+    filters: &StoredFilters,
     renewals: &mut BTreeSet<LastRenewal>,
     memberships: &[OwnMembership],
 )
@@ -95,7 +96,7 @@ fn take_renewals(
 // Puts the renewals of memberships beside those of the filters, or changes nothing. What a refusal
 // has to take out is known without a list of it, since the filters are still the old ones.
 fn stage(
-    filters: &BTreeMap<EndpointGroup, StoredFilter>,
+    filters: &StoredFilters,
     renewals: &mut BTreeSet<LastRenewal>,
     memberships: &[OwnMembership],
 ) -> Result<(), AllocError>
@@ -112,42 +113,21 @@ fn stage(
     }
 }
 
-// Puts a filter in the place of the pair's, which it gives back.
-fn put_filter(
-    filters: &mut BTreeMap<EndpointGroup, StoredFilter>,
-    at: EndpointGroup,
-    stored: StoredFilter,
-) -> Option<StoredFilter>
-    requires { is_some (get endpoint_group_order filters.old at) ≡ true }
-    ensures old { result ≡ get endpoint_group_order filters.old at }
-    ensures new { (other : Pair) → get endpoint_group_order filters.new other
-        ≡ (if same_endpoint_group at other then Some stored else get endpoint_group_order filters.old other) }
-    ensures keys { keys filters.new ≡ keys filters.old }
-{
-    match filters.insert(at, stored) {
-        Ok(old) => old,
-        // Only a pair that has no filter is refused.
-        Err(_) => unreachable!(),
-    }
-}
-
 // Puts a membership in the place of that of its pair, whose renewal comes out if it is another.
 fn put_membership(
-    filters: &mut BTreeMap<EndpointGroup, StoredFilter>,
+    filters: &mut StoredFilters,
     renewals: &mut BTreeSet<LastRenewal>,
     membership: OwnMembership,
 )
-    requires { is_some (get endpoint_group_order filters.old (endpoint_group_of membership)) ≡ true }
-    ensures new { (at : Pair) → get endpoint_group_order filters.new at
-        ≡ (if same_endpoint_group (endpoint_group_of membership) at then Some (stored_filter membership)
-        else get endpoint_group_order filters.old at) }
-    ensures keys { keys filters.new ≡ keys filters.old }
+    requires { is_some (filter_at filters.old (endpoint_group_of membership)) ≡ true }
+    ensures set { IsSetAt (endpoint_group_of membership) (Some (stored_filter membership)) filters.old filters.new }
+    ensures pairs { pairs_of filters.new ≡ pairs_of filters.old }
     ensures renewals { (renewal : Renewed) → contains renewal_order renewals.new renewal
         ≡ (contains renewal_order renewals.old renewal
         && not (is_stored filters.old renewal && not (is_stored filters.new renewal))) }
 {
     let renewal = renewal_of(&membership);
-    if let Some(old) = put_filter(filters, renewal.at, membership.into_stored_filter()) {
+    if let Some(old) = filters.put(renewal.at, membership.into_stored_filter()) {
         if old.renewed != renewal.renewed {
             renewals.remove(&LastRenewal {
                 renewed: old.renewed,
@@ -159,18 +139,18 @@ fn put_membership(
 
 // Puts memberships in the place of those of their pairs. Their renewals are there already.
 fn settle(
-    filters: &mut BTreeMap<EndpointGroup, StoredFilter>,
+    filters: &mut StoredFilters,
     renewals: &mut BTreeSet<LastRenewal>,
     memberships: Vec<OwnMembership>,
 )
     requires ascend { IsAscending membership_order memberships.items }
     requires present { AllByRecursion (λ membership.
-        is_some (get endpoint_group_order filters.old (endpoint_group_of membership)) ≡ true) memberships.items }
+        is_some (filter_at filters.old (endpoint_group_of membership)) ≡ true) memberships.items }
     requires staged { AreRenewalsOf memberships.items filters.old renewals.old }
-    ensures new { (at : Pair) → get endpoint_group_order filters.new at
+    ensures new { (at : Pair) → filter_at filters.new at
         ≡ option_or (option_map stored_filter (membership_in memberships.items at))
-        (get endpoint_group_order filters.old at) }
-    ensures keys { keys filters.new ≡ keys filters.old }
+        (filter_at filters.old at) }
+    ensures pairs { pairs_of filters.new ≡ pairs_of filters.old }
     ensures renewals { AreRenewalsOf [] filters.new renewals.new }
 {
     for membership in memberships {

@@ -27,8 +27,10 @@ impl StoredMemberships {
         ensures { IfOk result (λ all. all ≡ map row_of self.now) }
     {
         let mut all = Rows::new(alloc);
-        for (at, stored) in &self.filters {
-            all.push(row_of(alloc, at, stored)?)?;
+        for at in self.filters.pairs() {
+            if let Some(stored) = self.filters.get(at) {
+                all.push(row_of(alloc, at, stored)?)?;
+            }
         }
         Ok(all)
     }

@@ -1,30 +1,35 @@
 //! Which endpoints get a copy of a packet. It must not know the log, or what a packet is.
 
-ghost use Rattle.std.specs.Prelude.{◌≡◌, ◌≤◌, length, is_some};
-ghost use Rattle.endpoint_membership.specs.Memberships.{membership_in};
-ghost use Rattle.endpoint_membership.specs.Stored.{is_target, only, targets_in};
+ghost use Rattle.std.specs.Prelude.{◌≡◌, ◌≤◌, ◌+◌, ◌&&◌, length, nat_lt};
+ghost use Rattle.source_filter.specs.Filter.{admits};
+ghost use Rattle.endpoint_membership.specs.EndpointGroup.{same_group};
+ghost use Rattle.endpoint_membership.specs.Stored.{targets_in};
 
 use super::StoredMemberships;
-use crate::keys::{EndpointGroup, GroupMember};
+use crate::keys::GroupMember;
+use crate::stored::StoredFilter;
 use crate::targets::Targets;
 use amt_values::{Endpoint, Ip, Moment};
 
-impl StoredMemberships {
-    // Whether the pair has a membership that counts at the moment and lets the source in.
-    fn lets_in(&self, at: &EndpointGroup, source: &Ip, moment: Moment, lifetime_ms: u64) -> bool
-        requires { lifetime_ms ≤ 1000000000 }
-        ensures { result ≡ is_some (only (is_target lifetime_ms moment at.now.group source.now)
-            (membership_in self.now at.now)) }
-    {
-        match self.filters.get(at) {
-            Some(stored) => stored.is_fresh(moment, lifetime_ms) && stored.filter.admits(source),
-            None => false,
-        }
-    }
+fn is_of(member: &GroupMember, group: &Ip) -> bool
+    ensures { result ≡ same_group member.now.group group.now }
+{
+    member.group == *group
+}
 
+// Whether a member's filter counts at the moment and lets the source in.
+fn lets_in(stored: &StoredFilter, source: &Ip, moment: Moment, lifetime_ms: u64) -> bool
+    requires { lifetime_ms ≤ 1000000000 }
+    ensures { result ≡ (nat_lt moment (stored.now.renewed + lifetime_ms)
+        && admits stored.now.filter source.now) }
+{
+    stored.is_fresh(moment, lifetime_ms) && stored.filter.admits(source)
+}
+
+impl StoredMemberships {
     /// Replaces what is in `out` by the endpoints of the memberships that let the packet in. It goes
-    /// over the members of the group and no others. An endpoint has one membership in a group, so none
-    /// comes twice.
+    /// over the members of the group, which stand together with their filters, and no others. An
+    /// endpoint has one membership in a group, so none comes twice.
     pub fn collect_targets(
         &self,
         group: &Ip,
@@ -45,15 +50,11 @@ impl StoredMemberships {
             group: *group,
             endpoint: Endpoint::named(0, 0),
         };
-        for member in self.members.range(least..) {
-            if member.group != *group {
+        for (member, stored) in self.filters.by_group().range(least..) {
+            if !is_of(member, group) {
                 break;
             }
-            let at = EndpointGroup {
-                endpoint: member.endpoint,
-                group: *group,
-            };
-            if self.lets_in(&at, source, moment, lifetime_ms) {
+            if lets_in(stored, source, moment, lifetime_ms) {
                 out.push(member.endpoint);
             }
         }

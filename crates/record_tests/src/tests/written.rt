@@ -1,6 +1,7 @@
 //! Messages that are written, which are those that are read. It must not know how they are written.
 
-ghost use Rattle.std.specs.Prelude.{◌≡◌, ◌≤◌, IfOk};
+ghost use Rattle.std.specs.Prelude.{◌≡◌, ◌≤◌, length, IfOk};
+ghost use Rattle.source_filter.specs.Record.{item_count};
 ghost use Rattle.igmp_records.specs.Report.{AreRecords4, report_length4};
 ghost use Rattle.mld_records.specs.Report.{AreRecords6, report_length6};
 
@@ -9,7 +10,7 @@ use super::protocol::{ALL_NODES, ALL_ROUTERS, FIRST_GROUP, HOST, NINTH4, NINTH6,
 use super::queries::{FIELDS4, FIELDS6, GENERAL_QUERY4, GENERAL_QUERY6};
 use super::reports::{ONE_RECORD4, ONE_RECORD6, THREE_RECORDS4};
 use amt_values::{Bytes, Ip};
-use group_records::REPORT_LIMIT;
+use group_records::{Family, REPORT_LIMIT, report_length};
 use igmp_records::{write_query4, write_report4};
 use mld_records::{write_query6, write_report6};
 use source_filter::{Ips, Record, RecordKind, Records};
@@ -106,4 +107,49 @@ fn records_are_written_in_their_order(rt: HostRuntime) {
     assert_row(&rt, "one record of IGMP", one);
     assert_row(&rt, "three records of IGMP", three);
     assert_row(&rt, "one record of MLD", source);
+}
+
+fn sources(alloc: Global, count: usize) -> Result<Ips, AllocError>
+    ensures { IfOk result (λ sources. length sources ≡ count) }
+{
+    Ok(Ips::from(vec![in alloc; NINTH4; count]?))
+}
+
+fn record_of(alloc: Global, count: u16) -> Result<Records, AllocError>
+    ensures { IfOk result (λ records. item_count records ≤ 16777216) }
+{
+    let mut records = Records::new(alloc);
+    records.push(Record {
+        kind: RecordKind::IsIn,
+        group: Ip::V4(0xef01_0101),
+        sources: sources(alloc, count as usize)?,
+    })?;
+    Ok(records)
+}
+
+fn has_length(records: Result<Records, AllocError>, family: Family, octets: usize) -> bool
+    requires { IfOk records (λ some. item_count some ≤ 16777216) }
+{
+    match records {
+        Ok(records) => report_length(family, &records) == octets,
+        Err(_) => false,
+    }
+}
+
+// The sources of one record, and the octets of its report: 8 of the head, and for the group and each
+// source an address, with 4 octets before the group.
+const LENGTHS: [(u16, Family, usize); 5] = [
+    (0, Family::V4, 16),
+    (346, Family::V4, 1_400),
+    (347, Family::V4, 1_404),
+    (85, Family::V6, 1_388),
+    (60_000, Family::V6, 960_028),
+];
+
+#[test]
+fn the_length_of_a_report_is_known_past_the_limit_too(rt: HostRuntime) {
+    for (count, family, octets) in &LENGTHS {
+        let has = has_length(record_of(rt.alloc(), *count), *family, *octets);
+        assert!(rt; has, "{count} sources");
+    }
 }

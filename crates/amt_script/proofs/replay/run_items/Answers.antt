@@ -1,9 +1,10 @@
-use Rattle.std.proofs.Common.{length, take, refl, ◌∙◌}
-use Rattle.std.proofs.lemmas.Result.{on_err_weaker}
+use Rattle.std.proofs.Common.{length, take, refl, subst, sym, ◌∙◌}
+use Rattle.std.proofs.lemmas.Result.{on_ok_weaker, on_err_weaker}
+use Rattle.std.specs.Io.KnownBytes.{Appends}
 use Rattle.script_lines.specs.Texts.{closing_text}
 use Rattle.amt_script.specs.Texts.{events_in}
 use Rattle.script_lines.specs.Writing.{WritesPrefix}
-use Rattle.amt_script.proofs.Runs.{run_more, run_cut, run_closed}
+use Rattle.amt_script.proofs.Runs.{run_more, run_cut, run_closed, run_ended}
 use Rattle.script_lines.proofs.Writes.{written_start}
 use Rattle.amt_script.proofs.replay.run_items.Goals as goal
 
@@ -15,10 +16,13 @@ returns-in-Err-clause-begun g c =
     let i = c.loop-index.index in
     let item = c.index-items-index.result in
     let begun = c.in-Err.ensures.begun settings first (events_in (take i items)) c.loop-index.invariant.run.at in
-    rw (← c.as_slice-items.ensures) (run_cut c.loop-index.relay settings first items i item (closing_text (length items)) _ _ _ c.loop-index-test.true c.index-items-index.is c.loop-index.invariant.run begun)
+    rw (← c.as_slice-items.ensures) (run_cut c.loop-index.relay settings first items i item (closing_text (length items)) c.loop-index.held _ _ _ c.loop-index-test.true c.index-items-index.is c.loop-index.invariant.run begun)
 
 pub loop-index-init : goal.loop-index-init
-loop-index-init g c = record { run = record { at = c.requires.start; text = written_start _ _ }; calm = refl }
+loop-index-init g c = record {
+  run = record { at = c.requires.start; text = rw c.new-held.ensures (written_start _ _) };
+  calm = refl;
+}
 
 pub loop-index-preserved : goal.loop-index-preserved
 loop-index-preserved g c =
@@ -29,7 +33,7 @@ loop-index-preserved g c =
     let item = c.index-items-index.result in
     let at = c.loop-index.invariant.run.at in
     record {
-      run = run_more c.loop-index.relay c.write_item.new.relay settings first items i item (closing_text (length items)) _ _ _ c.loop-index-test.true c.index-items-index.is
+      run = run_more c.loop-index.relay c.write_item.new.relay settings first items i item (closing_text (length items)) c.loop-index.held c.write_item.new.held _ _ _ c.loop-index-test.true c.index-items-index.is
           c.loop-index.invariant.run (c.in-Ok.ensures.done settings first (events_in (take i items)) at) (c.in-Ok.ensures.next settings first (events_in (take i items)) at);
       calm = c.in-Ok.ensures.counts.quiet (λ fault. cc fault) ∙ c.loop-index.invariant.calm;
     }
@@ -39,9 +43,19 @@ returns-clause-begun g c =
     let items = c.as_slice-items.result.now in
     let settings = c.args.script.now.settings in
     let first = c.args.script.now.secret in
-    let begun = rw c.in-Ok-print_closing.ensures at c.write_text.ensures.begun in
     rw (← c.as_slice-items.ensures)
-    (on_err_weaker c.write_text.result
-    (λ (prefix : WritesPrefix (g.O.Sink.written c.loop-index.out) (g.O.Sink.written c.write_text.new.out) (closing_text (length items))).
-    run_closed c.loop-index.relay settings first items c.loop-index.index (closing_text (length items)) _ _ _ c.loop-index-test.false c.loop-index.invariant.run prefix)
-    begun)
+    (on_err_weaker c.write_end.result
+    (λ (prefix : WritesPrefix (g.O.Sink.written c.loop-index.out) (g.O.Sink.written c.write_end.new.out) _).
+    run_closed c.loop-index.relay settings first items c.loop-index.index (closing_text (length items)) c.loop-index.held _ _ _ c.loop-index-test.false c.loop-index.invariant.run prefix)
+    c.write_end.ensures.begun)
+
+pub returns-clause-done : goal.returns-clause-done
+returns-clause-done g c =
+    let items = c.as_slice-items.result.now in
+    let settings = c.args.script.now.settings in
+    let first = c.args.script.now.secret in
+    rw (← c.as_slice-items.ensures)
+    (on_ok_weaker c.write_end.result
+    (λ (whole : Appends (g.O.Sink.written c.loop-index.out) (g.O.Sink.written c.write_end.new.out) _).
+    run_ended c.loop-index.relay settings first items c.loop-index.index (closing_text (length items)) c.loop-index.held _ _ _ c.loop-index-test.false c.loop-index.invariant.run whole)
+    c.write_end.ensures.done)

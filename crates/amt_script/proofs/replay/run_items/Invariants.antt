@@ -5,6 +5,6 @@ use Rattle.amt_script.proofs.replay.run_items.Given as goal
 
 abbrev pub invariant-loop-index : goal.invariant-loop-index
 invariant-loop-index g l = record {
-  run : IsRunning l.relay l.script.settings l.script.secret l.items l.index (closing_text (length l.items)) (g.O.Sink.written l.initial.out) (g.O.Sink.written l.out);
+  run : IsRunning l.relay l.script.settings l.script.secret l.items l.index (closing_text (length l.items)) l.held (g.O.Sink.written l.initial.out) (g.O.Sink.written l.out);
   calm : g.O.Sink.faults l.out ≡ g.O.Sink.faults l.initial.out;
 }

@@ -1,4 +1,5 @@
 use Rattle.std.proofs.Common.{◌≡◌, ◌++◌, codes, rules, sym, subst, append_assoc}
+use Rattle.amt_values.specs.Octets.{AreOctets}
 use Rattle.amt_values.specs.Text.{peer_text}
 use Rattle.relay_machine.specs.declared.event.Event.TheVariants.{Datagram}
 use Rattle.amt_script.specs.Printed.{IsLineThatSays}
@@ -9,6 +10,6 @@ use Rattle.amt_script.proofs.text.print_datagram_line.Goals as goal
 pub returns-clause-says : goal.returns-clause-says
 returns-clause-says c =
     let bytes = c.args.bytes.now in
-    let octets = rw c.as_slice.ensures at c.print_hex.ensures.octets in
-    let same : c.append-3.new.self ≡ codes "dg " ++ (peer_text c.args.from.now ++ (codes " " ++ hex_text bytes)) = search (rules, append_assoc) in
+    let octets : AreOctets bytes = search rules in
+    let same : c.append_hex.new.text ≡ codes "dg " ++ (peer_text c.args.from.now ++ (codes " " ++ hex_text bytes)) = search (rules, append_assoc) in
     subst (IsLineThatSays (Datagram c.args.from.now bytes)) (sym same) (datagram_said c.args.from.now bytes octets c.requires (rw c.in_ok-peer.ensures.text at c.in_ok-peer.ensures.back))

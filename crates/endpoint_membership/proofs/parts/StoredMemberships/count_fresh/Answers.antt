@@ -1,33 +1,47 @@
-use Rattle.std.proofs.Common.{Bool, List, Some, filter, map, sym, ap, ◌≡◌, ◌∙◌, ◌++◌, ◌∷◌, [], if◌then◌else◌, arith}
-use Rattle.std.specs.Map.Iter.{deref_pair}
-use Rattle.std.proofs.lemmas.List.{length_push, map-append}
-use Rattle.std.proofs.lemmas.Map.Iter.{rest_so_far}
+use Rattle.std.proofs.Common.{◌≡◌, Bool, List, Some, ◌+◌, ◌++◌, ◌∷◌, [], filter, map, if◌then◌else◌, sym, ap, subst, ◌∙◌, arith}
+use Rattle.std.specs.Map.Iter.{deref}
+use Rattle.std.proofs.lemmas.List.{length_push}
 use Rattle.amt_values.specs.EndpointValue.{EndpointValue}
+use Rattle.contract_words.specs.Ascending.{IsAscending}
 use Rattle.endpoint_membership.specs.EndpointGroup.{EndpointGroup}
+use Rattle.endpoint_membership.specs.Filters.{pairs_of}
 use Rattle.endpoint_membership.specs.Limits.{live_count}
-use Rattle.endpoint_membership.specs.Parts.{stored_membership}
-use Rattle.endpoint_membership.specs.Stored.{ends_with, is_counted, last_of}
-use Rattle.endpoint_membership.specs.declared.stored.StoredFilter.{StoredFilter}
-use Rattle.endpoint_membership.proofs.CountedLive.{last_counted, more_counted}
+use Rattle.endpoint_membership.specs.Membership.{Membership, membership_order}
+use Rattle.endpoint_membership.specs.Stored.{ends_with, is_counted}
+use Rattle.endpoint_membership.proofs.PairsWalked.{IsCounted, IsCounted-more, IsCounted-same, all_seen, memberships_of-all, pairs_walked, seen_memberships}
+use Rattle.endpoint_membership.proofs.StoredView.{IsAscending-stored}
 use Rattle.endpoint_membership.proofs.parts.StoredMemberships.count_fresh.Goals as goal
 
-pub loop-at-preserved-then-is_counted : goal.loop-at-preserved-then-is_counted
-loop-at-preserved-then-is_counted c =
+pub loop-at-preserved-then-counts_at : goal.loop-at-preserved-then-counts_at
+loop-at-preserved-then-counts_at c =
     let test = is_counted c.args.lifetime_ms c.args.moment c.args.besides.now in
     let filters = c.self.inside.filters in
-    let done = map deref_pair c.loop-at.yielded in
-    let entry = deref_pair (c.in-Some.at, c.in-Some.stored) in
-    let begun : c.into_iter-at-iterator.result ≡ filters.entries = c.into_iter-at-iterator.ensures.into_iter_gives.0 in
-    let whole : filters.entries ≡ done ++ entry ∷ c.next.new.self = sym begun ∙ rest_so_far deref_pair c.loop-at.yielded c.into_iter-at-iterator.result c.loop-at.at-iterator c.loop-at.yielded_by ∙ ap (λ (rest : List (EndpointGroup × StoredFilter)). done ++ rest) c.in-Some.ensures.steps in
-    let passes = sym c.is_counted.ensures ∙ c.if-is_counted.true in
+    let rows = c.args.self.now in
+    let seen = c.loop-at.yielded in
+    let pairs = pairs_of filters in
+    let whole = pairs_walked pairs c.pairs-at-items.result.now.keys c.into_iter-at-iterator.result c.loop-at.at-iterator seen c.pairs-at-items.ensures c.into_iter-at-iterator.ensures.into_iter_gives.0 c.loop-at.yielded_by
+    ∙ ap (λ (rest : List EndpointGroup). map deref seen ++ rest) c.in-Some.ensures.steps in
+    let ascends = subst (IsAscending membership_order) c.self.view_is (IsAscending-stored filters c.self.invariant.ordered) in
     let here : c.at.inside.endpoint ≡ c.in-Some.at.now.endpoint = ap (λ (at : EndpointGroup). at.endpoint) c.at.view_is in
     let ends = c.ends_with.ensures ∙ ap (ends_with c.loop-at.last) here in
-    let step = c.one_unless-count.ensures.value ∙ ap (λ (seen : Bool). if seen then 0 else 1) ends in
-    let more : map deref_pair (c.loop-at.yielded ++ (c.in-Some.at, c.in-Some.stored) ∷ []) ≡ done ++ entry ∷ [] = map-append deref_pair c.loop-at.yielded ((c.in-Some.at, c.in-Some.stored) ∷ []) in
+    let step = c.one_unless-count.ensures.value ∙ ap (λ (same : Bool). if same then 0 else 1) ends in
+    let more = IsCounted-more rows pairs c.next.new.self seen c.in-Some.at test c.loop-at.count c.one_unless-count.result c.loop-at.last ascends
+    (memberships_of-all filters rows c.self.invariant.ordered c.self.view_is) whole (sym c.counts_at.ensures ∙ c.if-counts_at.true) c.loop-at.invariant.counted step in
     record {
-      count = more_counted filters done c.next.new.self entry test c.loop-at.count c.one_unless-count.result c.loop-at.last c.self.invariant.ordered whole passes c.loop-at.invariant.count c.loop-at.invariant.last step
-          ∙ sym (ap (λ (entries : List (EndpointGroup × StoredFilter)). live_count (filter test (map stored_membership entries))) more);
-      last = ap (λ (endpoint : EndpointValue). Some endpoint) here ∙ last_counted done entry test passes
-          ∙ sym (ap (λ (entries : List (EndpointGroup × StoredFilter)). last_of (filter test (map stored_membership entries))) more);
-      bounded = omega (arith, length_push c.loop-at.yielded (c.in-Some.at, c.in-Some.stored));
+      counted = subst (λ (endpoint : EndpointValue). IsCounted test (seen_memberships rows (seen ++ c.in-Some.at ∷ [])) (c.loop-at.count + c.one_unless-count.result) (Some endpoint)) (sym here) more;
+      bounded = omega (arith, length_push seen c.in-Some.at);
     }
+
+pub loop-at-preserved : goal.loop-at-preserved
+loop-at-preserved c = record {
+  counted = IsCounted-same c.args.self.now c.loop-at.yielded c.in-Some.at (is_counted c.args.lifetime_ms c.args.moment c.args.besides.now) c.loop-at.count c.loop-at.last
+      (sym c.counts_at.ensures ∙ c.if-counts_at.false) c.loop-at.invariant.counted;
+  bounded = omega (arith, length_push c.loop-at.yielded c.in-Some.at);
+}
+
+pub returns : goal.returns
+returns c =
+    c.loop-at.invariant.counted.count
+    ∙ ap (λ (rows : List Membership). live_count (filter (is_counted c.args.lifetime_ms c.args.moment c.args.besides.now) rows))
+    (all_seen c.self.inside.filters c.args.self.now c.pairs-at-items.result.now.keys c.into_iter-at-iterator.result c.loop-at.at-iterator c.loop-at.yielded c.self.invariant.ordered c.self.view_is
+    c.pairs-at-items.ensures c.into_iter-at-iterator.ensures.into_iter_gives.0 c.loop-at.yielded_by c.in-None.ensures.steps.0)

@@ -2,8 +2,9 @@ use Rattle.std.proofs.Common.{◌≡◌}
 use Rattle.std.specs.BTreeMap.{get}
 use Rattle.amt_values.specs.declared.address.Ip.{Ip}
 use Rattle.amt_values.specs.Order.{ip_order}
-use Rattle.endpoint_membership.proofs.OwnFilters.{own_filter, seen_memberships}
+use Rattle.endpoint_membership.proofs.OwnFilters.{own_filter}
+use Rattle.endpoint_membership.proofs.PairsWalked.{seen_memberships}
 use Rattle.endpoint_membership.proofs.parts.StoredMemberships.own_filters.Given as goal
 
 abbrev pub invariant-loop-at : goal.invariant-loop-at
-invariant-loop-at l = (group : Ip) → get ip_order l.filters group ≡ own_filter l.lifetime_ms l.moment l.endpoint (seen_memberships l.yielded) group
+invariant-loop-at l = (group : Ip) → get ip_order l.filters group ≡ own_filter l.lifetime_ms l.moment l.endpoint (seen_memberships l.self l.yielded) group

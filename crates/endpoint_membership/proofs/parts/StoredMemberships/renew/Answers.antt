@@ -17,8 +17,8 @@ settle-requires-clause-present c =
 
 pub invariant_of-self-2 : goal.invariant_of-self-2
 invariant_of-self-2 c =
-    AreAgreed-put c.self.inside.filters c.settle.new.filters c.self.inside.renewals c.settle.new.renewals c.self.inside.members c.self.inside.counts
-    c.self.invariant c.settle.ensures.keys c.settle.ensures.renewals
+    AreAgreed-put c.self.inside.filters c.settle.new.filters c.self.inside.renewals c.settle.new.renewals c.self.inside.counts
+    c.self.invariant c.settle.ensures.pairs c.settle.ensures.renewals
 
 pub returns-clause-ok : goal.returns-clause-ok
 returns-clause-ok c at =
@@ -27,5 +27,5 @@ returns-clause-ok c at =
 
 pub returns-clause-ascends : goal.returns-clause-ascends
 returns-clause-ascends c =
-    IsAscending-stored c.settle.new.filters (AreAgreed-put c.self.inside.filters c.settle.new.filters c.self.inside.renewals c.settle.new.renewals c.self.inside.members c.self.inside.counts
-    c.self.invariant c.settle.ensures.keys c.settle.ensures.renewals).ordered
+    IsAscending-stored c.settle.new.filters (AreAgreed-put c.self.inside.filters c.settle.new.filters c.self.inside.renewals c.settle.new.renewals c.self.inside.counts
+    c.self.invariant c.settle.ensures.pairs c.settle.ensures.renewals).ordered

@@ -16,8 +16,8 @@ returns-then-ne-clause-renewals c renewal =
     let now = c.into_stored_filter.result in
     let moment = ap (λ (stored : StoredFilter). stored.renewed) c.into_stored_filter.ensures ∙ sym (ap (λ (one : LastRenewal). one.renewed) c.renewal_of-renewal.ensures) in
     let apart = eqb-false was.renewed c.renewal_of-renewal.result.renewed (not-true _ (sym c.ne.ensures ∙ c.if-ne.true)) in
-    old_renewal_out c.args.filters.now c.put_filter.new.filters key was now renewal (contains renewal_order c.args.renewals.now renewal) _
-    (sym c.put_filter.ensures.old ∙ c.in-Some.is) c.put_filter.ensures.new (λ same. apart (same ∙ moment))
+    old_renewal_out c.args.filters.now c.put.new.self key was now renewal (contains renewal_order c.args.renewals.now renewal) _
+    (sym c.put.ensures.old ∙ c.in-Some.is) c.put.ensures.set (λ same. apart (same ∙ moment))
     (renewals_updated c.args.renewals.now c.remove.new.self (renewal_at was.renewed key) false c.remove.ensures.updates renewal)
 
 pub returns-in-Some-clause-renewals : goal.returns-in-Some-clause-renewals
@@ -27,5 +27,5 @@ returns-in-Some-clause-renewals c renewal =
     let now = c.into_stored_filter.result in
     let moment = ap (λ (stored : StoredFilter). stored.renewed) c.into_stored_filter.ensures ∙ sym (ap (λ (one : LastRenewal). one.renewed) c.renewal_of-renewal.ensures) in
     let same = eqb-true was.renewed c.renewal_of-renewal.result.renewed (not-false _ (sym c.ne.ensures ∙ c.if-ne.false)) in
-    same_renewal_stays c.args.filters.now c.put_filter.new.filters key was now renewal (contains renewal_order c.args.renewals.now renewal)
-    (sym c.put_filter.ensures.old ∙ c.in-Some.is) c.put_filter.ensures.new (same ∙ sym moment)
+    same_renewal_stays c.args.filters.now c.put.new.self key was now renewal (contains renewal_order c.args.renewals.now renewal)
+    (sym c.put.ensures.old ∙ c.in-Some.is) c.put.ensures.set (same ∙ sym moment)

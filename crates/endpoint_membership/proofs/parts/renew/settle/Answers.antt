@@ -1,10 +1,9 @@
 use Rattle.std.proofs.Common.{List, option_map, sym, ap, subst, ◌∙◌}
-use Rattle.std.specs.BTreeMap.{get}
 use Rattle.std.specs.Option.{option_or}
 use Rattle.std.specs.Vec.Iter.{into_iter_items}
 use Rattle.std.proofs.lemmas.Map.Keys.{sorted_tail}
 use Rattle.contract_words.specs.Ascending.{IsAscending}
-use Rattle.endpoint_membership.specs.EndpointGroup.{endpoint_group_order}
+use Rattle.endpoint_membership.specs.Filters.{filter_at}
 use Rattle.endpoint_membership.specs.Membership.{Membership, endpoint_group_of, membership_order}
 use Rattle.endpoint_membership.specs.Memberships.{membership_in}
 use Rattle.endpoint_membership.specs.Parts.{AreRenewalsOf, stored_filter}
@@ -15,7 +14,7 @@ pub put_membership-requires : goal.put_membership-requires
 put_membership-requires c =
     let before = c.loop-membership.invariant in
     let given = subst (ArePresent c.args.filters.now) c.in-Some.ensures.steps.0 before.present in
-    same_found c.args.filters.now c.loop-membership.filters before.keys (endpoint_group_of c.in-Some.membership) ∙ given.0
+    same_found c.args.filters.now c.loop-membership.filters before.pairs (endpoint_group_of c.in-Some.membership) ∙ given.0
 
 pub loop-membership-preserved : goal.loop-membership-preserved
 loop-membership-preserved c =
@@ -29,9 +28,9 @@ loop-membership-preserved c =
     record {
       ascend = sorted_tail membership_order membership rest ascends;
       present = (subst (ArePresent c.args.filters.now) given before.present).1;
-      staged = first_settled membership rest filters after c.loop-membership.renewals c.put_membership.new.renewals ascends c.put_membership.ensures.new
+      staged = first_settled membership rest filters after c.loop-membership.renewals c.put_membership.new.renewals ascends c.put_membership.ensures.set
           (subst (λ (left : List Membership). AreRenewalsOf left filters c.loop-membership.renewals) given before.staged) c.put_membership.ensures.renewals;
-      new = λ at. first_put membership rest filters after at ascends c.put_membership.ensures.new
-          ∙ ap (λ (left : List Membership). option_or (option_map stored_filter (membership_in left at)) (get endpoint_group_order filters at)) (sym given) ∙ before.new at;
-      keys = c.put_membership.ensures.keys ∙ before.keys;
+      new = λ at. first_put membership rest filters after at ascends c.put_membership.ensures.set
+          ∙ ap (λ (left : List Membership). option_or (option_map stored_filter (membership_in left at)) (filter_at filters at)) (sym given) ∙ before.new at;
+      pairs = c.put_membership.ensures.pairs ∙ before.pairs;
     }

@@ -1,6 +1,0 @@
-use Rattle.std.proofs.Common.{◌≡◌, ◌++◌, take, flat_map}
-use Rattle.amt_script.specs.Texts.{send_text}
-use Rattle.amt_script.proofs.text.print_relay_step.Given as goal
-
-abbrev pub invariant-loop-send : goal.invariant-loop-send
-invariant-loop-send l = l.text ≡ l.initial.text ++ flat_map send_text (take l.send-index l.send-items)

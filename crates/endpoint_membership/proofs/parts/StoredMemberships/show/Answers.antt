@@ -1,0 +1,23 @@
+use Rattle.std.proofs.Common.{None, Some, map, sym, ap, ◌∙◌}
+use Rattle.endpoint_membership.specs.Memberships.{row_of}
+use Rattle.endpoint_membership.specs.Parts.{stored_membership}
+use Rattle.endpoint_membership.proofs.PairsWalked.{all_seen, rows-push, seen-none, stored_at}
+use Rattle.endpoint_membership.proofs.parts.StoredMemberships.show.Goals as goal
+
+pub loop-at-preserved-in_ok-push : goal.loop-at-preserved-in_ok-push
+loop-at-preserved-in_ok-push c =
+    let at = c.in-Some.at.now in
+    let stored = c.in-Some-get.stored.now in
+    rows-push c.args.self.now c.loop-at.yielded c.in-Some.at (stored_membership (at, stored)) c.loop-at.all c.push.new.self c.in_ok-row_of.field-0
+    (stored_at c.self.inside.filters c.args.self.now at (Some stored) c.self.view_is c.in-Some-get.ensures.value) c.in_ok-row_of.ensures c.loop-at.invariant c.in_ok-push.ensures.ok
+
+pub loop-at-preserved : goal.loop-at-preserved
+loop-at-preserved c =
+    c.loop-at.invariant
+    ∙ ap (map row_of) (sym (seen-none c.args.self.now c.loop-at.yielded c.in-Some.at (stored_at c.self.inside.filters c.args.self.now c.in-Some.at.now None c.self.view_is c.in_default.ensures.value)))
+
+pub returns : goal.returns
+returns c =
+    c.loop-at.invariant
+    ∙ ap (map row_of) (all_seen c.self.inside.filters c.args.self.now c.pairs-at-items.result.now.keys c.into_iter-at-iterator.result c.loop-at.at-iterator c.loop-at.yielded c.self.invariant.ordered c.self.view_is
+    c.pairs-at-items.ensures c.into_iter-at-iterator.ensures.into_iter_gives.0 c.loop-at.yielded_by c.in-None.ensures.steps.0)

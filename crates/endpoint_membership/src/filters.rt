@@ -1,0 +1,136 @@
+//! Filters, kept by group, so that those of a group's members stand together, and seen by endpoint.
+//! It must not know when a membership expires, or who is live.
+
+ghost use Rattle.std.specs.Prelude.{◌≡◌, ◌<◌, ◌^◌, [], true, is_some, length, None, Some, OnOk, OnErr};
+ghost use Rattle.std.specs.BTreeMap.{get, insert_entry, is_at};
+ghost use Rattle.std.specs.Map.{remove_entry};
+ghost use Rattle.std.specs.Option.{option_copied};
+ghost use Rattle.endpoint_membership.specs.EndpointGroup.{endpoint_group_order};
+ghost use Rattle.endpoint_membership.specs.Filters.{AreOrdered, IsSetAt, filter_at, group_member_order, member_of, pair_of, pairs_of};
+ghost use Rattle.endpoint_membership.specs.declared.keys.GroupMember.{GroupMember as Member};
+
+use crate::keys::{EndpointGroup, GroupMember};
+use crate::stored::StoredFilter;
+use std::alloc::{AllocError, Global};
+use std::collections::{BTreeMap, BTreeSet};
+use std::marker::Model;
+
+/// Filters by endpoint and then by group: as such a map they are seen.
+///
+/// They are kept by group, so that the members of a group are a range with their filters, and who
+/// gets a packet is found without a look-up for each.
+#[derive(Debug, Drop)]
+pub struct StoredFilters {
+    by_group: BTreeMap<GroupMember, StoredFilter>,
+    // The pairs that have one.
+    pairs: BTreeSet<EndpointGroup>,
+}
+
+impl Model for StoredFilters {
+    ghost use Rattle.endpoint_membership.specs.Filters.{FiltersValue, HaveSamePairs, filters_of};
+
+    ghost Value = { FiltersValue };
+
+    ghost view = { λ s. filters_of s.by_group s.pairs };
+
+    ghost invariant = { λ s. HaveSamePairs s.by_group s.pairs };
+}
+
+fn member_of(at: &EndpointGroup) -> GroupMember
+    ensures { result ≡ member_of at.now }
+{
+    GroupMember {
+        group: at.group,
+        endpoint: at.endpoint,
+    }
+}
+
+impl StoredFilters {
+    pub fn new(alloc: Global) -> Self
+        ensures empty { result.entries ≡ [] }
+        ensures ordered { AreOrdered result }
+    {
+        StoredFilters {
+            by_group: BTreeMap::new(alloc),
+            pairs: BTreeSet::new(alloc),
+        }
+    }
+
+    pub fn len(&self) -> usize
+        ensures len { result ≡ length self.now.entries }
+        ensures small { result < 2 ^ 63 }
+    {
+        self.pairs.len()
+    }
+
+    pub fn get(&self, at: &EndpointGroup) -> Option<&StoredFilter>
+        ensures value { option_copied result ≡ filter_at self.now at.now }
+    {
+        self.by_group.get(&member_of(at))
+    }
+
+    pub fn contains_key(&self, at: &EndpointGroup) -> bool
+        ensures { result ≡ is_some (filter_at self.now at.now) }
+    {
+        self.pairs.contains(at)
+    }
+
+    /// The pairs that have a filter, by endpoint and then by group.
+    pub fn pairs(&self) -> &BTreeSet<EndpointGroup>
+        ensures { result.now.keys ≡ pairs_of self.now }
+    {
+        &self.pairs
+    }
+
+    /// The same filters by group and then by endpoint.
+    pub fn by_group(&self) -> &BTreeMap<GroupMember, StoredFilter>
+        ensures { (member : Member) → get group_member_order result.now member
+            ≡ filter_at self.now (pair_of member) }
+    {
+        &self.by_group
+    }
+
+    /// Adds the filter of a pair that has none. Out of memory nothing changes.
+    pub fn insert(&mut self, at: EndpointGroup, stored: StoredFilter) -> Result<(), AllocError>
+        requires absent { filter_at self.old at ≡ None }
+        ensures set { OnOk result (IsSetAt at (Some stored) self.old self.new) }
+        ensures entries { OnOk result (self.new.entries
+            ≡ insert_entry endpoint_group_order self.old.entries at stored) }
+        ensures ordered { OnOk result (AreOrdered self.new) }
+        ensures err { OnErr result (self.new ≡ self.old) }
+    {
+        let member = member_of(&at);
+        self.by_group.insert(member, stored)?;
+        let Ok(_) = self.pairs.insert(at) else {
+            self.by_group.remove(&member);
+            return Err(AllocError);
+        };
+        Ok(())
+    }
+
+    /// Puts a filter in the place of the pair's, which it gives back. It takes no memory.
+    pub fn put(&mut self, at: EndpointGroup, stored: StoredFilter) -> Option<StoredFilter>
+        requires { is_some (filter_at self.old at) ≡ true }
+        ensures old { result ≡ filter_at self.old at }
+        ensures set { IsSetAt at (Some stored) self.old self.new }
+        ensures pairs { pairs_of self.new ≡ pairs_of self.old }
+    {
+        match self.by_group.insert(member_of(&at), stored) {
+            Ok(old) => old,
+            // Only a member that has no filter is refused.
+            Err(_) => unreachable!(),
+        }
+    }
+
+    /// Takes the filter of the pair out, if there is one.
+    pub fn remove(&mut self, at: &EndpointGroup) -> Option<StoredFilter>
+        ensures value { result ≡ filter_at self.old at.now }
+        ensures set { IsSetAt at.now None self.old self.new }
+        ensures entries { self.new.entries
+            ≡ remove_entry (is_at (endpoint_group_order at.now)) self.old.entries }
+        ensures ordered { AreOrdered self.new }
+    {
+        self.pairs.remove(at);
+        self.by_group.remove(&member_of(at))
+    }
+}

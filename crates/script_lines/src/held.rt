@@ -1,0 +1,46 @@
+//! Text that is held back until there is much of it. It knows sinks by their trait alone.
+
+ghost use Rattle.std.specs.Prelude.{◌≡◌, ◌++◌, [], OnOk, OnErr, IfErr};
+ghost use Rattle.std.specs.Io.KnownBytes.{Appends};
+ghost use Rattle.script_lines.specs.Counting.{CountsWrites};
+ghost use Rattle.script_lines.specs.Writing.{WritesPrefix, WritesUpTo};
+
+use crate::fault::RunFault;
+use amt_ports::{Sink, write_all_own};
+use amt_values::Bytes;
+
+/// How many octets are written at once, where there are as many.
+const MUCH: usize = 65_536;
+
+/// Writes all that is held, and holds nothing then.
+pub fn write_held<O: Sink>(held: &mut Bytes, out: &mut O) -> Result<(), RunFault>
+    ensures done { OnOk result (Appends (O.written out.old) (O.written out.new) held.old) }
+    ensures none { OnOk result (held.new ≡ []) }
+    ensures begun { OnErr result (WritesPrefix (O.written out.old) (O.written out.new) held.old) }
+    ensures fault { IfErr result (λ fault. fault ≡ RunFault.Write) }
+    ensures counts { CountsWrites (O.faults out.old) (O.faults out.new) result }
+{
+    match write_all_own(out, held.as_slice()) {
+        Ok(()) => {
+            held.clear();
+            Ok(())
+        }
+        Err(_) => Err(RunFault::Write),
+    }
+}
+
+/// Writes what is held where it is 64 KiB or more.
+pub fn write_much<O: Sink>(held: &mut Bytes, out: &mut O) -> Result<(), RunFault>
+    ensures done { OnOk result (WritesUpTo (O.written out.old) (O.written out.new) held.old held.new) }
+    ensures begun { OnErr result (WritesPrefix (O.written out.old) (O.written out.new) held.old) }
+    ensures fault { IfErr result (λ fault. fault ≡ RunFault.Write) }
+    ensures counts { CountsWrites (O.faults out.old) (O.faults out.new) result }
+{
+    if held.len() < MUCH {
+        return Ok(());
+    }
+    match write_held(held, out) {
+        Ok(()) => Ok(()),
+        Err(fault) => Err(fault),
+    }
+}
