@@ -49,7 +49,7 @@ pub const WIDE_GROUPS: [Ip; 3] = [
 ];
 
 /// The sources that sockets list of IPv4 groups, ascending.
-pub const SOURCES: [Ip; 15] = [
+pub const SOURCES: [Ip; 30] = [
     Ip::V4(0xc633_6401),
     Ip::V4(0xc633_6402),
     Ip::V4(0xc633_6403),
@@ -65,10 +65,25 @@ pub const SOURCES: [Ip; 15] = [
     Ip::V4(0xc633_640d),
     Ip::V4(0xc633_640e),
     Ip::V4(0xc633_640f),
+    Ip::V4(0xc633_6410),
+    Ip::V4(0xc633_6411),
+    Ip::V4(0xc633_6412),
+    Ip::V4(0xc633_6413),
+    Ip::V4(0xc633_6414),
+    Ip::V4(0xc633_6415),
+    Ip::V4(0xc633_6416),
+    Ip::V4(0xc633_6417),
+    Ip::V4(0xc633_6418),
+    Ip::V4(0xc633_6419),
+    Ip::V4(0xc633_641a),
+    Ip::V4(0xc633_641b),
+    Ip::V4(0xc633_641c),
+    Ip::V4(0xc633_641d),
+    Ip::V4(0xc633_641e),
 ];
 
 /// The sources that sockets list of IPv6 groups, ascending.
-pub const WIDE_SOURCES: [Ip; 15] = [
+pub const WIDE_SOURCES: [Ip; 30] = [
     Ip::V6(0x2001_0db8_0000_0000_0000_0000_0000_0001),
     Ip::V6(0x2001_0db8_0000_0000_0000_0000_0000_0002),
     Ip::V6(0x2001_0db8_0000_0000_0000_0000_0000_0003),
@@ -84,6 +99,21 @@ pub const WIDE_SOURCES: [Ip; 15] = [
     Ip::V6(0x2001_0db8_0000_0000_0000_0000_0000_000d),
     Ip::V6(0x2001_0db8_0000_0000_0000_0000_0000_000e),
     Ip::V6(0x2001_0db8_0000_0000_0000_0000_0000_000f),
+    Ip::V6(0x2001_0db8_0000_0000_0000_0000_0000_0010),
+    Ip::V6(0x2001_0db8_0000_0000_0000_0000_0000_0011),
+    Ip::V6(0x2001_0db8_0000_0000_0000_0000_0000_0012),
+    Ip::V6(0x2001_0db8_0000_0000_0000_0000_0000_0013),
+    Ip::V6(0x2001_0db8_0000_0000_0000_0000_0000_0014),
+    Ip::V6(0x2001_0db8_0000_0000_0000_0000_0000_0015),
+    Ip::V6(0x2001_0db8_0000_0000_0000_0000_0000_0016),
+    Ip::V6(0x2001_0db8_0000_0000_0000_0000_0000_0017),
+    Ip::V6(0x2001_0db8_0000_0000_0000_0000_0000_0018),
+    Ip::V6(0x2001_0db8_0000_0000_0000_0000_0000_0019),
+    Ip::V6(0x2001_0db8_0000_0000_0000_0000_0000_001a),
+    Ip::V6(0x2001_0db8_0000_0000_0000_0000_0000_001b),
+    Ip::V6(0x2001_0db8_0000_0000_0000_0000_0000_001c),
+    Ip::V6(0x2001_0db8_0000_0000_0000_0000_0000_001d),
+    Ip::V6(0x2001_0db8_0000_0000_0000_0000_0000_001e),
 ];
 
 /// The lists of sources that sockets of IPv4 groups have, short ones and a long one.
@@ -131,7 +161,7 @@ pub fn names_of(group: &Ip) -> [u8; 6] {
 }
 
 /// The sources that sockets of the group may list.
-pub fn sources_of(group: &Ip) -> [Ip; 15] {
+pub fn sources_of(group: &Ip) -> [Ip; 30] {
     match group {
         Ip::V4(_) => SOURCES,
         Ip::V6(_) => WIDE_SOURCES,

@@ -42,13 +42,14 @@ fn is_wide(name: u8) -> bool {
     name < 97
 }
 
+// The long list, which is the last one, comes three times out of eight.
 fn random_draft(words: &mut Words, name: u8) -> Draft {
     let mode = if words.below(2) == 0 {
         Mode::Include
     } else {
         Mode::Exclude
     };
-    let list = words.below(6) as usize;
+    let list = words.below(8).min(5) as usize;
     let listed = if is_wide(name) {
         WIDE_LISTS[list]
     } else {
@@ -290,15 +291,15 @@ fn assert_quiet(
     assert_eq!(rt; quiet, wanted, "{history:?} {at:?} {keep_ms}");
 }
 
-// Compares the reports of both families, with a random time for farewells.
+// Compares the reports of both families at a random moment.
 fn assert_reports(
     rt: &impl Abort,
     alloc: Global,
     sockets: &Sockets,
     history: &[Accepted],
     words: &mut Words,
+    keep_ms: u64,
 ) -> Result<(), AllocError> {
-    let keep_ms = KEEPS_MS[words.below(7) as usize];
     let at = moment(rt, random_moment(words, history));
     assert_report(rt, alloc, sockets, history, false, &at, keep_ms)?;
     assert_report(rt, alloc, sockets, history, true, &at, keep_ms)?;
@@ -306,7 +307,7 @@ fn assert_reports(
     Ok(())
 }
 
-// One random call, and then every question, that of reports three times.
+// One random call, and then every question, with several times for farewells.
 fn assert_turn(
     rt: &impl Abort,
     alloc: Global,
@@ -325,8 +326,8 @@ fn assert_turn(
     let history = history.as_slice();
     assert_groups(rt, alloc, sockets, history, false)?;
     assert_groups(rt, alloc, sockets, history, true)?;
-    for _ in 0..3 {
-        assert_reports(rt, alloc, sockets, history, words)?;
+    for keep_ms in KEEPS_MS {
+        assert_reports(rt, alloc, sockets, history, words, keep_ms)?;
     }
     Ok(())
 }
@@ -334,7 +335,7 @@ fn assert_turn(
 fn assert_history(rt: &impl Abort, alloc: Global, words: &mut Words) -> Result<(), AllocError> {
     let mut sockets = no_sockets(alloc)?;
     let mut history = Vec::new(alloc);
-    for _ in 0..12 {
+    for _ in 0..16 {
         assert_turn(rt, alloc, &mut sockets, &mut history, words)?;
     }
     Ok(())
@@ -342,7 +343,7 @@ fn assert_history(rt: &impl Abort, alloc: Global, words: &mut Words) -> Result<(
 
 fn assert_histories(rt: &impl Abort, alloc: Global) -> Result<(), AllocError> {
     let mut words = Words { state: 1 };
-    for _ in 0..200 {
+    for _ in 0..300 {
         assert_history(rt, alloc, &mut words)?;
     }
     Ok(())
