@@ -1,15 +1,15 @@
 -- Sockets stay as tests open them through each call.
 use Rattle.std.specs.Prelude.{OnErr, OnOk, Result, Ok, Err}
-use Rattle.std.proofs.Common.{◌≡◌, ℕ, Bool, true, false, not, cond, List, [], ◌∷◌, ◌++◌, map, Option, Some, None, refl, sym, ap, subst, ◌∙◌}
-use Rattle.std.specs.List.{All, find}
-use Rattle.std.proofs.lemmas.List.Elements.{All-cons, All-filter, All-head, All-map, All-nil, All-push, All-same, All-tail, All-weaker}
+use Rattle.std.proofs.Common.{◌≡◌, ℕ, Bool, true, false, not, cond, List, [], ◌∷◌, Option, Some, None, refl, sym, ap, subst, ◌∙◌}
+use Rattle.std.specs.List.{All}
+use Rattle.std.proofs.lemmas.List.Elements.{All-filter, All-head, All-map, All-nil, All-push, All-same, All-tail, All-weaker}
 use Rattle.amt_values.specs.declared.address.Ip.{Ip}
 use Rattle.source_filter.specs.Filter.{FilterValue}
 use Rattle.group_records.specs.declared.family.Family.{Family}
 use Rattle.group_records.specs.Written.{is_of_family}
 use Rattle.socket_merge.specs.History.{Change, Close, LeaveAll, Open, Socket, SocketCall, open_sockets, refiltered, same_name, socket_named, sockets_after, with_call}
 use Rattle.socket_merge.specs.Refusal.{family_of}
-use Rattle.socket_merge.specs.Sockets.{AreOfGroup, AreOfSocket, SocketsHold, SocketsValue}
+use Rattle.socket_merge.specs.Sockets.{AreOfSocket, SocketsHold, SocketsValue}
 use Rattle.socket_merge.proofs.Amounts.{same_name-exact}
 use Rattle.socket_tests.specs.Tested.{IsFitting, IsNamed, IsTested, family_named}
 
