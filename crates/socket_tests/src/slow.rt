@@ -208,10 +208,8 @@ pub fn socket(history: &[Accepted], name: u8) -> Option<(Ip, Draft)> {
 
 // The filter of the socket of this name, if it is of the group.
 fn draft_on(history: &[Accepted], name: u8, group: &Ip) -> Option<Draft> {
-    match socket(history, name) {
-        Some((own, draft)) => { if own == *group { Some(draft) } else { None } }
-        None => None,
-    }
+    let (own, draft) = socket(history, name)?;
+    if own == *group { Some(draft) } else { None }
 }
 
 fn is_listed(listed: &[Ip], source: &Ip) -> bool {
