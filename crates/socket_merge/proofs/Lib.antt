@@ -1,0 +1,15 @@
+pub mod Amounts
+pub mod ByGroup
+pub mod Calls
+pub mod Consistent
+pub mod Counted
+pub mod Farewells
+pub mod HoldsAfter
+pub mod NamedOnes
+pub mod RawOctets
+pub mod Refused
+pub mod Reports
+mod Rows
+pub mod Tallies
+pub mod WalkedGroups
+pub mod Wanted

@@ -1,0 +1,161 @@
+-- What the filters of a group want merged, by what each of them wants.
+use Rattle.std.proofs.Common.{◌≡◌, ℕ, ◌+◌, ◌≤◌, Bool, true, false, not, ◌||◌, List, [], ◌∷◌, ◌++◌, length, filter, refl, ap, ◌∙◌, arith}
+use Rattle.std.specs.List.{All, list_any, sum_by}
+use Rattle.std.specs.Ordering.{is_eq, match_ordering}
+use Rattle.std.specs.declared.cmp.Ordering.{Ordering}
+use Rattle.std.specs.declared.cmp.Ordering.TheVariants.{Less, Equal, Greater}
+use Rattle.std.proofs.Math.Bool.{or-true}
+use Rattle.std.proofs.lemmas.Cmp.{tied_itself}
+use Rattle.std.proofs.lemmas.List.{length-append}
+use Rattle.std.proofs.lemmas.List.Elements.{All-append, All-cons, All-filter, All-head, All-nil, All-tail}
+use Rattle.std.proofs.lemmas.List.Filters.{length-filter_both}
+use Rattle.std.proofs.lemmas.List.Sums.{sum_by-cons}
+use Rattle.std.proofs.lemmas.Map.Views.{tells_apart}
+use Rattle.amt_values.specs.declared.address.Ip.{Ip}
+use Rattle.amt_values.specs.Order.{ip_order}
+use Rattle.amt_values.proofs.Orders.{ip_order-exact, ip_order-total}
+use Rattle.contract_words.specs.Ascending.{ascending, has, intersection, placed}
+use Rattle.contract_words.proofs.AscendingLaws.{length-ascending}
+use Rattle.source_filter.specs.Filter.{FilterValue, wants_any, wants_any_by}
+use Rattle.source_filter.specs.Merging.{all_sources, common_sources, exclude_list, exclude_lists, include_list, include_lists, intersection_of, merged, merged_by, union_of}
+use Rattle.source_filter.specs.declared.mode.Mode.{Mode}
+use Rattle.source_filter.specs.declared.mode.Mode.TheVariants.{Include, Exclude}
+use Rattle.socket_merge.specs.Interface.{same_group}
+
+pub same_group-exact : (one other : Ip) → same_group one other ≡ true → one ≡ other
+same_group-exact one other same = tells_apart ip_order-exact one other same
+
+pub same_group-itself : (group : Ip) → same_group group group ≡ true
+same_group-itself group = ap is_eq (tied_itself ip_order-total group)
+
+-- the list has an item
+abbrev pub some_item : {X : Type 0} → List X → Bool
+some_item [] = false
+some_item (x ∷ xs) = true
+
+wants_any-include : (sources : List Ip) → wants_any_by Include sources ≡ some_item sources
+wants_any-include [] = refl
+wants_any-include (source ∷ more) = refl
+
+some_item-placed_by : (order : Ordering) (source next : Ip) (more placed : List Ip) → some_item (match_ordering order (source ∷ next ∷ more) (next ∷ more) (next ∷ placed)) ≡ true
+some_item-placed_by Less source next more placed = refl
+some_item-placed_by Equal source next more placed = refl
+some_item-placed_by Greater source next more placed = refl
+
+some_item-placed : (source : Ip) (more : List Ip) → some_item (placed ip_order source more) ≡ true
+some_item-placed source [] = refl
+some_item-placed source (next ∷ more) = some_item-placed_by (ip_order source next) source next more (placed ip_order source more)
+
+some_item-ascending : (sources : List Ip) → some_item (ascending ip_order sources) ≡ some_item sources
+some_item-ascending [] = refl
+some_item-ascending (source ∷ more) = some_item-placed source (ascending ip_order more)
+
+wants_any-merged_by : (exclude include : List (List Ip))
+    → wants_any (merged_by (intersection_of exclude) (union_of include)) ≡ (some_item exclude || some_item (all_sources include))
+wants_any-merged_by [] include = wants_any-include (union_of include) ∙ some_item-ascending (all_sources include)
+wants_any-merged_by (first ∷ more) include = refl
+
+some_first : (mode : Mode) (sources : List Ip) (exclude include : List (List Ip))
+    → (some_item (exclude_list mode sources ++ exclude) || some_item (all_sources (include_list mode sources ++ include)))
+    ≡ (wants_any_by mode sources || (some_item exclude || some_item (all_sources include)))
+some_first Exclude sources exclude include = refl
+some_first Include [] exclude include = refl
+some_first Include (source ∷ more) exclude include = or-true (some_item exclude)
+
+some_wanted : (filters : List FilterValue) → (some_item (exclude_lists filters) || some_item (all_sources (include_lists filters))) ≡ list_any wants_any filters
+some_wanted [] = refl
+some_wanted (first ∷ more) =
+    some_first first.mode first.sources (exclude_lists more) (include_lists more) ∙ ap (λ (rest : Bool). wants_any first || rest) (some_wanted more)
+
+-- merged filters want some source where one of them does
+pub wants_any-merged : (filters : List FilterValue) → wants_any (merged filters) ≡ list_any wants_any filters
+wants_any-merged filters = wants_any-merged_by (exclude_lists filters) (include_lists filters) ∙ some_wanted filters
+
+length-filter_le : (test : Ip → Bool) (sources : List Ip) → length (filter test sources) ≤ length sources
+length-filter_le test sources = omega (arith, length-filter_both test (λ source. not (test source)) (λ _. refl) sources)
+
+length-common_sources : (first : List Ip) (more : List (List Ip)) → length (common_sources first more) ≤ length first
+length-common_sources first [] = omega arith
+length-common_sources first (next ∷ more) =
+    omega (arith, length-common_sources (intersection ip_order first next) more, length-filter_le (λ source. has ip_order next source) first)
+
+length-merged_by : (exclude include : List (List Ip))
+    → length (merged_by (intersection_of exclude) (union_of include)).sources ≤ length (all_sources exclude) + length (all_sources include)
+length-merged_by [] include = omega (arith, length-ascending ip_order (all_sources include))
+length-merged_by (first ∷ more) include =
+    omega (
+      arith,
+      length-filter_le (λ source. not (has ip_order (union_of include) source)) (common_sources first more),
+      length-common_sources first more,
+      length-append first (all_sources more),
+    )
+
+length-first : (mode : Mode) (sources : List Ip) (exclude include : List (List Ip))
+    → length (all_sources (exclude_list mode sources ++ exclude)) + length (all_sources (include_list mode sources ++ include))
+    ≡ length sources + (length (all_sources exclude) + length (all_sources include))
+length-first Exclude sources exclude include = omega (arith, length-append sources (all_sources exclude))
+length-first Include sources exclude include = omega (arith, length-append sources (all_sources include))
+
+-- how many sources the filter lists
+abbrev pub source_number : FilterValue → ℕ
+source_number filter = length filter.sources
+
+length-lists : (filters : List FilterValue) → length (all_sources (exclude_lists filters)) + length (all_sources (include_lists filters)) ≡ sum_by source_number filters
+length-lists [] = refl
+length-lists (first ∷ more) =
+    omega (arith, length-first first.mode first.sources (exclude_lists more) (include_lists more), length-lists more, sum_by-cons source_number first more)
+
+-- merged filters list no more sources than they do one by one
+pub length-merged : (filters : List FilterValue) → length (merged filters).sources ≤ sum_by source_number filters
+length-merged filters = omega (arith, length-merged_by (exclude_lists filters) (include_lists filters), length-lists filters)
+
+module _ (P : Ip → Type 0) where
+  All-placed_by : (order : Ordering) (source next : Ip) (more placed : List Ip) → P source → All P (next ∷ more) → All P placed
+      → All P (match_ordering order (source ∷ next ∷ more) (next ∷ more) (next ∷ placed))
+  All-placed_by Less source next more placed first rest all = All-cons P source (next ∷ more) first rest
+  All-placed_by Equal source next more placed first rest all = rest
+  All-placed_by Greater source next more placed first rest all = All-cons P next placed (All-head P next more rest) all
+
+  All-placed : (source : Ip) (more : List Ip) → P source → All P more → All P (placed ip_order source more)
+  All-placed source [] first rest = All-cons P source [] first rest
+  All-placed source (next ∷ more) first rest =
+      All-placed_by (ip_order source next) source next more (placed ip_order source more) first rest (All-placed source more first (All-tail P next more rest))
+
+  All-ascending : (sources : List Ip) → All P sources → All P (ascending ip_order sources)
+  All-ascending [] all = all
+  All-ascending (source ∷ more) all = All-placed source (ascending ip_order more) (All-head P source more all) (All-ascending more (All-tail P source more all))
+
+  All-common_sources : (first : List Ip) (more : List (List Ip)) → All P first → All P (common_sources first more)
+  All-common_sources first [] all = all
+  All-common_sources first (next ∷ more) all = All-common_sources (intersection ip_order first next) more (All-filter (λ source. has ip_order next source) P first all)
+
+  All-merged_by : (exclude include : List (List Ip)) → All (All P) exclude → All P (all_sources include) → All P (merged_by (intersection_of exclude) (union_of include)).sources
+  All-merged_by [] include excluded included = All-ascending (all_sources include) included
+  All-merged_by (first ∷ more) include excluded included =
+      All-filter (λ source. not (has ip_order (union_of include) source)) P (common_sources first more) (All-common_sources first more (All-head (All P) first more excluded))
+
+  excluded_first : (mode : Mode) (sources : List Ip) (exclude : List (List Ip)) → All P sources → All (All P) exclude → All (All P) (exclude_list mode sources ++ exclude)
+  excluded_first Include sources exclude here all = all
+  excluded_first Exclude sources exclude here all = All-cons (All P) sources exclude here all
+
+  included_first : (mode : Mode) (sources : List Ip) (include : List (List Ip)) → All P sources → All P (all_sources include) → All P (all_sources (include_list mode sources ++ include))
+  included_first Include sources include here all = All-append P sources (all_sources include) here all
+  included_first Exclude sources include here all = all
+
+  -- each source of the filter is such
+  abbrev pub AreSuch : FilterValue → Type 0
+  AreSuch filter = All P filter.sources
+
+  excluded_all : (filters : List FilterValue) → All AreSuch filters → All (All P) (exclude_lists filters)
+  excluded_all [] all = All-nil (All P)
+  excluded_all (first ∷ more) all =
+      excluded_first first.mode first.sources (exclude_lists more) (All-head AreSuch first more all) (excluded_all more (All-tail AreSuch first more all))
+
+  included_all : (filters : List FilterValue) → All AreSuch filters → All P (all_sources (include_lists filters))
+  included_all [] all = All-nil P
+  included_all (first ∷ more) all =
+      included_first first.mode first.sources (include_lists more) (All-head AreSuch first more all) (included_all more (All-tail AreSuch first more all))
+
+  -- what holds of each source of the filters holds of each source of the merged one
+  pub All-merged : (filters : List FilterValue) → All AreSuch filters → All P (merged filters).sources
+  All-merged filters all = All-merged_by (exclude_lists filters) (include_lists filters) (excluded_all filters all) (included_all filters all)

@@ -1,0 +1,7 @@
+use Rattle.std.proofs.Common.{◌≡◌, map}
+use Rattle.std.specs.Map.Iter.{deref}
+use Rattle.socket_merge.proofs.NamedOnes.{filters_stored}
+use Rattle.socket_merge.proofs.named.NamedSockets.filters_of.Given as goal
+
+abbrev pub invariant-loop-socket : goal.invariant-loop-socket
+invariant-loop-socket l = l.filters.items ≡ filters_stored l.group (map deref l.yielded)

@@ -1,0 +1,16 @@
+use Rattle.std.proofs.Common.{rules, tests, ap, ◌∙◌}
+use Rattle.std.specs.Map.{values_of}
+use Rattle.std.specs.Map.Iter.{deref}
+use Rattle.std.proofs.lemmas.Iterator.Consumers.{YieldsList-from_rest}
+use Rattle.std.proofs.lemmas.Iterator.Search.{any_from_yields_List}
+use Rattle.socket_merge.specs.Interface.{some_admits}
+use Rattle.socket_merge.proofs.NamedOnes.{admits_stored, some_admits-stored}
+use Rattle.socket_merge.proofs.named.NamedSockets.some_admits.Goals as goal
+
+pub returns : goal.returns
+returns c =
+    let group = c.args.group.now in
+    let source = c.args.source.now in
+    any_from_yields_List (admits_stored group source) _ _ c.any.result c.any.ensures.ran (YieldsList-from_rest {shows = deref} (values_of c.self.inside.sockets.entries) c.values.ensures.rest) (λ x b q k. search (rules, tests))
+    ∙ some_admits-stored group source c.self.inside.sockets.entries
+    ∙ ap (some_admits group source) c.self.view_is

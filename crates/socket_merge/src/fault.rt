@@ -1,0 +1,23 @@
+//! Why a socket call is refused. It must not know how sockets are kept.
+
+/// Why no socket was opened or changed: the first of these that holds.
+///
+/// A group's sources are counted once for each socket that lists them, and the octets are those of the
+/// report of the group's family in which nothing is merged, so closing a socket always makes room.
+#[derive(Clone, Copy, Debug, PartialEq, Eq)]
+pub enum SocketFault {
+    /// Of `open`: a socket of this name is open.
+    Taken,
+    /// Of `change`: no socket of this name is open.
+    NoSocket,
+    /// The sockets of the group would list more than 32 sources: how many.
+    SourcesFull(u32),
+    /// The report would have more than 1,400 octets: how many.
+    ReportFull(u32),
+    /// Nothing is refused, and there is no memory.
+    Memory,
+}
+
+/// No socket of this name is open.
+#[derive(Clone, Copy, Debug, PartialEq, Eq)]
+pub struct NoSocket;

@@ -1,0 +1,53 @@
+//! The first limit that a filter would pass. It must not know names or filters.
+
+ghost use Rattle.std.specs.Prelude.{◌≡◌, ◌+◌, ◌-◌, ◌≤◌};
+ghost use Rattle.contract_words.specs.Conditions.{first_holding};
+ghost use Rattle.socket_merge.specs.Kept.{octets_besides, raw_octets, tally_at};
+ghost use Rattle.socket_merge.specs.Refusal.{family_of, limit_conditions};
+
+use crate::fault::SocketFault;
+use crate::groups::Groups;
+use crate::groups::octets::raw_octets;
+use amt_values::{Ip, Moment};
+use group_records::Family;
+
+// The family of a group.
+pub fn family_of(group: &Ip) -> Family
+    ensures { result ≡ family_of group.now }
+{
+    match *group {
+        Ip::V4(_) => Family::V4,
+        Ip::V6(_) => Family::V6,
+    }
+}
+
+// The first limit that the group passes where one of its sockets lists so many sources instead of
+// those before.
+pub fn limit_passed(
+    groups: &Groups,
+    group: &Ip,
+    before: usize,
+    after: usize,
+    moment: Moment,
+) -> Option<SocketFault>
+    requires few { (tally_at groups.now group.now).sources ≤ 32 }
+    requires before { before ≤ (tally_at groups.now group.now).sources }
+    requires after { after ≤ 16777216 }
+    requires short { octets_besides (family_of group.now) moment group.now groups.now ≤ 1400 }
+    ensures { result ≡ first_holding (limit_conditions
+        ((tally_at groups.now group.now).sources - before + after)
+        (octets_besides (family_of group.now) moment group.now groups.now
+        + raw_octets (family_of group.now)
+        ((tally_at groups.now group.now).sources - before + after))) }
+{
+    let sources = groups.tally(group).sources - before + after;
+    if sources > 32 {
+        return Some(SocketFault::SourcesFull(sources as u32));
+    }
+    let family = family_of(group);
+    let octets = groups.octets_besides(family, moment, group) + raw_octets(family, sources);
+    if octets > 1400 {
+        return Some(SocketFault::ReportFull(octets as u32));
+    }
+    None
+}

@@ -1,0 +1,269 @@
+//! The sockets of a host. They must not know messages, tunnels or clocks.
+
+ghost use Rattle.std.specs.Prelude.{◌≡◌, ◌≤◌, ◌<◌, ◌^◌, ◌+◌, ◌↔◌, [], ◌∷◌, ◌++◌, true, false, None, length, All, IfOk, OnOk, OnErr, IsErr};
+ghost use Rattle.amt_values.specs.Group.{is_forwardable};
+ghost use Rattle.amt_values.specs.declared.address.Ip.{Ip};
+ghost use Rattle.source_filter.specs.Filter.{admits};
+ghost use Rattle.group_records.specs.Written.{IsOfFamily, report_length};
+ghost use Rattle.socket_merge.specs.FullReport.{family_by, full_report_of, is_quiet};
+ghost use Rattle.socket_merge.specs.History.{Change, Close, LeaveAll, Open, moment_read, socket_named, with_call};
+ghost use Rattle.socket_merge.specs.Interface.{interface, wants};
+ghost use Rattle.socket_merge.specs.Kept.{AreOrdered, HasRoom, HasTally, share_of, tally_at, tally_with};
+ghost use Rattle.socket_merge.specs.Refusal.{is_open, raw_report_length, refusal_of};
+ghost use Rattle.socket_merge.specs.Sockets.{AnswersRefusal, AreOfGroup, AreOfSocket, ForHistory, HasNoOldFarewell, SocketsHold};
+
+use crate::fault::{NoSocket, SocketFault};
+use crate::groups::Groups;
+use crate::limit::limit_passed;
+use crate::named::NamedSockets;
+use crate::stored::share_of;
+use amt_values::{Ip, Moment};
+use group_records::Family;
+use source_filter::{Filter, Records, copy_filter, merge};
+use std::alloc::{AllocError, Global};
+use std::marker::Model;
+
+/// The open sockets of a host, each with a name, one group and a filter; and of each group that the
+/// host wanted and wants no more, when it left.
+///
+/// A moment earlier than that of the last accepted call is read as that one.
+#[derive(Debug, Drop)]
+pub struct Sockets {
+    moment: Moment,
+    named: NamedSockets,
+    // Of each group with a socket or a farewell, so that closing needs no memory.
+    groups: Groups,
+}
+
+impl Model for Sockets {
+    ghost use Rattle.socket_merge.specs.Kept.{IsConsistent, farewells_in};
+    ghost use Rattle.socket_merge.specs.Sockets.{SocketsValue};
+
+    ghost Value = { SocketsValue };
+
+    ghost view = { λ s. record { moment = s.moment; sockets = s.named; farewells = farewells_in s.groups } };
+
+    // The tallies are those of the sockets, so nothing is kept beside what contracts see.
+    ghost invariant = { λ s. IsConsistent s.moment s.named s.groups };
+}
+
+impl Sockets {
+    /// No sockets.
+    pub fn new(alloc: Global) -> Result<Sockets, AllocError>
+        ensures stands { IfOk result (λ sockets. SocketsHold sockets []) }
+    {
+        Ok(Sockets {
+            moment: Moment::new(0).unwrap(),
+            named: NamedSockets::new(alloc),
+            groups: Groups::new(alloc),
+        })
+    }
+
+    /// Opens a socket of the group.
+    pub fn open(
+        &mut self,
+        alloc: Global,
+        name: &[u8],
+        group: &Ip,
+        filter: &Filter,
+        at: &Moment,
+    ) -> Result<(), SocketFault>
+        requires forwarded { is_forwardable group.now ≡ true }
+        requires family { AreOfGroup group.now filter.now }
+        requires items { length filter.now.sources ≤ 16777216 }
+        ensures stands { ForHistory self.old (λ history. OnOk result (SocketsHold self.new
+            (with_call at.now (Open name.now group.now filter.now) history))) }
+        ensures drops { OnOk result (HasNoOldFarewell self.new) }
+
+        ensures refused { ForHistory self.old (λ history. AnswersRefusal
+            (refusal_of at.now (Open name.now group.now filter.now) history) result) }
+
+        ensures same { OnErr result (self.new ≡ self.old) }
+    {
+        let moment = self.moment.later(at);
+        if self.named.find(name).is_some() {
+            return Err(SocketFault::Taken);
+        }
+        let share = share_of(filter);
+        if let Some(fault) = limit_passed(&self.groups, group, 0, share.sources, moment) {
+            return Err(fault);
+        }
+        match insert_both(
+            &mut self.named,
+            &mut self.groups,
+            alloc,
+            name,
+            group,
+            filter,
+        ) {
+            Ok(()) => {}
+            Err(_) => return Err(SocketFault::Memory),
+        }
+        self.moment = moment;
+        self.groups.drop_old(moment);
+        Ok(())
+    }
+
+    /// Gives a socket another filter.
+    pub fn change(
+        &mut self,
+        alloc: Global,
+        name: &[u8],
+        filter: &Filter,
+        at: &Moment,
+    ) -> Result<(), SocketFault>
+        requires family { AreOfSocket name.now self.old filter.now }
+        requires items { length filter.now.sources ≤ 16777216 }
+        ensures stands { ForHistory self.old (λ history. OnOk result (SocketsHold self.new
+            (with_call at.now (Change name.now filter.now) history))) }
+
+        ensures refused { ForHistory self.old (λ history. AnswersRefusal
+            (refusal_of at.now (Change name.now filter.now) history) result) }
+
+        ensures same { OnErr result (self.new ≡ self.old) }
+    {
+        let moment = self.moment.later(at);
+        let Some((group, before)) = self.named.find(name) else {
+            return Err(SocketFault::NoSocket);
+        };
+        let after = share_of(filter);
+        if let Some(fault) = limit_passed(
+            &self.groups,
+            &group,
+            before.sources,
+            after.sources,
+            moment,
+        ) {
+            return Err(fault);
+        }
+        let copy = match copy_filter(alloc, filter) {
+            Ok(copy) => copy,
+            Err(_) => return Err(SocketFault::Memory),
+        };
+        self.moment = moment;
+        self.named.set_filter(name, copy);
+        self.groups.change(&group, before, after, moment);
+        Ok(())
+    }
+
+    /// Closes a socket.
+    pub fn close(&mut self, name: &[u8], at: &Moment) -> Result<(), NoSocket>
+        ensures stands { ForHistory self.old (λ history. OnOk result (SocketsHold self.new
+            (with_call at.now (Close name.now) history))) }
+
+        ensures refused { ForHistory self.old (λ history.
+            IsErr result ↔ (is_open name.now history ≡ false)) }
+
+        ensures same { OnErr result (self.new ≡ self.old) }
+    {
+        let Some((group, share)) = self.named.find(name) else {
+            return Err(NoSocket);
+        };
+        self.moment = self.moment.later(at);
+        self.named.remove(name);
+        self.groups.remove(&group, share, self.moment);
+        Ok(())
+    }
+
+    /// Closes every socket.
+    pub fn leave_all(&mut self, at: &Moment)
+        ensures stands { ForHistory self.old (λ history. SocketsHold self.new
+            (with_call at.now LeaveAll history)) }
+    {
+        self.moment = self.moment.later(at);
+        self.named.clear();
+        self.groups.leave_all(self.moment);
+    }
+
+    /// The filter of the group for all of its sockets (RFC 3376, section 3.2).
+    pub fn interface(&self, alloc: Global, group: &Ip) -> Result<Filter, AllocError>
+        ensures merged { ForHistory self.now (λ history. IfOk result (λ filter.
+            filter ≡ interface history group.now)) }
+        ensures admits { ForHistory self.now (λ history. IfOk result (λ filter.
+            (source : Ip) → admits filter source ≡ wants history group.now source)) }
+    {
+        let filters = self.named.filters_of(alloc, group)?;
+        merge(alloc, &filters)
+    }
+
+    /// Whether some socket of the group wants the source.
+    pub fn admits(&self, group: &Ip, source: &Ip) -> bool
+        ensures { ForHistory self.now (λ history. result ≡ wants history group.now source.now) }
+    {
+        self.named.some_admits(group, source)
+    }
+
+    /// What the host wants of each group of the family at a moment, by group, and a farewell for each
+    /// group that it left less than so many milliseconds before. Farewells last at most 100,000 s.
+    ///
+    /// Its report is one datagram, since none is longer than the report of unmerged filters.
+    pub fn full_report(
+        &self,
+        alloc: Global,
+        v6: bool,
+        at: &Moment,
+        keep_ms: u64,
+    ) -> Result<Records, AllocError>
+        ensures records { ForHistory self.now (λ history. IfOk result (λ records.
+            records ≡ full_report_of (family_by v6) history (moment_read at.now history) keep_ms)) }
+
+        ensures forwarded { IfOk result (All (λ one. is_forwardable one.group ≡ true)) }
+        ensures family { IfOk result (All (IsOfFamily (family_by v6))) }
+        ensures short { ForHistory self.now (λ history. IfOk result (λ records.
+            report_length (family_by v6) records ≤ raw_report_length (family_by v6) history)) }
+        ensures fits { IfOk result (λ records. report_length (family_by v6) records ≤ 1400) }
+        ensures raw_fits { ForHistory self.now (λ history.
+            raw_report_length (family_by v6) history ≤ 1400) }
+    {
+        let family = if v6 { Family::V6 } else { Family::V4 };
+        let moment = self.moment.later(at);
+        self.groups
+            .report(alloc, &self.named, family, moment, keep_ms)
+    }
+
+    /// Whether no socket is open and no farewell lasts.
+    pub fn quiet(&self, at: &Moment, keep_ms: u64) -> bool
+        ensures { ForHistory self.now (λ history.
+            result ≡ is_quiet history (moment_read at.now history) keep_ms) }
+    {
+        self.named.is_empty() && !self.groups.some_recent(self.moment.later(at), keep_ms)
+    }
+
+    /// Equal sockets that own their memory.
+    pub fn copy_all(&self, alloc: Global) -> Result<Sockets, AllocError>
+        ensures { IfOk result (λ copy. copy ≡ self.now) }
+    {
+        Ok(Sockets {
+            moment: self.moment,
+            named: self.named.copy(alloc)?,
+            groups: self.groups.copy(alloc)?,
+        })
+    }
+}
+
+// Puts a socket in and counts it, both or neither.
+fn insert_both(
+    named: &mut NamedSockets,
+    groups: &mut Groups,
+    alloc: Global,
+    name: &[u8],
+    group: &Ip,
+    filter: &Filter,
+) -> Result<(), AllocError>
+    requires absent { socket_named name.now named.old ≡ None }
+    requires room { HasRoom (tally_at groups.old group.now) (length filter.now.sources) }
+    ensures named { OnOk result (named.new ≡ named.old
+        ++ record { name = name.now; group = group.now; filter = filter.now } ∷ []) }
+    ensures groups { OnOk result (HasTally group.now
+        (tally_with (share_of filter.now) (tally_at groups.old group.now)) groups.old groups.new) }
+    ensures ordered { OnOk result (AreOrdered groups.new) }
+    ensures err_named { OnErr result (named.new ≡ named.old) }
+    ensures err_groups { OnErr result (groups.new ≡ groups.old) }
+{
+    named.insert(alloc, name, *group, copy_filter(alloc, filter)?)?;
+    let Ok(()) = groups.add(*group, share_of(filter)) else {
+        named.remove_last();
+        return Err(AllocError);
+    };
+    Ok(())
+}
