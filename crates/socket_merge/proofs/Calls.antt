@@ -73,7 +73,7 @@ pub record IsClosed (later : ℕ) (name : List ℕ) (sockets left : List Socket)
   pub tally : HasTally told.0 (tally_without later told.1 (tally_at before told.0)) before after
   pub ordered : AreOrdered after
 
-closed_tally : (later : ℕ) (told : Ip × Share) (socket : Socket) (before after : List (Ip × Tally)) → told ≡ told_of socket → HasTally told.0 (tally_without later told.1 (tally_at before told.0)) before after
+pub closed_tally : (later : ℕ) (told : Ip × Share) (socket : Socket) (before after : List (Ip × Tally)) → told ≡ told_of socket → HasTally told.0 (tally_without later told.1 (tally_at before told.0)) before after
     → HasTally socket.group (tally_without later (share_of socket.filter) (tally_at before socket.group)) before after
 closed_tally later told socket before after is tally =
     subst (λ (pair : Ip × Share). HasTally pair.0 (tally_without later pair.1 (tally_at before pair.0)) before after) is tally

@@ -92,6 +92,25 @@ fresh_some false false false false left some = absurd cc
 IsShrunk-fresh : (moment : ℕ) (tally : Tally) → IsShrunk moment moment tally (tally_fresh moment tally)
 IsShrunk-fresh moment tally = record { less = IsLess-fresh moment tally; some = fresh_some (may_be_due moment tally.left) (ltb 0 tally.sockets) (ltb 0 tally.wanting) (ltb 0 tally.sources) tally.left }
 
+-- the tallies where a socket is closed
+abbrev pub tallies_closed : ℕ → Socket → List (Ip × Tally) → Ip → Tally
+tallies_closed later socket before = replaced socket.group (tally_without later (share_of socket.filter) (tally_at before socket.group)) (tally_at before)
+
+shrunk_closed : (earlier later : ℕ) (name : List ℕ) (socket : Socket) (sockets : List Socket) (before : List (Ip × Tally)) → IsConsistent earlier sockets before → earlier ≤ later
+    → socket_named name sockets ≡ Some socket → (other : Ip) → IsShrunk earlier later (tally_at before other) (tallies_closed later socket before other)
+shrunk_closed earlier later name socket sockets before consistent onward found other =
+    let group = socket.group in
+    let named : IsNamed name socket sockets = record { apart = consistent.apart; found = found } in
+    let here = CountsOne-of name socket sockets (tally_at before group) named (Counts-of (tally_at before group) group sockets (consistent.tallied group)) in
+    replaced_by (IsShrunk earlier later) (same_group group other) group other (tally_without later (share_of socket.filter) (tally_at before group)) (tally_at before) refl
+    (IsShrunk-without earlier later (share_of socket.filter) (tally_at before group) here.number) (IsShrunk-later earlier later (tally_at before other) onward)
+
+pub less_closed : (earlier later : ℕ) (name : List ℕ) (socket : Socket) (sockets : List Socket) (before after : List (Ip × Tally)) → IsConsistent earlier sockets before → earlier ≤ later
+    → socket_named name sockets ≡ Some socket → HasTally socket.group (tally_without later (share_of socket.filter) (tally_at before socket.group)) before after
+    → (group : Ip) → IsLess earlier later (tally_at before group) (tally_at after group)
+less_closed earlier later name socket sockets before after consistent onward found is group =
+    subst (IsLess earlier later (tally_at before group)) (sym (is group)) (shrunk_closed earlier later name socket sockets before consistent onward found group).less
+
 -- a socket is closed
 pub IsConsistent-closed : (earlier later : ℕ) (name : List ℕ) (socket : Socket) (sockets : List Socket) (before after : List (Ip × Tally)) → IsConsistent earlier sockets before → earlier ≤ later
     → socket_named name sockets ≡ Some socket → AreOrdered after → HasTally socket.group (tally_without later (share_of socket.filter) (tally_at before socket.group)) before after
@@ -100,14 +119,22 @@ IsConsistent-closed earlier later name socket sockets before after consistent on
     let group = socket.group in
     let named : IsNamed name socket sockets = record { apart = consistent.apart; found = found } in
     let counts = Counts-of (tally_at before group) group sockets (consistent.tallied group) in
-    let here = CountsOne-of name socket sockets (tally_at before group) named counts in
     let now = tally_without later (share_of socket.filter) (tally_at before group) in
     IsConsistent-shrunk earlier later sockets (sockets_after (Close name) sockets) before after (replaced group now (tally_at before)) consistent ordered is
     (AreTallied-replaced group sockets (sockets_after (Close name) sockets) (tally_at before) now consistent.tallied (others_closed name socket sockets named)
     (Counts-closed name socket sockets later (tally_at before group) named counts))
     (AreApart-closed (λ one. not (has_name name one)) sockets consistent.apart) (All-filter (λ one. not (has_name name one)) IsOfOwnFamily sockets consistent.family)
-    (λ other. replaced_by (IsShrunk earlier later) (same_group group other) group other now (tally_at before) refl
-    (IsShrunk-without earlier later (share_of socket.filter) (tally_at before group) here.number) (IsShrunk-later earlier later (tally_at before other) onward))
+    (shrunk_closed earlier later name socket sockets before consistent onward found)
+
+shrunk_left : (earlier later : ℕ) (sockets : List Socket) (before : List (Ip × Tally)) → IsConsistent earlier sockets before → earlier ≤ later
+    → (group : Ip) → IsShrunk earlier later (tally_at before group) (tally_left later (tally_at before group))
+shrunk_left earlier later sockets before consistent onward group =
+    IsShrunk-left earlier later (tally_at before group) (wanting_few (tally_at before group) group sockets (Counts-of (tally_at before group) group sockets (consistent.tallied group))) onward
+
+pub less_left : (earlier later : ℕ) (sockets : List Socket) (before after : List (Ip × Tally)) → IsConsistent earlier sockets before → earlier ≤ later → HasTallies (tally_left later) before after
+    → (group : Ip) → IsLess earlier later (tally_at before group) (tally_at after group)
+less_left earlier later sockets before after consistent onward is group =
+    subst (IsLess earlier later (tally_at before group)) (sym (is group)) (shrunk_left earlier later sockets before consistent onward group).less
 
 -- every socket is closed
 pub IsConsistent-left : (earlier later : ℕ) (sockets : List Socket) (before after : List (Ip × Tally)) → IsConsistent earlier sockets before → earlier ≤ later → AreOrdered after
@@ -115,7 +142,7 @@ pub IsConsistent-left : (earlier later : ℕ) (sockets : List Socket) (before af
 IsConsistent-left earlier later sockets before after consistent onward ordered is =
     IsConsistent-shrunk earlier later sockets [] before after (λ group. tally_left later (tally_at before group)) consistent ordered is (AreTallied-left later (tally_at before)) (λ name. omega arith)
     (All-nil IsOfOwnFamily)
-    (λ group. IsShrunk-left earlier later (tally_at before group) (wanting_few (tally_at before group) group sockets (Counts-of (tally_at before group) group sockets (consistent.tallied group))) onward)
+    (shrunk_left earlier later sockets before consistent onward)
 
 -- farewells that can't be due any more are dropped
 pub IsConsistent-fresh : (moment : ℕ) (sockets : List Socket) (before after : List (Ip × Tally)) → IsConsistent moment sockets before → AreOrdered after → HasTallies (tally_fresh moment) before after

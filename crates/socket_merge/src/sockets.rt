@@ -9,7 +9,7 @@ ghost use Rattle.socket_merge.specs.FullReport.{family_by, full_report_of, is_qu
 ghost use Rattle.socket_merge.specs.History.{Change, Close, LeaveAll, Open, moment_read, socket_named, with_call};
 ghost use Rattle.socket_merge.specs.Interface.{interface, wants};
 ghost use Rattle.socket_merge.specs.Kept.{AreOrdered, HasRoom, HasTally, share_of, tally_at, tally_with};
-ghost use Rattle.socket_merge.specs.Refusal.{is_open, raw_report_length, refusal_of};
+ghost use Rattle.socket_merge.specs.Refusal.{FillsNoMore, is_open, raw_report_length, refusal_of};
 ghost use Rattle.socket_merge.specs.Sockets.{AnswersRefusal, AreOfGroup, AreOfSocket, ForHistory, HasNoOldFarewell, SocketsHold};
 
 use crate::fault::{NoSocket, SocketFault};
@@ -150,6 +150,8 @@ impl Sockets {
     pub fn close(&mut self, name: &[u8], at: &Moment) -> Result<(), NoSocket>
         ensures stands { ForHistory self.old (λ history. OnOk result (SocketsHold self.new
             (with_call at.now (Close name.now) history))) }
+        ensures shrinks { ForHistory self.old (λ history. OnOk result (FillsNoMore history
+            (with_call at.now (Close name.now) history))) }
 
         ensures refused { ForHistory self.old (λ history.
             IsErr result ↔ (is_open name.now history ≡ false)) }
@@ -168,6 +170,8 @@ impl Sockets {
     /// Closes every socket.
     pub fn leave_all(&mut self, at: &Moment)
         ensures stands { ForHistory self.old (λ history. SocketsHold self.new
+            (with_call at.now LeaveAll history)) }
+        ensures shrinks { ForHistory self.old (λ history. FillsNoMore history
             (with_call at.now LeaveAll history)) }
     {
         self.moment = self.moment.later(at);

@@ -2,6 +2,7 @@ use Rattle.std.proofs.Common.{List, sym, subst, ◌∙◌, arith}
 use Rattle.socket_merge.specs.History.{AcceptedCall}
 use Rattle.socket_merge.specs.Sockets.{SocketsHold, SocketsValue}
 use Rattle.socket_merge.proofs.Calls.{consistent_closed, holds_closed}
+use Rattle.socket_merge.proofs.Limits.{fills_closed}
 use Rattle.socket_merge.proofs.sockets.Sockets.close.Goals as goal
 
 pub invariant_of-self : goal.invariant_of-self
@@ -14,5 +15,12 @@ pub returns-clause-stands : goal.returns-clause-stands
 returns-clause-stands c =
     λ (history : List AcceptedCall) holds.
     holds_closed c.self.inside.moment c.later-self-inside.result c.args.at.now c.args.name.now c.self.inside.named c.remove.new.self (c.in-Some.group, c.in-Some.share) c.self.inside.groups c.remove-2.new.self
+    history c.self.invariant c.later-self-inside.ensures (sym c.in-Some.is ∙ c.find.ensures.found) (record { rest = c.remove.ensures; tally = c.remove-2.ensures.without; ordered = c.remove-2.ensures.ordered })
+    (subst (λ (value : SocketsValue). SocketsHold value history) (sym c.self.view_is) holds)
+
+pub returns-clause-shrinks : goal.returns-clause-shrinks
+returns-clause-shrinks c =
+    λ (history : List AcceptedCall) holds.
+    fills_closed c.self.inside.moment c.later-self-inside.result c.args.at.now c.args.name.now c.self.inside.named c.remove.new.self (c.in-Some.group, c.in-Some.share) c.self.inside.groups c.remove-2.new.self
     history c.self.invariant c.later-self-inside.ensures (sym c.in-Some.is ∙ c.find.ensures.found) (record { rest = c.remove.ensures; tally = c.remove-2.ensures.without; ordered = c.remove-2.ensures.ordered })
     (subst (λ (value : SocketsValue). SocketsHold value history) (sym c.self.view_is) holds)

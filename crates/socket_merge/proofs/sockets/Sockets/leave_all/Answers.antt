@@ -2,6 +2,7 @@ use Rattle.std.proofs.Common.{List, sym, subst, arith}
 use Rattle.socket_merge.specs.History.{AcceptedCall}
 use Rattle.socket_merge.specs.Sockets.{SocketsHold, SocketsValue}
 use Rattle.socket_merge.proofs.Calls.{consistent_left, holds_left}
+use Rattle.socket_merge.proofs.Limits.{fills_left}
 use Rattle.socket_merge.proofs.sockets.Sockets.leave_all.Goals as goal
 
 pub invariant_of-self : goal.invariant_of-self
@@ -14,6 +15,10 @@ pub returns : goal.returns
 returns c = record {
   stands = λ (history : List AcceptedCall) holds.
       holds_left c.self.inside.moment c.later-self-inside.result c.args.at.now c.self.inside.named c.clear.new.self c.self.inside.groups c.leave_all.new.self history c.self.invariant
+      c.later-self-inside.ensures (record { rest = c.clear.ensures; tallies = c.leave_all.ensures.left; ordered = c.leave_all.ensures.ordered })
+      (subst (λ (value : SocketsValue). SocketsHold value history) (sym c.self.view_is) holds);
+  shrinks = λ (history : List AcceptedCall) holds.
+      fills_left c.self.inside.moment c.later-self-inside.result c.args.at.now c.self.inside.named c.clear.new.self c.self.inside.groups c.leave_all.new.self history c.self.invariant
       c.later-self-inside.ensures (record { rest = c.clear.ensures; tallies = c.leave_all.ensures.left; ordered = c.leave_all.ensures.ordered })
       (subst (λ (value : SocketsValue). SocketsHold value history) (sym c.self.view_is) holds);
 }
