@@ -62,7 +62,7 @@ found_by name sockets (Some socket) told is same = record { socket = socket; fou
 pub IsFound-of : (name : List ℕ) (sockets : List Socket) (told : Ip × Share) → Some told ≡ option_map told_of (socket_named name sockets) → IsFound name sockets told
 IsFound-of name sockets told same = found_by name sockets (socket_named name sockets) told refl same
 
-IsNamed-of : (moment : ℕ) (name : List ℕ) (sockets : List Socket) (tallies : List (Ip × Tally)) (socket : Socket) (history : List AcceptedCall) → IsConsistent moment sockets tallies
+pub IsNamed-of : (moment : ℕ) (name : List ℕ) (sockets : List Socket) (tallies : List (Ip × Tally)) (socket : Socket) (history : List AcceptedCall) → IsConsistent moment sockets tallies
     → sockets ≡ open_sockets history → socket_named name sockets ≡ Some socket → IsNamed name socket (open_sockets history)
 IsNamed-of moment name sockets tallies socket history consistent same found =
     subst (λ (all : List Socket). IsNamed name socket all) same (record { apart = consistent.apart; found = found })
@@ -133,7 +133,7 @@ pub record IsChanged (later : ℕ) (name : List ℕ) (filter : FilterValue) (soc
   pub tally : HasTally told.0 (tally_changed later told.1 (share_of filter) (tally_at before told.0)) before after
   pub ordered : AreOrdered after
 
-changed_tally : (later : ℕ) (filter : FilterValue) (told : Ip × Share) (socket : Socket) (before after : List (Ip × Tally)) → told ≡ told_of socket
+pub changed_tally : (later : ℕ) (filter : FilterValue) (told : Ip × Share) (socket : Socket) (before after : List (Ip × Tally)) → told ≡ told_of socket
     → HasTally told.0 (tally_changed later told.1 (share_of filter) (tally_at before told.0)) before after
     → HasTally socket.group (tally_changed later (share_of socket.filter) (share_of filter) (tally_at before socket.group)) before after
 changed_tally later filter told socket before after is tally =

@@ -5,6 +5,7 @@ pub mod Consistent
 pub mod Counted
 pub mod Farewells
 pub mod HoldsAfter
+pub mod Keeping
 pub mod Limits
 pub mod NamedOnes
 pub mod RawOctets

@@ -1,5 +1,5 @@
 -- What the sockets of a host stand for.
-use Rattle.std.specs.Prelude.{◌≡◌, ℕ, ◌+◌, ◌≤◌, true, List, All, Option, Some, Result, IfErr}
+use Rattle.std.specs.Prelude.{◌≡◌, ℕ, ◌+◌, ◌≤◌, true, false, List, All, Option, Some, Result, IfErr}
 use Rattle.std.specs.List.{find}
 use Rattle.std.specs.Option.{option_map}
 use Rattle.amt_values.specs.declared.address.Ip.{Ip}
@@ -7,7 +7,7 @@ use Rattle.contract_words.specs.Answer.{TellsCause}
 use Rattle.source_filter.specs.Filter.{FilterValue}
 use Rattle.group_records.specs.Written.{is_of_family}
 use Rattle.socket_merge.specs.History.{AcceptedCall, Socket, latest, open_sockets, socket_named}
-use Rattle.socket_merge.specs.Interface.{left_at, same_group}
+use Rattle.socket_merge.specs.Interface.{is_wanted, left_at, same_group}
 use Rattle.socket_merge.specs.FullReport.{longest_farewell}
 use Rattle.socket_merge.specs.Refusal.{family_of}
 use Rattle.socket_merge.specs.declared.fault.SocketFault.{SocketFault}
@@ -61,3 +61,8 @@ AnswersRefusal refusal result = TellsCause refusal result (IfErr result (λ faul
 -- farewells that can't be due any more are gone
 abbrev pub HasNoOldFarewell : SocketsValue → Type 0
 HasNoOldFarewell value = All (λ one. value.moment ≤ one.left + longest_farewell) value.farewells
+
+-- each farewell stays, unless its group is wanted by the history
+abbrev pub KeepsFarewells : List AcceptedCall → SocketsValue → SocketsValue → Type 0
+KeepsFarewells history before after =
+    (group : Ip) (left : ℕ) → left_in before.farewells group ≡ Some left → is_wanted history group ≡ false → left_in after.farewells group ≡ Some left

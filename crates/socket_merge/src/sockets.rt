@@ -10,7 +10,7 @@ ghost use Rattle.socket_merge.specs.History.{Change, Close, LeaveAll, Open, mome
 ghost use Rattle.socket_merge.specs.Interface.{interface, wants};
 ghost use Rattle.socket_merge.specs.Kept.{AreOrdered, HasRoom, HasTally, share_of, tally_at, tally_with};
 ghost use Rattle.socket_merge.specs.Refusal.{FillsNoMore, is_open, raw_report_length, refusal_of};
-ghost use Rattle.socket_merge.specs.Sockets.{AnswersRefusal, AreOfGroup, AreOfSocket, ForHistory, HasNoOldFarewell, SocketsHold};
+ghost use Rattle.socket_merge.specs.Sockets.{AnswersRefusal, AreOfGroup, AreOfSocket, ForHistory, HasNoOldFarewell, KeepsFarewells, SocketsHold};
 
 use crate::fault::{NoSocket, SocketFault};
 use crate::groups::Groups;
@@ -116,6 +116,8 @@ impl Sockets {
         requires items { length filter.now.sources ≤ 16777216 }
         ensures stands { ForHistory self.old (λ history. OnOk result (SocketsHold self.new
             (with_call at.now (Change name.now filter.now) history))) }
+        ensures keeps { ForHistory self.old (λ history. OnOk result (KeepsFarewells
+            (with_call at.now (Change name.now filter.now) history) self.old self.new)) }
 
         ensures refused { ForHistory self.old (λ history. AnswersRefusal
             (refusal_of at.now (Change name.now filter.now) history) result) }
@@ -152,6 +154,8 @@ impl Sockets {
             (with_call at.now (Close name.now) history))) }
         ensures shrinks { ForHistory self.old (λ history. OnOk result (FillsNoMore history
             (with_call at.now (Close name.now) history))) }
+        ensures keeps { ForHistory self.old (λ history. OnOk result (KeepsFarewells
+            (with_call at.now (Close name.now) history) self.old self.new)) }
 
         ensures refused { ForHistory self.old (λ history.
             IsErr result ↔ (is_open name.now history ≡ false)) }
@@ -173,6 +177,8 @@ impl Sockets {
             (with_call at.now LeaveAll history)) }
         ensures shrinks { ForHistory self.old (λ history. FillsNoMore history
             (with_call at.now LeaveAll history)) }
+        ensures keeps { ForHistory self.old (λ history. KeepsFarewells
+            (with_call at.now LeaveAll history) self.old self.new) }
     {
         self.moment = self.moment.later(at);
         self.named.clear();

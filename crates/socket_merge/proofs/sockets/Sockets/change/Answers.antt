@@ -2,15 +2,16 @@ use Rattle.std.proofs.Common.{◌≡◌, ℕ, ◌+◌, ◌-◌, List, Option, sy
 use Rattle.amt_values.specs.declared.address.Ip.{Ip}
 use Rattle.contract_words.specs.Conditions.{first_holding}
 use Rattle.source_filter.specs.Filter.{FilterValue}
-use Rattle.socket_merge.specs.History.{AcceptedCall, Change, Socket, sockets_after}
+use Rattle.socket_merge.specs.History.{AcceptedCall, Change, Socket, sockets_after, with_call}
 use Rattle.socket_merge.specs.Kept.{AreOrdered, HasTally, share_of, tally_at, tally_changed}
 use Rattle.socket_merge.specs.Refusal.{refusal_of}
-use Rattle.socket_merge.specs.Sockets.{AreOfSocket, SocketsHold, SocketsValue}
+use Rattle.socket_merge.specs.Sockets.{AreOfSocket, KeepsFarewells, SocketsHold, SocketsValue}
 use Rattle.socket_merge.specs.declared.fault.SocketFault.{SocketFault}
 use Rattle.socket_merge.specs.declared.fault.SocketFault.TheVariants.{NoSocket}
 use Rattle.socket_merge.specs.declared.stored.Share.{Share}
 use Rattle.socket_merge.specs.declared.stored.Tally.{Tally}
-use Rattle.socket_merge.proofs.Calls.{IsChanged, MayChange-of, consistent_changed, holds_changed, limit_changed, refusal_changed, unknown_name}
+use Rattle.socket_merge.proofs.Calls.{IsChanged, MayChange-of, consistent_changed, holds_changed, limit_changed, refusal_changed, unknown_name, value_of}
+use Rattle.socket_merge.proofs.Keeping.{keeps_changed}
 use Rattle.socket_merge.proofs.Consistent.{HasRoom-of}
 use Rattle.socket_merge.proofs.Refused.{answers_accepted, answers_memory, answers_refused, limits_of, refusal-unknown}
 use Rattle.socket_merge.proofs.sockets.Sockets.change.Goals as goal
@@ -98,6 +99,16 @@ returns-clause-stands c =
     (changed c.later-moment.result c.args.name.now c.args.filter.now c.in-Ok.copy c.self.inside.named c.set_filter.new.self c.in-Some.group c.in-Some.before c.share_of-after.result c.self.inside.groups c.change.new.self
     c.in-Ok.ensures c.share_of-after.ensures c.set_filter.ensures c.change.ensures.changed c.change.ensures.ordered)
     (subst (λ (value : SocketsValue). SocketsHold value history) (sym c.self.view_is) holds)
+
+pub returns-clause-keeps : goal.returns-clause-keeps
+returns-clause-keeps c =
+    λ (history : List AcceptedCall) holds.
+    subst (λ (value : SocketsValue). KeepsFarewells (with_call c.args.at.now (Change c.args.name.now c.args.filter.now) history) value (value_of c.later-moment.result c.set_filter.new.self c.change.new.self)) c.self.view_is
+    (keeps_changed c.self.inside.moment c.later-moment.result c.args.at.now c.args.name.now c.args.filter.now c.self.inside.named c.set_filter.new.self (c.in-Some.group, c.in-Some.before) c.self.inside.groups
+    c.change.new.self history c.self.invariant c.later-moment.ensures (sym c.in-Some.is ∙ c.find.ensures.found)
+    (changed c.later-moment.result c.args.name.now c.args.filter.now c.in-Ok.copy c.self.inside.named c.set_filter.new.self c.in-Some.group c.in-Some.before c.share_of-after.result c.self.inside.groups c.change.new.self
+    c.in-Ok.ensures c.share_of-after.ensures c.set_filter.ensures c.change.ensures.changed c.change.ensures.ordered)
+    (subst (λ (value : SocketsValue). SocketsHold value history) (sym c.self.view_is) holds))
 
 pub returns-clause-refused : goal.returns-clause-refused
 returns-clause-refused c =

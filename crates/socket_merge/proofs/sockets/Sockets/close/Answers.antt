@@ -1,7 +1,8 @@
 use Rattle.std.proofs.Common.{List, sym, subst, ◌∙◌, arith}
-use Rattle.socket_merge.specs.History.{AcceptedCall}
-use Rattle.socket_merge.specs.Sockets.{SocketsHold, SocketsValue}
-use Rattle.socket_merge.proofs.Calls.{consistent_closed, holds_closed}
+use Rattle.socket_merge.specs.History.{AcceptedCall, Close, with_call}
+use Rattle.socket_merge.specs.Sockets.{KeepsFarewells, SocketsHold, SocketsValue}
+use Rattle.socket_merge.proofs.Calls.{consistent_closed, holds_closed, value_of}
+use Rattle.socket_merge.proofs.Keeping.{keeps_closed}
 use Rattle.socket_merge.proofs.Limits.{fills_closed}
 use Rattle.socket_merge.proofs.sockets.Sockets.close.Goals as goal
 
@@ -24,3 +25,11 @@ returns-clause-shrinks c =
     fills_closed c.self.inside.moment c.later-self-inside.result c.args.at.now c.args.name.now c.self.inside.named c.remove.new.self (c.in-Some.group, c.in-Some.share) c.self.inside.groups c.remove-2.new.self
     history c.self.invariant c.later-self-inside.ensures (sym c.in-Some.is ∙ c.find.ensures.found) (record { rest = c.remove.ensures; tally = c.remove-2.ensures.without; ordered = c.remove-2.ensures.ordered })
     (subst (λ (value : SocketsValue). SocketsHold value history) (sym c.self.view_is) holds)
+
+pub returns-clause-keeps : goal.returns-clause-keeps
+returns-clause-keeps c =
+    λ (history : List AcceptedCall) holds.
+    subst (λ (value : SocketsValue). KeepsFarewells (with_call c.args.at.now (Close c.args.name.now) history) value (value_of c.later-self-inside.result c.remove.new.self c.remove-2.new.self)) c.self.view_is
+    (keeps_closed c.self.inside.moment c.later-self-inside.result c.args.at.now c.args.name.now c.self.inside.named c.remove.new.self (c.in-Some.group, c.in-Some.share) c.self.inside.groups c.remove-2.new.self
+    history c.self.invariant c.later-self-inside.ensures (sym c.in-Some.is ∙ c.find.ensures.found) (record { rest = c.remove.ensures; tally = c.remove-2.ensures.without; ordered = c.remove-2.ensures.ordered })
+    (subst (λ (value : SocketsValue). SocketsHold value history) (sym c.self.view_is) holds))

@@ -1,7 +1,8 @@
 use Rattle.std.proofs.Common.{List, sym, subst, arith}
-use Rattle.socket_merge.specs.History.{AcceptedCall}
-use Rattle.socket_merge.specs.Sockets.{SocketsHold, SocketsValue}
-use Rattle.socket_merge.proofs.Calls.{consistent_left, holds_left}
+use Rattle.socket_merge.specs.History.{AcceptedCall, LeaveAll, with_call}
+use Rattle.socket_merge.specs.Sockets.{KeepsFarewells, SocketsHold, SocketsValue}
+use Rattle.socket_merge.proofs.Calls.{consistent_left, holds_left, value_of}
+use Rattle.socket_merge.proofs.Keeping.{keeps_left}
 use Rattle.socket_merge.proofs.Limits.{fills_left}
 use Rattle.socket_merge.proofs.sockets.Sockets.leave_all.Goals as goal
 
@@ -21,4 +22,9 @@ returns c = record {
       fills_left c.self.inside.moment c.later-self-inside.result c.args.at.now c.self.inside.named c.clear.new.self c.self.inside.groups c.leave_all.new.self history c.self.invariant
       c.later-self-inside.ensures (record { rest = c.clear.ensures; tallies = c.leave_all.ensures.left; ordered = c.leave_all.ensures.ordered })
       (subst (λ (value : SocketsValue). SocketsHold value history) (sym c.self.view_is) holds);
+  keeps = λ (history : List AcceptedCall) holds.
+      subst (λ (value : SocketsValue). KeepsFarewells (with_call c.args.at.now LeaveAll history) value (value_of c.later-self-inside.result c.clear.new.self c.leave_all.new.self)) c.self.view_is
+      (keeps_left c.self.inside.moment c.later-self-inside.result c.args.at.now c.self.inside.named c.clear.new.self c.self.inside.groups c.leave_all.new.self history c.self.invariant
+      c.later-self-inside.ensures (record { rest = c.clear.ensures; tallies = c.leave_all.ensures.left; ordered = c.leave_all.ensures.ordered })
+      (subst (λ (value : SocketsValue). SocketsHold value history) (sym c.self.view_is) holds));
 }
