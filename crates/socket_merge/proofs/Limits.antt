@@ -5,7 +5,7 @@ use Rattle.amt_values.specs.declared.address.Ip.{Ip}
 use Rattle.group_records.specs.declared.family.Family.{Family}
 use Rattle.socket_merge.specs.History.{AcceptedCall, Close, LeaveAll, Socket, socket_named, with_call}
 use Rattle.socket_merge.specs.Kept.{IsConsistent, octets_of, tally_at}
-use Rattle.socket_merge.specs.Refusal.{FillsNoMore, raw_report_length}
+use Rattle.socket_merge.specs.Refusal.{FillsNoMore, IsWithinLimits, raw_report_length}
 use Rattle.socket_merge.specs.Sockets.{SocketsHold}
 use Rattle.socket_merge.specs.declared.stored.Share.{Share}
 use Rattle.socket_merge.specs.declared.stored.Tally.{Tally}
@@ -39,6 +39,14 @@ fills_no_more moment later sockets left before after history next first second l
     raw_octets-are family later left after next second,
     octets-fall family moment later before after first.consistent.ordered second.consistent.ordered less,
   );
+}
+
+-- what is consistent is within the limits
+pub within_limits : (moment : ℕ) (sockets : List Socket) (tallies : List (Ip × Tally)) (history : List AcceptedCall) → IsConsistent moment sockets tallies
+    → SocketsHold (value_of moment sockets tallies) history → IsWithinLimits history
+within_limits moment sockets tallies history consistent holds = record {
+  sources = λ group. omega (arith, sources-are history (tally_at tallies) group (Stands-of moment sockets tallies history consistent holds), consistent.few group);
+  octets = λ family. omega (arith, raw_octets-are family moment sockets tallies history (record { consistent = consistent; holds = holds }), consistent.short family);
 }
 
 -- closing a socket

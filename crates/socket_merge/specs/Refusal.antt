@@ -48,6 +48,11 @@ raw_report family history =
 unfoldable pub raw_report_length : Family → List AcceptedCall → ℕ
 raw_report_length family history = report_length family (raw_report family history)
 
+-- both counts are within their limits
+pub record IsWithinLimits (history : List AcceptedCall) : Type 0 where
+  pub sources : (group : Ip) → length (raw_sources group (open_sockets history)) ≤ 32
+  pub octets : (family : Family) → raw_report_length family history ≤ 1400
+
 -- neither count that is limited grows from one history to the other
 pub record FillsNoMore (before after : List AcceptedCall) : Type 0 where
   pub sources : (group : Ip) → length (raw_sources group (open_sockets after)) ≤ length (raw_sources group (open_sockets before))

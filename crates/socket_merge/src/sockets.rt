@@ -9,7 +9,7 @@ ghost use Rattle.socket_merge.specs.FullReport.{family_by, full_report_of, is_qu
 ghost use Rattle.socket_merge.specs.History.{Change, Close, LeaveAll, Open, moment_read, socket_named, with_call};
 ghost use Rattle.socket_merge.specs.Interface.{interface, wants};
 ghost use Rattle.socket_merge.specs.Kept.{AreOrdered, HasRoom, HasTally, share_of, tally_at, tally_with};
-ghost use Rattle.socket_merge.specs.Refusal.{FillsNoMore, is_open, raw_report_length, refusal_of};
+ghost use Rattle.socket_merge.specs.Refusal.{FillsNoMore, IsWithinLimits, is_open, raw_report_length, refusal_of};
 ghost use Rattle.socket_merge.specs.Sockets.{AnswersRefusal, AreOfGroup, AreOfSocket, ForHistory, HasNoOldFarewell, KeepsFarewells, SocketsHold};
 
 use crate::fault::{NoSocket, SocketFault};
@@ -73,6 +73,7 @@ impl Sockets {
         requires items { length filter.now.sources ≤ 16777216 }
         ensures stands { ForHistory self.old (λ history. OnOk result (SocketsHold self.new
             (with_call at.now (Open name.now group.now filter.now) history))) }
+        ensures fits { OnOk result (ForHistory self.new IsWithinLimits) }
         ensures drops { OnOk result (HasNoOldFarewell self.new) }
 
         ensures refused { ForHistory self.old (λ history. AnswersRefusal
@@ -116,6 +117,7 @@ impl Sockets {
         requires items { length filter.now.sources ≤ 16777216 }
         ensures stands { ForHistory self.old (λ history. OnOk result (SocketsHold self.new
             (with_call at.now (Change name.now filter.now) history))) }
+        ensures fits { OnOk result (ForHistory self.new IsWithinLimits) }
         ensures keeps { ForHistory self.old (λ history. OnOk result (KeepsFarewells
             (with_call at.now (Change name.now filter.now) history) self.old self.new)) }
 
@@ -152,6 +154,7 @@ impl Sockets {
     pub fn close(&mut self, name: &[u8], at: &Moment) -> Result<(), NoSocket>
         ensures stands { ForHistory self.old (λ history. OnOk result (SocketsHold self.new
             (with_call at.now (Close name.now) history))) }
+        ensures fits { OnOk result (ForHistory self.new IsWithinLimits) }
         ensures shrinks { ForHistory self.old (λ history. OnOk result (FillsNoMore history
             (with_call at.now (Close name.now) history))) }
         ensures keeps { ForHistory self.old (λ history. OnOk result (KeepsFarewells
@@ -175,6 +178,7 @@ impl Sockets {
     pub fn leave_all(&mut self, at: &Moment)
         ensures stands { ForHistory self.old (λ history. SocketsHold self.new
             (with_call at.now LeaveAll history)) }
+        ensures fits { ForHistory self.new IsWithinLimits }
         ensures shrinks { ForHistory self.old (λ history. FillsNoMore history
             (with_call at.now LeaveAll history)) }
         ensures keeps { ForHistory self.old (λ history. KeepsFarewells

@@ -14,6 +14,7 @@ use Rattle.socket_merge.proofs.Calls.{IsChanged, MayChange-of, consistent_change
 use Rattle.socket_merge.proofs.Keeping.{keeps_changed}
 use Rattle.socket_merge.proofs.Consistent.{HasRoom-of}
 use Rattle.socket_merge.proofs.Refused.{answers_accepted, answers_memory, answers_refused, limits_of, refusal-unknown}
+use Rattle.socket_merge.proofs.Limits.{within_limits}
 use Rattle.socket_merge.proofs.sockets.Sockets.change.Goals as goal
 
 pub returns-in_default-clause-refused : goal.returns-in_default-clause-refused
@@ -119,3 +120,16 @@ returns-clause-refused c =
     c.later-moment.ensures (sym c.in-Some.is ∙ c.find.ensures.found) kept
     ∙ limited c.later-moment.result c.in-Some.group c.in-Some.before c.share_of-after.result c.args.filter.now c.self.inside.groups c.limit_passed.result c.share_of-after.ensures c.limit_passed.ensures
     ∙ c.in_default-limit_passed.is)
+
+pub returns-clause-fits : goal.returns-clause-fits
+returns-clause-fits c =
+    λ (history : List AcceptedCall) holds.
+    within_limits c.later-moment.result c.set_filter.new.self c.change.new.self history
+    (let later = c.later-moment.ensures in
+    consistent_changed c.self.inside.moment c.later-moment.result c.args.name.now c.args.filter.now c.self.inside.named c.set_filter.new.self (c.in-Some.group, c.in-Some.before) c.self.inside.groups c.change.new.self
+    c.self.invariant (omega arith) (sym c.in-Some.is ∙ c.find.ensures.found)
+    (limited c.later-moment.result c.in-Some.group c.in-Some.before c.share_of-after.result c.args.filter.now c.self.inside.groups c.limit_passed.result c.share_of-after.ensures c.limit_passed.ensures
+    ∙ c.in_default-limit_passed.is)
+    (subst (λ (value : SocketsValue). AreOfSocket c.args.name.now value c.args.filter.now) (sym c.self.view_is) c.requires.family)
+    (changed c.later-moment.result c.args.name.now c.args.filter.now c.in-Ok.copy c.self.inside.named c.set_filter.new.self c.in-Some.group c.in-Some.before c.share_of-after.result c.self.inside.groups c.change.new.self
+    c.in-Ok.ensures c.share_of-after.ensures c.set_filter.ensures c.change.ensures.changed c.change.ensures.ordered)) holds

@@ -3,7 +3,7 @@ use Rattle.socket_merge.specs.History.{AcceptedCall, Close, with_call}
 use Rattle.socket_merge.specs.Sockets.{KeepsFarewells, SocketsHold, SocketsValue}
 use Rattle.socket_merge.proofs.Calls.{consistent_closed, holds_closed, value_of}
 use Rattle.socket_merge.proofs.Keeping.{keeps_closed}
-use Rattle.socket_merge.proofs.Limits.{fills_closed}
+use Rattle.socket_merge.proofs.Limits.{fills_closed, within_limits}
 use Rattle.socket_merge.proofs.sockets.Sockets.close.Goals as goal
 
 pub invariant_of-self : goal.invariant_of-self
@@ -33,3 +33,11 @@ returns-clause-keeps c =
     (keeps_closed c.self.inside.moment c.later-self-inside.result c.args.at.now c.args.name.now c.self.inside.named c.remove.new.self (c.in-Some.group, c.in-Some.share) c.self.inside.groups c.remove-2.new.self
     history c.self.invariant c.later-self-inside.ensures (sym c.in-Some.is ∙ c.find.ensures.found) (record { rest = c.remove.ensures; tally = c.remove-2.ensures.without; ordered = c.remove-2.ensures.ordered })
     (subst (λ (value : SocketsValue). SocketsHold value history) (sym c.self.view_is) holds))
+
+pub returns-clause-fits : goal.returns-clause-fits
+returns-clause-fits c =
+    λ (history : List AcceptedCall) holds.
+    within_limits c.later-self-inside.result c.remove.new.self c.remove-2.new.self history
+    (let later = c.later-self-inside.ensures in
+    consistent_closed c.self.inside.moment c.later-self-inside.result c.args.name.now c.self.inside.named c.remove.new.self (c.in-Some.group, c.in-Some.share) c.self.inside.groups c.remove-2.new.self
+    c.self.invariant (omega arith) (sym c.in-Some.is ∙ c.find.ensures.found) (record { rest = c.remove.ensures; tally = c.remove-2.ensures.without; ordered = c.remove-2.ensures.ordered })) holds

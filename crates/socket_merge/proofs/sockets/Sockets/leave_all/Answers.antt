@@ -3,7 +3,7 @@ use Rattle.socket_merge.specs.History.{AcceptedCall, LeaveAll, with_call}
 use Rattle.socket_merge.specs.Sockets.{KeepsFarewells, SocketsHold, SocketsValue}
 use Rattle.socket_merge.proofs.Calls.{consistent_left, holds_left, value_of}
 use Rattle.socket_merge.proofs.Keeping.{keeps_left}
-use Rattle.socket_merge.proofs.Limits.{fills_left}
+use Rattle.socket_merge.proofs.Limits.{fills_left, within_limits}
 use Rattle.socket_merge.proofs.sockets.Sockets.leave_all.Goals as goal
 
 pub invariant_of-self : goal.invariant_of-self
@@ -27,4 +27,9 @@ returns c = record {
       (keeps_left c.self.inside.moment c.later-self-inside.result c.args.at.now c.self.inside.named c.clear.new.self c.self.inside.groups c.leave_all.new.self history c.self.invariant
       c.later-self-inside.ensures (record { rest = c.clear.ensures; tallies = c.leave_all.ensures.left; ordered = c.leave_all.ensures.ordered })
       (subst (λ (value : SocketsValue). SocketsHold value history) (sym c.self.view_is) holds));
+  fits = λ (history : List AcceptedCall) holds.
+      within_limits c.later-self-inside.result c.clear.new.self c.leave_all.new.self history
+      (let later = c.later-self-inside.ensures in
+    consistent_left c.self.inside.moment c.later-self-inside.result c.self.inside.named c.clear.new.self c.self.inside.groups c.leave_all.new.self c.self.invariant (omega arith)
+    (record { rest = c.clear.ensures; tallies = c.leave_all.ensures.left; ordered = c.leave_all.ensures.ordered })) holds;
 }

@@ -14,6 +14,7 @@ use Rattle.socket_merge.specs.declared.stored.Tally.{Tally}
 use Rattle.socket_merge.proofs.Calls.{absent_by, besides_short, consistent_opened, drops_old, holds_opened, limit_opened, refusal_opened, taken_by}
 use Rattle.socket_merge.proofs.Consistent.{HasRoom-of}
 use Rattle.socket_merge.proofs.Refused.{answers_accepted, answers_memory, answers_refused, limits_of, refusal-taken}
+use Rattle.socket_merge.proofs.Limits.{within_limits}
 use Rattle.socket_merge.proofs.sockets.Sockets.open.Goals as goal
 
 pub returns-then-is_some-clause-refused : goal.returns-then-is_some-clause-refused
@@ -102,3 +103,21 @@ returns-clause-refused c =
     (refusal_opened c.self.inside.moment c.later-moment.result c.args.at.now c.args.name.now c.args.group.now c.args.filter.now c.self.inside.named c.self.inside.groups history c.self.invariant
     c.later-moment.ensures (absent c.args.name.now c.self.inside.named c.find.result c.is_some.result c.find.ensures.found c.is_some.ensures c.if-is_some.false) kept
     ∙ limited c.later-moment.result c.args.group.now c.share_of-share.result c.args.filter.now c.self.inside.groups c.limit_passed.result c.share_of-share.ensures c.limit_passed.ensures ∙ c.in_default.is)
+
+pub returns-clause-fits : goal.returns-clause-fits
+returns-clause-fits c =
+    λ (history : List AcceptedCall) holds.
+    within_limits c.later-moment.result c.insert_both.new.named c.drop_old.new.self history
+    (let later = c.later-moment.ensures in
+    let socket : Socket = record { name = c.args.name.now; group = c.args.group.now; filter = c.args.filter.now } in
+    consistent_opened c.self.inside.moment c.later-moment.result socket c.self.inside.named c.insert_both.new.named c.self.inside.groups c.insert_both.new.groups c.drop_old.new.self c.self.invariant (omega arith)
+    (absent c.args.name.now c.self.inside.named c.find.result c.is_some.result c.find.ensures.found c.is_some.ensures c.if-is_some.false)
+    (limited c.later-moment.result c.args.group.now c.share_of-share.result c.args.filter.now c.self.inside.groups c.limit_passed.result c.share_of-share.ensures c.limit_passed.ensures ∙ c.in_default.is)
+    c.requires.forwarded c.requires.family
+    (record {
+      rest = c.in-Ok.ensures.named;
+      tally = c.in-Ok.ensures.groups;
+      ordered_between = c.in-Ok.ensures.ordered;
+      fresh = c.drop_old.ensures.fresh;
+      ordered = c.drop_old.ensures.ordered;
+    })) holds
