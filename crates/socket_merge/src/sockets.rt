@@ -18,7 +18,7 @@ use crate::limit::limit_passed;
 use crate::named::NamedSockets;
 use crate::stored::share_of;
 use amt_values::{Ip, Moment};
-use group_records::Family;
+use group_records::{Family, ITEM_LIMIT, REPORT_LIMIT};
 use source_filter::{Filter, Records, copy_filter, merge};
 use std::alloc::{AllocError, Global};
 use std::marker::Model;
@@ -70,7 +70,7 @@ impl Sockets {
     ) -> Result<(), SocketFault>
         requires forwarded { is_forwardable group.now ≡ true }
         requires family { AreOfGroup group.now filter.now }
-        requires items { length filter.now.sources ≤ 16777216 }
+        requires items { length filter.now.sources ≤ ITEM_LIMIT }
         ensures stands { ForHistory self.old (λ history. OnOk result (SocketsHold self.new
             (with_call at.now (Open name.now group.now filter.now) history))) }
         ensures fits { OnOk result (ForHistory self.new IsWithinLimits) }
@@ -114,7 +114,7 @@ impl Sockets {
         at: &Moment,
     ) -> Result<(), SocketFault>
         requires family { AreOfSocket name.now self.old filter.now }
-        requires items { length filter.now.sources ≤ 16777216 }
+        requires items { length filter.now.sources ≤ ITEM_LIMIT }
         ensures stands { ForHistory self.old (λ history. OnOk result (SocketsHold self.new
             (with_call at.now (Change name.now filter.now) history))) }
         ensures fits { OnOk result (ForHistory self.new IsWithinLimits) }
@@ -225,9 +225,9 @@ impl Sockets {
         ensures family { IfOk result (All (IsOfFamily (family_by v6))) }
         ensures short { ForHistory self.now (λ history. IfOk result (λ records.
             report_length (family_by v6) records ≤ raw_report_length (family_by v6) history)) }
-        ensures fits { IfOk result (λ records. report_length (family_by v6) records ≤ 1400) }
+        ensures fits { IfOk result (λ records. report_length (family_by v6) records ≤ REPORT_LIMIT) }
         ensures raw_fits { ForHistory self.now (λ history.
-            raw_report_length (family_by v6) history ≤ 1400) }
+            raw_report_length (family_by v6) history ≤ REPORT_LIMIT) }
     {
         let family = if v6 { Family::V6 } else { Family::V4 };
         let moment = self.moment.later(at);
