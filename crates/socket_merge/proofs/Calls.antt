@@ -10,6 +10,7 @@ use Rattle.contract_words.specs.Conditions.{first_holding}
 use Rattle.source_filter.specs.Filter.{FilterValue}
 use Rattle.socket_merge.specs.History.{AcceptedCall, Change, Close, LeaveAll, Open, Socket, latest, open_sockets, socket_named, sockets_after, with_call}
 use Rattle.socket_merge.specs.FullReport.{longest_farewell}
+use Rattle.socket_merge.specs.Interface.{left_at}
 use Rattle.socket_merge.specs.Kept.{AreOrdered, HasTallies, HasTally, IsConsistent, farewells_in, octets_besides, raw_octets, share_of, tally_at, tally_changed, tally_fresh, tally_left, tally_with, tally_without}
 use Rattle.socket_merge.specs.Refusal.{family_of, is_open, may_be_due, refusal_of}
 use Rattle.socket_merge.specs.Sockets.{AreOfGroup, Farewell, HasNoOldFarewell, IsKept, SocketsHold, SocketsValue}
@@ -36,6 +37,18 @@ Stands-of moment sockets tallies history consistent holds = record {
   kept = λ group. subst (IsKept history group) (left_in-farewells tallies group consistent.ordered) (holds.farewells group);
 }
 
+each_by : (P : Farewell → Type 0) (left : Option ℕ) (group : Ip) (rest : List Farewell) → ((moment : ℕ) → left ≡ Some moment → P (record { group = group; left = moment })) → All P rest
+    → All P (cons_option (option_map (λ moment. record { group = group; left = moment }) left) rest)
+each_by P None group rest one all = all
+each_by P (Some moment) group rest one all = All-cons P (record { group = group; left = moment }) rest (one moment refl) all
+
+-- what holds of the farewell of each group holds of each farewell of the tallies
+each_farewell : (P : Farewell → Type 0) (tally : Ip → Tally) (tallies : List (Ip × Tally)) → ((group : Ip) (moment : ℕ) → (tally group).left ≡ Some moment → P (record { group = group; left = moment }))
+    → AreAt tally tallies → All P (farewells_in tallies)
+each_farewell P tally [] one are = All-nil P
+each_farewell P tally (entry ∷ rest) one are =
+    each_by P entry.1.left entry.0 (farewells_in rest) (λ moment is. one entry.0 moment (ap (λ (kept : Tally). kept.left) are.0 ∙ is)) (each_farewell P tally rest one are.1)
+
 -- and the other way round
 pub SocketsHold-of : (moment : ℕ) (sockets : List Socket) (tallies : List (Ip × Tally)) (history : List AcceptedCall) → AreOrdered tallies → moment ≡ latest history → sockets ≡ open_sockets history
     → Stands history (tally_at tallies) → SocketsHold (value_of moment sockets tallies) history
@@ -43,6 +56,7 @@ SocketsHold-of moment sockets tallies history ordered now open_now stands = reco
   moment = now;
   sockets = open_now;
   farewells = λ group. subst (IsKept history group) (sym (left_in-farewells tallies group ordered)) (stands.kept group);
+  each = each_farewell (λ one. left_at history one.group ≡ Some one.left) (tally_at tallies) tallies (λ group moment is. (stands.kept group).of_history moment is) (AreAt-ordered tallies ordered);
 }
 
 -- the socket that was found, by what is told of it
@@ -258,24 +272,10 @@ due_by true (Some other) later moment due is =
     let same : other ≡ moment = cc in let within = leb-true later (other + longest_farewell) due in omega arith
 due_by false left later moment due is = absurd cc
 
-dropped_by : (later : ℕ) (left : Option ℕ) (group : Ip) (rest : List Farewell) → ((moment : ℕ) → left ≡ Some moment → later ≤ moment + longest_farewell)
-    → All (λ farewell. later ≤ farewell.left + longest_farewell) rest
-    → All (λ farewell. later ≤ farewell.left + longest_farewell) (cons_option (option_map (λ moment. record { group = group; left = moment }) left) rest)
-dropped_by later None group rest due all = all
-dropped_by later (Some moment) group rest due all =
-    All-cons (λ (farewell : Farewell). later ≤ farewell.left + longest_farewell) (record { group = group; left = moment }) rest (due moment refl) all
-
--- farewells of tallies that are due
-are_due : (later : ℕ) (tally : Ip → Tally) (tallies : List (Ip × Tally)) → ((group : Ip) (moment : ℕ) → (tally group).left ≡ Some moment → later ≤ moment + longest_farewell) → AreAt tally tallies
-    → All (λ farewell. later ≤ farewell.left + longest_farewell) (farewells_in tallies)
-are_due later tally [] due are = All-nil (λ (farewell : Farewell). later ≤ farewell.left + longest_farewell)
-are_due later tally (entry ∷ rest) due are =
-    dropped_by later entry.1.left entry.0 (farewells_in rest) (λ moment is. due entry.0 moment (ap (λ (one : Tally). one.left) are.0 ∙ is)) (are_due later tally rest due are.1)
-
 -- no farewell is left that can't be due any more
 pub drops_old : (later : ℕ) (sockets : List Socket) (before after : List (Ip × Tally)) → HasTallies (tally_fresh later) before after → AreOrdered after → HasNoOldFarewell (value_of later sockets after)
 drops_old later sockets before after fresh ordered =
-    are_due later (tally_at after) after
+    each_farewell (λ farewell. later ≤ farewell.left + longest_farewell) (tally_at after) after
     (λ group moment is. due_by (may_be_due later (tally_at before group).left) (tally_at before group).left later moment refl (ap (λ (one : Tally). one.left) (sym (fresh group)) ∙ is))
     (AreAt-ordered after ordered)
 
