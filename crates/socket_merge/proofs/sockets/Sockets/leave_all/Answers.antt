@@ -30,6 +30,6 @@ returns c = record {
   fits = λ (history : List AcceptedCall) holds.
       within_limits c.later-self-inside.result c.clear.new.self c.leave_all.new.self history
       (let later = c.later-self-inside.ensures in
-    consistent_left c.self.inside.moment c.later-self-inside.result c.self.inside.named c.clear.new.self c.self.inside.groups c.leave_all.new.self c.self.invariant (omega arith)
-    (record { rest = c.clear.ensures; tallies = c.leave_all.ensures.left; ordered = c.leave_all.ensures.ordered })) holds;
+      consistent_left c.self.inside.moment c.later-self-inside.result c.self.inside.named c.clear.new.self c.self.inside.groups c.leave_all.new.self c.self.invariant (omega arith)
+      (record { rest = c.clear.ensures; tallies = c.leave_all.ensures.left; ordered = c.leave_all.ensures.ordered })) holds;
 }
