@@ -11,7 +11,7 @@ use Rattle.source_filter.specs.Filter.{FilterValue}
 use Rattle.socket_merge.specs.History.{AcceptedCall, Change, Close, LeaveAll, Open, Socket, latest, open_sockets, socket_named, sockets_after, with_call}
 use Rattle.socket_merge.specs.FullReport.{longest_farewell}
 use Rattle.socket_merge.specs.Interface.{left_at}
-use Rattle.socket_merge.specs.Kept.{AreOrdered, HasTallies, HasTally, IsConsistent, farewells_in, octets_besides, raw_octets, share_of, tally_at, tally_changed, tally_fresh, tally_left, tally_with, tally_without}
+use Rattle.socket_merge.specs.Kept.{AreNeeded, HasTallies, HasTally, IsConsistent, farewells_in, octets_besides, raw_octets, share_of, tally_at, tally_changed, tally_fresh, tally_left, tally_with, tally_without}
 use Rattle.socket_merge.specs.Refusal.{family_of, is_open, may_be_due, refusal_of}
 use Rattle.socket_merge.specs.Sockets.{AreOfGroup, Farewell, HasNoOldFarewell, IsKept, SocketsHold, SocketsValue}
 use Rattle.socket_merge.specs.declared.fault.SocketFault.{SocketFault}
@@ -34,7 +34,7 @@ pub Stands-of : (moment : ℕ) (sockets : List Socket) (tallies : List (Ip × Ta
     → SocketsHold (value_of moment sockets tallies) history → Stands history (tally_at tallies)
 Stands-of moment sockets tallies history consistent holds = record {
   tallied = subst (λ (all : List Socket). AreTallied all (tally_at tallies)) holds.sockets consistent.tallied;
-  kept = λ group. subst (IsKept history group) (left_in-farewells tallies group consistent.ordered) (holds.farewells group);
+  kept = λ group. subst (IsKept history group) (left_in-farewells tallies group consistent.needed) (holds.farewells group);
 }
 
 each_by : (P : Farewell → Type 0) (left : Option ℕ) (group : Ip) (rest : List Farewell) → ((moment : ℕ) → left ≡ Some moment → P (record { group = group; left = moment })) → All P rest
@@ -50,7 +50,7 @@ each_farewell P tally (entry ∷ rest) one are =
     each_by P entry.1.left entry.0 (farewells_in rest) (λ moment is. one entry.0 moment (ap (λ (kept : Tally). kept.left) are.0 ∙ is)) (each_farewell P tally rest one are.1)
 
 -- and the other way round
-pub SocketsHold-of : (moment : ℕ) (sockets : List Socket) (tallies : List (Ip × Tally)) (history : List AcceptedCall) → AreOrdered tallies → moment ≡ latest history → sockets ≡ open_sockets history
+pub SocketsHold-of : (moment : ℕ) (sockets : List Socket) (tallies : List (Ip × Tally)) (history : List AcceptedCall) → AreNeeded tallies → moment ≡ latest history → sockets ≡ open_sockets history
     → Stands history (tally_at tallies) → SocketsHold (value_of moment sockets tallies) history
 SocketsHold-of moment sockets tallies history ordered now open_now stands = record {
   moment = now;
@@ -85,7 +85,7 @@ IsNamed-of moment name sockets tallies socket history consistent same found =
 pub record IsClosed (later : ℕ) (name : List ℕ) (sockets left : List Socket) (told : Ip × Share) (before after : List (Ip × Tally)) : Type 0 where
   pub rest : left ≡ sockets_after (Close name) sockets
   pub tally : HasTally told.0 (tally_without later told.1 (tally_at before told.0)) before after
-  pub ordered : AreOrdered after
+  pub ordered : AreNeeded after
 
 pub closed_tally : (later : ℕ) (told : Ip × Share) (socket : Socket) (before after : List (Ip × Tally)) → told ≡ told_of socket → HasTally told.0 (tally_without later told.1 (tally_at before told.0)) before after
     → HasTally socket.group (tally_without later (share_of socket.filter) (tally_at before socket.group)) before after
@@ -117,7 +117,7 @@ holds_closed moment later at name sockets left told before after history consist
 pub record IsLeft (later : ℕ) (left : List Socket) (before after : List (Ip × Tally)) : Type 0 where
   pub rest : left ≡ []
   pub tallies : HasTallies (tally_left later) before after
-  pub ordered : AreOrdered after
+  pub ordered : AreNeeded after
 
 pub consistent_left : (moment later : ℕ) (sockets left : List Socket) (before after : List (Ip × Tally)) → IsConsistent moment sockets before → moment ≤ later → IsLeft later left before after
     → IsConsistent later left after
@@ -145,7 +145,7 @@ none_some (Some socket) none = absurd cc
 pub record IsChanged (later : ℕ) (name : List ℕ) (filter : FilterValue) (sockets left : List Socket) (told : Ip × Share) (before after : List (Ip × Tally)) : Type 0 where
   pub rest : left ≡ sockets_after (Change name filter) sockets
   pub tally : HasTally told.0 (tally_changed later told.1 (share_of filter) (tally_at before told.0)) before after
-  pub ordered : AreOrdered after
+  pub ordered : AreNeeded after
 
 pub changed_tally : (later : ℕ) (filter : FilterValue) (told : Ip × Share) (socket : Socket) (before after : List (Ip × Tally)) → told ≡ told_of socket
     → HasTally told.0 (tally_changed later told.1 (share_of filter) (tally_at before told.0)) before after
@@ -196,7 +196,7 @@ refusal_changed moment later at name filter sockets told before history consiste
     let found = IsFound-of name sockets told same in
     let socket = found.socket in
     let read : later ≡ max (latest history) at = now ∙ ap (λ (one : ℕ). max one at) holds.moment in
-    refusal-changed at name filter socket history before consistent.ordered (Stands-of moment sockets before history consistent holds)
+    refusal-changed at name filter socket history before consistent.needed (Stands-of moment sockets before history consistent holds)
     (IsNamed-of moment name sockets before socket history consistent holds.sockets found.found)
     ∙ ap (λ (one : ℕ). limit_changed one filter (told_of socket) before) (sym read) ∙ ap (λ (pair : Ip × Share). limit_changed later filter pair before) (sym found.is)
 
@@ -213,9 +213,9 @@ unknown_name name sockets history none same = ap (socket_named name) (sym same) 
 pub record IsOpened (later : ℕ) (socket : Socket) (sockets left : List Socket) (before between after : List (Ip × Tally)) : Type 0 where
   pub rest : left ≡ sockets ++ socket ∷ []
   pub tally : HasTally socket.group (tally_with (share_of socket.filter) (tally_at before socket.group)) before between
-  pub ordered_between : AreOrdered between
+  pub ordered_between : AreNeeded between
   pub fresh : HasTallies (tally_fresh later) between after
-  pub ordered : AreOrdered after
+  pub ordered : AreNeeded after
 
 -- the limits that a new socket passes
 abbrev pub limit_opened : ℕ → Ip → FilterValue → List (Ip × Tally) → Option SocketFault
@@ -253,7 +253,7 @@ pub refusal_opened : (moment later at : ℕ) (name : List ℕ) (group : Ip) (fil
     → refusal_of at (Open name group filter) history ≡ limit_opened later group filter before
 refusal_opened moment later at name group filter sockets before history consistent now absent holds =
     let read : later ≡ max (latest history) at = now ∙ ap (λ (one : ℕ). max one at) holds.moment in
-    refusal-opened at name group filter history before consistent.ordered (Stands-of moment sockets before history consistent holds)
+    refusal-opened at name group filter history before consistent.needed (Stands-of moment sockets before history consistent holds)
     (ap (λ (all : List Socket). is_some (socket_named name all)) (sym holds.sockets) ∙ ap is_some absent)
     ∙ ap (λ (one : ℕ). limit_opened one group filter before) (sym read)
 
@@ -273,7 +273,7 @@ due_by true (Some other) later moment due is =
 due_by false left later moment due is = absurd cc
 
 -- no farewell is left that can't be due any more
-pub drops_old : (later : ℕ) (sockets : List Socket) (before after : List (Ip × Tally)) → HasTallies (tally_fresh later) before after → AreOrdered after → HasNoOldFarewell (value_of later sockets after)
+pub drops_old : (later : ℕ) (sockets : List Socket) (before after : List (Ip × Tally)) → HasTallies (tally_fresh later) before after → AreNeeded after → HasNoOldFarewell (value_of later sockets after)
 drops_old later sockets before after fresh ordered =
     each_farewell (λ farewell. later ≤ farewell.left + longest_farewell) (tally_at after) after
     (λ group moment is. due_by (may_be_due later (tally_at before group).left) (tally_at before group).left later moment refl (ap (λ (one : Tally). one.left) (sym (fresh group)) ∙ is))

@@ -4,7 +4,7 @@ use Rattle.std.specs.Option.{option_map}
 use Rattle.amt_values.specs.declared.address.Ip.{Ip}
 use Rattle.source_filter.specs.Filter.{FilterValue}
 use Rattle.socket_merge.specs.History.{AcceptedCall, Change, Close, LeaveAll, Socket, latest, socket_named, with_call}
-use Rattle.socket_merge.specs.Kept.{AreOrdered, HasTallies, HasTally, IsConsistent, share_of, tally_at, tally_changed, tally_left, tally_without}
+use Rattle.socket_merge.specs.Kept.{AreNeeded, HasTallies, HasTally, IsConsistent, share_of, tally_at, tally_changed, tally_left, tally_without}
 use Rattle.socket_merge.specs.Sockets.{KeepsFarewells, SocketsHold}
 use Rattle.socket_merge.specs.declared.stored.Share.{Share}
 use Rattle.socket_merge.specs.declared.stored.Tally.{Tally}
@@ -13,7 +13,7 @@ use Rattle.socket_merge.proofs.Calls.{IsChanged, IsClosed, IsFound-of, IsLeft, I
 use Rattle.socket_merge.proofs.Counted.{replaced}
 use Rattle.socket_merge.proofs.HoldsAfter.{AreNext, AreNext-changed, AreNext-closed, AreNext-left, Stands, farewell_stays}
 
-keeps : (moment later : ℕ) (sockets left : List Socket) (before after : List (Ip × Tally)) (newest : AcceptedCall) (history : List AcceptedCall) (now : Ip → Tally) → AreOrdered before → AreOrdered after
+keeps : (moment later : ℕ) (sockets left : List Socket) (before after : List (Ip × Tally)) (newest : AcceptedCall) (history : List AcceptedCall) (now : Ip → Tally) → AreNeeded before → AreNeeded after
     → Stands history (tally_at before) → AreNext newest history (tally_at before) now → ((group : Ip) → tally_at after group ≡ now group)
     → KeepsFarewells (newest ∷ history) (value_of moment sockets before) (value_of later left after)
 keeps moment later sockets left before after newest history now ordered again stands next is group at kept unwanted =
@@ -30,7 +30,7 @@ keeps_closed moment later at name sockets left told before after history consist
     let read : later ≡ max (latest history) at = now ∙ ap (λ (one : ℕ). max one at) holds.moment in
     let stands = Stands-of moment sockets before history consistent holds in
     keeps moment later sockets left before after (record { moment = max (latest history) at; call = Close name }) history
-    (replaced socket.group (tally_without (max (latest history) at) (share_of socket.filter) (tally_at before socket.group)) (tally_at before)) consistent.ordered closed.ordered stands
+    (replaced socket.group (tally_without (max (latest history) at) (share_of socket.filter) (tally_at before socket.group)) (tally_at before)) consistent.needed closed.ordered stands
     (AreNext-closed history (tally_at before) at name socket stands (IsNamed-of moment name sockets before socket history consistent holds.sockets found.found))
     (subst (λ (one : ℕ). HasTally socket.group (tally_without one (share_of socket.filter) (tally_at before socket.group)) before after) read (closed_tally later told socket before after found.is closed.tally))
 
@@ -44,7 +44,7 @@ keeps_changed moment later at name filter sockets left told before after history
     let read : later ≡ max (latest history) at = now ∙ ap (λ (one : ℕ). max one at) holds.moment in
     let stands = Stands-of moment sockets before history consistent holds in
     keeps moment later sockets left before after (record { moment = max (latest history) at; call = Change name filter }) history
-    (replaced socket.group (tally_changed (max (latest history) at) (share_of socket.filter) (share_of filter) (tally_at before socket.group)) (tally_at before)) consistent.ordered changed.ordered stands
+    (replaced socket.group (tally_changed (max (latest history) at) (share_of socket.filter) (share_of filter) (tally_at before socket.group)) (tally_at before)) consistent.needed changed.ordered stands
     (AreNext-changed history (tally_at before) at name filter socket stands (IsNamed-of moment name sockets before socket history consistent holds.sockets found.found))
     (subst (λ (one : ℕ). HasTally socket.group (tally_changed one (share_of socket.filter) (share_of filter) (tally_at before socket.group)) before after) read
     (changed_tally later filter told socket before after found.is changed.tally))
@@ -57,4 +57,4 @@ keeps_left moment later at sockets left before after history consistent now gone
     let read : later ≡ max (latest history) at = now ∙ ap (λ (one : ℕ). max one at) holds.moment in
     let stands = Stands-of moment sockets before history consistent holds in
     keeps moment later sockets left before after (record { moment = max (latest history) at; call = LeaveAll }) history (λ group. tally_left (max (latest history) at) (tally_at before group))
-    consistent.ordered gone.ordered stands (AreNext-left history (tally_at before) at) (subst (λ (one : ℕ). HasTallies (tally_left one) before after) read gone.tallies)
+    consistent.needed gone.ordered stands (AreNext-left history (tally_at before) at) (subst (λ (one : ℕ). HasTallies (tally_left one) before after) read gone.tallies)

@@ -1,4 +1,5 @@
 pub mod Amounts
+pub mod Back
 pub mod ByGroup
 pub mod Calls
 pub mod Consistent

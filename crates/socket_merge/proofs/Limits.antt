@@ -22,7 +22,7 @@ pub record StandsFor (moment : ℕ) (sockets : List Socket) (tallies : List (Ip 
 pub raw_octets-are : (family : Family) (moment : ℕ) (sockets : List Socket) (tallies : List (Ip × Tally)) (history : List AcceptedCall) → StandsFor moment sockets tallies history
     → octets_of family moment tallies ≡ raw_report_length family history
 raw_octets-are family moment sockets tallies history is =
-    ap (λ (at : ℕ). octets_of family at tallies) is.holds.moment ∙ octets-raw family history tallies is.consistent.ordered (Stands-of moment sockets tallies history is.consistent is.holds)
+    ap (λ (at : ℕ). octets_of family at tallies) is.holds.moment ∙ octets-raw family history tallies is.consistent.needed (Stands-of moment sockets tallies history is.consistent is.holds)
 
 fills_no_more : (moment later : ℕ) (sockets left : List Socket) (before after : List (Ip × Tally)) (history next : List AcceptedCall) → StandsFor moment sockets before history
     → StandsFor later left after next → ((group : Ip) → IsLess moment later (tally_at before group) (tally_at after group)) → FillsNoMore history next
@@ -37,7 +37,7 @@ fills_no_more moment later sockets left before after history next first second l
     arith,
     raw_octets-are family moment sockets before history first,
     raw_octets-are family later left after next second,
-    octets-fall family moment later before after first.consistent.ordered second.consistent.ordered less,
+    octets-fall family moment later before after first.consistent.needed second.consistent.needed less,
   );
 }
 

@@ -8,7 +8,7 @@ ghost use Rattle.group_records.specs.Written.{IsOfFamily, report_length};
 ghost use Rattle.socket_merge.specs.FullReport.{family_by, full_report_of, is_quiet};
 ghost use Rattle.socket_merge.specs.History.{Change, Close, LeaveAll, Open, moment_read, socket_named, with_call};
 ghost use Rattle.socket_merge.specs.Interface.{interface, wants};
-ghost use Rattle.socket_merge.specs.Kept.{AreOrdered, HasRoom, HasTally, share_of, tally_at, tally_with};
+ghost use Rattle.socket_merge.specs.Kept.{AreNeeded, HasRoom, HasTally, share_of, tally_at, tally_with};
 ghost use Rattle.socket_merge.specs.Refusal.{FillsNoMore, IsWithinLimits, is_open, raw_report_length, refusal_of};
 ghost use Rattle.socket_merge.specs.Sockets.{AnswersRefusal, AreOfGroup, AreOfSocket, ForHistory, HasNoOldFarewell, KeepsFarewells, SocketsHold};
 
@@ -36,15 +36,19 @@ pub struct Sockets {
 }
 
 impl Model for Sockets {
-    ghost use Rattle.socket_merge.specs.Kept.{IsConsistent, farewells_in};
+    ghost use Rattle.socket_merge.specs.Kept.{IsSound, farewells_in, tallies_of};
     ghost use Rattle.socket_merge.specs.Sockets.{SocketsValue};
 
     ghost Value = { SocketsValue };
 
     ghost view = { λ s. record { moment = s.moment; sockets = s.named; farewells = farewells_in s.groups } };
 
-    // The tallies are those of the sockets, so nothing is kept beside what contracts see.
-    ghost invariant = { λ s. IsConsistent s.moment s.named s.groups };
+    ghost invariant = { λ s. IsSound s.moment s.named s.groups };
+
+    // The tallies are those of the sockets and farewells, so nothing is kept beside what contracts see.
+    ghost inverse = { λ v. record { moment = v.moment; named = v.sockets; groups = tallies_of v.sockets v.farewells } };
+
+    ghost inverse_ok = { λ s sound i. record { moment = s.moment; named = s.named; groups = sound.back i } };
 }
 
 impl Sockets {
@@ -270,7 +274,7 @@ fn insert_both(
         ++ record { name = name.now; group = group.now; filter = filter.now } ∷ []) }
     ensures groups { OnOk result (HasTally group.now
         (tally_with (share_of filter.now) (tally_at groups.old group.now)) groups.old groups.new) }
-    ensures ordered { OnOk result (AreOrdered groups.new) }
+    ensures needed { OnOk result (AreNeeded groups.new) }
     ensures err_named { OnErr result (named.new ≡ named.old) }
     ensures err_groups { OnErr result (groups.new ≡ groups.old) }
 {
