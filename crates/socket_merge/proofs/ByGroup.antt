@@ -15,7 +15,7 @@ use Rattle.amt_values.proofs.Orders.{ip_order-exact, ip_order-total}
 use Rattle.contract_words.specs.Ascending.{IsAscending, has}
 use Rattle.contract_words.proofs.AscendingLaws.{IsAscending-filter, has-filter, same_ascending}
 use Rattle.socket_merge.specs.Interface.{same_group}
-use Rattle.socket_merge.specs.Kept.{AreOrdered, blank, farewells_in, tally_at}
+use Rattle.socket_merge.specs.Kept.{AreNeeded, blank, farewells_in, tally_at}
 use Rattle.socket_merge.specs.Sockets.{Farewell, left_in}
 use Rattle.socket_merge.specs.declared.stored.Tally.{Tally}
 use Rattle.socket_merge.proofs.Wanted.{same_group-exact, same_group-itself, some_item}
@@ -170,11 +170,14 @@ at_later first before (entry ∷ rest) below are =
     let apart : same_group entry.0 first.0 ≡ false = ap is_eq (ip_order-total.antisymm entry.0 first.0) ∙ same_below (ip_order first.0 entry.0) below.0 in
     (tally_at-cons first before entry.0 ∙ ap (λ (test : Bool). cond test first.1 (tally_at before entry.0)) apart ∙ are.0, at_later first before rest below.1 are.1)
 
-pub AreAt-ordered : (tallies : List (Ip × Tally)) → AreOrdered tallies → AreAt (tally_at tallies) tallies
-AreAt-ordered [] ordered = tt
-AreAt-ordered (entry ∷ rest) ordered =
+AreAt-ascending : (tallies : List (Ip × Tally)) → IsAscending ip_order (keys_of tallies) → AreAt (tally_at tallies) tallies
+AreAt-ascending [] ordered = tt
+AreAt-ascending (entry ∷ rest) ordered =
     let own : tally_at (entry ∷ rest) entry.0 ≡ entry.1 = tally_at-cons entry rest entry.0 ∙ ap (λ (test : Bool). cond test entry.1 (tally_at rest entry.0)) (same_group-itself entry.0) in
-    (own, at_later entry rest rest (sorted_head ip_order entry.0 (keys_of rest) ordered) (AreAt-ordered rest (sorted_tail ip_order entry.0 (keys_of rest) ordered)))
+    (own, at_later entry rest rest (sorted_head ip_order entry.0 (keys_of rest) ordered) (AreAt-ascending rest (sorted_tail ip_order entry.0 (keys_of rest) ordered)))
+
+pub AreAt-ordered : (tallies : List (Ip × Tally)) → AreNeeded tallies → AreAt (tally_at tallies) tallies
+AreAt-ordered tallies needed = AreAt-ascending tallies needed.ordered
 
 sum_by-at : (f : Ip × Tally → ℕ) (tally : Ip → Tally) (tallies : List (Ip × Tally)) → AreAt tally tallies → sum_by f tallies ≡ sum_by (λ group. f (group, tally group)) (keys_of tallies)
 sum_by-at f tally [] are = refl
@@ -183,7 +186,7 @@ sum_by-at f tally (entry ∷ rest) are =
     omega (arith, here, sum_by-at f tally rest are.1, sum_by-cons f entry rest, sum_by-cons (λ group. f (group, tally group)) entry.0 (keys_of rest))
 
 -- a sum over tallies by group
-pub sum_by-keys : (f : Ip × Tally → ℕ) (tallies : List (Ip × Tally)) → AreOrdered tallies → sum_by f tallies ≡ sum_by (λ group. f (group, tally_at tallies group)) (keys_of tallies)
+pub sum_by-keys : (f : Ip × Tally → ℕ) (tallies : List (Ip × Tally)) → AreNeeded tallies → sum_by f tallies ≡ sum_by (λ group. f (group, tally_at tallies group)) (keys_of tallies)
 sum_by-keys f tallies ordered = sum_by-at f (tally_at tallies) tallies (AreAt-ordered tallies ordered)
 
 flat_map-at : {X : Type 0} (f : Ip × Tally → List X) (tally : Ip → Tally) (tallies : List (Ip × Tally)) → AreAt tally tallies
@@ -193,7 +196,7 @@ flat_map-at f tally (entry ∷ rest) are =
     ap (λ (kept : Tally). f (entry.0, kept) ++ flat_map f rest) (sym are.0) ∙ ap (λ later. f (entry.0, tally entry.0) ++ later) (flat_map-at f tally rest are.1)
 
 -- what is said of tallies by group
-pub flat_map-keys : {X : Type 0} (f : Ip × Tally → List X) (tallies : List (Ip × Tally)) → AreOrdered tallies → flat_map f tallies ≡ flat_map (λ group. f (group, tally_at tallies group)) (keys_of tallies)
+pub flat_map-keys : {X : Type 0} (f : Ip × Tally → List X) (tallies : List (Ip × Tally)) → AreNeeded tallies → flat_map f tallies ≡ flat_map (λ group. f (group, tally_at tallies group)) (keys_of tallies)
 flat_map-keys f tallies ordered = flat_map-at f (tally_at tallies) tallies (AreAt-ordered tallies ordered)
 
 any-at : (p : Ip × Tally → Bool) (tally : Ip → Tally) (tallies : List (Ip × Tally)) → AreAt tally tallies → list_any p tallies ≡ list_any (λ group. p (group, tally group)) (keys_of tallies)
@@ -202,7 +205,7 @@ any-at p tally (entry ∷ rest) are =
     ap (λ (kept : Tally). p (entry.0, kept) || list_any p rest) (sym are.0) ∙ ap (λ (later : Bool). p (entry.0, tally entry.0) || later) (any-at p tally rest are.1)
 
 -- a test of some tally by group
-pub list_any-keys : (p : Ip × Tally → Bool) (tallies : List (Ip × Tally)) → AreOrdered tallies → list_any p tallies ≡ list_any (λ group. p (group, tally_at tallies group)) (keys_of tallies)
+pub list_any-keys : (p : Ip × Tally → Bool) (tallies : List (Ip × Tally)) → AreNeeded tallies → list_any p tallies ≡ list_any (λ group. p (group, tally_at tallies group)) (keys_of tallies)
 list_any-keys p tallies ordered = any-at p (tally_at tallies) tallies (AreAt-ordered tallies ordered)
 
 left_first : (test : Bool) (group : Ip) (left : Option ℕ) (rest : List Farewell) (at : Ip) (tally : Tally) (later : Tally) → same_group at group ≡ test → tally.left ≡ left → left_in rest at ≡ later.left
@@ -212,12 +215,15 @@ left_first false group None rest at tally later same is after none = after
 left_first true group (Some moment) rest at tally later same is after none = rw same (sym is)
 left_first false group (Some moment) rest at tally later same is after none = rw same after
 
--- the farewells are those of the tallies
-pub left_in-farewells : (tallies : List (Ip × Tally)) (group : Ip) → AreOrdered tallies → left_in (farewells_in tallies) group ≡ (tally_at tallies group).left
-left_in-farewells [] group ordered = refl
-left_in-farewells (entry ∷ rest) group ordered =
+left_in-ascending : (tallies : List (Ip × Tally)) (group : Ip) → IsAscending ip_order (keys_of tallies) → left_in (farewells_in tallies) group ≡ (tally_at tallies group).left
+left_in-ascending [] group ordered = refl
+left_in-ascending (entry ∷ rest) group ordered =
     let absent : same_group group entry.0 ≡ true → tally_at rest group ≡ blank =
     λ same. ap (tally_at rest) (same_group-exact group entry.0 same) ∙ tally_at-absent rest entry.0 (has-before entry.0 (keys_of rest) (sorted_head ip_order entry.0 (keys_of rest) ordered)) in
     left_first (same_group group entry.0) entry.0 entry.1.left (farewells_in rest) group entry.1 (tally_at rest group) refl refl
-    (left_in-farewells rest group (sorted_tail ip_order entry.0 (keys_of rest) ordered)) absent
+    (left_in-ascending rest group (sorted_tail ip_order entry.0 (keys_of rest) ordered)) absent
     ∙ ap (λ (one : Tally). one.left) (sym (tally_at-cons entry rest group))
+
+-- the farewells are those of the tallies
+pub left_in-farewells : (tallies : List (Ip × Tally)) (group : Ip) → AreNeeded tallies → left_in (farewells_in tallies) group ≡ (tally_at tallies group).left
+left_in-farewells tallies group needed = left_in-ascending tallies group needed.ordered

@@ -10,7 +10,8 @@ use Rattle.contract_words.specs.Conditions.{first_holding}
 use Rattle.source_filter.specs.Filter.{FilterValue}
 use Rattle.socket_merge.specs.History.{AcceptedCall, Change, Close, LeaveAll, Open, Socket, latest, open_sockets, socket_named, sockets_after, with_call}
 use Rattle.socket_merge.specs.FullReport.{longest_farewell}
-use Rattle.socket_merge.specs.Kept.{AreOrdered, HasTallies, HasTally, IsConsistent, farewells_in, octets_besides, raw_octets, share_of, tally_at, tally_changed, tally_fresh, tally_left, tally_with, tally_without}
+use Rattle.socket_merge.specs.Interface.{left_at}
+use Rattle.socket_merge.specs.Kept.{AreNeeded, HasTallies, HasTally, IsConsistent, farewells_in, octets_besides, raw_octets, share_of, tally_at, tally_changed, tally_fresh, tally_left, tally_with, tally_without}
 use Rattle.socket_merge.specs.Refusal.{family_of, is_open, may_be_due, refusal_of}
 use Rattle.socket_merge.specs.Sockets.{AreOfGroup, Farewell, HasNoOldFarewell, IsKept, SocketsHold, SocketsValue}
 use Rattle.socket_merge.specs.declared.fault.SocketFault.{SocketFault}
@@ -33,16 +34,29 @@ pub Stands-of : (moment : ℕ) (sockets : List Socket) (tallies : List (Ip × Ta
     → SocketsHold (value_of moment sockets tallies) history → Stands history (tally_at tallies)
 Stands-of moment sockets tallies history consistent holds = record {
   tallied = subst (λ (all : List Socket). AreTallied all (tally_at tallies)) holds.sockets consistent.tallied;
-  kept = λ group. subst (IsKept history group) (left_in-farewells tallies group consistent.ordered) (holds.farewells group);
+  kept = λ group. subst (IsKept history group) (left_in-farewells tallies group consistent.needed) (holds.farewells group);
 }
 
+each_by : (P : Farewell → Type 0) (left : Option ℕ) (group : Ip) (rest : List Farewell) → ((moment : ℕ) → left ≡ Some moment → P (record { group = group; left = moment })) → All P rest
+    → All P (cons_option (option_map (λ moment. record { group = group; left = moment }) left) rest)
+each_by P None group rest one all = all
+each_by P (Some moment) group rest one all = All-cons P (record { group = group; left = moment }) rest (one moment refl) all
+
+-- what holds of the farewell of each group holds of each farewell of the tallies
+each_farewell : (P : Farewell → Type 0) (tally : Ip → Tally) (tallies : List (Ip × Tally)) → ((group : Ip) (moment : ℕ) → (tally group).left ≡ Some moment → P (record { group = group; left = moment }))
+    → AreAt tally tallies → All P (farewells_in tallies)
+each_farewell P tally [] one are = All-nil P
+each_farewell P tally (entry ∷ rest) one are =
+    each_by P entry.1.left entry.0 (farewells_in rest) (λ moment is. one entry.0 moment (ap (λ (kept : Tally). kept.left) are.0 ∙ is)) (each_farewell P tally rest one are.1)
+
 -- and the other way round
-pub SocketsHold-of : (moment : ℕ) (sockets : List Socket) (tallies : List (Ip × Tally)) (history : List AcceptedCall) → AreOrdered tallies → moment ≡ latest history → sockets ≡ open_sockets history
+pub SocketsHold-of : (moment : ℕ) (sockets : List Socket) (tallies : List (Ip × Tally)) (history : List AcceptedCall) → AreNeeded tallies → moment ≡ latest history → sockets ≡ open_sockets history
     → Stands history (tally_at tallies) → SocketsHold (value_of moment sockets tallies) history
 SocketsHold-of moment sockets tallies history ordered now open_now stands = record {
   moment = now;
   sockets = open_now;
   farewells = λ group. subst (IsKept history group) (sym (left_in-farewells tallies group ordered)) (stands.kept group);
+  each = each_farewell (λ one. left_at history one.group ≡ Some one.left) (tally_at tallies) tallies (λ group moment is. (stands.kept group).of_history moment is) (AreAt-ordered tallies ordered);
 }
 
 -- the socket that was found, by what is told of it
@@ -62,7 +76,7 @@ found_by name sockets (Some socket) told is same = record { socket = socket; fou
 pub IsFound-of : (name : List ℕ) (sockets : List Socket) (told : Ip × Share) → Some told ≡ option_map told_of (socket_named name sockets) → IsFound name sockets told
 IsFound-of name sockets told same = found_by name sockets (socket_named name sockets) told refl same
 
-IsNamed-of : (moment : ℕ) (name : List ℕ) (sockets : List Socket) (tallies : List (Ip × Tally)) (socket : Socket) (history : List AcceptedCall) → IsConsistent moment sockets tallies
+pub IsNamed-of : (moment : ℕ) (name : List ℕ) (sockets : List Socket) (tallies : List (Ip × Tally)) (socket : Socket) (history : List AcceptedCall) → IsConsistent moment sockets tallies
     → sockets ≡ open_sockets history → socket_named name sockets ≡ Some socket → IsNamed name socket (open_sockets history)
 IsNamed-of moment name sockets tallies socket history consistent same found =
     subst (λ (all : List Socket). IsNamed name socket all) same (record { apart = consistent.apart; found = found })
@@ -71,9 +85,9 @@ IsNamed-of moment name sockets tallies socket history consistent same found =
 pub record IsClosed (later : ℕ) (name : List ℕ) (sockets left : List Socket) (told : Ip × Share) (before after : List (Ip × Tally)) : Type 0 where
   pub rest : left ≡ sockets_after (Close name) sockets
   pub tally : HasTally told.0 (tally_without later told.1 (tally_at before told.0)) before after
-  pub ordered : AreOrdered after
+  pub ordered : AreNeeded after
 
-closed_tally : (later : ℕ) (told : Ip × Share) (socket : Socket) (before after : List (Ip × Tally)) → told ≡ told_of socket → HasTally told.0 (tally_without later told.1 (tally_at before told.0)) before after
+pub closed_tally : (later : ℕ) (told : Ip × Share) (socket : Socket) (before after : List (Ip × Tally)) → told ≡ told_of socket → HasTally told.0 (tally_without later told.1 (tally_at before told.0)) before after
     → HasTally socket.group (tally_without later (share_of socket.filter) (tally_at before socket.group)) before after
 closed_tally later told socket before after is tally =
     subst (λ (pair : Ip × Share). HasTally pair.0 (tally_without later pair.1 (tally_at before pair.0)) before after) is tally
@@ -103,7 +117,7 @@ holds_closed moment later at name sockets left told before after history consist
 pub record IsLeft (later : ℕ) (left : List Socket) (before after : List (Ip × Tally)) : Type 0 where
   pub rest : left ≡ []
   pub tallies : HasTallies (tally_left later) before after
-  pub ordered : AreOrdered after
+  pub ordered : AreNeeded after
 
 pub consistent_left : (moment later : ℕ) (sockets left : List Socket) (before after : List (Ip × Tally)) → IsConsistent moment sockets before → moment ≤ later → IsLeft later left before after
     → IsConsistent later left after
@@ -131,9 +145,9 @@ none_some (Some socket) none = absurd cc
 pub record IsChanged (later : ℕ) (name : List ℕ) (filter : FilterValue) (sockets left : List Socket) (told : Ip × Share) (before after : List (Ip × Tally)) : Type 0 where
   pub rest : left ≡ sockets_after (Change name filter) sockets
   pub tally : HasTally told.0 (tally_changed later told.1 (share_of filter) (tally_at before told.0)) before after
-  pub ordered : AreOrdered after
+  pub ordered : AreNeeded after
 
-changed_tally : (later : ℕ) (filter : FilterValue) (told : Ip × Share) (socket : Socket) (before after : List (Ip × Tally)) → told ≡ told_of socket
+pub changed_tally : (later : ℕ) (filter : FilterValue) (told : Ip × Share) (socket : Socket) (before after : List (Ip × Tally)) → told ≡ told_of socket
     → HasTally told.0 (tally_changed later told.1 (share_of filter) (tally_at before told.0)) before after
     → HasTally socket.group (tally_changed later (share_of socket.filter) (share_of filter) (tally_at before socket.group)) before after
 changed_tally later filter told socket before after is tally =
@@ -182,7 +196,7 @@ refusal_changed moment later at name filter sockets told before history consiste
     let found = IsFound-of name sockets told same in
     let socket = found.socket in
     let read : later ≡ max (latest history) at = now ∙ ap (λ (one : ℕ). max one at) holds.moment in
-    refusal-changed at name filter socket history before consistent.ordered (Stands-of moment sockets before history consistent holds)
+    refusal-changed at name filter socket history before consistent.needed (Stands-of moment sockets before history consistent holds)
     (IsNamed-of moment name sockets before socket history consistent holds.sockets found.found)
     ∙ ap (λ (one : ℕ). limit_changed one filter (told_of socket) before) (sym read) ∙ ap (λ (pair : Ip × Share). limit_changed later filter pair before) (sym found.is)
 
@@ -199,9 +213,9 @@ unknown_name name sockets history none same = ap (socket_named name) (sym same) 
 pub record IsOpened (later : ℕ) (socket : Socket) (sockets left : List Socket) (before between after : List (Ip × Tally)) : Type 0 where
   pub rest : left ≡ sockets ++ socket ∷ []
   pub tally : HasTally socket.group (tally_with (share_of socket.filter) (tally_at before socket.group)) before between
-  pub ordered_between : AreOrdered between
+  pub ordered_between : AreNeeded between
   pub fresh : HasTallies (tally_fresh later) between after
-  pub ordered : AreOrdered after
+  pub ordered : AreNeeded after
 
 -- the limits that a new socket passes
 abbrev pub limit_opened : ℕ → Ip → FilterValue → List (Ip × Tally) → Option SocketFault
@@ -239,7 +253,7 @@ pub refusal_opened : (moment later at : ℕ) (name : List ℕ) (group : Ip) (fil
     → refusal_of at (Open name group filter) history ≡ limit_opened later group filter before
 refusal_opened moment later at name group filter sockets before history consistent now absent holds =
     let read : later ≡ max (latest history) at = now ∙ ap (λ (one : ℕ). max one at) holds.moment in
-    refusal-opened at name group filter history before consistent.ordered (Stands-of moment sockets before history consistent holds)
+    refusal-opened at name group filter history before consistent.needed (Stands-of moment sockets before history consistent holds)
     (ap (λ (all : List Socket). is_some (socket_named name all)) (sym holds.sockets) ∙ ap is_some absent)
     ∙ ap (λ (one : ℕ). limit_opened one group filter before) (sym read)
 
@@ -258,24 +272,10 @@ due_by true (Some other) later moment due is =
     let same : other ≡ moment = cc in let within = leb-true later (other + longest_farewell) due in omega arith
 due_by false left later moment due is = absurd cc
 
-dropped_by : (later : ℕ) (left : Option ℕ) (group : Ip) (rest : List Farewell) → ((moment : ℕ) → left ≡ Some moment → later ≤ moment + longest_farewell)
-    → All (λ farewell. later ≤ farewell.left + longest_farewell) rest
-    → All (λ farewell. later ≤ farewell.left + longest_farewell) (cons_option (option_map (λ moment. record { group = group; left = moment }) left) rest)
-dropped_by later None group rest due all = all
-dropped_by later (Some moment) group rest due all =
-    All-cons (λ (farewell : Farewell). later ≤ farewell.left + longest_farewell) (record { group = group; left = moment }) rest (due moment refl) all
-
--- farewells of tallies that are due
-are_due : (later : ℕ) (tally : Ip → Tally) (tallies : List (Ip × Tally)) → ((group : Ip) (moment : ℕ) → (tally group).left ≡ Some moment → later ≤ moment + longest_farewell) → AreAt tally tallies
-    → All (λ farewell. later ≤ farewell.left + longest_farewell) (farewells_in tallies)
-are_due later tally [] due are = All-nil (λ (farewell : Farewell). later ≤ farewell.left + longest_farewell)
-are_due later tally (entry ∷ rest) due are =
-    dropped_by later entry.1.left entry.0 (farewells_in rest) (λ moment is. due entry.0 moment (ap (λ (one : Tally). one.left) are.0 ∙ is)) (are_due later tally rest due are.1)
-
 -- no farewell is left that can't be due any more
-pub drops_old : (later : ℕ) (sockets : List Socket) (before after : List (Ip × Tally)) → HasTallies (tally_fresh later) before after → AreOrdered after → HasNoOldFarewell (value_of later sockets after)
+pub drops_old : (later : ℕ) (sockets : List Socket) (before after : List (Ip × Tally)) → HasTallies (tally_fresh later) before after → AreNeeded after → HasNoOldFarewell (value_of later sockets after)
 drops_old later sockets before after fresh ordered =
-    are_due later (tally_at after) after
+    each_farewell (λ farewell. later ≤ farewell.left + longest_farewell) (tally_at after) after
     (λ group moment is. due_by (may_be_due later (tally_at before group).left) (tally_at before group).left later moment refl (ap (λ (one : Tally). one.left) (sym (fresh group)) ∙ is))
     (AreAt-ordered after ordered)
 

@@ -11,7 +11,7 @@ use Rattle.group_records.specs.Written.{is_of_family}
 use Rattle.group_records.specs.declared.family.Family.{Family}
 use Rattle.socket_merge.specs.History.{Change, Close, Socket, refiltered, socket_named, sockets_after}
 use Rattle.socket_merge.specs.Interface.{same_group}
-use Rattle.socket_merge.specs.Kept.{AreOrdered, HasRoom, HasTallies, HasTally, IsConsistent, is_blank, left_without, octets_besides, octets_in, octets_of, raw_octets, share_of, tally_at, tally_changed, tally_fresh, tally_left, tally_with, tally_without}
+use Rattle.socket_merge.specs.Kept.{AreNeeded, HasRoom, HasTallies, HasTally, IsConsistent, is_blank, left_without, octets_besides, octets_in, octets_of, raw_octets, share_of, tally_at, tally_changed, tally_fresh, tally_left, tally_with, tally_without}
 use Rattle.socket_merge.specs.Refusal.{family_of, may_be_due}
 use Rattle.socket_merge.specs.Sockets.{AreOfGroup}
 use Rattle.socket_merge.specs.declared.stored.Share.{Share}
@@ -31,19 +31,19 @@ pub record IsShrunk (earlier later : ℕ) (before after : Tally) : Type 0 where
   pub some : is_blank after ≡ false → is_blank before ≡ false
 
 -- a call after which no tally has more than it had
-pub IsConsistent-shrunk : (earlier later : ℕ) (sockets left : List Socket) (before after : List (Ip × Tally)) (now : Ip → Tally) → IsConsistent earlier sockets before → AreOrdered after
+pub IsConsistent-shrunk : (earlier later : ℕ) (sockets left : List Socket) (before after : List (Ip × Tally)) (now : Ip → Tally) → IsConsistent earlier sockets before → AreNeeded after
     → ((group : Ip) → tally_at after group ≡ now group) → AreTallied left now → AreApart left → All IsOfOwnFamily left → ((group : Ip) → IsShrunk earlier later (tally_at before group) (now group))
     → IsConsistent later left after
 IsConsistent-shrunk earlier later sockets left before after now consistent ordered is tallied apart family shrunk =
     let shrinks : (group : Ip) → IsShrunk earlier later (tally_at before group) (tally_at after group) = λ group. subst (IsShrunk earlier later (tally_at before group)) (sym (is group)) (shrunk group) in
     record {
-      ordered = ordered;
+      needed = ordered;
       tallied = AreTallied-same left now (tally_at after) is tallied;
       apart = apart;
       forwarded = λ group some. consistent.forwarded group ((shrinks group).some some);
       family = family;
       few = λ group. omega (arith, consistent.few group, (shrinks group).less.sources);
-      short = λ of. omega (arith, consistent.short of, octets-fall of earlier later before after consistent.ordered ordered (λ group. (shrinks group).less));
+      short = λ of. omega (arith, consistent.short of, octets-fall of earlier later before after consistent.needed ordered (λ group. (shrinks group).less));
     }
 
 replaced_by : (P : Tally → Tally → Type 0) (test : Bool) (group other : Ip) (after : Tally) (tally : Ip → Tally) → same_group group other ≡ test → P (tally group) after → P (tally other) (tally other)
@@ -92,33 +92,60 @@ fresh_some false false false false left some = absurd cc
 IsShrunk-fresh : (moment : ℕ) (tally : Tally) → IsShrunk moment moment tally (tally_fresh moment tally)
 IsShrunk-fresh moment tally = record { less = IsLess-fresh moment tally; some = fresh_some (may_be_due moment tally.left) (ltb 0 tally.sockets) (ltb 0 tally.wanting) (ltb 0 tally.sources) tally.left }
 
+-- the tallies where a socket is closed
+abbrev pub tallies_closed : ℕ → Socket → List (Ip × Tally) → Ip → Tally
+tallies_closed later socket before = replaced socket.group (tally_without later (share_of socket.filter) (tally_at before socket.group)) (tally_at before)
+
+shrunk_closed : (earlier later : ℕ) (name : List ℕ) (socket : Socket) (sockets : List Socket) (before : List (Ip × Tally)) → IsConsistent earlier sockets before → earlier ≤ later
+    → socket_named name sockets ≡ Some socket → (other : Ip) → IsShrunk earlier later (tally_at before other) (tallies_closed later socket before other)
+shrunk_closed earlier later name socket sockets before consistent onward found other =
+    let group = socket.group in
+    let named : IsNamed name socket sockets = record { apart = consistent.apart; found = found } in
+    let here = CountsOne-of name socket sockets (tally_at before group) named (Counts-of (tally_at before group) group sockets (consistent.tallied group)) in
+    replaced_by (IsShrunk earlier later) (same_group group other) group other (tally_without later (share_of socket.filter) (tally_at before group)) (tally_at before) refl
+    (IsShrunk-without earlier later (share_of socket.filter) (tally_at before group) here.number) (IsShrunk-later earlier later (tally_at before other) onward)
+
+pub less_closed : (earlier later : ℕ) (name : List ℕ) (socket : Socket) (sockets : List Socket) (before after : List (Ip × Tally)) → IsConsistent earlier sockets before → earlier ≤ later
+    → socket_named name sockets ≡ Some socket → HasTally socket.group (tally_without later (share_of socket.filter) (tally_at before socket.group)) before after
+    → (group : Ip) → IsLess earlier later (tally_at before group) (tally_at after group)
+less_closed earlier later name socket sockets before after consistent onward found is group =
+    subst (IsLess earlier later (tally_at before group)) (sym (is group)) (shrunk_closed earlier later name socket sockets before consistent onward found group).less
+
 -- a socket is closed
 pub IsConsistent-closed : (earlier later : ℕ) (name : List ℕ) (socket : Socket) (sockets : List Socket) (before after : List (Ip × Tally)) → IsConsistent earlier sockets before → earlier ≤ later
-    → socket_named name sockets ≡ Some socket → AreOrdered after → HasTally socket.group (tally_without later (share_of socket.filter) (tally_at before socket.group)) before after
+    → socket_named name sockets ≡ Some socket → AreNeeded after → HasTally socket.group (tally_without later (share_of socket.filter) (tally_at before socket.group)) before after
     → IsConsistent later (sockets_after (Close name) sockets) after
 IsConsistent-closed earlier later name socket sockets before after consistent onward found ordered is =
     let group = socket.group in
     let named : IsNamed name socket sockets = record { apart = consistent.apart; found = found } in
     let counts = Counts-of (tally_at before group) group sockets (consistent.tallied group) in
-    let here = CountsOne-of name socket sockets (tally_at before group) named counts in
     let now = tally_without later (share_of socket.filter) (tally_at before group) in
     IsConsistent-shrunk earlier later sockets (sockets_after (Close name) sockets) before after (replaced group now (tally_at before)) consistent ordered is
     (AreTallied-replaced group sockets (sockets_after (Close name) sockets) (tally_at before) now consistent.tallied (others_closed name socket sockets named)
     (Counts-closed name socket sockets later (tally_at before group) named counts))
     (AreApart-closed (λ one. not (has_name name one)) sockets consistent.apart) (All-filter (λ one. not (has_name name one)) IsOfOwnFamily sockets consistent.family)
-    (λ other. replaced_by (IsShrunk earlier later) (same_group group other) group other now (tally_at before) refl
-    (IsShrunk-without earlier later (share_of socket.filter) (tally_at before group) here.number) (IsShrunk-later earlier later (tally_at before other) onward))
+    (shrunk_closed earlier later name socket sockets before consistent onward found)
+
+shrunk_left : (earlier later : ℕ) (sockets : List Socket) (before : List (Ip × Tally)) → IsConsistent earlier sockets before → earlier ≤ later
+    → (group : Ip) → IsShrunk earlier later (tally_at before group) (tally_left later (tally_at before group))
+shrunk_left earlier later sockets before consistent onward group =
+    IsShrunk-left earlier later (tally_at before group) (wanting_few (tally_at before group) group sockets (Counts-of (tally_at before group) group sockets (consistent.tallied group))) onward
+
+pub less_left : (earlier later : ℕ) (sockets : List Socket) (before after : List (Ip × Tally)) → IsConsistent earlier sockets before → earlier ≤ later → HasTallies (tally_left later) before after
+    → (group : Ip) → IsLess earlier later (tally_at before group) (tally_at after group)
+less_left earlier later sockets before after consistent onward is group =
+    subst (IsLess earlier later (tally_at before group)) (sym (is group)) (shrunk_left earlier later sockets before consistent onward group).less
 
 -- every socket is closed
-pub IsConsistent-left : (earlier later : ℕ) (sockets : List Socket) (before after : List (Ip × Tally)) → IsConsistent earlier sockets before → earlier ≤ later → AreOrdered after
+pub IsConsistent-left : (earlier later : ℕ) (sockets : List Socket) (before after : List (Ip × Tally)) → IsConsistent earlier sockets before → earlier ≤ later → AreNeeded after
     → HasTallies (tally_left later) before after → IsConsistent later [] after
 IsConsistent-left earlier later sockets before after consistent onward ordered is =
     IsConsistent-shrunk earlier later sockets [] before after (λ group. tally_left later (tally_at before group)) consistent ordered is (AreTallied-left later (tally_at before)) (λ name. omega arith)
     (All-nil IsOfOwnFamily)
-    (λ group. IsShrunk-left earlier later (tally_at before group) (wanting_few (tally_at before group) group sockets (Counts-of (tally_at before group) group sockets (consistent.tallied group))) onward)
+    (shrunk_left earlier later sockets before consistent onward)
 
 -- farewells that can't be due any more are dropped
-pub IsConsistent-fresh : (moment : ℕ) (sockets : List Socket) (before after : List (Ip × Tally)) → IsConsistent moment sockets before → AreOrdered after → HasTallies (tally_fresh moment) before after
+pub IsConsistent-fresh : (moment : ℕ) (sockets : List Socket) (before after : List (Ip × Tally)) → IsConsistent moment sockets before → AreNeeded after → HasTallies (tally_fresh moment) before after
     → IsConsistent moment sockets after
 IsConsistent-fresh moment sockets before after consistent ordered is =
     IsConsistent-shrunk moment moment sockets sockets before after (λ group. tally_fresh moment (tally_at before group)) consistent ordered is
@@ -154,9 +181,9 @@ few_by false now tally own others = others
 
 -- a call that changes one group, and leaves a socket of it
 pub IsConsistent-replaced : (earlier later : ℕ) (group : Ip) (now : Tally) (sockets left : List Socket) (before after : List (Ip × Tally)) → IsConsistent earlier sockets before → earlier ≤ later
-    → AreOrdered after → HasTally group now before after → AreOthersSame group sockets left → IsFit later group now left before → IsConsistent later left after
+    → AreNeeded after → HasTally group now before after → AreOthersSame group sockets left → IsFit later group now left before → IsConsistent later left after
 IsConsistent-replaced earlier later group now sockets left before after consistent onward ordered is same fit = record {
-  ordered = ordered;
+  needed = ordered;
   tallied = AreTallied-same left (replaced group now (tally_at before)) (tally_at after) is (AreTallied-replaced group sockets left (tally_at before) now consistent.tallied same fit.counts);
   apart = fit.apart;
   forwarded = λ other some. forwarded_by (same_group group other) group other now before refl fit.forwarded (consistent.forwarded other) (sym (ap is_blank (is other)) ∙ some);
@@ -164,7 +191,7 @@ IsConsistent-replaced earlier later group now sockets left before after consiste
   few = λ other. let sources = ap (λ (tally : Tally). tally.sources) (is other) in
       omega (arith, sources, few_by (same_group group other) now (tally_at before other) fit.few (consistent.few other));
   short = λ of. short_by (is_of_family of group) of earlier later group now left before after refl (consistent.short of) onward fit
-      (octets-after of later before after group now consistent.ordered ordered is fit.some);
+      (octets-after of later before after group now consistent.needed ordered is fit.some);
 }
 
 -- a socket is opened

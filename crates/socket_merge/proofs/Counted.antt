@@ -21,7 +21,7 @@ any_first : (test rest : Bool) (number : ℕ) → rest ≡ ltb 0 number → (tes
 any_first true rest number is = sym (lt-ltb 0 (1 + number) (omega arith))
 any_first false rest number is = is ∙ ap (ltb 0) (omega arith)
 
-list_any-counted : {X Y : Type 0} (p : Y → Bool) (h : X → Y) (xs : List X) → list_any p (map h xs) ≡ ltb 0 (count_by (λ x. p (h x)) xs)
+pub list_any-counted : {X Y : Type 0} (p : Y → Bool) (h : X → Y) (xs : List X) → list_any p (map h xs) ≡ ltb 0 (count_by (λ x. p (h x)) xs)
 list_any-counted p h [] = refl
 list_any-counted p h (x ∷ xs) =
     any_first (p (h x)) (list_any p (map h xs)) (count_by (λ y. p (h y)) xs) (list_any-counted p h xs)

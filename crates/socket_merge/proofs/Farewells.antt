@@ -11,14 +11,14 @@ use Rattle.socket_merge.proofs.Amounts.{some_is}
 
 -- what is kept of a farewell, by when the group was left and the moment of the newest call
 pub record KeptBy (left : Option ℕ) (at : ℕ) (kept : Option ℕ) : Type 0 where
-  pub honest : (moment : ℕ) → kept ≡ Some moment → left ≡ Some moment
+  pub of_history : (moment : ℕ) → kept ≡ Some moment → left ≡ Some moment
   pub there : (moment : ℕ) → left ≡ Some moment → at ≤ moment + longest_farewell → kept ≡ Some moment
 
 pub KeptBy-of : (history : List AcceptedCall) (group : Ip) (kept : Option ℕ) → IsKept history group kept → KeptBy (left_at history group) (latest history) kept
-KeptBy-of history group kept is = record { honest = is.honest; there = is.there }
+KeptBy-of history group kept is = record { of_history = is.of_history; there = is.there }
 
 pub IsKept-of : (history : List AcceptedCall) (group : Ip) (kept : Option ℕ) → KeptBy (left_at history group) (latest history) kept → IsKept history group kept
-IsKept-of history group kept is = record { honest = is.honest; there = is.there }
+IsKept-of history group kept is = record { of_history = is.of_history; there = is.there }
 
 older_by : (test : Bool) (at moment : ℕ) → leb at (moment + longest_farewell) ≡ test → (at ≤ moment + longest_farewell → ⊥) → moment + longest_farewell < at
 older_by true at moment is recent = absurd (recent (leb-true at (moment + longest_farewell) is))
@@ -32,20 +32,20 @@ too_old at moment is =
 -- what is kept is due where the farewell is
 pub may_be_due-kept : (left kept : Option ℕ) (at now : ℕ) → KeptBy left at kept → at ≤ now → may_be_due now kept ≡ may_be_due now left
 may_be_due-kept None None at now is onward = refl
-may_be_due-kept None (Some moment) at now is onward = let some = is.honest moment refl in absurd cc
+may_be_due-kept None (Some moment) at now is onward = let some = is.of_history moment refl in absurd cc
 may_be_due-kept (Some moment) None at now is onward = let old = too_old at moment is in sym (lt-leb now (moment + longest_farewell) (omega arith))
-may_be_due-kept (Some moment) (Some other) at now is onward = ap (may_be_due now) (sym (is.honest other refl))
+may_be_due-kept (Some moment) (Some other) at now is onward = ap (may_be_due now) (sym (is.of_history other refl))
 
 -- and lasts so long
 pub is_recent-kept : (left kept : Option ℕ) (at now keep : ℕ) → KeptBy left at kept → at ≤ now → is_recent now keep kept ≡ is_recent now keep left
 is_recent-kept None None at now keep is onward = refl
-is_recent-kept None (Some moment) at now keep is onward = let some = is.honest moment refl in absurd cc
+is_recent-kept None (Some moment) at now keep is onward = let some = is.of_history moment refl in absurd cc
 is_recent-kept (Some moment) None at now keep is onward = let old = too_old at moment is in sym (le-ltb now (moment + min keep longest_farewell) (omega arith))
-is_recent-kept (Some moment) (Some other) at now keep is onward = ap (is_recent now keep) (sym (is.honest other refl))
+is_recent-kept (Some moment) (Some other) at now keep is onward = ap (is_recent now keep) (sym (is.of_history other refl))
 
 pub nothing_kept : (kept : Option ℕ) (at : ℕ) → KeptBy None at kept → kept ≡ None
 nothing_kept None at is = refl
-nothing_kept (Some moment) at is = let some = is.honest moment refl in absurd cc
+nothing_kept (Some moment) at is = let some = is.of_history moment refl in absurd cc
 
 -- a group that is wanted has no farewell
 not_left_by : (wanted before : Bool) (moment : ℕ) (left : Option ℕ) → wanted ≡ true → cond wanted None (cond before (Some moment) left) ≡ None
@@ -59,7 +59,7 @@ not_left (newest ∷ older) group is = not_left_by (is_wanted (newest ∷ older)
 pub none_kept : (history : List AcceptedCall) (group : Ip) (kept : Option ℕ) → is_wanted history group ≡ true → IsKept history group kept → kept ≡ None
 none_kept history group kept wanted is =
     nothing_kept kept (latest history)
-    (record { honest = λ moment same. sym (not_left history group wanted) ∙ is.honest moment same; there = λ moment same. absurd cc })
+    (record { of_history = λ moment same. sym (not_left history group wanted) ∙ is.of_history moment same; there = λ moment same. absurd cc })
 
 -- what a call makes of a farewell, by whether its group is wanted then and was before
 pub record Follows (wanted before : Bool) (moment : ℕ) (kept after : Option ℕ) : Type 0 where
@@ -70,15 +70,15 @@ pub record Follows (wanted before : Bool) (moment : ℕ) (kept after : Option �
 kept_by : (wanted before : Bool) (at moment : ℕ) (left kept after : Option ℕ) → at ≤ moment → KeptBy left at kept → Follows wanted before moment kept after
     → KeptBy (cond wanted None (cond before (Some moment) left)) moment after
 kept_by true before at moment left kept after onward is follows = record {
-  honest = λ one same. sym (follows.returns refl) ∙ same;
+  of_history = λ one same. sym (follows.returns refl) ∙ same;
   there = λ one same recent. absurd cc;
 }
 kept_by false true at moment left kept after onward is follows = record {
-  honest = λ one same. sym (follows.leaves refl refl) ∙ same;
+  of_history = λ one same. sym (follows.leaves refl refl) ∙ same;
   there = λ one same recent. follows.leaves refl refl ∙ same;
 }
 kept_by false false at moment left kept after onward is follows = record {
-  honest = λ one same. is.honest one (sym (follows.stays refl refl) ∙ same);
+  of_history = λ one same. is.of_history one (sym (follows.stays refl refl) ∙ same);
   there = λ one same recent. follows.stays refl refl ∙ is.there one same (omega arith);
 }
 
@@ -93,7 +93,7 @@ fresh_by : (test : Bool) (left : Option ℕ) (at : ℕ) (kept : Option ℕ) → 
 fresh_by true left at kept due is = is
 fresh_by false left at None due is = is
 fresh_by false left at (Some other) due is = record {
-  honest = λ moment same. absurd cc;
+  of_history = λ moment same. absurd cc;
   there = λ moment same recent. let some = some_is other moment (is.there moment same recent) in let old = leb-false at (other + longest_farewell) due in absurd (omega arith);
 }
 

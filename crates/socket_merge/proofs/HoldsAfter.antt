@@ -3,7 +3,7 @@ use Rattle.std.proofs.Common.{◌≡◌, ℕ, ◌+◌, ◌-◌, ◌≤◌, ◌<�
 use Rattle.std.proofs.lemmas.Bool.{lt-ltb, ltb-true, ltb-false}
 use Rattle.amt_values.specs.declared.address.Ip.{Ip}
 use Rattle.source_filter.specs.Filter.{FilterValue, wants_any}
-use Rattle.socket_merge.specs.History.{AcceptedCall, Change, Close, LeaveAll, Open, Socket, latest, open_sockets, with_call}
+use Rattle.socket_merge.specs.History.{AcceptedCall, Change, Close, LeaveAll, Open, Socket, SocketCall, latest, open_sockets, with_call}
 use Rattle.socket_merge.specs.Interface.{is_wanted, same_group}
 use Rattle.socket_merge.specs.Kept.{left_without, one_where, share_of, tally_changed, tally_fresh, tally_left, tally_with, tally_without}
 use Rattle.socket_merge.specs.Sockets.{IsKept}
@@ -46,6 +46,22 @@ pub none_left : (history : List AcceptedCall) (tally : Ip → Tally) (group : Ip
 none_left history tally group stands wanted =
     none_kept history group (tally group).left (is_wanted-counted history group (tally group) (Counts-of (tally group) group (open_sockets history) (stands.tallied group)) ∙ wanted) (stands.kept group)
 
+-- each group's tally is the next one
+abbrev pub AreNext : AcceptedCall → List AcceptedCall → (Ip → Tally) → (Ip → Tally) → Type 0
+AreNext newest history before after = (group : Ip) → IsNext newest history group (before group) (after group)
+
+unwanted_by : (test : Bool) (kept : Option ℕ) (left : ℕ) → (test ≡ true → kept ≡ None) → kept ≡ Some left → test ≡ false
+unwanted_by true kept left none is = let nothing = sym (none refl) ∙ is in absurd cc
+unwanted_by false kept left none is = refl
+
+-- a farewell that is kept stays where the group isn't wanted again
+pub farewell_stays : (newest : AcceptedCall) (history : List AcceptedCall) (before after : Ip → Tally) → Stands history before → AreNext newest history before after → (group : Ip) (left : ℕ)
+    → (before group).left ≡ Some left → is_wanted (newest ∷ history) group ≡ false → (after group).left ≡ Some left
+farewell_stays newest history before after stands next group left is unwanted =
+    (next group).follows.stays (sym (is_wanted-counted (newest ∷ history) group (after group) (next group).counts) ∙ unwanted)
+    (unwanted_by (ltb 0 (before group).wanting) (before group).left left (none_left history before group stands) is)
+    ∙ is
+
 next_by : (test : Bool) (newest : AcceptedCall) (history : List AcceptedCall) (tally : Ip → Tally) (group other : Ip) (after : Tally) → same_group group other ≡ test → Stands history tally
     → (test ≡ false → (measure : Socket → ℕ) → amount measure other (open_sockets (newest ∷ history)) ≡ amount measure other (open_sockets history))
     → IsNext newest history group (tally group) after → IsNext newest history other (tally other) (cond test after (tally other))
@@ -56,10 +72,14 @@ next_by false newest history tally group other after is stands same next = recor
 }
 
 -- a call that changes one group
-pub Stands-replaced : (newest : AcceptedCall) (history : List AcceptedCall) (tally : Ip → Tally) (group : Ip) (after : Tally) → latest history ≤ newest.moment → Stands history tally
+AreNext-replaced : (newest : AcceptedCall) (history : List AcceptedCall) (tally : Ip → Tally) (group : Ip) (after : Tally) → Stands history tally
+    → AreOthersSame group (open_sockets history) (open_sockets (newest ∷ history)) → IsNext newest history group (tally group) after → AreNext newest history tally (replaced group after tally)
+AreNext-replaced newest history tally group after stands same next other = next_by (same_group group other) newest history tally group other after refl stands (same other) next
+
+Stands-replaced : (newest : AcceptedCall) (history : List AcceptedCall) (tally : Ip → Tally) (group : Ip) (after : Tally) → latest history ≤ newest.moment → Stands history tally
     → AreOthersSame group (open_sockets history) (open_sockets (newest ∷ history)) → IsNext newest history group (tally group) after → Stands (newest ∷ history) (replaced group after tally)
 Stands-replaced newest history tally group after onward stands same next =
-    Stands-next newest history tally (replaced group after tally) onward stands (λ other. next_by (same_group group other) newest history tally group other after refl stands (same other) next)
+    Stands-next newest history tally (replaced group after tally) onward stands (AreNext-replaced newest history tally group after stands same next)
 
 -- tallies that are equal stand for it too
 pub Stands-same : (history : List AcceptedCall) (tally others : Ip → Tally) → ((group : Ip) → others group ≡ tally group) → Stands history tally → Stands history others
@@ -114,14 +134,18 @@ Stands-opened history tally at name group filter stands =
       follows = follows_with (wants_any filter) (max (latest history) at) (tally group).wanting (tally group).left (λ some. none_left history tally group stands (lt-ltb 0 (tally group).wanting some));
     })
 
+-- the next call, as it is read
+abbrev pub read_at : ℕ → SocketCall → List AcceptedCall → AcceptedCall
+read_at at call history = record { moment = max (latest history) at; call = call }
+
 -- a socket is closed
-pub Stands-closed : (history : List AcceptedCall) (tally : Ip → Tally) (at : ℕ) (name : List ℕ) (socket : Socket) → Stands history tally → IsNamed name socket (open_sockets history)
-    → Stands (with_call at (Close name) history) (replaced socket.group (tally_without (max (latest history) at) (share_of socket.filter) (tally socket.group)) tally)
-Stands-closed history tally at name socket stands is =
+pub AreNext-closed : (history : List AcceptedCall) (tally : Ip → Tally) (at : ℕ) (name : List ℕ) (socket : Socket) → Stands history tally → IsNamed name socket (open_sockets history)
+    → AreNext (read_at at (Close name) history) history tally (replaced socket.group (tally_without (max (latest history) at) (share_of socket.filter) (tally socket.group)) tally)
+AreNext-closed history tally at name socket stands is =
     let moment = max (latest history) at in
     let group = socket.group in
     let counts = Counts-of (tally group) group (open_sockets history) (stands.tallied group) in
-    Stands-replaced (record { moment = moment; call = Close name }) history tally group (tally_without moment (share_of socket.filter) (tally group)) (omega arith) stands
+    AreNext-replaced (read_at at (Close name) history) history tally group (tally_without moment (share_of socket.filter) (tally group)) stands
     (others_closed name socket (open_sockets history) is)
     (record {
       counts = Counts-closed name socket (open_sockets history) moment (tally group) is counts;
@@ -129,15 +153,21 @@ Stands-closed history tally at name socket stands is =
           (λ some. none_left history tally group stands (lt-ltb 0 (tally group).wanting (omega arith))) (λ none again. refl);
     })
 
+pub Stands-closed : (history : List AcceptedCall) (tally : Ip → Tally) (at : ℕ) (name : List ℕ) (socket : Socket) → Stands history tally → IsNamed name socket (open_sockets history)
+    → Stands (with_call at (Close name) history) (replaced socket.group (tally_without (max (latest history) at) (share_of socket.filter) (tally socket.group)) tally)
+Stands-closed history tally at name socket stands is =
+    Stands-next (read_at at (Close name) history) history tally (replaced socket.group (tally_without (max (latest history) at) (share_of socket.filter) (tally socket.group)) tally) (omega arith) stands
+    (AreNext-closed history tally at name socket stands is)
+
 -- a socket has another filter
-pub Stands-changed : (history : List AcceptedCall) (tally : Ip → Tally) (at : ℕ) (name : List ℕ) (filter : FilterValue) (socket : Socket) → Stands history tally → IsNamed name socket (open_sockets history)
-    → Stands (with_call at (Change name filter) history)
+pub AreNext-changed : (history : List AcceptedCall) (tally : Ip → Tally) (at : ℕ) (name : List ℕ) (filter : FilterValue) (socket : Socket) → Stands history tally → IsNamed name socket (open_sockets history)
+    → AreNext (read_at at (Change name filter) history) history tally
     (replaced socket.group (tally_changed (max (latest history) at) (share_of socket.filter) (share_of filter) (tally socket.group)) tally)
-Stands-changed history tally at name filter socket stands is =
+AreNext-changed history tally at name filter socket stands is =
     let moment = max (latest history) at in
     let group = socket.group in
     let counts = Counts-of (tally group) group (open_sockets history) (stands.tallied group) in
-    Stands-replaced (record { moment = moment; call = Change name filter }) history tally group (tally_changed moment (share_of socket.filter) (share_of filter) (tally group)) (omega arith) stands
+    AreNext-replaced (read_at at (Change name filter) history) history tally group (tally_changed moment (share_of socket.filter) (share_of filter) (tally group)) stands
     (others_changed name filter socket (open_sockets history) is)
     (record {
       counts = Counts-changed name filter socket (open_sockets history) moment (tally group) is counts;
@@ -145,16 +175,27 @@ Stands-changed history tally at name filter socket stands is =
           (λ some. none_left history tally group stands (lt-ltb 0 (tally group).wanting some));
     })
 
+pub Stands-changed : (history : List AcceptedCall) (tally : Ip → Tally) (at : ℕ) (name : List ℕ) (filter : FilterValue) (socket : Socket) → Stands history tally → IsNamed name socket (open_sockets history)
+    → Stands (with_call at (Change name filter) history)
+    (replaced socket.group (tally_changed (max (latest history) at) (share_of socket.filter) (share_of filter) (tally socket.group)) tally)
+Stands-changed history tally at name filter socket stands is =
+    Stands-next (read_at at (Change name filter) history) history tally
+    (replaced socket.group (tally_changed (max (latest history) at) (share_of socket.filter) (share_of filter) (tally socket.group)) tally) (omega arith) stands
+    (AreNext-changed history tally at name filter socket stands is)
+
 -- every socket is closed
+pub AreNext-left : (history : List AcceptedCall) (tally : Ip → Tally) (at : ℕ) → AreNext (read_at at LeaveAll history) history tally (λ group. tally_left (max (latest history) at) (tally group))
+AreNext-left history tally at group =
+    let moment = max (latest history) at in
+    record {
+      counts = Counts-left moment group (tally group);
+      follows = follows_without moment (tally group).wanting 0 (tally group).left (tally group).left (λ some. absurd (omega arith)) (λ none again. refl);
+    }
+
 pub Stands-left : (history : List AcceptedCall) (tally : Ip → Tally) (at : ℕ) → Stands history tally
     → Stands (with_call at LeaveAll history) (λ group. tally_left (max (latest history) at) (tally group))
 Stands-left history tally at stands =
-    let moment = max (latest history) at in
-    Stands-next (record { moment = moment; call = LeaveAll }) history tally (λ group. tally_left moment (tally group)) (omega arith) stands
-    (λ group. record {
-      counts = Counts-left moment group (tally group);
-      follows = follows_without moment (tally group).wanting 0 (tally group).left (tally group).left (λ some. absurd (omega arith)) (λ none again. refl);
-    })
+    Stands-next (read_at at LeaveAll history) history tally (λ group. tally_left (max (latest history) at) (tally group)) (omega arith) stands (AreNext-left history tally at)
 
 -- farewells that can't be due any more are dropped
 pub Stands-fresh : (history : List AcceptedCall) (tally : Ip → Tally) → Stands history tally → Stands history (λ group. tally_fresh (latest history) (tally group))

@@ -23,7 +23,7 @@ use Rattle.group_records.specs.declared.family.Family.TheVariants.{V4, V6}
 use Rattle.socket_merge.specs.FullReport.{is_empty, longest_farewell}
 use Rattle.socket_merge.specs.History.{AcceptedCall, Change, Close, LeaveAll, Open, Socket, SocketCall, group_opened, groups_opened, latest, open_sockets, refiltered, sockets_after}
 use Rattle.socket_merge.specs.Interface.{is_wanted, left_at, on_group, same_group}
-use Rattle.socket_merge.specs.Kept.{AreOrdered, HasTally, has_place_by, left_without, octets_besides, octets_in, octets_of, raw_octets, tally_at, tally_fresh, tally_left, tally_of, tally_without}
+use Rattle.socket_merge.specs.Kept.{AreNeeded, HasTally, has_place_by, left_without, octets_besides, octets_in, octets_of, raw_octets, tally_at, tally_fresh, tally_left, tally_of, tally_without}
 use Rattle.socket_merge.specs.Refusal.{family_of, has_place, may_be_due, raw_record, raw_report_length, raw_sources}
 use Rattle.socket_merge.specs.declared.stored.Share.{Share}
 use Rattle.socket_merge.specs.declared.stored.Tally.{Tally}
@@ -177,12 +177,12 @@ none_absent : (family : Family) (moment : ℕ) (tallies : List (Ip × Tally)) (g
 none_absent family moment tallies group absent = octets_in-none family moment group (tally_at tallies group) (HasNone-absent tallies group absent)
 
 -- the octets by the tallies are those of the raw report
-pub octets-raw : (family : Family) (history : List AcceptedCall) (tallies : List (Ip × Tally)) → AreOrdered tallies → Stands history (tally_at tallies)
+pub octets-raw : (family : Family) (history : List AcceptedCall) (tallies : List (Ip × Tally)) → AreNeeded tallies → Stands history (tally_at tallies)
     → octets_of family (latest history) tallies ≡ raw_report_length family history
 octets-raw family history tallies ordered stands =
     let octets : Ip → ℕ = λ group. octets_in family (latest history) (group, tally_at tallies group) in
     let groups = ascending ip_order (groups_opened history) in
-    let alike = sum_by-alike octets (keys_of tallies) groups ordered (IsAscending-ascending ip_order-total (groups_opened history)) (none_absent family (latest history) tallies)
+    let alike = sum_by-alike octets (keys_of tallies) groups ordered.ordered (IsAscending-ascending ip_order-total (groups_opened history)) (none_absent family (latest history) tallies)
     (none_opened family history (tally_at tallies) stands) in
     omega (arith, sum_by-keys (octets_in family (latest history)) tallies ordered, alike, raw-by_groups family history (tally_at tallies) stands)
 
@@ -198,7 +198,7 @@ nothing_besides true octets none = refl
 nothing_besides false octets none = none
 
 -- octets where the tally of one group is another one, over any list of the groups that have some
-octets-replaced : (family : Family) (moment : ℕ) (tallies : List (Ip × Tally)) (group : Ip) (after : Tally) (groups : List Ip) (now : Ip → Tally) → AreOrdered tallies → IsAscending ip_order groups
+octets-replaced : (family : Family) (moment : ℕ) (tallies : List (Ip × Tally)) (group : Ip) (after : Tally) (groups : List Ip) (now : Ip → Tally) → AreNeeded tallies → IsAscending ip_order groups
     → has ip_order groups group ≡ true → ((other : Ip) → now other ≡ replaced group after (tally_at tallies) other)
     → ((other : Ip) → has ip_order groups other ≡ false → octets_in family moment (other, now other) ≡ 0)
     → 8 + sum_by (λ other. octets_in family moment (other, now other)) groups ≡ octets_besides family moment group tallies + octets_in family moment (group, after)
@@ -209,7 +209,7 @@ octets-replaced family moment tallies group after groups now ordered ascends som
     let others : (other : Ip) → besides group octets other ≡ besides group before other = λ other.
     ap (λ (tally : Tally). cond (same_group group other) 0 (octets_in family moment (other, tally))) (is other)
     ∙ others_by (same_group group other) (λ tally. octets_in family moment (other, tally)) after (tally_at tallies other) in
-    let alike = sum_by-alike (besides group before) groups (keys_of tallies) ascends ordered
+    let alike = sum_by-alike (besides group before) groups (keys_of tallies) ascends ordered.ordered
     (λ other absent. sym (others other) ∙ nothing_besides (same_group group other) (octets other) (none other absent))
     (λ other absent. nothing_besides (same_group group other) (before other) (none_absent family moment tallies other absent)) in
     omega (
@@ -222,7 +222,7 @@ octets-replaced family moment tallies group after groups now ordered ascends som
     )
 
 -- the raw report after a call that changes one group
-pub raw-replaced : (family : Family) (history : List AcceptedCall) (tallies : List (Ip × Tally)) (group : Ip) (after : Tally) → AreOrdered tallies → Stands history (replaced group after (tally_at tallies))
+pub raw-replaced : (family : Family) (history : List AcceptedCall) (tallies : List (Ip × Tally)) (group : Ip) (after : Tally) → AreNeeded tallies → Stands history (replaced group after (tally_at tallies))
     → has ip_order (groups_opened history) group ≡ true
     → raw_report_length family history ≡ octets_besides family (latest history) group tallies + octets_in family (latest history) (group, after)
 raw-replaced family history tallies group after ordered stands some =
@@ -241,13 +241,13 @@ pub has_entry : (tallies : List (Ip × Tally)) (group : Ip) → 0 < (tally_at ta
 has_entry tallies group some = listed_by (has ip_order (keys_of tallies) group) (tally_at tallies group).sockets (λ absent. (HasNone-absent tallies group absent).sockets) some
 
 -- the octets by the tallies after it
-pub octets-after : (family : Family) (moment : ℕ) (before after : List (Ip × Tally)) (group : Ip) (tally : Tally) → AreOrdered before → AreOrdered after → HasTally group tally before after
+pub octets-after : (family : Family) (moment : ℕ) (before after : List (Ip × Tally)) (group : Ip) (tally : Tally) → AreNeeded before → AreNeeded after → HasTally group tally before after
     → 0 < tally.sockets → octets_of family moment after ≡ octets_besides family moment group before + octets_in family moment (group, tally)
 octets-after family moment before after group tally ordered again is some =
     let own : tally_at after group ≡ tally = is group ∙ own_after group tally (tally_at before) in
     let number = ap (λ (one : Tally). one.sockets) own in
     ap (λ (total : ℕ). 8 + total) (sum_by-keys (octets_in family moment) after again)
-    ∙ octets-replaced family moment before group tally (keys_of after) (tally_at after) ordered again (has_entry after group (omega (arith, number))) is (none_absent family moment after)
+    ∙ octets-replaced family moment before group tally (keys_of after) (tally_at after) ordered again.ordered (has_entry after group (omega (arith, number))) is (none_absent family moment after)
 
 octets_own : (of place : Bool) (octets : ℕ) → of ≡ true → place ≡ true → cond (of && place) octets 0 ≡ octets
 octets_own true true octets first second = refl
@@ -300,14 +300,14 @@ octets_in-le family earlier later group before after less =
     (raw_octets-le family after.sources before.sources less.sources)
 
 -- the octets fall where each tally does
-pub octets-fall : (family : Family) (earlier later : ℕ) (before after : List (Ip × Tally)) → AreOrdered before → AreOrdered after
+pub octets-fall : (family : Family) (earlier later : ℕ) (before after : List (Ip × Tally)) → AreNeeded before → AreNeeded after
     → ((group : Ip) → IsLess earlier later (tally_at before group) (tally_at after group)) → octets_of family later after ≤ octets_of family earlier before
 octets-fall family earlier later before after ordered again less =
     omega (
       arith,
       sum_by-keys (octets_in family later) after again,
       sum_by-keys (octets_in family earlier) before ordered,
-      sum_by-within (λ group. octets_in family later (group, tally_at after group)) (λ group. octets_in family earlier (group, tally_at before group)) (keys_of after) (keys_of before) again ordered
+      sum_by-within (λ group. octets_in family later (group, tally_at after group)) (λ group. octets_in family earlier (group, tally_at before group)) (keys_of after) (keys_of before) again.ordered ordered.ordered
           (λ group. octets_in-le family earlier later group (tally_at before group) (tally_at after group) (less group)) (none_absent family earlier before),
     )
 

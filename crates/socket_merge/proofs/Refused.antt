@@ -8,7 +8,7 @@ use Rattle.contract_words.specs.Conditions.{Conditions, first_holding}
 use Rattle.contract_words.proofs.ConditionLaws.{NoneHolds-of}
 use Rattle.source_filter.specs.Filter.{FilterValue}
 use Rattle.socket_merge.specs.History.{AcceptedCall, Change, Open, Socket, groups_opened, latest, open_sockets, socket_named, with_call}
-use Rattle.socket_merge.specs.Kept.{AreOrdered, octets_besides, raw_octets, share_of, tally_at, tally_changed, tally_of, tally_with}
+use Rattle.socket_merge.specs.Kept.{AreNeeded, octets_besides, raw_octets, share_of, tally_at, tally_changed, tally_of, tally_with}
 use Rattle.socket_merge.specs.Refusal.{change_conditions, family_of, is_open, limit_conditions, limits_after, raw_report_length, raw_sources, refusal_of}
 use Rattle.socket_merge.specs.Sockets.{AnswersRefusal}
 use Rattle.socket_merge.specs.declared.fault.SocketFault.{SocketFault}
@@ -24,7 +24,7 @@ abbrev pub limits_of : ℕ → Ip → List (Ip × Tally) → ℕ → Conditions 
 limits_of later group tallies sources = limit_conditions sources (octets_besides (family_of group) later group tallies + raw_octets (family_of group) sources)
 
 -- the limits after a call that changes one group, by its tally then
-limits_are : (history : List AcceptedCall) (tallies : List (Ip × Tally)) (group : Ip) (after : Tally) → AreOrdered tallies → Stands history (replaced group after (tally_at tallies))
+limits_are : (history : List AcceptedCall) (tallies : List (Ip × Tally)) (group : Ip) (after : Tally) → AreNeeded tallies → Stands history (replaced group after (tally_at tallies))
     → has ip_order (groups_opened history) group ≡ true → 0 < after.sockets → limits_after group history ≡ limits_of (latest history) group tallies after.sources
 limits_are history tallies group after ordered stands opened some =
     let sources : length (raw_sources group (open_sockets history)) ≡ after.sources =
@@ -40,7 +40,7 @@ unfolding refusal_of
 refusal-taken at name group filter history taken = ap (λ (test : Bool). cond test (Some Taken) (first_holding (limits_after group (with_call at (Open name group filter) history)))) taken
 
 -- a limit that a new socket passes
-pub refusal-opened : (at : ℕ) (name : List ℕ) (group : Ip) (filter : FilterValue) (history : List AcceptedCall) (tallies : List (Ip × Tally)) → AreOrdered tallies → Stands history (tally_at tallies)
+pub refusal-opened : (at : ℕ) (name : List ℕ) (group : Ip) (filter : FilterValue) (history : List AcceptedCall) (tallies : List (Ip × Tally)) → AreNeeded tallies → Stands history (tally_at tallies)
     → is_open name history ≡ false
     → refusal_of at (Open name group filter) history ≡ first_holding (limits_of (max (latest history) at) group tallies ((tally_at tallies group).sources + length filter.sources))
 unfolding refusal_of
@@ -65,7 +65,7 @@ opened_before history name socket named =
     (CountsOne-of name socket (open_sockets history) tally named counts).number
 
 -- a limit that another filter passes
-pub refusal-changed : (at : ℕ) (name : List ℕ) (filter : FilterValue) (socket : Socket) (history : List AcceptedCall) (tallies : List (Ip × Tally)) → AreOrdered tallies
+pub refusal-changed : (at : ℕ) (name : List ℕ) (filter : FilterValue) (socket : Socket) (history : List AcceptedCall) (tallies : List (Ip × Tally)) → AreNeeded tallies
     → Stands history (tally_at tallies) → IsNamed name socket (open_sockets history)
     → refusal_of at (Change name filter) history
     ≡ first_holding (limits_of (max (latest history) at) socket.group tallies ((tally_at tallies socket.group).sources - length socket.filter.sources + length filter.sources))

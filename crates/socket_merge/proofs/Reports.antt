@@ -23,7 +23,7 @@ use Rattle.group_records.specs.declared.family.Family.TheVariants.{V4, V6}
 use Rattle.socket_merge.specs.FullReport.{farewell, full_on, full_report_of, is_empty, is_quiet, is_recent, longest_farewell, states}
 use Rattle.socket_merge.specs.History.{AcceptedCall, Socket, groups_opened, latest, open_sockets}
 use Rattle.socket_merge.specs.Interface.{filters_on, interface, is_wanted, left_at, on_group, same_group}
-use Rattle.socket_merge.specs.Kept.{AreOrdered, IsConsistent, has_place_by, octets_in, octets_of, raw_octets, said_of, some_recent, tally_at}
+use Rattle.socket_merge.specs.Kept.{AreNeeded, IsConsistent, has_place_by, octets_in, octets_of, raw_octets, said_of, some_recent, tally_at}
 use Rattle.socket_merge.specs.Refusal.{family_of, may_be_due}
 use Rattle.socket_merge.specs.declared.stored.Tally.{Tally}
 use Rattle.socket_merge.proofs.ByGroup.{flat_map-keys, flat_map-same, list_any-keys, sum_by-keys, tally_at-absent}
@@ -82,7 +82,7 @@ recent-is history tally at keep group stands onward =
     is_recent-kept (left_at history group) (tally group).left (latest history) at keep (KeptBy-of history group (tally group).left (stands.kept group)) onward
 
 -- some farewell lasts by the tallies where one does by the history
-pub some_recent-is : (history : List AcceptedCall) (tallies : List (Ip × Tally)) (at keep : ℕ) → AreOrdered tallies → Stands history (tally_at tallies) → latest history ≤ at
+pub some_recent-is : (history : List AcceptedCall) (tallies : List (Ip × Tally)) (at keep : ℕ) → AreNeeded tallies → Stands history (tally_at tallies) → latest history ≤ at
     → some_recent at keep tallies ≡ list_any (λ group. is_recent at keep (left_at history group)) (groups_opened history)
 some_recent-is history tallies at keep ordered stands onward =
     let lasts : Ip → Bool = λ group. is_recent at keep (left_at history group) in
@@ -94,7 +94,7 @@ some_recent-is history tallies at keep ordered stands onward =
     (λ group yes. passes_by (has ip_order (groups_opened history) group) (lasts group) (λ none. ap (is_recent at keep) (never_left history group none)) yes)
 
 -- no socket and no farewell by the tallies
-pub is_quiet-by : (history : List AcceptedCall) (sockets : List Socket) (tallies : List (Ip × Tally)) (at keep : ℕ) → AreOrdered tallies → Stands history (tally_at tallies) → latest history ≤ at
+pub is_quiet-by : (history : List AcceptedCall) (sockets : List Socket) (tallies : List (Ip × Tally)) (at keep : ℕ) → AreNeeded tallies → Stands history (tally_at tallies) → latest history ≤ at
     → sockets ≡ open_sockets history → (is_empty sockets && not (some_recent at keep tallies)) ≡ is_quiet history at keep
 is_quiet-by history sockets tallies at keep ordered stands onward same =
     ap (λ (all : List Socket). is_empty all && not (some_recent at keep tallies)) same
@@ -143,7 +143,7 @@ said-none family sockets at keep group tally none left =
     nothing_said (is_of_family family group) (ltb 0 tally.wanting) (is_recent at keep tally.left) group (merged (filters_on group sockets)) (ap (ltb 0) none) (ap (is_recent at keep) left)
 
 -- what the tallies say is the full report
-pub full_report-is : (family : Family) (history : List AcceptedCall) (sockets : List Socket) (tallies : List (Ip × Tally)) (at keep : ℕ) → AreOrdered tallies → Stands history (tally_at tallies)
+pub full_report-is : (family : Family) (history : List AcceptedCall) (sockets : List Socket) (tallies : List (Ip × Tally)) (at keep : ℕ) → AreNeeded tallies → Stands history (tally_at tallies)
     → latest history ≤ at → sockets ≡ open_sockets history → flat_map (said_of family sockets at keep) tallies ≡ full_report_of family history at keep
 unfolding full_report_of
 full_report-is family history sockets tallies at keep ordered stands onward same =
@@ -159,7 +159,7 @@ full_report-is family history sockets tallies at keep ordered stands onward same
     let number = none.sockets in
     said-none family sockets at keep group (tally_at tallies group) (omega arith) none.left in
     flat_map-keys (said_of family sockets at keep) tallies ordered
-    ∙ flat_map-same said (keys_of tallies) groups ordered (IsAscending-ascending ip_order-total (groups_opened history)) in_keys in_groups
+    ∙ flat_map-same said (keys_of tallies) groups ordered.ordered (IsAscending-ascending ip_order-total (groups_opened history)) in_keys in_groups
     ∙ flat_map-agree said (λ group. cond (is_of_family family group) (full_on history at keep group) []) groups (λ group. said-is family history sockets (tally_at tallies) at keep group stands onward same)
     ∙ sym (flat_map-filter (full_on history at keep) (is_of_family family) groups)
 
@@ -197,7 +197,7 @@ said-forwarded family moment at keep sockets tallies consistent =
     All-said Forwarded (is_of_family family group) (ltb 0 tally.wanting) (is_recent at keep tally.left) group (merged (filters_on group sockets))
     (λ of wanted. some (ap (λ (test : Bool). test || is_some tally.left) wanted))
     (λ of lasts. some (or_there (ltb 0 tally.wanting) (is_some tally.left) (recent_some at keep tally.left lasts))) in
-    subst (All Forwarded) (sym (flat_map-keys (said_of family sockets at keep) tallies consistent.ordered))
+    subst (All Forwarded) (sym (flat_map-keys (said_of family sockets at keep) tallies consistent.needed))
     (All-flat_map Forwarded (λ group. said_of family sockets at keep (group, tally_at tallies group)) (keys_of tallies) each)
 
 -- the sources of the filter are of the family
@@ -228,7 +228,7 @@ said-of_family family moment at keep sockets tallies consistent =
       group = of;
       sources = All-merged (λ source. is_of_family family source ≡ true) (filters_on group sockets) (filters_of_family family group sockets of consistent.family);
     }) (λ of lasts. record { group = of; sources = All-nil (λ source. is_of_family family source ≡ true) }) in
-    subst (All (IsOfFamily family)) (sym (flat_map-keys (said_of family sockets at keep) tallies consistent.ordered))
+    subst (All (IsOfFamily family)) (sym (flat_map-keys (said_of family sockets at keep) tallies consistent.needed))
     (All-flat_map (IsOfFamily family) (λ group. said_of family sockets at keep (group, tally_at tallies group)) (keys_of tallies) each)
 
 -- the octets of a record
@@ -277,11 +277,11 @@ said-short family moment at keep sockets tallies consistent onward =
     said_less family (is_of_family family group) (ltb 0 tally.wanting) (is_recent at keep tally.left) (has_place_by moment tally) group (merged (filters_on group sockets)) tally.sources few
     (λ wanted. let some = ltb-true 0 tally.wanting wanted in ap (λ (test : Bool). test || may_be_due moment tally.left) (lt-ltb 0 tally.sockets (omega arith)))
     (λ lasts. or_there (ltb 0 tally.sockets) (may_be_due moment tally.left) (due_where_recent moment at keep tally.left onward lasts)) in
-    let total = ap (sum_by (octets_of_record family)) (flat_map-keys (said_of family sockets at keep) tallies consistent.ordered) in
+    let total = ap (sum_by (octets_of_record family)) (flat_map-keys (said_of family sockets at keep) tallies consistent.needed) in
     omega (
       arith,
       total,
       sum_by-flat_map (octets_of_record family) said (keys_of tallies),
       sum_by-le-sum_by (λ group. sum_by (octets_of_record family) (said group)) (λ group. octets_in family moment (group, tally_at tallies group)) (keys_of tallies) each,
-      sum_by-keys (octets_in family moment) tallies consistent.ordered,
+      sum_by-keys (octets_in family moment) tallies consistent.needed,
     )

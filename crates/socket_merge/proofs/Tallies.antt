@@ -129,21 +129,21 @@ module _ (by : Ip → Ip → Ordering) (compared : by ≡ ip_order) (m n : BTree
   ordered_by : IsOrdered by n → IsOrdered ip_order n
   ordered_by ordered = subst (λ (order : Ip → Ip → Ordering). IsOrdered order n) compared ordered
 
-  needed : IsOrdered by n → All NotBlank (values_of n.entries) → AreNeeded n
+  needed : IsOrdered by n → All NotBlank (values_of n.entries) → AreNeeded n.entries
   needed ordered some = record { ordered = ordered_by ordered; some = All-unmapped NotBlank (λ (e : Ip × Tally). e.1) n.entries some }
 
-  values_some : AreNeeded m → All NotBlank (values_of m.entries)
+  values_some : AreNeeded m.entries → All NotBlank (values_of m.entries)
   values_some is = All-map NotBlank (λ (e : Ip × Tally). e.1) m.entries is.some
 
-  pub AreNeeded-put : (group : Ip) (tally : Tally) → is_blank tally ≡ false → AreNeeded m → IsOrdered by n → n.entries ≡ insert_entry by m.entries group tally → AreNeeded n
+  pub AreNeeded-put : (group : Ip) (tally : Tally) → is_blank tally ≡ false → AreNeeded m.entries → IsOrdered by n → n.entries ≡ insert_entry by m.entries group tally → AreNeeded n.entries
   AreNeeded-put group tally some is ordered entries =
       needed ordered (subst (λ (es : List (Ip × Tally)). All NotBlank (values_of es)) (sym entries) (All-values-insert_entry by group tally NotBlank m.entries (values_some is) some))
 
-  pub AreNeeded-gone : (test : Ip → Bool) → AreNeeded m → IsOrdered by n → n.entries ≡ remove_entry test m.entries → AreNeeded n
+  pub AreNeeded-gone : (test : Ip → Bool) → AreNeeded m.entries → IsOrdered by n → n.entries ≡ remove_entry test m.entries → AreNeeded n.entries
   AreNeeded-gone test is ordered entries =
       needed ordered (subst (λ (es : List (Ip × Tally)). All NotBlank (values_of es)) (sym entries) (All-map-remove_entry test (λ (e : Ip × Tally). e.1) NotBlank m.entries (values_some is)))
 
-  pub AreNeeded-set : (test : Ip → Bool) (tally : Tally) → is_blank tally ≡ false → AreNeeded m → IsOrdered by n → n.entries ≡ set_value test m.entries tally → AreNeeded n
+  pub AreNeeded-set : (test : Ip → Bool) (tally : Tally) → is_blank tally ≡ false → AreNeeded m.entries → IsOrdered by n → n.entries ≡ set_value test m.entries tally → AreNeeded n.entries
   AreNeeded-set test tally some is ordered entries =
       needed ordered (subst (λ (es : List (Ip × Tally)). All NotBlank (values_of es)) (sym entries) (All-values-set_value test NotBlank m.entries tally (values_some is) some))
 
@@ -203,7 +203,7 @@ not_blank true is = cc
 not_blank false is = refl
 
 -- only needed entries are kept
-pub AreNeeded-kept : (by : Ip → Ip → Ordering) → by ≡ ip_order → (n : BTreeMap Ip Tally) (es : List (Ip × Tally)) → IsOrdered by n → n.entries ≡ filter (λ (e : Ip × Tally). is_kept e.1) es → AreNeeded n
+pub AreNeeded-kept : (by : Ip → Ip → Ordering) → by ≡ ip_order → (n : BTreeMap Ip Tally) (es : List (Ip × Tally)) → IsOrdered by n → n.entries ≡ filter (λ (e : Ip × Tally). is_kept e.1) es → AreNeeded n.entries
 AreNeeded-kept by compared n es ordered entries = record {
   ordered = subst (λ (order : Ip → Ip → Ordering). IsOrdered order n) compared ordered;
   some = subst (All (λ (e : Ip × Tally). is_blank e.1 ≡ false)) (sym entries)

@@ -1,6 +1,5 @@
 -- How sockets are kept: by name, with a tally of each group. No public contract says these words.
-use Rattle.std.specs.Prelude.{◌≡◌, ℕ, ◌+◌, ◌-◌, ◌*◌, ◌^◌, ◌<◌, ◌≤◌, nat_lt, not, ◌&&◌, ◌||◌, Bool, true, false, is_some, List, [], ◌∷◌, length, All, sum_by, count_by, Option, Some, None, if◌then◌else◌}
-use Rattle.std.specs.BTreeMap.{BTreeMap, IsOrdered}
+use Rattle.std.specs.Prelude.{◌≡◌, ℕ, ◌+◌, ◌-◌, ◌*◌, ◌^◌, ◌<◌, ◌≤◌, nat_lt, not, ◌&&◌, ◌||◌, Bool, true, false, is_some, List, [], ◌∷◌, ◌++◌, length, map, All, sum_by, count_by, Option, Some, None, if◌then◌else◌}
 use Rattle.std.specs.Global.{Vec}
 use Rattle.std.specs.List.{filter_map, find, list_any}
 use Rattle.std.specs.Map.{keys_of}
@@ -8,7 +7,7 @@ use Rattle.std.specs.Option.{option_map, unwrap_or}
 use Rattle.amt_values.specs.declared.address.Ip.{Ip}
 use Rattle.amt_values.specs.Group.{is_forwardable}
 use Rattle.amt_values.specs.Order.{ip_order}
-use Rattle.contract_words.specs.Ascending.{IsAscending}
+use Rattle.contract_words.specs.Ascending.{IsAscending, ascending}
 use Rattle.source_filter.specs.Filter.{FilterValue, wants_any}
 use Rattle.source_filter.specs.Merging.{merged}
 use Rattle.source_filter.specs.declared.record.Record.{Record}
@@ -20,7 +19,7 @@ use Rattle.socket_merge.specs.FullReport.{farewell, is_recent, states}
 use Rattle.socket_merge.specs.History.{Socket, same_name}
 use Rattle.socket_merge.specs.Interface.{filters_on, on_group, same_group}
 use Rattle.socket_merge.specs.Refusal.{may_be_due}
-use Rattle.socket_merge.specs.Sockets.{AreOfGroup, Farewell}
+use Rattle.socket_merge.specs.Sockets.{AreOfGroup, Farewell, left_in}
 use Rattle.socket_merge.specs.declared.stored.Share.{Share}
 use Rattle.socket_merge.specs.declared.stored.StoredSocket.{StoredSocket}
 use Rattle.socket_merge.specs.declared.stored.Tally.{Tally}
@@ -124,9 +123,9 @@ abbrev pub HasTallies : (Tally → Tally) → List (Ip × Tally) → List (Ip ×
 HasTallies to before after = (group : Ip) → tally_at after group ≡ to (tally_at before group)
 
 -- the tallies ascend by group, and each has a socket or a farewell
-pub record AreNeeded (tallies : BTreeMap Ip Tally) : Type 0 where
-  pub ordered : IsOrdered ip_order tallies
-  pub some : All (λ entry. is_blank entry.1 ≡ false) tallies.entries
+pub record AreNeeded (tallies : List (Ip × Tally)) : Type 0 where
+  pub ordered : IsAscending ip_order (keys_of tallies)
+  pub some : All (λ entry. is_blank entry.1 ≡ false) tallies
 
 -- the farewell of an entry
 abbrev pub farewell_of : Ip × Tally → Option Farewell
@@ -169,17 +168,24 @@ said_of family sockets at keep entry =
 abbrev pub some_recent : ℕ → ℕ → List (Ip × Tally) → Bool
 some_recent at keep tallies = list_any (λ entry. is_recent at keep entry.1.left) tallies
 
--- the tallies ascend by group
-abbrev pub AreOrdered : List (Ip × Tally) → Type 0
-AreOrdered tallies = IsAscending ip_order (keys_of tallies)
+-- the tallies that sockets and farewells come to
+abbrev pub tallies_of : List Socket → List Farewell → List (Ip × Tally)
+tallies_of sockets farewells =
+    map (λ group. (group, tally_of (left_in farewells group) group sockets))
+    (ascending ip_order (map (λ socket. socket.group) sockets ++ map (λ one. one.group) farewells))
 
 -- The tallies are those of the sockets, of which no two have one name. The groups are forwarded, the
 -- sources are of their families, and the raw report of either family is within the limits.
 pub record IsConsistent (moment : ℕ) (sockets : List Socket) (tallies : List (Ip × Tally)) : Type 0 where
-  pub ordered : AreOrdered tallies
+  pub needed : AreNeeded tallies
   pub tallied : (group : Ip) → tally_at tallies group ≡ tally_of (tally_at tallies group).left group sockets
   pub apart : (name : List ℕ) → count_by (λ socket. same_name name socket.name) sockets ≤ 1
   pub forwarded : (group : Ip) → is_blank (tally_at tallies group) ≡ false → is_forwardable group ≡ true
   pub family : All (λ socket. AreOfGroup socket.group socket.filter) sockets
   pub few : (group : Ip) → (tally_at tallies group).sources ≤ 32
   pub short : (family : Family) → octets_of family moment tallies ≤ 1400
+
+-- the same, and the tallies are no more than the sockets and farewells come to
+pub record IsSound (moment : ℕ) (sockets : List Socket) (tallies : List (Ip × Tally)) : Type 0 where
+  pub consistent : IsConsistent moment sockets tallies
+  pub back : tallies_of sockets (farewells_in tallies) ≡ tallies

@@ -1,6 +1,6 @@
 -- Which socket calls are refused: the sockets of a host may list only so many sources that a full
 -- report of either family is one datagram, even where merging saves nothing.
-use Rattle.std.specs.Prelude.{ℕ, ◌+◌, not, nat_le, nat_lt, ◌||◌, Bool, true, false, is_some, List, [], ◌∷◌, length, map, Option, Some, None}
+use Rattle.std.specs.Prelude.{ℕ, ◌+◌, ◌≤◌, not, nat_le, nat_lt, ◌||◌, Bool, true, false, is_some, List, [], ◌∷◌, length, map, Option, Some, None}
 use Rattle.std.specs.List.{filter, flat_map}
 use Rattle.amt_values.specs.declared.address.Ip.{Ip}
 use Rattle.amt_values.specs.declared.address.Ip.TheVariants.{V4 as Address4, V6 as Address6}
@@ -47,6 +47,16 @@ raw_report family history =
 -- the number of its octets (RFC 3376, section 4.2; RFC 3810, section 5.2)
 unfoldable pub raw_report_length : Family → List AcceptedCall → ℕ
 raw_report_length family history = report_length family (raw_report family history)
+
+-- both counts are within their limits
+pub record IsWithinLimits (history : List AcceptedCall) : Type 0 where
+  pub sources : (group : Ip) → length (raw_sources group (open_sockets history)) ≤ 32
+  pub octets : (family : Family) → raw_report_length family history ≤ 1400
+
+-- neither count that is limited grows from one history to the other
+pub record FillsNoMore (before after : List AcceptedCall) : Type 0 where
+  pub sources : (group : Ip) → length (raw_sources group (open_sockets after)) ≤ length (raw_sources group (open_sockets before))
+  pub octets : (family : Family) → raw_report_length family after ≤ raw_report_length family before
 
 -- the limits, in the order in which they are tried, by the number of a group's raw sources and the
 -- octets of the raw report of its family

@@ -1,5 +1,5 @@
 -- What the sockets of a host stand for.
-use Rattle.std.specs.Prelude.{◌≡◌, ℕ, ◌+◌, ◌≤◌, true, List, All, Option, Some, Result, IfErr}
+use Rattle.std.specs.Prelude.{◌≡◌, ℕ, ◌+◌, ◌≤◌, true, false, List, All, Option, Some, Result, IfErr}
 use Rattle.std.specs.List.{find}
 use Rattle.std.specs.Option.{option_map}
 use Rattle.amt_values.specs.declared.address.Ip.{Ip}
@@ -7,7 +7,7 @@ use Rattle.contract_words.specs.Answer.{TellsCause}
 use Rattle.source_filter.specs.Filter.{FilterValue}
 use Rattle.group_records.specs.Written.{is_of_family}
 use Rattle.socket_merge.specs.History.{AcceptedCall, Socket, latest, open_sockets, socket_named}
-use Rattle.socket_merge.specs.Interface.{left_at, same_group}
+use Rattle.socket_merge.specs.Interface.{is_wanted, left_at, same_group}
 use Rattle.socket_merge.specs.FullReport.{longest_farewell}
 use Rattle.socket_merge.specs.Refusal.{family_of}
 use Rattle.socket_merge.specs.declared.fault.SocketFault.{SocketFault}
@@ -32,14 +32,15 @@ left_in farewells group = option_map (λ one. one.left) (find (λ one. same_grou
 -- A farewell that is kept is when the group was left; and where that was not too long before the
 -- newest call, it is kept.
 pub record IsKept (history : List AcceptedCall) (group : Ip) (kept : Option ℕ) : Type 0 where
-  pub honest : (left : ℕ) → kept ≡ Some left → left_at history group ≡ Some left
+  pub of_history : (left : ℕ) → kept ≡ Some left → left_at history group ≡ Some left
   pub there : (left : ℕ) → left_at history group ≡ Some left → latest history ≤ left + longest_farewell → kept ≡ Some left
 
--- the sockets stand for the history
+-- the sockets stand for the history: of each group, what is kept of its farewell, and each farewell
 pub record SocketsHold (value : SocketsValue) (history : List AcceptedCall) : Type 0 where
   pub moment : value.moment ≡ latest history
   pub sockets : value.sockets ≡ open_sockets history
   pub farewells : (group : Ip) → IsKept history group (left_in value.farewells group)
+  pub each : All (λ one. left_at history one.group ≡ Some one.left) value.farewells
 
 -- of every history that the sockets stand for
 abbrev pub ForHistory : SocketsValue → (List AcceptedCall → Type 0) → Type 0
@@ -61,3 +62,8 @@ AnswersRefusal refusal result = TellsCause refusal result (IfErr result (λ faul
 -- farewells that can't be due any more are gone
 abbrev pub HasNoOldFarewell : SocketsValue → Type 0
 HasNoOldFarewell value = All (λ one. value.moment ≤ one.left + longest_farewell) value.farewells
+
+-- each farewell stays, unless its group is wanted by the history
+abbrev pub KeepsFarewells : List AcceptedCall → SocketsValue → SocketsValue → Type 0
+KeepsFarewells history before after =
+    (group : Ip) (left : ℕ) → left_in before.farewells group ≡ Some left → is_wanted history group ≡ false → left_in after.farewells group ≡ Some left

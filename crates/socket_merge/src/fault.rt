@@ -3,7 +3,8 @@
 /// Why no socket was opened or changed: the first of these that holds.
 ///
 /// A group's sources are counted once for each socket that lists them, and the octets are those of the
-/// report of the group's family in which nothing is merged, so closing a socket always makes room.
+/// report of the group's family in which nothing is merged. Closing a socket never makes either number
+/// grow.
 #[derive(Clone, Copy, Debug, PartialEq, Eq)]
 pub enum SocketFault {
     /// Of `open`: a socket of this name is open.
@@ -14,7 +15,7 @@ pub enum SocketFault {
     SourcesFull(u32),
     /// The report would have more than 1,400 octets: how many.
     ReportFull(u32),
-    /// Nothing is refused, and there is no memory.
+    /// Nothing is refused; out of memory.
     Memory,
 }
 

@@ -1,7 +1,7 @@
 //! The tallies of groups. They must not know names or the filters of single sockets.
 
 ghost use Rattle.std.specs.Prelude.{◌≡◌, [], true, not, IfOk, OnOk, OnErr, nat_lt};
-ghost use Rattle.socket_merge.specs.Kept.{AreOrdered, HasRoom, HasTallies, HasTally, is_blank, tally_at, tally_changed, tally_fresh, tally_left, tally_with, tally_without};
+ghost use Rattle.socket_merge.specs.Kept.{AreNeeded, HasRoom, HasTallies, HasTally, is_blank, tally_at, tally_changed, tally_fresh, tally_left, tally_with, tally_without};
 
 use crate::stored::{Share, Tally};
 use amt_values::{Ip, Moment};
@@ -28,7 +28,7 @@ impl Model for Groups {
 
     ghost view = { λ s. s.tallies.entries };
 
-    ghost invariant = { λ s. AreNeeded s.tallies };
+    ghost invariant = { λ s. AreNeeded s.tallies.entries };
 }
 
 impl Groups {
@@ -54,7 +54,7 @@ impl Groups {
     fn set(&mut self, group: &Ip, tally: Tally)
         requires { is_blank (tally_at self.old group.now) ≡ true → is_blank tally ≡ true }
         ensures set { HasTally group.now tally self.old self.new }
-        ensures ordered { AreOrdered self.new }
+        ensures needed { AreNeeded self.new }
     {
         if tally.is_blank() {
             self.tallies.remove(group);
@@ -71,7 +71,7 @@ impl Groups {
         requires { HasRoom (tally_at self.old group) share.sources }
         ensures ok { OnOk result (HasTally group
             (tally_with share (tally_at self.old group)) self.old self.new) }
-        ensures ordered { AreOrdered self.new }
+        ensures needed { AreNeeded self.new }
         ensures err { OnErr result (self.new ≡ self.old) }
     {
         let tally = self.tally(&group).with(share);
@@ -85,7 +85,7 @@ impl Groups {
         requires room { HasRoom (tally_at self.old group.now) after.sources }
         ensures changed { HasTally group.now
             (tally_changed moment before after (tally_at self.old group.now)) self.old self.new }
-        ensures ordered { AreOrdered self.new }
+        ensures needed { AreNeeded self.new }
     {
         let tally = self.tally(group).changed(moment, before, after);
         self.set(group, tally);
@@ -95,7 +95,7 @@ impl Groups {
     pub fn remove(&mut self, group: &Ip, share: Share, moment: Moment)
         ensures without { HasTally group.now
             (tally_without moment share (tally_at self.old group.now)) self.old self.new }
-        ensures ordered { AreOrdered self.new }
+        ensures needed { AreNeeded self.new }
     {
         let tally = self.tally(group).without(moment, share);
         self.set(group, tally);
@@ -104,7 +104,7 @@ impl Groups {
     /// Counts no sockets.
     pub fn leave_all(&mut self, moment: Moment)
         ensures left { HasTallies (tally_left moment) self.old self.new }
-        ensures ordered { AreOrdered self.new }
+        ensures needed { AreNeeded self.new }
     {
         self.tallies.retain(|_, tally| empty(tally, moment));
     }
@@ -112,7 +112,7 @@ impl Groups {
     /// Drops the farewells that can't be due any more.
     pub fn drop_old(&mut self, moment: Moment)
         ensures fresh { HasTallies (tally_fresh moment) self.old self.new }
-        ensures ordered { AreOrdered self.new }
+        ensures needed { AreNeeded self.new }
     {
         self.tallies.retain(|_, tally| freshen(tally, moment));
     }

@@ -9,7 +9,7 @@ use crate::fault::SocketFault;
 use crate::groups::Groups;
 use crate::groups::octets::raw_octets;
 use amt_values::{Ip, Moment};
-use group_records::Family;
+use group_records::{Family, ITEM_LIMIT, REPORT_LIMIT};
 
 // The family of a group.
 pub fn family_of(group: &Ip) -> Family
@@ -32,8 +32,8 @@ pub fn limit_passed(
 ) -> Option<SocketFault>
     requires few { (tally_at groups.now group.now).sources ≤ 32 }
     requires before { before ≤ (tally_at groups.now group.now).sources }
-    requires after { after ≤ 16777216 }
-    requires short { octets_besides (family_of group.now) moment group.now groups.now ≤ 1400 }
+    requires after { after ≤ ITEM_LIMIT }
+    requires short { octets_besides (family_of group.now) moment group.now groups.now ≤ REPORT_LIMIT }
     ensures { result ≡ first_holding (limit_conditions
         ((tally_at groups.now group.now).sources - before + after)
         (octets_besides (family_of group.now) moment group.now groups.now
@@ -46,7 +46,7 @@ pub fn limit_passed(
     }
     let family = family_of(group);
     let octets = groups.octets_besides(family, moment, group) + raw_octets(family, sources);
-    if octets > 1400 {
+    if octets > REPORT_LIMIT {
         return Some(SocketFault::ReportFull(octets as u32));
     }
     None

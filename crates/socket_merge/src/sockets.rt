@@ -8,9 +8,9 @@ ghost use Rattle.group_records.specs.Written.{IsOfFamily, report_length};
 ghost use Rattle.socket_merge.specs.FullReport.{family_by, full_report_of, is_quiet};
 ghost use Rattle.socket_merge.specs.History.{Change, Close, LeaveAll, Open, moment_read, socket_named, with_call};
 ghost use Rattle.socket_merge.specs.Interface.{interface, wants};
-ghost use Rattle.socket_merge.specs.Kept.{AreOrdered, HasRoom, HasTally, share_of, tally_at, tally_with};
-ghost use Rattle.socket_merge.specs.Refusal.{is_open, raw_report_length, refusal_of};
-ghost use Rattle.socket_merge.specs.Sockets.{AnswersRefusal, AreOfGroup, AreOfSocket, ForHistory, HasNoOldFarewell, SocketsHold};
+ghost use Rattle.socket_merge.specs.Kept.{AreNeeded, HasRoom, HasTally, share_of, tally_at, tally_with};
+ghost use Rattle.socket_merge.specs.Refusal.{FillsNoMore, IsWithinLimits, is_open, raw_report_length, refusal_of};
+ghost use Rattle.socket_merge.specs.Sockets.{AnswersRefusal, AreOfGroup, AreOfSocket, ForHistory, HasNoOldFarewell, KeepsFarewells, SocketsHold};
 
 use crate::fault::{NoSocket, SocketFault};
 use crate::groups::Groups;
@@ -18,7 +18,7 @@ use crate::limit::limit_passed;
 use crate::named::NamedSockets;
 use crate::stored::share_of;
 use amt_values::{Ip, Moment};
-use group_records::Family;
+use group_records::{Family, ITEM_LIMIT, REPORT_LIMIT};
 use source_filter::{Filter, Records, copy_filter, merge};
 use std::alloc::{AllocError, Global};
 use std::marker::Model;
@@ -36,15 +36,19 @@ pub struct Sockets {
 }
 
 impl Model for Sockets {
-    ghost use Rattle.socket_merge.specs.Kept.{IsConsistent, farewells_in};
+    ghost use Rattle.socket_merge.specs.Kept.{IsSound, farewells_in, tallies_of};
     ghost use Rattle.socket_merge.specs.Sockets.{SocketsValue};
 
     ghost Value = { SocketsValue };
 
     ghost view = { λ s. record { moment = s.moment; sockets = s.named; farewells = farewells_in s.groups } };
 
-    // The tallies are those of the sockets, so nothing is kept beside what contracts see.
-    ghost invariant = { λ s. IsConsistent s.moment s.named s.groups };
+    ghost invariant = { λ s. IsSound s.moment s.named s.groups };
+
+    // The tallies are those of the sockets and farewells, so nothing is kept beside what contracts see.
+    ghost inverse = { λ v. record { moment = v.moment; named = v.sockets; groups = tallies_of v.sockets v.farewells } };
+
+    ghost inverse_ok = { λ s sound i. record { moment = s.moment; named = s.named; groups = sound.back i } };
 }
 
 impl Sockets {
@@ -70,9 +74,10 @@ impl Sockets {
     ) -> Result<(), SocketFault>
         requires forwarded { is_forwardable group.now ≡ true }
         requires family { AreOfGroup group.now filter.now }
-        requires items { length filter.now.sources ≤ 16777216 }
+        requires items { length filter.now.sources ≤ ITEM_LIMIT }
         ensures stands { ForHistory self.old (λ history. OnOk result (SocketsHold self.new
             (with_call at.now (Open name.now group.now filter.now) history))) }
+        ensures fits { OnOk result (ForHistory self.new IsWithinLimits) }
         ensures drops { OnOk result (HasNoOldFarewell self.new) }
 
         ensures refused { ForHistory self.old (λ history. AnswersRefusal
@@ -113,9 +118,12 @@ impl Sockets {
         at: &Moment,
     ) -> Result<(), SocketFault>
         requires family { AreOfSocket name.now self.old filter.now }
-        requires items { length filter.now.sources ≤ 16777216 }
+        requires items { length filter.now.sources ≤ ITEM_LIMIT }
         ensures stands { ForHistory self.old (λ history. OnOk result (SocketsHold self.new
             (with_call at.now (Change name.now filter.now) history))) }
+        ensures fits { OnOk result (ForHistory self.new IsWithinLimits) }
+        ensures keeps { ForHistory self.old (λ history. OnOk result (KeepsFarewells
+            (with_call at.now (Change name.now filter.now) history) self.old self.new)) }
 
         ensures refused { ForHistory self.old (λ history. AnswersRefusal
             (refusal_of at.now (Change name.now filter.now) history) result) }
@@ -150,6 +158,11 @@ impl Sockets {
     pub fn close(&mut self, name: &[u8], at: &Moment) -> Result<(), NoSocket>
         ensures stands { ForHistory self.old (λ history. OnOk result (SocketsHold self.new
             (with_call at.now (Close name.now) history))) }
+        ensures fits { OnOk result (ForHistory self.new IsWithinLimits) }
+        ensures shrinks { ForHistory self.old (λ history. OnOk result (FillsNoMore history
+            (with_call at.now (Close name.now) history))) }
+        ensures keeps { ForHistory self.old (λ history. OnOk result (KeepsFarewells
+            (with_call at.now (Close name.now) history) self.old self.new)) }
 
         ensures refused { ForHistory self.old (λ history.
             IsErr result ↔ (is_open name.now history ≡ false)) }
@@ -169,6 +182,11 @@ impl Sockets {
     pub fn leave_all(&mut self, at: &Moment)
         ensures stands { ForHistory self.old (λ history. SocketsHold self.new
             (with_call at.now LeaveAll history)) }
+        ensures fits { ForHistory self.new IsWithinLimits }
+        ensures shrinks { ForHistory self.old (λ history. FillsNoMore history
+            (with_call at.now LeaveAll history)) }
+        ensures keeps { ForHistory self.old (λ history. KeepsFarewells
+            (with_call at.now LeaveAll history) self.old self.new) }
     {
         self.moment = self.moment.later(at);
         self.named.clear();
@@ -211,9 +229,9 @@ impl Sockets {
         ensures family { IfOk result (All (IsOfFamily (family_by v6))) }
         ensures short { ForHistory self.now (λ history. IfOk result (λ records.
             report_length (family_by v6) records ≤ raw_report_length (family_by v6) history)) }
-        ensures fits { IfOk result (λ records. report_length (family_by v6) records ≤ 1400) }
+        ensures fits { IfOk result (λ records. report_length (family_by v6) records ≤ REPORT_LIMIT) }
         ensures raw_fits { ForHistory self.now (λ history.
-            raw_report_length (family_by v6) history ≤ 1400) }
+            raw_report_length (family_by v6) history ≤ REPORT_LIMIT) }
     {
         let family = if v6 { Family::V6 } else { Family::V4 };
         let moment = self.moment.later(at);
@@ -256,7 +274,7 @@ fn insert_both(
         ++ record { name = name.now; group = group.now; filter = filter.now } ∷ []) }
     ensures groups { OnOk result (HasTally group.now
         (tally_with (share_of filter.now) (tally_at groups.old group.now)) groups.old groups.new) }
-    ensures ordered { OnOk result (AreOrdered groups.new) }
+    ensures needed { OnOk result (AreNeeded groups.new) }
     ensures err_named { OnErr result (named.new ≡ named.old) }
     ensures err_groups { OnErr result (groups.new ≡ groups.old) }
 {

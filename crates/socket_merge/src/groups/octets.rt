@@ -7,12 +7,12 @@ use super::Groups;
 use crate::limit::family_of;
 use crate::stored::{Tally, may_be_due};
 use amt_values::{Ip, Moment};
-use group_records::Family;
+use group_records::{Family, REPORT_LIMIT};
 
 impl Groups {
     /// The octets of the raw report of the family without the record of one group.
     pub fn octets_besides(&self, family: Family, moment: Moment, group: &Ip) -> usize
-        requires { octets_besides family moment group.now self.now ≤ 1400 }
+        requires { octets_besides family moment group.now self.now ≤ REPORT_LIMIT }
         ensures { result ≡ octets_besides family moment group.now self.now }
     {
         let mut octets = 8;
@@ -38,7 +38,7 @@ pub fn raw_octets(family: Family, sources: usize) -> usize
 
 // The octets of a group's record, and none where it has no place in the report of the family.
 fn octets_in(family: Family, moment: Moment, group: &Ip, tally: &Tally) -> usize
-    requires { octets_in family moment (group.now, tally.now) ≤ 1400 }
+    requires { octets_in family moment (group.now, tally.now) ≤ REPORT_LIMIT }
     ensures { result ≡ octets_in family moment (group.now, tally.now) }
 {
     if family_of(group) != family {

@@ -15,7 +15,7 @@ returns-clause-ok c =
     (c.with-tally.ensures ∙ ap (tally_with c.args.share) c.tally.ensures) c.self.view_is
     (HasTally-put _ compared c.self.inside.tallies c.insert.new.self c.args.group c.with-tally.result c.in_ok-insert.ensures.updates.0)
 
-pub returns-clause-ordered : goal.returns-clause-ordered
-returns-clause-ordered c =
+pub returns-clause-needed : goal.returns-clause-needed
+returns-clause-needed c =
     (AreNeeded-put _ compared c.self.inside.tallies c.insert.new.self c.args.group c.with-tally.result (ap is_blank c.with-tally.ensures ∙ some_with c.args.share c.tally.result)
-    c.self.invariant c.in_ok-insert.ensures.ordered c.in_ok-insert.ensures.entries).ordered
+    c.self.invariant c.in_ok-insert.ensures.ordered c.in_ok-insert.ensures.entries)

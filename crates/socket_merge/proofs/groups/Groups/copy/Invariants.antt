@@ -6,5 +6,5 @@ use Rattle.socket_merge.proofs.groups.Groups.copy.Given as goal
 abbrev pub invariant-loop-group : goal.invariant-loop-group
 invariant-loop-group l = record {
   entries : l.copy-inside.tallies.entries ≡ map deref_pair l.yielded;
-  needed : AreNeeded l.copy-inside.tallies;
+  needed : AreNeeded l.copy-inside.tallies.entries;
 }

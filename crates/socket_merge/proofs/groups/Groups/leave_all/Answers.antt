@@ -1,11 +1,9 @@
-use Rattle.std.proofs.Common.{List, filter, map, refl, subst, rules}
+use Rattle.std.proofs.Common.{List, filter, map, refl, rules}
 use Rattle.amt_values.specs.Order.{ip_order}
 use Rattle.amt_values.specs.declared.address.Ip.{Ip}
 use Rattle.source_filter.proofs.Compared.{compared}
 use Rattle.std.proofs.lemmas.Map.Keys.{IsDistinct-from_sorted}
-use Rattle.std.specs.BTreeMap.{IsOrdered}
 use Rattle.std.specs.Map.{keys_of}
-use Rattle.std.specs.declared.cmp.Ordering.{Ordering}
 use Rattle.socket_merge.specs.Kept.{tally_left}
 use Rattle.socket_merge.specs.declared.stored.Tally.{Tally}
 use Rattle.socket_merge.proofs.Tallies.{AreNeeded-kept, HasTallies-as, HasTallies-kept, is_kept, retained}
@@ -26,5 +24,9 @@ returns-clause-left c =
     (retained _ (tally_left c.args.moment) _ (λ k v b w g t. search rules) es c.retain.new.self.entries c.retain.ensures.filtered)
     (HasTallies-kept (tally_left c.args.moment) refl es (IsDistinct-from_sorted ip_order (keys_of es) c.self.invariant.ordered))
 
-pub returns-clause-ordered : goal.returns-clause-ordered
-returns-clause-ordered c = subst (λ (order : Ip → Ip → Ordering). IsOrdered order c.retain.new.self) compared c.retain.ensures.ordered
+pub returns-clause-needed : goal.returns-clause-needed
+returns-clause-needed c =
+    let es = c.self.inside.tallies.entries in
+    let made : List (Ip × Tally) = map (λ (e : Ip × Tally). (e.0, tally_left c.args.moment e.1)) es in
+    AreNeeded-kept _ compared c.retain.new.self made c.retain.ensures.ordered
+    (retained _ (tally_left c.args.moment) _ (λ k v b w g t. search rules) es c.retain.new.self.entries c.retain.ensures.filtered)

@@ -34,10 +34,10 @@ returns-clause-set c =
     HasTally-as c.args.group.now c.args.tally c.args.tally c.self.inside.tallies.entries c.args.self.now (c.get_mut.follows.lender c.args.tally).entries refl c.self.view_is
     (HasTally-put _ compared c.self.inside.tallies (c.get_mut.follows.lender c.args.tally) c.args.group.now c.args.tally ((c.get_mut.follows.holds c.args.tally).3 some).0)
 
-pub returns-then-is_blank-clause-ordered : goal.returns-then-is_blank-clause-ordered
-returns-then-is_blank-clause-ordered c = (AreNeeded-gone _ compared c.self.inside.tallies c.remove.new.self _ c.self.invariant c.remove.ensures.ordered c.remove.ensures.entries).ordered
+pub returns-then-is_blank-clause-needed : goal.returns-then-is_blank-clause-needed
+returns-then-is_blank-clause-needed c = (AreNeeded-gone _ compared c.self.inside.tallies c.remove.new.self _ c.self.invariant c.remove.ensures.ordered c.remove.ensures.entries)
 
-pub returns-clause-ordered : goal.returns-clause-ordered
-returns-clause-ordered c =
+pub returns-clause-needed : goal.returns-clause-needed
+returns-clause-needed c =
     (AreNeeded-set _ compared c.self.inside.tallies (c.get_mut.follows.lender c.args.tally) _ c.args.tally (sym c.is_blank.ensures ∙ c.if-is_blank.false) c.self.invariant
-    (c.get_mut.follows.holds c.args.tally).4 (c.get_mut.follows.holds c.args.tally).0).ordered
+    (c.get_mut.follows.holds c.args.tally).4 (c.get_mut.follows.holds c.args.tally).0)

@@ -2,17 +2,20 @@ use Rattle.std.proofs.Common.{◌≡◌, ℕ, ◌+◌, ◌-◌, List, Option, sy
 use Rattle.amt_values.specs.declared.address.Ip.{Ip}
 use Rattle.contract_words.specs.Conditions.{first_holding}
 use Rattle.source_filter.specs.Filter.{FilterValue}
-use Rattle.socket_merge.specs.History.{AcceptedCall, Change, Socket, sockets_after}
-use Rattle.socket_merge.specs.Kept.{AreOrdered, HasTally, share_of, tally_at, tally_changed}
+use Rattle.socket_merge.specs.History.{AcceptedCall, Change, Socket, sockets_after, with_call}
+use Rattle.socket_merge.specs.Kept.{AreNeeded, HasTally, share_of, tally_at, tally_changed}
 use Rattle.socket_merge.specs.Refusal.{refusal_of}
-use Rattle.socket_merge.specs.Sockets.{AreOfSocket, SocketsHold, SocketsValue}
+use Rattle.socket_merge.specs.Sockets.{AreOfSocket, KeepsFarewells, SocketsHold, SocketsValue}
 use Rattle.socket_merge.specs.declared.fault.SocketFault.{SocketFault}
 use Rattle.socket_merge.specs.declared.fault.SocketFault.TheVariants.{NoSocket}
 use Rattle.socket_merge.specs.declared.stored.Share.{Share}
 use Rattle.socket_merge.specs.declared.stored.Tally.{Tally}
-use Rattle.socket_merge.proofs.Calls.{IsChanged, MayChange-of, consistent_changed, holds_changed, limit_changed, refusal_changed, unknown_name}
+use Rattle.socket_merge.proofs.Back.{IsSound-of}
+use Rattle.socket_merge.proofs.Calls.{IsChanged, MayChange-of, consistent_changed, holds_changed, limit_changed, refusal_changed, unknown_name, value_of}
+use Rattle.socket_merge.proofs.Keeping.{keeps_changed}
 use Rattle.socket_merge.proofs.Consistent.{HasRoom-of}
 use Rattle.socket_merge.proofs.Refused.{answers_accepted, answers_memory, answers_refused, limits_of, refusal-unknown}
+use Rattle.socket_merge.proofs.Limits.{within_limits}
 use Rattle.socket_merge.proofs.sockets.Sockets.change.Goals as goal
 
 pub returns-in_default-clause-refused : goal.returns-in_default-clause-refused
@@ -25,13 +28,13 @@ returns-in_default-clause-refused c =
 pub limit_passed-requires-clause-before : goal.limit_passed-requires-clause-before
 limit_passed-requires-clause-before c =
     let later = c.later-moment.ensures in
-    (MayChange-of c.self.inside.moment c.later-moment.result c.args.name.now (c.in-Some.group, c.in-Some.before) c.self.inside.named c.self.inside.groups c.self.invariant (omega arith)
+    (MayChange-of c.self.inside.moment c.later-moment.result c.args.name.now (c.in-Some.group, c.in-Some.before) c.self.inside.named c.self.inside.groups c.self.invariant.consistent (omega arith)
     (sym c.in-Some.is ∙ c.find.ensures.found)).before
 
 pub limit_passed-requires-clause-short : goal.limit_passed-requires-clause-short
 limit_passed-requires-clause-short c =
     let later = c.later-moment.ensures in
-    (MayChange-of c.self.inside.moment c.later-moment.result c.args.name.now (c.in-Some.group, c.in-Some.before) c.self.inside.named c.self.inside.groups c.self.invariant (omega arith)
+    (MayChange-of c.self.inside.moment c.later-moment.result c.args.name.now (c.in-Some.group, c.in-Some.before) c.self.inside.named c.self.inside.groups c.self.invariant.consistent (omega arith)
     (sym c.in-Some.is ∙ c.find.ensures.found)).short
 
 limited : (later : ℕ) (group : Ip) (before after : Share) (filter : FilterValue) (tallies : List (Ip × Tally)) (passed : Option SocketFault) → after ≡ share_of filter
@@ -44,7 +47,7 @@ returns-in-Some-limit_passed-clause-refused c =
     λ (history : List AcceptedCall) holds.
     let kept = subst (λ (value : SocketsValue). SocketsHold value history) (sym c.self.view_is) holds in
     answers_refused (refusal_of c.args.at.now (Change c.args.name.now c.args.filter.now) history) c.in-Some-limit_passed.fault
-    (refusal_changed c.self.inside.moment c.later-moment.result c.args.at.now c.args.name.now c.args.filter.now c.self.inside.named (c.in-Some.group, c.in-Some.before) c.self.inside.groups history c.self.invariant
+    (refusal_changed c.self.inside.moment c.later-moment.result c.args.at.now c.args.name.now c.args.filter.now c.self.inside.named (c.in-Some.group, c.in-Some.before) c.self.inside.groups history c.self.invariant.consistent
     c.later-moment.ensures (sym c.in-Some.is ∙ c.find.ensures.found) kept
     ∙ limited c.later-moment.result c.in-Some.group c.in-Some.before c.share_of-after.result c.args.filter.now c.self.inside.groups c.limit_passed.result c.share_of-after.ensures c.limit_passed.ensures
     ∙ c.in-Some-limit_passed.is)
@@ -54,7 +57,7 @@ returns-in-Err-clause-refused c =
     λ (history : List AcceptedCall) holds.
     let kept = subst (λ (value : SocketsValue). SocketsHold value history) (sym c.self.view_is) holds in
     answers_memory (refusal_of c.args.at.now (Change c.args.name.now c.args.filter.now) history)
-    (refusal_changed c.self.inside.moment c.later-moment.result c.args.at.now c.args.name.now c.args.filter.now c.self.inside.named (c.in-Some.group, c.in-Some.before) c.self.inside.groups history c.self.invariant
+    (refusal_changed c.self.inside.moment c.later-moment.result c.args.at.now c.args.name.now c.args.filter.now c.self.inside.named (c.in-Some.group, c.in-Some.before) c.self.inside.groups history c.self.invariant.consistent
     c.later-moment.ensures (sym c.in-Some.is ∙ c.find.ensures.found) kept
     ∙ limited c.later-moment.result c.in-Some.group c.in-Some.before c.share_of-after.result c.args.filter.now c.self.inside.groups c.limit_passed.result c.share_of-after.ensures c.limit_passed.ensures
     ∙ c.in_default-limit_passed.is)
@@ -62,16 +65,16 @@ returns-in-Err-clause-refused c =
 pub change-requires-clause-some : goal.change-requires-clause-some
 change-requires-clause-some c =
     let later = c.later-moment.ensures in
-    (MayChange-of c.self.inside.moment c.later-moment.result c.args.name.now (c.in-Some.group, c.in-Some.before) c.self.inside.named c.self.inside.groups c.self.invariant (omega arith)
+    (MayChange-of c.self.inside.moment c.later-moment.result c.args.name.now (c.in-Some.group, c.in-Some.before) c.self.inside.named c.self.inside.groups c.self.invariant.consistent (omega arith)
     (sym c.in-Some.is ∙ c.find.ensures.found)).some
 
 pub change-requires-clause-room : goal.change-requires-clause-room
 change-requires-clause-room c =
     let sources = ap (λ (one : Share). one.sources) c.share_of-after.ensures in
-    HasRoom-of c.self.inside.moment c.self.inside.named c.self.inside.groups c.in-Some.group c.share_of-after.result.sources c.self.invariant c.find.ensures.few (omega (arith, sources, c.requires.items))
+    HasRoom-of c.self.inside.moment c.self.inside.named c.self.inside.groups c.in-Some.group c.share_of-after.result.sources c.self.invariant.consistent c.find.ensures.few (omega (arith, sources, c.requires.items))
 
 changed : (later : ℕ) (name : List ℕ) (filter copy : FilterValue) (sockets left : List Socket) (group : Ip) (before share : Share) (tallies after : List (Ip × Tally)) → copy ≡ filter → share ≡ share_of filter
-    → left ≡ sockets_after (Change name copy) sockets → HasTally group (tally_changed later before share (tally_at tallies group)) tallies after → AreOrdered after
+    → left ≡ sockets_after (Change name copy) sockets → HasTally group (tally_changed later before share (tally_at tallies group)) tallies after → AreNeeded after
     → IsChanged later name filter sockets left (group, before) tallies after
 changed later name filter copy sockets left group before share tallies after same shared rest tally ordered = record {
   rest = rest ∙ ap (λ (one : FilterValue). sockets_after (Change name one) sockets) same;
@@ -81,30 +84,54 @@ changed later name filter copy sockets left group before share tallies after sam
 
 pub invariant_of-self : goal.invariant_of-self
 invariant_of-self c =
-    let later = c.later-moment.ensures in
+    IsSound-of c.later-moment.result c.set_filter.new.self c.change.new.self
+    (let later = c.later-moment.ensures in
     consistent_changed c.self.inside.moment c.later-moment.result c.args.name.now c.args.filter.now c.self.inside.named c.set_filter.new.self (c.in-Some.group, c.in-Some.before) c.self.inside.groups c.change.new.self
-    c.self.invariant (omega arith) (sym c.in-Some.is ∙ c.find.ensures.found)
+    c.self.invariant.consistent (omega arith) (sym c.in-Some.is ∙ c.find.ensures.found)
     (limited c.later-moment.result c.in-Some.group c.in-Some.before c.share_of-after.result c.args.filter.now c.self.inside.groups c.limit_passed.result c.share_of-after.ensures c.limit_passed.ensures
     ∙ c.in_default-limit_passed.is)
     (subst (λ (value : SocketsValue). AreOfSocket c.args.name.now value c.args.filter.now) (sym c.self.view_is) c.requires.family)
     (changed c.later-moment.result c.args.name.now c.args.filter.now c.in-Ok.copy c.self.inside.named c.set_filter.new.self c.in-Some.group c.in-Some.before c.share_of-after.result c.self.inside.groups c.change.new.self
-    c.in-Ok.ensures c.share_of-after.ensures c.set_filter.ensures c.change.ensures.changed c.change.ensures.ordered)
+    c.in-Ok.ensures c.share_of-after.ensures c.set_filter.ensures c.change.ensures.changed c.change.ensures.needed))
 
 pub returns-clause-stands : goal.returns-clause-stands
 returns-clause-stands c =
     λ (history : List AcceptedCall) holds.
     holds_changed c.self.inside.moment c.later-moment.result c.args.at.now c.args.name.now c.args.filter.now c.self.inside.named c.set_filter.new.self (c.in-Some.group, c.in-Some.before) c.self.inside.groups
-    c.change.new.self history c.self.invariant c.later-moment.ensures (sym c.in-Some.is ∙ c.find.ensures.found)
+    c.change.new.self history c.self.invariant.consistent c.later-moment.ensures (sym c.in-Some.is ∙ c.find.ensures.found)
     (changed c.later-moment.result c.args.name.now c.args.filter.now c.in-Ok.copy c.self.inside.named c.set_filter.new.self c.in-Some.group c.in-Some.before c.share_of-after.result c.self.inside.groups c.change.new.self
-    c.in-Ok.ensures c.share_of-after.ensures c.set_filter.ensures c.change.ensures.changed c.change.ensures.ordered)
+    c.in-Ok.ensures c.share_of-after.ensures c.set_filter.ensures c.change.ensures.changed c.change.ensures.needed)
     (subst (λ (value : SocketsValue). SocketsHold value history) (sym c.self.view_is) holds)
+
+pub returns-clause-keeps : goal.returns-clause-keeps
+returns-clause-keeps c =
+    λ (history : List AcceptedCall) holds.
+    subst (λ (value : SocketsValue). KeepsFarewells (with_call c.args.at.now (Change c.args.name.now c.args.filter.now) history) value (value_of c.later-moment.result c.set_filter.new.self c.change.new.self)) c.self.view_is
+    (keeps_changed c.self.inside.moment c.later-moment.result c.args.at.now c.args.name.now c.args.filter.now c.self.inside.named c.set_filter.new.self (c.in-Some.group, c.in-Some.before) c.self.inside.groups
+    c.change.new.self history c.self.invariant.consistent c.later-moment.ensures (sym c.in-Some.is ∙ c.find.ensures.found)
+    (changed c.later-moment.result c.args.name.now c.args.filter.now c.in-Ok.copy c.self.inside.named c.set_filter.new.self c.in-Some.group c.in-Some.before c.share_of-after.result c.self.inside.groups c.change.new.self
+    c.in-Ok.ensures c.share_of-after.ensures c.set_filter.ensures c.change.ensures.changed c.change.ensures.needed)
+    (subst (λ (value : SocketsValue). SocketsHold value history) (sym c.self.view_is) holds))
 
 pub returns-clause-refused : goal.returns-clause-refused
 returns-clause-refused c =
     λ (history : List AcceptedCall) holds.
     let kept = subst (λ (value : SocketsValue). SocketsHold value history) (sym c.self.view_is) holds in
     answers_accepted (refusal_of c.args.at.now (Change c.args.name.now c.args.filter.now) history)
-    (refusal_changed c.self.inside.moment c.later-moment.result c.args.at.now c.args.name.now c.args.filter.now c.self.inside.named (c.in-Some.group, c.in-Some.before) c.self.inside.groups history c.self.invariant
+    (refusal_changed c.self.inside.moment c.later-moment.result c.args.at.now c.args.name.now c.args.filter.now c.self.inside.named (c.in-Some.group, c.in-Some.before) c.self.inside.groups history c.self.invariant.consistent
     c.later-moment.ensures (sym c.in-Some.is ∙ c.find.ensures.found) kept
     ∙ limited c.later-moment.result c.in-Some.group c.in-Some.before c.share_of-after.result c.args.filter.now c.self.inside.groups c.limit_passed.result c.share_of-after.ensures c.limit_passed.ensures
     ∙ c.in_default-limit_passed.is)
+
+pub returns-clause-fits : goal.returns-clause-fits
+returns-clause-fits c =
+    λ (history : List AcceptedCall) holds.
+    within_limits c.later-moment.result c.set_filter.new.self c.change.new.self history
+    (let later = c.later-moment.ensures in
+    consistent_changed c.self.inside.moment c.later-moment.result c.args.name.now c.args.filter.now c.self.inside.named c.set_filter.new.self (c.in-Some.group, c.in-Some.before) c.self.inside.groups c.change.new.self
+    c.self.invariant.consistent (omega arith) (sym c.in-Some.is ∙ c.find.ensures.found)
+    (limited c.later-moment.result c.in-Some.group c.in-Some.before c.share_of-after.result c.args.filter.now c.self.inside.groups c.limit_passed.result c.share_of-after.ensures c.limit_passed.ensures
+    ∙ c.in_default-limit_passed.is)
+    (subst (λ (value : SocketsValue). AreOfSocket c.args.name.now value c.args.filter.now) (sym c.self.view_is) c.requires.family)
+    (changed c.later-moment.result c.args.name.now c.args.filter.now c.in-Ok.copy c.self.inside.named c.set_filter.new.self c.in-Some.group c.in-Some.before c.share_of-after.result c.self.inside.groups c.change.new.self
+    c.in-Ok.ensures c.share_of-after.ensures c.set_filter.ensures c.change.ensures.changed c.change.ensures.needed)) holds

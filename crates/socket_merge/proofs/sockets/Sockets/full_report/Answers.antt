@@ -40,8 +40,8 @@ returns-clause-records c =
     IfOk-weaker c.report.result (Says (family_by c.args.v6) c.later-moment.result c.args.keep_ms c.self.inside.named c.self.inside.groups)
     (λ records. records ≡ full_report_of (family_by c.args.v6) history (moment_read c.args.at.now history) c.args.keep_ms)
     (λ records is. is
-    ∙ full_report-is (family_by c.args.v6) history c.self.inside.named c.self.inside.groups c.later-moment.result c.args.keep_ms c.self.invariant.ordered
-    (Stands-of c.self.inside.moment c.self.inside.named c.self.inside.groups history c.self.invariant kept) (omega (arith, read)) kept.sockets
+    ∙ full_report-is (family_by c.args.v6) history c.self.inside.named c.self.inside.groups c.later-moment.result c.args.keep_ms c.self.invariant.consistent.needed
+    (Stands-of c.self.inside.moment c.self.inside.named c.self.inside.groups history c.self.invariant.consistent kept) (omega (arith, read)) kept.sockets
     ∙ ap (λ (at : ℕ). full_report_of (family_by c.args.v6) history at c.args.keep_ms) read)
     (says c)
 
@@ -49,14 +49,14 @@ pub returns-clause-forwarded : goal.returns-clause-forwarded
 returns-clause-forwarded c =
     let Forwarded : Record → Type 0 = λ one. is_forwardable one.group ≡ true in
     IfOk-weaker c.report.result (Says (family_by c.args.v6) c.later-moment.result c.args.keep_ms c.self.inside.named c.self.inside.groups) (All Forwarded)
-    (λ records is. subst (All Forwarded) (sym is) (said-forwarded (family_by c.args.v6) c.self.inside.moment c.later-moment.result c.args.keep_ms c.self.inside.named c.self.inside.groups c.self.invariant))
+    (λ records is. subst (All Forwarded) (sym is) (said-forwarded (family_by c.args.v6) c.self.inside.moment c.later-moment.result c.args.keep_ms c.self.inside.named c.self.inside.groups c.self.invariant.consistent))
     (says c)
 
 pub returns-clause-family : goal.returns-clause-family
 returns-clause-family c =
     IfOk-weaker c.report.result (Says (family_by c.args.v6) c.later-moment.result c.args.keep_ms c.self.inside.named c.self.inside.groups) (All (IsOfFamily (family_by c.args.v6)))
     (λ records is. subst (All (IsOfFamily (family_by c.args.v6))) (sym is)
-    (said-of_family (family_by c.args.v6) c.self.inside.moment c.later-moment.result c.args.keep_ms c.self.inside.named c.self.inside.groups c.self.invariant))
+    (said-of_family (family_by c.args.v6) c.self.inside.moment c.later-moment.result c.args.keep_ms c.self.inside.named c.self.inside.groups c.self.invariant.consistent))
     (says c)
 
 short : (c : After-report) → IfOk c.report.result (λ records. report_length (family_by c.args.v6) records ≤ octets_of (family_by c.args.v6) c.self.inside.moment c.self.inside.groups)
@@ -65,7 +65,7 @@ short c =
     IfOk-weaker c.report.result (Says (family_by c.args.v6) c.later-moment.result c.args.keep_ms c.self.inside.named c.self.inside.groups)
     (λ records. report_length (family_by c.args.v6) records ≤ octets_of (family_by c.args.v6) c.self.inside.moment c.self.inside.groups)
     (λ records is. subst (λ (one : List Record). report_length (family_by c.args.v6) one ≤ octets_of (family_by c.args.v6) c.self.inside.moment c.self.inside.groups) (sym is)
-    (said-short (family_by c.args.v6) c.self.inside.moment c.later-moment.result c.args.keep_ms c.self.inside.named c.self.inside.groups c.self.invariant (omega arith)))
+    (said-short (family_by c.args.v6) c.self.inside.moment c.later-moment.result c.args.keep_ms c.self.inside.named c.self.inside.groups c.self.invariant.consistent (omega arith)))
     (says c)
 
 -- the octets by the tallies are those of the raw report
@@ -74,7 +74,7 @@ raw : (c : After-report) (history : List AcceptedCall) → SocketsHold c.args.se
 raw c history holds =
     let kept = subst (λ (value : SocketsValue). SocketsHold value history) (sym c.self.view_is) holds in
     ap (λ (moment : ℕ). octets_of (family_by c.args.v6) moment c.self.inside.groups) kept.moment
-    ∙ octets-raw (family_by c.args.v6) history c.self.inside.groups c.self.invariant.ordered (Stands-of c.self.inside.moment c.self.inside.named c.self.inside.groups history c.self.invariant kept)
+    ∙ octets-raw (family_by c.args.v6) history c.self.inside.groups c.self.invariant.consistent.needed (Stands-of c.self.inside.moment c.self.inside.named c.self.inside.groups history c.self.invariant.consistent kept)
 
 pub returns-clause-short : goal.returns-clause-short
 returns-clause-short c =
@@ -85,11 +85,11 @@ pub returns-clause-fits : goal.returns-clause-fits
 returns-clause-fits c =
     IfOk-weaker c.report.result (λ records. report_length (family_by c.args.v6) records ≤ octets_of (family_by c.args.v6) c.self.inside.moment c.self.inside.groups)
     (λ records. report_length (family_by c.args.v6) records ≤ 1400)
-    (λ records less. let most = c.self.invariant.short (family_by c.args.v6) in omega arith) (short c)
+    (λ records less. let most = c.self.invariant.consistent.short (family_by c.args.v6) in omega arith) (short c)
 
 pub returns-clause-raw_fits : goal.returns-clause-raw_fits
 returns-clause-raw_fits c =
     λ (history : List AcceptedCall) holds.
-    let most = c.self.invariant.short (family_by c.args.v6) in
+    let most = c.self.invariant.consistent.short (family_by c.args.v6) in
     let same = raw c history holds in
     omega arith

@@ -11,9 +11,11 @@ use Rattle.socket_merge.specs.declared.fault.SocketFault.{SocketFault}
 use Rattle.socket_merge.specs.declared.fault.SocketFault.TheVariants.{Taken}
 use Rattle.socket_merge.specs.declared.stored.Share.{Share}
 use Rattle.socket_merge.specs.declared.stored.Tally.{Tally}
+use Rattle.socket_merge.proofs.Back.{IsSound-of}
 use Rattle.socket_merge.proofs.Calls.{absent_by, besides_short, consistent_opened, drops_old, holds_opened, limit_opened, refusal_opened, taken_by}
 use Rattle.socket_merge.proofs.Consistent.{HasRoom-of}
 use Rattle.socket_merge.proofs.Refused.{answers_accepted, answers_memory, answers_refused, limits_of, refusal-taken}
+use Rattle.socket_merge.proofs.Limits.{within_limits}
 use Rattle.socket_merge.proofs.sockets.Sockets.open.Goals as goal
 
 pub returns-then-is_some-clause-refused : goal.returns-then-is_some-clause-refused
@@ -27,7 +29,7 @@ returns-then-is_some-clause-refused c =
 pub limit_passed-requires-clause-short : goal.limit_passed-requires-clause-short
 limit_passed-requires-clause-short c =
     let later = c.later-moment.ensures in
-    besides_short c.self.inside.moment c.later-moment.result c.args.group.now c.self.inside.named c.self.inside.groups c.self.invariant (omega arith)
+    besides_short c.self.inside.moment c.later-moment.result c.args.group.now c.self.inside.named c.self.inside.groups c.self.invariant.consistent (omega arith)
 
 limited : (later : ℕ) (group : Ip) (after : Share) (filter : FilterValue) (tallies : List (Ip × Tally)) (passed : Option SocketFault) → after ≡ share_of filter
     → passed ≡ first_holding (limits_of later group tallies ((tally_at tallies group).sources - 0 + after.sources)) → limit_opened later group filter tallies ≡ passed
@@ -45,60 +47,79 @@ returns-in-Some-clause-refused c =
     λ (history : List AcceptedCall) holds.
     let kept = subst (λ (value : SocketsValue). SocketsHold value history) (sym c.self.view_is) holds in
     answers_refused (refusal_of c.args.at.now (Open c.args.name.now c.args.group.now c.args.filter.now) history) c.in-Some.fault
-    (refusal_opened c.self.inside.moment c.later-moment.result c.args.at.now c.args.name.now c.args.group.now c.args.filter.now c.self.inside.named c.self.inside.groups history c.self.invariant
+    (refusal_opened c.self.inside.moment c.later-moment.result c.args.at.now c.args.name.now c.args.group.now c.args.filter.now c.self.inside.named c.self.inside.groups history c.self.invariant.consistent
     c.later-moment.ensures (absent c.args.name.now c.self.inside.named c.find.result c.is_some.result c.find.ensures.found c.is_some.ensures c.if-is_some.false) kept
     ∙ limited c.later-moment.result c.args.group.now c.share_of-share.result c.args.filter.now c.self.inside.groups c.limit_passed.result c.share_of-share.ensures c.limit_passed.ensures ∙ c.in-Some.is)
 
 pub insert_both-requires-clause-room : goal.insert_both-requires-clause-room
 insert_both-requires-clause-room c =
-    HasRoom-of c.self.inside.moment c.self.inside.named c.self.inside.groups c.args.group.now (length c.args.filter.now.sources) c.self.invariant c.find.ensures.few c.requires.items
+    HasRoom-of c.self.inside.moment c.self.inside.named c.self.inside.groups c.args.group.now (length c.args.filter.now.sources) c.self.invariant.consistent c.find.ensures.few c.requires.items
 
 pub returns-in-Err-clause-refused : goal.returns-in-Err-clause-refused
 returns-in-Err-clause-refused c =
     λ (history : List AcceptedCall) holds.
     let kept = subst (λ (value : SocketsValue). SocketsHold value history) (sym c.self.view_is) holds in
     answers_memory (refusal_of c.args.at.now (Open c.args.name.now c.args.group.now c.args.filter.now) history)
-    (refusal_opened c.self.inside.moment c.later-moment.result c.args.at.now c.args.name.now c.args.group.now c.args.filter.now c.self.inside.named c.self.inside.groups history c.self.invariant
+    (refusal_opened c.self.inside.moment c.later-moment.result c.args.at.now c.args.name.now c.args.group.now c.args.filter.now c.self.inside.named c.self.inside.groups history c.self.invariant.consistent
     c.later-moment.ensures (absent c.args.name.now c.self.inside.named c.find.result c.is_some.result c.find.ensures.found c.is_some.ensures c.if-is_some.false) kept
     ∙ limited c.later-moment.result c.args.group.now c.share_of-share.result c.args.filter.now c.self.inside.groups c.limit_passed.result c.share_of-share.ensures c.limit_passed.ensures ∙ c.in_default.is)
 
 pub invariant_of-self-2 : goal.invariant_of-self-2
 invariant_of-self-2 c =
-    let later = c.later-moment.ensures in
+    IsSound-of c.later-moment.result c.insert_both.new.named c.drop_old.new.self
+    (let later = c.later-moment.ensures in
     let socket : Socket = record { name = c.args.name.now; group = c.args.group.now; filter = c.args.filter.now } in
-    consistent_opened c.self.inside.moment c.later-moment.result socket c.self.inside.named c.insert_both.new.named c.self.inside.groups c.insert_both.new.groups c.drop_old.new.self c.self.invariant (omega arith)
+    consistent_opened c.self.inside.moment c.later-moment.result socket c.self.inside.named c.insert_both.new.named c.self.inside.groups c.insert_both.new.groups c.drop_old.new.self c.self.invariant.consistent (omega arith)
     (absent c.args.name.now c.self.inside.named c.find.result c.is_some.result c.find.ensures.found c.is_some.ensures c.if-is_some.false)
     (limited c.later-moment.result c.args.group.now c.share_of-share.result c.args.filter.now c.self.inside.groups c.limit_passed.result c.share_of-share.ensures c.limit_passed.ensures ∙ c.in_default.is)
     c.requires.forwarded c.requires.family
     (record {
       rest = c.in-Ok.ensures.named;
       tally = c.in-Ok.ensures.groups;
-      ordered_between = c.in-Ok.ensures.ordered;
+      ordered_between = c.in-Ok.ensures.needed;
       fresh = c.drop_old.ensures.fresh;
-      ordered = c.drop_old.ensures.ordered;
-    })
+      ordered = c.drop_old.ensures.needed;
+    }))
 
 pub returns-clause-stands : goal.returns-clause-stands
 returns-clause-stands c =
     λ (history : List AcceptedCall) holds.
     holds_opened c.self.inside.moment c.later-moment.result c.args.at.now c.args.name.now c.args.group.now c.args.filter.now c.self.inside.named c.insert_both.new.named c.self.inside.groups
-    c.insert_both.new.groups c.drop_old.new.self history c.self.invariant c.later-moment.ensures
+    c.insert_both.new.groups c.drop_old.new.self history c.self.invariant.consistent c.later-moment.ensures
     (record {
       rest = c.in-Ok.ensures.named;
       tally = c.in-Ok.ensures.groups;
-      ordered_between = c.in-Ok.ensures.ordered;
+      ordered_between = c.in-Ok.ensures.needed;
       fresh = c.drop_old.ensures.fresh;
-      ordered = c.drop_old.ensures.ordered;
+      ordered = c.drop_old.ensures.needed;
     }) (subst (λ (value : SocketsValue). SocketsHold value history) (sym c.self.view_is) holds)
 
 pub returns-clause-drops : goal.returns-clause-drops
-returns-clause-drops c = drops_old c.later-moment.result c.insert_both.new.named c.insert_both.new.groups c.drop_old.new.self c.drop_old.ensures.fresh c.drop_old.ensures.ordered
+returns-clause-drops c = drops_old c.later-moment.result c.insert_both.new.named c.insert_both.new.groups c.drop_old.new.self c.drop_old.ensures.fresh c.drop_old.ensures.needed
 
 pub returns-clause-refused : goal.returns-clause-refused
 returns-clause-refused c =
     λ (history : List AcceptedCall) holds.
     let kept = subst (λ (value : SocketsValue). SocketsHold value history) (sym c.self.view_is) holds in
     answers_accepted (refusal_of c.args.at.now (Open c.args.name.now c.args.group.now c.args.filter.now) history)
-    (refusal_opened c.self.inside.moment c.later-moment.result c.args.at.now c.args.name.now c.args.group.now c.args.filter.now c.self.inside.named c.self.inside.groups history c.self.invariant
+    (refusal_opened c.self.inside.moment c.later-moment.result c.args.at.now c.args.name.now c.args.group.now c.args.filter.now c.self.inside.named c.self.inside.groups history c.self.invariant.consistent
     c.later-moment.ensures (absent c.args.name.now c.self.inside.named c.find.result c.is_some.result c.find.ensures.found c.is_some.ensures c.if-is_some.false) kept
     ∙ limited c.later-moment.result c.args.group.now c.share_of-share.result c.args.filter.now c.self.inside.groups c.limit_passed.result c.share_of-share.ensures c.limit_passed.ensures ∙ c.in_default.is)
+
+pub returns-clause-fits : goal.returns-clause-fits
+returns-clause-fits c =
+    λ (history : List AcceptedCall) holds.
+    within_limits c.later-moment.result c.insert_both.new.named c.drop_old.new.self history
+    (let later = c.later-moment.ensures in
+    let socket : Socket = record { name = c.args.name.now; group = c.args.group.now; filter = c.args.filter.now } in
+    consistent_opened c.self.inside.moment c.later-moment.result socket c.self.inside.named c.insert_both.new.named c.self.inside.groups c.insert_both.new.groups c.drop_old.new.self c.self.invariant.consistent (omega arith)
+    (absent c.args.name.now c.self.inside.named c.find.result c.is_some.result c.find.ensures.found c.is_some.ensures c.if-is_some.false)
+    (limited c.later-moment.result c.args.group.now c.share_of-share.result c.args.filter.now c.self.inside.groups c.limit_passed.result c.share_of-share.ensures c.limit_passed.ensures ∙ c.in_default.is)
+    c.requires.forwarded c.requires.family
+    (record {
+      rest = c.in-Ok.ensures.named;
+      tally = c.in-Ok.ensures.groups;
+      ordered_between = c.in-Ok.ensures.needed;
+      fresh = c.drop_old.ensures.fresh;
+      ordered = c.drop_old.ensures.needed;
+    })) holds

@@ -14,6 +14,6 @@ returns-then-is_empty c =
     let read : c.later.result ≡ moment_read c.args.at.now history = c.later.ensures ∙ ap (λ (one : ℕ). max one c.args.at.now) kept.moment in
     ap not c.some_recent.ensures
     ∙ ap (λ (empty : Bool). empty && not (some_recent c.later.result c.args.keep_ms c.self.inside.groups)) (sym c.if-is_empty.true ∙ c.is_empty.ensures)
-    ∙ is_quiet-by history c.self.inside.named c.self.inside.groups c.later.result c.args.keep_ms c.self.invariant.ordered
-    (Stands-of c.self.inside.moment c.self.inside.named c.self.inside.groups history c.self.invariant kept) (omega (arith, read)) kept.sockets
+    ∙ is_quiet-by history c.self.inside.named c.self.inside.groups c.later.result c.args.keep_ms c.self.invariant.consistent.needed
+    (Stands-of c.self.inside.moment c.self.inside.named c.self.inside.groups history c.self.invariant.consistent kept) (omega (arith, read)) kept.sockets
     ∙ ap (λ (at : ℕ). is_quiet history at c.args.keep_ms) read
