@@ -5,6 +5,7 @@ usage: cost.py RUNS FILE COMMAND..
 import subprocess
 import sys
 
+# The peak is of the command from its start, and so at least that of the Python that starts it, 14 MB.
 MEASURE = """
 import resource, subprocess, sys
 subprocess.run(sys.argv[2:], stdin=open(sys.argv[1]), stdout=subprocess.DEVNULL, check=True)
