@@ -8,8 +8,8 @@ use std::alloc::{AllocError, Global};
 use std::io;
 use std::io::{ErrorKind, Read, Write};
 
-// More than one buffer, and less than two.
-const LONG: usize = 5000;
+// More than one read, and less than two.
+const LONG: usize = 70_000;
 
 // An input's length, the calls that fail, and the length that is read, or why none is.
 const READINGS: [(usize, &[u64], Result<usize, ReadAllFault>); 8] = [
