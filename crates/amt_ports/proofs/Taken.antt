@@ -1,29 +1,8 @@
 -- What several reads took together.
 use Rattle.std.proofs.Common.{◌≡◌, ℕ, ◌+◌, ◌<◌, ◌≤◌, Option, None, Some, List, ◌++◌, length, take, drop, arith, length-append, append_assoc, append-nil, sym, ◌∙◌, ap}
-use Rattle.std.proofs.lemmas.List.{length-take, take-append-drop, drop-drop}
+use Rattle.std.proofs.lemmas.List.{take-append-drop, drop-drop}
 use Rattle.std.proofs.Math.Seq.{take-append-add, take-append_seam}
-use Rattle.std.specs.Io.KnownBytes.{Consumes}
-use Rattle.std.proofs.KnownBytes.{Consumes-trans}
-use Rattle.amt_ports.specs.Reading.{TakesAll, TakesMore, TakesAtMost}
-
-length-taken : (n : ℕ) (bs buf : List ℕ) → n ≤ length buf → length (bs ++ take n buf) ≡ length bs + n
-length-taken n bs buf fits = omega (arith, length-append bs (take n buf), length-take n buf)
-
--- a read of n bytes, after the bytes bs, that passes the limit
-pub TakesMore-read : (limit n : ℕ) (a b c : Option (List ℕ)) (bs buf : List ℕ) → Consumes a b bs → Consumes b c (take n buf) → n ≤ length buf → limit < length bs + n → TakesMore limit a c
-TakesMore-read limit n a b c bs buf before read fits more = record {
-  bytes = bs ++ take n buf;
-  taken = Consumes-trans a b c bs (take n buf) before read;
-  more = omega (arith, length-taken n bs buf fits);
-}
-
--- a read of n bytes, after the bytes bs, that stays within the limit
-pub TakesAtMost-read : (limit n : ℕ) (a b c : Option (List ℕ)) (bs buf : List ℕ) → Consumes a b bs → Consumes b c (take n buf) → n ≤ length buf → length bs + n ≤ limit → TakesAtMost limit a c
-TakesAtMost-read limit n a b c bs buf before read fits most = record {
-  bytes = bs ++ take n buf;
-  taken = Consumes-trans a b c bs (take n buf) before read;
-  most = omega (arith, length-taken n bs buf fits);
-}
+use Rattle.amt_ports.specs.Reading.{TakesAll, TakesMore}
 
 -- the room after the bytes before was read into, and cut after the n bytes that were read
 pub read_into : (before room buf more rest resized : List ℕ) (start len n : ℕ) → start ≡ length before → resized ≡ before ++ room

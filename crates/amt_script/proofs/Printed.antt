@@ -37,7 +37,7 @@ secret_line secret octets whole =
     )
 
 datagram_line : (from : Peer) (bytes : List ℕ) → AreOctets bytes → length bytes ≤ 65535 → IsPeerText from (peer_text from)
-    → IsItemLine (items.Event (Datagram from bytes)) (codes "dg " ++ (peer_text from ++ (codes " " ++ hex_text bytes)))
+    → IsItemLine (items.Event (Datagram bytes from)) (codes "dg " ++ (peer_text from ++ (codes " " ++ hex_text bytes)))
 datagram_line from bytes octets short names =
     let word = glyphs_of_literal (codes "dg") (search rules) in
     let peer = peer_word from names in
@@ -78,7 +78,7 @@ secret_said secret octets whole =
     record { short = omega (arith, digits); says = secret_line secret octets whole }
 
 pub datagram_said : (from : Peer) (bytes : List ℕ) → AreOctets bytes → length bytes ≤ 65535 → IsPeerText from (peer_text from)
-    → IsLineThatSays (Datagram from bytes) (codes "dg " ++ (peer_text from ++ (codes " " ++ hex_text bytes)))
+    → IsLineThatSays (Datagram bytes from) (codes "dg " ++ (peer_text from ++ (codes " " ++ hex_text bytes)))
 datagram_said from bytes octets short names =
     let peer = peer_length from.ip from.port names.port in
     let digits = hex_length bytes short in

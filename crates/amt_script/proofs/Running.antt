@@ -26,7 +26,7 @@ hex_sized bytes text (inr some) =
 
 event_sized : (event : Event) (line : List (List ℕ)) → SaysEvent event line → IsEvent event
 event_sized (Moment moment) line says = tt
-event_sized (Datagram from bytes) line says = hex_sized bytes says.next says.names_next
+event_sized (Datagram bytes from) line says = hex_sized bytes says.next says.names_next
 event_sized (Packet bytes) line says = hex_sized bytes says.text says.names
 event_sized (Rotate secret) line says = tt
 

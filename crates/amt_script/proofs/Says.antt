@@ -27,7 +27,7 @@ pub record IsFit (kind : Kind) (line : List (List ℕ)) : Type 0 where
 
 abbrev pub kind_of_event : Event → Kind
 kind_of_event (events.Moment ms) = kinds.Moment
-kind_of_event (events.Datagram from bytes) = kinds.Datagram
+kind_of_event (events.Datagram bytes from) = kinds.Datagram
 kind_of_event (events.Packet bytes) = kinds.Packet
 kind_of_event (events.Rotate secret) = kinds.Secret
 
@@ -66,7 +66,7 @@ event_is_fit (events.Moment ms) line says = record {
   parts = says.parts;
   fits = one_fits a_moment says.text (moment_fits ms says.text says.names);
 }
-event_is_fit (events.Datagram from bytes) line says = record {
+event_is_fit (events.Datagram bytes from) line says = record {
   values = says.text ∷ says.next ∷ [];
   parts = says.parts;
   fits = two_fit a_peer some_octets says.text says.next (peer_fits from says.text says.names) (octets_fit bytes says.next says.names_next);
@@ -92,7 +92,7 @@ item_is_fit items.Show line says = record { values = []; parts = says; fits = no
 
 pub no_set_item : (item : RelayItem) (key : Key) → kinds.Set key ≡ kind_of_item item → ⊥
 no_set_item (items.Event (events.Moment ms)) key same = cc same
-no_set_item (items.Event (events.Datagram from bytes)) key same = cc same
+no_set_item (items.Event (events.Datagram bytes from)) key same = cc same
 no_set_item (items.Event (events.Packet bytes)) key same = cc same
 no_set_item (items.Event (events.Rotate secret)) key same = cc same
 no_set_item items.Show key same = cc same

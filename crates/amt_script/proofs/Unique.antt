@@ -59,12 +59,12 @@ set_key one other line h k =
 pub SaysSetting-unique : (one other : Setting) (line : List (List ℕ)) → SaysSetting one line → SaysSetting other line → one ≡ other
 SaysSetting-unique one other line h k = SaysSetting-same one other line (set_key one other line h k) h k
 
-same_datagram : (from from' : Peer) (bytes bytes' : List ℕ) → from ≡ from' → bytes ≡ bytes' → events.Datagram from bytes ≡ events.Datagram from' bytes'
+same_datagram : (from from' : Peer) (bytes bytes' : List ℕ) → from ≡ from' → bytes ≡ bytes' → events.Datagram bytes from ≡ events.Datagram bytes' from'
 same_datagram from from' bytes bytes' same_from same_bytes = rw (same_from, same_bytes) refl
 
 SaysEvent-same : (one other : Event) (line : List (List ℕ)) → kind_of_event one ≡ kind_of_event other → SaysEvent one line → SaysEvent other line → one ≡ other
 SaysEvent-same (events.Moment x) (events.Moment y) line same h k = ap (λ (v : ℕ). events.Moment v) (one_field _ IsMomentText IsMomentText-unique x y line h k)
-SaysEvent-same (events.Datagram from bytes) (events.Datagram from' bytes') line same h k =
+SaysEvent-same (events.Datagram bytes from) (events.Datagram bytes' from') line same h k =
     let parts = sym h.parts ∙ k.parts in
     let same_peer : h.text ≡ k.text = cc in
     let same_hex : h.next ≡ k.next = cc in
@@ -78,11 +78,11 @@ SaysItem-same : (one other : RelayItem) (line : List (List ℕ)) → kind_of_ite
 SaysItem-same (items.Event one) (items.Event other) line same h k = ap (λ (event : Event). items.Event event) (SaysEvent-same one other line same h k)
 SaysItem-same items.Show items.Show line same h k = refl
 SaysItem-same (items.Event (events.Moment ms)) items.Show line same h k = cc same
-SaysItem-same (items.Event (events.Datagram from bytes)) items.Show line same h k = cc same
+SaysItem-same (items.Event (events.Datagram bytes from)) items.Show line same h k = cc same
 SaysItem-same (items.Event (events.Packet bytes)) items.Show line same h k = cc same
 SaysItem-same (items.Event (events.Rotate secret)) items.Show line same h k = cc same
 SaysItem-same items.Show (items.Event (events.Moment ms)) line same h k = cc same
-SaysItem-same items.Show (items.Event (events.Datagram from bytes)) line same h k = cc same
+SaysItem-same items.Show (items.Event (events.Datagram bytes from)) line same h k = cc same
 SaysItem-same items.Show (items.Event (events.Packet bytes)) line same h k = cc same
 SaysItem-same items.Show (items.Event (events.Rotate secret)) line same h k = cc same
 

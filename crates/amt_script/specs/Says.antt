@@ -28,7 +28,7 @@ SaysSetting (settings.Secret secret) = HasField (words_of (kinds.Set keys.Secret
 -- a line of these fields says the event
 abbrev pub SaysEvent : Event → List (List ℕ) → Type 0
 SaysEvent (events.Moment ms) = HasField (words_of kinds.Moment) (IsMomentText ms)
-SaysEvent (events.Datagram from bytes) = HasTwoFields (words_of kinds.Datagram) (IsPeerText from) (IsHexText bytes)
+SaysEvent (events.Datagram bytes from) = HasTwoFields (words_of kinds.Datagram) (IsPeerText from) (IsHexText bytes)
 SaysEvent (events.Packet bytes) = HasField (words_of kinds.Packet) (IsHexText bytes)
 SaysEvent (events.Rotate secret) = HasField (words_of kinds.Secret) (IsSecretText secret)
 

@@ -1,21 +1,9 @@
 -- What is written of a relay's events, of its steps and of what stands.
 use Rattle.std.specs.Prelude.{ℕ, ◌+◌, true, false, List, [], ◌∷◌, ◌++◌, length, codes, decimal, flat_map, Option, Some, None}
 use Rattle.std.specs.List.{filter_map}
-use Rattle.std.specs.Int.{w16, to_be_bytes}
-use Rattle.hex.specs.Hex.{encode_lower}
 use Rattle.amt_values.specs.declared.address.Ip.{Ip}
 use Rattle.amt_values.specs.Endpoint.{peer_of}
 use Rattle.amt_values.specs.Text.{ip_text, peer_text}
-use Rattle.amt_messages.specs.declared.refusal.Refused.{Refused}
-use Rattle.amt_messages.specs.declared.refusal.Refused.TheVariants.{Empty, Version, Kind, NoInner, Short, Long}
-use Rattle.inner_datagrams.specs.declared.head.HeadFault.{HeadFault}
-use Rattle.inner_datagrams.specs.declared.head.HeadFault.TheVariants as head
-use Rattle.inner_datagrams.specs.declared.inner.InnerFault.{InnerFault}
-use Rattle.inner_datagrams.specs.declared.inner.InnerFault.TheVariants as inner
-use Rattle.source_filter.specs.declared.fault.ReportFault.{ReportFault}
-use Rattle.source_filter.specs.declared.fault.ReportFault.TheVariants as report
-use Rattle.source_filter.specs.declared.mode.Mode.{Mode}
-use Rattle.source_filter.specs.declared.mode.Mode.TheVariants.{Include, Exclude}
 use Rattle.endpoint_membership.specs.declared.limits.LimitFault.{LimitFault}
 use Rattle.endpoint_membership.specs.declared.limits.LimitFault.TheVariants.{Sources, Groups, Endpoints}
 use Rattle.endpoint_membership.specs.declared.row.Row.{Row}
@@ -32,47 +20,11 @@ use Rattle.relay_machine.specs.declared.outcome.Unlawful.TheVariants.{Inner, Rep
 use Rattle.relay_machine.specs.declared.sends.OneSend.{OneSend}
 use Rattle.relay_machine.specs.declared.settings.Settings.{Settings}
 use Rattle.relay_machine.specs.Answers.{outcome_of, rows_after, sends_of}
-use Rattle.script_lines.specs.Texts.{hex_text, closing_text}
+use Rattle.script_lines.specs.Texts.{hex_text, closing_text, mode_text}
+use Rattle.fault_texts.specs.Texts.{head_text, inner_text, refusal_text, report_text}
 use Rattle.amt_script.specs.declared.script.RelayItem.{RelayItem}
 use Rattle.amt_script.specs.declared.script.RelayItem.TheVariants as items
 use Rattle.amt_script.specs.declared.script.RelayScript.{RelayScript}
-
--- why octets are no message (RFC 7450, section 5.1)
-abbrev pub refusal_text : Refused → List ℕ
-refusal_text Empty = codes "empty"
-refusal_text (Version version) = codes "version " ++ decimal version
-refusal_text (Kind kind) = codes "kind " ++ decimal kind
-refusal_text NoInner = codes "noinner"
-refusal_text (Short need have) = codes "short " ++ (decimal need ++ (codes " " ++ decimal have))
-refusal_text (Long need have) = codes "long " ++ (decimal need ++ (codes " " ++ decimal have))
-
--- a checksum, in four hexadecimal digits
-abbrev pub sum_text : ℕ → List ℕ
-sum_text sum = encode_lower (to_be_bytes w16 sum)
-
--- a wrong checksum: the one wanted, and the one there
-abbrev pub sums_text : ℕ → ℕ → List ℕ
-sums_text want have = codes "sum " ++ (sum_text want ++ (codes " " ++ sum_text have))
-
--- what is wrong with the datagram in an Update (RFC 791, section 3.1; RFC 8200, sections 3 and 4)
-abbrev pub inner_text : InnerFault → List ℕ
-inner_text (inner.Version version) = codes "version " ++ decimal version
-inner_text (inner.ShortHeader need have) = codes "short " ++ (decimal need ++ (codes " " ++ decimal have))
-inner_text (inner.HeaderLength words) = codes "header " ++ decimal words
-inner_text (inner.TotalLength want have) = codes "length " ++ (decimal want ++ (codes " " ++ decimal have))
-inner_text (inner.HeaderSum want have) = sums_text want have
-inner_text (inner.Fragment bits) = codes "fragment " ++ decimal bits
-inner_text (inner.Protocol protocol) = codes "protocol " ++ decimal protocol
-inner_text (inner.Extension kind) = codes "extension " ++ decimal kind
-
--- what is wrong with the membership report in it (RFC 3376, section 4.2)
-abbrev pub report_text : ReportFault → List ℕ
-report_text (report.Short need have) = codes "short " ++ (decimal need ++ (codes " " ++ decimal have))
-report_text (report.Kind kind) = codes "kind " ++ decimal kind
-report_text (report.OldReport kind) = codes "old " ++ decimal kind
-report_text (report.Sum want have) = sums_text want have
-report_text (report.RecordShort index) = codes "record " ++ decimal index
-report_text (report.SourceShort index) = codes "sources " ++ decimal index
 
 -- why an Update has no lawful report
 abbrev pub unlawful_text : Unlawful → List ℕ
@@ -84,11 +36,6 @@ abbrev pub limit_text : LimitFault → List ℕ
 limit_text (Sources group count) = codes "sources " ++ (ip_text group ++ (codes " " ++ decimal count))
 limit_text (Groups count) = codes "groups " ++ decimal count
 limit_text (Endpoints count) = codes "endpoints " ++ decimal count
-
--- what is wrong with the head of a packet (RFC 791, section 3.1; RFC 8200, section 3)
-abbrev pub head_text : HeadFault → List ℕ
-head_text (head.Version version) = codes "version " ++ decimal version
-head_text (head.ShortHeader need have) = codes "short " ++ (decimal need ++ (codes " " ++ decimal have))
 
 -- why a packet is copied to nobody
 abbrev pub not_forwarded_text : NotForwarded → List ℕ
@@ -120,7 +67,7 @@ outcome_text (Copied count) = codes "copied " ++ decimal count
 -- `at MS`, `dg PEER HEX`, `mc HEX` or `secret HEX`
 abbrev pub event_line : Event → List ℕ
 event_line (events.Moment moment) = codes "at " ++ decimal moment
-event_line (events.Datagram from bytes) = codes "dg " ++ (peer_text from ++ (codes " " ++ hex_text bytes))
+event_line (events.Datagram bytes from) = codes "dg " ++ (peer_text from ++ (codes " " ++ hex_text bytes))
 event_line (events.Packet bytes) = codes "mc " ++ hex_text bytes
 event_line (events.Rotate secret) = codes "secret " ++ hex_text secret.0
 
@@ -140,11 +87,6 @@ answer_line number outcome = codes "= " ++ (decimal number ++ (codes " " ++ (out
 -- `= N OUTCOME`, and a line for each send
 unfoldable pub step_text : ℕ → Outcome → List OneSend → List ℕ
 step_text number outcome sends = answer_line number outcome ++ flat_map send_text sends
-
--- a filter mode (RFC 3376, section 3.1)
-abbrev pub mode_text : Mode → List ℕ
-mode_text Include = codes "include"
-mode_text Exclude = codes "exclude"
 
 -- the listed sources with commas between them, or `-` for none
 abbrev pub sources_text : List Ip → List ℕ

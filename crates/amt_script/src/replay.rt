@@ -18,7 +18,7 @@ use amt_ports::Sink;
 use amt_values::Bytes;
 use endpoint_membership::Rows;
 use relay_machine::{Event, Relay};
-use script_lines::{RunFault, append_closing, write_held, write_much};
+use script_lines::{RunFault, append_closing, write_held, write_where_full};
 use std::alloc::Global;
 
 // What is written of an event goes on to where what is held follows it.
@@ -50,7 +50,7 @@ fn write_step<O: Sink>(
     let Ok(()) = append_relay_step(held, number, &step) else {
         return Err(RunFault::Memory);
     };
-    write_much(held, out)
+    write_where_full(held, out)
 }
 
 // A line for each membership, in pieces.
@@ -65,7 +65,7 @@ fn write_each_row<O: Sink>(rows: &Rows, held: &mut Bytes, out: &mut O) -> Result
         let Ok(()) = append_row(held, row) else {
             return Err(RunFault::Memory);
         };
-        match write_much(held, out) {
+        match write_where_full(held, out) {
             Ok(()) => {}
             Err(fault) => return Err(fault),
         }

@@ -1,21 +1,14 @@
 //! The text of the memberships that are shown. It knows no relay.
 
-ghost use Rattle.std.specs.Prelude.{◌≡◌, ◌++◌, codes, OnOk};
-ghost use Rattle.amt_script.specs.Texts.{count_line, mode_text, row_text, sources_text};
+ghost use Rattle.std.specs.Prelude.{◌≡◌, ◌∷◌, ◌++◌, [], codes, OnOk};
+ghost use Rattle.script_lines.specs.Texts.{mode_text};
+ghost use Rattle.amt_script.specs.Texts.{count_line, row_text, sources_text};
 
 use amt_values::{Bytes, Ip, append_numeral};
 use endpoint_membership::Row;
-use source_filter::Mode;
+use script_lines::{append_ip, append_peer, mode_word};
+use source_filter::Filter;
 use std::alloc::AllocError;
-
-fn mode_word(mode: Mode) -> &'static str
-    ensures { result.now ≡ mode_text mode }
-{
-    match mode {
-        Mode::Include => "include",
-        Mode::Exclude => "exclude",
-    }
-}
 
 fn append_sources(text: &mut Bytes, sources: &[Ip]) -> Result<(), AllocError>
     ensures { OnOk result (text.new ≡ text.old ++ sources_text sources.now) }
@@ -23,11 +16,23 @@ fn append_sources(text: &mut Bytes, sources: &[Ip]) -> Result<(), AllocError>
     let Some((first, rest)) = sources.split_first() else {
         return text.append(b"-");
     };
-    write!(text, "{first}")?;
+    append_ip(text, first)?;
     for source in rest {
-        write!(text, ",{source}")?;
+        text.append(b",")?;
+        append_ip(text, source)?;
     }
     Ok(())
+}
+
+// The mode and the sources, which end a membership's line.
+fn append_filter(text: &mut Bytes, filter: &Filter) -> Result<(), AllocError>
+    ensures { OnOk result (text.new ≡ text.old
+        ++ (mode_text filter.now.mode ++ (codes " " ++ (sources_text filter.now.sources ++ 10 ∷ [])))) }
+{
+    text.append(mode_word(filter.mode()).as_bytes())?;
+    text.append(b" ")?;
+    append_sources(text, filter.sources())?;
+    text.append(b"\n")
 }
 
 /// Puts a membership's line at the end.
@@ -35,12 +40,12 @@ fn append_sources(text: &mut Bytes, sources: &[Ip]) -> Result<(), AllocError>
 pub fn append_row(text: &mut Bytes, row: &Row) -> Result<(), AllocError>
     ensures { OnOk result (text.new ≡ text.old ++ row_text row.now) }
 {
-    let peer = row.endpoint.peer();
-    let group = row.group;
-    let mode = mode_word(row.filter.mode());
-    write!(text, "* {peer} {group} {mode} ")?;
-    append_sources(text, row.filter.sources())?;
-    text.append(b"\n")
+    text.append(b"* ")?;
+    append_peer(text, &row.endpoint.peer())?;
+    text.append(b" ")?;
+    append_ip(text, &row.group)?;
+    text.append(b" ")?;
+    append_filter(text, &row.filter)
 }
 
 /// Puts the line before the memberships at the end: how many there are.

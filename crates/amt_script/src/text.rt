@@ -7,10 +7,11 @@ ghost use Rattle.relay_machine.specs.declared.outcome.Outcome.TheVariants.{Queri
 ghost use Rattle.amt_script.specs.Printed.{IsLineOf, IsLineThatSays};
 ghost use Rattle.amt_script.specs.Texts.{answer_line, outcome_text, event_line, event_text, send_text, step_text};
 
-use crate::fault_text::{append_limit, append_not_forwarded, append_refusal, append_unlawful};
+use crate::fault_text::{append_limit, append_not_forwarded, append_unlawful};
 use amt_values::{Bytes, Peer, append_numeral, print_peer};
+use fault_texts::append_refusal;
 use relay_machine::{Event, NotForwarded, OneSend, Outcome, Step};
-use script_lines::append_hex;
+use script_lines::{append_hex, append_peer};
 use std::alloc::{AllocError, Global};
 
 fn append_queried(text: &mut Bytes, v6: bool, limited: bool) -> Result<(), AllocError>
@@ -73,8 +74,8 @@ fn append_outcome(text: &mut Bytes, outcome: &Outcome) -> Result<(), AllocError>
 
 fn print_datagram_line(alloc: Global, from: &Peer, bytes: &Bytes) -> Result<Bytes, AllocError>
     requires { length bytes.now ≤ 65535 }
-    ensures value { IfOk result (λ text. text ≡ event_line (events.Datagram from.now bytes.now)) }
-    ensures says { IfOk result (IsLineThatSays (events.Datagram from.now bytes.now)) }
+    ensures value { IfOk result (λ text. text ≡ event_line (events.Datagram bytes.now from.now)) }
+    ensures says { IfOk result (IsLineThatSays (events.Datagram bytes.now from.now)) }
 {
     let peer = print_peer(alloc, from)?;
     let mut text = Bytes::copied(alloc, b"dg ")?;
@@ -131,8 +132,9 @@ pub fn print_relay_event(alloc: Global, event: &Event) -> Result<Bytes, AllocErr
 fn append_send(text: &mut Bytes, send: &OneSend) -> Result<(), AllocError>
     ensures { OnOk result (text.new ≡ text.old ++ send_text send.now) }
 {
-    let peer = send.to.peer();
-    write!(text, "> {peer} ")?;
+    text.append(b"> ")?;
+    append_peer(text, &send.to.peer())?;
+    text.append(b" ")?;
     append_hex(text, send.bytes.as_slice())?;
     text.append(b"\n")
 }

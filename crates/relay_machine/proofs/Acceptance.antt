@@ -222,7 +222,7 @@ packet-neither false octets reading targets packet = head-neither reading target
 
 -- what comes as a datagram is octets
 abbrev pub AreOctetsIn : Event → Type 0
-AreOctetsIn event = (from : Peer) (bytes : List ℕ) → event ≡ Datagram from bytes → AreOctets bytes
+AreOctetsIn event = (from : Peer) (bytes : List ℕ) → event ≡ Datagram bytes from → AreOctets bytes
 
 -- an event that comes to Updated is an accepted Update
 pub accepted-updated : (settings : Settings) (first : Secret) (events : List Event) (event : Event) → AreOctetsIn event
@@ -231,7 +231,7 @@ accepted-updated settings first events (Moment moment) octets same = cc
 accepted-updated settings first events (Rotate secret) octets same = cc
 accepted-updated settings first events (Packet bytes) octets same =
     absurd ((packet-neither (nat_lt settings.packet_limit (length bytes)) (length bytes) (head_of bytes) (targets_at (table_settings_of settings) (accepted_log settings first events) (now_of events)) bytes).0 same)
-accepted-updated settings first events (Datagram from bytes) octets same =
+accepted-updated settings first events (Datagram bytes from) octets same =
     let terms = table_settings_of settings in
     let log = accepted_log settings first events in
     let update = datagram-updated settings (secrets_of first events) (now_of events) log (endpoint_of from) (message_of bytes) same in
@@ -261,7 +261,7 @@ accepted-torn settings first events (Moment moment) same = cc
 accepted-torn settings first events (Rotate secret) same = cc
 accepted-torn settings first events (Packet bytes) same =
     absurd ((packet-neither (nat_lt settings.packet_limit (length bytes)) (length bytes) (head_of bytes) (targets_at (table_settings_of settings) (accepted_log settings first events) (now_of events)) bytes).1 same)
-accepted-torn settings first events (Datagram from bytes) same =
+accepted-torn settings first events (Datagram bytes from) same =
     let teardown = datagram-torn settings (secrets_of first events) (now_of events) (accepted_log settings first events) (endpoint_of from) (message_of bytes) same in (
       teardown.named,
       record {

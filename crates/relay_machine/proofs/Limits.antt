@@ -136,7 +136,7 @@ within-back settings first (Rotate secret ∷ earlier) = within-back settings fi
 within-back settings first (Packet bytes ∷ earlier) =
     let log = accepted_back settings first earlier in
     within-packet (table_settings_of settings) log (targets_at (table_settings_of settings) log (now_of (reverse earlier))) bytes (head_to_copy settings.packet_limit bytes) (within-back settings first earlier)
-within-back settings first (Datagram from bytes ∷ earlier) =
+within-back settings first (Datagram bytes from ∷ earlier) =
     within-datagram settings (secrets_of first (reverse earlier)) (now_of (reverse earlier)) (accepted_back settings first earlier) (endpoint_of from) (message_of bytes)
     (within-back settings first earlier)
 

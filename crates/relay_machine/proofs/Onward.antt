@@ -194,19 +194,19 @@ payload-unmoved : (settings : Settings) (secrets : Secrets) (log : List Change) 
 payload-unmoved settings secrets log (Moment moment) payload = absurd payload
 payload-unmoved settings secrets log (Rotate secret) payload = absurd payload
 payload-unmoved settings secrets log (Packet bytes) payload = packet-unmoved log (targets_at (table_settings_of settings) log (latest log)) bytes (head_to_copy settings.packet_limit bytes)
-payload-unmoved settings secrets log (Datagram from bytes) payload = datagram-unmoved settings secrets log (endpoint_of from) (message_of bytes)
+payload-unmoved settings secrets log (Datagram bytes from) payload = datagram-unmoved settings secrets log (endpoint_of from) (message_of bytes)
 
 payload_moment : (event : Event) → IsPayload event → filter_map moment_in (event ∷ []) ≡ []
 payload_moment (Moment moment) payload = absurd payload
 payload_moment (Rotate secret) payload = absurd payload
 payload_moment (Packet bytes) payload = refl
-payload_moment (Datagram from bytes) payload = refl
+payload_moment (Datagram bytes from) payload = refl
 
 payload_secret : (event : Event) → IsPayload event → filter_map secret_in (event ∷ []) ≡ []
 payload_secret (Moment moment) payload = absurd payload
 payload_secret (Rotate secret) payload = absurd payload
 payload_secret (Packet bytes) payload = refl
-payload_secret (Datagram from bytes) payload = refl
+payload_secret (Datagram bytes from) payload = refl
 
 -- what is answered by the table's own log is what is answered by the events
 pub answered-after : {E : Type 0} (relay : Relay) (after : TableValue) (settings : Settings) (first : Secret) (events : List Event) (event : Event) (result : Result Step E)

@@ -31,7 +31,7 @@ pub record IsAcceptedUpdate (settings : Settings) (first : Secret) (events : Lis
   pub mac : Mac48
   pub nonce : ℕ
   pub inner : List ℕ
-  pub came : event ≡ Datagram from bytes
+  pub came : event ≡ Datagram bytes from
   pub source : endpoint_of from ≡ Some endpoint
   pub spelled : Spells (Update mac nonce inner) bytes
   pub good : IsGood (secrets_of first events) endpoint nonce mac
@@ -53,7 +53,7 @@ pub record IsAcceptedTeardown (settings : Settings) (first : Secret) (events : L
   pub sender : EndpointValue
   pub mac : Mac48
   pub nonce : ℕ
-  pub came : event ≡ Datagram from bytes
+  pub came : event ≡ Datagram bytes from
   pub source : endpoint_of from ≡ Some sender
   pub spelled : Spells (Teardown mac nonce named) bytes
   pub good : IsGood (secrets_of first events) named nonce mac

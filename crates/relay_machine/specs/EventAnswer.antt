@@ -107,5 +107,5 @@ event_answer settings secrets moment log (Moment reported) = entered (Moved (max
 event_answer settings secrets moment log (Rotate secret) = quiet Rotated
 event_answer settings secrets moment log (Packet bytes) =
     packet_answer (targets_at (table_settings_of settings) log moment) bytes (head_to_copy settings.packet_limit bytes)
-event_answer settings secrets moment log (Datagram from bytes) =
+event_answer settings secrets moment log (Datagram bytes from) =
     datagram_answer settings secrets moment log (endpoint_of from) (message_of bytes)

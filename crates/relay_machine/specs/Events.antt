@@ -10,7 +10,7 @@ use Rattle.relay_machine.specs.declared.event.Event.TheVariants.{Moment, Datagra
 -- the moment that an event reports, if it reports one
 abbrev pub moment_in : Event → Option ℕ
 moment_in (Moment moment) = Some moment
-moment_in (Datagram from bytes) = None
+moment_in (Datagram bytes from) = None
 moment_in (Packet bytes) = None
 moment_in (Rotate secret) = None
 
@@ -21,7 +21,7 @@ now_of events = fold max 0 (filter_map moment_in events)
 -- the secret that an event brings, if it brings one
 abbrev pub secret_in : Event → Option Secret
 secret_in (Moment moment) = None
-secret_in (Datagram from bytes) = None
+secret_in (Datagram bytes from) = None
 secret_in (Packet bytes) = None
 secret_in (Rotate secret) = Some secret
 

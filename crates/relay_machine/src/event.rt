@@ -7,8 +7,9 @@ use response_mac::Secret;
 pub enum Event {
     /// It has become this late; a moment before the relay's own changes nothing.
     Moment(Moment),
-    /// A UDP payload has come from a peer: at most 65,535 octets.
-    Datagram { from: Peer, bytes: Bytes },
+    /// A UDP payload has come from a peer: at most 65,535 octets. In this order a `Peer`, which stands
+    /// at a multiple of 16 octets, needs no room before it: an event takes 80 octets and not 96.
+    Datagram { bytes: Bytes, from: Peer },
     /// A native multicast packet has come: at most 65,535 octets.
     Packet { bytes: Bytes },
     /// A new private secret was drawn (RFC 7450, section 5.3.6).

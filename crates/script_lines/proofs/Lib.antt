@@ -1,10 +1,12 @@
 pub mod Bad
+mod Beginnings
 pub mod Begun
 mod Digits
 pub mod Firsts
 pub mod Forms
 pub mod Glyphs
 pub mod Numbers
+mod OctetDigits
 pub mod Peers
 mod Plain
 pub mod Sayings

@@ -1,13 +1,31 @@
 -- What several kinds of script print.
-use Rattle.std.specs.Prelude.{ℕ, List, [], ◌∷◌, ◌++◌, codes, decimal}
+use Rattle.std.specs.Prelude.{◌≡◌, ℕ, List, [], ◌∷◌, ◌++◌, codes, decimal}
 use Rattle.hex.specs.Hex.{encode_lower}
+use Rattle.group_records.specs.declared.family.Family.{Family}
+use Rattle.group_records.specs.declared.family.Family.TheVariants.{V4, V6}
+use Rattle.source_filter.specs.declared.mode.Mode.{Mode}
+use Rattle.source_filter.specs.declared.mode.Mode.TheVariants.{Include, Exclude}
 use Rattle.script_lines.specs.declared.reason.Reason.{Reason}
 use Rattle.script_lines.specs.declared.reason.Reason.TheVariants as reasons
+
+-- a text is another one, with something after it or not
+abbrev pub BeginsWith : List ℕ → List ℕ → Type 0
+BeginsWith text front = (rest : List ℕ) × (text ≡ front ++ rest)
 
 -- pairs of hexadecimal digits, or `-` for no octet
 abbrev pub hex_text : List ℕ → List ℕ
 hex_text [] = codes "-"
 hex_text (octet ∷ rest) = encode_lower (octet ∷ rest)
+
+-- a filter mode (RFC 3376, section 3.1)
+abbrev pub mode_text : Mode → List ℕ
+mode_text Include = codes "include"
+mode_text Exclude = codes "exclude"
+
+-- an address family, by the version of IP
+abbrev pub family_text : Family → List ℕ
+family_text V4 = codes "v4"
+family_text V6 = codes "v6"
 
 -- `. N`, the number of items
 unfoldable pub closing_text : ℕ → List ℕ
@@ -24,5 +42,8 @@ reason_word reasons.Number = codes "number"
 reason_word reasons.Hex = codes "hex"
 reason_word reasons.Address = codes "address"
 reason_word reasons.Peer = codes "peer"
+reason_word reasons.Name = codes "name"
+reason_word reasons.Mode = codes "mode"
+reason_word reasons.Group = codes "group"
 reason_word reasons.Range = codes "range"
 reason_word reasons.Missing = codes "missing"

@@ -1,6 +1,6 @@
 //! The fields of a line. It knows no kind of line.
 
-ghost use Rattle.std.specs.Prelude.{◌≡◌, ◌≢◌, ◌<◌, ℕ, ◌∷◌, [], length, take, drop, slice_index, All, MatchOption, IfSome, IfNone};
+ghost use Rattle.std.specs.Prelude.{◌≡◌, ◌≢◌, ◌<◌, ◌≤◌, ℕ, ◌∷◌, [], length, take, drop, slice_index, All, MatchOption, IfSome, IfNone};
 ghost use Rattle.script_lines.specs.Lines.{fields};
 
 use amt_values::cut_at;
@@ -9,6 +9,7 @@ use amt_values::cut_at;
 fn without_leading_spaces(line: &[u8]) -> Option<&[u8]>
     ensures spaces { IfSome result (λ rest. (n : ℕ) × All (λ octet. octet ≡ 32) (take n line.now) × (rest.now ≡ drop n line.now)) }
     ensures filled { IfSome result (λ rest. (0 < length rest.now) × (slice_index rest.now 0 ≢ 32)) }
+    ensures shorter { IfSome result (λ rest. length rest.now ≤ length line.now) }
     ensures none { IfNone result (All (λ octet. octet ≡ 32) line.now) }
 {
     let start = line.iter().position(|octet| *octet != b' ')?;
@@ -18,7 +19,8 @@ fn without_leading_spaces(line: &[u8]) -> Option<&[u8]>
 
 // The first field of a line and the octets after it; none where there are spaces alone.
 pub fn next_field(line: &[u8]) -> Option<(&[u8], &[u8])>
-    ensures { MatchOption result (fields line.now ≡ []) (λ parts. fields line.now ≡ parts.0.now ∷ fields parts.1.now) }
+    ensures parts { MatchOption result (fields line.now ≡ []) (λ parts. fields line.now ≡ parts.0.now ∷ fields parts.1.now) }
+    ensures shorter { IfSome result (λ parts. length parts.1.now < length line.now) }
 {
     let Some(text) = without_leading_spaces(line) else {
         return None;

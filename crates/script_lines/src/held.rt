@@ -1,7 +1,8 @@
 //! Text that is held back until there is much of it. It knows sinks by their trait alone.
 
-ghost use Rattle.std.specs.Prelude.{◌≡◌, ◌++◌, [], OnOk, OnErr, IfErr};
+ghost use Rattle.std.specs.Prelude.{◌≡◌, ◌<◌, ◌++◌, [], length, OnOk, OnErr, IfErr};
 ghost use Rattle.std.specs.Io.KnownBytes.{Appends};
+ghost use Rattle.script_lines.specs.declared.held.TheConstants.{HELD_SIZE};
 ghost use Rattle.script_lines.specs.Counting.{CountsWrites};
 ghost use Rattle.script_lines.specs.Writing.{WritesPrefix, WritesUpTo};
 
@@ -9,14 +10,16 @@ use crate::fault::RunFault;
 use amt_ports::{Sink, write_all_own};
 use amt_values::Bytes;
 
-/// How many octets are written at once, where there are as many.
-const MUCH: usize = 65_536;
+/// From how many octets on held text is written. Each write is a call of the system, so they are many.
+pub const HELD_SIZE: usize = 65_536;
 
-/// Writes all that is held, and holds nothing then.
+/// Writes all that is held, and holds nothing then. A sink that fails leaves it held.
 pub fn write_held<O: Sink>(held: &mut Bytes, out: &mut O) -> Result<(), RunFault>
     ensures done { OnOk result (Appends (O.written out.old) (O.written out.new) held.old) }
     ensures none { OnOk result (held.new ≡ []) }
     ensures begun { OnErr result (WritesPrefix (O.written out.old) (O.written out.new) held.old) }
+    ensures kept { OnErr result (held.new ≡ held.old) }
+
     ensures fault { IfErr result (λ fault. fault ≡ RunFault.Write) }
     ensures counts { CountsWrites (O.faults out.old) (O.faults out.new) result }
 {
@@ -29,14 +32,17 @@ pub fn write_held<O: Sink>(held: &mut Bytes, out: &mut O) -> Result<(), RunFault
     }
 }
 
-/// Writes what is held where it is 64 KiB or more.
-pub fn write_much<O: Sink>(held: &mut Bytes, out: &mut O) -> Result<(), RunFault>
+/// Writes what is held where it is `HELD_SIZE` octets or more. A sink that fails leaves it held.
+pub fn write_where_full<O: Sink>(held: &mut Bytes, out: &mut O) -> Result<(), RunFault>
     ensures done { OnOk result (WritesUpTo (O.written out.old) (O.written out.new) held.old held.new) }
+    ensures little { OnOk result (length held.new < HELD_SIZE) }
     ensures begun { OnErr result (WritesPrefix (O.written out.old) (O.written out.new) held.old) }
+    ensures kept { OnErr result (held.new ≡ held.old) }
+
     ensures fault { IfErr result (λ fault. fault ≡ RunFault.Write) }
     ensures counts { CountsWrites (O.faults out.old) (O.faults out.new) result }
 {
-    if held.len() < MUCH {
+    if held.len() < HELD_SIZE {
         return Ok(());
     }
     match write_held(held, out) {

@@ -1,6 +1,6 @@
 //! What a kind of script is to the reader of lines.
 
-ghost use Rattle.std.specs.Prelude.{List, ◌∷◌, [], OnOk, IfOk, IfErr};
+ghost use Rattle.std.specs.Prelude.{List, ◌≤◌, length, ◌∷◌, [], OnOk, IfOk, IfErr};
 ghost use Rattle.contract_words.specs.Conditions.{First};
 ghost use Rattle.script_lines.specs.Kind.{Kind, IsLawfulKind};
 ghost use Rattle.script_lines.specs.Lines.{fields};
@@ -28,8 +28,9 @@ pub trait ScriptKind: Drop {
         ensures heard { HasHeard result [] }
         ensures lawful { IsLawfulKind kind };
 
-    /// Takes a line that says something, by its first field and what follows it.
+    /// Takes a line that says something, by its first field and what follows it. It isn't too long.
     fn take(&mut self, alloc: Global, first: &[u8], rest: &[u8]) -> Result<(), LineError>
+        requires { length rest.now ≤ 140000 }
         ensures heard { (past : List Statement) → HasHeard self.old past
             → OnOk result (Hears kind HasHeard past (first.now ∷ fields rest.now) self.new) }
         ensures bad { (past : List Statement) → HasHeard self.old past

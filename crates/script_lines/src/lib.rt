@@ -6,6 +6,7 @@
 //! Standard: none of its own; the formats stand in docs/FORMATS.md.
 #![tactic(auto)]
 
+mod addresses;
 mod fault;
 mod fields;
 mod held;
@@ -16,15 +17,17 @@ mod reason;
 mod text;
 mod values;
 
+pub use addresses::{append_ip, append_peer};
 pub use fault::{LineError, RunFault, ScriptError};
 pub use fields::{next_field, only_field, two_fields};
-pub use held::{write_held, write_much};
+pub use held::{HELD_SIZE, write_held, write_where_full};
 pub use kind::ScriptKind;
-pub use reading::read_script;
+pub use reading::{MOST_OCTETS_OF_A_LINE, is_plain, read_script};
 pub use reason::Reason;
 pub use text::{append_closing, append_hex};
 pub use values::{
-    OctetsError, read_address4, read_address6, read_moment, read_number, read_octets, read_secret,
+    OctetsError, is_name, mode_word, read_address, read_address4, read_address6, read_family,
+    read_group, read_mode, read_moment, read_nonce, read_number, read_octets, read_secret,
 };
 
 #[cfg(test)]

@@ -15,8 +15,8 @@ use crate::lines::next_line;
 use crate::reason::Reason;
 use std::alloc::Global;
 
-// The most octets of a line, without its line feed and the carriage return before it.
-const MOST_OCTETS_OF_A_LINE: usize = 140_000;
+/// The most octets of a line, without its line feed and the carriage return before it.
+pub const MOST_OCTETS_OF_A_LINE: usize = 140_000;
 
 fn is_printable(octet: u8) -> bool
     ensures { IsTrue result ↔ IsInRange 32 126 octet }
@@ -24,7 +24,8 @@ fn is_printable(octet: u8) -> bool
     (32 <= octet) & (octet <= 126)
 }
 
-fn is_plain(line: &[u8]) -> bool
+/// Whether each octet is printable ASCII.
+pub fn is_plain(line: &[u8]) -> bool
     ensures { IsTrue result ↔ IsPlain line.now }
 {
     // No early end, so that many octets are tried at once.

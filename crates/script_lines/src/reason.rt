@@ -15,13 +15,19 @@ pub enum Reason {
     Count,
     /// No decimal number without a leading zero, or a moment of 2^62 or more.
     Number,
-    /// A secret without its 64 hexadecimal digits, or octets that aren't pairs of at most 131,070
-    /// digits, or a dash.
+    /// A secret without its 64 hexadecimal digits, a nonce without its 8, or octets that aren't pairs of
+    /// at most 131,070 digits, or a dash.
     Hex,
     /// No text of an address, or one of the other family.
     Address,
     /// No text of a peer.
     Peer,
+    /// No name: 1 to 32 small letters, digits and underscores.
+    Name,
+    /// Neither `include` nor `exclude`.
+    Mode,
+    /// No text of a group that packets are forwarded to, or one of the other family.
+    Group,
     /// A number outside its range; at the end of a script, one without a code.
     Range,
     /// A required setting, at the end of a script.
@@ -46,6 +52,9 @@ impl Reason {
             Reason::Hex => "hex",
             Reason::Address => "address",
             Reason::Peer => "peer",
+            Reason::Name => "name",
+            Reason::Mode => "mode",
+            Reason::Group => "group",
             Reason::Range => "range",
             Reason::Missing => "missing",
         }

@@ -1,20 +1,22 @@
 //! What several kinds of script print. It knows no machine.
 
-ghost use Rattle.std.specs.Prelude.{◌≡◌, ◌≤◌, ◌++◌, length, OnOk};
+ghost use Rattle.std.specs.Prelude.{◌≡◌, ◌≤◌, ◌++◌, length, OnOk, OnErr};
 ghost use Rattle.hex.specs.Hex.{encode_lower};
 ghost use Rattle.amt_values.specs.Octets.{AreOctets};
-ghost use Rattle.script_lines.specs.Texts.{hex_text, closing_text};
+ghost use Rattle.script_lines.specs.declared.text.TheConstants.{PIECE};
+ghost use Rattle.script_lines.specs.Texts.{BeginsWith, hex_text, closing_text};
 
 use amt_values::{Bytes, append_numeral};
 use std::alloc::AllocError;
 
-/// How many octets are turned into digits at once.
+/// How many octets are turned into digits at once. The digits stand in an array first, so they are few.
 const PIECE: usize = 32;
 
 // Puts octets at the end as pairs of hexadecimal digits.
 fn append_digits(text: &mut Bytes, octets: &[u8]) -> Result<(), AllocError>
-    requires { length octets.now ≤ 32 }
-    ensures { OnOk result (text.new ≡ text.old ++ encode_lower octets.now) }
+    requires { length octets.now ≤ PIECE }
+    ensures ok { OnOk result (text.new ≡ text.old ++ encode_lower octets.now) }
+    ensures err { OnErr result (text.new ≡ text.old) }
 {
     let mut room = [0; 2 * PIECE];
     let (digits, _) = room.split_at_mut(2 * octets.len());
@@ -25,6 +27,7 @@ fn append_digits(text: &mut Bytes, octets: &[u8]) -> Result<(), AllocError>
 /// Puts octets at the end as pairs of hexadecimal digits, or a dash for none.
 pub fn append_hex(text: &mut Bytes, octets: &[u8]) -> Result<(), AllocError>
     ensures text { OnOk result (text.new ≡ text.old ++ hex_text octets.now) }
+    ensures begun { OnErr result (BeginsWith text.new text.old) }
     ensures octets { AreOctets octets.now }
 {
     if octets.is_empty() {
@@ -42,7 +45,8 @@ pub fn append_hex(text: &mut Bytes, octets: &[u8]) -> Result<(), AllocError>
 /// Puts the last line at the end: the number of items.
 #[tactic(auto, unfolding(crate::specs::Texts::closing_text))]
 pub fn append_closing(text: &mut Bytes, count: u64) -> Result<(), AllocError>
-    ensures { OnOk result (text.new ≡ text.old ++ closing_text count) }
+    ensures text { OnOk result (text.new ≡ text.old ++ closing_text count) }
+    ensures begun { OnErr result (BeginsWith text.new text.old) }
 {
     text.append(b". ")?;
     append_numeral(text, count)?;

@@ -1,14 +1,18 @@
 //! Fields that are numbers, octets, secrets and addresses. It knows no kind of line.
 
-ghost use Rattle.std.specs.Prelude.{◌≡◌, ◌≤◌, ◌<◌, ◌^◌, ◌⊎◌, ℕ, List, IfOk, IfErr, IfSome, IfNone, IsErrOf};
+ghost use Rattle.std.specs.Prelude.{◌≡◌, ◌≤◌, ◌<◌, ◌^◌, ◌⊎◌, ℕ, List, IfOk, IfErr, IfSome, IfNone, IsErrOf, IsTrue, Some, ◌↔◌};
+ghost use Rattle.amt_values.specs.declared.address.Ip.{Ip as IpValue};
 ghost use Rattle.amt_values.specs.declared.address.Ip.TheVariants.{V4, V6};
 ghost use Rattle.amt_values.specs.Text.{IsIpText};
-ghost use Rattle.script_lines.specs.Form.{IsMomentText, IsNumberText, IsHexText, IsSecretText, Fails, a_moment, a_number, some_octets, a_secret, an_address4, an_address6};
+ghost use Rattle.script_lines.specs.Texts.{mode_text};
+ghost use Rattle.script_lines.specs.Form.{Fails, IsAddressText, IsFamilyText, IsGroupText, IsHexText, IsModeText, IsMomentText, IsName, IsNameOctet, IsNonceText, IsNumberText, IsSecretText, a_family, a_group, a_mode, a_moment, a_nonce, a_number, a_secret, an_address4, an_address6, an_address_of, is_of, some_octets};
 
 use crate::reason::Reason;
-use amt_values::{Bytes, Ip, Moment, NumeralFault, parse_ip, parse_numeral};
+use amt_values::{Bytes, Ip, Moment, NumeralFault, forwardable, parse_ip, parse_numeral};
+use group_records::Family;
 use hex::{FromHex, FromHexError};
 use response_mac::Secret;
+use source_filter::Mode;
 use std::alloc::Global;
 
 /// Why no octets were read.
@@ -17,6 +21,9 @@ pub enum OctetsError {
     NotHex,
     Memory,
 }
+
+// The most octets of a name.
+const MOST_NAME_OCTETS: usize = 32;
 
 // The most digits of a field of octets: those of the largest UDP payload.
 const MOST_DIGITS: usize = 131_070;
@@ -104,4 +111,103 @@ pub fn read_address6(text: &[u8]) -> Option<u128>
         Some(Ip::V4(_)) => None,
         None => None,
     }
+}
+
+/// A nonce by its 8 hexadecimal digits.
+pub fn read_nonce(text: &[u8]) -> Option<u32>
+    ensures found { IfSome result (λ nonce. IsNonceText nonce text.now) }
+    ensures none { IfNone result (Fails a_nonce text.now Reason.Hex) }
+{
+    match <[u8; 4] as FromHex>::from_hex(text) {
+        Ok(octets) => Some(u32::from_be_bytes(octets)),
+        Err(_) => None,
+    }
+}
+
+fn is_of(family: Option<Family>, ip: &Ip) -> bool
+    ensures { result ≡ is_of family ip.now }
+{
+    match (family, ip) {
+        (None, _) => true,
+        (Some(Family::V4), Ip::V4(_)) => true,
+        (Some(Family::V6), Ip::V6(_)) => true,
+        (Some(_), _) => false,
+    }
+}
+
+/// An address of the family, where it is known.
+pub fn read_address(family: Option<Family>, text: &[u8]) -> Option<Ip>
+    ensures found { IfSome result (λ ip. IsAddressText family ip text.now) }
+    ensures only { (ip : IpValue) → IsAddressText family ip text.now → result ≡ Some ip }
+    ensures none { IfNone result (Fails (an_address_of family) text.now Reason.Address) }
+{
+    let ip = parse_ip(text)?;
+    if is_of(family, &ip) { Some(ip) } else { None }
+}
+
+/// A group of the family, where it is known, that packets are forwarded to.
+pub fn read_group(family: Option<Family>, text: &[u8]) -> Option<Ip>
+    ensures found { IfSome result (λ group. IsGroupText family group text.now) }
+    ensures none { IfNone result (Fails (a_group family) text.now Reason.Group) }
+{
+    let group = read_address(family, text)?;
+    if forwardable(&group) {
+        Some(group)
+    } else {
+        None
+    }
+}
+
+fn is_name_octet(octet: &u8) -> bool
+    ensures { IsTrue result ↔ IsNameOctet octet.now }
+{
+    matches!(*octet, b'a'..=b'z' | b'0'..=b'9' | b'_')
+}
+
+/// Whether the text is a name.
+pub fn is_name(text: &[u8]) -> bool
+    ensures { IsTrue result ↔ IsName text.now }
+{
+    if text.is_empty() || text.len() > MOST_NAME_OCTETS {
+        return false;
+    }
+    text.iter().all(is_name_octet)
+}
+
+/// The word of a filter mode.
+pub fn mode_word(mode: Mode) -> &'static str
+    ensures { result.now ≡ mode_text mode }
+{
+    match mode {
+        Mode::Include => "include",
+        Mode::Exclude => "exclude",
+    }
+}
+
+/// A filter mode by its word.
+pub fn read_mode(text: &[u8]) -> Option<Mode>
+    ensures found { IfSome result (λ mode. IsModeText mode text.now) }
+    ensures none { IfNone result (Fails a_mode text.now Reason.Mode) }
+{
+    if text == mode_word(Mode::Include).as_bytes() {
+        return Some(Mode::Include);
+    }
+    if text == mode_word(Mode::Exclude).as_bytes() {
+        return Some(Mode::Exclude);
+    }
+    None
+}
+
+/// An address family by its word.
+pub fn read_family(text: &[u8]) -> Option<Family>
+    ensures found { IfSome result (λ family. IsFamilyText family text.now) }
+    ensures none { IfNone result (Fails a_family text.now Reason.Word) }
+{
+    if text == b"v4".as_slice() {
+        return Some(Family::V4);
+    }
+    if text == b"v6".as_slice() {
+        return Some(Family::V6);
+    }
+    None
 }

@@ -27,8 +27,8 @@ loop-row-preserved g c =
     let i = c.loop-row.row-index in
     let start = c.args.held.now in
     let held = c.in-Ok.ensures ∙ ap (λ (one : Row). c.loop-row.held ++ row_text one) c.row-item.is in
-    let done = rw held at c.in-Ok-write_much.ensures.done in
+    let done = rw held at c.in-Ok-write_where_full.ensures.done in
     record {
-      text = subst (λ (text : List ℕ). WritesUpTo (g.O.Sink.written c.args.out.now) (g.O.Sink.written c.write_much.new.out) text c.write_much.new.held) (sym (row_more start rows i _ c.loop-row-test.true)) (written_on _ _ _ (start ++ flat_map row_text (take i rows)) _ c.loop-row.held c.write_much.new.held c.loop-row.invariant.text done);
-      calm = c.in-Ok-write_much.ensures.counts.quiet (λ fault. cc fault) ∙ c.loop-row.invariant.calm;
+      text = subst (λ (text : List ℕ). WritesUpTo (g.O.Sink.written c.args.out.now) (g.O.Sink.written c.write_where_full.new.out) text c.write_where_full.new.held) (sym (row_more start rows i _ c.loop-row-test.true)) (written_on _ _ _ (start ++ flat_map row_text (take i rows)) _ c.loop-row.held c.write_where_full.new.held c.loop-row.invariant.text done);
+      calm = c.in-Ok-write_where_full.ensures.counts.quiet (λ fault. cc fault) ∙ c.loop-row.invariant.calm;
     }

@@ -15,17 +15,17 @@ pub returns-clause-done : goal.returns-clause-done
 returns-clause-done g c = λ settings first events at.
     let held = c.args.held.now in
     let same = c.in-Ok-append_relay_step.ensures ∙ ap (λ (text : List ℕ). held ++ text) (same_step c.args.number _ _ _ _ (c.in-Ok.ensures.outcome settings first events at) (c.in-Ok.ensures.sends settings first events at)) in
-    rw same at c.write_much.ensures.done
+    rw same at c.write_where_full.ensures.done
 
 pub returns-clause-begun : goal.returns-clause-begun
 returns-clause-begun g c = λ settings first events at.
     let held = c.args.held.now in
     let same = c.in-Ok-append_relay_step.ensures ∙ ap (λ (text : List ℕ). held ++ text) (same_step c.args.number _ _ _ _ (c.in-Ok.ensures.outcome settings first events at) (c.in-Ok.ensures.sends settings first events at)) in
-    rw same at c.write_much.ensures.begun
+    rw same at c.write_where_full.ensures.begun
 
 whatever_result : {P : Type 0} (result : Result (Unit {0}) RunFault) → P → OnOk result P
 whatever_result (Ok done) h = h
 whatever_result (Err fault) h = tt
 
 pub returns-clause-next : goal.returns-clause-next
-returns-clause-next g c = λ settings first events at. whatever_result c.write_much.result (c.in-Ok.ensures.next settings first events at)
+returns-clause-next g c = λ settings first events at. whatever_result c.write_where_full.result (c.in-Ok.ensures.next settings first events at)

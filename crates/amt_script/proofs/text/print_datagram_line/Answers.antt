@@ -12,4 +12,4 @@ returns-clause-says c =
     let bytes = c.args.bytes.now in
     let octets : AreOctets bytes = search rules in
     let same : c.append_hex.new.text ≡ codes "dg " ++ (peer_text c.args.from.now ++ (codes " " ++ hex_text bytes)) = search (rules, append_assoc) in
-    subst (IsLineThatSays (Datagram c.args.from.now bytes)) (sym same) (datagram_said c.args.from.now bytes octets c.requires (rw c.in_ok-peer.ensures.text at c.in_ok-peer.ensures.back))
+    subst (IsLineThatSays (Datagram bytes c.args.from.now)) (sym same) (datagram_said c.args.from.now bytes octets c.requires (rw c.in_ok-peer.ensures.text at c.in_ok-peer.ensures.back))

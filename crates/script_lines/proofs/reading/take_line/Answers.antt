@@ -8,7 +8,7 @@ pub returns-in-Ok-clause-taken : goal.returns-in-Ok-clause-taken
 returns-in-Ok-clause-taken g c = λ before begun.
     let kind = g.K.ScriptKind.kind in
     let line = c.args.line.now in
-    let parts = c.in-Some.ensures in
+    let parts = c.in-Some.ensures.parts in
     let heard = c.in-Ok.ensures.heard begun.said begun.heard in
     let plain : IsPlain line = search rules in
     has_begun_said kind g.K.ScriptKind.HasHeard _ _ before line begun heard.0 c.if-line-gt-MOST_OCTETS_OF_A_LINE.false
@@ -18,7 +18,7 @@ returns-in-Ok-clause-taken g c = λ before begun.
 pub returns-in-Err-clause-bad : goal.returns-in-Err-clause-bad
 returns-in-Err-clause-bad g c = λ past h.
     let line = c.args.line.now in
-    let parts = c.in-Some.ensures in
+    let parts = c.in-Some.ensures.parts in
     let plain : IsPlain line = search rules in
     fails_on_line g.K.ScriptKind.kind past line _ c.in-Err.error c.if-line-gt-MOST_OCTETS_OF_A_LINE.false
     (something line c.in-Some.first.now _ parts (sym c.is_comment.ensures ∙ c.if-is_comment.false)) plain parts (c.in-Err.ensures.bad past h)

@@ -57,23 +57,23 @@ returns-in-Moment-clause-published c log holds =
 pub returns-in-Datagram-clause-outcome : goal.returns-in-Datagram-clause-outcome
 returns-in-Datagram-clause-outcome c settings first events at =
     rw c.in-Datagram.is (IfOk-weaker c.take_datagram.result _ _ (λ step is. is.outcome)
-    (answered-after c.args.self.now _ settings first events (Datagram c.in-Datagram.from c.in-Datagram.bytes) c.take_datagram.result at c.take_datagram.ensures.answers))
+    (answered-after c.args.self.now _ settings first events (Datagram c.in-Datagram.bytes c.in-Datagram.from) c.take_datagram.result at c.take_datagram.ensures.answers))
 
 pub returns-in-Datagram-clause-sends : goal.returns-in-Datagram-clause-sends
 returns-in-Datagram-clause-sends c settings first events at =
     rw c.in-Datagram.is (IfOk-weaker c.take_datagram.result _ _ (λ step is. is.sends)
-    (answered-after c.args.self.now _ settings first events (Datagram c.in-Datagram.from c.in-Datagram.bytes) c.take_datagram.result at c.take_datagram.ensures.answers))
+    (answered-after c.args.self.now _ settings first events (Datagram c.in-Datagram.bytes c.in-Datagram.from) c.take_datagram.result at c.take_datagram.ensures.answers))
 
 pub returns-in-Datagram-clause-change : goal.returns-in-Datagram-clause-change
 returns-in-Datagram-clause-change c settings first events at =
     rw c.in-Datagram.is (IfOk-weaker c.take_datagram.result _ _ (λ step is. is.change)
-    (answered-after c.args.self.now _ settings first events (Datagram c.in-Datagram.from c.in-Datagram.bytes) c.take_datagram.result at c.take_datagram.ensures.answers))
+    (answered-after c.args.self.now _ settings first events (Datagram c.in-Datagram.bytes c.in-Datagram.from) c.take_datagram.result at c.take_datagram.ensures.answers))
 
 pub returns-in-Datagram-clause-next : goal.returns-in-Datagram-clause-next
 returns-in-Datagram-clause-next c settings first events at =
     rw c.in-Datagram.is (IfOk-weaker c.take_datagram.result _ _
-    (λ step is. RelayAt-payload c.args.self.now _ settings first events (Datagram c.in-Datagram.from c.in-Datagram.bytes) at tt refl refl is.stands)
-    (answered-after c.args.self.now _ settings first events (Datagram c.in-Datagram.from c.in-Datagram.bytes) c.take_datagram.result at c.take_datagram.ensures.answers))
+    (λ step is. RelayAt-payload c.args.self.now _ settings first events (Datagram c.in-Datagram.bytes c.in-Datagram.from) at tt refl refl is.stands)
+    (answered-after c.args.self.now _ settings first events (Datagram c.in-Datagram.bytes c.in-Datagram.from) c.take_datagram.result at c.take_datagram.ensures.answers))
 
 pub returns-in-Datagram-clause-within : goal.returns-in-Datagram-clause-within
 returns-in-Datagram-clause-within c settings first events at =

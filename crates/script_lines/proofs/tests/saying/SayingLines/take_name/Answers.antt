@@ -10,7 +10,7 @@ returns-in-Ok-give-clause-heard c = λ past those.
     let octets = c.args.self.now.octets in
     let name = c.in-Some.name.now in
     let rest = fields c.args.rest.now in
-    let alone = c.in-Some.ensures ∙ ap (λ (more : List (List ℕ)). name ∷ more) c.in-None.ensures in
+    let alone = c.in-Some.ensures.parts ∙ ap (λ (more : List (List ℕ)). name ∷ more) c.in-None.ensures.parts in
     let none = none_said octets (rw c.len.ensures at c.if-len-gt0.false) in
     let new : IsGiven names name → ⊥ = search rules in (
       named name,

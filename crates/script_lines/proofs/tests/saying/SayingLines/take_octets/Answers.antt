@@ -13,14 +13,14 @@ returns-in-Ok-clause-heard c = λ past those.
     let texts = fields c.in-Some-next_field.field-0.1.now in
     let given : IsGiven names name = search rules in
     let found = c.in-Ok.ensures.found in
-    let parts = c.in-Some.ensures ∙ ap (λ (more : List (List ℕ)). name ∷ more) c.in-Some-next_field.ensures in (
+    let parts = c.in-Some.ensures.parts ∙ ap (λ (more : List (List ℕ)). name ∷ more) c.in-Some-next_field.ensures.parts in (
       said name found.0,
       says_after names octets past (said name found.0) (codes "say" ∷ fields c.args.rest.now) those (
         text,
         texts,
         ap (λ (r : List (List ℕ)). codes "say" ∷ r) parts,
         given,
-        subst (AreHexTexts found.0) c.in-Some-next_field.ensures found.1,
+        subst (AreHexTexts found.0) c.in-Some-next_field.ensures.parts found.1,
       ),
       rw found.2 (heard_octets names octets past name found.0 those),
     )
