@@ -200,6 +200,13 @@ refusal_changed moment later at name filter sockets told before history consiste
     (IsNamed-of moment name sockets before socket history consistent holds.sockets found.found)
     ∙ ap (λ (one : ℕ). limit_changed one filter (told_of socket) before) (sym read) ∙ ap (λ (pair : Ip × Share). limit_changed later filter pair before) (sym found.is)
 
+-- the same of every history that the sockets stand for, by what was passed
+pub refused_change : (moment later at : ℕ) (name : List ℕ) (filter : FilterValue) (sockets : List Socket) (told : Ip × Share) (before : List (Ip × Tally)) (old : SocketsValue) (passed : Option SocketFault)
+    → value_of moment sockets before ≡ old → IsConsistent moment sockets before → later ≡ max moment at → Some told ≡ option_map told_of (socket_named name sockets)
+    → limit_changed later filter told before ≡ passed → (history : List AcceptedCall) → SocketsHold old history → refusal_of at (Change name filter) history ≡ passed
+refused_change moment later at name filter sockets told before old passed view consistent now same limit history holds =
+    refusal_changed moment later at name filter sockets told before history consistent now same (subst (λ (value : SocketsValue). SocketsHold value history) (sym view) holds) ∙ limit
+
 none_told : (found : Option Socket) → option_map told_of found ≡ None → found ≡ None
 none_told None none = refl
 none_told (Some socket) none = absurd cc
@@ -256,6 +263,13 @@ refusal_opened moment later at name group filter sockets before history consiste
     refusal-opened at name group filter history before consistent.needed (Stands-of moment sockets before history consistent holds)
     (ap (λ (all : List Socket). is_some (socket_named name all)) (sym holds.sockets) ∙ ap is_some absent)
     ∙ ap (λ (one : ℕ). limit_opened one group filter before) (sym read)
+
+-- the same of every history that the sockets stand for, by what was passed
+pub refused_opening : (moment later at : ℕ) (name : List ℕ) (group : Ip) (filter : FilterValue) (sockets : List Socket) (before : List (Ip × Tally)) (old : SocketsValue) (passed : Option SocketFault)
+    → value_of moment sockets before ≡ old → IsConsistent moment sockets before → later ≡ max moment at → socket_named name sockets ≡ None
+    → limit_opened later group filter before ≡ passed → (history : List AcceptedCall) → SocketsHold old history → refusal_of at (Open name group filter) history ≡ passed
+refused_opening moment later at name group filter sockets before old passed view consistent now absent limit history holds =
+    refusal_opened moment later at name group filter sockets before history consistent now absent (subst (λ (value : SocketsValue). SocketsHold value history) (sym view) holds) ∙ limit
 
 -- a name that is taken
 pub taken_by : (name : List ℕ) (sockets : List Socket) (history : List AcceptedCall) → is_some (option_map told_of (socket_named name sockets)) ≡ true → sockets ≡ open_sockets history

@@ -52,7 +52,7 @@ not_left_by : (wanted before : Bool) (moment : ℕ) (left : Option ℕ) → want
 not_left_by true before moment left is = refl
 not_left_by false before moment left is = absurd cc
 
-not_left : (history : List AcceptedCall) (group : Ip) → is_wanted history group ≡ true → left_at history group ≡ None
+pub not_left : (history : List AcceptedCall) (group : Ip) → is_wanted history group ≡ true → left_at history group ≡ None
 not_left [] group is = refl
 not_left (newest ∷ older) group is = not_left_by (is_wanted (newest ∷ older) group) (is_wanted older group) newest.moment (left_at older group) is
 

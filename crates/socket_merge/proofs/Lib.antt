@@ -2,6 +2,7 @@ pub mod Amounts
 pub mod Back
 pub mod ByGroup
 pub mod Calls
+pub mod Changed
 pub mod Consistent
 pub mod Counted
 pub mod Farewells

@@ -104,12 +104,13 @@ flat_first : {A : Type 0} (f : Ip → List A) (test : Bool) (group : Ip) (rest :
 flat_first f true group rest = refl
 flat_first f false group rest = refl
 
-flat_map-filter : {A : Type 0} (f : Ip → List A) (test : Ip → Bool) (groups : List Ip) → flat_map f (filter test groups) ≡ flat_map (λ group. cond (test group) (f group) []) groups
+-- what is said of the groups that pass
+pub flat_map-filter : {A : Type 0} (f : Ip → List A) (test : Ip → Bool) (groups : List Ip) → flat_map f (filter test groups) ≡ flat_map (λ group. cond (test group) (f group) []) groups
 flat_map-filter f test [] = refl
 flat_map-filter f test (group ∷ more) =
     flat_first f (test group) group (filter test more) ∙ ap (λ rest. cond (test group) (f group) [] ++ rest) (flat_map-filter f test more)
 
-flat_map-agree : (f g : Ip → List Record) (groups : List Ip) → ((group : Ip) → f group ≡ g group) → flat_map f groups ≡ flat_map g groups
+pub flat_map-agree : (f g : Ip → List Record) (groups : List Ip) → ((group : Ip) → f group ≡ g group) → flat_map f groups ≡ flat_map g groups
 flat_map-agree f g [] same = refl
 flat_map-agree f g (group ∷ more) same =
     ap (λ (here : List Record). here ++ flat_map f more) (same group) ∙ ap (λ (rest : List Record). g group ++ rest) (flat_map-agree f g more same)
@@ -201,7 +202,7 @@ said-forwarded family moment at keep sockets tallies consistent =
     (All-flat_map Forwarded (λ group. said_of family sockets at keep (group, tally_at tallies group)) (keys_of tallies) each)
 
 -- the sources of the filter are of the family
-abbrev AreOf : Family → FilterValue → Type 0
+abbrev pub AreOf : Family → FilterValue → Type 0
 AreOf family filter = All (λ source. is_of_family family source ≡ true) filter.sources
 
 filter_first : (family : Family) (test : Bool) (socket : Socket) (rest : List Socket) → (test ≡ true → AreOf family socket.filter) → All (AreOf family) (map (λ (one : Socket). one.filter) rest)
@@ -209,7 +210,8 @@ filter_first : (family : Family) (test : Bool) (socket : Socket) (rest : List So
 filter_first family true socket rest here all = All-cons (AreOf family) socket.filter (map (λ (one : Socket). one.filter) rest) (here refl) all
 filter_first family false socket rest here all = all
 
-filters_of_family : (family : Family) (group : Ip) (sockets : List Socket) → is_of_family family group ≡ true → All IsOfOwnFamily sockets → All (AreOf family) (filters_on group sockets)
+-- the sources that the sockets of a group of the family list
+pub filters_of_family : (family : Family) (group : Ip) (sockets : List Socket) → is_of_family family group ≡ true → All IsOfOwnFamily sockets → All (AreOf family) (filters_on group sockets)
 filters_of_family family group [] of all = All-nil (AreOf family)
 filters_of_family family group (socket ∷ more) of all =
     let own = All-head IsOfOwnFamily socket more all in

@@ -6,8 +6,9 @@ use Rattle.amt_values.specs.declared.address.Ip.TheVariants.{V4, V6}
 use Rattle.source_filter.specs.Changes.{changes_on}
 use Rattle.source_filter.specs.Filter.{FilterValue}
 use Rattle.source_filter.specs.declared.mode.Mode.TheVariants.{Include, Exclude}
-use Rattle.source_filter.specs.declared.record.RecordKind.TheVariants.{IsIn, IsEx, ToIn, Block}
+use Rattle.source_filter.specs.declared.record.RecordKind.TheVariants.{IsIn, IsEx, ToIn, ToEx, Allow, Block}
 use Rattle.group_records.specs.declared.family.Family.TheVariants.{V4 as Family4, V6 as Family6}
+use Rattle.socket_merge.specs.Changes.{change_records}
 use Rattle.socket_merge.specs.History.{AcceptedCall, SocketCall, Open, Change, Close, LeaveAll, with_call}
 use Rattle.socket_merge.specs.Interface.{interface, left_at, wants}
 use Rattle.socket_merge.specs.FullReport.{full_report_of, is_quiet}
@@ -195,3 +196,31 @@ all_left = refl
 -- what closing the third of the merged sockets reports
 blocked : changes_on (interface three (group 1)) (interface two_left (group 1)) (group 1) ≡ record { kind = Block; group = group 1; sources = V4 2 ∷ [] } ∷ []
 blocked = refl
+
+-- the same by what the call changes
+closed_third : change_records Family4 three two_left ≡ record { kind = Block; group = group 1; sources = V4 2 ∷ [] } ∷ []
+unfolding change_records
+closed_third = refl
+
+opened_first : change_records Family4 [] (called ((0, join 1 (exclude (7 ∷ []))) ∷ [])) ≡ record { kind = ToEx; group = group 1; sources = V4 7 ∷ [] } ∷ []
+unfolding change_records
+opened_first = refl
+
+changed_list : change_records Family4 again (with_call 300 (Change (2 ∷ []) (include (6 ∷ []))) again)
+    ≡ record { kind = Allow; group = group 1; sources = V4 6 ∷ [] } ∷ record { kind = Block; group = group 1; sources = V4 5 ∷ [] } ∷ []
+unfolding change_records
+changed_list = refl
+
+changed_to_the_same : change_records Family4 again (with_call 300 (Change (2 ∷ []) (include (5 ∷ []))) again) ≡ []
+unfolding change_records
+changed_to_the_same = refl
+
+-- each family has its own groups, ascending
+left_all4 : change_records Family4 mixed (with_call 10 LeaveAll mixed)
+    ≡ record { kind = ToIn; group = group 1; sources = [] } ∷ record { kind = Block; group = group 2; sources = V4 8 ∷ [] } ∷ []
+unfolding change_records
+left_all4 = refl
+
+left_all6 : change_records Family6 mixed (with_call 10 LeaveAll mixed) ≡ record { kind = Block; group = V6 (0xff3e * 2 ^ 112 + 1); sources = V6 9 ∷ [] } ∷ []
+unfolding change_records
+left_all6 = refl

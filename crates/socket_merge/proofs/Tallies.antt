@@ -13,7 +13,7 @@ use Rattle.std.specs.declared.cmp.Ordering.TheVariants.{Less, Equal, Greater}
 use Rattle.std.proofs.lemmas.Bool.Decides.{nat_tests}
 use Rattle.std.proofs.lemmas.List.Elements.{All-from_recursion, recursion_from_All, All-map, All-weaker, filter_passes}
 use Rattle.std.proofs.lemmas.Map.Entries.{lookup-filter-values, option_filter}
-use Rattle.std.proofs.lemmas.Map.Keys.{sorted_head, sorted_tail}
+use Rattle.std.proofs.lemmas.Map.Keys.{IsDistinct-from_sorted, sorted_head, sorted_tail}
 use Rattle.std.proofs.lemmas.Map.Made.{lookup-map_values, keys_of-map_values}
 use Rattle.std.proofs.lemmas.Map.Views.{All-values-insert_entry, All-map-remove_entry, All-values-set_value}
 use Rattle.amt_values.proofs.Orders.{ip_order-total}
@@ -210,6 +210,20 @@ AreNeeded-kept by compared n es ordered entries = record {
       (All-weaker (λ (e : Ip × Tally). is_kept e.1 ≡ true) (λ (e : Ip × Tally). is_blank e.1 ≡ false) (λ e is. not_blank (is_blank e.1) is) (filter (λ (e : Ip × Tally). is_kept e.1) es)
       (filter_passes (λ (e : Ip × Tally). is_kept e.1) es));
 }
+
+-- each tally is another one, and blank ones are left out
+abbrev pub replaced : (Tally → Tally) → List (Ip × Tally) → List (Ip × Tally)
+replaced to es = filter (λ (e : Ip × Tally). is_kept e.1) (map (λ (e : Ip × Tally). (e.0, to e.1)) es)
+
+module _ (by : Ip → Ip → Ordering) (compared : by ≡ ip_order) (to : Tally → Tally) (es : List (Ip × Tally)) (n : BTreeMap Ip Tally) (is : n.entries ≡ replaced to es) where
+  -- only needed entries are left by that
+  pub AreNeeded-replaced : IsOrdered by n → AreNeeded n.entries
+  AreNeeded-replaced ordered = AreNeeded-kept by compared n (map (λ (e : Ip × Tally). (e.0, to e.1)) es) ordered is
+
+  -- and each group has the other tally
+  pub HasTallies-replaced : (older : List (Ip × Tally)) → to blank ≡ blank → AreNeeded es → es ≡ older → HasTallies to older n.entries
+  HasTallies-replaced older stays needed same =
+      HasTallies-as to es older n.entries (replaced to es) same is (HasTallies-kept to stays es (IsDistinct-from_sorted ip_order (keys_of es) needed.ordered))
 
 -- a test of the tallies is a test of the entries
 pub list_any-values : (test : Tally → Bool) (es : List (Ip × Tally)) → list_any test (values_of es) ≡ list_any (λ (e : Ip × Tally). test e.1) es

@@ -18,7 +18,7 @@ use Rattle.group_records.specs.declared.family.Family.{Family}
 use Rattle.socket_merge.specs.FullReport.{farewell, is_recent, states}
 use Rattle.socket_merge.specs.History.{Socket, same_name}
 use Rattle.socket_merge.specs.Interface.{filters_on, on_group, same_group}
-use Rattle.socket_merge.specs.Refusal.{may_be_due}
+use Rattle.socket_merge.specs.Refusal.{may_be_due, report_limit, source_limit}
 use Rattle.socket_merge.specs.Sockets.{AreOfGroup, Farewell, left_in}
 use Rattle.socket_merge.specs.declared.stored.Share.{Share}
 use Rattle.socket_merge.specs.declared.stored.StoredSocket.{StoredSocket}
@@ -182,8 +182,8 @@ pub record IsConsistent (moment : ℕ) (sockets : List Socket) (tallies : List (
   pub apart : (name : List ℕ) → count_by (λ socket. same_name name socket.name) sockets ≤ 1
   pub forwarded : (group : Ip) → is_blank (tally_at tallies group) ≡ false → is_forwardable group ≡ true
   pub family : All (λ socket. AreOfGroup socket.group socket.filter) sockets
-  pub few : (group : Ip) → (tally_at tallies group).sources ≤ 32
-  pub short : (family : Family) → octets_of family moment tallies ≤ 1400
+  pub few : (group : Ip) → (tally_at tallies group).sources ≤ source_limit
+  pub short : (family : Family) → octets_of family moment tallies ≤ report_limit
 
 -- the same, and the tallies are no more than the sockets and farewells come to
 pub record IsSound (moment : ℕ) (sockets : List Socket) (tallies : List (Ip × Tally)) : Type 0 where

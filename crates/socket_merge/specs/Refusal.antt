@@ -48,10 +48,18 @@ raw_report family history =
 unfoldable pub raw_report_length : Family → List AcceptedCall → ℕ
 raw_report_length family history = report_length family (raw_report family history)
 
+-- the sockets of a group list at most so many sources, with repeats
+abbrev pub source_limit : ℕ
+source_limit = 32
+
+-- a report has at most so many octets, so that it is one datagram
+abbrev pub report_limit : ℕ
+report_limit = 1400
+
 -- both counts are within their limits
 pub record IsWithinLimits (history : List AcceptedCall) : Type 0 where
-  pub sources : (group : Ip) → length (raw_sources group (open_sockets history)) ≤ 32
-  pub octets : (family : Family) → raw_report_length family history ≤ 1400
+  pub sources : (group : Ip) → length (raw_sources group (open_sockets history)) ≤ source_limit
+  pub octets : (family : Family) → raw_report_length family history ≤ report_limit
 
 -- neither count that is limited grows from one history to the other
 pub record FillsNoMore (before after : List AcceptedCall) : Type 0 where
@@ -62,7 +70,7 @@ pub record FillsNoMore (before after : List AcceptedCall) : Type 0 where
 -- octets of the raw report of its family
 abbrev pub limit_conditions : ℕ → ℕ → Conditions SocketFault
 limit_conditions sources octets =
-    (nat_lt 32 sources, SourcesFull sources) ∷ (nat_lt 1400 octets, ReportFull octets) ∷ []
+    (nat_lt source_limit sources, SourcesFull sources) ∷ (nat_lt report_limit octets, ReportFull octets) ∷ []
 
 -- the limits that a filter of the group may pass, by the history with the call that sets it
 abbrev pub limits_after : Ip → List AcceptedCall → Conditions SocketFault

@@ -9,6 +9,7 @@ use std::alloc::{AllocError, Global};
 use std::collections::BTreeMap;
 use std::marker::Model;
 
+mod changes;
 pub mod octets;
 mod report;
 

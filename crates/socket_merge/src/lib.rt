@@ -1,12 +1,13 @@
 //! The sockets of a host: what all of them want of each group, and the records that report it.
 //!
 //! Contract: sockets represent the history of accepted calls, so the filter of a group admits a source
-//! exactly where some open socket of the group does, and a full report says what is wanted and what was
-//! left not long ago.
+//! exactly where some open socket of the group does, a full report says what is wanted and what was
+//! left not long ago, and change records say, by group, what a call changed of the filters.
 //! It knows no message, tunnel or clock, and writes no octets.
-//! Standard: RFC 3376, sections 3.1, 3.2 and 5.2; RFC 3810, sections 4.1, 4.2 and 6.2.
+//! Standard: RFC 3376, sections 3.1, 3.2, 5.1 and 5.2; RFC 3810, sections 4.1, 4.2, 6.1 and 6.2.
 #![tactic(auto)]
 
+mod family;
 mod fault;
 mod groups;
 mod limit;

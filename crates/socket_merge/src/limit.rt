@@ -5,21 +5,15 @@ ghost use Rattle.contract_words.specs.Conditions.{first_holding};
 ghost use Rattle.socket_merge.specs.Kept.{octets_besides, raw_octets, tally_at};
 ghost use Rattle.socket_merge.specs.Refusal.{family_of, limit_conditions};
 
+use crate::family::family_of;
 use crate::fault::SocketFault;
 use crate::groups::Groups;
 use crate::groups::octets::raw_octets;
 use amt_values::{Ip, Moment};
-use group_records::{Family, ITEM_LIMIT, REPORT_LIMIT};
+use group_records::{ITEM_LIMIT, REPORT_LIMIT};
 
-// The family of a group.
-pub fn family_of(group: &Ip) -> Family
-    ensures { result ≡ family_of group.now }
-{
-    match *group {
-        Ip::V4(_) => Family::V4,
-        Ip::V6(_) => Family::V6,
-    }
-}
+// How many sources the sockets of a group may list, with repeats.
+const SOURCE_LIMIT: usize = 32;
 
 // The first limit that the group passes where one of its sockets lists so many sources instead of
 // those before.
@@ -30,7 +24,7 @@ pub fn limit_passed(
     after: usize,
     moment: Moment,
 ) -> Option<SocketFault>
-    requires few { (tally_at groups.now group.now).sources ≤ 32 }
+    requires few { (tally_at groups.now group.now).sources ≤ SOURCE_LIMIT }
     requires before { before ≤ (tally_at groups.now group.now).sources }
     requires after { after ≤ ITEM_LIMIT }
     requires short { octets_besides (family_of group.now) moment group.now groups.now ≤ REPORT_LIMIT }
@@ -41,7 +35,7 @@ pub fn limit_passed(
         ((tally_at groups.now group.now).sources - before + after))) }
 {
     let sources = groups.tally(group).sources - before + after;
-    if sources > 32 {
+    if sources > SOURCE_LIMIT {
         return Some(SocketFault::SourcesFull(sources as u32));
     }
     let family = family_of(group);

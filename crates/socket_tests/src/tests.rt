@@ -1,10 +1,12 @@
 //! Worked examples of calls, each by a table of steps.
 
+mod changes;
 mod fixtures;
 mod limits;
 mod random;
 mod report;
 mod steps;
+mod values;
 
 use amt_values::Ip;
 use fixtures::{A, B, C, GROUP, OTHER};

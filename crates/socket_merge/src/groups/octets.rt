@@ -4,7 +4,7 @@ ghost use Rattle.std.specs.Prelude.{◌≡◌, ◌≤◌};
 ghost use Rattle.socket_merge.specs.Kept.{octets_besides, octets_in, raw_octets};
 
 use super::Groups;
-use crate::limit::family_of;
+use crate::family::family_of;
 use crate::stored::{Tally, may_be_due};
 use amt_values::{Ip, Moment};
 use group_records::{Family, REPORT_LIMIT};

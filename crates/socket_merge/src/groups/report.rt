@@ -8,7 +8,7 @@ ghost use Rattle.socket_merge.specs.Interface.{filters_on};
 ghost use Rattle.socket_merge.specs.Kept.{said_of, some_recent};
 
 use super::Groups;
-use crate::limit::family_of;
+use crate::family::family_of;
 use crate::named::NamedSockets;
 use crate::stored::{Tally, is_recent};
 use amt_values::{Ip, Moment};

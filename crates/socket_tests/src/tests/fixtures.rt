@@ -5,6 +5,7 @@ ghost use Rattle.group_records.specs.Written.{is_of_family};
 ghost use Rattle.socket_merge.specs.Refusal.{family_of};
 ghost use Rattle.socket_tests.specs.Tested.{IsFitting, IsOpenable, IsTested, family_named};
 
+use crate::slow::{family_of, is_of_family};
 use amt_values::{Ip, Moment, forwardable};
 use group_records::Family;
 use socket_merge::{NoSocket, SocketFault, Sockets};
@@ -24,6 +25,8 @@ pub const WIDE_OTHER: Ip = Ip::V6(0xff3e_0000_0000_0000_0000_0000_0000_0002);
 
 pub const WIDE_THIRD: Ip = Ip::V6(0xff3e_0000_0000_0000_0000_0000_0000_0003);
 
+pub const WIDE_SOURCE: Ip = Ip::V6(0x2001_0db8_0000_0000_0000_0000_0000_0009);
+
 pub const A: Ip = Ip::V4(0xc633_6401);
 
 pub const B: Ip = Ip::V4(0xc633_6402);
@@ -42,25 +45,12 @@ fn family_named(name: &[u8]) -> Family
     }
 }
 
-fn family_of(address: &Ip) -> Family
-    ensures { result ≡ family_of address.now }
-{
-    match *address {
-        Ip::V4(_) => Family::V4,
-        Ip::V6(_) => Family::V6,
-    }
-}
-
-fn is_of(family: Family, address: &Ip) -> bool
-    ensures { result ≡ is_of_family family address.now }
-{
-    family_of(address) == family
-}
-
 fn are_of(family: Family, addresses: &[Ip]) -> bool
     ensures { result ≡ true → All (λ address. is_of_family family address ≡ true) addresses.now }
 {
-    addresses.iter().all(|address| is_of(family, address))
+    addresses
+        .iter()
+        .all(|address| is_of_family(family, address))
 }
 
 fn is_openable(name: &[u8], group: &Ip, filter: &Filter) -> bool
@@ -116,7 +106,7 @@ pub fn open(
     open_filter(rt, alloc, sockets, name, group, &filter, &moment(rt, at_ms))
 }
 
-fn open_filter(
+pub fn open_filter(
     rt: &impl Abort,
     alloc: Global,
     sockets: &mut Sockets,
@@ -149,7 +139,7 @@ pub fn change(
     change_filter(rt, alloc, sockets, name, &filter, &moment(rt, at_ms))
 }
 
-fn change_filter(
+pub fn change_filter(
     rt: &impl Abort,
     alloc: Global,
     sockets: &mut Sockets,

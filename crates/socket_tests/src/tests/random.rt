@@ -1,17 +1,20 @@
 //! Small histories of random calls: after each call the sockets answer each question as the slow
 //! program does.
 
-ghost use Rattle.std.specs.Prelude.{◌≡◌, ◌<◌, ◌≤◌, ◌^◌, ◌+◌};
+ghost use Rattle.std.specs.Prelude.{◌<◌, ◌≤◌};
 ghost use Rattle.socket_tests.specs.Tested.{IsTested};
 
-use super::fixtures::{change, close, leave_all, moment, no_sockets, open};
+use super::fixtures::{change_filter, close, copy_of, leave_all, moment, no_sockets, open_filter};
+use super::values::{LISTS, NAMES, WIDE_LISTS, WIDE_NAMES, groups_of, sources_of, unlisted};
+use crate::call::Call;
 use crate::slow::{
-    Accepted, Call, Draft, LISTS, NAMES, WIDE_LISTS, WIDE_NAMES, admits, groups_of, is_quiet,
-    kind_reported, latest_ms, listed_of, mode_of, refusal, sources_of, unlisted,
+    Accepted, OpenSocket, change_records, full_report, interface, is_quiet, latest_ms, moment_read,
+    open_sockets, refusal, some_admits, with_call,
 };
 use amt_values::{Ip, Moment};
+use group_records::Family;
 use socket_merge::{NoSocket, SocketFault, Sockets};
-use source_filter::{Mode, Record, RecordKind};
+use source_filter::{Filter, Mode, Record, Records};
 use std::alloc::{AllocError, Global};
 use std::process::Abort;
 
@@ -43,7 +46,7 @@ fn is_wide(name: u8) -> bool {
 }
 
 // The long list, which is the last one, comes three times out of eight.
-fn random_draft(words: &mut Words, name: u8) -> Draft {
+fn random_filter(alloc: Global, words: &mut Words, name: u8) -> Result<Filter, AllocError> {
     let mode = if words.below(2) == 0 {
         Mode::Include
     } else {
@@ -55,12 +58,12 @@ fn random_draft(words: &mut Words, name: u8) -> Draft {
     } else {
         LISTS[list]
     };
-    (mode, listed)
+    Filter::new(alloc, mode, listed)
 }
 
-fn random_open(words: &mut Words, name: u8) -> Call {
+fn random_open(alloc: Global, words: &mut Words, name: u8) -> Result<Call, AllocError> {
     let group = groups_of(is_wide(name))[words.below(3) as usize];
-    Call::Open(name, group, random_draft(words, name))
+    Ok(Call::Open(name, group, random_filter(alloc, words, name)?))
 }
 
 fn random_name(words: &mut Words) -> u8 {
@@ -73,13 +76,13 @@ fn random_name(words: &mut Words) -> u8 {
 }
 
 // Rather more openings than closings.
-fn random_call(words: &mut Words) -> Call {
+fn random_call(alloc: Global, words: &mut Words) -> Result<Call, AllocError> {
     let name = random_name(words);
     match words.below(20) {
-        0..=10 => random_open(words, name),
-        11..=14 => Call::Change(name, random_draft(words, name)),
-        15..=18 => Call::Close(name),
-        _ => Call::LeaveAll,
+        0..=10 => random_open(alloc, words, name),
+        11..=14 => Ok(Call::Change(name, random_filter(alloc, words, name)?)),
+        15..=18 => Ok(Call::Close(name)),
+        _ => Ok(Call::LeaveAll),
     }
 }
 
@@ -97,84 +100,87 @@ fn random_pause(words: &mut Words) -> u64
 }
 
 // At times a moment that is over.
-fn random_moment(words: &mut Words, history: &[Accepted]) -> u64 {
+fn random_moment(rt: &impl Abort, words: &mut Words, history: &[Accepted]) -> Moment {
     let start_ms = if words.below(8) == 0 {
         0
     } else {
         latest_ms(history)
     };
-    start_ms.saturating_add(random_pause(words))
+    moment(rt, start_ms.saturating_add(random_pause(words)))
 }
 
 fn call(
     rt: &impl Abort,
     alloc: Global,
     sockets: &mut Sockets,
-    next: &Accepted,
+    at: &Moment,
+    next: &Call,
 ) -> Result<(), SocketFault>
     requires { IsTested sockets.old }
     ensures { IsTested sockets.new }
 {
-    let at_ms = next.at_ms;
-    match next.call {
-        Call::Open(name, group, draft) => open(rt, alloc, sockets, &[name], &group, &draft, at_ms),
-        Call::Change(name, draft) => change(rt, alloc, sockets, &[name], &draft, at_ms),
-        Call::Close(name) => match close(rt, sockets, &[name], at_ms) {
+    match next {
+        Call::Open(name, group, filter) => {
+            open_filter(rt, alloc, sockets, &[*name], group, filter, at)
+        }
+        Call::Change(name, filter) => change_filter(rt, alloc, sockets, &[*name], filter, at),
+        Call::Close(name) => match close(rt, sockets, &[*name], at.ms()) {
             Ok(()) => Ok(()),
             Err(NoSocket) => Err(SocketFault::NoSocket),
         },
         Call::LeaveAll => {
-            leave_all(rt, sockets, at_ms);
+            leave_all(rt, sockets, at.ms());
             Ok(())
         }
     }
 }
 
-// Makes the call and compares the answer; the history has it where it is accepted, with the moment as
-// which it is read.
+// Makes the call and compares the answer.
 fn assert_call(
     rt: &impl Abort,
     alloc: Global,
     sockets: &mut Sockets,
-    history: &mut Vec<Accepted>,
-    given: Accepted,
-) -> Result<(), AllocError>
+    history: &[Accepted],
+    at: &Moment,
+    next: &Call,
+) -> Result<bool, AllocError>
     requires { IsTested sockets.old }
     ensures { IsTested sockets.new }
 {
-    let read = Accepted {
-        at_ms: given.at_ms.max(latest_ms(history.as_slice())),
-        call: given.call,
+    let wanted = match refusal(alloc, at, next, history)? {
+        Some(fault) => Err(fault),
+        None => Ok(()),
     };
-    let refused = refusal(alloc, history.as_slice(), &read)?;
-    let answer = call(rt, alloc, sockets, &given);
-    match refused {
-        Some(fault) => assert_eq!(rt; answer, Err(fault), "{history:?} {given:?}"),
-        None => {
-            assert_eq!(rt; answer, Ok(()), "{history:?} {given:?}");
-            history.push(read)?;
-        }
-    }
-    Ok(())
+    let answer = call(rt, alloc, sockets, at, next);
+    assert!(rt; answer == wanted, "{history:?} {at:?} {next:?} {answer:?}");
+    Ok(answer.is_ok())
 }
 
 fn assert_admits(
     rt: &impl Abort,
     sockets: &Sockets,
-    history: &[Accepted],
+    opened: &[OpenSocket],
     group: &Ip,
     source: &Ip,
 ) {
     let answer = sockets.admits(group, source);
-    let wanted = admits(history, group, source);
-    assert_eq!(rt; answer, wanted, "{history:?} {group:?} {source:?}");
+    let wanted = some_admits(opened, group, source);
+    assert_eq!(rt; answer, wanted, "{opened:?} {group:?} {source:?}");
 }
 
-fn assert_sources(rt: &impl Abort, sockets: &Sockets, history: &[Accepted], group: &Ip) {
-    assert_admits(rt, sockets, history, group, &unlisted(group));
+fn assert_sources(
+    rt: &impl Abort,
+    alloc: Global,
+    sockets: &Sockets,
+    history: &[Accepted],
+    group: &Ip,
+) -> Result<(), AllocError> {
+    let opened = open_sockets(alloc, history)?;
+    assert_admits(rt, sockets, opened.as_slice(), group, &unlisted(group));
     for source in sources_of(group) {
-        assert_admits(rt, sockets, history, group, &source);
+        assert_admits(rt, sockets, opened.as_slice(), group, &source);
     }
+    Ok(())
 }
 
 fn assert_filter(
@@ -185,8 +191,8 @@ fn assert_filter(
     group: &Ip,
 ) -> Result<(), AllocError> {
     let filter = sockets.interface(alloc, group)?;
-    let listed = listed_of(alloc, history, group)?;
-    let is = filter.mode() == mode_of(history, group) && filter.sources() == listed.as_slice();
+    let wanted = interface(alloc, history, group)?;
+    let is = filter.mode() == wanted.mode && filter.sources() == wanted.sources.as_slice();
     assert!(rt; is, "{history:?} {group:?} {filter:?}");
     Ok(())
 }
@@ -200,66 +206,22 @@ fn assert_groups(
 ) -> Result<(), AllocError> {
     for group in groups_of(v6) {
         assert_filter(rt, alloc, sockets, history, &group)?;
-        assert_sources(rt, sockets, history, &group);
+        assert_sources(rt, alloc, sockets, history, &group)?;
     }
     Ok(())
 }
 
-// Whether the record is of this kind and group, with the sources of the group's filter.
-fn is_record(
-    alloc: Global,
-    history: &[Accepted],
-    one: &Record,
-    kind: RecordKind,
-    group: &Ip,
-) -> Result<bool, AllocError> {
-    let is = one.kind == kind && one.group == *group;
-    if kind == RecordKind::ToIn {
-        return Ok(is && one.sources.as_slice().is_empty());
-    }
-    let listed = listed_of(alloc, history, group)?;
-    Ok(is && one.sources.as_slice() == listed.as_slice())
+fn is_record(one: &Record, wanted: &Record) -> bool {
+    one.kind == wanted.kind
+        && one.group == wanted.group
+        && one.sources.as_slice() == wanted.sources.as_slice()
 }
 
-// The records after the one on the group, if there is to be one; or none where it isn't right.
-fn after_group<'a>(
-    alloc: Global,
-    history: &[Accepted],
-    records: &'a [Record],
-    group: &Ip,
-    at_ms: u64,
-    keep_ms: u64,
-) -> Result<Option<&'a [Record]>, AllocError> {
-    let Some(kind) = kind_reported(history, group, at_ms, keep_ms) else {
-        return Ok(Some(records));
-    };
-    let Some((one, rest)) = records.split_first() else {
-        return Ok(None);
-    };
-    if is_record(alloc, history, one, kind, group)? {
-        Ok(Some(rest))
-    } else {
-        Ok(None)
-    }
-}
-
-// Whether the records are those of the groups, in their order.
-fn are_records(
-    alloc: Global,
-    history: &[Accepted],
-    records: &[Record],
-    v6: bool,
-    at_ms: u64,
-    keep_ms: u64,
-) -> Result<bool, AllocError> {
-    let mut left = records;
-    for group in groups_of(v6) {
-        let Some(rest) = after_group(alloc, history, left, &group, at_ms, keep_ms)? else {
-            return Ok(false);
-        };
-        left = rest;
-    }
-    Ok(left.is_empty())
+fn are_records(records: &Records, wanted: &Records) -> bool {
+    let records = records.as_slice();
+    let wanted = wanted.as_slice();
+    let mut pairs = records.iter().zip(wanted);
+    records.len() == wanted.len() && pairs.all(|(one, wanted)| is_record(one, wanted))
 }
 
 fn assert_report(
@@ -272,71 +234,123 @@ fn assert_report(
     keep_ms: u64,
 ) -> Result<(), AllocError> {
     let records = sockets.full_report(alloc, v6, at, keep_ms)?;
-    let at_ms = at.ms().max(latest_ms(history));
-    let are = are_records(alloc, history, records.as_slice(), v6, at_ms, keep_ms)?;
-    assert!(rt; are, "{history:?} {at:?} {keep_ms} {records:?}");
+    let family = if v6 { Family::V6 } else { Family::V4 };
+    let read = moment_read(history, at);
+    let wanted = full_report(alloc, family, history, read, keep_ms)?;
+    assert!(rt;
+        are_records(&records, &wanted),
+        "{history:?} {at:?} {keep_ms} {records:?}"
+    );
     Ok(())
 }
 
 fn assert_quiet(
     rt: &impl Abort,
+    alloc: Global,
     sockets: &Sockets,
     history: &[Accepted],
     at: &Moment,
     keep_ms: u64,
-) {
-    let at_ms = at.ms().max(latest_ms(history));
+) -> Result<(), AllocError> {
     let quiet = sockets.quiet(at, keep_ms);
-    let wanted = is_quiet(history, at_ms, keep_ms);
+    let wanted = is_quiet(alloc, history, moment_read(history, at), keep_ms)?;
     assert_eq!(rt; quiet, wanted, "{history:?} {at:?} {keep_ms}");
+    Ok(())
 }
 
-// Compares the reports of both families at a random moment.
+// Compares the reports of both families at a random moment, with a random time for farewells.
 fn assert_reports(
     rt: &impl Abort,
     alloc: Global,
     sockets: &Sockets,
     history: &[Accepted],
     words: &mut Words,
-    keep_ms: u64,
 ) -> Result<(), AllocError> {
-    let at = moment(rt, random_moment(words, history));
+    let keep_ms = KEEPS_MS[words.below(7) as usize];
+    let at = random_moment(rt, words, history);
     assert_report(rt, alloc, sockets, history, false, &at, keep_ms)?;
     assert_report(rt, alloc, sockets, history, true, &at, keep_ms)?;
-    assert_quiet(rt, sockets, history, &at, keep_ms);
+    assert_quiet(rt, alloc, sockets, history, &at, keep_ms)
+}
+
+// Every question; reports at several moments.
+fn assert_answers(
+    rt: &impl Abort,
+    alloc: Global,
+    sockets: &Sockets,
+    history: &[Accepted],
+    words: &mut Words,
+) -> Result<(), AllocError> {
+    assert_groups(rt, alloc, sockets, history, false)?;
+    assert_groups(rt, alloc, sockets, history, true)?;
+    for _ in 0..2 {
+        assert_reports(rt, alloc, sockets, history, words)?;
+    }
     Ok(())
 }
 
-// One random call, and then every question, with several times for farewells.
+fn assert_changes(
+    rt: &impl Abort,
+    alloc: Global,
+    sockets: &Sockets,
+    before: &Sockets,
+    older: &[Accepted],
+    history: &[Accepted],
+    v6: bool,
+) -> Result<(), AllocError> {
+    let records = sockets.changes_since(alloc, before, v6)?;
+    let family = if v6 { Family::V6 } else { Family::V4 };
+    let wanted = change_records(alloc, family, older, history)?;
+    assert!(rt; are_records(&records, &wanted), "{history:?} {records:?}");
+    Ok(())
+}
+
+// The history with a call that was accepted; what the call changed is compared.
+fn longer_history(
+    rt: &impl Abort,
+    alloc: Global,
+    sockets: &Sockets,
+    before: &Sockets,
+    history: &[Accepted],
+    at: &Moment,
+    next: &Call,
+) -> Result<Vec<Accepted>, AllocError> {
+    let longer = with_call(alloc, history, at, next)?;
+    let after = longer.as_slice();
+    assert_changes(rt, alloc, sockets, before, history, after, false)?;
+    assert_changes(rt, alloc, sockets, before, history, after, true)?;
+    Ok(longer)
+}
+
+// One random call, and then every question. The history has the call where it is accepted.
 fn assert_turn(
     rt: &impl Abort,
     alloc: Global,
     sockets: &mut Sockets,
-    history: &mut Vec<Accepted>,
+    history: Vec<Accepted>,
     words: &mut Words,
-) -> Result<(), AllocError>
+) -> Result<Vec<Accepted>, AllocError>
     requires { IsTested sockets.old }
     ensures { IsTested sockets.new }
 {
-    let given = Accepted {
-        at_ms: random_moment(words, history.as_slice()),
-        call: random_call(words),
+    let at = random_moment(rt, words, history.as_slice());
+    let next = random_call(alloc, words)?;
+    let before = copy_of(alloc, sockets)?;
+    let is_accepted = assert_call(rt, alloc, sockets, history.as_slice(), &at, &next)?;
+    let history = if is_accepted {
+        longer_history(rt, alloc, sockets, &before, history.as_slice(), &at, &next)?
+    } else {
+        history
     };
-    assert_call(rt, alloc, sockets, history, given)?;
-    let history = history.as_slice();
-    assert_groups(rt, alloc, sockets, history, false)?;
-    assert_groups(rt, alloc, sockets, history, true)?;
-    for keep_ms in KEEPS_MS {
-        assert_reports(rt, alloc, sockets, history, words, keep_ms)?;
-    }
-    Ok(())
+    assert_answers(rt, alloc, sockets, history.as_slice(), words)?;
+    Ok(history)
 }
 
 fn assert_history(rt: &impl Abort, alloc: Global, words: &mut Words) -> Result<(), AllocError> {
     let mut sockets = no_sockets(alloc)?;
     let mut history = Vec::new(alloc);
     for _ in 0..16 {
-        assert_turn(rt, alloc, &mut sockets, &mut history, words)?;
+        history = assert_turn(rt, alloc, &mut sockets, history, words)?;
     }
     Ok(())
 }

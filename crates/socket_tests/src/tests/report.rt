@@ -1,7 +1,7 @@
 //! What sockets answer, as tests write it, and full reports.
 
 use super::fixtures::{
-    A, B, C, GROUP, OTHER, Sketch, THIRD, WIDE_GROUP, WIDE_OTHER, WIDE_THIRD, moment,
+    A, B, C, GROUP, OTHER, Sketch, THIRD, WIDE_GROUP, WIDE_OTHER, WIDE_SOURCE, WIDE_THIRD, moment,
 };
 use super::steps::Step::{Change, Close, LeaveAll, Open, Quiet, Report};
 use super::steps::{Step, copies, runs};
@@ -23,7 +23,8 @@ fn is_record(one: &Record, wanted: &RecordRow) -> bool {
     one.kind == wanted.0 && one.group == wanted.1 && one.sources.as_slice() == wanted.2
 }
 
-fn are_records(records: &Records, wanted: &[RecordRow]) -> bool {
+// Whether the records are those of the rows, in their order.
+pub fn are_records(records: &Records, wanted: &[RecordRow]) -> bool {
     let records = records.as_slice();
     let mut pairs = records.iter().zip(wanted);
     records.len() == wanted.len() && pairs.all(|(one, wanted)| is_record(one, wanted))
@@ -156,8 +157,6 @@ const EARLIER_MOMENT: [Step<'static>; 8] = [
 fn a_moment_that_goes_backwards_is_the_last_one(rt: HostRuntime) {
     assert!(rt; runs(&rt, rt.alloc(), &EARLIER_MOMENT));
 }
-
-const WIDE_SOURCE: Ip = Ip::V6(0x2001_0db8_0000_0000_0000_0000_0000_0009);
 
 const SIX_GROUPS: [Step<'static>; 10] = [
     Open(b"A", WIDE_THIRD, (Exclude, &[WIDE_SOURCE]), 0, Ok(())),

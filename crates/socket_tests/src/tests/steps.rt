@@ -117,7 +117,8 @@ fn ask(rt: &impl Abort, alloc: Global, sockets: &Sockets, step: &Step) -> Result
     }
 }
 
-fn take(
+// Makes the call, or asks the question.
+pub fn take(
     rt: &impl Abort,
     alloc: Global,
     sockets: &mut Sockets,

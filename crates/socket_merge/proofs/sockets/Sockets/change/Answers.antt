@@ -1,9 +1,10 @@
-use Rattle.std.proofs.Common.{◌≡◌, ℕ, ◌+◌, ◌-◌, List, Option, sym, ap, subst, ◌∙◌, arith}
+use Rattle.std.proofs.Common.{◌≡◌, ℕ, ◌+◌, ◌-◌, max, List, Option, None, Some, sym, ap, subst, ◌∙◌, arith}
+use Rattle.std.specs.Option.{option_map}
 use Rattle.amt_values.specs.declared.address.Ip.{Ip}
 use Rattle.contract_words.specs.Conditions.{first_holding}
 use Rattle.source_filter.specs.Filter.{FilterValue}
-use Rattle.socket_merge.specs.History.{AcceptedCall, Change, Socket, sockets_after, with_call}
-use Rattle.socket_merge.specs.Kept.{AreNeeded, HasTally, share_of, tally_at, tally_changed}
+use Rattle.socket_merge.specs.History.{AcceptedCall, Change, Socket, socket_named, sockets_after, with_call}
+use Rattle.socket_merge.specs.Kept.{AreNeeded, HasTally, IsConsistent, share_of, tally_at, tally_changed}
 use Rattle.socket_merge.specs.Refusal.{refusal_of}
 use Rattle.socket_merge.specs.Sockets.{AreOfSocket, KeepsFarewells, SocketsHold, SocketsValue}
 use Rattle.socket_merge.specs.declared.fault.SocketFault.{SocketFault}
@@ -11,7 +12,7 @@ use Rattle.socket_merge.specs.declared.fault.SocketFault.TheVariants.{NoSocket}
 use Rattle.socket_merge.specs.declared.stored.Share.{Share}
 use Rattle.socket_merge.specs.declared.stored.Tally.{Tally}
 use Rattle.socket_merge.proofs.Back.{IsSound-of}
-use Rattle.socket_merge.proofs.Calls.{IsChanged, MayChange-of, consistent_changed, holds_changed, limit_changed, refusal_changed, unknown_name, value_of}
+use Rattle.socket_merge.proofs.Calls.{IsChanged, MayChange-of, consistent_changed, holds_changed, limit_changed, refused_change, told_of, unknown_name, value_of}
 use Rattle.socket_merge.proofs.Keeping.{keeps_changed}
 use Rattle.socket_merge.proofs.Consistent.{HasRoom-of}
 use Rattle.socket_merge.proofs.Refused.{answers_accepted, answers_memory, answers_refused, limits_of, refusal-unknown}
@@ -45,22 +46,16 @@ limited later group before after filter tallies passed share is =
 pub returns-in-Some-limit_passed-clause-refused : goal.returns-in-Some-limit_passed-clause-refused
 returns-in-Some-limit_passed-clause-refused c =
     λ (history : List AcceptedCall) holds.
-    let kept = subst (λ (value : SocketsValue). SocketsHold value history) (sym c.self.view_is) holds in
     answers_refused (refusal_of c.args.at.now (Change c.args.name.now c.args.filter.now) history) c.in-Some-limit_passed.fault
-    (refusal_changed c.self.inside.moment c.later-moment.result c.args.at.now c.args.name.now c.args.filter.now c.self.inside.named (c.in-Some.group, c.in-Some.before) c.self.inside.groups history c.self.invariant.consistent
-    c.later-moment.ensures (sym c.in-Some.is ∙ c.find.ensures.found) kept
-    ∙ limited c.later-moment.result c.in-Some.group c.in-Some.before c.share_of-after.result c.args.filter.now c.self.inside.groups c.limit_passed.result c.share_of-after.ensures c.limit_passed.ensures
-    ∙ c.in-Some-limit_passed.is)
+    (refused_change c.self.inside.moment c.later-moment.result c.args.at.now c.args.name.now c.args.filter.now c.self.inside.named (c.in-Some.group, c.in-Some.before) c.self.inside.groups _ _ c.self.view_is
+    c.self.invariant.consistent c.later-moment.ensures (sym c.in-Some.is ∙ c.find.ensures.found) (limited c.later-moment.result c.in-Some.group c.in-Some.before c.share_of-after.result c.args.filter.now c.self.inside.groups c.limit_passed.result c.share_of-after.ensures c.limit_passed.ensures ∙ c.in-Some-limit_passed.is) history holds)
 
 pub returns-in-Err-clause-refused : goal.returns-in-Err-clause-refused
 returns-in-Err-clause-refused c =
     λ (history : List AcceptedCall) holds.
-    let kept = subst (λ (value : SocketsValue). SocketsHold value history) (sym c.self.view_is) holds in
     answers_memory (refusal_of c.args.at.now (Change c.args.name.now c.args.filter.now) history)
-    (refusal_changed c.self.inside.moment c.later-moment.result c.args.at.now c.args.name.now c.args.filter.now c.self.inside.named (c.in-Some.group, c.in-Some.before) c.self.inside.groups history c.self.invariant.consistent
-    c.later-moment.ensures (sym c.in-Some.is ∙ c.find.ensures.found) kept
-    ∙ limited c.later-moment.result c.in-Some.group c.in-Some.before c.share_of-after.result c.args.filter.now c.self.inside.groups c.limit_passed.result c.share_of-after.ensures c.limit_passed.ensures
-    ∙ c.in_default-limit_passed.is)
+    (refused_change c.self.inside.moment c.later-moment.result c.args.at.now c.args.name.now c.args.filter.now c.self.inside.named (c.in-Some.group, c.in-Some.before) c.self.inside.groups _ _ c.self.view_is
+    c.self.invariant.consistent c.later-moment.ensures (sym c.in-Some.is ∙ c.find.ensures.found) (limited c.later-moment.result c.in-Some.group c.in-Some.before c.share_of-after.result c.args.filter.now c.self.inside.groups c.limit_passed.result c.share_of-after.ensures c.limit_passed.ensures ∙ c.in_default-limit_passed.is) history holds)
 
 pub change-requires-clause-some : goal.change-requires-clause-some
 change-requires-clause-some c =
@@ -82,25 +77,25 @@ changed later name filter copy sockets left group before share tallies after sam
   ordered = ordered;
 }
 
+consistent : (moment later at : ℕ) (name : List ℕ) (filter : FilterValue) (sockets left : List Socket) (told : Ip × Share) (before after : List (Ip × Tally)) (old : SocketsValue) → value_of moment sockets before ≡ old
+    → IsConsistent moment sockets before → later ≡ max moment at → Some told ≡ option_map told_of (socket_named name sockets) → limit_changed later filter told before ≡ None
+    → AreOfSocket name old filter → IsChanged later name filter sockets left told before after → IsConsistent later left after
+consistent moment later at name filter sockets left told before after old view before_is now same none family is =
+    consistent_changed moment later name filter sockets left told before after before_is (omega (arith, now)) same none (subst (λ (value : SocketsValue). AreOfSocket name value filter) (sym view) family) is
+
 pub invariant_of-self : goal.invariant_of-self
 invariant_of-self c =
     IsSound-of c.later-moment.result c.set_filter.new.self c.change.new.self
-    (let later = c.later-moment.ensures in
-    consistent_changed c.self.inside.moment c.later-moment.result c.args.name.now c.args.filter.now c.self.inside.named c.set_filter.new.self (c.in-Some.group, c.in-Some.before) c.self.inside.groups c.change.new.self
-    c.self.invariant.consistent (omega arith) (sym c.in-Some.is ∙ c.find.ensures.found)
-    (limited c.later-moment.result c.in-Some.group c.in-Some.before c.share_of-after.result c.args.filter.now c.self.inside.groups c.limit_passed.result c.share_of-after.ensures c.limit_passed.ensures
-    ∙ c.in_default-limit_passed.is)
-    (subst (λ (value : SocketsValue). AreOfSocket c.args.name.now value c.args.filter.now) (sym c.self.view_is) c.requires.family)
-    (changed c.later-moment.result c.args.name.now c.args.filter.now c.in-Ok.copy c.self.inside.named c.set_filter.new.self c.in-Some.group c.in-Some.before c.share_of-after.result c.self.inside.groups c.change.new.self
-    c.in-Ok.ensures c.share_of-after.ensures c.set_filter.ensures c.change.ensures.changed c.change.ensures.needed))
+    (consistent c.self.inside.moment c.later-moment.result c.args.at.now c.args.name.now c.args.filter.now c.self.inside.named c.set_filter.new.self (c.in-Some.group, c.in-Some.before) c.self.inside.groups c.change.new.self _
+    c.self.view_is c.self.invariant.consistent c.later-moment.ensures (sym c.in-Some.is ∙ c.find.ensures.found) (limited c.later-moment.result c.in-Some.group c.in-Some.before c.share_of-after.result c.args.filter.now c.self.inside.groups c.limit_passed.result c.share_of-after.ensures c.limit_passed.ensures ∙ c.in_default-limit_passed.is) c.requires.family
+    (changed _ _ _ _ _ _ _ _ _ _ _ c.in-Ok.ensures c.share_of-after.ensures c.set_filter.ensures c.change.ensures.changed c.change.ensures.needed))
 
 pub returns-clause-stands : goal.returns-clause-stands
 returns-clause-stands c =
     λ (history : List AcceptedCall) holds.
     holds_changed c.self.inside.moment c.later-moment.result c.args.at.now c.args.name.now c.args.filter.now c.self.inside.named c.set_filter.new.self (c.in-Some.group, c.in-Some.before) c.self.inside.groups
     c.change.new.self history c.self.invariant.consistent c.later-moment.ensures (sym c.in-Some.is ∙ c.find.ensures.found)
-    (changed c.later-moment.result c.args.name.now c.args.filter.now c.in-Ok.copy c.self.inside.named c.set_filter.new.self c.in-Some.group c.in-Some.before c.share_of-after.result c.self.inside.groups c.change.new.self
-    c.in-Ok.ensures c.share_of-after.ensures c.set_filter.ensures c.change.ensures.changed c.change.ensures.needed)
+    (changed _ _ _ _ _ _ _ _ _ _ _ c.in-Ok.ensures c.share_of-after.ensures c.set_filter.ensures c.change.ensures.changed c.change.ensures.needed)
     (subst (λ (value : SocketsValue). SocketsHold value history) (sym c.self.view_is) holds)
 
 pub returns-clause-keeps : goal.returns-clause-keeps
@@ -109,29 +104,20 @@ returns-clause-keeps c =
     subst (λ (value : SocketsValue). KeepsFarewells (with_call c.args.at.now (Change c.args.name.now c.args.filter.now) history) value (value_of c.later-moment.result c.set_filter.new.self c.change.new.self)) c.self.view_is
     (keeps_changed c.self.inside.moment c.later-moment.result c.args.at.now c.args.name.now c.args.filter.now c.self.inside.named c.set_filter.new.self (c.in-Some.group, c.in-Some.before) c.self.inside.groups
     c.change.new.self history c.self.invariant.consistent c.later-moment.ensures (sym c.in-Some.is ∙ c.find.ensures.found)
-    (changed c.later-moment.result c.args.name.now c.args.filter.now c.in-Ok.copy c.self.inside.named c.set_filter.new.self c.in-Some.group c.in-Some.before c.share_of-after.result c.self.inside.groups c.change.new.self
-    c.in-Ok.ensures c.share_of-after.ensures c.set_filter.ensures c.change.ensures.changed c.change.ensures.needed)
+    (changed _ _ _ _ _ _ _ _ _ _ _ c.in-Ok.ensures c.share_of-after.ensures c.set_filter.ensures c.change.ensures.changed c.change.ensures.needed)
     (subst (λ (value : SocketsValue). SocketsHold value history) (sym c.self.view_is) holds))
 
 pub returns-clause-refused : goal.returns-clause-refused
 returns-clause-refused c =
     λ (history : List AcceptedCall) holds.
-    let kept = subst (λ (value : SocketsValue). SocketsHold value history) (sym c.self.view_is) holds in
     answers_accepted (refusal_of c.args.at.now (Change c.args.name.now c.args.filter.now) history)
-    (refusal_changed c.self.inside.moment c.later-moment.result c.args.at.now c.args.name.now c.args.filter.now c.self.inside.named (c.in-Some.group, c.in-Some.before) c.self.inside.groups history c.self.invariant.consistent
-    c.later-moment.ensures (sym c.in-Some.is ∙ c.find.ensures.found) kept
-    ∙ limited c.later-moment.result c.in-Some.group c.in-Some.before c.share_of-after.result c.args.filter.now c.self.inside.groups c.limit_passed.result c.share_of-after.ensures c.limit_passed.ensures
-    ∙ c.in_default-limit_passed.is)
+    (refused_change c.self.inside.moment c.later-moment.result c.args.at.now c.args.name.now c.args.filter.now c.self.inside.named (c.in-Some.group, c.in-Some.before) c.self.inside.groups _ _ c.self.view_is
+    c.self.invariant.consistent c.later-moment.ensures (sym c.in-Some.is ∙ c.find.ensures.found) (limited c.later-moment.result c.in-Some.group c.in-Some.before c.share_of-after.result c.args.filter.now c.self.inside.groups c.limit_passed.result c.share_of-after.ensures c.limit_passed.ensures ∙ c.in_default-limit_passed.is) history holds)
 
 pub returns-clause-fits : goal.returns-clause-fits
 returns-clause-fits c =
     λ (history : List AcceptedCall) holds.
     within_limits c.later-moment.result c.set_filter.new.self c.change.new.self history
-    (let later = c.later-moment.ensures in
-    consistent_changed c.self.inside.moment c.later-moment.result c.args.name.now c.args.filter.now c.self.inside.named c.set_filter.new.self (c.in-Some.group, c.in-Some.before) c.self.inside.groups c.change.new.self
-    c.self.invariant.consistent (omega arith) (sym c.in-Some.is ∙ c.find.ensures.found)
-    (limited c.later-moment.result c.in-Some.group c.in-Some.before c.share_of-after.result c.args.filter.now c.self.inside.groups c.limit_passed.result c.share_of-after.ensures c.limit_passed.ensures
-    ∙ c.in_default-limit_passed.is)
-    (subst (λ (value : SocketsValue). AreOfSocket c.args.name.now value c.args.filter.now) (sym c.self.view_is) c.requires.family)
-    (changed c.later-moment.result c.args.name.now c.args.filter.now c.in-Ok.copy c.self.inside.named c.set_filter.new.self c.in-Some.group c.in-Some.before c.share_of-after.result c.self.inside.groups c.change.new.self
-    c.in-Ok.ensures c.share_of-after.ensures c.set_filter.ensures c.change.ensures.changed c.change.ensures.needed)) holds
+    (consistent c.self.inside.moment c.later-moment.result c.args.at.now c.args.name.now c.args.filter.now c.self.inside.named c.set_filter.new.self (c.in-Some.group, c.in-Some.before) c.self.inside.groups c.change.new.self _
+    c.self.view_is c.self.invariant.consistent c.later-moment.ensures (sym c.in-Some.is ∙ c.find.ensures.found) (limited c.later-moment.result c.in-Some.group c.in-Some.before c.share_of-after.result c.args.filter.now c.self.inside.groups c.limit_passed.result c.share_of-after.ensures c.limit_passed.ensures ∙ c.in_default-limit_passed.is) c.requires.family
+    (changed _ _ _ _ _ _ _ _ _ _ _ c.in-Ok.ensures c.share_of-after.ensures c.set_filter.ensures c.change.ensures.changed c.change.ensures.needed)) holds

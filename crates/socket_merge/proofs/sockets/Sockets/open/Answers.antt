@@ -1,10 +1,10 @@
-use Rattle.std.proofs.Common.{◌≡◌, ℕ, ◌+◌, ◌-◌, Bool, false, is_some, List, length, Option, None, sym, ap, subst, ◌∙◌, arith}
+use Rattle.std.proofs.Common.{◌≡◌, ℕ, ◌+◌, ◌-◌, Bool, false, is_some, List, [], ◌∷◌, ◌++◌, length, Option, None, sym, ap, subst, ◌∙◌, arith}
 use Rattle.std.specs.Option.{option_map}
 use Rattle.amt_values.specs.declared.address.Ip.{Ip}
 use Rattle.contract_words.specs.Conditions.{first_holding}
 use Rattle.source_filter.specs.Filter.{FilterValue}
 use Rattle.socket_merge.specs.History.{AcceptedCall, Open, Socket, socket_named}
-use Rattle.socket_merge.specs.Kept.{share_of, tally_at}
+use Rattle.socket_merge.specs.Kept.{AreNeeded, HasTallies, HasTally, share_of, tally_at, tally_fresh, tally_with}
 use Rattle.socket_merge.specs.Refusal.{refusal_of}
 use Rattle.socket_merge.specs.Sockets.{SocketsHold, SocketsValue}
 use Rattle.socket_merge.specs.declared.fault.SocketFault.{SocketFault}
@@ -12,7 +12,7 @@ use Rattle.socket_merge.specs.declared.fault.SocketFault.TheVariants.{Taken}
 use Rattle.socket_merge.specs.declared.stored.Share.{Share}
 use Rattle.socket_merge.specs.declared.stored.Tally.{Tally}
 use Rattle.socket_merge.proofs.Back.{IsSound-of}
-use Rattle.socket_merge.proofs.Calls.{absent_by, besides_short, consistent_opened, drops_old, holds_opened, limit_opened, refusal_opened, taken_by}
+use Rattle.socket_merge.proofs.Calls.{IsOpened, absent_by, besides_short, consistent_opened, drops_old, holds_opened, limit_opened, refused_opening, taken_by}
 use Rattle.socket_merge.proofs.Consistent.{HasRoom-of}
 use Rattle.socket_merge.proofs.Refused.{answers_accepted, answers_memory, answers_refused, limits_of, refusal-taken}
 use Rattle.socket_merge.proofs.Limits.{within_limits}
@@ -45,11 +45,9 @@ absent name sockets found some is same none = absent_by name sockets (sym (ap is
 pub returns-in-Some-clause-refused : goal.returns-in-Some-clause-refused
 returns-in-Some-clause-refused c =
     λ (history : List AcceptedCall) holds.
-    let kept = subst (λ (value : SocketsValue). SocketsHold value history) (sym c.self.view_is) holds in
     answers_refused (refusal_of c.args.at.now (Open c.args.name.now c.args.group.now c.args.filter.now) history) c.in-Some.fault
-    (refusal_opened c.self.inside.moment c.later-moment.result c.args.at.now c.args.name.now c.args.group.now c.args.filter.now c.self.inside.named c.self.inside.groups history c.self.invariant.consistent
-    c.later-moment.ensures (absent c.args.name.now c.self.inside.named c.find.result c.is_some.result c.find.ensures.found c.is_some.ensures c.if-is_some.false) kept
-    ∙ limited c.later-moment.result c.args.group.now c.share_of-share.result c.args.filter.now c.self.inside.groups c.limit_passed.result c.share_of-share.ensures c.limit_passed.ensures ∙ c.in-Some.is)
+    (refused_opening c.self.inside.moment c.later-moment.result c.args.at.now c.args.name.now c.args.group.now c.args.filter.now c.self.inside.named c.self.inside.groups _ _ c.self.view_is c.self.invariant.consistent
+    c.later-moment.ensures (absent c.args.name.now c.self.inside.named c.find.result c.is_some.result c.find.ensures.found c.is_some.ensures c.if-is_some.false) (limited c.later-moment.result c.args.group.now c.share_of-share.result c.args.filter.now c.self.inside.groups c.limit_passed.result c.share_of-share.ensures c.limit_passed.ensures ∙ c.in-Some.is) history holds)
 
 pub insert_both-requires-clause-room : goal.insert_both-requires-clause-room
 insert_both-requires-clause-room c =
@@ -58,41 +56,31 @@ insert_both-requires-clause-room c =
 pub returns-in-Err-clause-refused : goal.returns-in-Err-clause-refused
 returns-in-Err-clause-refused c =
     λ (history : List AcceptedCall) holds.
-    let kept = subst (λ (value : SocketsValue). SocketsHold value history) (sym c.self.view_is) holds in
     answers_memory (refusal_of c.args.at.now (Open c.args.name.now c.args.group.now c.args.filter.now) history)
-    (refusal_opened c.self.inside.moment c.later-moment.result c.args.at.now c.args.name.now c.args.group.now c.args.filter.now c.self.inside.named c.self.inside.groups history c.self.invariant.consistent
-    c.later-moment.ensures (absent c.args.name.now c.self.inside.named c.find.result c.is_some.result c.find.ensures.found c.is_some.ensures c.if-is_some.false) kept
-    ∙ limited c.later-moment.result c.args.group.now c.share_of-share.result c.args.filter.now c.self.inside.groups c.limit_passed.result c.share_of-share.ensures c.limit_passed.ensures ∙ c.in_default.is)
+    (refused_opening c.self.inside.moment c.later-moment.result c.args.at.now c.args.name.now c.args.group.now c.args.filter.now c.self.inside.named c.self.inside.groups _ _ c.self.view_is c.self.invariant.consistent
+    c.later-moment.ensures (absent c.args.name.now c.self.inside.named c.find.result c.is_some.result c.find.ensures.found c.is_some.ensures c.if-is_some.false) (limited c.later-moment.result c.args.group.now c.share_of-share.result c.args.filter.now c.self.inside.groups c.limit_passed.result c.share_of-share.ensures c.limit_passed.ensures ∙ c.in_default.is) history holds)
+
+opened : (later : ℕ) (socket : Socket) (sockets left : List Socket) (before between after : List (Ip × Tally)) → left ≡ sockets ++ socket ∷ []
+    → HasTally socket.group (tally_with (share_of socket.filter) (tally_at before socket.group)) before between → AreNeeded between → HasTallies (tally_fresh later) between after → AreNeeded after
+    → IsOpened later socket sockets left before between after
+opened later socket sockets left before between after rest tally between_needed fresh needed =
+    record { rest = rest; tally = tally; ordered_between = between_needed; fresh = fresh; ordered = needed }
 
 pub invariant_of-self-2 : goal.invariant_of-self-2
 invariant_of-self-2 c =
     IsSound-of c.later-moment.result c.insert_both.new.named c.drop_old.new.self
     (let later = c.later-moment.ensures in
-    let socket : Socket = record { name = c.args.name.now; group = c.args.group.now; filter = c.args.filter.now } in
-    consistent_opened c.self.inside.moment c.later-moment.result socket c.self.inside.named c.insert_both.new.named c.self.inside.groups c.insert_both.new.groups c.drop_old.new.self c.self.invariant.consistent (omega arith)
-    (absent c.args.name.now c.self.inside.named c.find.result c.is_some.result c.find.ensures.found c.is_some.ensures c.if-is_some.false)
-    (limited c.later-moment.result c.args.group.now c.share_of-share.result c.args.filter.now c.self.inside.groups c.limit_passed.result c.share_of-share.ensures c.limit_passed.ensures ∙ c.in_default.is)
-    c.requires.forwarded c.requires.family
-    (record {
-      rest = c.in-Ok.ensures.named;
-      tally = c.in-Ok.ensures.groups;
-      ordered_between = c.in-Ok.ensures.needed;
-      fresh = c.drop_old.ensures.fresh;
-      ordered = c.drop_old.ensures.needed;
-    }))
+    consistent_opened c.self.inside.moment c.later-moment.result (record { name = c.args.name.now; group = c.args.group.now; filter = c.args.filter.now }) c.self.inside.named c.insert_both.new.named c.self.inside.groups
+    c.insert_both.new.groups c.drop_old.new.self c.self.invariant.consistent (omega arith) (absent c.args.name.now c.self.inside.named c.find.result c.is_some.result c.find.ensures.found c.is_some.ensures c.if-is_some.false)
+    (limited c.later-moment.result c.args.group.now c.share_of-share.result c.args.filter.now c.self.inside.groups c.limit_passed.result c.share_of-share.ensures c.limit_passed.ensures ∙ c.in_default.is) c.requires.forwarded c.requires.family
+    (opened _ _ _ _ _ _ _ c.in-Ok.ensures.named c.in-Ok.ensures.groups c.in-Ok.ensures.needed c.drop_old.ensures.fresh c.drop_old.ensures.needed))
 
 pub returns-clause-stands : goal.returns-clause-stands
 returns-clause-stands c =
     λ (history : List AcceptedCall) holds.
     holds_opened c.self.inside.moment c.later-moment.result c.args.at.now c.args.name.now c.args.group.now c.args.filter.now c.self.inside.named c.insert_both.new.named c.self.inside.groups
     c.insert_both.new.groups c.drop_old.new.self history c.self.invariant.consistent c.later-moment.ensures
-    (record {
-      rest = c.in-Ok.ensures.named;
-      tally = c.in-Ok.ensures.groups;
-      ordered_between = c.in-Ok.ensures.needed;
-      fresh = c.drop_old.ensures.fresh;
-      ordered = c.drop_old.ensures.needed;
-    }) (subst (λ (value : SocketsValue). SocketsHold value history) (sym c.self.view_is) holds)
+    (opened _ _ _ _ _ _ _ c.in-Ok.ensures.named c.in-Ok.ensures.groups c.in-Ok.ensures.needed c.drop_old.ensures.fresh c.drop_old.ensures.needed) (subst (λ (value : SocketsValue). SocketsHold value history) (sym c.self.view_is) holds)
 
 pub returns-clause-drops : goal.returns-clause-drops
 returns-clause-drops c = drops_old c.later-moment.result c.insert_both.new.named c.insert_both.new.groups c.drop_old.new.self c.drop_old.ensures.fresh c.drop_old.ensures.needed
@@ -100,26 +88,16 @@ returns-clause-drops c = drops_old c.later-moment.result c.insert_both.new.named
 pub returns-clause-refused : goal.returns-clause-refused
 returns-clause-refused c =
     λ (history : List AcceptedCall) holds.
-    let kept = subst (λ (value : SocketsValue). SocketsHold value history) (sym c.self.view_is) holds in
     answers_accepted (refusal_of c.args.at.now (Open c.args.name.now c.args.group.now c.args.filter.now) history)
-    (refusal_opened c.self.inside.moment c.later-moment.result c.args.at.now c.args.name.now c.args.group.now c.args.filter.now c.self.inside.named c.self.inside.groups history c.self.invariant.consistent
-    c.later-moment.ensures (absent c.args.name.now c.self.inside.named c.find.result c.is_some.result c.find.ensures.found c.is_some.ensures c.if-is_some.false) kept
-    ∙ limited c.later-moment.result c.args.group.now c.share_of-share.result c.args.filter.now c.self.inside.groups c.limit_passed.result c.share_of-share.ensures c.limit_passed.ensures ∙ c.in_default.is)
+    (refused_opening c.self.inside.moment c.later-moment.result c.args.at.now c.args.name.now c.args.group.now c.args.filter.now c.self.inside.named c.self.inside.groups _ _ c.self.view_is c.self.invariant.consistent
+    c.later-moment.ensures (absent c.args.name.now c.self.inside.named c.find.result c.is_some.result c.find.ensures.found c.is_some.ensures c.if-is_some.false) (limited c.later-moment.result c.args.group.now c.share_of-share.result c.args.filter.now c.self.inside.groups c.limit_passed.result c.share_of-share.ensures c.limit_passed.ensures ∙ c.in_default.is) history holds)
 
 pub returns-clause-fits : goal.returns-clause-fits
 returns-clause-fits c =
     λ (history : List AcceptedCall) holds.
     within_limits c.later-moment.result c.insert_both.new.named c.drop_old.new.self history
     (let later = c.later-moment.ensures in
-    let socket : Socket = record { name = c.args.name.now; group = c.args.group.now; filter = c.args.filter.now } in
-    consistent_opened c.self.inside.moment c.later-moment.result socket c.self.inside.named c.insert_both.new.named c.self.inside.groups c.insert_both.new.groups c.drop_old.new.self c.self.invariant.consistent (omega arith)
-    (absent c.args.name.now c.self.inside.named c.find.result c.is_some.result c.find.ensures.found c.is_some.ensures c.if-is_some.false)
-    (limited c.later-moment.result c.args.group.now c.share_of-share.result c.args.filter.now c.self.inside.groups c.limit_passed.result c.share_of-share.ensures c.limit_passed.ensures ∙ c.in_default.is)
-    c.requires.forwarded c.requires.family
-    (record {
-      rest = c.in-Ok.ensures.named;
-      tally = c.in-Ok.ensures.groups;
-      ordered_between = c.in-Ok.ensures.needed;
-      fresh = c.drop_old.ensures.fresh;
-      ordered = c.drop_old.ensures.needed;
-    })) holds
+    consistent_opened c.self.inside.moment c.later-moment.result (record { name = c.args.name.now; group = c.args.group.now; filter = c.args.filter.now }) c.self.inside.named c.insert_both.new.named c.self.inside.groups
+    c.insert_both.new.groups c.drop_old.new.self c.self.invariant.consistent (omega arith) (absent c.args.name.now c.self.inside.named c.find.result c.is_some.result c.find.ensures.found c.is_some.ensures c.if-is_some.false)
+    (limited c.later-moment.result c.args.group.now c.share_of-share.result c.args.filter.now c.self.inside.groups c.limit_passed.result c.share_of-share.ensures c.limit_passed.ensures ∙ c.in_default.is) c.requires.forwarded c.requires.family
+    (opened _ _ _ _ _ _ _ c.in-Ok.ensures.named c.in-Ok.ensures.groups c.in-Ok.ensures.needed c.drop_old.ensures.fresh c.drop_old.ensures.needed)) holds

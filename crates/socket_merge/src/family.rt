@@ -1,0 +1,16 @@
+//! The family of a group. It must not know sockets.
+
+ghost use Rattle.std.specs.Prelude.{◌≡◌};
+ghost use Rattle.socket_merge.specs.Refusal.{family_of};
+
+use amt_values::Ip;
+use group_records::Family;
+
+pub fn family_of(group: &Ip) -> Family
+    ensures { result ≡ family_of group.now }
+{
+    match *group {
+        Ip::V4(_) => Family::V4,
+        Ip::V6(_) => Family::V6,
+    }
+}
