@@ -1,0 +1,15 @@
+pub mod Authorized
+pub mod CallRefusals
+pub mod GeneralQueries
+mod Heard
+pub mod Onward
+pub mod OwnSockets
+pub mod ReportSizes
+mod Reports
+mod Requests
+pub mod Runs
+mod Sound
+mod SoundRuns
+pub mod Steady
+pub mod Waiting
+pub mod WantedPackets

@@ -1,0 +1,5 @@
+use Rattle.gateway_machine.proofs.WantedPackets.{wanted}
+use Rattle.gateway_machine.proofs.laws.packets_are_wanted.Goals as goal
+
+pub returns : goal.returns
+returns c = wanted

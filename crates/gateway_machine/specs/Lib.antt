@@ -1,0 +1,14 @@
+pub mod Answers
+pub mod Calls
+pub mod Events
+pub mod Exchange
+pub mod General
+pub mod Laws
+pub mod Outcomes
+pub mod Refusals
+pub mod Reports
+pub mod Runs
+pub mod Sends
+pub mod Settings
+pub mod State
+pub mod Timing

@@ -1,0 +1,33 @@
+-- What a gateway sends.
+use Rattle.std.specs.Prelude.{Bool, false, List, [], ◌∷◌, Option, Some, None}
+use Rattle.amt_values.specs.declared.peer.Peer.{Peer}
+use Rattle.amt_messages.specs.Layout.{spelling_of}
+use Rattle.amt_messages.specs.declared.message.Message.{Message}
+use Rattle.amt_messages.specs.declared.message.Message.TheVariants.{Discovery, Request}
+use Rattle.gateway_machine.specs.declared.exchange.Exchange.{Exchange}
+use Rattle.gateway_machine.specs.declared.settings.GatewaySettings.{GatewaySettings}
+use Rattle.gateway_machine.specs.declared.step.PeerSend.{PeerSend}
+
+-- a message to a peer, and whether it carries a full report
+pub record Sending : Type 0 where
+  pub to : Peer
+  pub message : Message
+  pub full_report : Bool
+
+-- the datagram that carries it
+abbrev pub datagram_of : Sending → PeerSend
+datagram_of sending = record { to = sending.to; bytes = spelling_of sending.message }
+
+-- a message to the relay, if one is known; the law states_have_relays says when it is
+abbrev pub to_relay : Option Peer → Bool → Message → List Sending
+to_relay None full_report message = []
+to_relay (Some relay) full_report message = record { to = relay; message = message; full_report = full_report } ∷ []
+
+-- a Discovery with the nonce in use (RFC 7450, section 5.1.1)
+abbrev pub discovery : GatewaySettings → Exchange → List Sending
+discovery settings exchange =
+    record { to = settings.discovery; message = Discovery exchange.nonce; full_report = false } ∷ []
+
+-- a Request with the nonce in use, of the gateway's family (RFC 7450, section 5.1.3)
+abbrev pub request : GatewaySettings → Exchange → List Sending
+request settings exchange = to_relay exchange.relay false (Request settings.v6 exchange.nonce)

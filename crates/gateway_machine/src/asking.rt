@@ -1,0 +1,85 @@
+//! Discoveries and Requests. It must not know sockets.
+
+ghost use Rattle.std.specs.Prelude.{IfOk};
+ghost use Rattle.gateway_machine.specs.Answers.{ask, begin_with, discover, due_answer};
+ghost use Rattle.gateway_machine.specs.State.{IsReply};
+
+use crate::exchange::{Exchange, GatewayState};
+use crate::outcome::GatewayOutcome;
+use crate::reply::Reply;
+use crate::settings::GatewaySettings;
+use crate::step::{PeerSend, PeerSends};
+use amt_messages::{Message, encode};
+use amt_values::Peer;
+use std::alloc::{AllocError, Global};
+
+// How many Requests are sent with one nonce.
+const MOST_REQUESTS: u8 = 5;
+
+// The answer where a Discovery is sent, with the exchange after it.
+fn discover(alloc: Global, settings: &GatewaySettings, next: Exchange) -> Result<Reply, AllocError>
+    ensures { IfOk result (IsReply (discover settings.now next)) }
+{
+    let bytes = encode(alloc, &Message::Discovery { nonce: next.nonce })?;
+    let mut sends = PeerSends::with_room(alloc, 1)?;
+    sends.push(PeerSend {
+        to: settings.discovery,
+        bytes,
+    })?;
+    Ok(Reply::sending(GatewayOutcome::Discovering(next.tries), sends, next))
+}
+
+/// The answer where a Request is sent, with the exchange after it.
+pub fn ask(alloc: Global, settings: &GatewaySettings, next: Exchange) -> Result<Reply, AllocError>
+    ensures { IfOk result (IsReply (ask settings.now next)) }
+{
+    let message = Message::Request {
+        v6: settings.v6,
+        nonce: next.nonce,
+    };
+    let mut sends = PeerSends::with_room(alloc, 1)?;
+    // The law states_have_relays excludes that none is known.
+    if let Some(to) = next.relay {
+        let bytes = encode(alloc, &message)?;
+        sends.push(PeerSend { to, bytes })?;
+    }
+    Ok(Reply::sending(GatewayOutcome::Requesting(next.tries), sends, next))
+}
+
+/// The answer that begins an exchange: a Request is sent where a relay is known, else a Discovery.
+pub fn begin(
+    alloc: Global,
+    settings: &GatewaySettings,
+    exchange: &Exchange,
+    known: Option<Peer>,
+) -> Result<Reply, AllocError>
+    ensures { IfOk result (IsReply (begin_with known settings.now exchange.now)) }
+{
+    match known {
+        Some(_) => ask(alloc, settings, exchange.requesting()),
+        None => discover(alloc, settings, exchange.discovering()),
+    }
+}
+
+/// The answer where something is due.
+pub fn answer_due(
+    alloc: Global,
+    settings: &GatewaySettings,
+    exchange: &Exchange,
+) -> Result<Reply, AllocError>
+    ensures { IfOk result (IsReply (due_answer exchange.now.state settings.now exchange.now)) }
+{
+    match exchange.state {
+        // No moment comes to this: an idle gateway rests.
+        GatewayState::Idle => Ok(Reply::quiet(alloc, GatewayOutcome::Quiet, *exchange)),
+        GatewayState::Discovering => discover(alloc, settings, exchange.retried()),
+        GatewayState::Requesting => {
+            if exchange.tries < MOST_REQUESTS {
+                ask(alloc, settings, exchange.retried())
+            } else {
+                begin(alloc, settings, exchange, settings.relay)
+            }
+        }
+        GatewayState::Active => ask(alloc, settings, exchange.requesting()),
+    }
+}

@@ -1,0 +1,133 @@
+//! The gateway as a machine: where it starts, what is read off it, and one step. It knows no message.
+
+ghost use Rattle.std.specs.Prelude.{◌≡◌};
+ghost use Rattle.std.proofs.Props.{props};
+ghost use Rattle.gateway_machine.specs.Settings.{HasSourceOfFamily};
+ghost use Rattle.gateway_machine.specs.State.{AreOfSettings, HasHistory, IsAtMoment};
+
+use crate::event::GatewayEvent;
+use crate::exchange::{Exchange, GatewayState};
+use crate::settings::GatewaySettings;
+use crate::step::GatewayStep;
+use crate::taken::{Taken, answer_event};
+use amt_values::Ip;
+use socket_merge::Sockets;
+use std::alloc::{AllocError, Global};
+
+/// A gateway (RFC 7450, section 4.1.2).
+///
+/// Contracts see each of its fields, so where they say that a gateway is as before, nothing more was
+/// kept. Its sockets stand for some history of calls, none of them later than its moment, on groups of its
+/// family.
+///
+/// ```text
+///   gateway                                        relay
+///      | -- Discovery (nonce 1) ----------------->   |  a socket was opened
+///      | <- Advertisement (nonce 1, address) -----   |
+///      | -- Request (nonce 2) ------------------->   |
+///      | <- Query (nonce 2, MAC, General Query) --   |
+///      | -- Update (nonce 2, MAC, full report) -->   |  Active
+///      | <- Multicast Data -----------------------   |  handed on, if a socket wants it
+///      | -- Update (changes), Update (full) ----->   |  a socket call
+///      |                                             |
+///      | -- Request (nonce 3) ------------------->   |  the query interval has passed
+///      | <- Query (nonce 3, MAC) -----------------   |
+///      | -- Update (nonce 3, MAC, full report) -->   |
+/// ```
+#[derive(Debug, Drop)]
+pub struct Gateway {
+    settings: GatewaySettings,
+    exchange: Exchange,
+    sockets: Sockets,
+    ghost source: { HasSourceOfFamily settings } by { Prim.hlevel props },
+    ghost at_moment: { IsAtMoment exchange sockets } by { Prim.hlevel props },
+    ghost of_settings: { AreOfSettings settings sockets } by { Prim.hlevel props },
+    ghost has_history: { ∥ HasHistory sockets ∥₁ },
+}
+
+impl Gateway {
+    ghost use Rattle.std.specs.Prelude.{◌≡◌, List, ℕ, [], ◌∷◌, ◌++◌, map, Some, IfOk, IsOk, OnErr};
+    ghost use Rattle.socket_merge.specs.Interface.{wants};
+    ghost use Rattle.gateway_machine.specs.Events.{IsDraw, IsEventOf};
+    ghost use Rattle.gateway_machine.specs.Laws.{AreAuthorized, IsWantedPacket};
+    ghost use Rattle.gateway_machine.specs.Runs.{After, GatewayAt, answer_after, run_of, settings_of};
+    ghost use Rattle.gateway_machine.specs.Outcomes.{IsRefused};
+    ghost use Rattle.gateway_machine.specs.Sends.{datagram_of};
+
+    /// A gateway at moment 0 that is idle, without sockets. Its first Discovery or Request has this
+    /// nonce, unless an event brings another one before it.
+    pub fn new(alloc: Global, settings: GatewaySettings, nonce: u32) -> Result<Gateway, AllocError>
+        requires { HasSourceOfFamily settings }
+        ensures stands { IfOk result (λ gateway. GatewayAt gateway settings nonce []) }
+    {
+        let sockets = Sockets::new(alloc)?;
+        Ok(Gateway {
+            settings,
+            exchange: Exchange::start(&settings, nonce),
+            sockets,
+        })
+    }
+
+    /// What the gateway is about.
+    pub fn state(&self) -> GatewayState
+        ensures { After self.now (λ settings first events.
+            result ≡ (run_of settings first events).exchange.state) }
+    {
+        self.exchange.state
+    }
+
+    /// Whether some socket of the group wants the source.
+    pub fn admits(&self, group: &Ip, source: &Ip) -> bool
+        ensures { After self.now (λ settings first events.
+            result ≡ wants (run_of settings first events).history group.now source.now) }
+    {
+        self.sockets.admits(group, source)
+    }
+
+    /// Takes one event. Where memory ran out the gateway is as before, and the event may be given again.
+    pub fn step(&mut self, alloc: Global, event: &GatewayEvent) -> Result<GatewayStep, AllocError>
+        requires { IsEventOf (settings_of self.old) event.now }
+        ensures outcome { After self.old (λ settings first events. IfOk result (λ step.
+            step.outcome ≡ (answer_after settings first events event.now).outcome)) }
+        ensures sends { After self.old (λ settings first events. IfOk result (λ step.
+            step.sends ≡ map datagram_of (answer_after settings first events event.now).sends)) }
+        ensures deliver { After self.old (λ settings first events. IfOk result (λ step.
+            step.deliver ≡ (answer_after settings first events event.now).deliver)) }
+        ensures next { After self.old (λ settings first events. IfOk result (λ _.
+            GatewayAt self.new settings first (events ++ event.now ∷ []))) }
+        ensures settings { settings_of self.new ≡ settings_of self.old }
+        ensures err { OnErr result (self.new ≡ self.old) }
+
+        // An ignored datagram and a refused call change nothing, so nobody who sends them can fill the
+        // gateway's memory or move it.
+        ensures same { IfOk result (λ step. IsRefused step.outcome → self.new ≡ self.old) }
+
+        // Each Update and each Teardown that goes out carries the response MAC and the nonce of a Query
+        // that the gateway accepted: it came from the gateway's relay, in answer to the last Request
+        // before it (RFC 7450, section 5.2.3.6).
+        ensures authorized { After self.old (λ settings first events. IfOk result (λ step.
+            AreAuthorized settings first (events ++ event.now ∷ []) step.sends)) }
+
+        // A packet is handed on as it stands in Multicast Data from the gateway's relay, and only where
+        // its group is forwarded and some socket of it lets the packet's source in (RFC 7450, section
+        // 5.2.3.3).
+        ensures wanted { After self.old (λ settings first events. IfOk result (λ step.
+            (packet : List ℕ) → step.deliver ≡ Some packet
+            → IsWantedPacket settings first events event.now packet)) }
+
+        // A nonce takes no memory.
+        ensures sure { IsDraw event.now → IsOk result }
+    {
+        let Taken {
+            step,
+            next,
+            sockets,
+        } = answer_event(alloc, &self.settings, &self.exchange, &self.sockets, event)?;
+        self.exchange = next;
+        let Some(sockets) = sockets else {
+            return Ok(step);
+        };
+        self.sockets = sockets;
+        Ok(step)
+    }
+}

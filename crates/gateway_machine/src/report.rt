@@ -1,0 +1,186 @@
+//! The reports that a gateway sends, as messages to its relay. It must not know states or events.
+
+ghost use Rattle.std.specs.Prelude.{◌≡◌, ◌≤◌, ◌++◌, nat_le, length, map, Bool, All, IfOk, OnOk};
+ghost use Rattle.amt_messages.specs.Messages.{IsSendable};
+ghost use Rattle.group_records.specs.Written.{IsOfFamily, report_length};
+ghost use Rattle.socket_merge.specs.FullReport.{family_by};
+ghost use Rattle.socket_merge.specs.Refusal.{family_of};
+ghost use Rattle.socket_merge.specs.Sockets.{ForHistory};
+ghost use Rattle.gateway_machine.specs.Reports.{change_reports, full_report, report_datagram, teardown, update};
+ghost use Rattle.gateway_machine.specs.Sends.{datagram_of, to_relay};
+ghost use Rattle.gateway_machine.specs.Settings.{HasSourceOfFamily};
+ghost use Rattle.gateway_machine.specs.State.{IsAtMoment};
+
+use crate::exchange::{Exchange, LastQuery};
+use crate::settings::GatewaySettings;
+use crate::step::{PeerSend, PeerSends};
+use crate::timing::farewell_ms;
+use amt_messages::{Message, encode};
+use amt_values::{Bytes, Ip, Peer};
+use group_records::REPORT_LIMIT;
+use igmp_records::write_report4;
+use inner_datagrams::{write_inner4, write_inner6};
+use mld_records::write_report6;
+use socket_merge::Sockets;
+use source_filter::Records;
+use std::alloc::{AllocError, Global};
+
+// 224.0.0.22 (RFC 3376, section 4.2.14).
+const IGMP_ROUTERS: u32 = 0xe000_0016;
+
+// ff02::16 (RFC 3810, section 5.2.14).
+const MLD_ROUTERS: u128 = 0xff02_0000_0000_0000_0000_0000_0000_0016;
+
+// The datagram that carries a report of these records, from an address of their family.
+fn report_datagram(alloc: Global, source: &Ip, records: &Records) -> Result<Bytes, AllocError>
+    requires family { All (IsOfFamily (family_of source.now)) records.now }
+    requires most { report_length (family_of source.now) records.now ≤ REPORT_LIMIT }
+    ensures written { IfOk result (λ bytes. bytes ≡ report_datagram source.now records.now) }
+    ensures short { IfOk result (λ bytes. length bytes ≤ 65000) }
+{
+    match source {
+        Ip::V4(source) => {
+            let report = write_report4(alloc, records)?;
+            write_inner4(alloc, *source, IGMP_ROUTERS, report.as_slice())
+        }
+        Ip::V6(source) => {
+            let report = write_report6(alloc, *source, MLD_ROUTERS, records)?;
+            write_inner6(alloc, *source, MLD_ROUTERS, report.as_slice())
+        }
+    }
+}
+
+// Puts a message to the relay at the end, if one is known.
+fn push_to_relay(
+    sends: &mut PeerSends,
+    alloc: Global,
+    relay: Option<Peer>,
+    message: &Message,
+) -> Result<(), AllocError>
+    requires { IsSendable message.now }
+    ensures { (full : Bool) → OnOk result (sends.new
+        ≡ sends.old ++ map datagram_of (to_relay relay full message.now)) }
+{
+    // The law states_have_relays excludes that none is known.
+    let Some(to) = relay else {
+        return Ok(());
+    };
+    let bytes = encode(alloc, message)?;
+    sends.push(PeerSend { to, bytes })
+}
+
+// Puts the report of these records at the end, if there are any.
+fn push_update(
+    sends: &mut PeerSends,
+    alloc: Global,
+    settings: &GatewaySettings,
+    exchange: &Exchange,
+    records: &Records,
+) -> Result<(), AllocError>
+    requires source { HasSourceOfFamily settings.now }
+    requires family { All (IsOfFamily (family_by settings.now.v6)) records.now }
+    requires most { report_length (family_by settings.now.v6) records.now ≤ REPORT_LIMIT }
+    ensures { (full : Bool) → OnOk result (sends.new
+        ≡ sends.old ++ map datagram_of (update settings.now exchange.now full records.now)) }
+{
+    if records.len() == 0 {
+        return Ok(());
+    }
+    // The law queries_are_kept excludes that there is none.
+    let Some(query) = exchange.query else {
+        return Ok(());
+    };
+    let inner = report_datagram(alloc, &settings.source, records)?;
+    let message = Message::Update {
+        mac: query.mac,
+        nonce: query.nonce,
+        inner,
+    };
+    push_to_relay(sends, alloc, exchange.relay, &message)
+}
+
+/// Puts the report of all that is wanted at the end.
+pub fn push_full_report(
+    sends: &mut PeerSends,
+    alloc: Global,
+    settings: &GatewaySettings,
+    exchange: &Exchange,
+    sockets: &Sockets,
+) -> Result<(), AllocError>
+    requires { HasSourceOfFamily settings.now }
+    ensures { IsAtMoment exchange.now sockets.now → ForHistory sockets.now (λ history. OnOk result
+        (sends.new ≡ sends.old ++ map datagram_of (full_report settings.now exchange.now history))) }
+{
+    let keep_ms = farewell_ms(exchange.query);
+    let records = sockets.full_report(alloc, settings.v6, &exchange.moment, keep_ms)?;
+    push_update(sends, alloc, settings, exchange, &records)
+}
+
+// Whether the report of these records is one datagram of the tunnel. No socket call comes to more than
+// 1,400 octets: one group changes by at most 64 sources, 1,072 octets, and leaving all is no longer than
+// the raw report.
+fn fits(v6: bool, records: &Records) -> bool
+    ensures { result ≡ nat_le (report_length (family_by v6) records.now) 1400 }
+{
+    let width = if v6 { 16 } else { 4 };
+    let mut room = REPORT_LIMIT - 8;
+    for group_record in records.as_slice() {
+        // A list of more sources is too long alone, and its octets may be more than can be counted.
+        let octets = 4 + width + group_record.sources.len().min(REPORT_LIMIT) * width;
+        if octets > room {
+            return false;
+        }
+        room -= octets;
+    }
+    true
+}
+
+/// Puts the report of what changed at the end, if there is something and it fits, and then the one of
+/// all that is wanted.
+pub fn push_change_reports(
+    sends: &mut PeerSends,
+    alloc: Global,
+    settings: &GatewaySettings,
+    exchange: &Exchange,
+    sockets: &Sockets,
+    changes: &Records,
+) -> Result<(), AllocError>
+    requires source { HasSourceOfFamily settings.now }
+    requires family { All (IsOfFamily (family_by settings.now.v6)) changes.now }
+    ensures { IsAtMoment exchange.now sockets.now → ForHistory sockets.now (λ history. OnOk result
+        (sends.new ≡ sends.old
+        ++ map datagram_of (change_reports settings.now exchange.now history changes.now))) }
+{
+    if fits(settings.v6, changes) {
+        push_update(sends, alloc, settings, exchange, changes)?;
+    }
+    push_full_report(sends, alloc, settings, exchange, sockets)
+}
+
+/// Puts the Teardown at the end of the endpoint that the relay saw at the last query, if it sees another
+/// one at this.
+pub fn push_teardown(
+    sends: &mut PeerSends,
+    alloc: Global,
+    exchange: &Exchange,
+    query: &LastQuery,
+) -> Result<(), AllocError>
+    ensures { OnOk result (sends.new
+        ≡ sends.old ++ map datagram_of (teardown exchange.now.query query.now.seen exchange.now)) }
+{
+    let Some(last) = exchange.query else {
+        return Ok(());
+    };
+    let (Some(before), Some(seen)) = (last.seen, query.seen) else {
+        return Ok(());
+    };
+    if before == seen {
+        return Ok(());
+    }
+    let message = Message::Teardown {
+        mac: last.mac,
+        nonce: last.nonce,
+        gateway: before,
+    };
+    push_to_relay(sends, alloc, exchange.relay, &message)
+}
