@@ -1,0 +1,3 @@
+pub mod HeardQueries
+pub mod QueryTimes
+pub mod ReadQueries

@@ -1,0 +1,35 @@
+-- The Query by which a relay tells a gateway how it counts.
+use Rattle.std.specs.Prelude.{◌≡◌, ℕ, ◌<◌, ◌^◌, Some}
+use Rattle.amt_values.specs.EndpointValue.{EndpointValue}
+use Rattle.amt_values.specs.declared.peer.Peer.{Peer}
+use Rattle.response_mac.specs.declared.secret.Secret.{Secret}
+use Rattle.response_mac.specs.ResponseMac.{mac_of}
+use Rattle.gateway_machine.specs.declared.exchange.Exchange.{Exchange}
+use Rattle.gateway_machine.specs.declared.exchange.GatewayState.TheVariants.{Requesting}
+use Rattle.gateway_machine.specs.declared.exchange.LastQuery.{LastQuery}
+use Rattle.relay_machine.specs.declared.settings.Settings.{Settings}
+use Rattle.relay_machine.specs.Settings.{membership_interval_ms}
+
+-- the sources of General Queries fit the headers that carry them (RFC 791, section 3.1; RFC 8200,
+-- section 3)
+pub record HasQuerySources (settings : Settings) : Type 0 where
+  pub ipv4 : settings.query4 < 2 ^ 32
+  pub ipv6 : settings.query6 < 2 ^ 128
+
+-- a gateway has sent a Request to this relay and awaits its Query (RFC 7450, section 5.2.3.5); the nonce
+-- fits its field
+pub record IsAsking (exchange : Exchange) (relay : Peer) : Type 0 where
+  pub state : exchange.state ≡ Requesting
+  pub relay_known : exchange.relay ≡ Some relay
+  pub nonce_fits : exchange.nonce < 2 ^ 32
+
+-- what is to be kept of the Query that answers the Request of this source with this nonce: the relay's
+-- own interval and the time for which it lets a report count (RFC 3376, sections 8.2 and 8.4)
+abbrev pub query_of_relay : Settings → Secret → EndpointValue → ℕ → LastQuery
+query_of_relay settings secret source nonce = record {
+  mac = mac_of secret source nonce;
+  nonce = nonce;
+  seen = Some source;
+  interval_seconds = settings.query_seconds;
+  lifetime_ms = membership_interval_ms settings;
+}

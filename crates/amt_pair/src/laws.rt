@@ -1,0 +1,42 @@
+//! What both ends of a tunnel agree on.
+ghost use Rattle.std.specs.Prelude.{◌≡◌, Bool, List, Ok};
+ghost use Rattle.amt_messages.specs.Layout.{spelling_of};
+ghost use Rattle.amt_messages.specs.Messages.{IsGateway};
+ghost use Rattle.amt_values.specs.EndpointValue.{EndpointValue};
+ghost use Rattle.amt_values.specs.declared.peer.Peer.{Peer};
+ghost use Rattle.gateway_machine.specs.Answers.{event_answer, query_accepted};
+ghost use Rattle.gateway_machine.specs.General.{general_query_in};
+ghost use Rattle.gateway_machine.specs.Timing.{interval_of, lifetime_of};
+ghost use Rattle.gateway_machine.specs.declared.event.GatewayEvent.TheVariants.{Datagram};
+ghost use Rattle.gateway_machine.specs.declared.exchange.Exchange.{Exchange};
+ghost use Rattle.gateway_machine.specs.declared.settings.GatewaySettings.{GatewaySettings};
+ghost use Rattle.relay_machine.specs.declared.settings.Settings.{Settings};
+ghost use Rattle.relay_machine.specs.Queries.{general_query, query_fields, query_for};
+ghost use Rattle.relay_machine.specs.Settings.{AreLawfulSettings, membership_interval_ms};
+ghost use Rattle.response_mac.specs.declared.secret.Secret.{Secret};
+ghost use Rattle.socket_merge.specs.History.{AcceptedCall};
+ghost use Rattle.socket_merge.specs.FullReport.{family_by};
+ghost use Rattle.amt_pair.specs.Queries.{HasQuerySources, IsAsking, query_of_relay};
+
+/// What a relay says in its General Queries, of either family, is what a gateway takes them to say
+/// (RFC 7450, section 5.1.4). Lawful settings have only times that codes stand for, and a
+/// robustness and an interval that aren't zero, so nothing is rounded, and no default takes the
+/// place of what is said.
+pub fn relays_queries_are_accepted()
+    ensures read { (settings : Settings) (v6 : Bool) → AreLawfulSettings settings
+        → HasQuerySources settings
+        → general_query_in v6 (general_query settings v6) ≡ Ok (query_fields settings v6) }
+    ensures lifetime { (settings : Settings) (v6 : Bool) → AreLawfulSettings settings
+        → lifetime_of (family_by v6) (query_fields settings v6) ≡ membership_interval_ms settings }
+    ensures interval { (settings : Settings) (v6 : Bool) → AreLawfulSettings settings
+        → interval_of (query_fields settings v6) ≡ settings.query_seconds }
+
+    ensures accepted { (settings : Settings) (secret : Secret) (limited : Bool)
+        (source : EndpointValue) (gateway : GatewaySettings) (exchange : Exchange)
+        (history : List AcceptedCall) (relay : Peer) → AreLawfulSettings settings
+        → HasQuerySources settings → IsGateway source → IsAsking exchange relay
+        → event_answer gateway exchange history (Datagram relay
+        (spelling_of (query_for settings secret gateway.v6 limited source exchange.nonce)))
+        ≡ query_accepted gateway exchange history
+        (query_of_relay settings secret source exchange.nonce) }
+{}
