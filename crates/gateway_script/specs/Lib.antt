@@ -1,0 +1,10 @@
+pub mod Fault
+pub mod Reading
+pub mod Row
+pub mod Running
+pub mod Says
+pub mod Script
+pub mod Setting
+pub mod Settling
+pub mod SocketLine
+pub mod Texts

@@ -1,0 +1,109 @@
+//! The texts of what an event came to. It knows no step.
+
+ghost use Rattle.std.specs.Prelude.{◌≡◌, ◌++◌, decimal, OnOk};
+ghost use Rattle.gateway_machine.specs.declared.outcome.Ignored.TheVariants.{Nonce as NonceCause};
+ghost use Rattle.gateway_script.specs.Texts.{ignored_text, nonce_text, outcome_text, socket_refusal_text};
+
+use amt_values::{Bytes, append_numeral};
+use fault_texts::{append_head_fault, append_inner_fault, append_refusal, append_report_fault};
+use gateway_machine::{GatewayOutcome, Ignored, SocketRefusal};
+use script_lines::append_hex;
+use std::alloc::AllocError;
+
+// A word with a space after it, and a number.
+fn append_numbered(text: &mut Bytes, word: &[u8], number: u32) -> Result<(), AllocError>
+    ensures { OnOk result (text.new ≡ text.old ++ (word.now ++ decimal number)) }
+{
+    text.append(word)?;
+    append_numeral(text, u64::from(number))
+}
+
+fn append_socket_refusal(text: &mut Bytes, refusal: SocketRefusal) -> Result<(), AllocError>
+    ensures { OnOk result (text.new ≡ text.old ++ socket_refusal_text refusal) }
+{
+    match refusal {
+        SocketRefusal::Taken => text.append(b"taken"),
+        SocketRefusal::NoSocket => text.append(b"nosocket"),
+        SocketRefusal::SourcesFull(sources) => append_numbered(text, b"sources ", sources),
+        SocketRefusal::ReportFull(octets) => append_numbered(text, b"report ", octets),
+    }
+}
+
+// A nonce, in eight hexadecimal digits.
+fn append_nonce(text: &mut Bytes, nonce: u32) -> Result<(), AllocError>
+    ensures { OnOk result (text.new ≡ text.old ++ nonce_text nonce) }
+{
+    append_hex(text, &nonce.to_be_bytes())
+}
+
+// The nonce that is wanted, and the one that is there.
+fn append_nonces(text: &mut Bytes, want: u32, have: u32) -> Result<(), AllocError>
+    ensures { OnOk result (text.new ≡ text.old ++ ignored_text (NonceCause want have)) }
+{
+    text.append(b"nonce ")?;
+    append_nonce(text, want)?;
+    text.append(b" ")?;
+    append_nonce(text, have)
+}
+
+fn append_ignored(text: &mut Bytes, cause: &Ignored) -> Result<(), AllocError>
+    ensures { OnOk result (text.new ≡ text.old ++ ignored_text cause.now) }
+{
+    match *cause {
+        Ignored::Undecoded(refusal) => {
+            text.append(b"refused ")?;
+            append_refusal(text, &refusal)
+        }
+        Ignored::Kind(kind) => append_numbered(text, b"kind ", u32::from(kind)),
+        Ignored::State(kind) => append_numbered(text, b"state ", u32::from(kind)),
+        Ignored::Sender(relay, from) => write!(text, "sender {relay} {from}"),
+        Ignored::Nonce(want, have) => append_nonces(text, want, have),
+        Ignored::Inner(fault) => {
+            text.append(b"inner ")?;
+            append_inner_fault(text, &fault)
+        }
+        Ignored::Family => text.append(b"family"),
+        Ignored::Body(fault) => {
+            text.append(b"body ")?;
+            append_report_fault(text, &fault)
+        }
+        Ignored::NotGeneral(group) => write!(text, "notgeneral {group}"),
+        Ignored::Head(fault) => {
+            text.append(b"head ")?;
+            append_head_fault(text, &fault)
+        }
+        Ignored::Scope(group) => write!(text, "scope {group}"),
+        Ignored::NotWanted(group, source) => write!(text, "notwanted {group} {source}"),
+    }
+}
+
+/// Puts what an event came to at the end.
+pub fn append_outcome(text: &mut Bytes, outcome: &GatewayOutcome) -> Result<(), AllocError>
+    ensures { OnOk result (text.new ≡ text.old ++ outcome_text outcome.now) }
+{
+    match *outcome {
+        GatewayOutcome::Quiet => text.append(b"quiet"),
+        GatewayOutcome::Drawn => text.append(b"drawn"),
+        GatewayOutcome::Discovering(tries) => {
+            append_numbered(text, b"discovering ", u32::from(tries))
+        }
+        GatewayOutcome::Requesting(tries) => append_numbered(
+            text,
+            b"requesting ",
+            u32::from(tries),
+        ),
+        GatewayOutcome::Active => text.append(b"active"),
+        GatewayOutcome::Idle => text.append(b"idle"),
+        GatewayOutcome::Changed => text.append(b"changed"),
+        GatewayOutcome::Kept => text.append(b"kept"),
+        GatewayOutcome::Delivered => text.append(b"delivered"),
+        GatewayOutcome::SocketRefused(refusal) => {
+            text.append(b"refused ")?;
+            append_socket_refusal(text, refusal)
+        }
+        GatewayOutcome::Ignored(cause) => {
+            text.append(b"ignored ")?;
+            append_ignored(text, &cause)
+        }
+    }
+}

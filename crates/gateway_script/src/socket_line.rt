@@ -1,0 +1,103 @@
+//! One line that makes a socket call, as whoever controls a gateway gives it. It knows no settings.
+
+ghost use Rattle.std.specs.Prelude.{◌≡◌, ◌≤◌, ◌↔◌, ◌∷◌, true, is_some, length, Some, IfOk, IfErr, IsTrue};
+ghost use Rattle.std.specs.Str.Lines.{strip_carriage_return};
+ghost use Rattle.gateway_machine.specs.Answers.{call_in};
+ghost use Rattle.socket_merge.specs.FullReport.{family_by};
+ghost use Rattle.gateway_machine.specs.declared.event.GatewayEvent.{GatewayEvent as EventValue};
+ghost use Rattle.gateway_script.specs.Reading.{IsEventBy};
+ghost use Rattle.gateway_script.specs.SocketLine.{FailsAsCall, IsSocketError, IsSocketLine, MakesCall, RulesOutCalls, control_line};
+ghost use Rattle.gateway_script.specs.Says.{SaysEvent};
+ghost use Rattle.script_lines.specs.Lines.{fields};
+ghost use Rattle.script_lines.specs.Reading.{FailsFirst};
+ghost use Rattle.gateway_script.specs.Fault.{order_of_values};
+
+use crate::kind::{LineKind, kind_of_line};
+use crate::line::read_event;
+use gateway_machine::GatewayEvent;
+use group_records::Family;
+use script_lines::{LineError, MOST_OCTETS_OF_A_LINE, Reason, ScriptError, is_plain, next_field};
+use std::alloc::Global;
+
+fn without_carriage_return(line: &[u8]) -> &[u8]
+    ensures { result.now ≡ strip_carriage_return line.now }
+{
+    match line {
+        [start @ .., b'\r'] => start,
+        _ => line,
+    }
+}
+
+fn control_line(bytes: &[u8]) -> &[u8]
+    ensures { result.now ≡ control_line bytes.now }
+{
+    match bytes {
+        [start @ .., b'\n'] => without_carriage_return(start),
+        _ => bytes,
+    }
+}
+
+fn makes_call(kind: LineKind) -> bool
+    ensures { IsTrue result ↔ MakesCall kind }
+{
+    matches!(
+        kind,
+        LineKind::Open | LineKind::Change | LineKind::Close | LineKind::Leave
+    )
+}
+
+// The socket call that a plain line says, by its first field and what follows it.
+fn read_call(alloc: Global, family: Family, line: &[u8]) -> Result<GatewayEvent, LineError>
+    requires short { length line.now ≤ 140000 }
+    ensures found { IfOk result (λ event. SaysEvent (Some family) event (fields line.now)) }
+    ensures call { IfOk result (λ event. is_some (call_in event) ≡ true) }
+    ensures may { IfOk result (IsEventBy (Some family)) }
+    ensures reason { IfErr result (FailsFirst (FailsAsCall family (fields line.now)) (Reason.Word ∷ order_of_values)) }
+{
+    let Some((word, rest)) = next_field(line) else {
+        return Err(LineError::Bad(Reason::Word));
+    };
+    let Ok((kind, values)) = kind_of_line(word, rest) else {
+        return Err(LineError::Bad(Reason::Word));
+    };
+    if !makes_call(kind) {
+        return Err(LineError::Bad(Reason::Word));
+    }
+    match read_event(alloc, Some(family), kind, values) {
+        Ok(event) => Ok(event),
+        Err(error) => Err(error),
+    }
+}
+
+// The fault of the one line.
+fn fault(reason: Reason) -> ScriptError
+    ensures { result ≡ ScriptError.Fault 1 reason }
+{
+    ScriptError::Fault { line: 1, reason }
+}
+
+/// Reads one line that makes a socket call to a gateway of the family, with or without its line feed.
+pub fn read_socket_line(alloc: Global, v6: bool, line: &[u8]) -> Result<GatewayEvent, ScriptError>
+    ensures found { IfOk result (λ event. IsSocketLine (family_by v6) event line.now) }
+    ensures may { IfOk result (IsEventBy (Some (family_by v6))) }
+    ensures fault { IfErr result (IsSocketError (family_by v6) line.now) }
+    ensures none { IfErr result (RulesOutCalls (family_by v6) line.now) }
+
+    // The octets alone decide which call is read.
+    ensures one { (event other : EventValue) → IsSocketLine (family_by v6) event line.now
+        → IsSocketLine (family_by v6) other line.now → event ≡ other }
+{
+    let line = control_line(line);
+    if line.len() > MOST_OCTETS_OF_A_LINE {
+        return Err(fault(Reason::Long));
+    }
+    if !is_plain(line) {
+        return Err(fault(Reason::Word));
+    }
+    let family = if v6 { Family::V6 } else { Family::V4 };
+    match read_call(alloc, family, line) {
+        Ok(event) => Ok(event),
+        Err(LineError::Bad(reason)) => Err(fault(reason)),
+        Err(LineError::Memory) => Err(ScriptError::Memory),
+    }
+}
