@@ -4,25 +4,31 @@ use Rattle.std.specs.List.{list_any}
 use Rattle.amt_ports.specs.Causes.{Rose}
 use Rattle.amt_script.specs.declared.line.RelayStatement.{RelayStatement}
 use Rattle.amt_script.specs.declared.script.RelayScript.{RelayScript}
+use Rattle.gateway_script.specs.declared.line.GatewayStatement.{GatewayStatement}
+use Rattle.gateway_script.specs.declared.script.GatewayScript.{GatewayScript}
 use Rattle.amt_command.specs.declared.command.Command.{Command}
-use Rattle.amt_command.specs.declared.command.Command.TheVariants.{ReplayRelay}
-use Rattle.amt_command.specs.Replay.{Replay, relay_replay}
+use Rattle.amt_command.specs.declared.command.Command.TheVariants.{ReplayRelay, ReplayGateway}
+use Rattle.amt_command.specs.Replay.{Replay, gateway_replay, relay_replay}
 
 -- the arguments of a command, those after the program's name
 abbrev pub arguments_of : Command → List (List ℕ)
 arguments_of ReplayRelay = codes "replay" ∷ codes "relay" ∷ []
+arguments_of ReplayGateway = codes "replay" ∷ codes "gateway" ∷ []
 
 -- what a line of its scripts says, and its scripts
 abbrev pub statement_of : Command → Type 0
 statement_of ReplayRelay = RelayStatement
+statement_of ReplayGateway = GatewayStatement
 
 -- what the lines of a whole script make
 abbrev pub script_of : Command → Type 0
 script_of ReplayRelay = RelayScript
+script_of ReplayGateway = GatewayScript
 
 -- what it replays
 abbrev pub replay_of : (command : Command) → Replay (statement_of command) (script_of command)
 replay_of ReplayRelay = relay_replay
+replay_of ReplayGateway = gateway_replay
 
 -- the arguments are those of a command
 abbrev pub IsCommand : List (List ℕ) → Type 0

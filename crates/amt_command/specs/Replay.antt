@@ -12,6 +12,10 @@ use Rattle.amt_script.specs.declared.line.RelayStatement.{RelayStatement}
 use Rattle.amt_script.specs.declared.script.RelayScript.{RelayScript}
 use Rattle.amt_script.specs.Script.{relay_kind}
 use Rattle.amt_script.specs.Texts.{relay_script_text}
+use Rattle.gateway_script.specs.declared.line.GatewayStatement.{GatewayStatement}
+use Rattle.gateway_script.specs.declared.script.GatewayScript.{GatewayScript}
+use Rattle.gateway_script.specs.Script.{gateway_kind}
+use Rattle.gateway_script.specs.Texts.{gateway_script_text}
 
 -- a kind of script, and the text of each script of the kind
 pub record Replay (S W : Type 0) : Type 1 where
@@ -21,6 +25,10 @@ pub record Replay (S W : Type 0) : Type 1 where
 -- relay scripts, each with its text
 abbrev pub relay_replay : Replay RelayStatement RelayScript
 relay_replay = record { kind = relay_kind; text = relay_script_text }
+
+-- gateway scripts, each with its text
+abbrev pub gateway_replay : Replay GatewayStatement GatewayScript
+gateway_replay = record { kind = gateway_kind; text = gateway_script_text }
 
 -- the input was read to its end, within its limit, and spells the script
 pub record IsInput {S W : Type 0} (replay : Replay S W) (left left' : Option (List ℕ)) (script : W) : Type 0 where

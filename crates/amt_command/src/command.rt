@@ -9,6 +9,8 @@ ghost use Rattle.amt_command.specs.Command.{arguments_of};
 pub enum Command {
     /// `replay relay`: a relay's script, its run, and the text of it.
     ReplayRelay,
+    /// `replay gateway`: the same of a gateway's script.
+    ReplayGateway,
 }
 
 fn is_word(word: &String, text: &str) -> bool
@@ -29,6 +31,9 @@ pub fn command_of(words: &[String]) -> Option<Command>
             }
             if is_word(second, "relay") {
                 return Some(Command::ReplayRelay);
+            }
+            if is_word(second, "gateway") {
+                return Some(Command::ReplayGateway);
             }
             None
         }

@@ -9,6 +9,7 @@ ghost use Rattle.amt_command.specs.Replay.{Replay};
 
 use amt_ports::Sink;
 use amt_script::{RelayScript, read_relay_script, run_relay_script};
+use gateway_script::{GatewayScript, read_gateway_script, run_gateway_script};
 use script_lines::{RunFault, ScriptError};
 use std::alloc::Global;
 
@@ -62,5 +63,31 @@ impl Replayed for RelayReplay {
 
     fn run<O: Sink>(alloc: Global, script: &RelayScript, out: &mut O) -> Result<(), RunFault> {
         run_relay_script(alloc, script, out)
+    }
+}
+
+/// Gateway scripts.
+#[derive(Drop)]
+pub struct GatewayReplay {}
+
+impl Replayed for GatewayReplay {
+    ghost use Rattle.gateway_script.specs.Running.{IsRunnable};
+    ghost use Rattle.gateway_script.specs.declared.line.GatewayStatement.{GatewayStatement};
+    ghost use Rattle.amt_command.specs.Replay.{gateway_replay};
+
+    type Script = GatewayScript;
+
+    ghost Statement = { GatewayStatement };
+
+    ghost replay = { gateway_replay };
+
+    ghost CanRun = { λ script. IsRunnable script };
+
+    fn read(alloc: Global, bytes: &[u8]) -> Result<GatewayScript, ScriptError> {
+        read_gateway_script(alloc, bytes)
+    }
+
+    fn run<O: Sink>(alloc: Global, script: &GatewayScript, out: &mut O) -> Result<(), RunFault> {
+        run_gateway_script(alloc, script, out)
     }
 }

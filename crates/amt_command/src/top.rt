@@ -16,10 +16,28 @@ ghost use Rattle.amt_command.specs.Status.{Answers, Reports, ReportsMemory};
 use crate::command::{Command, command_of};
 use crate::ending::Ending;
 use crate::exit::Exit;
-use crate::replayed::RelayReplay;
+use crate::replayed::{GatewayReplay, RelayReplay};
 use crate::replaying::replay;
 use amt_ports::{Sink, Source, write_all_own};
 use std::alloc::Global;
+
+fn run_command<S: Source, O: Sink>(
+    alloc: Global,
+    command: Command,
+    input: &mut S,
+    out: &mut O,
+) -> Result<(), Ending>
+    ensures no_usage { IsErrOf result Ending.Usage → ⊥ }
+    ensures ends { EndsFor (replay_of command) (S.left input.old) (S.left input.new)
+        (O.written out.old) (O.written out.new) (out.new ≡ out.old) result }
+    ensures devices { LeavesDevices S.left S.faults O.faults input.old input.new out.old out.new
+        result }
+{
+    match command {
+        Command::ReplayRelay => replay::<RelayReplay, S, O>(alloc, input, out),
+        Command::ReplayGateway => replay::<GatewayReplay, S, O>(alloc, input, out),
+    }
+}
 
 fn run<S: Source, O: Sink>(
     alloc: Global,
@@ -40,11 +58,9 @@ fn run<S: Source, O: Sink>(
     let Some(command) = command_of(words) else {
         return Err(Ending::Usage);
     };
-    match command {
-        Command::ReplayRelay => match replay::<RelayReplay, S, O>(alloc, input, out) {
-            Ok(()) => Ok(()),
-            Err(ending) => Err(ending),
-        },
+    match run_command(alloc, command, input, out) {
+        Ok(()) => Ok(()),
+        Err(ending) => Err(ending),
     }
 }
 
