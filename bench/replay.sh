@@ -1,6 +1,6 @@
 #!/bin/sh
-# What the proved binary costs over scripts of Discovery, of Request and of mixed lines, beside sed over the
-# same octets; then the cost of one update, packet and moment by the number of live tunnel endpoints, and
+# What the proved binary costs over scripts of Discovery, of Request and of mixed lines, and over one of a
+# gateway that packets come to, beside sed over the same octets; then the cost of one update, packet and moment by the number of live tunnel endpoints, and
 # of a packet to 1,000 of them. Times are of the processor, and the least of some runs, so that other work
 # on the machine disturbs them little. It builds nothing: `rt run` in crates/amt leaves the binary at
 # crates/amt/out/amt.
@@ -24,13 +24,17 @@ mixed() {
     python3 "$here/bench/mixed.py" "$@"
 }
 
-# script KIND MIB: a relay's address, and lines up to so many MiB
+# script KIND MIB: a relay's address, or a gateway that is served, and lines up to so many MiB
 script() {
     case $1 in
         discovery) line='dg 198.51.100.7:5000 0100000001020304' ;;
         request) line='dg 198.51.100.7:5000 030000000a0b0c0d' ;;
         mixed)
             mixed mixed 1000 $(($2 * 1048576))
+            return
+            ;;
+        gateway)
+            python3 "$here/bench/gateway.py" $(($2 * 1048576))
             return
             ;;
     esac
@@ -43,14 +47,14 @@ cost() {
     python3 "$here/bench/cost.py" $runs "$@"
 }
 
-# replay FILE: the milliseconds of its replay
+# replay FILE [END]: the milliseconds of its replay, by a relay if no other end is given
 replay() {
-    cost "$1" "$amt" replay relay | cut -d ' ' -f 1
+    cost "$1" "$amt" replay "${2:-relay}" | cut -d ' ' -f 1
 }
 
-# peak FILE: the most memory that a replay of it takes, in KB
+# peak FILE [END]: the most memory that a replay of it takes, in KB
 peak() {
-    cost "$1" "$amt" replay relay | cut -d ' ' -f 2
+    cost "$1" "$amt" replay "${2:-relay}" | cut -d ' ' -f 2
 }
 
 # each BEFORE AFTER COUNT: the milliseconds between, in microseconds for each
@@ -59,14 +63,18 @@ each() {
 }
 
 printf '%-10s %4s %8s %8s %7s %9s\n' lines MiB 'amt ms' 'sed ms' ratio 'peak KB'
-for kind in discovery request mixed; do
+for kind in discovery request mixed gateway; do
+    case $kind in
+        gateway) end=gateway ;;
+        *) end=relay ;;
+    esac
     for mib in 1 4 16; do
         input=$work/$kind.$mib
         script "$kind" "$mib" > "$input"
-        a=$(replay "$input")
+        a=$(replay "$input" $end)
         s=$(cost "$input" sed 's/dg /> /' | cut -d ' ' -f 1)
         ratio=$(awk "BEGIN { printf \"%.1f\", $a / ($s > 0 ? $s : 1) }")
-        printf '%-10s %4s %8s %8s %7s %9s\n' "$kind" "$mib" "$a" "$s" "$ratio" "$(peak "$input")"
+        printf '%-10s %4s %8s %8s %7s %9s\n' "$kind" "$mib" "$a" "$s" "$ratio" "$(peak "$input" $end)"
     done
 done
 

@@ -1,6 +1,7 @@
 //! Calls that no script shows: events and steps as text, faults as text, defaults. It must not know how they are made.
 
-use super::{ADDRESSES, is_out_of_memory};
+use super::ADDRESSES;
+use crate::runs::is_out_of_memory;
 use amt_script::{
     Reason, RelayItem, RunFault, ScriptError, print_relay_event, print_relay_step,
     read_relay_script,

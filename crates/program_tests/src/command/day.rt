@@ -1,6 +1,7 @@
 //! The example of a day, to the octet. It must not know how a script is run.
 
-use super::are_scripts;
+use super::WHOLE;
+use crate::runs::are_texts;
 
 // examples/a_day_at_the_relay/script, to the octet.
 const SCRIPT: &str =
@@ -505,5 +506,5 @@ const EXPECTED: &str = "= 1 moved 21600000
 
 #[test]
 fn a_day_at_the_relay_goes_as_its_story_says(rt: HostRuntime) {
-    are_scripts(&rt, rt.alloc(), &[("the day", SCRIPT, EXPECTED)]);
+    are_texts(&rt, rt.alloc(), WHOLE, &[("the day", SCRIPT, EXPECTED)]);
 }

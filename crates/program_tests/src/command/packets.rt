@@ -1,6 +1,8 @@
 //! Rows on packets and who gets them. It must not know how a script is run.
 
 use super::*;
+use std::alloc::{AllocError, Global};
+use std::process::Abort;
 
 // Each row: what it shows, the lines after the relay's settings, and the text. The texts were worked out
 // from the definitions, and the response MACs by another implementation, Python's hmac module.
@@ -86,7 +88,7 @@ fn forward(alloc: Global, packet: &str) -> Result<Ended, AllocError> {
     let lines = format!(in alloc;
         "dg 198.51.100.7:5000 05004db758a175550a0b0c0d46c0002800000000010239f80a000002e0000016940400002200ebfb0000000102000000ef010101\nmc {packet}\n"
     )?;
-    replay(alloc, ADDRESSES, lines.as_str())
+    replay(alloc, RELAY, lines.as_str())
 }
 
 fn text_of_copy(alloc: Global, packet: &str) -> Result<String, AllocError> {

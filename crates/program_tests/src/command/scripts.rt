@@ -1,6 +1,8 @@
 //! Whole scripts, each with its text. It must not know how they are run.
 
 use super::*;
+use std::alloc::{AllocError, Global};
+use std::process::Abort;
 
 const TEXT: &str = "= 1 advertised\n> 198.51.100.7:5000 0200000001020304c0000201\n. 1\n";
 
@@ -65,7 +67,7 @@ fn replay_filled(
     let filling = "x".repeat(alloc, filling)?;
     let spaces = " ".repeat(alloc, spaces)?;
     let script = format!(in alloc; "#{filling}{end}set relay 192.0.2.1{spaces}{end}")?;
-    replay(alloc, "", script.as_str())
+    replay(alloc, WHOLE, script.as_str())
 }
 
 fn is_taken(rt: &impl Abort, alloc: Global, end: &str) {

@@ -1,12 +1,21 @@
 //! Each status with its cause and its line. It must not know what a script says.
 
-use super::*;
+use crate::runs::*;
+use amt_command::*;
+use amt_ports::{MemSink, MemSource};
+use amt_values::Bytes;
+use std::alloc::{AllocError, Global};
 use std::io::Eprint;
-use std::process::{ExitCode, Termination};
+use std::process::{Abort, ExitCode, Termination};
 
 const SCRIPT: &str = "set relay 192.0.2.1\ndg 198.51.100.7:5000 0100000001020304\n";
 
 const TEXT: &str = "= 1 advertised\n> 198.51.100.7:5000 0200000001020304c0000201\n. 1\n";
+
+const GATEWAY: &str =
+    "set family v4\nset discovery 192.0.2.1:2268\nset source 10.0.0.2\nopen a 239.1.1.1 exclude\n";
+
+const GATEWAY_TEXT: &str = "= 1 discovering 1\n> 192.0.2.1:2268 0100000000000001\n. 1\n";
 
 const USAGE: &str =
     "amt: usage: replay relay|gateway|pair, dump, vectors, load SEED N, relay FILE, gateway FILE\n";
@@ -21,11 +30,19 @@ enum Input {
 // Words, input and the calls that fail; the status, the output, and the line on standard error.
 type Case = (&'static str, Input, Failing, u8, &'static str, &'static str);
 
-const CASES: [Case; 16] = [
+const CASES: [Case; 22] = [
     ("", Input::Text(""), NONE_FAILS, 2, "", USAGE),
     ("jump", Input::Text(""), NONE_FAILS, 2, "", USAGE),
     ("replay", Input::Text(SCRIPT), NONE_FAILS, 2, "", USAGE),
-    ("replay gateway", Input::Text(""), NONE_FAILS, 2, "", USAGE),
+    ("replay pair", Input::Text(""), NONE_FAILS, 2, "", USAGE),
+    (
+        "replay gateway relay",
+        Input::Text(GATEWAY),
+        NONE_FAILS,
+        2,
+        "",
+        USAGE,
+    ),
     (
         "replay relay relay",
         Input::Text(SCRIPT),
@@ -70,14 +87,55 @@ const CASES: [Case; 16] = [
     ),
     // A short text is one write: the second never comes.
     ("replay relay", Input::Text(SCRIPT), (0, 2, 0), 0, TEXT, ""),
+    (
+        "replay gateway",
+        Input::Text(GATEWAY),
+        (0, 2, 0),
+        0,
+        GATEWAY_TEXT,
+        "",
+    ),
+    (
+        "replay gateway",
+        Input::Text(SCRIPT),
+        NONE_FAILS,
+        3,
+        "",
+        "amt: line 1: peer\n",
+    ),
+    (
+        "replay gateway",
+        Input::Text(GATEWAY),
+        (2, 0, 0),
+        4,
+        "",
+        "amt: read fault\n",
+    ),
+    (
+        "replay gateway",
+        Input::Text(GATEWAY),
+        (0, 1, 0),
+        5,
+        "",
+        "amt: write fault\n",
+    ),
     // A line that can not be written leaves the status.
     ("jump", Input::Text(""), (0, 0, 1), 2, "", ""),
     ("replay relay", Input::Text("jump"), (0, 0, 1), 3, "", ""),
     ("replay relay", Input::Text(""), (1, 0, 1), 4, "", ""),
     ("replay relay", Input::Text(SCRIPT), (0, 1, 1), 5, "", ""),
+    ("replay gateway", Input::Text(GATEWAY), (0, 1, 1), 5, "", ""),
 ];
 
-const TOO_LONG: [Case; 2] = [
+const TOO_LONG: [Case; 3] = [
+    (
+        "replay gateway",
+        Input::LineFeeds(16_777_217),
+        NONE_FAILS,
+        8,
+        "",
+        "amt: input too long\n",
+    ),
     (
         "replay relay",
         Input::LineFeeds(16_777_217),
@@ -184,7 +242,8 @@ fn is_exit(rt: &(impl Abort + Eprint), line: &str, exit: Result<Exit, AllocError
 fn a_process_ends_with_the_status(rt: HostRuntime) {
     for (line, script, status) in [
         ("replay relay", SCRIPT, 0),
-        ("replay relay", "jump", 3),
+        ("replay gateway", GATEWAY, 0),
+        ("replay gateway", SCRIPT, 3),
         ("jump", "", 2),
     ] {
         is_exit(&rt, line, exit(rt.alloc(), line, script), status);
