@@ -142,3 +142,15 @@ same_gateway gateway exchange source at_moment of_settings has_history same = λ
   of_settings = settings_prop gateway.settings gateway.sockets of_settings gateway.of_settings i;
   has_history = ∥∥₁_prop has_history gateway.has_history i;
 }
+
+-- and those whose sockets are equal
+pub same_sockets : (gateway : Gateway) (sockets : SocketsValue) (source : HasSourceOfFamily gateway.settings) (at_moment : IsAtMoment gateway.exchange sockets)
+    (of_settings : AreOfSettings gateway.settings sockets) (has_history : ∥ HasHistory sockets ∥₁) → sockets ≡ gateway.sockets
+    → record gateway { sockets = sockets; source = source; at_moment = at_moment; of_settings = of_settings; has_history = has_history } ≡ gateway
+same_sockets gateway sockets source at_moment of_settings has_history same = λ i. record gateway {
+  sockets = same i;
+  source = source_prop gateway.settings source gateway.source i;
+  at_moment = is_prop→PathP (λ j. IsAtMoment gateway.exchange (same j)) (λ j. moment_prop gateway.exchange (same j)) at_moment gateway.at_moment i;
+  of_settings = is_prop→PathP (λ j. AreOfSettings gateway.settings (same j)) (λ j. settings_prop gateway.settings (same j)) of_settings gateway.of_settings i;
+  has_history = is_prop→PathP (λ j. ∥ HasHistory (same j) ∥₁) (λ j. ∥∥₁_prop) has_history gateway.has_history i;
+}

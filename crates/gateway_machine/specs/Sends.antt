@@ -1,5 +1,5 @@
 -- What a gateway sends.
-use Rattle.std.specs.Prelude.{Bool, false, List, [], ◌∷◌, Option, Some, None}
+use Rattle.std.specs.Prelude.{◌≤◌, Bool, false, List, [], ◌∷◌, All, length, Option, Some, None}
 use Rattle.amt_values.specs.declared.peer.Peer.{Peer}
 use Rattle.amt_messages.specs.Layout.{spelling_of}
 use Rattle.amt_messages.specs.declared.message.Message.{Message}
@@ -17,6 +17,10 @@ pub record Sending : Type 0 where
 -- the datagram that carries it
 abbrev pub datagram_of : Sending → PeerSend
 datagram_of sending = record { to = sending.to; bytes = spelling_of sending.message }
+
+-- each datagram has at most so many octets as a UDP payload has in all crates
+abbrev pub AreShort : List PeerSend → Type 0
+AreShort sends = All (λ send. length send.bytes ≤ 65535) sends
 
 -- a message to the relay, if one is known; the law states_have_relays says when it is
 abbrev pub to_relay : Option Peer → Bool → Message → List Sending

@@ -2,6 +2,7 @@
 
 ghost use Rattle.std.specs.Prelude.{IfOk};
 ghost use Rattle.gateway_machine.specs.Answers.{advertisement_answer};
+ghost use Rattle.gateway_machine.specs.Sends.{AreShort};
 ghost use Rattle.gateway_machine.specs.State.{IsReply};
 
 use crate::asking::ask;
@@ -21,8 +22,9 @@ pub fn take_advertisement(
     nonce: u32,
     relay: Ip,
 ) -> Result<Reply, AllocError>
-    ensures { IfOk result (IsReply
+    ensures answers { IfOk result (IsReply
         (advertisement_answer exchange.now.state settings.now exchange.now nonce relay)) }
+    ensures short { IfOk result (λ reply. AreShort reply.step.sends) }
 {
     if exchange.state != GatewayState::Discovering {
         return Ok(Reply::ignored(alloc, exchange, Ignored::State(2)));

@@ -2,6 +2,7 @@
 
 ghost use Rattle.std.specs.Prelude.{IfOk};
 ghost use Rattle.gateway_machine.specs.Answers.{ask, begin_with, discover, due_answer};
+ghost use Rattle.gateway_machine.specs.Sends.{AreShort};
 ghost use Rattle.gateway_machine.specs.State.{IsReply};
 
 use crate::exchange::{Exchange, GatewayState};
@@ -18,7 +19,8 @@ const MOST_REQUESTS: u8 = 5;
 
 // The answer where a Discovery is sent, with the exchange after it.
 fn discover(alloc: Global, settings: &GatewaySettings, next: Exchange) -> Result<Reply, AllocError>
-    ensures { IfOk result (IsReply (discover settings.now next)) }
+    ensures answers { IfOk result (IsReply (discover settings.now next)) }
+    ensures short { IfOk result (λ reply. AreShort reply.step.sends) }
 {
     let bytes = encode(alloc, &Message::Discovery { nonce: next.nonce })?;
     let mut sends = PeerSends::with_room(alloc, 1)?;
@@ -31,7 +33,8 @@ fn discover(alloc: Global, settings: &GatewaySettings, next: Exchange) -> Result
 
 /// The answer where a Request is sent, with the exchange after it.
 pub fn ask(alloc: Global, settings: &GatewaySettings, next: Exchange) -> Result<Reply, AllocError>
-    ensures { IfOk result (IsReply (ask settings.now next)) }
+    ensures answers { IfOk result (IsReply (ask settings.now next)) }
+    ensures short { IfOk result (λ reply. AreShort reply.step.sends) }
 {
     let message = Message::Request {
         v6: settings.v6,
@@ -53,7 +56,8 @@ pub fn begin(
     exchange: &Exchange,
     known: Option<Peer>,
 ) -> Result<Reply, AllocError>
-    ensures { IfOk result (IsReply (begin_with known settings.now exchange.now)) }
+    ensures answers { IfOk result (IsReply (begin_with known settings.now exchange.now)) }
+    ensures short { IfOk result (λ reply. AreShort reply.step.sends) }
 {
     match known {
         Some(_) => ask(alloc, settings, exchange.requesting()),
@@ -67,7 +71,8 @@ pub fn answer_due(
     settings: &GatewaySettings,
     exchange: &Exchange,
 ) -> Result<Reply, AllocError>
-    ensures { IfOk result (IsReply (due_answer exchange.now.state settings.now exchange.now)) }
+    ensures answers { IfOk result (IsReply (due_answer exchange.now.state settings.now exchange.now)) }
+    ensures short { IfOk result (λ reply. AreShort reply.step.sends) }
 {
     match exchange.state {
         // No moment comes to this: an idle gateway rests.

@@ -9,6 +9,7 @@ ghost use Rattle.socket_merge.specs.Changes.{change_records};
 ghost use Rattle.socket_merge.specs.FullReport.{family_by};
 ghost use Rattle.gateway_machine.specs.Answers.{accepted_answer, changed_answer};
 ghost use Rattle.gateway_machine.specs.Calls.{AnswersCall, call_fault};
+ghost use Rattle.gateway_machine.specs.Sends.{AreShort};
 ghost use Rattle.gateway_machine.specs.Settings.{HasSourceOfFamily};
 ghost use Rattle.gateway_machine.specs.State.{IsAtMoment, IsReply};
 
@@ -132,11 +133,12 @@ fn report_changes(
 ) -> Result<Reply, AllocError>
     requires source { HasSourceOfFamily settings.now }
     requires at { IsAtMoment exchange.now before.now }
-    ensures { ForHistory before.now (λ history. (call : SocketCall)
+    ensures answers { ForHistory before.now (λ history. (call : SocketCall)
         → SocketsHold after.now (with_call exchange.now.moment call history)
         → IfOk result (IsReply (changed_answer settings.now exchange.now
         (with_call exchange.now.moment call history)
         (change_records (family_by settings.now.v6) history (with_call exchange.now.moment call history))))) }
+    ensures short { IfOk result (λ reply. AreShort reply.step.sends) }
 {
     let changes = after.changes_since(alloc, before, settings.v6)?;
     if changes.len() == 0 {
@@ -158,10 +160,11 @@ pub fn answer_accepted(
 ) -> Result<Reply, AllocError>
     requires source { HasSourceOfFamily settings.now }
     requires at { IsAtMoment exchange.now before.now }
-    ensures { ForHistory before.now (λ history. (call : SocketCall)
+    ensures answers { ForHistory before.now (λ history. (call : SocketCall)
         → SocketsHold after.now (with_call exchange.now.moment call history)
         → IfOk result (IsReply (accepted_answer exchange.now.state opening settings.now exchange.now
         history (with_call exchange.now.moment call history)))) }
+    ensures short { IfOk result (λ reply. AreShort reply.step.sends) }
 {
     match exchange.state {
         GatewayState::Active => report_changes(alloc, settings, exchange, before, after),

@@ -1,9 +1,10 @@
 //! What a datagram comes to: its octets, its type, and the message by its own file.
 
-ghost use Rattle.std.specs.Prelude.{◌≤◌, length, Ok};
+ghost use Rattle.std.specs.Prelude.{◌≤◌, length, IfOk, Ok};
 ghost use Rattle.amt_messages.specs.Messages.{IsSendable};
 ghost use Rattle.amt_messages.specs.Refusal.{message_of};
 ghost use Rattle.gateway_machine.specs.Answers.{datagram_answer};
+ghost use Rattle.gateway_machine.specs.Sends.{AreShort};
 ghost use Rattle.gateway_machine.specs.Settings.{HasSourceOfFamily};
 ghost use Rattle.gateway_machine.specs.State.{IsAtMoment, Replies};
 
@@ -31,8 +32,9 @@ fn take_message(
     requires source { HasSourceOfFamily settings.now }
     requires at { IsAtMoment exchange.now sockets.now }
     requires sendable { IsSendable message }
-    ensures { Replies sockets.now result (λ history.
+    ensures answers { Replies sockets.now result (λ history.
         datagram_answer settings.now exchange.now history from.now (Ok message)) }
+    ensures short { IfOk result (λ reply. AreShort reply.step.sends) }
 {
     match message {
         Message::Advertisement { nonce, relay } => {
@@ -70,8 +72,9 @@ pub fn take_datagram(
     requires source { HasSourceOfFamily settings.now }
     requires at { IsAtMoment exchange.now sockets.now }
     requires size { length bytes.now ≤ 65535 }
-    ensures { Replies sockets.now result (λ history.
+    ensures answers { Replies sockets.now result (λ history.
         datagram_answer settings.now exchange.now history from.now (message_of bytes.now)) }
+    ensures short { IfOk result (λ reply. AreShort reply.step.sends) }
 {
     match decode(alloc, bytes) {
         Err(DecodeFault::Memory) => Err(AllocError),

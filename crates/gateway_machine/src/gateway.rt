@@ -46,7 +46,7 @@ pub struct Gateway {
 }
 
 impl Gateway {
-    ghost use Rattle.std.specs.Prelude.{◌≡◌, List, ℕ, [], ◌∷◌, ◌++◌, map, Some, IfOk, IsOk, OnErr};
+    ghost use Rattle.std.specs.Prelude.{◌≡◌, ◌≤◌, List, ℕ, [], ◌∷◌, ◌++◌, All, length, map, Some, IfOk, IsOk, OnErr};
     ghost use Rattle.socket_merge.specs.Interface.{wants};
     ghost use Rattle.gateway_machine.specs.Events.{IsDraw, IsEventOf};
     ghost use Rattle.gateway_machine.specs.Laws.{AreAuthorized, IsWantedPacket};
@@ -64,6 +64,18 @@ impl Gateway {
         Ok(Gateway {
             settings,
             exchange: Exchange::start(&settings, nonce),
+            sockets,
+        })
+    }
+
+    /// An equal gateway that owns its memory.
+    pub fn copied(&self, alloc: Global) -> Result<Gateway, AllocError>
+        ensures { IfOk result (λ copy. copy ≡ self.now) }
+    {
+        let sockets = self.sockets.copy_all(alloc)?;
+        Ok(Gateway {
+            settings: self.settings,
+            exchange: self.exchange,
             sockets,
         })
     }
@@ -97,6 +109,9 @@ impl Gateway {
             GatewayAt self.new settings first (events ++ event.now ∷ []))) }
         ensures settings { settings_of self.new ≡ settings_of self.old }
         ensures err { OnErr result (self.new ≡ self.old) }
+
+        // Each datagram is within 65,535 octets, the bound of all payloads here; UDP's (RFC 768) is 8 less.
+        ensures short { IfOk result (λ step. All (λ send. length send.bytes ≤ 65535) step.sends) }
 
         // An ignored datagram and a refused call change nothing, so nobody who sends them can fill the
         // gateway's memory or move it.

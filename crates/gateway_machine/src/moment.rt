@@ -1,7 +1,8 @@
 //! What a moment comes to. It must not know messages.
 
-ghost use Rattle.std.specs.Prelude.{◌≡◌, ◌||◌, nat_lt};
+ghost use Rattle.std.specs.Prelude.{◌≡◌, ◌||◌, nat_lt, IfOk};
 ghost use Rattle.gateway_machine.specs.Answers.{answer_at, is_idle};
+ghost use Rattle.gateway_machine.specs.Sends.{AreShort};
 ghost use Rattle.gateway_machine.specs.State.{IsAtMoment, Replies};
 
 use crate::asking::answer_due;
@@ -28,7 +29,8 @@ pub fn answer_at(
     sockets: &Sockets,
 ) -> Result<Reply, AllocError>
     requires { IsAtMoment exchange.now sockets.now }
-    ensures { Replies sockets.now result (answer_at settings.now exchange.now) }
+    ensures answers { Replies sockets.now result (answer_at settings.now exchange.now) }
+    ensures short { IfOk result (λ reply. AreShort reply.step.sends) }
 {
     if rests(exchange) {
         return Ok(Reply::quiet(alloc, GatewayOutcome::Quiet, *exchange));

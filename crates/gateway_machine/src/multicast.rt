@@ -3,6 +3,7 @@
 ghost use Rattle.std.specs.Prelude.{◌≡◌, ◌≤◌, length};
 ghost use Rattle.socket_merge.specs.Sockets.{ForHistory};
 ghost use Rattle.gateway_machine.specs.Answers.{cause_heard, joined_relay, packet_answer, packet_cause};
+ghost use Rattle.gateway_machine.specs.Sends.{AreShort};
 ghost use Rattle.gateway_machine.specs.State.{IsReply};
 ghost use Rattle.inner_datagrams.specs.Head.{head_of};
 
@@ -74,8 +75,9 @@ pub fn take_packet(
     packet: Bytes,
 ) -> Reply
     requires { length packet ≤ 65535 }
-    ensures { ForHistory sockets.now (λ history.
+    ensures answers { ForHistory sockets.now (λ history.
         IsReply (packet_answer exchange.now history from.now packet) result) }
+    ensures short { AreShort result.step.sends }
 {
     if let Some(cause) = cause_heard(exchange, sockets, from, packet.as_slice()) {
         return Reply::ignored(alloc, exchange, cause);

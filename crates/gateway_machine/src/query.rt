@@ -2,6 +2,7 @@
 
 ghost use Rattle.std.specs.Prelude.{◌≡◌, ◌≤◌, ◌<◌, false, length, IfOk};
 ghost use Rattle.gateway_machine.specs.Answers.{asked_relay, fields_heard, query_accepted, query_answer};
+ghost use Rattle.gateway_machine.specs.Sends.{AreShort};
 ghost use Rattle.gateway_machine.specs.Settings.{HasSourceOfFamily};
 ghost use Rattle.gateway_machine.specs.State.{IsAtMoment, Replies};
 
@@ -66,8 +67,9 @@ fn accept_query(
 ) -> Result<Reply, AllocError>
     requires source { HasSourceOfFamily settings.now }
     requires at { IsAtMoment exchange.now sockets.now }
-    ensures { Replies sockets.now result (λ history.
+    ensures answers { Replies sockets.now result (λ history.
         query_accepted settings.now exchange.now history query) }
+    ensures short { IfOk result (λ reply. AreShort reply.step.sends) }
 {
     let next = exchange.active(query);
     let mut sends = PeerSends::new(alloc);
@@ -91,8 +93,9 @@ pub fn take_query(
     requires source { HasSourceOfFamily settings.now }
     requires at { IsAtMoment exchange.now sockets.now }
     requires size { length inner.now ≤ 65535 }
-    ensures { Replies sockets.now result (λ history.
+    ensures answers { Replies sockets.now result (λ history.
         query_answer settings.now exchange.now history from.now mac nonce inner.now seen) }
+    ensures short { IfOk result (λ reply. AreShort reply.step.sends) }
 {
     let fields = match read_fields(settings.v6, exchange, from, nonce, inner) {
         Ok(fields) => fields,

@@ -18,11 +18,13 @@ pub struct Reply {
 
 impl Reply {
     ghost use Rattle.gateway_machine.specs.Answers.{ignored, quiet};
+    ghost use Rattle.gateway_machine.specs.Sends.{AreShort};
     ghost use Rattle.gateway_machine.specs.State.{IsReply};
 
     /// Nothing is sent or handed on.
     pub fn quiet(alloc: Global, outcome: GatewayOutcome, next: Exchange) -> Reply
-        ensures { IsReply (quiet outcome next) result }
+        ensures answer { IsReply (quiet outcome next) result }
+        ensures short { AreShort result.step.sends }
     {
         Reply {
             step: GatewayStep::quiet(alloc, outcome),
@@ -32,7 +34,8 @@ impl Reply {
 
     /// A datagram is ignored.
     pub fn ignored(alloc: Global, exchange: &Exchange, cause: Ignored) -> Reply
-        ensures { IsReply (ignored exchange.now cause) result }
+        ensures answer { IsReply (ignored exchange.now cause) result }
+        ensures short { AreShort result.step.sends }
     {
         Reply::quiet(alloc, GatewayOutcome::Ignored(cause), *exchange)
     }

@@ -7,7 +7,7 @@ ghost use Rattle.socket_merge.specs.FullReport.{family_by};
 ghost use Rattle.socket_merge.specs.Refusal.{family_of};
 ghost use Rattle.socket_merge.specs.Sockets.{ForHistory};
 ghost use Rattle.gateway_machine.specs.Reports.{change_reports, full_report, report_datagram, teardown, update};
-ghost use Rattle.gateway_machine.specs.Sends.{datagram_of, to_relay};
+ghost use Rattle.gateway_machine.specs.Sends.{AreShort, datagram_of, to_relay};
 ghost use Rattle.gateway_machine.specs.Settings.{HasSourceOfFamily};
 ghost use Rattle.gateway_machine.specs.State.{IsAtMoment};
 
@@ -58,8 +58,9 @@ fn push_to_relay(
     message: &Message,
 ) -> Result<(), AllocError>
     requires { IsSendable message.now }
-    ensures { (full : Bool) → OnOk result (sends.new
+    ensures appended { (full : Bool) → OnOk result (sends.new
         ≡ sends.old ++ map datagram_of (to_relay relay full message.now)) }
+    ensures short { AreShort sends.old → OnOk result (AreShort sends.new) }
 {
     // The law states_have_relays excludes that none is known.
     let Some(to) = relay else {
@@ -80,8 +81,9 @@ fn push_update(
     requires source { HasSourceOfFamily settings.now }
     requires family { All (IsOfFamily (family_by settings.now.v6)) records.now }
     requires most { report_length (family_by settings.now.v6) records.now ≤ REPORT_LIMIT }
-    ensures { (full : Bool) → OnOk result (sends.new
+    ensures appended { (full : Bool) → OnOk result (sends.new
         ≡ sends.old ++ map datagram_of (update settings.now exchange.now full records.now)) }
+    ensures short { AreShort sends.old → OnOk result (AreShort sends.new) }
 {
     if records.len() == 0 {
         return Ok(());
@@ -108,8 +110,9 @@ pub fn push_full_report(
     sockets: &Sockets,
 ) -> Result<(), AllocError>
     requires { HasSourceOfFamily settings.now }
-    ensures { IsAtMoment exchange.now sockets.now → ForHistory sockets.now (λ history. OnOk result
+    ensures appended { IsAtMoment exchange.now sockets.now → ForHistory sockets.now (λ history. OnOk result
         (sends.new ≡ sends.old ++ map datagram_of (full_report settings.now exchange.now history))) }
+    ensures short { AreShort sends.old → OnOk result (AreShort sends.new) }
 {
     let keep_ms = farewell_ms(exchange.query);
     let records = sockets.full_report(alloc, settings.v6, &exchange.moment, keep_ms)?;
@@ -147,9 +150,10 @@ pub fn push_change_reports(
 ) -> Result<(), AllocError>
     requires source { HasSourceOfFamily settings.now }
     requires family { All (IsOfFamily (family_by settings.now.v6)) changes.now }
-    ensures { IsAtMoment exchange.now sockets.now → ForHistory sockets.now (λ history. OnOk result
+    ensures appended { IsAtMoment exchange.now sockets.now → ForHistory sockets.now (λ history. OnOk result
         (sends.new ≡ sends.old
         ++ map datagram_of (change_reports settings.now exchange.now history changes.now))) }
+    ensures short { AreShort sends.old → OnOk result (AreShort sends.new) }
 {
     if fits(settings.v6, changes) {
         push_update(sends, alloc, settings, exchange, changes)?;
@@ -165,8 +169,9 @@ pub fn push_teardown(
     exchange: &Exchange,
     query: &LastQuery,
 ) -> Result<(), AllocError>
-    ensures { OnOk result (sends.new
+    ensures appended { OnOk result (sends.new
         ≡ sends.old ++ map datagram_of (teardown exchange.now.query query.now.seen exchange.now)) }
+    ensures short { AreShort sends.old → OnOk result (AreShort sends.new) }
 {
     let Some(last) = exchange.query else {
         return Ok(());

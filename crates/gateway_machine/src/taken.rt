@@ -6,6 +6,7 @@ ghost use Rattle.socket_merge.specs.Sockets.{ForHistory};
 ghost use Rattle.gateway_machine.specs.Answers.{is_opening};
 ghost use Rattle.gateway_machine.specs.Calls.{AnswersCall};
 ghost use Rattle.gateway_machine.specs.Events.{IsDraw, IsEventOf};
+ghost use Rattle.gateway_machine.specs.Sends.{AreShort};
 ghost use Rattle.gateway_machine.specs.Settings.{HasSourceOfFamily};
 ghost use Rattle.gateway_machine.specs.State.{AreOfSettings, IsAtMoment, IsTaken, IsTakenCall};
 
@@ -57,9 +58,10 @@ fn take_call(
 ) -> Result<Taken, AllocError>
     requires source { HasSourceOfFamily settings.now }
     requires at { IsAtMoment exchange.now before.now }
-    ensures { ForHistory before.now (λ history. (call : SocketCall) → is_opening call ≡ opening
+    ensures taken { ForHistory before.now (λ history. (call : SocketCall) → is_opening call ≡ opening
         → AnswersCall exchange.now.moment history call called
         → IfOk result (IsTakenCall settings.now exchange.now history call)) }
+    ensures short { IfOk result (λ taken. AreShort taken.step.sends) }
 {
     let after = match called {
         Ok(after) => after,
@@ -91,6 +93,7 @@ pub fn answer_event(
     requires event { IsEventOf settings.now event.now }
     ensures taken { ForHistory sockets.now (λ history.
         IfOk result (IsTaken settings.now exchange.now history event.now)) }
+    ensures short { IfOk result (λ taken. AreShort taken.step.sends) }
 
     // A nonce takes no memory.
     ensures sure { IsDraw event.now → IsOk result }

@@ -31,6 +31,7 @@ use Rattle.relay_machine.specs.EventAnswer.{EventAnswer, packet_answer, quiet}
 use Rattle.relay_machine.specs.Events.{now_of}
 use Rattle.relay_machine.specs.Logs.{IsAnswered}
 use Rattle.relay_machine.specs.Packets.{AreCopies, IsToCopy, copies, head_to_copy, receivers, targets_at}
+use Rattle.relay_machine.specs.Sends.{AreShort}
 use Rattle.relay_machine.specs.Settings.{membership_interval_ms, table_settings_of}
 use Rattle.relay_machine.specs.State.{HasLog}
 use Rattle.relay_machine.proofs.Answering.{answered-unchanged}
@@ -65,6 +66,14 @@ copies-are targets packet wants exactly ascends =
       once = subst (IsAscending endpoint_order) same ascends;
       octets = All-map (λ (send : OneSend). IsCanonical (Multicast packet) send.bytes) (copy_to packet) targets (λ k d small. data_is_canonical packet);
     }
+
+-- copies of a packet are short where its message is
+pub copies_are_short : (sends : List OneSend) (targets : List EndpointValue) (carried packet octets : List ℕ) → sends ≡ copies targets packet → carried ≡ packet
+    → octets ≡ spelling_of (Multicast carried) → length octets ≤ 65535 → AreShort sends
+unfolding copy_to
+copies_are_short sends targets carried packet octets are same spelled most =
+    let short : length (spelling_of (Multicast packet)) ≤ 65535 = subst (λ (one : List ℕ). length one ≤ 65535) (spelled ∙ ap (λ (one : List ℕ). spelling_of (Multicast one)) same) most in
+    subst AreShort (sym are) (All-map (λ (send : OneSend). length send.bytes ≤ 65535) (copy_to packet) targets (λ k d small. short))
 
 -- a packet that is copied, where the table stays
 pub answered-copied : (terms : TableSettings) (table : TableValue) (log : List Change) (targets : Head → List EndpointValue) (packet : List ℕ) (read : Result Head Outcome) (head : Head) (found : List EndpointValue) (step : Step)

@@ -9,6 +9,7 @@ pub mod Logs
 pub mod Packets
 pub mod Queries
 pub mod Reading
+pub mod Sends
 pub mod Settings
 pub mod State
 pub mod Updates

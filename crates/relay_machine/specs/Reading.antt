@@ -1,4 +1,4 @@
--- What may be answered of the octets in an Update. No public contract says these words.
+-- What may be answered of the octets in an Update.
 use Rattle.std.specs.Prelude.{List, Option, Some, None, Result}
 use Rattle.contract_words.specs.Answer.{Gives as GivesBy}
 use Rattle.source_filter.specs.declared.record.Record.{Record}

@@ -1,5 +1,5 @@
 //! What a datagram comes to: its source, its octets, its type, and the message by its own file.
-ghost use Rattle.std.specs.Prelude.{◌≡◌, ◌≤◌, length, OnErr};
+ghost use Rattle.std.specs.Prelude.{◌≡◌, ◌≤◌, length, IfOk, OnErr};
 ghost use Rattle.amt_messages.specs.Messages.{IsSendable};
 ghost use Rattle.amt_messages.specs.Refusal.{message_of};
 ghost use Rattle.amt_values.specs.Endpoint.{endpoint_of};
@@ -8,6 +8,7 @@ ghost use Rattle.endpoint_membership.specs.Log.{latest};
 ghost use Rattle.endpoint_membership.specs.Table.{IsWithinLimits};
 ghost use Rattle.relay_machine.specs.EventAnswer.{datagram_answer, message_answer};
 ghost use Rattle.relay_machine.specs.Logs.{AnswersByLog};
+ghost use Rattle.relay_machine.specs.Sends.{AreShort};
 ghost use Rattle.relay_machine.specs.Settings.{table_settings_of};
 
 use crate::discovery::take_discovery;
@@ -39,6 +40,7 @@ fn take_message(
         message_answer setup.now.settings secrets.now (latest log) log source message.now) }
     ensures err { OnErr result (table.new ≡ table.old) }
     ensures within { IsWithinLimits table.new }
+    ensures short { IfOk result (λ step. AreShort step.sends) }
 {
     match message {
         Message::Discovery { nonce } => take_discovery(alloc, setup, source, *nonce),
@@ -79,6 +81,7 @@ pub fn take_datagram(
         (endpoint_of from.now) (message_of bytes.now)) }
     ensures err { OnErr result (table.new ≡ table.old) }
     ensures within { IsWithinLimits table.new }
+    ensures short { IfOk result (λ step. AreShort step.sends) }
     ensures octets { AreOctets bytes.now }
 {
     let octets = bytes.as_slice();

@@ -3,6 +3,7 @@ ghost use Rattle.std.specs.Prelude.{◌≡◌, [], ◌∷◌, IfOk, None};
 ghost use Rattle.endpoint_membership.specs.Table.{TableValue, TableSettings};
 ghost use Rattle.relay_machine.specs.EventAnswer.{replied};
 ghost use Rattle.relay_machine.specs.Logs.{AnswersByLog};
+ghost use Rattle.relay_machine.specs.Sends.{AreShort};
 
 use crate::outcome::Outcome;
 use crate::sends::Step;
@@ -18,9 +19,10 @@ pub fn take_discovery(
     source: Endpoint,
     nonce: u32,
 ) -> Result<Step, AllocError>
-    ensures { (terms : TableSettings) (table : TableValue) → AnswersByLog terms table table result
+    ensures answers { (terms : TableSettings) (table : TableValue) → AnswersByLog terms table table result
         (λ log. replied Outcome.Advertised source
         (Message.Advertisement nonce setup.now.settings.relay)) }
+    ensures short { IfOk result (λ step. AreShort step.sends) }
 {
     let relay = setup.settings.relay;
     let advertisement = Message::Advertisement { nonce, relay };

@@ -30,5 +30,6 @@ pub use laws::lawful_reports_are_those_that_are_read;
 pub use number_key::{NUMBER_KEYS, NumberKey, NumberRange};
 pub use outcome::{NotForwarded, Outcome, Unlawful};
 pub use relay::Relay;
+pub use report::{Unread, read_report};
 pub use sends::{OneSend, Sends, Step};
 pub use settings::Settings;

@@ -5,6 +5,7 @@ ghost use Rattle.endpoint_membership.specs.Table.{ForLogBy, IsWithinLimits, Tabl
 ghost use Rattle.relay_machine.specs.EventAnswer.{packet_answer};
 ghost use Rattle.relay_machine.specs.Logs.{AnswersByLog, IfOkForLogBy};
 ghost use Rattle.relay_machine.specs.Packets.{copies, head_to_copy, targets_at};
+ghost use Rattle.relay_machine.specs.Sends.{AreShort};
 ghost use Rattle.relay_machine.specs.Settings.{table_settings_of};
 ghost use Rattle.relay_machine.specs.State.{HasLog};
 
@@ -58,9 +59,11 @@ fn find_targets(table: &Table, head: &Head, targets: &mut Targets)
 }
 
 // The packet to each of these endpoints. What carries it is the same for all, and is written once.
+#[tactic(auto, using(crate::proofs::Copies::copies_are_short))]
 fn copies(alloc: Global, targets: &[Endpoint], packet: &[u8]) -> Result<Sends, AllocError>
     requires { length packet.now ≤ 65000 }
-    ensures { IfOk result (λ sends. sends ≡ copies targets.now packet.now) }
+    ensures copies { IfOk result (λ sends. sends ≡ copies targets.now packet.now) }
+    ensures short { IfOk result AreShort }
 {
     let packet = Bytes::copied(alloc, packet)?;
     let data = encode(alloc, &Message::Multicast { packet })?;
@@ -87,6 +90,7 @@ fn copies_for(
     ensures copies { (terms : TableSettings) → IfOkForLogBy terms table.now result (λ log sends.
         sends ≡ copies (targets_at terms log (latest log) head.now) packet.now) }
     ensures few { IfOk result (λ sends. length sends ≤ table.now.limits.endpoints) }
+    ensures short { IfOk result AreShort }
     ensures empty { targets.new.endpoints ≡ [] }
     ensures room { targets.new.room ≡ targets.old.room }
 {
@@ -113,6 +117,7 @@ pub fn take_packet(
     ensures answers { AnswersByLog (table_settings_of setup.now.settings) table.now table.now result (λ log.
         packet_answer (targets_at (table_settings_of setup.now.settings) log (latest log)) packet.now
         (head_to_copy setup.now.settings.packet_limit packet.now)) }
+    ensures short { IfOk result (λ step. AreShort step.sends) }
     ensures same { targets.new ≡ targets.old }
 {
     let packet = packet.as_slice();

@@ -39,7 +39,7 @@ pub struct Relay {
 }
 
 impl Relay {
-    ghost use Rattle.std.specs.Prelude.{◌≡◌, ℕ, List, [], ◌∷◌, ◌++◌, length, None, Some, IfOk, IsOk, OnErr};
+    ghost use Rattle.std.specs.Prelude.{◌≡◌, ◌≤◌, ℕ, List, [], ◌∷◌, ◌++◌, All, length, None, Some, IfOk, IsOk, OnErr};
     ghost use Rattle.amt_values.specs.EndpointValue.{EndpointValue};
     ghost use Rattle.source_filter.specs.declared.record.Record.{Record as RecordValue};
     ghost use Rattle.inner_datagrams.specs.declared.head.Head.{Head};
@@ -121,6 +121,9 @@ impl Relay {
         ensures within { After self.old (λ settings first events.
             IfOk result (λ _. IsWithin settings.limits (memberships_now (table_settings_of settings)
             (accepted_log settings first (events ++ event.now ∷ []))))) }
+
+        // Each datagram is within 65,535 octets, the bound of all payloads here; UDP's (RFC 768) is 8 less.
+        ensures short { IfOk result (λ step. All (λ send. length send.bytes ≤ 65535) step.sends) }
 
         // A replica that appends each entry that is handed out to a log that the table represents has
         // such a log again: no clearing that isn't handed out is missed.

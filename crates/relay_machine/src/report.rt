@@ -13,7 +13,7 @@ use mld_records::read_report6;
 use source_filter::{ReadFault, Records, copy_record};
 use std::alloc::{AllocError, Global};
 
-// Why no records came of an Update.
+/// Why no records came of an Update.
 #[derive(Clone, Copy, Debug, PartialEq, Eq)]
 pub enum Unread {
     Unlawful(Unlawful),
@@ -34,7 +34,7 @@ fn read_carried(alloc: Global, place: &Inner, payload: &[u8]) -> Result<Records,
     }
 }
 
-// The records of the membership report that the inner octets of an Update carry.
+/// The records of the membership report that the inner octets of an Update carry.
 pub fn read_report(alloc: Global, inner: &[u8]) -> Result<Records, Unread>
     requires { length inner.now ≤ 65535 }
     ensures value { Gives result (report_in inner.now) }

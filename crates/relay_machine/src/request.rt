@@ -4,6 +4,7 @@ ghost use Rattle.endpoint_membership.specs.Table.{ForLogBy, IsWithinLimits};
 ghost use Rattle.relay_machine.specs.EventAnswer.{is_limited, replied};
 ghost use Rattle.relay_machine.specs.Logs.{AnswersByLog};
 ghost use Rattle.relay_machine.specs.Queries.{query_for};
+ghost use Rattle.relay_machine.specs.Sends.{AreShort};
 ghost use Rattle.relay_machine.specs.Settings.{table_settings_of};
 
 use crate::outcome::Outcome;
@@ -33,10 +34,11 @@ pub fn take_request(
     nonce: u32,
 ) -> Result<Step, AllocError>
     requires { IsWithinLimits table.now }
-    ensures { AnswersByLog (table_settings_of setup.now.settings) table.now table.now result
+    ensures answers { AnswersByLog (table_settings_of setup.now.settings) table.now table.now result
         (λ log. replied (Outcome.Queried v6 (is_limited (table_settings_of setup.now.settings) log)) source
         (query_for setup.now.settings secrets.now.current v6
         (is_limited (table_settings_of setup.now.settings) log) source nonce)) }
+    ensures short { IfOk result (λ step. AreShort step.sends) }
 {
     let limited = is_limited(setup, table);
     let query = setup.query_for(alloc, &secrets.current, v6, limited, source, nonce)?;

@@ -2,6 +2,7 @@
 ghost use Rattle.std.specs.Prelude.{◌≡◌, [], ◌∷◌, IfOk, None, Some};
 ghost use Rattle.amt_messages.specs.Messages.{IsSendable};
 ghost use Rattle.amt_messages.specs.Layout.{spelling_of};
+ghost use Rattle.relay_machine.specs.Sends.{AreShort};
 
 use crate::outcome::Outcome;
 use amt_messages::{Message, encode};
@@ -35,6 +36,7 @@ impl Step {
         ensures outcome { result.outcome ≡ outcome }
         ensures sends { result.sends ≡ [] }
         ensures change { result.change ≡ None }
+        ensures short { AreShort result.sends }
     {
         Step {
             outcome,
@@ -48,6 +50,7 @@ impl Step {
         ensures outcome { result.outcome ≡ outcome }
         ensures sends { result.sends ≡ [] }
         ensures change { result.change ≡ Some change }
+        ensures short { AreShort result.sends }
     {
         Step {
             outcome,
@@ -68,6 +71,7 @@ impl Step {
         ensures sends { IfOk result
             (λ step. step.sends ≡ record { to = to; bytes = spelling_of message.now } ∷ []) }
         ensures change { IfOk result (λ step. step.change ≡ None) }
+        ensures short { IfOk result (λ step. AreShort step.sends) }
     {
         let bytes = encode(alloc, message)?;
         let mut sends = Sends::with_room(alloc, 1)?;

@@ -4,6 +4,7 @@ ghost use Rattle.endpoint_membership.specs.Memberships.{is_live};
 ghost use Rattle.endpoint_membership.specs.Table.{IsWithinLimits, TableSettings, memberships_now};
 ghost use Rattle.relay_machine.specs.EventAnswer.{teardown_answer};
 ghost use Rattle.relay_machine.specs.Logs.{StepAnswers};
+ghost use Rattle.relay_machine.specs.Sends.{AreShort};
 
 use crate::outcome::Outcome;
 use crate::sends::Step;
@@ -17,6 +18,7 @@ pub fn take_teardown(alloc: Global, table: &mut Table, named: Endpoint, good: bo
     ensures answers { (terms : TableSettings) → StepAnswers terms table.old table.new result (λ log.
         teardown_answer good (is_live named (memberships_now terms log)) named (latest log)) }
     ensures within { IsWithinLimits table.old → IsWithinLimits table.new }
+    ensures short { AreShort result.sends }
 {
     if !good {
         return Step::quiet(alloc, Outcome::BadMac);

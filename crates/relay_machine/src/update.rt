@@ -6,6 +6,7 @@ ghost use Rattle.endpoint_membership.specs.Table.{IsWithinLimits, TableSettings,
 ghost use Rattle.endpoint_membership.specs.declared.change.Change.TheVariants.{Reported};
 ghost use Rattle.relay_machine.specs.EventAnswer.{limited_answer, update_answer};
 ghost use Rattle.relay_machine.specs.Logs.{AnswersByLog};
+ghost use Rattle.relay_machine.specs.Sends.{AreShort};
 ghost use Rattle.relay_machine.specs.Updates.{report_in};
 
 use crate::outcome::Outcome;
@@ -30,6 +31,7 @@ fn accept(
         (Reported source records (latest log))) }
     ensures err { OnErr result (table.new ≡ table.old) }
     ensures within { IsWithinLimits table.new }
+    ensures short { IfOk result (λ step. AreShort step.sends) }
 {
     let at = table.now();
     match table.accept(alloc, &source, &records, &at) {
@@ -62,6 +64,7 @@ pub fn take_update(
         (λ records. limit_passed terms log source records (latest log)) source (latest log)) }
     ensures err { OnErr result (table.new ≡ table.old) }
     ensures within { IsWithinLimits table.new }
+    ensures short { IfOk result (λ step. AreShort step.sends) }
 {
     if !good {
         return Ok(Step::quiet(alloc, Outcome::BadMac));

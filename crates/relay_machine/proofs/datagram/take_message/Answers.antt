@@ -8,7 +8,7 @@ use Rattle.relay_machine.proofs.datagram.take_message.Goals as goal
 
 pub returns-in-Discovery-clause-answers : goal.returns-in-Discovery-clause-answers
 returns-in-Discovery-clause-answers c log holds =
-    rw c.in-Discovery.is (c.take_discovery.ensures (table_settings_of c.args.setup.now.settings) c.args.table.now log holds)
+    rw c.in-Discovery.is (c.take_discovery.ensures.answers (table_settings_of c.args.setup.now.settings) c.args.table.now log holds)
 
 pub returns-in-Update-clause-answers : goal.returns-in-Update-clause-answers
 returns-in-Update-clause-answers c log holds =
@@ -21,7 +21,7 @@ returns-in-Teardown-clause-answers c log holds =
     rw (c.in-Teardown.is, good) (c.take_teardown.ensures.answers (table_settings_of c.args.setup.now.settings) log holds)
 
 pub returns-in-Request-clause-answers : goal.returns-in-Request-clause-answers
-returns-in-Request-clause-answers c log holds = rw c.in-Request.is (c.take_request.ensures log holds)
+returns-in-Request-clause-answers c log holds = rw c.in-Request.is (c.take_request.ensures.answers log holds)
 
 pub returns-in-Multicast-clause-answers : goal.returns-in-Multicast-clause-answers
 returns-in-Multicast-clause-answers c log holds =
