@@ -1,9 +1,9 @@
 -- A text of a form fails for no reason, and names one value.
-use Rattle.std.proofs.Common.{◌≡◌, ℕ, ◌^◌, ◌<◌, List, [], ◌∷◌, ◌++◌, codes, None, Ok, inl, inr, refl, sym, subst, ap, ◌∙◌, arith}
+use Rattle.std.proofs.Common.{◌≡◌, ℕ, ◌^◌, ◌<◌, ◌≤◌, List, [], ◌∷◌, ◌++◌, length, codes, None, Ok, inl, inr, refl, sym, subst, ap, ◌∙◌, arith}
 use Rattle.std.proofs.lemmas.Fmt.{decimal_injective}
 use Rattle.std.specs.Int.{IsInRange}
 use Rattle.hex.specs.Hex.{decode_of}
-use Rattle.hex.proofs.HexLemmas.{decode_of-odd, decode_of-same}
+use Rattle.hex.proofs.HexLemmas.{decode_of-odd, decode_of-ok, decode_of-same}
 use Rattle.amt_values.specs.declared.address.Ip.{Ip}
 use Rattle.amt_values.specs.declared.address.Ip.TheVariants.{V4, V6}
 use Rattle.amt_values.specs.declared.peer.Peer.{Peer}
@@ -120,3 +120,10 @@ pub one_field : {X : Type 0} (words : List (List ℕ)) (IsText : X → List ℕ 
     → (x y : X) (line : List (List ℕ)) → HasField words (IsText x) line → HasField words (IsText y) line → x ≡ y
 one_field words IsText unique x y line h k =
     unique x y k.text (subst (IsText x) (last_field words h.text k.text (sym h.parts ∙ k.parts)) h.names) k.names
+
+-- octets of a field are no more than UDP carries
+pub hex_sized : (bytes text : List ℕ) → IsHexText bytes text → length bytes ≤ 65535
+hex_sized bytes text (inl none) = omega (arith, ap (λ (xs : List ℕ). length xs) none.1)
+hex_sized bytes text (inr some) =
+    let digits = decode_of-ok text bytes some.1 in
+    omega (arith, some.0, digits.2)

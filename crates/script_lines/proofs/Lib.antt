@@ -9,6 +9,7 @@ pub mod Numbers
 mod OctetDigits
 pub mod Peers
 mod Plain
+pub mod Runs
 pub mod Sayings
 pub mod Splitting
 pub mod Taking

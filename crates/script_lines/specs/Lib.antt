@@ -3,6 +3,7 @@ pub mod Form
 pub mod Kind
 pub mod Lines
 pub mod Reading
+pub mod Running
 pub mod Script
 pub mod Shape
 pub mod Texts

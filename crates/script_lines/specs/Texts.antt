@@ -1,6 +1,9 @@
 -- What several kinds of script print.
 use Rattle.std.specs.Prelude.{◌≡◌, ℕ, List, [], ◌∷◌, ◌++◌, codes, decimal}
+use Rattle.std.specs.Int.{w32, to_be_bytes}
 use Rattle.hex.specs.Hex.{encode_lower}
+use Rattle.amt_values.specs.declared.peer.Peer.{Peer}
+use Rattle.amt_values.specs.Text.{peer_text}
 use Rattle.group_records.specs.declared.family.Family.{Family}
 use Rattle.group_records.specs.declared.family.Family.TheVariants.{V4, V6}
 use Rattle.source_filter.specs.declared.mode.Mode.{Mode}
@@ -17,6 +20,10 @@ abbrev pub hex_text : List ℕ → List ℕ
 hex_text [] = codes "-"
 hex_text (octet ∷ rest) = encode_lower (octet ∷ rest)
 
+-- a nonce, in eight hexadecimal digits
+abbrev pub nonce_text : ℕ → List ℕ
+nonce_text nonce = hex_text (to_be_bytes w32 nonce)
+
 -- a filter mode (RFC 3376, section 3.1)
 abbrev pub mode_text : Mode → List ℕ
 mode_text Include = codes "include"
@@ -26,6 +33,10 @@ mode_text Exclude = codes "exclude"
 abbrev pub family_text : Family → List ℕ
 family_text V4 = codes "v4"
 family_text V6 = codes "v6"
+
+-- `> PEER HEX`: a datagram that is sent, and to whom
+unfoldable pub send_line : Peer → List ℕ → List ℕ
+send_line peer bytes = codes "> " ++ (peer_text peer ++ (codes " " ++ (hex_text bytes ++ (10 ∷ []))))
 
 -- `. N`, the number of items
 unfoldable pub closing_text : ℕ → List ℕ

@@ -1,6 +1,6 @@
 //! The fields of a line. It knows no kind of line.
 
-ghost use Rattle.std.specs.Prelude.{◌≡◌, ◌≢◌, ◌<◌, ◌≤◌, ℕ, ◌∷◌, [], length, take, drop, slice_index, All, MatchOption, IfSome, IfNone};
+ghost use Rattle.std.specs.Prelude.{◌≡◌, ◌≢◌, ◌<◌, ◌≤◌, ◌↔◌, IsTrue, ℕ, ◌∷◌, [], length, take, drop, slice_index, All, MatchOption, IfSome, IfNone};
 ghost use Rattle.script_lines.specs.Lines.{fields};
 
 use amt_values::cut_at;
@@ -29,6 +29,13 @@ pub fn next_field(line: &[u8]) -> Option<(&[u8], &[u8])>
         None => Some((text, &[])),
         Some(parts) => Some(parts),
     }
+}
+
+/// Whether a field is this word of the format.
+pub fn is_word(field: &[u8], word: &str) -> bool
+    ensures { IsTrue result ↔ (field.now ≡ word.now) }
+{
+    field == word.as_bytes()
 }
 
 /// The one field of a line.

@@ -14,17 +14,20 @@ mod kind;
 mod lines;
 mod reading;
 mod reason;
+mod running;
 mod text;
 mod values;
 
 pub use addresses::{append_ip, append_peer};
 pub use fault::{LineError, RunFault, ScriptError};
-pub use fields::{next_field, only_field, two_fields};
+pub use fields::{is_word, next_field, only_field, two_fields};
 pub use held::{HELD_SIZE, write_held, write_where_full};
 pub use kind::ScriptKind;
-pub use reading::{MOST_OCTETS_OF_A_LINE, is_plain, read_script};
+pub use lines::{next_line, without_carriage_return};
+pub use reading::{MOST_OCTETS_OF_A_LINE, is_plain, read_script, split_statement};
 pub use reason::Reason;
-pub use text::{append_closing, append_hex};
+pub use running::{ScriptRun, run_script};
+pub use text::{append_closing, append_hex, append_nonce, append_numbered, append_send};
 pub use values::{
     OctetsError, is_name, mode_word, read_address, read_address4, read_address6, read_family,
     read_group, read_mode, read_moment, read_nonce, read_number, read_octets, read_secret,

@@ -5,7 +5,8 @@ ghost use Rattle.std.specs.Str.Lines.{lines, strip_carriage_return};
 
 use amt_values::cut_at;
 
-fn without_carriage_return(line: &[u8]) -> &[u8]
+/// The octets without a carriage return at their end.
+pub fn without_carriage_return(line: &[u8]) -> &[u8]
     ensures { result.now ≡ strip_carriage_return line.now }
 {
     match line {
@@ -14,7 +15,7 @@ fn without_carriage_return(line: &[u8]) -> &[u8]
     }
 }
 
-// The first line, without its line feed and the carriage return before it, and the octets after it.
+/// The first line, without its line feed and the carriage return before it, and the octets after it.
 pub fn next_line(text: &[u8]) -> (&[u8], &[u8])
     requires { 0 < length text.now }
     ensures lines { lines text.now ≡ result.0.now ∷ lines result.1.now }

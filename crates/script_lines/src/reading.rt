@@ -1,10 +1,10 @@
 //! Reads the lines of a script of any kind. What a line says is its kind's affair.
 
-ghost use Rattle.std.specs.Prelude.{◌≡◌, ◌↔◌, ◌≤◌, ◌==◌, ℕ, List, [], ◌∷◌, ◌++◌, length, slice_index, IsTrue, IfOk, IfErr, OnOk};
+ghost use Rattle.std.specs.Prelude.{◌≡◌, ◌↔◌, ◌≤◌, ◌<◌, ◌==◌, ℕ, List, [], ◌∷◌, ◌++◌, length, slice_index, true, false, IsTrue, IfSome, IfNone, IfOk, IfErr, OnOk};
 ghost use Rattle.std.specs.Int.{IsInRange};
 ghost use Rattle.std.specs.Str.Lines.{lines};
 ghost use Rattle.script_lines.specs.Kind.{IsLawfulKind};
-ghost use Rattle.script_lines.specs.Lines.{IsPlain};
+ghost use Rattle.script_lines.specs.Lines.{IsPlain, fields, says_nothing};
 ghost use Rattle.script_lines.specs.Reading.{HasBegun, FailsOnLine, FailsInLines};
 ghost use Rattle.script_lines.specs.Script.{Spells, IsErrorOf, RulesOutScripts, HasOneScript, HasOneFault};
 
@@ -46,6 +46,20 @@ fn is_comment(first: &[u8]) -> bool
     }
 }
 
+/// The first field of a line that says something, and the octets after it; none of one that says nothing.
+pub fn split_statement(line: &[u8]) -> Option<(&[u8], &[u8])>
+    ensures parts { IfSome result (λ parts. fields line.now ≡ parts.0.now ∷ fields parts.1.now) }
+    ensures says { IfSome result (λ _. says_nothing (fields line.now) ≡ false) }
+    ensures none { IfNone result (says_nothing (fields line.now) ≡ true) }
+    ensures shorter { IfSome result (λ parts. length parts.1.now < length line.now) }
+{
+    let (first, rest) = next_field(line)?;
+    if is_comment(first) {
+        return None;
+    }
+    Some((first, rest))
+}
+
 fn take_line<K: ScriptKind>(alloc: Global, heard: &mut K, line: &[u8]) -> Result<(), LineError>
     ensures taken { (before : List (List ℕ)) → HasBegun K.kind K.HasHeard heard.old before
         → OnOk result (HasBegun K.kind K.HasHeard heard.new (before ++ line.now ∷ [])) }
@@ -55,12 +69,9 @@ fn take_line<K: ScriptKind>(alloc: Global, heard: &mut K, line: &[u8]) -> Result
     if line.len() > MOST_OCTETS_OF_A_LINE {
         return Err(LineError::Bad(Reason::Long));
     }
-    let Some((first, rest)) = next_field(line) else {
+    let Some((first, rest)) = split_statement(line) else {
         return Ok(());
     };
-    if is_comment(first) {
-        return Ok(());
-    }
     if !is_plain(line) {
         return Err(LineError::Bad(Reason::Word));
     }

@@ -1,7 +1,7 @@
-use Rattle.std.proofs.Common.{ℕ, List, sym, subst, ◌∙◌, rules}
+use Rattle.std.proofs.Common.{ℕ, List, sym, subst, rules}
 use Rattle.script_lines.specs.Lines.{IsPlain}
 use Rattle.script_lines.proofs.Begun.{has_begun_said}
-use Rattle.script_lines.proofs.Taking.{something, fails_on_line}
+use Rattle.script_lines.proofs.Taking.{fails_on_line}
 use Rattle.script_lines.proofs.reading.take_line.Goals as goal
 
 pub returns-in-Ok-clause-taken : goal.returns-in-Ok-clause-taken
@@ -12,7 +12,7 @@ returns-in-Ok-clause-taken g c = λ before begun.
     let heard = c.in-Ok.ensures.heard begun.said begun.heard in
     let plain : IsPlain line = search rules in
     has_begun_said kind g.K.ScriptKind.HasHeard _ _ before line begun heard.0 c.if-line-gt-MOST_OCTETS_OF_A_LINE.false
-    (something line c.in-Some.first.now _ parts (sym c.is_comment.ensures ∙ c.if-is_comment.false)) plain
+    c.in-Some.ensures.says plain
     (subst (λ (fs : List (List ℕ)). kind.Says begun.said heard.0 fs) (sym parts) heard.1) heard.2
 
 pub returns-in-Err-clause-bad : goal.returns-in-Err-clause-bad
@@ -21,4 +21,4 @@ returns-in-Err-clause-bad g c = λ past h.
     let parts = c.in-Some.ensures.parts in
     let plain : IsPlain line = search rules in
     fails_on_line g.K.ScriptKind.kind past line _ c.in-Err.error c.if-line-gt-MOST_OCTETS_OF_A_LINE.false
-    (something line c.in-Some.first.now _ parts (sym c.is_comment.ensures ∙ c.if-is_comment.false)) plain parts (c.in-Err.ensures.bad past h)
+    c.in-Some.ensures.says plain parts (c.in-Err.ensures.bad past h)
