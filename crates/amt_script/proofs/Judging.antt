@@ -10,7 +10,7 @@ use Rattle.amt_script.specs.declared.kind.Kind.{Kind}
 use Rattle.amt_script.specs.declared.kind.Kind.TheVariants as kinds
 use Rattle.amt_script.specs.declared.setting.Setting.{Setting}
 use Rattle.amt_script.specs.Fault.{FailsAfter, FailsAs, FailsInKind, order_of_values, order_of_reasons}
-use Rattle.amt_script.specs.Reading.{FailsToSet}
+use Rattle.amt_script.specs.SetLine.{FailsToSetKey}
 use Rattle.amt_script.specs.Row.{words_of, IsUnknown}
 use Rattle.amt_script.specs.Setting.{set_at}
 use Rattle.amt_script.proofs.Rows.{same_kind, same_values}
@@ -99,12 +99,12 @@ twice_at given line key values parts other others twice set =
 
 pub setting_judged : (given : List Setting) (items : List RelayItem) (line : List (List ℕ)) (key : Key) (values : List (List ℕ)) (reason : Reason)
     → line ≡ words_of (kinds.Set key) ++ values
-    → First (FailsToSet given items key values) (reasons.Late ∷ reasons.Twice ∷ order_of_values) reason
+    → First (FailsToSetKey given items key values) (reasons.Late ∷ reasons.Twice ∷ order_of_values) reason
     → First (FailsAfter given items line) order_of_reasons reason
 setting_judged given items line key values reason parts first =
     inr (
       no_word line (kinds.Set key) values parts,
-      First-same (FailsToSet given items key values) (FailsAfter given items line) (reasons.Late ∷ reasons.Twice ∷ order_of_values) reason (
+      First-same (FailsToSetKey given items key values) (FailsAfter given items line) (reasons.Late ∷ reasons.Twice ∷ order_of_values) reason (
         (λ late. (late, _, parts), λ late. late.0),
         (
           (λ twice. (key, values, parts, twice), λ twice. twice_at given line key values parts twice.0 twice.1 twice.2 twice.3),

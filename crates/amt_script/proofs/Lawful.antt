@@ -16,7 +16,7 @@ use Rattle.amt_script.specs.Setting.{key_of, set_at}
 use Rattle.amt_script.proofs.Judging.{fails_as, no_set_alone, no_word, no_late, twice_at, IsItemKind}
 use Rattle.amt_script.proofs.Rows.{same_kind}
 use Rattle.amt_script.proofs.Says.{IsFit, kind_of_item, setting_is_fit, item_is_fit, no_set_item, setting_or_item}
-use Rattle.amt_script.proofs.Settled.{settled_values, wrong_at_end}
+use Rattle.amt_script.proofs.Settlings.{settled_values, wrong_at_end}
 use Rattle.amt_script.proofs.Unique.{SaysSetting-unique, SaysItem-unique}
 
 fit_is_good : (given : List Setting) (items : List RelayItem) (line : List (List ℕ)) (kind : Kind) → IsFit kind line

@@ -8,5 +8,6 @@ mod Rows
 pub mod Running
 pub mod Runs
 pub mod Says
-pub mod Settled
+pub mod SetLines
+pub mod Settlings
 pub mod Unique

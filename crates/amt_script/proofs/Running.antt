@@ -1,12 +1,11 @@
 -- A script that some octets spell can be run.
-use Rattle.std.proofs.Common.{ℕ, ◌≤◌, List, [], ◌∷◌, ◌++◌, length, inl, inr, sym, subst, ap, arith}
+use Rattle.std.proofs.Common.{ℕ, List, [], ◌∷◌, ◌++◌, sym, subst}
 use Rattle.std.specs.List.{AllByRecursion}
 use Rattle.std.specs.Str.Lines.{lines}
-use Rattle.hex.proofs.HexLemmas.{decode_of-ok}
 use Rattle.relay_machine.specs.EventSize.{IsEvent}
 use Rattle.relay_machine.specs.declared.event.Event.{Event}
 use Rattle.relay_machine.specs.declared.event.Event.TheVariants.{Moment, Datagram, Packet, Rotate}
-use Rattle.script_lines.specs.Form.{IsHexText}
+use Rattle.script_lines.proofs.Forms.{hex_sized}
 use Rattle.script_lines.specs.Lines.{fields, lines_that_say}
 use Rattle.script_lines.specs.Script.{Say}
 use Rattle.amt_script.specs.declared.line.RelayStatement.{RelayStatement}
@@ -18,19 +17,13 @@ use Rattle.amt_script.specs.Running.{IsItem, IsRunnable}
 use Rattle.amt_script.specs.Says.{SaysEvent, SaysItem}
 use Rattle.amt_script.specs.Script.{items_in, relay_kind, IsRelayScript}
 
-hex_sized : (bytes text : List ℕ) → IsHexText bytes text → length bytes ≤ 65535
-hex_sized bytes text (inl none) = omega (arith, ap (λ (xs : List ℕ). length xs) none.1)
-hex_sized bytes text (inr some) =
-    let digits = decode_of-ok text bytes some.1 in
-    omega (arith, some.0, digits.2)
-
 event_sized : (event : Event) (line : List (List ℕ)) → SaysEvent event line → IsEvent event
 event_sized (Moment moment) line says = tt
 event_sized (Datagram bytes from) line says = hex_sized bytes says.next says.names_next
 event_sized (Packet bytes) line says = hex_sized bytes says.text says.names
 event_sized (Rotate secret) line says = tt
 
-item_sized : (item : RelayItem) (line : List (List ℕ)) → SaysItem item line → IsItem item
+pub item_sized : (item : RelayItem) (line : List (List ℕ)) → SaysItem item line → IsItem item
 item_sized (items.Event event) line says = event_sized event line says
 item_sized items.Show line says = tt
 

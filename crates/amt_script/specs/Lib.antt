@@ -5,6 +5,7 @@ pub mod Row
 pub mod Running
 pub mod Says
 pub mod Script
+pub mod SetLine
 pub mod Setting
 pub mod Settling
 pub mod Texts

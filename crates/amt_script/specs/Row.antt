@@ -1,5 +1,5 @@
 -- The kinds of lines: the words with which a line of each kind begins, and the forms of its fields.
-use Rattle.std.specs.Prelude.{◌≢◌, ℕ, List, [], ◌∷◌, ◌++◌, codes, None}
+use Rattle.std.specs.Prelude.{◌≡◌, ◌≢◌, ℕ, List, [], ◌∷◌, ◌++◌, codes, None}
 use Rattle.relay_machine.specs.declared.number_key.NumberKey.{NumberKey}
 use Rattle.relay_machine.specs.declared.number_key.NumberKey.TheVariants as numbers
 use Rattle.relay_machine.specs.Settings.{number_row}
@@ -57,6 +57,13 @@ forms_of kinds.Show = []
 -- no line of a relay's script repeats its last field
 abbrev pub shape_of : Kind → Shape
 shape_of kind = record { forms = forms_of kind; repeated = None }
+
+-- the first of the fields after `set` is no key
+pub record BeginsWithNoKey (texts : List (List ℕ)) : Type 0 where
+  pub word : List ℕ
+  pub values : List (List ℕ)
+  pub parts : texts ≡ word ∷ values
+  pub no_key : (key : Key) → word ≢ key_word key
 
 -- the line is of no kind, and isn't a `set` alone either
 pub record IsUnknown (line : List (List ℕ)) : Type 0 where

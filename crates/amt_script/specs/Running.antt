@@ -1,10 +1,14 @@
--- Which scripts a relay can be run over.
+-- Runs of a relay over a script, and which scripts it can be run over.
+use Rattle.std.specs.Prelude.{List}
 use Rattle.std.specs.List.{AllByRecursion}
 use Rattle.relay_machine.specs.EventSize.{IsEvent}
+use Rattle.relay_machine.specs.Answers.{RelayAt}
 use Rattle.relay_machine.specs.Settings.{AreLawfulSettings}
+use Rattle.relay_machine.specs.declared.relay.Relay.{Relay}
 use Rattle.amt_script.specs.declared.script.RelayItem.{RelayItem}
 use Rattle.amt_script.specs.declared.script.RelayItem.TheVariants.{Event, Show}
 use Rattle.amt_script.specs.declared.script.RelayScript.{RelayScript}
+use Rattle.amt_script.specs.Texts.{events_in, RelayStart}
 
 -- a datagram has at most the octets that UDP carries
 abbrev pub IsItem : RelayItem → Type 0
@@ -15,3 +19,7 @@ IsItem Show = Unit {0}
 pub record IsRunnable (script : RelayScript) : Type 0 where
   pub lawful : AreLawfulSettings script.settings
   pub sized : AllByRecursion IsItem script.items
+
+-- from this start the items lead to the relay
+abbrev pub IsRelayAfter : Relay → RelayStart → List RelayItem → Type 0
+IsRelayAfter relay start items = RelayAt relay start.settings start.secret (events_in items)

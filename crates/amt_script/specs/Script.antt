@@ -34,7 +34,7 @@ abbrev pub items_in : List RelayStatement → List RelayItem
 items_in said = filter_map item_in said
 
 -- the setting may follow these settings and items: before all items, and its key for the first time
-pub record MaySet (given : List Setting) (items : List RelayItem) (setting : Setting) : Type 0 where
+pub record MaySet {I : Type 0} (given : List Setting) (items : List I) (setting : Setting) : Type 0 where
   pub early : items ≡ []
   pub new : set_at given (key_of setting) ≡ None
 

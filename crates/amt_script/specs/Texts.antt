@@ -1,5 +1,5 @@
 -- What is written of a relay's events, of its steps and of what stands.
-use Rattle.std.specs.Prelude.{ℕ, ◌+◌, true, false, List, [], ◌∷◌, ◌++◌, length, codes, decimal, flat_map, Option, Some, None}
+use Rattle.std.specs.Prelude.{ℕ, true, false, List, [], ◌∷◌, ◌++◌, length, codes, decimal, flat_map, Option, Some, None}
 use Rattle.std.specs.List.{filter_map}
 use Rattle.amt_values.specs.declared.address.Ip.{Ip}
 use Rattle.amt_values.specs.Endpoint.{peer_of}
@@ -20,7 +20,8 @@ use Rattle.relay_machine.specs.declared.outcome.Unlawful.TheVariants.{Inner, Rep
 use Rattle.relay_machine.specs.declared.sends.OneSend.{OneSend}
 use Rattle.relay_machine.specs.declared.settings.Settings.{Settings}
 use Rattle.relay_machine.specs.Answers.{outcome_of, rows_after, sends_of}
-use Rattle.script_lines.specs.Texts.{hex_text, closing_text, mode_text}
+use Rattle.script_lines.specs.Texts.{hex_text, mode_text, send_line}
+use Rattle.script_lines.specs.Running.{script_text}
 use Rattle.fault_texts.specs.Texts.{head_text, inner_text, refusal_text, report_text}
 use Rattle.amt_script.specs.declared.script.RelayItem.{RelayItem}
 use Rattle.amt_script.specs.declared.script.RelayItem.TheVariants as items
@@ -76,9 +77,8 @@ unfoldable pub event_text : Event → List ℕ
 event_text event = event_line event ++ 10 ∷ []
 
 -- `> PEER HEX`
-unfoldable pub send_text : OneSend → List ℕ
-send_text send =
-    codes "> " ++ (peer_text (peer_of send.to) ++ (codes " " ++ (hex_text send.bytes ++ (10 ∷ []))))
+abbrev pub send_text : OneSend → List ℕ
+send_text send = send_line (peer_of send.to) send.bytes
 
 -- `= N OUTCOME`
 abbrev pub answer_line : ℕ → Outcome → List ℕ
@@ -125,12 +125,16 @@ item_text settings secret events number (items.Event event) =
     step_text number (outcome_of settings secret events event) (sends_of settings secret events event)
 item_text settings secret events number items.Show = rows_text number (rows_after settings secret events)
 
--- the items that follow those before, numbered from 1
-abbrev pub items_text : Settings → Secret → List RelayItem → List RelayItem → List ℕ
-items_text settings secret before [] = []
-items_text settings secret before (item ∷ rest) =
-    item_text settings secret (events_in before) (length before + 1) item ++ items_text settings secret (before ++ item ∷ []) rest
+-- what a relay's run begins with
+pub record RelayStart : Type 0 where
+  pub settings : Settings
+  pub secret : Secret
+
+-- the text of an item after those before it
+abbrev pub text_after : RelayStart → List RelayItem → ℕ → RelayItem → List ℕ
+text_after start before number item = item_text start.settings start.secret (events_in before) number item
 
 -- the text of a relay script
 abbrev pub relay_script_text : RelayScript → List ℕ
-relay_script_text script = items_text script.settings script.secret [] script.items ++ closing_text (length script.items)
+relay_script_text script =
+    script_text (text_after (record { settings = script.settings; secret = script.secret })) script.items

@@ -12,7 +12,7 @@ use fault_texts::{append_head_fault, append_inner_fault, append_report_fault};
 use relay_machine::{NotForwarded, Unlawful};
 use std::alloc::AllocError;
 
-/// Why an Update has no lawful report.
+/// Puts at the end why an Update has no lawful report.
 pub fn append_unlawful(text: &mut Bytes, fault: &Unlawful) -> Result<(), AllocError>
     ensures { OnOk result (text.new ≡ text.old ++ unlawful_text fault.now) }
 {

@@ -4,10 +4,10 @@ ghost use Rattle.std.specs.Prelude.{◌≡◌, ◌≢◌, ◌↔◌, IsTrue, ◌
 ghost use Rattle.amt_script.specs.declared.kind.Key.{Key as KeyValue};
 ghost use Rattle.script_lines.specs.Lines.{fields};
 ghost use Rattle.relay_machine.specs.declared.number_key.NumberKey.{NumberKey as NumberKeyValue};
-ghost use Rattle.amt_script.specs.Row.{key_word, number_word, words_of, IsUnknown};
+ghost use Rattle.amt_script.specs.Row.{key_word, number_word, words_of, BeginsWithNoKey, IsUnknown};
 
 use relay_machine::{NUMBER_KEYS, NumberKey};
-use script_lines::next_field;
+use script_lines::{is_word, next_field};
 
 /// What a `set` line sets.
 #[derive(Clone, Copy, Debug, PartialEq, Eq)]
@@ -52,7 +52,7 @@ fn number_word(key: NumberKey) -> &'static str
     }
 }
 
-/// The kinds of lines that say something.
+/// The kinds of lines of a relay's script that say something.
 #[derive(Clone, Copy, Debug, PartialEq, Eq)]
 pub enum Kind {
     /// A setting.
@@ -75,12 +75,6 @@ pub enum NoKind {
     Unknown,
     /// A `set` with nothing after it.
     SetAlone,
-}
-
-fn is_word(word: &[u8], text: &str) -> bool
-    ensures { IsTrue result ↔ (word.now ≡ text.now) }
-{
-    word == text.as_bytes()
 }
 
 fn number_key_of_word(word: &[u8]) -> Option<NumberKey>
@@ -117,17 +111,29 @@ fn key_of_word(word: &[u8]) -> Option<Key>
     }
 }
 
-fn kind_after_set(rest: &[u8]) -> Result<(Kind, &[u8]), NoKind>
-    ensures found { IfOk result (λ parts. codes "set" ∷ fields rest.now ≡ words_of parts.0 ++ fields parts.1.now) }
+/// The key that follows the word `set`, and the octets after it.
+pub fn key_after_set(rest: &[u8]) -> Result<(Key, &[u8]), NoKind>
+    ensures found { IfOk result (λ parts. fields rest.now ≡ key_word parts.0 ∷ fields parts.1.now) }
     ensures alone { IsErrOf result NoKind.SetAlone → fields rest.now ≡ [] }
-    ensures unknown { IsErrOf result NoKind.Unknown → IsUnknown (codes "set" ∷ fields rest.now) }
+    ensures unknown { IsErrOf result NoKind.Unknown → BeginsWithNoKey (fields rest.now) }
 {
     let Some((word, values)) = next_field(rest) else {
         return Err(NoKind::SetAlone);
     };
     match key_of_word(word) {
-        Some(key) => Ok((Kind::Set(key), values)),
+        Some(key) => Ok((key, values)),
         None => Err(NoKind::Unknown),
+    }
+}
+
+fn kind_after_set(rest: &[u8]) -> Result<(Kind, &[u8]), NoKind>
+    ensures found { IfOk result (λ parts. codes "set" ∷ fields rest.now ≡ words_of parts.0 ++ fields parts.1.now) }
+    ensures alone { IsErrOf result NoKind.SetAlone → fields rest.now ≡ [] }
+    ensures unknown { IsErrOf result NoKind.Unknown → IsUnknown (codes "set" ∷ fields rest.now) }
+{
+    match key_after_set(rest) {
+        Ok((key, values)) => Ok((Kind::Set(key), values)),
+        Err(no_kind) => Err(no_kind),
     }
 }
 

@@ -6,17 +6,15 @@ ghost use Rattle.script_lines.specs.Lines.{fields};
 ghost use Rattle.script_lines.specs.Reading.{FailsFirst};
 ghost use Rattle.amt_script.specs.declared.kind.Kind.TheVariants as kinds;
 ghost use Rattle.amt_script.specs.Fault.{FailsAfter, order_of_values, order_of_reasons};
-ghost use Rattle.amt_script.specs.Reading.{FailsToSet};
 ghost use Rattle.amt_script.specs.Row.{words_of};
 ghost use Rattle.amt_script.specs.Says.{SaysSetting};
 ghost use Rattle.amt_script.specs.Script.{MaySet, SaysAfter};
 
-use crate::kind::{Key, Kind, NoKind, kind_of_line};
+use crate::kind::{Kind, NoKind, kind_of_line};
 use crate::script::RelayItem;
-use crate::setting::{Setting, is_given};
-use crate::statement::{
-    read_datagram, read_moment_item, read_packet, read_rotation, read_setting, read_show,
-};
+use crate::set_line::{read_set, reason_of_set_alone};
+use crate::setting::Setting;
+use crate::statement::{read_datagram, read_moment_item, read_packet, read_rotation, read_show};
 use script_lines::{LineError, Reason};
 use std::alloc::Global;
 
@@ -25,29 +23,6 @@ use std::alloc::Global;
 pub enum RelayStatement {
     Setting(Setting),
     Item(RelayItem),
-}
-
-fn read_set(
-    given: &[Setting],
-    items: &[RelayItem],
-    key: Key,
-    values: &[u8],
-) -> Result<Setting, Reason>
-    ensures may { IfOk result (MaySet given.now items.now) }
-    ensures found { IfOk result (λ setting. SaysSetting setting (words_of (kinds.Set key) ++ fields values.now)) }
-    ensures reason { IfErr result (λ reason. First (FailsToSet given.now items.now key (fields values.now))
-        (Reason.Late ∷ Reason.Twice ∷ order_of_values) reason) }
-{
-    if !items.is_empty() {
-        return Err(Reason::Late);
-    }
-    if is_given(given, key) {
-        return Err(Reason::Twice);
-    }
-    match read_setting(key, values) {
-        Ok(setting) => Ok(setting),
-        Err(reason) => Err(reason),
-    }
 }
 
 // What a line says whose reading takes no memory.
@@ -74,13 +49,7 @@ pub fn read_statement(
 {
     match kind_of_line(word, rest) {
         Err(NoKind::Unknown) => Err(LineError::Bad(Reason::Word)),
-        Err(NoKind::SetAlone) => {
-            if items.is_empty() {
-                Err(LineError::Bad(Reason::Count))
-            } else {
-                Err(LineError::Bad(Reason::Late))
-            }
-        }
+        Err(NoKind::SetAlone) => { Err(LineError::Bad(reason_of_set_alone(items))) }
         Ok((Kind::Set(key), values)) => match read_set(given, items, key, values) {
             Ok(setting) => Ok(RelayStatement::Setting(setting)),
             Err(reason) => Err(LineError::Bad(reason)),

@@ -6,19 +6,18 @@ ghost use Rattle.amt_ports.specs.Causes.{Rose};
 ghost use Rattle.relay_machine.specs.Answers.{After, RelayAt, outcome_of, rows_after, sends_of};
 ghost use Rattle.relay_machine.specs.EventSize.{IsEvent};
 ghost use Rattle.script_lines.specs.Counting.{CountsWrites};
-ghost use Rattle.script_lines.specs.Texts.{closing_text};
 ghost use Rattle.script_lines.specs.Writing.{WritesPrefix, WritesUpTo};
 ghost use Rattle.amt_script.specs.Running.{IsItem, IsRunnable};
 ghost use Rattle.amt_script.specs.Texts.{events_in, item_text, row_text, rows_text, step_text, relay_script_text};
 
-use crate::row_text::{append_count, append_row};
+use crate::row_text::{append_row, append_row_count};
 use crate::script::{RelayItem, RelayScript};
 use crate::text::append_relay_step;
 use amt_ports::Sink;
 use amt_values::Bytes;
 use endpoint_membership::Rows;
 use relay_machine::{Event, Relay};
-use script_lines::{RunFault, append_closing, write_held, write_where_full};
+use script_lines::{RunFault, ScriptRun, run_script, write_where_full};
 use std::alloc::Global;
 
 // What is written of an event goes on to where what is held follows it.
@@ -73,8 +72,29 @@ fn write_each_row<O: Sink>(rows: &Rows, held: &mut Bytes, out: &mut O) -> Result
     Ok(())
 }
 
+/// The lines of these memberships, with how many they are before them. They go after what is held, and are
+/// written in pieces.
 #[tactic(auto, unfolding(crate::specs::Texts::rows_text))]
-fn write_rows<O: Sink>(
+pub fn write_rows<O: Sink>(
+    rows: &Rows,
+    number: u64,
+    held: &mut Bytes,
+    out: &mut O,
+) -> Result<(), RunFault>
+    ensures done { OnOk result (WritesUpTo (O.written out.old) (O.written out.new)
+        (held.old ++ rows_text number rows.now) held.new) }
+    ensures begun { OnErr result (WritesPrefix (O.written out.old) (O.written out.new)
+        (held.old ++ rows_text number rows.now)) }
+    ensures counts { CountsWrites (O.faults out.old) (O.faults out.new) result }
+{
+    let Ok(()) = append_row_count(held, number, rows.len() as u64) else {
+        return Err(RunFault::Memory);
+    };
+    write_each_row(rows, held, out)
+}
+
+// The relay's memberships.
+fn write_shown<O: Sink>(
     alloc: Global,
     relay: &Relay,
     number: u64,
@@ -93,10 +113,7 @@ fn write_rows<O: Sink>(
     let Ok(rows) = relay.rows(alloc) else {
         return Err(RunFault::Memory);
     };
-    let Ok(()) = append_count(held, number, rows.len() as u64) else {
-        return Err(RunFault::Memory);
-    };
-    write_each_row(&rows, held, out)
+    write_rows(&rows, number, held, out)
 }
 
 fn write_item<O: Sink>(
@@ -121,49 +138,40 @@ fn write_item<O: Sink>(
 {
     match item {
         RelayItem::Event(event) => write_step(alloc, relay, number, event, held, out),
-        RelayItem::Show => write_rows(alloc, relay, number, held, out),
+        RelayItem::Show => write_shown(alloc, relay, number, held, out),
     }
 }
 
-// The last line, and all that is held before it.
-fn write_end<O: Sink>(count: u64, held: &mut Bytes, out: &mut O) -> Result<(), RunFault>
-    ensures done { OnOk result (Appends (O.written out.old) (O.written out.new)
-        (held.old ++ closing_text count)) }
-    ensures begun { OnErr result (WritesPrefix (O.written out.old) (O.written out.new)
-        (held.old ++ closing_text count)) }
-    ensures counts { CountsWrites (O.faults out.old) (O.faults out.new) result }
-{
-    let Ok(()) = append_closing(held, count) else {
-        return Err(RunFault::Memory);
-    };
-    write_held(held, out)
+// A relay that takes the items of its script.
+#[derive(Drop)]
+struct RelayRun {
+    relay: Relay,
 }
 
-// Takes a new relay through the items of its script.
-fn run_items<O: Sink>(
-    alloc: Global,
-    mut relay: Relay,
-    script: &RelayScript,
-    out: &mut O,
-) -> Result<(), RunFault>
-    requires runnable { IsRunnable script.now }
-    requires start { RelayAt relay script.now.settings script.now.secret [] }
-    ensures done { OnOk result (Appends (O.written out.old) (O.written out.new)
-        (relay_script_text script.now)) }
-    ensures begun { OnErr result (WritesPrefix (O.written out.old) (O.written out.new)
-        (relay_script_text script.now)) }
+impl ScriptRun for RelayRun {
+    ghost use Rattle.amt_script.specs.Running.{IsItem, IsRelayAfter};
+    ghost use Rattle.amt_script.specs.Texts.{RelayStart, text_after};
 
-    ensures counts { CountsWrites (O.faults out.old) (O.faults out.new) result }
-{
-    let items = script.items.as_slice();
-    let mut held = Bytes::new(alloc);
-    for (index, item) in items.iter().enumerate() {
-        match write_item(alloc, &mut relay, index as u64 + 1, item, &mut held, out) {
-            Ok(()) => {}
-            Err(fault) => return Err(fault),
-        }
+    type Item = RelayItem;
+
+    ghost Start = { RelayStart };
+
+    ghost IsAfter = { λ run start before. IsRelayAfter run.relay start before };
+
+    ghost MayCome = { λ start item. IsItem item };
+
+    ghost text_of = { λ start before number item. text_after start before number item };
+
+    fn write_item<O: Sink>(
+        &mut self,
+        alloc: Global,
+        number: u64,
+        item: &RelayItem,
+        held: &mut Bytes,
+        out: &mut O,
+    ) -> Result<(), RunFault> {
+        write_item(alloc, &mut self.relay, number, item, held, out)
     }
-    write_end(items.len() as u64, &mut held, out)
 }
 
 /// Runs a relay over a script, and writes the text of its steps and of the memberships where they are shown.
@@ -185,5 +193,5 @@ pub fn run_relay_script<O: Sink>(
     let Ok(relay) = Relay::new(alloc, script.settings, script.secret) else {
         return Err(RunFault::Memory);
     };
-    run_items(alloc, relay, script, out)
+    run_script(alloc, RelayRun { relay }, script.items.as_slice(), out)
 }

@@ -10,7 +10,8 @@ use script_lines::{append_ip, append_peer, mode_word};
 use source_filter::Filter;
 use std::alloc::AllocError;
 
-fn append_sources(text: &mut Bytes, sources: &[Ip]) -> Result<(), AllocError>
+/// Puts the sources of a list at the end, with commas between them, or a dash for none.
+pub fn append_sources(text: &mut Bytes, sources: &[Ip]) -> Result<(), AllocError>
     ensures { OnOk result (text.new ≡ text.old ++ sources_text sources.now) }
 {
     let Some((first, rest)) = sources.split_first() else {
@@ -49,7 +50,7 @@ pub fn append_row(text: &mut Bytes, row: &Row) -> Result<(), AllocError>
 }
 
 /// Puts the line before the memberships at the end: how many there are.
-pub fn append_count(text: &mut Bytes, number: u64, count: u64) -> Result<(), AllocError>
+pub fn append_row_count(text: &mut Bytes, number: u64, count: u64) -> Result<(), AllocError>
     ensures { OnOk result (text.new ≡ text.old ++ count_line number count) }
 {
     text.append(b"= ")?;

@@ -7,6 +7,7 @@ ghost use Rattle.script_lines.specs.Lines.{fields};
 ghost use Rattle.script_lines.specs.Reading.{FailsFirst};
 ghost use Rattle.amt_script.specs.Fault.{FailsAs, order_of_values};
 ghost use Rattle.amt_script.specs.Row.{words_of, form_of_key};
+ghost use Rattle.amt_script.specs.Running.{IsItem};
 ghost use Rattle.amt_script.specs.Says.{SaysItem, SaysSetting};
 ghost use Rattle.amt_script.specs.Setting.{key_of};
 
@@ -74,6 +75,7 @@ pub fn read_setting(key: Key, values: &[u8]) -> Result<Setting, Reason>
 /// The item of a line `at MS`, by what follows its first word.
 pub fn read_moment_item(values: &[u8]) -> Result<RelayItem, Reason>
     ensures found { IfOk result (λ item. SaysItem item (words_of kinds.Moment ++ fields values.now)) }
+    ensures sized { IfOk result IsItem }
     ensures reason { IfErr result (λ reason. First (FailsAs kinds.Moment (fields values.now)) order_of_values reason) }
 {
     let Some(text) = only_field(values) else {
@@ -88,6 +90,7 @@ pub fn read_moment_item(values: &[u8]) -> Result<RelayItem, Reason>
 /// The item of a line `secret HEX`, by what follows its first word.
 pub fn read_rotation(values: &[u8]) -> Result<RelayItem, Reason>
     ensures found { IfOk result (λ item. SaysItem item (words_of kinds.Secret ++ fields values.now)) }
+    ensures sized { IfOk result IsItem }
     ensures reason { IfErr result (λ reason. First (FailsAs kinds.Secret (fields values.now)) order_of_values reason) }
 {
     let Some(text) = only_field(values) else {
@@ -122,6 +125,7 @@ pub fn read_datagram(alloc: Global, values: &[u8]) -> Result<RelayItem, LineErro
 /// The item of a line `mc HEX`, by what follows its first word.
 pub fn read_packet(alloc: Global, values: &[u8]) -> Result<RelayItem, LineError>
     ensures found { IfOk result (λ item. SaysItem item (words_of kinds.Packet ++ fields values.now)) }
+    ensures sized { IfOk result IsItem }
     ensures reason { IfErr result (FailsFirst (FailsAs kinds.Packet (fields values.now)) order_of_values) }
 {
     let Some(octets) = only_field(values) else {
@@ -137,6 +141,7 @@ pub fn read_packet(alloc: Global, values: &[u8]) -> Result<RelayItem, LineError>
 /// The item of a line `show`, by what follows the word, which is nothing.
 pub fn read_show(values: &[u8]) -> Result<RelayItem, Reason>
     ensures found { IfOk result (λ item. SaysItem item (words_of kinds.Show ++ fields values.now)) }
+    ensures sized { IfOk result IsItem }
     ensures reason { IfErr result (λ reason. First (FailsAs kinds.Show (fields values.now)) order_of_values reason) }
 {
     match next_field(values) {

@@ -10,8 +10,8 @@ ghost use Rattle.amt_script.specs.Texts.{answer_line, outcome_text, event_line, 
 use crate::fault_text::{append_limit, append_not_forwarded, append_unlawful};
 use amt_values::{Bytes, Peer, append_numeral, print_peer};
 use fault_texts::append_refusal;
-use relay_machine::{Event, NotForwarded, OneSend, Outcome, Step};
-use script_lines::{append_hex, append_peer};
+use relay_machine::{Event, NotForwarded, Outcome, Step};
+use script_lines::{append_hex, append_numbered, append_send};
 use std::alloc::{AllocError, Global};
 
 fn append_queried(text: &mut Bytes, v6: bool, limited: bool) -> Result<(), AllocError>
@@ -25,14 +25,6 @@ fn append_queried(text: &mut Bytes, v6: bool, limited: bool) -> Result<(), Alloc
     }
 }
 
-// A word with a space after it, and a number.
-fn append_numbered(text: &mut Bytes, word: &[u8], number: u64) -> Result<(), AllocError>
-    ensures { OnOk result (text.new ≡ text.old ++ (word.now ++ decimal number)) }
-{
-    text.append(word)?;
-    append_numeral(text, number)
-}
-
 fn append_unforwarded(text: &mut Bytes, cause: &NotForwarded) -> Result<(), AllocError>
     ensures { OnOk result (text.new ≡ text.old ++ outcome_text (NotForwardedFor cause.now)) }
 {
@@ -40,7 +32,8 @@ fn append_unforwarded(text: &mut Bytes, cause: &NotForwarded) -> Result<(), Allo
     append_not_forwarded(text, cause)
 }
 
-fn append_outcome(text: &mut Bytes, outcome: &Outcome) -> Result<(), AllocError>
+/// Puts what an event came to at the end.
+pub fn append_relay_outcome(text: &mut Bytes, outcome: &Outcome) -> Result<(), AllocError>
     ensures { OnOk result (text.new ≡ text.old ++ outcome_text outcome.now) }
 {
     match *outcome {
@@ -128,17 +121,6 @@ pub fn print_relay_event(alloc: Global, event: &Event) -> Result<Bytes, AllocErr
     Ok(text)
 }
 
-#[tactic(auto, unfolding(crate::specs::Texts::send_text))]
-fn append_send(text: &mut Bytes, send: &OneSend) -> Result<(), AllocError>
-    ensures { OnOk result (text.new ≡ text.old ++ send_text send.now) }
-{
-    text.append(b"> ")?;
-    append_peer(text, &send.to.peer())?;
-    text.append(b" ")?;
-    append_hex(text, send.bytes.as_slice())?;
-    text.append(b"\n")
-}
-
 // `= N OUTCOME`.
 fn append_answer(text: &mut Bytes, number: u64, outcome: &Outcome) -> Result<(), AllocError>
     ensures { OnOk result (text.new ≡ text.old ++ answer_line number outcome.now) }
@@ -146,7 +128,7 @@ fn append_answer(text: &mut Bytes, number: u64, outcome: &Outcome) -> Result<(),
     text.append(b"= ")?;
     append_numeral(text, number)?;
     text.append(b" ")?;
-    append_outcome(text, outcome)?;
+    append_relay_outcome(text, outcome)?;
     text.append(b"\n")
 }
 
@@ -157,7 +139,7 @@ pub fn append_relay_step(text: &mut Bytes, number: u64, step: &Step) -> Result<(
 {
     append_answer(text, number, &step.outcome)?;
     for send in step.sends.as_slice() {
-        append_send(text, send)?;
+        append_send(text, &send.to.peer(), send.bytes.as_slice())?;
     }
     Ok(())
 }

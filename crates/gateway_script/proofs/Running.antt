@@ -1,11 +1,10 @@
 -- A script that some octets spell can be run.
-use Rattle.std.proofs.Common.{◌≡◌, ◌≢◌, ℕ, ◌+◌, ◌≤◌, ◌==◌, true, not, List, [], ◌∷◌, ◌++◌, length, All, Option, Some, inl, inr, refl, sym, subst, ap, ◌∙◌, append-nil, append_assoc, arith}
+use Rattle.std.proofs.Common.{◌≡◌, ◌≢◌, ℕ, ◌+◌, ◌≤◌, ◌==◌, true, not, List, [], ◌∷◌, ◌++◌, length, All, Option, Some, refl, sym, subst, ap, ◌∙◌, append-nil, append_assoc, arith}
 use Rattle.std.specs.List.{AllByRecursion, slice_split}
 use Rattle.std.specs.Str.Lines.{lines}
 use Rattle.std.proofs.lemmas.List.Elements.{All-cons, All-filter, All-from_recursion, All-nil, filter_map-append, recursion_from_All}
 use Rattle.std.proofs.lemmas.List.Splits.{length-slice_split}
 use Rattle.std.proofs.lemmas.List.Sums.{count_by-le-length, length-filter}
-use Rattle.hex.proofs.HexLemmas.{decode_of-ok}
 use Rattle.contract_words.proofs.AscendingLaws.{length-ascending}
 use Rattle.amt_values.specs.declared.address.Ip.{Ip}
 use Rattle.amt_values.specs.Order.{ip_order}
@@ -20,7 +19,8 @@ use Rattle.gateway_machine.specs.declared.event.GatewayEvent.TheVariants.{Moment
 use Rattle.gateway_machine.specs.declared.settings.GatewaySettings.{GatewaySettings}
 use Rattle.gateway_machine.specs.Events.{IsEventOf}
 use Rattle.gateway_machine.specs.Settings.{family_of}
-use Rattle.script_lines.specs.Form.{IsHexText, is_of}
+use Rattle.script_lines.proofs.Forms.{hex_sized}
+use Rattle.script_lines.specs.Form.{is_of}
 use Rattle.script_lines.specs.Lines.{IsShort, fields, is_filled, lines_that_say, says_nothing}
 use Rattle.script_lines.specs.Script.{Say}
 use Rattle.gateway_script.specs.declared.line.GatewayStatement.{GatewayStatement}
@@ -43,12 +43,6 @@ few_fields line =
       length-slice_split (λ octet. octet == 32) line,
       count_by-le-length (λ octet. octet == 32) line,
     )
-
-pub hex_sized : (bytes text : List ℕ) → IsHexText bytes text → length bytes ≤ 65535
-hex_sized bytes text (inl none) = omega (arith, ap (λ (xs : List ℕ). length xs) none.1)
-hex_sized bytes text (inr some) =
-    let digits = decode_of-ok text bytes some.1 in
-    omega (arith, some.0, digits.2)
 
 -- the addresses of fields are as many, and of the family
 addresses_count : (family : Option Family) (ips : List Ip) (texts : List (List ℕ)) → AreAddressTexts family ips texts → length ips ≡ length texts
@@ -155,6 +149,10 @@ event_of_family settings (Open name group filter) may = (may.0, may.1, record { 
 event_of_family settings (Change name filter) may = record { family = may.family_is; items = may.items }
 event_of_family settings (Close name) may = tt
 event_of_family settings LeaveAll may = tt
+
+pub event_of_one_family : (settings : GatewaySettings) (family : Family) (event : GatewayEvent) → family_of settings ≡ family → IsEventBy (Some family) event → IsEventOf settings event
+event_of_one_family settings family event same may =
+    event_of_family settings event (subst (λ (f : Family). IsEventBy (Some f) event) (sym same) may)
 
 events_of_family : (settings : GatewaySettings) (events : List GatewayEvent) → AllByRecursion (IsEventBy (Some (family_of settings))) events
     → AllByRecursion (IsEventOf settings) events

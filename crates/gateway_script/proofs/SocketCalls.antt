@@ -1,16 +1,19 @@
 -- Lines that make socket calls, and lines that don't.
-use Rattle.std.proofs.Common.{◌≡◌, ℕ, true, is_some, List, ◌∷◌, ◌++◌, Some, inl, inr, refl, sym, subst, ◌∙◌}
+use Rattle.std.proofs.Common.{◌≡◌, ◌↔◌, ℕ, true, is_some, List, ◌∷◌, ◌++◌, Some, inl, inr, refl, sym, subst, ◌∙◌}
 use Rattle.contract_words.specs.Conditions.{First}
 use Rattle.group_records.specs.declared.family.Family.{Family}
 use Rattle.gateway_machine.specs.declared.event.GatewayEvent.{GatewayEvent}
 use Rattle.gateway_machine.specs.declared.event.GatewayEvent.TheVariants as events
 use Rattle.gateway_machine.specs.Answers.{call_in}
+use Rattle.script_lines.specs.declared.fault.LineError.{LineError}
+use Rattle.script_lines.specs.declared.fault.LineError.TheVariants.{Bad, Memory}
 use Rattle.script_lines.specs.declared.fault.ScriptError.{ScriptError}
 use Rattle.script_lines.specs.declared.fault.ScriptError.TheVariants as errors
 use Rattle.script_lines.specs.declared.reason.Reason.{Reason}
 use Rattle.script_lines.specs.declared.reason.Reason.TheVariants as reasons
 use Rattle.script_lines.specs.Lines.{IsPlain, IsShort, fields}
-use Rattle.script_lines.proofs.Firsts.{First-holds}
+use Rattle.script_lines.specs.Reading.{FailsFirst}
+use Rattle.script_lines.proofs.Firsts.{First-holds, First-same}
 use Rattle.gateway_script.specs.declared.kind.LineKind.{LineKind}
 use Rattle.gateway_script.specs.Fault.{FailsAs, order_of_values}
 use Rattle.gateway_script.specs.Row.{words_of}
@@ -31,6 +34,47 @@ fails_as family kind values line reason parts fails =
     let both = sym fails.3 ∙ parts in
     subst (λ (vs : List (List ℕ)). FailsAs (Some family) kind vs reason) (same_values fails.0 kind fails.1 values both)
     (subst (λ (k : LineKind). FailsAs (Some family) k fails.1 reason) (same_kind fails.0 kind fails.1 values both) fails.4)
+
+in_call : (family : Family) (kind : LineKind) (values line : List (List ℕ)) (reason : Reason) → MakesCall kind → line ≡ words_of kind ++ values
+    → FailsAs (Some family) kind values reason ↔ FailsInCall family line reason
+in_call family kind values line reason makes parts = (λ h. (kind, values, makes, parts, h), fails_as family kind values line reason parts)
+
+-- what is wrong with the fields after a call's first word is what is wrong with its line
+pub call_judged : (family : Family) (kind : LineKind) (values line : List (List ℕ)) (error : LineError) → MakesCall kind → line ≡ words_of kind ++ values
+    → FailsFirst (FailsAs (Some family) kind values) order_of_values error → FailsFirst (FailsAsCall family line) (reasons.Word ∷ order_of_values) error
+call_judged family kind values line (Bad reason) makes parts first =
+    inr (
+      λ none. none kind values makes parts,
+      First-same (FailsAs (Some family) kind values) (FailsAsCall family line) order_of_values reason (
+        in_call family kind values line reasons.Count makes parts,
+        (
+          in_call family kind values line reasons.Number makes parts,
+          (
+            in_call family kind values line reasons.Hex makes parts,
+            (
+              in_call family kind values line reasons.Address makes parts,
+              (
+                in_call family kind values line reasons.Peer makes parts,
+                (
+                  in_call family kind values line reasons.Name makes parts,
+                  (
+                    in_call family kind values line reasons.Mode makes parts,
+                    (
+                      in_call family kind values line reasons.Group makes parts,
+                      (
+                        in_call family kind values line reasons.Range makes parts,
+                        tt,
+                      ),
+                    ),
+                  ),
+                ),
+              ),
+            ),
+          ),
+        ),
+      ) first,
+    )
+call_judged family kind values line Memory makes parts first = tt
 
 calls_of_kind : (event : GatewayEvent) → MakesCall (kind_of_event event) → is_some (call_in event) ≡ true
 calls_of_kind (events.Moment ms) makes = absurd makes
@@ -56,7 +100,7 @@ says_call family event kind values line makes parts says =
     calls_of_kind event (subst MakesCall (same_kind kind (kind_of_event event) values fit.values (sym parts ∙ fit.parts)) makes)
 
 -- no field of a line that says a call fails
-call_is_good : (family : Family) (event : GatewayEvent) (line : List (List ℕ)) (reason : Reason) → SaysEvent (Some family) event line → is_some (call_in event) ≡ true
+pub call_is_good : (family : Family) (event : GatewayEvent) (line : List (List ℕ)) (reason : Reason) → SaysEvent (Some family) event line → is_some (call_in event) ≡ true
     → FailsAsCall family line reason → ⊥
 call_is_good family event line reasons.Word says call fails =
     let fit = event_is_fit (Some family) event line says in

@@ -36,12 +36,14 @@ abbrev pub FailsInSources : Option Family → List (List ℕ) → LineError → 
 FailsInSources family texts (Bad reason) = (reason ≡ reasons.Address) × SomeFails [] (Some (an_address_of family)) texts reasons.Address
 FailsInSources family texts Memory = Unit {0}
 
--- a filter's sources are of the family, where it is known, and their number can be told
+-- as `IsFilterOf` of gateway_machine, of a gateway whose settings aren't known yet: a filter's sources are of
+-- the family, where that is known, and their number can be told
 pub record IsFilterBy (family : Option Family) (filter : FilterValue) : Type 0 where
   pub family_is : All (λ source. is_of family source ≡ true) filter.sources
   pub items : length filter.sources ≤ 16777216
 
--- an event that may happen to a gateway of the family, where it is known
+-- as `IsEventOf` of gateway_machine, likewise: an event that may happen to a gateway of the family, where that
+-- is known
 abbrev pub IsEventBy : Option Family → GatewayEvent → Type 0
 IsEventBy family (Moment at) = Unit {0}
 IsEventBy family (Nonce nonce) = Unit {0}

@@ -1,6 +1,5 @@
 -- What is written of a gateway's steps.
-use Rattle.std.specs.Prelude.{ℕ, ◌+◌, List, [], ◌∷◌, ◌++◌, length, codes, decimal, flat_map, map, Option, Some, None}
-use Rattle.std.specs.Int.{w32, to_be_bytes}
+use Rattle.std.specs.Prelude.{ℕ, List, [], ◌∷◌, ◌++◌, codes, decimal, flat_map, map, Option, Some, None}
 use Rattle.amt_values.specs.Text.{ip_text, peer_text}
 use Rattle.fault_texts.specs.Texts.{head_text, inner_text, refusal_text, report_text}
 use Rattle.gateway_machine.specs.declared.event.GatewayEvent.{GatewayEvent}
@@ -15,12 +14,9 @@ use Rattle.gateway_machine.specs.declared.step.PeerSend.{PeerSend}
 use Rattle.gateway_machine.specs.Answers.{Answer}
 use Rattle.gateway_machine.specs.Runs.{answer_after}
 use Rattle.gateway_machine.specs.Sends.{datagram_of}
-use Rattle.script_lines.specs.Texts.{closing_text, hex_text}
+use Rattle.script_lines.specs.Running.{script_text}
+use Rattle.script_lines.specs.Texts.{hex_text, nonce_text, send_line}
 use Rattle.gateway_script.specs.declared.script.GatewayScript.{GatewayScript}
-
--- a nonce, in eight hexadecimal digits
-abbrev pub nonce_text : ℕ → List ℕ
-nonce_text nonce = hex_text (to_be_bytes w32 nonce)
 
 -- why a socket call was refused
 abbrev pub socket_refusal_text : SocketRefusal → List ℕ
@@ -63,8 +59,8 @@ abbrev pub answer_line : ℕ → GatewayOutcome → List ℕ
 answer_line number outcome = codes "= " ++ (decimal number ++ (codes " " ++ (outcome_text outcome ++ (10 ∷ []))))
 
 -- `> PEER HEX`
-unfoldable pub send_text : PeerSend → List ℕ
-send_text send = codes "> " ++ (peer_text send.to ++ (codes " " ++ (hex_text send.bytes ++ (10 ∷ []))))
+abbrev pub send_text : PeerSend → List ℕ
+send_text send = send_line send.to send.bytes
 
 -- `^ HEX`, where a packet was handed on
 abbrev pub delivery_text : Option (List ℕ) → List ℕ
@@ -80,13 +76,16 @@ step_text number outcome sends deliver =
 abbrev pub answer_text : ℕ → Answer → List ℕ
 answer_text number answer = step_text number answer.outcome (map datagram_of answer.sends) answer.deliver
 
--- the events that follow those before, numbered from 1
-abbrev pub events_text : GatewaySettings → ℕ → List GatewayEvent → List GatewayEvent → List ℕ
-events_text settings first before [] = []
-events_text settings first before (event ∷ rest) =
-    answer_text (length before + 1) (answer_after settings first before event)
-    ++ events_text settings first (before ++ event ∷ []) rest
+-- what a gateway's run begins with
+pub record GatewayStart : Type 0 where
+  pub settings : GatewaySettings
+  pub nonce : ℕ
+
+-- the text of an event after those before it
+abbrev pub text_after : GatewayStart → List GatewayEvent → ℕ → GatewayEvent → List ℕ
+text_after start before number event = answer_text number (answer_after start.settings start.nonce before event)
 
 -- the text of a gateway script
 abbrev pub gateway_script_text : GatewayScript → List ℕ
-gateway_script_text script = events_text script.settings script.nonce [] script.items ++ closing_text (length script.items)
+gateway_script_text script =
+    script_text (text_after (record { settings = script.settings; nonce = script.nonce })) script.items

@@ -5,7 +5,7 @@ ghost use Rattle.gateway_script.specs.declared.kind.Key.{Key as KeyValue};
 ghost use Rattle.script_lines.specs.Lines.{fields};
 ghost use Rattle.gateway_script.specs.Row.{key_word, words_of, IsUnknown};
 
-use script_lines::next_field;
+use script_lines::{is_word, next_field};
 
 /// What a `set` line sets.
 #[derive(Clone, Copy, Debug, PartialEq, Eq)]
@@ -37,7 +37,7 @@ impl Key {
     }
 }
 
-/// The kinds of lines that say something.
+/// The kinds of lines of a gateway's script that say something.
 #[derive(Clone, Copy, Debug, PartialEq, Eq)]
 pub enum LineKind {
     /// A setting.
@@ -64,12 +64,6 @@ pub enum NoKind {
     Unknown,
     /// A `set` with nothing after it.
     SetAlone,
-}
-
-fn is_word(word: &[u8], text: &str) -> bool
-    ensures { IsTrue result ↔ (word.now ≡ text.now) }
-{
-    word == text.as_bytes()
 }
 
 fn key_of_word(word: &[u8]) -> Option<Key>

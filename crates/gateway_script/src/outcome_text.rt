@@ -2,21 +2,13 @@
 
 ghost use Rattle.std.specs.Prelude.{◌≡◌, ◌++◌, decimal, OnOk};
 ghost use Rattle.gateway_machine.specs.declared.outcome.Ignored.TheVariants.{Nonce as NonceCause};
-ghost use Rattle.gateway_script.specs.Texts.{ignored_text, nonce_text, outcome_text, socket_refusal_text};
+ghost use Rattle.gateway_script.specs.Texts.{ignored_text, outcome_text, socket_refusal_text};
 
-use amt_values::{Bytes, append_numeral};
+use amt_values::Bytes;
 use fault_texts::{append_head_fault, append_inner_fault, append_refusal, append_report_fault};
 use gateway_machine::{GatewayOutcome, Ignored, SocketRefusal};
-use script_lines::append_hex;
+use script_lines::{append_nonce, append_numbered};
 use std::alloc::AllocError;
-
-// A word with a space after it, and a number.
-fn append_numbered(text: &mut Bytes, word: &[u8], number: u32) -> Result<(), AllocError>
-    ensures { OnOk result (text.new ≡ text.old ++ (word.now ++ decimal number)) }
-{
-    text.append(word)?;
-    append_numeral(text, u64::from(number))
-}
 
 fn append_socket_refusal(text: &mut Bytes, refusal: SocketRefusal) -> Result<(), AllocError>
     ensures { OnOk result (text.new ≡ text.old ++ socket_refusal_text refusal) }
@@ -24,16 +16,13 @@ fn append_socket_refusal(text: &mut Bytes, refusal: SocketRefusal) -> Result<(),
     match refusal {
         SocketRefusal::Taken => text.append(b"taken"),
         SocketRefusal::NoSocket => text.append(b"nosocket"),
-        SocketRefusal::SourcesFull(sources) => append_numbered(text, b"sources ", sources),
-        SocketRefusal::ReportFull(octets) => append_numbered(text, b"report ", octets),
+        SocketRefusal::SourcesFull(sources) => append_numbered(
+            text,
+            b"sources ",
+            u64::from(sources),
+        ),
+        SocketRefusal::ReportFull(octets) => append_numbered(text, b"report ", u64::from(octets)),
     }
-}
-
-// A nonce, in eight hexadecimal digits.
-fn append_nonce(text: &mut Bytes, nonce: u32) -> Result<(), AllocError>
-    ensures { OnOk result (text.new ≡ text.old ++ nonce_text nonce) }
-{
-    append_hex(text, &nonce.to_be_bytes())
 }
 
 // The nonce that is wanted, and the one that is there.
@@ -54,8 +43,8 @@ fn append_ignored(text: &mut Bytes, cause: &Ignored) -> Result<(), AllocError>
             text.append(b"refused ")?;
             append_refusal(text, &refusal)
         }
-        Ignored::Kind(kind) => append_numbered(text, b"kind ", u32::from(kind)),
-        Ignored::State(kind) => append_numbered(text, b"state ", u32::from(kind)),
+        Ignored::Kind(kind) => append_numbered(text, b"kind ", u64::from(kind)),
+        Ignored::State(kind) => append_numbered(text, b"state ", u64::from(kind)),
         Ignored::Sender(relay, from) => write!(text, "sender {relay} {from}"),
         Ignored::Nonce(want, have) => append_nonces(text, want, have),
         Ignored::Inner(fault) => {
@@ -78,19 +67,19 @@ fn append_ignored(text: &mut Bytes, cause: &Ignored) -> Result<(), AllocError>
 }
 
 /// Puts what an event came to at the end.
-pub fn append_outcome(text: &mut Bytes, outcome: &GatewayOutcome) -> Result<(), AllocError>
+pub fn append_gateway_outcome(text: &mut Bytes, outcome: &GatewayOutcome) -> Result<(), AllocError>
     ensures { OnOk result (text.new ≡ text.old ++ outcome_text outcome.now) }
 {
     match *outcome {
         GatewayOutcome::Quiet => text.append(b"quiet"),
         GatewayOutcome::Drawn => text.append(b"drawn"),
         GatewayOutcome::Discovering(tries) => {
-            append_numbered(text, b"discovering ", u32::from(tries))
+            append_numbered(text, b"discovering ", u64::from(tries))
         }
         GatewayOutcome::Requesting(tries) => append_numbered(
             text,
             b"requesting ",
-            u32::from(tries),
+            u64::from(tries),
         ),
         GatewayOutcome::Active => text.append(b"active"),
         GatewayOutcome::Idle => text.append(b"idle"),

@@ -6,7 +6,6 @@ ghost use Rattle.amt_ports.specs.Causes.{Rose};
 ghost use Rattle.gateway_machine.specs.Events.{IsEventOf};
 ghost use Rattle.gateway_machine.specs.Runs.{After, GatewayAt, answer_after, settings_of};
 ghost use Rattle.script_lines.specs.Counting.{CountsWrites};
-ghost use Rattle.script_lines.specs.Texts.{closing_text};
 ghost use Rattle.script_lines.specs.Writing.{WritesPrefix, WritesUpTo};
 ghost use Rattle.gateway_script.specs.Running.{IsRunnable};
 ghost use Rattle.gateway_script.specs.Texts.{answer_text, gateway_script_text};
@@ -16,7 +15,7 @@ use crate::text::append_gateway_step;
 use amt_ports::Sink;
 use amt_values::Bytes;
 use gateway_machine::{Gateway, GatewayEvent};
-use script_lines::{RunFault, append_closing, write_held, write_where_full};
+use script_lines::{RunFault, ScriptRun, run_script, write_where_full};
 use std::alloc::Global;
 
 // What is written of an event goes on to where what is held follows it.
@@ -50,45 +49,37 @@ fn write_step<O: Sink>(
     write_where_full(held, out)
 }
 
-// The last line, and all that is held before it.
-fn write_end<O: Sink>(count: u64, held: &mut Bytes, out: &mut O) -> Result<(), RunFault>
-    ensures done { OnOk result (Appends (O.written out.old) (O.written out.new)
-        (held.old ++ closing_text count)) }
-    ensures begun { OnErr result (WritesPrefix (O.written out.old) (O.written out.new)
-        (held.old ++ closing_text count)) }
-    ensures counts { CountsWrites (O.faults out.old) (O.faults out.new) result }
-{
-    let Ok(()) = append_closing(held, count) else {
-        return Err(RunFault::Memory);
-    };
-    write_held(held, out)
+// A gateway that takes the events of its script.
+#[derive(Drop)]
+struct GatewayRun {
+    gateway: Gateway,
 }
 
-// Takes a new gateway through the events of its script.
-fn run_events<O: Sink>(
-    alloc: Global,
-    mut gateway: Gateway,
-    script: &GatewayScript,
-    out: &mut O,
-) -> Result<(), RunFault>
-    requires runnable { IsRunnable script.now }
-    requires start { GatewayAt gateway script.now.settings script.now.nonce [] }
-    ensures done { OnOk result (Appends (O.written out.old) (O.written out.new)
-        (gateway_script_text script.now)) }
-    ensures begun { OnErr result (WritesPrefix (O.written out.old) (O.written out.new)
-        (gateway_script_text script.now)) }
+impl ScriptRun for GatewayRun {
+    ghost use Rattle.gateway_machine.specs.Events.{IsEventOf};
+    ghost use Rattle.gateway_script.specs.Running.{IsGatewayAfter};
+    ghost use Rattle.gateway_script.specs.Texts.{GatewayStart, text_after};
 
-    ensures counts { CountsWrites (O.faults out.old) (O.faults out.new) result }
-{
-    let items = script.items.as_slice();
-    let mut held = Bytes::new(alloc);
-    for (index, event) in items.iter().enumerate() {
-        match write_step(alloc, &mut gateway, index as u64 + 1, event, &mut held, out) {
-            Ok(()) => {}
-            Err(fault) => return Err(fault),
-        }
+    type Item = GatewayEvent;
+
+    ghost Start = { GatewayStart };
+
+    ghost IsAfter = { λ run start before. IsGatewayAfter run.gateway start before };
+
+    ghost MayCome = { λ start event. IsEventOf start.settings event };
+
+    ghost text_of = { λ start before number event. text_after start before number event };
+
+    fn write_item<O: Sink>(
+        &mut self,
+        alloc: Global,
+        number: u64,
+        event: &GatewayEvent,
+        held: &mut Bytes,
+        out: &mut O,
+    ) -> Result<(), RunFault> {
+        write_step(alloc, &mut self.gateway, number, event, held, out)
     }
-    write_end(items.len() as u64, &mut held, out)
 }
 
 /// Runs a gateway over a script, and writes the text of its steps.
@@ -110,5 +101,5 @@ pub fn run_gateway_script<O: Sink>(
     let Ok(gateway) = Gateway::new(alloc, script.settings, script.nonce) else {
         return Err(RunFault::Memory);
     };
-    run_events(alloc, gateway, script, out)
+    run_script(alloc, GatewayRun { gateway }, script.items.as_slice(), out)
 }

@@ -1,11 +1,12 @@
 //! One line that makes a socket call, as whoever controls a gateway gives it. It knows no settings.
 
 ghost use Rattle.std.specs.Prelude.{◌≡◌, ◌≤◌, ◌↔◌, ◌∷◌, true, is_some, length, Some, IfOk, IfErr, IsTrue};
-ghost use Rattle.std.specs.Str.Lines.{strip_carriage_return};
 ghost use Rattle.gateway_machine.specs.Answers.{call_in};
+ghost use Rattle.gateway_machine.specs.Events.{IsEventOf};
+ghost use Rattle.gateway_machine.specs.Settings.{family_of};
+ghost use Rattle.gateway_machine.specs.declared.settings.GatewaySettings.{GatewaySettings as SettingsValue};
 ghost use Rattle.socket_merge.specs.FullReport.{family_by};
 ghost use Rattle.gateway_machine.specs.declared.event.GatewayEvent.{GatewayEvent as EventValue};
-ghost use Rattle.gateway_script.specs.Reading.{IsEventBy};
 ghost use Rattle.gateway_script.specs.SocketLine.{FailsAsCall, IsSocketError, IsSocketLine, MakesCall, RulesOutCalls, control_line};
 ghost use Rattle.gateway_script.specs.Says.{SaysEvent};
 ghost use Rattle.script_lines.specs.Lines.{fields};
@@ -16,17 +17,11 @@ use crate::kind::{LineKind, kind_of_line};
 use crate::line::read_event;
 use gateway_machine::GatewayEvent;
 use group_records::Family;
-use script_lines::{LineError, MOST_OCTETS_OF_A_LINE, Reason, ScriptError, is_plain, next_field};
+use script_lines::{
+    LineError, MOST_OCTETS_OF_A_LINE, Reason, ScriptError, is_plain, next_field,
+    without_carriage_return,
+};
 use std::alloc::Global;
-
-fn without_carriage_return(line: &[u8]) -> &[u8]
-    ensures { result.now ≡ strip_carriage_return line.now }
-{
-    match line {
-        [start @ .., b'\r'] => start,
-        _ => line,
-    }
-}
 
 fn control_line(bytes: &[u8]) -> &[u8]
     ensures { result.now ≡ control_line bytes.now }
@@ -46,17 +41,19 @@ fn makes_call(kind: LineKind) -> bool
     )
 }
 
-// The socket call that a plain line says, by its first field and what follows it.
-fn read_call(alloc: Global, family: Family, line: &[u8]) -> Result<GatewayEvent, LineError>
-    requires short { length line.now ≤ 140000 }
-    ensures found { IfOk result (λ event. SaysEvent (Some family) event (fields line.now)) }
+/// The socket call to a gateway of the family that a plain line makes, by its first field and what follows it.
+pub fn read_socket_call(
+    alloc: Global,
+    family: Family,
+    word: &[u8],
+    rest: &[u8],
+) -> Result<GatewayEvent, LineError>
+    requires { length rest.now ≤ 140000 }
+    ensures found { IfOk result (λ event. SaysEvent (Some family) event (word.now ∷ fields rest.now)) }
     ensures call { IfOk result (λ event. is_some (call_in event) ≡ true) }
-    ensures may { IfOk result (IsEventBy (Some family)) }
-    ensures reason { IfErr result (FailsFirst (FailsAsCall family (fields line.now)) (Reason.Word ∷ order_of_values)) }
+    ensures may { (settings : SettingsValue) → family_of settings ≡ family → IfOk result (IsEventOf settings) }
+    ensures reason { IfErr result (FailsFirst (FailsAsCall family (word.now ∷ fields rest.now)) (Reason.Word ∷ order_of_values)) }
 {
-    let Some((word, rest)) = next_field(line) else {
-        return Err(LineError::Bad(Reason::Word));
-    };
     let Ok((kind, values)) = kind_of_line(word, rest) else {
         return Err(LineError::Bad(Reason::Word));
     };
@@ -64,6 +61,23 @@ fn read_call(alloc: Global, family: Family, line: &[u8]) -> Result<GatewayEvent,
         return Err(LineError::Bad(Reason::Word));
     }
     match read_event(alloc, Some(family), kind, values) {
+        Ok(event) => Ok(event),
+        Err(error) => Err(error),
+    }
+}
+
+// The socket call that a plain line makes.
+fn read_call(alloc: Global, family: Family, line: &[u8]) -> Result<GatewayEvent, LineError>
+    requires { length line.now ≤ 140000 }
+    ensures found { IfOk result (λ event. SaysEvent (Some family) event (fields line.now)) }
+    ensures call { IfOk result (λ event. is_some (call_in event) ≡ true) }
+    ensures may { (settings : SettingsValue) → family_of settings ≡ family → IfOk result (IsEventOf settings) }
+    ensures reason { IfErr result (FailsFirst (FailsAsCall family (fields line.now)) (Reason.Word ∷ order_of_values)) }
+{
+    let Some((word, rest)) = next_field(line) else {
+        return Err(LineError::Bad(Reason::Word));
+    };
+    match read_socket_call(alloc, family, word, rest) {
         Ok(event) => Ok(event),
         Err(error) => Err(error),
     }
@@ -79,7 +93,7 @@ fn fault(reason: Reason) -> ScriptError
 /// Reads one line that makes a socket call to a gateway of the family, with or without its line feed.
 pub fn read_socket_line(alloc: Global, v6: bool, line: &[u8]) -> Result<GatewayEvent, ScriptError>
     ensures found { IfOk result (λ event. IsSocketLine (family_by v6) event line.now) }
-    ensures may { IfOk result (IsEventBy (Some (family_by v6))) }
+    ensures may { (settings : SettingsValue) → settings.v6 ≡ v6 → IfOk result (IsEventOf settings) }
     ensures fault { IfErr result (IsSocketError (family_by v6) line.now) }
     ensures none { IfErr result (RulesOutCalls (family_by v6) line.now) }
 

@@ -3,25 +3,14 @@
 ghost use Rattle.std.specs.Prelude.{◌≡◌, ◌++◌, flat_map, OnOk, IfOk};
 ghost use Rattle.gateway_script.specs.Texts.{answer_line, delivery_text, send_text, step_text};
 
-use crate::outcome_text::append_outcome;
+use crate::outcome_text::append_gateway_outcome;
 use amt_values::{Bytes, append_numeral};
 use gateway_machine::{GatewayOutcome, GatewayStep, PeerSend};
-use script_lines::{append_hex, append_peer};
+use script_lines::{append_hex, append_send};
 use std::alloc::{AllocError, Global};
 
-#[tactic(auto, unfolding(crate::specs::Texts::send_text))]
-fn append_send(text: &mut Bytes, send: &PeerSend) -> Result<(), AllocError>
-    ensures { OnOk result (text.new ≡ text.old ++ send_text send.now) }
-{
-    text.append(b"> ")?;
-    append_peer(text, &send.to)?;
-    text.append(b" ")?;
-    append_hex(text, send.bytes.as_slice())?;
-    text.append(b"\n")
-}
-
-// `^ HEX`, where a packet was handed on.
-fn append_delivery(text: &mut Bytes, deliver: &Option<Bytes>) -> Result<(), AllocError>
+/// Puts the line of a packet at the end, where one was handed on.
+pub fn append_delivery(text: &mut Bytes, deliver: &Option<Bytes>) -> Result<(), AllocError>
     ensures { OnOk result (text.new ≡ text.old ++ delivery_text deliver.now) }
 {
     let Some(packet) = deliver else {
@@ -39,7 +28,7 @@ fn append_answer(text: &mut Bytes, number: u64, outcome: &GatewayOutcome) -> Res
     text.append(b"= ")?;
     append_numeral(text, number)?;
     text.append(b" ")?;
-    append_outcome(text, outcome)?;
+    append_gateway_outcome(text, outcome)?;
     text.append(b"\n")
 }
 
@@ -47,7 +36,7 @@ fn append_sends(text: &mut Bytes, sends: &[PeerSend]) -> Result<(), AllocError>
     ensures { OnOk result (text.new ≡ text.old ++ flat_map send_text sends.now) }
 {
     for send in sends {
-        append_send(text, send)?;
+        append_send(text, &send.to, send.bytes.as_slice())?;
     }
     Ok(())
 }

@@ -3,3 +3,20 @@ use Rattle.amt_script.proofs.replay.run_relay_script.Goals as goal
 
 pub returns-in_default-clause-begun : goal.returns-in_default-clause-begun
 returns-in_default-clause-begun g c = nothing_written _ _
+
+pub run_script-requires : goal.run_script-requires
+run_script-requires g c = record {
+  start = record { settings = c.args.script.now.settings; secret = c.args.script.now.secret };
+  stands = c.in-Ok.ensures.stands;
+  may = rw c.as_slice.ensures c.requires.sized;
+}
+
+pub returns-clause-done : goal.returns-clause-done
+returns-clause-done g c =
+    rw (← c.as_slice.ensures)
+    (c.run_script.ensures.done (record { settings = c.args.script.now.settings; secret = c.args.script.now.secret }) c.in-Ok.ensures.stands)
+
+pub returns-clause-begun : goal.returns-clause-begun
+returns-clause-begun g c =
+    rw (← c.as_slice.ensures)
+    (c.run_script.ensures.begun (record { settings = c.args.script.now.settings; secret = c.args.script.now.secret }) c.in-Ok.ensures.stands)

@@ -1,4 +1,4 @@
-use Rattle.std.proofs.Common.{◌≡◌, ℕ, List, ◌+◌, ◌++◌, take, flat_map, sym, ap, subst, ◌∙◌}
+use Rattle.std.proofs.Common.{ℕ, List, ◌+◌, ◌++◌, take, flat_map, sym, ap, subst, ◌∙◌}
 use Rattle.script_lines.specs.Writing.{WritesUpTo, WritesPrefix}
 use Rattle.script_lines.proofs.Writes.{written_on, prefix_on}
 use Rattle.endpoint_membership.specs.declared.row.Row.{Row}

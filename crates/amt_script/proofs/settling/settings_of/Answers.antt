@@ -1,5 +1,5 @@
 use Rattle.relay_machine.specs.Settings.{default_settings}
-use Rattle.amt_script.proofs.Settled.{settled_more}
+use Rattle.amt_script.proofs.Settlings.{settled_more}
 use Rattle.amt_script.proofs.settling.settings_of.Goals as goal
 
 pub loop-setting-preserved : goal.loop-setting-preserved

@@ -1,5 +1,0 @@
-use Rattle.script_lines.proofs.Writes.{nothing_written}
-use Rattle.gateway_script.proofs.replay.write_end.Goals as goal
-
-pub returns-in_default-clause-begun : goal.returns-in_default-clause-begun
-returns-in_default-clause-begun g c = nothing_written _ _
