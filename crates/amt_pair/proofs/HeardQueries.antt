@@ -34,7 +34,7 @@ use Rattle.amt_pair.proofs.QueryTimes.{interval_of-query_fields, lifetime_of-que
 use Rattle.amt_pair.proofs.ReadQueries.{general_query_in-general_query}
 
 -- a digest of HMAC, of 32 octets, has the six of a MAC
-length-mac_of : (secret : Secret) (endpoint : EndpointValue) (nonce : ℕ) → length (mac_of secret endpoint nonce).0 ≡ 6
+pub length-mac_of : (secret : Secret) (endpoint : EndpointValue) (nonce : ℕ) → length (mac_of secret endpoint nonce).0 ≡ 6
 unfolding mac_of hmac_of
 length-mac_of secret endpoint nonce =
     let digest = hmac_of secret.0 (authenticated_octets endpoint nonce) in
@@ -42,7 +42,7 @@ length-mac_of secret endpoint nonce =
     length-take-le 6 digest (omega arith)
 
 -- the datagram that a relay writes spells its Query
-query_for-read : (settings : Settings) (secret : Secret) (v6 limited : Bool) (source : EndpointValue) (nonce : ℕ) → nonce < 2 ^ 32 → IsGateway source
+pub query_for-read : (settings : Settings) (secret : Secret) (v6 limited : Bool) (source : EndpointValue) (nonce : ℕ) → nonce < 2 ^ 32 → IsGateway source
     → message_of (spelling_of (query_for settings secret v6 limited source nonce)) ≡ Ok (query_for settings secret v6 limited source nonce)
 query_for-read settings secret v6 limited source nonce small form =
     let query = query_for settings secret v6 limited source nonce in
@@ -53,7 +53,7 @@ query_for-read settings secret v6 limited source nonce small form =
     (written_query limited mac nonce inner (Some source) (spelling_of query) (length-mac_of secret source nonce) small form whole refl).spelled
 
 -- a peer is told to be itself
-same_peer-itself : (peer : Peer) → same_peer peer peer ≡ true
+pub same_peer-itself : (peer : Peer) → same_peer peer peer ≡ true
 same_peer-itself peer =
     let ip : eq_by_cmp ip_order peer.ip peer.ip ≡ true = (eq_by_cmp_equiv ip_order-total).refl peer.ip in
     rw ip (eq-eqb peer.port peer.port refl)

@@ -75,12 +75,12 @@ AreOctets-query4 fields max_code robustness interval_code = AreOctets-from_each 
 AreOctets-query6 : (fields : QueryFields) → fields.robustness ≤ 7 → fields.interval_code < 256 → AreOctets (query_with_sum 0 Mld fields)
 AreOctets-query6 fields robustness interval_code = AreOctets-from_each (query_with_sum 0 Mld fields) (search rules)
 
-AreOctets-pseudo_header : (source destination message_length : ℕ) → AreOctets (pseudo_header source destination message_length)
+pub AreOctets-pseudo_header : (source destination message_length : ℕ) → AreOctets (pseudo_header source destination message_length)
 unfolding pseudo_header
 AreOctets-pseudo_header source destination message_length =
     AreOctets-from_each (pseudo_header source destination message_length) (search rules)
 
-even-pseudo_header : (source destination message_length : ℕ) → length (pseudo_header source destination message_length) % 2 ≡ 0
+pub even-pseudo_header : (source destination message_length : ℕ) → length (pseudo_header source destination message_length) % 2 ≡ 0
 unfolding pseudo_header
 even-pseudo_header source destination message_length = refl
 

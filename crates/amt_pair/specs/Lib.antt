@@ -1,1 +1,12 @@
+pub mod Agreement
+pub mod Entries
+pub mod Events
+pub mod Members
+pub mod OwnEndpoints
+pub mod Parts
 pub mod Queries
+pub mod Schedule
+pub mod Sent
+pub mod Setup
+pub mod Silence
+pub mod State

@@ -1,0 +1,130 @@
+-- The filter of a group for all sockets: its sources are such as those of the sockets are, and it is known by
+-- the change records.
+use Rattle.std.proofs.Common.{◌≡◌, not, ◌&&◌, ◌||◌, Bool, true, false, List, [], ◌∷◌, ◌++◌, filter, refl, sym, ap, ◌∙◌}
+use Rattle.std.specs.List.{All}
+use Rattle.std.proofs.lemmas.List.Elements.{All-cons, All-filter, All-head, All-map, All-nil, All-tail, All-weaker}
+use Rattle.amt_values.specs.Order.{ip_order}
+use Rattle.amt_values.specs.declared.address.Ip.{Ip}
+use Rattle.amt_values.proofs.Orders.{ip_order-exact, ip_order-total}
+use Rattle.contract_words.specs.Ascending.{IsAscending, difference, has, intersection}
+use Rattle.contract_words.proofs.AscendingLaws.{IsAscending-ascending, IsAscending-filter, has-append, has-difference}
+use Rattle.source_filter.specs.Changes.{changes_on, record_of_some}
+use Rattle.source_filter.specs.Filter.{FilterValue, nothing, wants_any_by}
+use Rattle.source_filter.specs.Merging.{all_sources, common_sources, exclude_list, exclude_lists, include_lists, intersection_of, merged, merged_by, union_of}
+use Rattle.source_filter.specs.declared.mode.Mode.{Mode}
+use Rattle.source_filter.specs.declared.mode.Mode.TheVariants.{Include, Exclude}
+use Rattle.source_filter.specs.declared.record.RecordKind.TheVariants.{Allow, Block}
+use Rattle.source_filter.proofs.AppliedChanges.{changes-applied}
+use Rattle.group_records.specs.declared.family.Family.{Family}
+use Rattle.socket_merge.specs.History.{AcceptedCall, Socket, group_opened, groups_opened, open_sockets}
+use Rattle.socket_merge.specs.Interface.{filters_on, interface, on_group, same_group}
+use Rattle.socket_merge.proofs.RawOctets.{unwanted}
+use Rattle.socket_merge.proofs.Wanted.{same_group-itself}
+use Rattle.amt_pair.proofs.AcceptedCalls.{AreAccepted}
+use Rattle.amt_pair.proofs.OpenSockets.{HaveFilters, IsFilterOf, IsSocketOf, sockets-of}
+
+-- ---- merged filters ascend
+
+abbrev Ascends : List Ip → Type 0
+Ascends sources = IsAscending ip_order sources
+
+abbrev HasAscending : FilterValue → Type 0
+HasAscending filter = Ascends filter.sources
+
+ascending-common : (first : List Ip) (more : List (List Ip)) → Ascends first → Ascends (common_sources first more)
+ascending-common first [] ascends = ascends
+ascending-common first (next ∷ more) ascends =
+    ascending-common (intersection ip_order first next) more (IsAscending-filter ip_order (λ source. has ip_order next source) first ascends)
+
+ascending-first : (mode : Mode) (sources : List Ip) (more : List (List Ip)) → Ascends sources → All Ascends more → All Ascends (exclude_list mode sources ++ more)
+ascending-first Include sources more here all = all
+ascending-first Exclude sources more here all = All-cons Ascends sources more here all
+
+ascending-excluded : (filters : List FilterValue) → All HasAscending filters → All Ascends (exclude_lists filters)
+ascending-excluded [] all = All-nil Ascends
+ascending-excluded (first ∷ more) all =
+    ascending-first first.mode first.sources (exclude_lists more) (All-head HasAscending first more all) (ascending-excluded more (All-tail HasAscending first more all))
+
+ascending-by : (excluded included : List (List Ip)) → All Ascends excluded → HasAscending (merged_by (intersection_of excluded) (union_of included))
+ascending-by [] included all = IsAscending-ascending ip_order-total (all_sources included)
+ascending-by (first ∷ more) included all =
+    IsAscending-filter ip_order (λ source. not (has ip_order (union_of included) source)) (common_sources first more)
+    (ascending-common first more (All-head Ascends first more all))
+
+ascending-merged : (filters : List FilterValue) → All HasAscending filters → HasAscending (merged filters)
+ascending-merged filters all = ascending-by (exclude_lists filters) (include_lists filters) (ascending-excluded filters all)
+
+-- ---- the filters of a group's sockets
+
+module _ (family : Family) (history : List AcceptedCall) (accepted : AreAccepted family history) (filters : HaveFilters history) where
+  -- the filters of a group's sockets are such as sockets have
+  pub filters-of : (group : Ip) → All (IsFilterOf family) (filters_on group (open_sockets history))
+  filters-of group =
+      let all = sockets-of family history accepted filters in
+      let sockets = on_group group (open_sockets history) in
+      let own = All-filter (λ (socket : Socket). same_group group socket.group) (IsSocketOf family) (open_sockets history) all in
+      All-map (IsFilterOf family) (λ (socket : Socket). socket.filter) sockets
+      (All-weaker (IsSocketOf family) (λ socket. IsFilterOf family socket.filter) (λ socket is. is.filter) sockets own)
+
+  pub interface-ascends : (group : Ip) → Ascends (interface history group).sources
+  interface-ascends group =
+      ascending-merged (filters_on group (open_sockets history))
+      (All-weaker (IsFilterOf family) HasAscending (λ filter is. is.is.ascending) (filters_on group (open_sockets history)) (filters-of group))
+
+-- ---- a group that was never opened
+
+nothing-by : (mode : Mode) (sources : List Ip) → wants_any_by mode sources ≡ false → record { mode = mode; sources = sources } ≡ nothing
+nothing-by Include [] none = refl
+nothing-by Include (source ∷ more) none = absurd cc
+nothing-by Exclude sources none = absurd cc
+
+-- nothing is wanted of a group that no socket was opened of
+pub interface-unopened : (history : List AcceptedCall) (group : Ip) → has ip_order (groups_opened history) group ≡ false → interface history group ≡ nothing
+interface-unopened history group none =
+    let filter = interface history group in nothing-by filter.mode filter.sources (unwanted history group none)
+
+none_later : (first second : Bool) → (first || second) ≡ false → second ≡ false
+none_later true second none = absurd cc
+none_later false second none = none
+
+-- and none before
+pub unopened-before : (newest : AcceptedCall) (older : List AcceptedCall) (group : Ip) → has ip_order (groups_opened (newest ∷ older)) group ≡ false
+    → has ip_order (groups_opened older) group ≡ false
+unopened-before newest older group none =
+    none_later (has ip_order (group_opened newest.call) group) (has ip_order (groups_opened older) group)
+    (sym (has-append ip_order (group_opened newest.call) (groups_opened older) group) ∙ none)
+
+-- ---- filters by their change records
+
+or_first : (first rest : Bool) → first ≡ true → (first || rest) ≡ true
+or_first true rest is = refl
+or_first false rest is = absurd cc
+
+none-listed : (sources : List Ip) → ((source : Ip) → has ip_order sources source ≡ false) → sources ≡ []
+none-listed [] none = refl
+none-listed (first ∷ more) none =
+    let here = or_first (same_group first first) (has ip_order more first) (same_group-itself first) in
+    let absent = none first in absurd cc
+
+both_no : (test : Bool) → (test && not test) ≡ false
+both_no true = refl
+both_no false = refl
+
+difference-itself : (sources : List Ip) → difference ip_order sources sources ≡ []
+difference-itself sources =
+    none-listed (difference ip_order sources sources)
+    (λ source. has-difference ip_order-exact sources sources source ∙ both_no (has ip_order sources source))
+
+changes-itself_by : (mode : Mode) (sources : List Ip) (group : Ip) → changes_on (record { mode = mode; sources = sources }) (record { mode = mode; sources = sources }) group ≡ []
+changes-itself_by Include sources group =
+    ap (λ (none : List Ip). record_of_some Allow group none ++ record_of_some Block group none) (difference-itself sources)
+changes-itself_by Exclude sources group =
+    ap (λ (none : List Ip). record_of_some Allow group none ++ record_of_some Block group none) (difference-itself sources)
+
+-- where a filter stays, nothing is told of its change
+pub changes-itself : (filter : FilterValue) (group : Ip) → changes_on filter filter group ≡ []
+changes-itself filter group = changes-itself_by filter.mode filter.sources group
+
+-- where nothing is told of a change, the filter stays
+pub same-filter : (old new : FilterValue) (group : Ip) → IsAscending ip_order old.sources → IsAscending ip_order new.sources → changes_on old new group ≡ [] → old ≡ new
+same-filter old new group old_ascends new_ascends none = changes-applied old new group old_ascends new_ascends [] (sym none)

@@ -1,0 +1,187 @@
+-- What a pair stands for after a step of the relay, of one gateway, or of all.
+use Rattle.std.proofs.Common.{◌≡◌, ℕ, Bool, true, false, not, List, [], ◌∷◌, ◌++◌, map, flat_map, filter, length, All, Contains, Option, Some, None, IfNone, IsSome, refl, sym, ap, ◌∙◌, subst, append-nil, OnOk, OnErr, IfOk, Result, Ok, Err}
+use Rattle.std.specs.Cmp.{nat_eq_equiv}
+use Rattle.std.specs.Cmp.Lexicographic.{lists_equiv}
+use Rattle.std.proofs.lemmas.List.{length-map, map-append}
+use Rattle.std.proofs.lemmas.List.Elements.{All-contains, All-map, All-nil, recursion_from_All}
+use Rattle.amt_values.specs.Endpoint.{endpoint_of}
+use Rattle.amt_values.specs.EndpointValue.{EndpointValue}
+use Rattle.gateway_machine.specs.Events.{IsEventOf}
+use Rattle.gateway_machine.specs.Runs.{settings_of}
+use Rattle.gateway_machine.specs.declared.event.GatewayEvent.{GatewayEvent}
+use Rattle.gateway_machine.specs.declared.event.GatewayEvent.TheVariants.{Moment as Passes}
+use Rattle.relay_machine.specs.Accepted.{change_of}
+use Rattle.relay_machine.specs.Answers.{outcome_of, sends_of}
+use Rattle.relay_machine.specs.declared.event.Event.{Event}
+use Rattle.relay_machine.specs.declared.outcome.Outcome.{Outcome}
+use Rattle.relay_machine.specs.declared.sends.OneSend.{OneSend}
+use Rattle.relay_machine.specs.declared.sends.Step.{Step}
+use Rattle.endpoint_membership.specs.declared.change.Change.{Change}
+use Rattle.socket_merge.specs.History.{same_name}
+use Rattle.amt_pair.specs.Members.{AreMembersAt, IsMemberAt, IsPlaceOf, host_of, kept_upward}
+use Rattle.amt_pair.specs.OwnEndpoints.{HasOwnEndpoint}
+use Rattle.amt_pair.specs.Parts.{gateway_part, gateway_parts, relay_step}
+use Rattle.amt_pair.specs.Schedule.{Course, IsPairEvent, Member, Upward, has_name, is_at, is_endpoint, start, upwards_on, with_gateway_event, with_member_event}
+use Rattle.amt_pair.specs.Setup.{AreApart, Host, IsLawfulSetup, PairSetup}
+use Rattle.amt_pair.specs.State.{PairAt, StandsFor, with_member_at}
+use Rattle.amt_pair.specs.declared.pair.Pair.{Pair}
+use Rattle.amt_pair.proofs.Courses.{course_of-none}
+use Rattle.amt_pair.specs.declared.datagrams.UpDatagram.{UpDatagram}
+use Rattle.amt_pair.specs.declared.gateways.NamedGateway.{NamedGateway}
+use Rattle.amt_pair.specs.declared.step.Part.TheVariants.{Relay}
+use Rattle.amt_pair.proofs.Alone.{NonePasses, PassesOnce}
+use Rattle.amt_pair.proofs.Deliveries.{once_by_endpoint, once_by_name, one_part, one_reached}
+use Rattle.amt_pair.proofs.MembersAt.{host_at, host_is, hosts_are, members_more, none_at, split_at}
+
+abbrev step_with : Outcome → List OneSend → Option Change → Step
+step_with outcome sends change = record { outcome = outcome; sends = sends; change = change }
+
+-- a step of the relay is told by its fields
+pub relay_step_is : (setup : PairSetup) (course : Course) (event : Event) (step : Step)
+    → step.outcome ≡ outcome_of setup.settings setup.secret course.relay event → step.sends ≡ sends_of setup.settings setup.secret course.relay event
+    → step.change ≡ change_of setup.settings setup.secret course.relay event → Relay step ∷ [] ≡ Relay (relay_step setup course event) ∷ []
+relay_step_is setup course event step outcome sends change =
+    ap (λ (told : Outcome). Relay (step_with told step.sends step.change) ∷ []) outcome
+    ∙ ap (λ (sent : List OneSend). Relay (step_with (outcome_of setup.settings setup.secret course.relay event) sent step.change) ∷ []) sends
+    ∙ ap (λ (entry : Option Change). Relay (step_with (outcome_of setup.settings setup.secret course.relay event) (sends_of setup.settings setup.secret course.relay event) entry) ∷ []) change
+
+-- with more datagrams
+pub up_more : (up after : List UpDatagram) (kept more : List Upward) → up ≡ map kept_upward kept → after ≡ up ++ map kept_upward more → after ≡ map kept_upward (kept ++ more)
+up_more up after kept more is sent =
+    sent ∙ ap (λ (first : List UpDatagram). first ++ map kept_upward more) is ∙ sym (map-append kept_upward kept more)
+
+pub down_more : (down after sends kept more slice : List OneSend) → down ≡ kept → slice ≡ sends → sends ≡ more → after ≡ down ++ slice → after ≡ kept ++ more
+down_more down after sends kept more slice is same sent kept_are =
+    kept_are ∙ ap (λ (first : List OneSend). first ++ slice) is ∙ ap (λ (last : List OneSend). kept ++ last) (same ∙ sent)
+
+filter_all : {X : Type 0} (xs : List X) → filter (λ x. true) xs ≡ xs
+filter_all [] = refl
+filter_all {X} (x ∷ xs) = ap (λ (rest : List X). x ∷ rest) (filter_all xs)
+
+-- a moment that has come to all gateways
+pub all_are : (at : ℕ) (gateways : List NamedGateway) (members : List Member) → AreMembersAt gateways (map (with_gateway_event (Passes at)) members ++ [])
+    → AreMembersAt gateways (map (with_gateway_event (Passes at)) members)
+all_are at gateways members are = subst (AreMembersAt gateways) (append-nil (map (with_gateway_event (Passes at)) members)) are
+
+pub up_of_all : (at : ℕ) (up after : List UpDatagram) (kept : List Upward) (members : List Member) → up ≡ map kept_upward kept
+    → after ≡ up ++ map kept_upward (flat_map (upwards_on (Passes at)) members)
+    → after ≡ map kept_upward (kept ++ flat_map (upwards_on (Passes at)) (filter (λ member. true) members))
+up_of_all at up after kept members is sent =
+    up_more up after kept (flat_map (upwards_on (Passes at)) members) is sent
+    ∙ ap (λ (all : List Member). map kept_upward (kept ++ flat_map (upwards_on (Passes at)) all)) (sym (filter_all members))
+
+pub true_by : (answer : Bool) → not answer ≡ false → answer ≡ true
+true_by true is = refl
+true_by false is = cc
+
+pub false_by : (answer : Bool) → not answer ≡ true → answer ≡ false
+false_by true is = cc
+false_by false is = refl
+
+-- the gateway that an event is for
+pub record IsForOne (event : GatewayEvent) (reaches : Member → Bool) (course : Course) (place : ℕ) : Type 0 where
+  pub before : List Member
+  pub member : Member
+  pub after : List Member
+  pub split : course.members ≡ before ++ member ∷ after
+  pub place_is : place ≡ length before
+  pub reached : with_member_event event reaches course ≡ with_member_at course event before member after
+  pub part : gateway_parts event (filter reaches course.members) ≡ gateway_part event member ∷ []
+
+for_one : (event : GatewayEvent) (test : Host → Bool) (gateways : List NamedGateway) (course : Course) (place : ℕ) → AreMembersAt gateways course.members
+    → IsPlaceOf (λ one. test (host_of one)) gateways place → PassesOnce (λ member. test member.host) course.members
+    → IsForOne event (λ member. test member.host) course place
+for_one event test gateways course place are (before, one, after, gateways_are, place_is, passes) once =
+    let split = split_at before one after course.members (subst (λ (all : List NamedGateway). AreMembersAt all course.members) gateways_are are) in
+    let here : test split.member.host ≡ true = ap test (sym (host_is one split.member split.at)) ∙ passes in
+    record {
+      before = split.first;
+      member = split.member;
+      after = split.rest;
+      split = split.split;
+      place_is = place_is ∙ split.place;
+      reached = one_reached event (λ member. test member.host) course split.first split.member split.rest once split.split here;
+      part = one_part event (λ member. test member.host) course split.first split.member split.rest once split.split here;
+    }
+
+apart_at : (gateways : List NamedGateway) (members : List Member) → AreMembersAt gateways members → AreApart (map host_of gateways) → AreApart (map host_at members)
+apart_at gateways members are apart = subst AreApart (hosts_are gateways members are) apart
+
+-- the gateway of a name
+pub named_one : (event : GatewayEvent) (name : List ℕ) (gateways : List NamedGateway) (course : Course) (place : ℕ) → AreMembersAt gateways course.members
+    → AreApart (map host_of gateways) → IsPlaceOf (λ one. same_name name one.name) gateways place → IsForOne event (has_name name) course place
+named_one event name gateways course place are apart placed =
+    for_one event (λ host. same_name name host.name) gateways course place are placed
+    (once_by_name course.members name (apart_at gateways course.members are apart))
+
+-- the gateway at an endpoint
+pub addressed_one : (event : GatewayEvent) (endpoint : EndpointValue) (gateways : List NamedGateway) (course : Course) (place : ℕ) → AreMembersAt gateways course.members
+    → AreApart (map host_of gateways) → All (λ host. HasOwnEndpoint host.peer) (map host_of gateways)
+    → IsPlaceOf (λ one. is_endpoint endpoint (endpoint_of one.peer)) gateways place → IsForOne event (is_at endpoint) course place
+addressed_one event endpoint gateways course place are apart own placed =
+    for_one event (λ host. is_endpoint endpoint (endpoint_of host.peer)) gateways course place are placed
+    (once_by_endpoint course.members endpoint (apart_at gateways course.members are apart)
+    (subst (All (λ host. HasOwnEndpoint host.peer)) (hosts_are gateways course.members are) own))
+
+-- no gateway is at the endpoint
+pub none_addressed : (endpoint : EndpointValue) (gateways : List NamedGateway) (course : Course) → AreMembersAt gateways course.members
+    → All (λ one. is_endpoint endpoint (endpoint_of one.peer) ≡ false) gateways → NonePasses (is_at endpoint) course.members
+none_addressed endpoint gateways course are none =
+    none_at (λ host. is_endpoint endpoint (endpoint_of host.peer)) gateways course.members are
+    (recursion_from_All (λ one. is_endpoint endpoint (endpoint_of one.peer) ≡ false) gateways none)
+
+-- a gateway of the name is found where there is one
+pub some_named : (name : List ℕ) (gateways : List NamedGateway) (host : Host) (found : Option ℕ) → Contains (map host_of gateways) host → host.name ≡ name
+    → IfNone found (All (λ one. same_name name one.name ≡ false) gateways) → IsSome found
+some_named name gateways host (Some place) contains named none = refl
+some_named name gateways host None contains named none =
+    let other : same_name name host.name ≡ false =
+    All-contains (λ (host : Host). same_name name host.name ≡ false) (map host_of gateways) host
+    (All-map (λ (host : Host). same_name name host.name ≡ false) host_of gateways none) contains in
+    let itself : same_name name name ≡ true = (lists_equiv nat_eq_equiv).refl name in
+    let same : same_name name host.name ≡ true = rw named itself in
+    cc
+
+-- the event may come to the gateway at the place
+pub event_at : (event : GatewayEvent) (place : ℕ) (gateways : List NamedGateway)
+    → ((before after : List Host) (host : Host) → map host_of gateways ≡ before ++ host ∷ after → place ≡ length before → IsEventOf host.settings event)
+    → (before after : List NamedGateway) (one : NamedGateway) → gateways ≡ before ++ one ∷ after → place ≡ length before → IsEventOf (settings_of one.gateway) event
+event_at event place gateways may before after one is place_is =
+    may (map host_of before) (map host_of after) (host_of one)
+    (ap (map host_of) is ∙ map-append host_of before (one ∷ after)) (place_is ∙ sym (length-map before host_of))
+
+-- what holds of the gateways with one more and without holds after a push
+pub after_push : {E : Type 0} (Fact : List NamedGateway → Type 0) (result : Result (Unit {0}) E) (old after : List NamedGateway) (named : NamedGateway)
+    → OnOk result (after ≡ old ++ named ∷ []) → OnErr result (after ≡ old) → Fact old → Fact (old ++ named ∷ []) → Fact after
+after_push Fact (Ok done) old after named ok err before more = subst Fact (sym ok) more
+after_push Fact (Err fault) old after named ok err before more = subst Fact (sym err) before
+
+pub hosts_more : (gateways : List NamedGateway) (named : NamedGateway) → map host_of gateways ++ host_of named ∷ [] ≡ map host_of (gateways ++ named ∷ [])
+hosts_more gateways named = sym (map-append host_of gateways (named ∷ []))
+
+-- an error has come: what holds then holds
+pub on_err_by : {T E P : Type 0} (result : Result T E) → P → OnErr result P
+on_err_by (Ok value) fact = tt
+on_err_by (Err fault) fact = fact
+
+pub if_ok_by : {T E P : Type 0} (result : Result T E) → P → IfOk result (λ value. P)
+if_ok_by (Ok value) fact = fact
+if_ok_by (Err fault) fact = tt
+
+-- before any event
+pub pair_at_start : (pair : Pair) (setup : PairSetup) → IsLawfulSetup setup → StandsFor pair setup (start setup) → PairAt pair setup []
+pair_at_start pair setup lawful stands = record {
+  setup_lawful = lawful;
+  events_may_come = All-nil (IsPairEvent setup.hosts);
+  stands = subst (StandsFor pair setup) (sym (course_of-none setup)) stands;
+}
+
+abbrev pub member_at_start : Host → Member
+member_at_start host = record { host = host; events = [] }
+
+pub members_at_start : (gateways after : List NamedGateway) (hosts : List Host) (named : NamedGateway) (host : Host) → AreMembersAt gateways (map member_at_start hosts)
+    → IsMemberAt named (member_at_start host) → after ≡ gateways ++ named ∷ [] → AreMembersAt after (map member_at_start (hosts ++ host ∷ []))
+members_at_start gateways after hosts named host are now is =
+    subst (λ (all : List NamedGateway). AreMembersAt all (map member_at_start (hosts ++ host ∷ []))) (sym is)
+    (subst (AreMembersAt (gateways ++ named ∷ [])) (sym (map-append member_at_start hosts (host ∷ [])))
+    (members_more gateways (map member_at_start hosts) named (member_at_start host) are now))

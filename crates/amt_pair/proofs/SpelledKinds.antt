@@ -1,0 +1,123 @@
+-- What is read of the octets that spell a message: it is of the message's own type.
+use Rattle.std.proofs.Common.{◌≡◌, ℕ, ◌%◌, ◌<◌, ◌≤◌, ◌^◌, ◌||◌, Bool, true, false, if◌then◌else◌, List, [], ◌++◌, drop, length, slice_index, Option, Some, None, Ok, refl, sym, ap, subst, ◌∙◌, arith, length-take-le, length-drop, append-nil, append_assoc}
+use Rattle.std.proofs.Math.Nat.{div-eq_of_lt, mod-lt}
+use Rattle.std.proofs.lemmas.List.{drop-drop, drop_at}
+use Rattle.byteorder.specs.Endian.{big_bytes, big_number}
+use Rattle.byteorder.specs.Numbers.{big_from-bytes, length-bytes_high_first}
+use Rattle.amt_values.specs.Address.{IsAddress, has_ipv4_prefix, is_compatible, is_mapped, number_of}
+use Rattle.amt_values.specs.Endpoint.{endpoint_of}
+use Rattle.amt_values.specs.EndpointValue.{EndpointValue}
+use Rattle.amt_values.specs.declared.address.Ip.{Ip}
+use Rattle.amt_values.specs.declared.address.Ip.TheVariants.{V4, V6}
+use Rattle.amt_values.specs.declared.mac.Mac48.{Mac48}
+use Rattle.amt_values.specs.declared.peer.Peer.{Peer}
+use Rattle.amt_messages.specs.Layout.{Spells, spelling_of}
+use Rattle.amt_messages.specs.Messages.{IsGateway}
+use Rattle.amt_messages.specs.Refusal.{message_of}
+use Rattle.amt_messages.specs.declared.message.Message.{Message}
+use Rattle.amt_messages.specs.declared.message.Message.TheVariants.{Discovery, Advertisement, Request, Query, Update, Multicast, Teardown}
+use Rattle.amt_messages.proofs.Unrefused.{read_is_spelled}
+use Rattle.amt_pair.specs.Setup.{IsPeer}
+
+-- the number of a message's type
+abbrev pub kind_of : Message → ℕ
+kind_of (Discovery nonce) = 1
+kind_of (Advertisement nonce relay) = 2
+kind_of (Request v6 nonce) = 3
+kind_of (Query limited mac nonce inner seen) = 4
+kind_of (Update mac nonce inner) = 5
+kind_of (Multicast packet) = 6
+kind_of (Teardown mac nonce gateway) = 7
+
+spelled-kind : (message : Message) (bytes : List ℕ) → Spells message bytes → slice_index bytes 0 ≡ kind_of message
+spelled-kind (Discovery nonce) bytes spells = spells.kind.first
+spelled-kind (Advertisement nonce (V4 address)) bytes spells = spells.kind.first
+spelled-kind (Advertisement nonce (V6 address)) bytes spells = spells.kind.first
+spelled-kind (Request v6 nonce) bytes spells = spells.kind.first
+spelled-kind (Query limited mac nonce inner None) bytes spells = spells.kind.first
+spelled-kind (Query limited mac nonce inner (Some endpoint)) bytes spells = spells.0.kind.first
+spelled-kind (Update mac nonce inner) bytes spells = spells.kind.first
+spelled-kind (Multicast packet) bytes spells = spells.kind.first
+spelled-kind (Teardown mac nonce gateway) bytes spells = spells.kind.first
+
+spelling-kind : (message : Message) → slice_index (spelling_of message) 0 ≡ kind_of message
+spelling-kind (Discovery nonce) = refl
+spelling-kind (Advertisement nonce relay) = refl
+spelling-kind (Request v6 nonce) = refl
+spelling-kind (Query limited mac nonce inner seen) = refl
+spelling-kind (Update mac nonce inner) = refl
+spelling-kind (Multicast packet) = refl
+spelling-kind (Teardown mac nonce gateway) = refl
+
+-- what is read of a spelling is of the type that was written
+pub same-kind : (written read : Message) → message_of (spelling_of written) ≡ Ok read → kind_of written ≡ kind_of read
+same-kind written read is = sym (spelling-kind written) ∙ spelled-kind read (spelling_of written) (read_is_spelled (spelling_of written) read is)
+
+-- the nonce that is read of a Request has 32 bits
+request-nonce : (written : Message) (v6 : Bool) (nonce : ℕ) → kind_of written ≡ 3 → nonce ≡ big_number 4 (drop 4 (spelling_of written)) → nonce < 2 ^ 32
+request-nonce (Request written_v6 written) v6 nonce kind field =
+    let back = ap (big_number 4) (sym (append-nil (big_bytes 4 written))) ∙ big_from-bytes 4 written [] in
+    let small : written % 256 ^ 4 < 256 ^ 4 = mod-lt written (omega arith) in
+    let whole : nonce ≡ written % 256 ^ 4 = field ∙ back in
+    omega arith
+request-nonce (Discovery written) v6 nonce kind field = absurd (omega arith)
+request-nonce (Advertisement written relay) v6 nonce kind field = absurd (omega arith)
+request-nonce (Query limited mac written inner seen) v6 nonce kind field = absurd (omega arith)
+request-nonce (Update mac written inner) v6 nonce kind field = absurd (omega arith)
+request-nonce (Multicast packet) v6 nonce kind field = absurd (omega arith)
+request-nonce (Teardown mac written gateway) v6 nonce kind field = absurd (omega arith)
+
+pub small-nonce : (written : Message) (v6 : Bool) (nonce : ℕ) → message_of (spelling_of written) ≡ Ok (Request v6 nonce) → nonce < 2 ^ 32
+small-nonce written v6 nonce is =
+    request-nonce written v6 nonce (same-kind written (Request v6 nonce) is)
+    (read_is_spelled (spelling_of written) (Request v6 nonce) is).nonce_field
+
+-- the inner octets of an Update, whose MAC has its six octets, are read as they were written
+pub update-inner : (mac other : Mac48) (nonce other_nonce : ℕ) (inner other_inner : List ℕ) → length mac.0 ≡ 6
+    → message_of (spelling_of (Update mac nonce inner)) ≡ Ok (Update other other_nonce other_inner) → other_inner ≡ inner
+update-inner mac other nonce other_nonce inner other_inner six is =
+    let bytes = spelling_of (Update mac nonce inner) in
+    let after_mac : drop 8 bytes ≡ big_bytes 4 nonce ++ inner =
+    ap (drop 6) (append_assoc mac.0 (big_bytes 4 nonce) inner) ∙ drop_at mac.0 (big_bytes 4 nonce ++ inner) 6 six in
+    let after_nonce : drop 12 bytes ≡ inner = sym (drop-drop 4 8 bytes) ∙ (ap (drop 4) after_mac ∙ drop_at (big_bytes 4 nonce) inner 4 (length-bytes_high_first 4 nonce)) in
+    (read_is_spelled bytes (Update other other_nonce other_inner) is).inner_field ∙ after_nonce
+
+-- the MAC of a Query has six octets
+pub query-mac : (limited : Bool) (mac : Mac48) (nonce : ℕ) (inner : List ℕ) (seen : Option EndpointValue) (bytes : List ℕ) → Spells (Query limited mac nonce inner seen) bytes
+    → length mac.0 ≡ 6
+query-mac limited mac nonce inner None bytes spells =
+    let size = spells.kind.octets in
+    let rest : 6 ≤ length (drop 2 bytes) = omega (arith, length-drop 2 bytes) in
+    ap (λ (octets : List ℕ). length octets) spells.mac_field ∙ length-take-le 6 (drop 2 bytes) rest
+query-mac limited mac nonce inner (Some endpoint) bytes spells =
+    let size = spells.0.kind.octets in
+    let rest : 6 ≤ length (drop 2 bytes) = omega (arith, length-drop 2 bytes) in
+    ap (λ (octets : List ℕ). length octets) spells.0.mac_field ∙ length-take-le 6 (drop 2 bytes) rest
+
+-- ---- the endpoint of a peer
+
+number-fits : (ip : Ip) → IsAddress ip → number_of ip < 2 ^ 128
+number-fits (V4 number) small = omega arith
+number-fits (V6 number) small = small
+
+second-false : (one other : Bool) → (one || other) ≡ false → other ≡ false
+second-false true other is = absurd cc
+second-false false other is = is
+
+unmapped : (ip : Ip) → IsAddress ip → has_ipv4_prefix ip ≡ false → is_mapped (number_of ip) ≡ false
+unmapped (V4 number) small apart = let high = div-eq_of_lt small in rw high refl
+unmapped (V6 number) small apart = second-false (is_compatible number) (is_mapped number) apart
+
+abbrev tunnel_at : Peer → EndpointValue
+tunnel_at peer = record { address = number_of peer.ip; port = peer.port }
+
+gateway-by : (prefixed : Bool) (peer : Peer) (endpoint : EndpointValue) → IsPeer peer → has_ipv4_prefix peer.ip ≡ prefixed
+    → (if prefixed then None else Some (tunnel_at peer)) ≡ Some endpoint → IsGateway endpoint
+gateway-by true peer endpoint peer_is prefix is = absurd cc
+gateway-by false peer endpoint peer_is prefix is =
+    let same : tunnel_at peer ≡ endpoint = cc in
+    subst IsGateway same (number-fits peer.ip peer_is.address, peer_is.port, unmapped peer.ip peer_is.address prefix)
+
+-- a peer's endpoint is in its one form
+pub gateway-of : (peer : Peer) (endpoint : EndpointValue) → IsPeer peer → endpoint_of peer ≡ Some endpoint → IsGateway endpoint
+gateway-of peer endpoint peer_is is = gateway-by (has_ipv4_prefix peer.ip) peer endpoint peer_is refl is

@@ -1,0 +1,153 @@
+-- The reports among what a gateway sends with an event.
+use Rattle.std.proofs.Common.{◌≡◌, ℕ, ◌≤◌, nat_le, Bool, true, false, List, [], ◌∷◌, ◌++◌, map, reverse, Option, Some, None, Ok, if◌then◌else◌, refl, ap, ◌∙◌, arith}
+use Rattle.std.specs.List.{All, filter_map}
+use Rattle.std.proofs.lemmas.Bool.{leb-true}
+use Rattle.std.proofs.lemmas.List.{map-append}
+use Rattle.std.proofs.lemmas.List.Elements.{All-nil, All-weaker, filter_map-append}
+use Rattle.amt_values.specs.EndpointValue.{EndpointValue}
+use Rattle.amt_values.specs.declared.mac.Mac48.{Mac48}
+use Rattle.amt_values.specs.declared.peer.Peer.{Peer}
+use Rattle.amt_messages.specs.declared.message.Message.TheVariants.{Request, Teardown, Update}
+use Rattle.source_filter.specs.declared.record.Record.{Record}
+use Rattle.group_records.specs.Written.{HasFittingAddresses, IsOfFamily, report_length}
+use Rattle.group_records.specs.declared.family.Family.{Family}
+use Rattle.socket_merge.specs.Changes.{change_records}
+use Rattle.socket_merge.specs.History.{AcceptedCall, latest}
+use Rattle.gateway_machine.specs.Reports.{full_records, if_they_fit, report_datagram, same_endpoint, teardown, teardown_by, teardown_if, update, update_by}
+use Rattle.gateway_machine.specs.Sends.{Sending, to_relay}
+use Rattle.gateway_machine.specs.Settings.{HasSourceOfFamily, family_of}
+use Rattle.gateway_machine.specs.Timing.{farewell_ms}
+use Rattle.gateway_machine.specs.declared.exchange.Exchange.{Exchange}
+use Rattle.gateway_machine.specs.declared.exchange.LastQuery.{LastQuery}
+use Rattle.gateway_machine.specs.declared.settings.GatewaySettings.{GatewaySettings}
+use Rattle.relay_machine.specs.Updates.{report_in}
+use Rattle.amt_pair.specs.Sent.{Sent, SentReport, report_of}
+use Rattle.amt_pair.proofs.AcceptedCalls.{AreAccepted}
+use Rattle.amt_pair.proofs.OpenSockets.{HaveFilters}
+use Rattle.amt_pair.proofs.ReadReports.{report_in-report_datagram}
+use Rattle.amt_pair.proofs.ReportLimits.{short_reports}
+use Rattle.amt_pair.proofs.ReportedAddresses.{MayStand, changed-may_stand, full-may_stand}
+use Rattle.amt_pair.proofs.Tunnel.{Made, send}
+use Rattle.amt_pair.proofs.Turns.{tunnel_of}
+
+-- the reports among these messages, in order, by the exchange and the socket calls after the event
+abbrev pub reports_in : Exchange → List AcceptedCall → List Sending → List SentReport
+reports_in exchange history sends =
+    filter_map report_of (map (λ sending. record { sending = sending; exchange = exchange; history = history }) sends)
+
+-- the report of these records; none are not sent
+abbrev pub reported : Exchange → List AcceptedCall → Bool → List Record → List SentReport
+reported exchange history full [] = []
+reported exchange history full (first ∷ more) =
+    record {
+      records = first ∷ more;
+      full_report = full;
+      moment = exchange.moment;
+      keep_ms = farewell_ms exchange.query;
+      history = history;
+    }
+    ∷ []
+
+-- the records may be sent in one report of the family
+pub record MayBeSent (family : Family) (records : List Record) : Type 0 where
+  pub each : All (MayStand family) records
+  pub short : report_length family records ≤ 1400
+
+-- ---- which records are sent
+
+if_fitting : (family : Family) (test : Bool) (records : List Record) → All (MayStand family) records → (test ≡ true → report_length family records ≤ 1400)
+    → MayBeSent family (if test then records else [])
+if_fitting family true records each short = record { each = each; short = short refl }
+if_fitting family false records each short = record { each = All-nil (MayStand family); short = omega arith }
+
+-- the change records of a call, where they fit
+pub changed-may_be_sent : (settings : GatewaySettings) (newest : AcceptedCall) (older : List AcceptedCall) → AreAccepted (family_of settings) (newest ∷ older) → HaveFilters (newest ∷ older)
+    → MayBeSent (family_of settings) (if_they_fit settings (change_records (family_of settings) older (newest ∷ older)))
+changed-may_be_sent settings newest older accepted filters =
+    let family = family_of settings in
+    let records = change_records family older (newest ∷ older) in
+    if_fitting family (nat_le (report_length family records) 1400) records (changed-may_stand family newest older accepted filters)
+    (leb-true (report_length family records) 1400)
+
+-- the full records
+pub full-may_be_sent : (settings : GatewaySettings) (exchange : Exchange) (history : List AcceptedCall) → AreAccepted (family_of settings) history → HaveFilters history
+    → latest history ≤ exchange.moment → MayBeSent (family_of settings) (full_records settings exchange history)
+full-may_be_sent settings exchange history accepted filters early =
+    let family = family_of settings in
+    let keep = farewell_ms exchange.query in
+    record {
+      each = full-may_stand family history exchange.moment keep accepted filters;
+      short = short_reports family history exchange.moment keep accepted early;
+    }
+
+-- ---- what is read of an Update
+
+read-back : (settings : GatewaySettings) (records : List Record) → HasSourceOfFamily settings → MayBeSent (family_of settings) records
+    → report_in (report_datagram settings.source records) ≡ Ok records
+read-back settings records own may =
+    let family = family_of settings in
+    report_in-report_datagram family settings.source records own
+    (All-weaker (MayStand family) (IsOfFamily family) (λ one is. is.own) records may.each)
+    (All-weaker (MayStand family) HasFittingAddresses (λ one is. is.fit) records may.each) may.short
+
+module _ (exchange : Exchange) (history : List AcceptedCall) where
+  -- two lists of messages
+  pub reports-append : (sends more : List Sending) → reports_in exchange history (sends ++ more) ≡ reports_in exchange history sends ++ reports_in exchange history more
+  reports-append sends more =
+      let sent : Sending → Sent = λ sending. record { sending = sending; exchange = exchange; history = history } in
+      ap (filter_map report_of) (map-append sent sends more) ∙ filter_map-append report_of (map sent sends) (map sent more)
+
+  reports-to_relay : (relay : Option Peer) (peer : Peer) (mac : Mac48) (nonce : ℕ) (inner : List ℕ) (full : Bool) (first : Record) (more : List Record) → relay ≡ Some peer
+      → report_in inner ≡ Ok (first ∷ more) → reports_in exchange history (to_relay relay full (Update mac nonce inner)) ≡ reported exchange history full (first ∷ more)
+  reports-to_relay relay peer mac nonce inner full first more known read = rw (known, read) refl
+
+  reports-update_of : (settings : GatewaySettings) (query : LastQuery) (full : Bool) (records : List Record) → HasSourceOfFamily settings
+      → (peer : Peer) × (exchange.relay ≡ Some peer) → MayBeSent (family_of settings) records
+      → reports_in exchange history (update_by (Some query) settings exchange full records) ≡ reported exchange history full records
+  reports-update_of settings query full [] own known may = refl
+  reports-update_of settings query full (first ∷ more) own known may =
+      reports-to_relay exchange.relay known.0 query.mac query.nonce (report_datagram settings.source (first ∷ more)) full first more known.1
+      (read-back settings (first ∷ more) own may)
+
+  -- an Update is read back as the report of its records
+  pub reports-update : (settings : GatewaySettings) (full : Bool) (records : List Record) → HasSourceOfFamily settings → (peer : Peer) × (exchange.relay ≡ Some peer)
+      → (query : LastQuery) × (exchange.query ≡ Some query) → MayBeSent (family_of settings) records
+      → reports_in exchange history (update settings exchange full records) ≡ reported exchange history full records
+  reports-update settings full records own known kept may =
+      ap (λ (query : Option LastQuery). reports_in exchange history (update_by query settings exchange full records)) kept.1
+      ∙ reports-update_of settings kept.0 full records own known may
+
+  -- ---- messages without a report
+
+  pub reports-request : (relay : Option Peer) (v6 : Bool) (nonce : ℕ) → reports_in exchange history (to_relay relay false (Request v6 nonce)) ≡ []
+  reports-request None v6 nonce = refl
+  reports-request (Some relay) v6 nonce = refl
+
+  reports-torn_down : (relay : Option Peer) (mac : Mac48) (nonce : ℕ) (before : EndpointValue) → reports_in exchange history (to_relay relay false (Teardown mac nonce before)) ≡ []
+  reports-torn_down None mac nonce before = refl
+  reports-torn_down (Some relay) mac nonce before = refl
+
+  reports-teardown_if : (same : Bool) (earlier : Exchange) (last : LastQuery) (before : EndpointValue) → reports_in exchange history (teardown_if same earlier last before) ≡ []
+  reports-teardown_if true earlier last before = refl
+  reports-teardown_if false earlier last before = reports-torn_down earlier.relay last.mac last.nonce before
+
+  reports-teardown_by : (before seen : Option EndpointValue) (earlier : Exchange) (last : LastQuery) → reports_in exchange history (teardown_by before seen earlier last) ≡ []
+  reports-teardown_by None seen earlier last = refl
+  reports-teardown_by (Some before) None earlier last = refl
+  reports-teardown_by (Some before) (Some seen) earlier last = reports-teardown_if (same_endpoint before seen) earlier last before
+
+  pub reports-teardown : (query : Option LastQuery) (seen : Option EndpointValue) (earlier : Exchange) → reports_in exchange history (teardown query seen earlier) ≡ []
+  reports-teardown None seen earlier = refl
+  reports-teardown (Some last) seen earlier = reports-teardown_by last.seen seen earlier last
+
+  -- ---- the tunnel after reports
+
+  pub reverse-reported : (full : Bool) (records : List Record) → reverse (reported exchange history full records) ≡ reported exchange history full records
+  reverse-reported full [] = refl
+  reverse-reported full (first ∷ more) = refl
+
+  -- a tunnel that sends these records
+  pub send-is : (reports : List SentReport) (made : List Made) (full : Bool) (records : List Record)
+      → send (tunnel_of exchange history reports made) full records ≡ tunnel_of exchange history (reported exchange history full records ++ reports) made
+  send-is reports made full [] = refl
+  send-is reports made full (first ∷ more) = refl

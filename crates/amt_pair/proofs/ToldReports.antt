@@ -1,0 +1,158 @@
+-- What a schedule shows of a gateway that was heard is told of its tunnel.
+use Rattle.std.proofs.Common.{◌≡◌, ℕ, ◌≤◌, max, cond, List, [], ◌∷◌, ◌++◌, map, reverse, All, Contains, Option, Some, None, refl, sym, ap, subst, ◌∙◌, arith, inl, inr}
+use Rattle.std.specs.List.{filter, filter_map}
+use Rattle.std.proofs.lemmas.Bool.{cases_Bool, cond-false, cond-true}
+use Rattle.std.proofs.lemmas.List.{map-append, reverse-reverse}
+use Rattle.std.proofs.lemmas.List.Elements.{All-contains}
+use Rattle.amt_values.specs.EndpointValue.{EndpointValue}
+use Rattle.amt_values.specs.declared.address.Ip.{Ip}
+use Rattle.amt_values.specs.declared.peer.Peer.{Peer}
+use Rattle.endpoint_membership.specs.GroupFilter.{records_admit}
+use Rattle.endpoint_membership.specs.Log.{brought, latest, live_chain}
+use Rattle.endpoint_membership.specs.declared.change.Change.{Change}
+use Rattle.endpoint_membership.specs.declared.change.Change.TheVariants.{Reported}
+use Rattle.endpoint_membership.proofs.HoldsAfter.{latest-reverse}
+use Rattle.gateway_machine.specs.Laws.{last_of}
+use Rattle.relay_machine.specs.Accepted.{accepted_log}
+use Rattle.relay_machine.specs.Events.{now_of}
+use Rattle.relay_machine.specs.Settings.{membership_interval_ms}
+use Rattle.amt_pair.specs.Agreement.{IsHeard, IsLastEntry, full_reports, is_of_endpoint, relay_admits, report_from}
+use Rattle.amt_pair.specs.Schedule.{Entry, Member, Upward, course_of}
+use Rattle.amt_pair.specs.Sent.{SentReport}
+use Rattle.amt_pair.specs.Setup.{PairSetup}
+use Rattle.amt_pair.specs.declared.event.PairEvent.{PairEvent}
+use Rattle.amt_pair.proofs.CourseLog.{changes_of}
+use Rattle.amt_pair.proofs.CourseSteps.{Stands}
+use Rattle.amt_pair.proofs.Follows.{made_for, made_of, member_of, report_by, shown}
+use Rattle.amt_pair.proofs.HeardQueries.{same_peer-itself}
+use Rattle.amt_pair.proofs.Listed.{last-passing, middle-cases, reverse-cons}
+use Rattle.amt_pair.proofs.PeerReports.{IsOther, reports_from}
+use Rattle.amt_pair.proofs.Tunnel.{IsTold, Made, Tunnel, admits_at, after, entries_of, last_by, last_made, latest_full}
+use Rattle.amt_pair.proofs.TunnelMade.{in_group, made_by_turns}
+
+-- ---- the latest full report
+
+latest-is : (reports : List SentReport) → latest_full reports ≡ last_of None (filter (λ report. report.full_report) (reverse reports))
+latest-is [] = refl
+latest-is (report ∷ earlier) =
+    ap (λ (rest : Option SentReport). cond report.full_report (Some report) rest) (latest-is earlier)
+    ∙ sym (last-passing (λ (report : SentReport). report.full_report) report earlier)
+
+-- of reports newest first, and of the peer's in order
+latest-from : (peer : Peer) (up : List Upward) → latest_full (reports_from peer up) ≡ last_of None (full_reports peer up)
+latest-from peer up =
+    latest-is (reports_from peer up)
+    ∙ ap (λ (reports : List SentReport). last_of None (filter (λ report. report.full_report) reports)) (reverse-reverse (filter_map (report_from peer) up))
+
+-- ---- the last entry
+
+some-entry : (one other : Entry) → Some one ≡ Some other → one ≡ other
+some-entry one other same = cc
+
+last-of : (peer : Peer) (endpoint : EndpointValue) (entries : List Entry) (entry : Entry) → last_of None (filter (is_of_endpoint endpoint) (reverse entries)) ≡ Some entry
+    → last_made endpoint (map (made_of peer) entries) ≡ last_by (report_by peer entry.by) (brought entry.change)
+last-of peer endpoint [] entry is = absurd cc
+last-of peer endpoint (newest ∷ older) entry is = elim (cases_Bool (is_of_endpoint endpoint newest)) [
+  | inl its ↦
+      let found = sym (last-passing (is_of_endpoint endpoint) newest older
+      ∙ cond-true (is_of_endpoint endpoint newest) (Some newest) (last_of None (filter (is_of_endpoint endpoint) (reverse older))) its) ∙ is in
+      let same = some-entry newest entry found in
+      cond-true (is_of_endpoint endpoint newest) (last_by (report_by peer newest.by) (brought newest.change)) (last_made endpoint (map (made_of peer) older)) its
+      ∙ ap (λ (one : Entry). last_by (report_by peer one.by) (brought one.change)) same
+  | inr others ↦
+      let found = sym (last-passing (is_of_endpoint endpoint) newest older
+      ∙ cond-false (is_of_endpoint endpoint newest) (Some newest) (last_of None (filter (is_of_endpoint endpoint) (reverse older))) others) ∙ is in
+      cond-false (is_of_endpoint endpoint newest) (last_by (report_by peer newest.by) (brought newest.change)) (last_made endpoint (map (made_of peer) older)) others
+      ∙ last-of peer endpoint older entry found
+]
+
+-- the last entry of the endpoint is one that the report made
+last-told : (peer : Peer) (endpoint : EndpointValue) (entries : List Entry) (report : SentReport) (at : ℕ) → IsLastEntry peer endpoint entries report at
+    → last_made endpoint (made_for peer entries) ≡ Some (record { report = report; at = at })
+last-told peer endpoint entries report at last =
+    let entry : Entry = record { by = Some last.upward; change = Reported endpoint last.records at } in
+    let order = ap (λ (all : List Entry). last_of None (filter (is_of_endpoint endpoint) all)) (reverse-reverse entries) in
+    last-of peer endpoint (reverse entries) entry (order ∙ last.last)
+    ∙ ap (λ (found : Option SentReport). last_by found at) last.made_by
+
+-- ---- the log
+
+changes-made : (peer : Peer) (entries : List Entry) → map (λ (made : Made). made.change) (map (made_of peer) entries) ≡ changes_of entries
+changes-made peer [] = refl
+changes-made peer (entry ∷ entries) = ap (λ (rest : List Change). entry.change ∷ rest) (changes-made peer entries)
+
+changes-reverse : (entries : List Entry) → changes_of (reverse entries) ≡ reverse (changes_of entries)
+changes-reverse [] = refl
+changes-reverse (entry ∷ entries) =
+    ap changes_of (reverse-cons entry entries)
+    ∙ map-append (λ (one : Entry). one.change) (reverse entries) (entry ∷ [])
+    ∙ ap (λ (rest : List Change). rest ++ entry.change ∷ []) (changes-reverse entries)
+    ∙ sym (reverse-cons entry.change (changes_of entries))
+
+latest-now : (now newest : ℕ) → newest ≤ now → max now newest ≡ now
+latest-now now newest early = omega arith
+
+-- ---- the gateway that was heard
+
+module _ (setup : PairSetup) (schedule : List PairEvent) (member : Member) (endpoint : EndpointValue) (InTime : Type 0)
+    (among : Contains (course_of setup schedule).members member) (stands : Stands setup member.host endpoint InTime (course_of setup schedule)) where
+  not-other : (members : List Member) → All (IsOther member.host.peer) members → Contains members member → ⊥
+  not-other members others in_list =
+      let other = All-contains (IsOther member.host.peer) members member others in_list in
+      let same = same_peer-itself member.host.peer in absurd cc
+
+  -- the events are the member's own
+  pub member-is : member_of member.host stands.events ≡ member
+  member-is =
+      let placed = stands.follows.placed in
+      elim (middle-cases placed.before placed.after (member_of member.host stands.events) member (subst (λ (all : List Member). Contains all member) placed.whole among)) [
+        | inl before ↦ absurd (not-other placed.before placed.others_before before)
+        | inr (inl same) ↦ same
+        | inr (inr later) ↦ absurd (not-other placed.after placed.others_after later)
+      ]
+
+  shown-told : (report : SentReport) → (heard : IsHeard setup schedule member endpoint report)
+      → IsTold (membership_interval_ms setup.settings) endpoint (shown member.host stands.events (course_of setup schedule)) heard.at report
+  shown-told report heard = record {
+    latest = latest-from member.host.peer (course_of setup schedule).up ∙ heard.latest;
+    last = last-told member.host.peer endpoint (course_of setup schedule).entries report heard.at heard.last;
+    fresh = let fresh = heard.fresh in let moment = stands.moment in omega arith;
+  }
+
+  -- the report is told of the tunnel after the turns
+  pub told : (report : SentReport) → (heard : IsHeard setup schedule member endpoint report)
+      → IsTold (membership_interval_ms setup.settings) endpoint (after endpoint stands.follows.turns_are) heard.at report
+  told report heard =
+      subst (λ (tunnel : Tunnel). IsTold (membership_interval_ms setup.settings) endpoint tunnel heard.at report) (sym stands.follows.same) (shown-told report heard)
+
+  entries-are : entries_of (shown member.host stands.events (course_of setup schedule)) ≡ reverse (accepted_log setup.settings setup.secret (course_of setup schedule).relay)
+  entries-are =
+      changes-made member.host.peer (reverse (course_of setup schedule).entries)
+      ∙ changes-reverse (course_of setup schedule).entries
+      ∙ ap (λ (log : List Change). reverse log) stands.logged
+
+  -- no entry of the log is later than the relay's moment
+  pub log-early : latest (accepted_log setup.settings setup.secret (course_of setup schedule).relay) ≤ now_of (course_of setup schedule).relay
+  log-early =
+      let log = accepted_log setup.settings setup.secret (course_of setup schedule).relay in
+      let now = now_of (course_of setup schedule).relay in
+      let tunnel = shown member.host stands.events (course_of setup schedule) in
+      let made : latest (entries_of tunnel) ≤ tunnel.moment =
+      subst (λ (one : Tunnel). latest (entries_of one) ≤ one.moment) stands.follows.same (made_by_turns endpoint stands.follows.turns_are stands.follows.may).moments in
+      let newest : latest (entries_of tunnel) ≡ latest log = ap latest entries-are ∙ latest-reverse log in
+      let moment = stands.moment in
+      omega arith
+
+  -- what the relay admits is what is admitted at the tunnel
+  pub admits-same : (group source : Ip)
+      → relay_admits setup schedule endpoint group source ≡ admits_at (membership_interval_ms setup.settings) endpoint (after endpoint stands.follows.turns_are) group source
+  admits-same group source =
+      let lifetime = membership_interval_ms setup.settings in
+      let log = accepted_log setup.settings setup.secret (course_of setup schedule).relay in
+      let now = now_of (course_of setup schedule).relay in
+      let tunnel = shown member.host stands.events (course_of setup schedule) in
+      let moment = stands.moment in
+      let early : latest log ≤ now = log-early in
+      ap (λ (at : ℕ). records_admit (live_chain lifetime (in_group endpoint group) at (reverse log)) source) (latest-now now (latest log) early ∙ sym moment)
+      ∙ ap (λ (entries : List Change). records_admit (live_chain lifetime (in_group endpoint group) tunnel.moment entries) source) (sym entries-are)
+      ∙ ap (λ (one : Tunnel). admits_at lifetime endpoint one group source) (sym stands.follows.same)

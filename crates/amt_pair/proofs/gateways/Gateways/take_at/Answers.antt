@@ -1,0 +1,50 @@
+use Rattle.std.proofs.Common.{◌≡◌, List, ◌∷◌, ◌++◌, map, get_or, sym, ap, ◌∙◌, subst}
+use Rattle.std.proofs.Math.Seq.{map-set_same}
+use Rattle.std.proofs.lemmas.Result.{IfOk-weaker}
+use Rattle.gateway_machine.specs.Events.{IsEventOf}
+use Rattle.gateway_machine.specs.Runs.{settings_of}
+use Rattle.amt_pair.specs.Members.{AreMembersAt, IsMemberAt, host_of}
+use Rattle.amt_pair.specs.Schedule.{with_gateway_event}
+use Rattle.amt_pair.specs.declared.gateways.NamedGateway.{NamedGateway}
+use Rattle.amt_pair.proofs.MembersAt.{member_at_place, members_set_place, split_place}
+use Rattle.amt_pair.proofs.gateways.Gateways.take_at.Goals as goal
+
+pub take-requires-clause-event : goal.take-requires-clause-event
+take-requires-clause-event c =
+    let split = split_place c.args.self.now c.args.place c.requires.place in
+    let named = c.index_mut.result.now in
+    let is : named ≡ split.one =
+    c.index_mut.ensures.value ∙ ap (λ (all : List NamedGateway). get_or all c.args.place named) c.self.view_is ∙ split.here named in
+    subst (λ (one : NamedGateway). IsEventOf (settings_of one.gateway) c.args.event.now) (sym is)
+    (c.requires.event split.before split.after split.one split.split split.place_is)
+
+pub returns-clause-part : goal.returns-clause-part
+returns-clause-part c = λ before after member at place.
+    let here : AreMembersAt c.self.inside.gateways.items (before ++ member ∷ after) =
+    subst (λ (all : List NamedGateway). AreMembersAt all (before ++ member ∷ after)) (sym c.self.view_is) at in
+    c.take.ensures.part member
+    (member_at_place c.self.inside.gateways.items before after member c.args.place c.index_mut.result.now here place c.index_mut.ensures.value)
+
+pub returns-clause-next : goal.returns-clause-next
+returns-clause-next c = λ before after member at place.
+    let items = c.self.inside.gateways.items in
+    let next = with_gateway_event c.args.event.now member in
+    let here : AreMembersAt items (before ++ member ∷ after) =
+    subst (λ (all : List NamedGateway). AreMembersAt all (before ++ member ∷ after)) (sym c.self.view_is) at in
+    IfOk-weaker c.take.result (λ part. IsMemberAt c.take.new.self next) _
+    (λ part now. members_set_place items before after member next c.args.place c.take.new.self here place now)
+    (c.take.ensures.next member
+    (member_at_place items before after member c.args.place c.index_mut.result.now here place c.index_mut.ensures.value))
+
+pub returns-clause-sent : goal.returns-clause-sent
+returns-clause-sent c = λ before after member at place.
+    let here : AreMembersAt c.self.inside.gateways.items (before ++ member ∷ after) =
+    subst (λ (all : List NamedGateway). AreMembersAt all (before ++ member ∷ after)) (sym c.self.view_is) at in
+    c.take.ensures.sent member
+    (member_at_place c.self.inside.gateways.items before after member c.args.place c.index_mut.result.now here place c.index_mut.ensures.value)
+
+pub returns-clause-hosts : goal.returns-clause-hosts
+returns-clause-hosts c =
+    map-set_same host_of c.self.inside.gateways.items c.args.place c.take.new.self c.index_mut.result.now
+    (c.take.ensures.host ∙ ap host_of c.index_mut.ensures.value)
+    ∙ ap (map host_of) c.self.view_is

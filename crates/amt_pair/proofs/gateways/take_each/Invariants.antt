@@ -1,0 +1,22 @@
+use Rattle.std.proofs.Common.{◌≡◌, ◌+◌, ◌≤◌, ℕ, List, map, length, vec_len, vec_capacity}
+use Rattle.gateway_machine.specs.declared.event.GatewayEvent.{GatewayEvent}
+use Rattle.gateway_machine.specs.declared.event.GatewayEvent.TheVariants.{Moment as Passes}
+use Rattle.amt_pair.specs.Members.{AreMembersAt, AreShort, host_of}
+use Rattle.amt_pair.specs.Schedule.{Member}
+use Rattle.amt_pair.specs.declared.datagrams.UpDatagram.{UpDatagram}
+use Rattle.amt_pair.specs.declared.gateways.NamedGateway.{NamedGateway}
+use Rattle.amt_pair.specs.declared.step.Part.{Part}
+use Rattle.amt_pair.proofs.Moments.{HasComeUpTo}
+use Rattle.amt_pair.proofs.gateways.take_each.Given as goal
+
+-- the moment has come to the gateways before the place, and there is room for the parts of the others
+pub record IsOnItsWay (at place : ℕ) (before gateways : List NamedGateway) (up_before up : List UpDatagram) (parts_before parts : List Part) (taken : GatewayEvent) (len capacity : ℕ) : Type 0 where
+  pub event : taken ≡ Passes at
+  pub come : (members : List Member) → AreMembersAt before members → HasComeUpTo at place members gateways up_before up parts_before parts
+  pub hosts : map host_of gateways ≡ map host_of before
+  pub short : AreShort up
+  pub room : len + length gateways ≤ capacity + place
+
+abbrev pub invariant-loop-gateway : goal.invariant-loop-gateway
+invariant-loop-gateway l =
+    IsOnItsWay l.at l.gateway-index l.initial.gateways l.gateways l.initial.up l.up l.initial.parts.items l.parts.items l.event (vec_len l.parts) (vec_capacity l.parts)

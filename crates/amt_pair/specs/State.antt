@@ -1,0 +1,88 @@
+-- What a pair stands for.
+use Rattle.std.specs.Prelude.{◌≡◌, ◌≢◌, ℕ, List, [], ◌∷◌, ◌++◌, length, map, All, None}
+use Rattle.std.specs.List.{flat_map}
+use Rattle.gateway_machine.specs.declared.event.GatewayEvent.{GatewayEvent}
+use Rattle.gateway_machine.specs.declared.event.GatewayEvent.TheVariants.{Moment as Passes}
+use Rattle.relay_machine.specs.Answers.{RelayAt, settings_of as relay_settings_of}
+use Rattle.relay_machine.specs.declared.event.Event.TheVariants.{Moment}
+use Rattle.relay_machine.specs.declared.settings.Settings.{Settings}
+use Rattle.amt_pair.specs.Members.{AreMembersAt, host_of, kept_upward}
+use Rattle.amt_pair.specs.Parts.{gateway_parts, relay_step}
+use Rattle.amt_pair.specs.Schedule.{Course, IsPairEvent, Member, course_of, upwards_on, with_gateway_event, with_relay_event}
+use Rattle.amt_pair.specs.Setup.{Host, IsLawfulSetup, PairSetup}
+use Rattle.amt_pair.specs.declared.event.PairEvent.{PairEvent}
+use Rattle.amt_pair.specs.declared.event.PairEvent.TheVariants.{Moment as MomentForAll}
+use Rattle.amt_pair.specs.declared.pair.Pair.{Pair}
+use Rattle.amt_pair.specs.declared.step.Part.{Part}
+use Rattle.amt_pair.specs.declared.step.Part.TheVariants.{Relay}
+
+-- what the relay of a pair was set up with
+abbrev pub relay_settings : Pair → Settings
+relay_settings pair = relay_settings_of pair.relay
+
+-- the gateways of a pair, in the order in which they were added
+abbrev pub hosts_of : Pair → List Host
+hosts_of pair = map host_of pair.gateways
+
+-- relay and gateways are where the course leaves them, and the datagrams that are kept are those that were
+-- sent in it
+pub record StandsFor (pair : Pair) (setup : PairSetup) (course : Course) : Type 0 where
+  pub relay : RelayAt pair.relay setup.settings setup.secret course.relay
+  pub gateways : AreMembersAt pair.gateways course.members
+  pub up : pair.up ≡ map kept_upward course.up
+  pub down : pair.down ≡ course.down
+
+-- the pair is where the schedule leads from such a setup
+pub record PairAt (pair : Pair) (setup : PairSetup) (schedule : List PairEvent) : Type 0 where
+  pub setup_lawful : IsLawfulSetup setup
+  pub events_may_come : All (IsPairEvent setup.hosts) schedule
+  pub stands : StandsFor pair setup (course_of setup schedule)
+
+-- a fact of a setup and a schedule holds of all those after which the pair may be
+abbrev pub After : Pair → (PairSetup → List PairEvent → Type 0) → Type 0
+After pair Fact = (setup : PairSetup) (schedule : List PairEvent) → PairAt pair setup schedule → Fact setup schedule
+
+-- a fact of a setup and a course holds of all those for which the pair stands
+abbrev pub ForCourse : Pair → (PairSetup → Course → Type 0) → Type 0
+ForCourse pair Fact = (setup : PairSetup) (course : Course) → StandsFor pair setup course → Fact setup course
+
+-- and of the gateway at a place, and those before and after it
+abbrev pub ForMember : Pair → ℕ → (PairSetup → Course → List Member → Member → List Member → Type 0) → Type 0
+ForMember pair place Fact =
+    (setup : PairSetup) (course : Course) (before after : List Member) (member : Member) → StandsFor pair setup course
+    → course.members ≡ before ++ member ∷ after → place ≡ length before → Fact setup course before member after
+
+-- the course in which an event has come to the gateway between these
+abbrev pub with_member_at : Course → GatewayEvent → List Member → Member → List Member → Course
+with_member_at course event before member after = record course {
+  members = before ++ with_gateway_event event member ∷ after;
+  up = course.up ++ upwards_on event member;
+}
+
+-- how many datagrams were sent to the relay, and by it
+abbrev pub sent_up : Pair → ℕ
+sent_up pair = length pair.up
+
+abbrev pub sent_down : Pair → ℕ
+sent_down pair = length pair.down
+
+-- the course in which a moment has come to the relay and to these gateways, and not to the rest
+abbrev pub moment_reached : PairSetup → Course → ℕ → List Member → List Member → Course
+moment_reached setup course at reached rest = record (with_relay_event setup None (Moment at) course) {
+  members = map (with_gateway_event (Passes at)) reached ++ rest;
+  up = course.up ++ flat_map (upwards_on (Passes at)) reached;
+}
+
+-- out of memory stopped a moment on its way: the relay and some gateways took their steps, whose parts these
+-- are, and the gateways after them took none
+pub record IsStarved (setup : PairSetup) (course : Course) (at : ℕ) (pair : Pair) (parts : List Part) : Type 0 where
+  pub reached : List Member
+  pub rest : List Member
+  pub members : course.members ≡ reached ++ rest
+  pub some : rest ≢ []
+  pub parts_are : parts ≡ Relay (relay_step setup course (Moment at)) ∷ gateway_parts (Passes at) reached
+  pub stands : StandsFor pair setup (moment_reached setup course at reached rest)
+
+-- the event is a moment that was stopped on its way
+abbrev pub HasStarved : PairSetup → Course → PairEvent → Pair → List Part → Type 0
+HasStarved setup course event pair parts = (at : ℕ) × (event ≡ MomentForAll at) × IsStarved setup course at pair parts

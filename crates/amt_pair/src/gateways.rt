@@ -1,0 +1,224 @@
+//! The gateways of a pair. It must not know the relay.
+
+ghost use Rattle.std.specs.Prelude.{◌≡◌, ◌<◌, ◌≤◌, ◌+◌, ◌^◌, ◌||◌, IsTrue, vec_len, vec_capacity, ◌++◌, ◌∷◌, [], false, true, length, slice_index, map, All, List, IfOk, OnOk, OnErr, IfSome, IfNone};
+ghost use Rattle.std.specs.List.{list_any};
+ghost use Rattle.amt_values.specs.Endpoint.{endpoint_of};
+ghost use Rattle.gateway_machine.specs.Answers.{same_peer};
+ghost use Rattle.amt_pair.specs.declared.gateways.NamedGateway.{NamedGateway as NamedGatewayValue};
+ghost use Rattle.gateway_machine.specs.declared.event.GatewayEvent.TheVariants.{Moment as Passes};
+ghost use Rattle.gateway_machine.specs.Events.{IsEventOf};
+ghost use Rattle.gateway_machine.specs.Runs.{settings_of};
+ghost use Rattle.socket_merge.specs.History.{same_name};
+ghost use Rattle.amt_pair.specs.Parts.{gateway_part, gateway_parts};
+ghost use Rattle.amt_pair.specs.Schedule.{Member, is_endpoint, upwards_on, with_gateway_event};
+ghost use Rattle.amt_pair.specs.Members.{AreMembersAt, AreShort, HasComeToAll, HasComeToSome, IsMemberAt, IsPlaceOf, host_of, kept_upward};
+
+use crate::datagrams::{UpDatagrams, datagrams_from};
+use crate::step::Part;
+use amt_values::{Bytes, Endpoint, Moment, Peer};
+use gateway_machine::{Gateway, GatewayEvent};
+use std::alloc::{AllocError, Global};
+use std::marker::Model;
+
+/// A gateway by its name, and the peer as which the relay sees it.
+#[derive(Debug, Drop)]
+pub struct NamedGateway {
+    pub name: Bytes,
+    pub peer: Peer,
+    pub gateway: Gateway,
+}
+
+impl NamedGateway {
+    /// Takes one event, and keeps the datagrams that it sends. Where memory runs out nothing changes: a copy
+    /// of the gateway takes the step, and is kept once the datagrams are.
+    pub fn take(
+        &mut self,
+        alloc: Global,
+        event: &GatewayEvent,
+        up: &mut UpDatagrams,
+    ) -> Result<Part, AllocError>
+        requires event { IsEventOf (settings_of self.old.gateway) event.now }
+        requires short { AreShort up.old }
+        ensures part { (member : Member) → IsMemberAt self.old member
+            → IfOk result (λ part. part ≡ gateway_part event.now member) }
+        ensures next { (member : Member) → IsMemberAt self.old member
+            → IfOk result (λ _. IsMemberAt self.new (with_gateway_event event.now member)) }
+        ensures sent { (member : Member) → IsMemberAt self.old member
+            → IfOk result (λ _. up.new ≡ up.old ++ map kept_upward (upwards_on event.now member)) }
+        ensures host { host_of self.new ≡ host_of self.old }
+        ensures same { OnErr result (self.new ≡ self.old) }
+        ensures same_up { OnErr result (up.new ≡ up.old) }
+        ensures short { AreShort up.new }
+    {
+        let name = Bytes::copied(alloc, self.name.as_slice())?;
+        let mut gateway = self.gateway.copied(alloc)?;
+        let step = gateway.step(alloc, event)?;
+        let sent = datagrams_from(alloc, &self.peer, step.sends.as_slice())?;
+        up.append(sent)?;
+        self.gateway = gateway;
+        Ok(Part::Gateway { name, step })
+    }
+
+    fn has_name(&self, name: &[u8]) -> bool
+        ensures { result ≡ same_name name.now self.now.name }
+    {
+        name == self.name.as_slice()
+    }
+
+    // Whether another gateway of this name or this peer could not be told from it.
+    fn clashes(&self, name: &[u8], peer: &Peer) -> bool
+        ensures { result ≡ (same_name name.now self.now.name || same_peer self.now.peer peer.now) }
+    {
+        self.has_name(name) || self.peer == *peer
+    }
+
+    fn is_at(&self, endpoint: &Endpoint) -> bool
+        ensures { result ≡ is_endpoint endpoint.now (endpoint_of self.now.peer) }
+    {
+        match Endpoint::of(&self.peer) {
+            Some(other) => *endpoint == other,
+            None => false,
+        }
+    }
+}
+
+/// Gateways in the order in which they were added.
+#[derive(Debug, Drop)]
+pub struct Gateways {
+    gateways: Vec<NamedGateway>,
+}
+
+impl Model for Gateways {
+    ghost use Rattle.std.specs.Prelude.{List};
+    ghost use Rattle.amt_pair.specs.declared.gateways.NamedGateway.{NamedGateway};
+
+    ghost Value = { List NamedGateway };
+
+    ghost view = { λ all. all.gateways.items };
+}
+
+impl Gateways {
+    pub fn new(alloc: Global) -> Gateways
+        ensures { result ≡ [] }
+    {
+        Gateways {
+            gateways: Vec::new(alloc),
+        }
+    }
+
+    pub fn len(&self) -> usize
+        ensures value { result ≡ length self.now }
+        ensures bound { result < 2 ^ 63 }
+    {
+        self.gateways.len()
+    }
+
+    pub fn push(&mut self, gateway: NamedGateway) -> Result<(), AllocError>
+        ensures ok { OnOk result (self.new ≡ self.old ++ gateway ∷ []) }
+        ensures err { OnErr result (self.new ≡ self.old) }
+    {
+        self.gateways.push(gateway)?;
+        Ok(())
+    }
+
+    /// The place of the first gateway of this name.
+    pub fn place_of_name(&self, name: &[u8]) -> Option<usize>
+        ensures found { IfSome result (IsPlaceOf (λ one. same_name name.now one.name) self.now) }
+        ensures none { IfNone result (All (λ one. same_name name.now one.name ≡ false) self.now) }
+    {
+        self.gateways.iter().position(|one| one.has_name(name))
+    }
+
+    /// The place of the first gateway at this endpoint.
+    pub fn place_of_endpoint(&self, endpoint: &Endpoint) -> Option<usize>
+        ensures found { IfSome result (IsPlaceOf (λ one. is_endpoint endpoint.now (endpoint_of one.peer)) self.now) }
+        ensures none { IfNone result (All (λ one. is_endpoint endpoint.now (endpoint_of one.peer) ≡ false) self.now) }
+    {
+        self.gateways.iter().position(|one| one.is_at(endpoint))
+    }
+
+    /// Whether some gateway has this name or this peer.
+    pub fn has_taken(&self, name: &[u8], peer: &Peer) -> bool
+        ensures { result ≡ list_any (λ one. same_name name.now one.name || same_peer one.peer peer.now) self.now }
+    {
+        self.gateways.iter().any(|one| one.clashes(name, peer))
+    }
+
+    /// An event comes to the gateway at this place.
+    pub fn take_at(
+        &mut self,
+        alloc: Global,
+        place: usize,
+        event: &GatewayEvent,
+        up: &mut UpDatagrams,
+    ) -> Result<Part, AllocError>
+        requires place { place < length self.old }
+        requires event { (before after : List NamedGatewayValue) (one : NamedGatewayValue)
+            → self.old ≡ before ++ one ∷ after → place ≡ length before
+            → IsEventOf (settings_of one.gateway) event.now }
+        requires short { AreShort up.old }
+        ensures part { (before after : List Member) (member : Member)
+            → AreMembersAt self.old (before ++ member ∷ after) → place ≡ length before
+            → IfOk result (λ part. part ≡ gateway_part event.now member) }
+        ensures next { (before after : List Member) (member : Member)
+            → AreMembersAt self.old (before ++ member ∷ after) → place ≡ length before
+            → IfOk result (λ _. AreMembersAt self.new (before ++ with_gateway_event event.now member ∷ after)) }
+        ensures sent { (before after : List Member) (member : Member)
+            → AreMembersAt self.old (before ++ member ∷ after) → place ≡ length before
+            → IfOk result (λ _. up.new ≡ up.old ++ map kept_upward (upwards_on event.now member)) }
+        ensures hosts { map host_of self.new ≡ map host_of self.old }
+        ensures same { OnErr result (self.new ≡ self.old) }
+        ensures same_up { OnErr result (up.new ≡ up.old) }
+        ensures short { AreShort up.new }
+    {
+        self.gateways[place].take(alloc, event, up)
+    }
+
+    /// A moment comes to each gateway in turn. Where memory runs out it stops: that gateway and those after
+    /// it take no step, and the answer is false. There is room for a part of each.
+    pub fn take_moment(
+        &mut self,
+        alloc: Global,
+        at: &Moment,
+        up: &mut UpDatagrams,
+        parts: &mut Vec<Part>,
+    ) -> bool
+        requires room { vec_len parts.old + length self.old ≤ vec_capacity parts.old }
+        requires short { AreShort up.old }
+        ensures all { (members : List Member) → AreMembersAt self.old members → IsTrue result
+            → HasComeToAll at.now members self.new up.old up.new parts.old.items parts.new.items }
+        ensures some { (members : List Member) → AreMembersAt self.old members → result ≡ false
+            → HasComeToSome at.now members self.new up.old up.new parts.old.items parts.new.items }
+        ensures hosts { map host_of self.new ≡ map host_of self.old }
+        ensures short { AreShort up.new }
+    {
+        take_each(&mut self.gateways, alloc, at, up, parts)
+    }
+}
+
+// A moment comes to each of these in turn, as far as memory reaches.
+fn take_each(
+    gateways: &mut [NamedGateway],
+    alloc: Global,
+    at: &Moment,
+    up: &mut UpDatagrams,
+    parts: &mut Vec<Part>,
+) -> bool
+    requires room { vec_len parts.old + length gateways.old ≤ vec_capacity parts.old }
+    requires short { AreShort up.old }
+    ensures all { (members : List Member) → AreMembersAt gateways.old members → IsTrue result
+        → HasComeToAll at.now members gateways.new up.old up.new parts.old.items parts.new.items }
+    ensures some { (members : List Member) → AreMembersAt gateways.old members → result ≡ false
+        → HasComeToSome at.now members gateways.new up.old up.new parts.old.items parts.new.items }
+    ensures hosts { map host_of gateways.new ≡ map host_of gateways.old }
+    ensures short { AreShort up.new }
+{
+    let event = GatewayEvent::Moment(*at);
+    for gateway in gateways.iter_mut() {
+        let Ok(part) = gateway.take(alloc, &event, up) else {
+            return false;
+        };
+        parts.push_reserved(part);
+    }
+    true
+}
