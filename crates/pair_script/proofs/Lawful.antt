@@ -1,0 +1,26 @@
+-- Scripts of a pair are a lawful kind of script.
+use Rattle.std.proofs.Common.{◌≡◌, List, sym, ◌∙◌}
+use Rattle.amt_script.proofs.Settlings.{settled_values, wrong_at_end}
+use Rattle.script_lines.specs.Kind.{IsLawfulKind}
+use Rattle.pair_script.specs.Script.{MakesPairScript, gateways_in, items_in, pair_kind, settings_in}
+use Rattle.pair_script.specs.declared.script.PairScript.{PairScript}
+use Rattle.pair_script.specs.declared.statement.PairStatement.{PairStatement}
+use Rattle.pair_script.proofs.Good.{no_statement}
+use Rattle.pair_script.proofs.Unique.{one_statement}
+
+same_script : (one other : PairScript) → one.settings ≡ other.settings → one.secret ≡ other.secret → one.gateways ≡ other.gateways → one.items ≡ other.items → one ≡ other
+same_script one other same_settings same_secret same_gateways same_items =
+    λ i. record { settings = same_settings i; secret = same_secret i; gateways = same_gateways i; items = same_items i }
+
+one_script : (said : List PairStatement) (one other : PairScript) → MakesPairScript said one → MakesPairScript said other → one ≡ other
+one_script said one other h k =
+    same_script one other (settled_values (settings_in said) one.settings other.settings one.secret other.secret h.settled k.settled)
+    (h.settled.first_secret ∙ sym k.settled.first_secret) (h.gateways ∙ sym k.gateways) (h.items ∙ sym k.items)
+
+pub pair_kind_lawful : IsLawfulKind pair_kind
+pair_kind_lawful = record {
+  one_statement = λ past one other line h k. one_statement (settings_in past) (gateways_in past) (items_in past) one other line h k;
+  no_statement = λ past one line reason h k. no_statement (settings_in past) (gateways_in past) (items_in past) one line reason h k;
+  one_script = one_script;
+  no_script = λ said script reason h k. wrong_at_end (settings_in said) script.settings script.secret reason h.settled h.lawful k;
+}

@@ -1,0 +1,16 @@
+pub mod Beginnings
+pub mod Counts
+pub mod Found
+pub mod GatewayLines
+pub mod Good
+pub mod Heard
+pub mod Judging
+pub mod Lawful
+pub mod Openings
+pub mod Orders
+pub mod Running
+pub mod SetUp
+pub mod SharedLines
+pub mod Steps
+pub mod Texts
+pub mod Unique

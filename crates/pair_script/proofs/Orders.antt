@@ -1,0 +1,242 @@
+-- The first reason of a line, where more reasons are tried that the line never has.
+use Rattle.std.proofs.Common.{◌≡◌, ◌≢◌, ℕ, List, [], ◌∷◌, ◌++◌, length, None, Option, Some, inl, inr, refl, sym, subst}
+use Rattle.contract_words.specs.Conditions.{First}
+use Rattle.amt_script.specs.Fault.{order_of_values as relay_order_of_values, order_of_reasons as relay_order_of_reasons}
+use Rattle.amt_script.specs.SetLine.{FailsToSet}
+use Rattle.amt_script.specs.Row.{form_of_key}
+use Rattle.amt_script.specs.declared.kind.Key.{Key}
+use Rattle.amt_script.specs.declared.kind.Key.TheVariants as keys
+use Rattle.amt_script.specs.declared.setting.Setting.{Setting}
+use Rattle.gateway_script.specs.Fault.{order_of_values as gateway_order_of_values}
+use Rattle.gateway_script.specs.Row.{shape_of}
+use Rattle.gateway_script.specs.SocketLine.{FailsAsCall}
+use Rattle.group_records.specs.declared.family.Family.{Family}
+use Rattle.script_lines.specs.Form.{Fails, Form, a_family, a_group, a_mode, a_moment, a_name, a_nonce, a_number, a_peer, a_secret, an_address, an_address4, an_address6, an_address_of, some_octets}
+use Rattle.script_lines.specs.Reading.{FailsFirst}
+use Rattle.script_lines.specs.Shape.{FailsIn, SomeFails}
+use Rattle.script_lines.specs.declared.fault.LineError.{LineError}
+use Rattle.script_lines.specs.declared.fault.LineError.TheVariants.{Bad, Memory}
+use Rattle.script_lines.specs.declared.reason.Reason.{Reason}
+use Rattle.script_lines.specs.declared.reason.Reason.TheVariants as reasons
+use Rattle.pair_script.specs.Fault.{FailsAsNumber, FailsToCall, order_of_reasons, order_of_values}
+
+-- what is tried after these reasons is tried in another order
+on_after : {R : Type 0} (P : R → Type 0) (before rest other : List R) (reason : R) → (First P rest reason → First P other reason)
+    → First P (before ++ rest) reason → First P (before ++ other) reason
+on_after P [] rest other reason on first = on first
+on_after P (next ∷ before) rest other reason on (inl here) = inl here
+on_after P (next ∷ before) rest other reason on (inr later) = inr (later.0, on_after P before rest other reason on later.1)
+
+abbrev Never : Form → Reason → Type 0
+Never form reason = (text : List ℕ) → Fails form text reason → ⊥
+
+-- a field of the form fails for no reason that no relay's line has
+record IsRelayForm (form : Form) : Type 0 where
+  word : Never form reasons.Word
+  late : Never form reasons.Late
+  twice : Never form reasons.Twice
+  name : Never form reasons.Name
+  mode : Never form reasons.Mode
+  group : Never form reasons.Group
+
+one_never : (form : Form) (values : List (List ℕ)) (reason : Reason) → Never form reason → SomeFails (form ∷ []) None values reason → ⊥
+one_never form [] reason never h = h
+one_never form (text ∷ []) reason never (inl h) = never text h
+one_never form (text ∷ []) reason never (inr h) = h
+one_never form (text ∷ next ∷ more) reason never (inl h) = never text h
+one_never form (text ∷ next ∷ more) reason never (inr h) = h
+
+none_never : (values : List (List ℕ)) (reason : Reason) → SomeFails [] None values reason → ⊥
+none_never [] reason h = h
+none_never (text ∷ more) reason h = h
+
+abbrev WithNames : (Reason → Type 0) → Type 0
+WithNames P = (P reasons.Name → ⊥) × (P reasons.Mode → ⊥) × (P reasons.Group → ⊥)
+
+with_names : (P : Reason → Type 0) (reason : Reason) → WithNames P
+    → First P (reasons.Range ∷ []) reason → First P (reasons.Name ∷ reasons.Mode ∷ reasons.Group ∷ reasons.Range ∷ []) reason
+with_names P reason none first = inr (none.0, inr (none.1, inr (none.2, first)))
+
+values_with_names : (P : Reason → Type 0) (reason : Reason) → WithNames P → First P relay_order_of_values reason → First P order_of_values reason
+values_with_names P reason none first =
+    on_after P (reasons.Count ∷ reasons.Number ∷ reasons.Hex ∷ reasons.Address ∷ reasons.Peer ∷ []) (reasons.Range ∷ [])
+    (reasons.Name ∷ reasons.Mode ∷ reasons.Group ∷ reasons.Range ∷ []) reason (with_names P reason none) first
+
+-- a line of one field of such a form
+abbrev pub FailsAsOne : Form → List (List ℕ) → Reason → Type 0
+FailsAsOne form values reason = FailsIn (record { forms = form ∷ []; repeated = None }) values reason
+
+one_judged : (form : Form) (values : List (List ℕ)) (reason : Reason) → IsRelayForm form
+    → First (FailsAsOne form values) relay_order_of_values reason → First (FailsAsOne form values) order_of_reasons reason
+one_judged form values reason is first =
+    inr (
+      one_never form values reasons.Word is.word,
+      inr (
+        one_never form values reasons.Late is.late,
+        inr (
+          one_never form values reasons.Twice is.twice,
+          values_with_names (FailsAsOne form values) reason
+              (one_never form values reasons.Name is.name, one_never form values reasons.Mode is.mode, one_never form values reasons.Group is.group) first,
+        ),
+      ),
+    )
+
+pub moment_judged : (values : List (List ℕ)) (reason : Reason) → First (FailsAsOne a_moment values) relay_order_of_values reason
+    → First (FailsAsOne a_moment values) order_of_reasons reason
+moment_judged values reason first =
+    one_judged a_moment values reason
+    (record { word = λ text h. h; late = λ text h. h; twice = λ text h. h; name = λ text h. h; mode = λ text h. h; group = λ text h. h }) first
+
+pub secret_judged : (values : List (List ℕ)) (reason : Reason) → First (FailsAsOne a_secret values) relay_order_of_values reason
+    → First (FailsAsOne a_secret values) order_of_reasons reason
+secret_judged values reason first =
+    one_judged a_secret values reason
+    (record { word = λ text h. h; late = λ text h. h; twice = λ text h. h; name = λ text h. h; mode = λ text h. h; group = λ text h. h }) first
+
+octets_judged : (values : List (List ℕ)) (reason : Reason) → First (FailsAsOne some_octets values) relay_order_of_values reason
+    → First (FailsAsOne some_octets values) order_of_reasons reason
+octets_judged values reason first =
+    one_judged some_octets values reason
+    (record { word = λ text h. h; late = λ text h. h; twice = λ text h. h; name = λ text h. h; mode = λ text h. h; group = λ text h. h }) first
+
+pub packet_judged : (values : List (List ℕ)) (error : LineError) → FailsFirst (FailsAsOne some_octets values) relay_order_of_values error
+    → FailsFirst (FailsAsOne some_octets values) order_of_reasons error
+packet_judged values (Bad reason) first = octets_judged values reason first
+packet_judged values Memory first = tt
+
+abbrev FailsAsNone : List (List ℕ) → Reason → Type 0
+FailsAsNone values reason = FailsIn (record { forms = []; repeated = None }) values reason
+
+pub show_judged : (values : List (List ℕ)) (reason : Reason) → First (FailsAsNone values) relay_order_of_values reason
+    → First (FailsAsNone values) order_of_reasons reason
+show_judged values reason first =
+    inr (
+      none_never values reasons.Word,
+      inr (
+        none_never values reasons.Late,
+        inr (
+          none_never values reasons.Twice,
+          values_with_names (FailsAsNone values) reason (none_never values reasons.Name, none_never values reasons.Mode, none_never values reasons.Group) first,
+        ),
+      ),
+    )
+
+-- no field of a setting fails for these
+no_name : (key : Key) → Never (form_of_key key) reasons.Name
+no_name keys.Relay text h = h
+no_name keys.Query4 text h = h
+no_name keys.Query6 text h = h
+no_name (keys.Number key) text h = h
+no_name keys.Secret text h = h
+
+no_mode : (key : Key) → Never (form_of_key key) reasons.Mode
+no_mode keys.Relay text h = h
+no_mode keys.Query4 text h = h
+no_mode keys.Query6 text h = h
+no_mode (keys.Number key) text h = h
+no_mode keys.Secret text h = h
+
+no_group : (key : Key) → Never (form_of_key key) reasons.Group
+no_group keys.Relay text h = h
+no_group keys.Query4 text h = h
+no_group keys.Query6 text h = h
+no_group (keys.Number key) text h = h
+no_group keys.Secret text h = h
+
+pub set_judged : {I : Type 0} → (given : List Setting) (items : List I) (values : List (List ℕ)) (reason : Reason)
+    → First (FailsToSet given items values) relay_order_of_reasons reason → First (FailsToSet given items values) order_of_reasons reason
+set_judged given items values reason first =
+    on_after (FailsToSet given items values)
+    (reasons.Word ∷ reasons.Late ∷ reasons.Twice ∷ reasons.Count ∷ reasons.Number ∷ reasons.Hex ∷ reasons.Address ∷ reasons.Peer ∷ []) (reasons.Range ∷ [])
+    (reasons.Name ∷ reasons.Mode ∷ reasons.Group ∷ reasons.Range ∷ []) reason
+    (with_names (FailsToSet given items values) reason (
+      λ h. one_never (form_of_key h.0) h.1 reasons.Name (no_name h.0) h.3,
+      λ h. one_never (form_of_key h.0) h.1 reasons.Mode (no_mode h.0) h.3,
+      λ h. one_never (form_of_key h.0) h.1 reasons.Group (no_group h.0) h.3,
+    )) first
+
+-- no form of any field fails for these
+form_late : (form : Form) → Never form reasons.Late
+form_late a_moment text h = h
+form_late (a_number least most) text h = h
+form_late some_octets text h = h
+form_late a_secret text h = h
+form_late a_nonce text h = h
+form_late an_address text h = h
+form_late an_address4 text h = h
+form_late an_address6 text h = h
+form_late (an_address_of family) text h = h
+form_late a_peer text h = h
+form_late a_name text h = h
+form_late a_mode text h = h
+form_late (a_group family) text h = h
+form_late a_family text h = h
+
+form_twice : (form : Form) → Never form reasons.Twice
+form_twice a_moment text h = h
+form_twice (a_number least most) text h = h
+form_twice some_octets text h = h
+form_twice a_secret text h = h
+form_twice a_nonce text h = h
+form_twice an_address text h = h
+form_twice an_address4 text h = h
+form_twice an_address6 text h = h
+form_twice (an_address_of family) text h = h
+form_twice a_peer text h = h
+form_twice a_name text h = h
+form_twice a_mode text h = h
+form_twice (a_group family) text h = h
+form_twice a_family text h = h
+
+all_never : (forms : List Form) (repeated : Option Form) (values : List (List ℕ)) (reason : Reason) → ((form : Form) → Never form reason)
+    → SomeFails forms repeated values reason → ⊥
+all_never forms repeated [] reason never h = h
+all_never [] None (text ∷ texts) reason never h = h
+all_never [] (Some form) (text ∷ texts) reason never (inl h) = never form text h
+all_never [] (Some form) (text ∷ texts) reason never (inr h) = all_never [] (Some form) texts reason never h
+all_never (form ∷ forms) repeated (text ∷ texts) reason never (inl h) = never form text h
+all_never (form ∷ forms) repeated (text ∷ texts) reason never (inr h) = all_never forms repeated texts reason never h
+
+call_first : (family : Family) (word : List ℕ) (values : List (List ℕ)) (reason : Reason)
+    → First (FailsAsCall family (word ∷ values)) (reasons.Word ∷ gateway_order_of_values) reason
+    → First (FailsAsCall family (word ∷ values)) order_of_reasons reason
+call_first family word values reason first =
+    let P : Reason → Type 0 = FailsAsCall family (word ∷ values) in
+    on_after P (reasons.Word ∷ []) gateway_order_of_values (reasons.Late ∷ reasons.Twice ∷ gateway_order_of_values) reason
+    (λ later. inr (
+      λ h. let shape = shape_of (Some family) h.0 in all_never shape.forms shape.repeated h.1 reasons.Late form_late h.4,
+      inr (λ h. let shape = shape_of (Some family) h.0 in all_never shape.forms shape.repeated h.1 reasons.Twice form_twice h.4, later),
+    )) first
+
+pub call_judged : (family : Family) (word : List ℕ) (rest values : List (List ℕ)) (error : LineError) → values ≡ word ∷ rest
+    → FailsFirst (FailsAsCall family (word ∷ rest)) (reasons.Word ∷ gateway_order_of_values) error → FailsFirst (FailsToCall family values) order_of_reasons error
+call_judged family word rest values (Bad reason) parts first =
+    subst (λ (vs : List (List ℕ)). First (FailsToCall family vs) order_of_reasons reason) (sym parts) (call_first family word rest reason first)
+call_judged family word rest values Memory parts first = tt
+
+pub name_alone : (family : Family) (values : List (List ℕ)) → values ≡ [] → First (FailsToCall family values) order_of_reasons reasons.Count
+name_alone family values none =
+    subst (λ (vs : List (List ℕ)). First (FailsToCall family vs) order_of_reasons reasons.Count) (sym none)
+    (inr (λ h. h, inr (λ h. h, inr (λ h. h, inl (tt, refl)))))
+
+pub number_counted : (values : List (List ℕ)) → length values ≢ 1 → First (FailsAsNumber values) order_of_reasons reasons.Count
+number_counted values count =
+    inr (
+      one_never a_moment values reasons.Word (λ text h. h),
+      inr (
+        one_never a_moment values reasons.Late (λ text h. h),
+        inr (one_never a_moment values reasons.Twice (λ text h. h), inl (count, refl)),
+      ),
+    )
+
+pub bad_number : (values : List (List ℕ)) (text : List ℕ) → values ≡ text ∷ [] → Fails a_moment text reasons.Number
+    → First (FailsAsNumber values) order_of_reasons reasons.Number
+bad_number values text parts fails =
+    subst (λ (vs : List (List ℕ)). First (FailsAsNumber vs) order_of_reasons reasons.Number) (sym parts)
+    (inr (
+      one_never a_moment (text ∷ []) reasons.Word (λ t h. h),
+      inr (
+        one_never a_moment (text ∷ []) reasons.Late (λ t h. h),
+        inr (one_never a_moment (text ∷ []) reasons.Twice (λ t h. h), inr (λ other. other refl, inl (inl fails, refl))),
+      ),
+    ))

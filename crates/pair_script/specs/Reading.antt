@@ -1,0 +1,38 @@
+-- What the reader's own answers say.
+use Rattle.std.specs.Prelude.{◌≡◌, ℕ, List, []}
+use Rattle.std.specs.List.{AllByRecursion}
+use Rattle.amt_script.specs.Reading.{IsAllowed}
+use Rattle.amt_script.specs.declared.script.RelayItem.{RelayItem}
+use Rattle.amt_script.specs.declared.script.RelayItem.TheVariants as relay_items
+use Rattle.amt_script.specs.declared.setting.Setting.{Setting}
+use Rattle.relay_machine.specs.declared.event.Event.{Event}
+use Rattle.relay_machine.specs.declared.event.Event.TheVariants.{Datagram, Moment, Packet, Rotate}
+use Rattle.script_lines.specs.Form.{IsMomentText}
+use Rattle.script_lines.specs.Shape.{HasField}
+use Rattle.pair_script.specs.Script.{gateways_in, items_in, settings_in}
+use Rattle.pair_script.specs.declared.script.PairGateway.{PairGateway}
+use Rattle.pair_script.specs.declared.script.PairItem.{PairItem}
+use Rattle.pair_script.specs.declared.statement.PairStatement.{PairStatement}
+
+-- these are the settings, gateways and items among the statements
+pub record AreThose (given : List Setting) (gateways : List PairGateway) (items : List PairItem) (said : List PairStatement) : Type 0 where
+  pub settings_are : given ≡ settings_in said
+  pub gateways_are : gateways ≡ gateways_in said
+  pub items_are : items ≡ items_in said
+  pub allowed : AllByRecursion IsAllowed given
+
+-- the event is no datagram that comes to a relay
+abbrev pub IsNoDatagram : Event → Type 0
+IsNoDatagram (Moment at) = Unit {0}
+IsNoDatagram (Datagram bytes from) = ⊥
+IsNoDatagram (Packet bytes) = Unit {0}
+IsNoDatagram (Rotate secret) = Unit {0}
+
+-- scripts of a pair have the item too
+abbrev pub IsSharedItem : RelayItem → Type 0
+IsSharedItem (relay_items.Event event) = IsNoDatagram event
+IsSharedItem relay_items.Show = Unit {0}
+
+-- the fields are one, and its text is that of the number
+abbrev pub IsNumberOf : List (List ℕ) → ℕ → Type 0
+IsNumberOf values number = HasField [] (IsMomentText number) values
