@@ -6,29 +6,35 @@ use Rattle.amt_script.specs.declared.line.RelayStatement.{RelayStatement}
 use Rattle.amt_script.specs.declared.script.RelayScript.{RelayScript}
 use Rattle.gateway_script.specs.declared.line.GatewayStatement.{GatewayStatement}
 use Rattle.gateway_script.specs.declared.script.GatewayScript.{GatewayScript}
+use Rattle.pair_script.specs.declared.script.PairScript.{PairScript}
+use Rattle.pair_script.specs.declared.statement.PairStatement.{PairStatement}
 use Rattle.amt_command.specs.declared.command.Command.{Command}
-use Rattle.amt_command.specs.declared.command.Command.TheVariants.{ReplayRelay, ReplayGateway}
-use Rattle.amt_command.specs.Replay.{Replay, gateway_replay, relay_replay}
+use Rattle.amt_command.specs.declared.command.Command.TheVariants.{ReplayRelay, ReplayGateway, ReplayPair}
+use Rattle.amt_command.specs.Replay.{Replay, gateway_replay, pair_replay, relay_replay}
 
 -- the arguments of a command, those after the program's name
 abbrev pub arguments_of : Command → List (List ℕ)
 arguments_of ReplayRelay = codes "replay" ∷ codes "relay" ∷ []
 arguments_of ReplayGateway = codes "replay" ∷ codes "gateway" ∷ []
+arguments_of ReplayPair = codes "replay" ∷ codes "pair" ∷ []
 
 -- what a line of its scripts says, and its scripts
 abbrev pub statement_of : Command → Type 0
 statement_of ReplayRelay = RelayStatement
 statement_of ReplayGateway = GatewayStatement
+statement_of ReplayPair = PairStatement
 
 -- what the lines of a whole script make
 abbrev pub script_of : Command → Type 0
 script_of ReplayRelay = RelayScript
 script_of ReplayGateway = GatewayScript
+script_of ReplayPair = PairScript
 
 -- what it replays
 abbrev pub replay_of : (command : Command) → Replay (statement_of command) (script_of command)
 replay_of ReplayRelay = relay_replay
 replay_of ReplayGateway = gateway_replay
+replay_of ReplayPair = pair_replay
 
 -- the arguments are those of a command
 abbrev pub IsCommand : List (List ℕ) → Type 0

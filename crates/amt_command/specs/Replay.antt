@@ -16,6 +16,10 @@ use Rattle.gateway_script.specs.declared.line.GatewayStatement.{GatewayStatement
 use Rattle.gateway_script.specs.declared.script.GatewayScript.{GatewayScript}
 use Rattle.gateway_script.specs.Script.{gateway_kind}
 use Rattle.gateway_script.specs.Texts.{gateway_script_text}
+use Rattle.pair_script.specs.declared.script.PairScript.{PairScript}
+use Rattle.pair_script.specs.declared.statement.PairStatement.{PairStatement}
+use Rattle.pair_script.specs.Script.{pair_kind}
+use Rattle.pair_script.specs.Texts.{pair_script_text}
 
 -- a kind of script, and the text of each script of the kind
 pub record Replay (S W : Type 0) : Type 1 where
@@ -29,6 +33,10 @@ relay_replay = record { kind = relay_kind; text = relay_script_text }
 -- gateway scripts, each with its text
 abbrev pub gateway_replay : Replay GatewayStatement GatewayScript
 gateway_replay = record { kind = gateway_kind; text = gateway_script_text }
+
+-- scripts of a relay and its gateways, each with its text
+abbrev pub pair_replay : Replay PairStatement PairScript
+pair_replay = record { kind = pair_kind; text = pair_script_text }
 
 -- the input was read to its end, within its limit, and spells the script
 pub record IsInput {S W : Type 0} (replay : Replay S W) (left left' : Option (List ℕ)) (script : W) : Type 0 where

@@ -11,6 +11,8 @@ pub enum Command {
     ReplayRelay,
     /// `replay gateway`: the same of a gateway's script.
     ReplayGateway,
+    /// `replay pair`: the same of a script of a relay and its gateways.
+    ReplayPair,
 }
 
 fn is_word(word: &String, text: &str) -> bool
@@ -34,6 +36,9 @@ pub fn command_of(words: &[String]) -> Option<Command>
             }
             if is_word(second, "gateway") {
                 return Some(Command::ReplayGateway);
+            }
+            if is_word(second, "pair") {
+                return Some(Command::ReplayPair);
             }
             None
         }

@@ -10,6 +10,7 @@ ghost use Rattle.amt_command.specs.Replay.{Replay};
 use amt_ports::Sink;
 use amt_script::{RelayScript, read_relay_script, run_relay_script};
 use gateway_script::{GatewayScript, read_gateway_script, run_gateway_script};
+use pair_script::{PairScript, read_pair_script, run_pair_script};
 use script_lines::{RunFault, ScriptError};
 use std::alloc::Global;
 
@@ -89,5 +90,31 @@ impl Replayed for GatewayReplay {
 
     fn run<O: Sink>(alloc: Global, script: &GatewayScript, out: &mut O) -> Result<(), RunFault> {
         run_gateway_script(alloc, script, out)
+    }
+}
+
+/// Scripts of a relay and its gateways.
+#[derive(Drop)]
+pub struct PairReplay {}
+
+impl Replayed for PairReplay {
+    ghost use Rattle.pair_script.specs.Running.{IsRunnable};
+    ghost use Rattle.pair_script.specs.declared.statement.PairStatement.{PairStatement};
+    ghost use Rattle.amt_command.specs.Replay.{pair_replay};
+
+    type Script = PairScript;
+
+    ghost Statement = { PairStatement };
+
+    ghost replay = { pair_replay };
+
+    ghost CanRun = { λ script. IsRunnable script };
+
+    fn read(alloc: Global, bytes: &[u8]) -> Result<PairScript, ScriptError> {
+        read_pair_script(alloc, bytes)
+    }
+
+    fn run<O: Sink>(alloc: Global, script: &PairScript, out: &mut O) -> Result<(), RunFault> {
+        run_pair_script(alloc, script, out)
     }
 }

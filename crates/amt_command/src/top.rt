@@ -16,7 +16,7 @@ ghost use Rattle.amt_command.specs.Status.{Answers, Reports, ReportsMemory};
 use crate::command::{Command, command_of};
 use crate::ending::Ending;
 use crate::exit::Exit;
-use crate::replayed::{GatewayReplay, RelayReplay};
+use crate::replayed::{GatewayReplay, PairReplay, RelayReplay};
 use crate::replaying::replay;
 use amt_ports::{Sink, Source, write_all_own};
 use std::alloc::Global;
@@ -36,6 +36,7 @@ fn run_command<S: Source, O: Sink>(
     match command {
         Command::ReplayRelay => replay::<RelayReplay, S, O>(alloc, input, out),
         Command::ReplayGateway => replay::<GatewayReplay, S, O>(alloc, input, out),
+        Command::ReplayPair => replay::<PairReplay, S, O>(alloc, input, out),
     }
 }
 

@@ -13,3 +13,8 @@ pub returns-in-ReplayGateway-clause-ends : goal.returns-in-ReplayGateway-clause-
 returns-in-ReplayGateway-clause-ends g c =
     subst (λ (one : Command). EndsFor (replay_of one) (g.S.Source.left c.args.input.now) (g.S.Source.left c.replay-in-ReplayGateway.new.input) (g.O.Sink.written c.args.out.now) (g.O.Sink.written c.replay-in-ReplayGateway.new.out) (c.replay-in-ReplayGateway.new.out ≡ c.args.out.now) c.replay-in-ReplayGateway.result)
     (sym c.in-ReplayGateway.is) c.replay-in-ReplayGateway.ensures.ends
+
+pub returns-in-ReplayPair-clause-ends : goal.returns-in-ReplayPair-clause-ends
+returns-in-ReplayPair-clause-ends g c =
+    subst (λ (one : Command). EndsFor (replay_of one) (g.S.Source.left c.args.input.now) (g.S.Source.left c.replay-in-ReplayPair.new.input) (g.O.Sink.written c.args.out.now) (g.O.Sink.written c.replay-in-ReplayPair.new.out) (c.replay-in-ReplayPair.new.out ≡ c.args.out.now) c.replay-in-ReplayPair.result)
+    (sym c.in-ReplayPair.is) c.replay-in-ReplayPair.ensures.ends
