@@ -1,9 +1,9 @@
 #!/bin/sh
-# What the proved binary costs over scripts of Discovery, of Request and of mixed lines, and over one of a
-# gateway that packets come to, beside sed over the same octets; then the cost of one update, packet and moment by the number of live tunnel endpoints, and
-# of a packet to 1,000 of them. Times are of the processor, and the least of some runs, so that other work
-# on the machine disturbs them little. It builds nothing: `rt run` in crates/amt leaves the binary at
-# crates/amt/out/amt.
+# What the proved binary costs over scripts of Discovery, of Request and of mixed lines, over one of a gateway
+# that packets come to, and over one of both ends, beside sed over the same octets; then the cost of one
+# update, packet and moment by the number of live tunnel endpoints, and of a packet to 1,000 of them. Times
+# are of the processor, and the least of some runs, so that other work on the machine disturbs them little. It
+# builds nothing: `rt run` in crates/amt leaves the binary at crates/amt/out/amt.
 #
 # usage: bench/replay.sh [BINARY]
 set -eu
@@ -24,7 +24,7 @@ mixed() {
     python3 "$here/bench/mixed.py" "$@"
 }
 
-# script KIND MIB: a relay's address, or a gateway that is served, and lines up to so many MiB
+# script KIND MIB: a relay's address, or a gateway that is served, or both, and lines up to so many MiB
 script() {
     case $1 in
         discovery) line='dg 198.51.100.7:5000 0100000001020304' ;;
@@ -33,8 +33,8 @@ script() {
             mixed mixed 1000 $(($2 * 1048576))
             return
             ;;
-        gateway)
-            python3 "$here/bench/gateway.py" $(($2 * 1048576))
+        gateway | pair)
+            python3 "$here/bench/$1.py" $(($2 * 1048576))
             return
             ;;
     esac
@@ -63,9 +63,9 @@ each() {
 }
 
 printf '%-10s %4s %8s %8s %7s %9s\n' lines MiB 'amt ms' 'sed ms' ratio 'peak KB'
-for kind in discovery request mixed gateway; do
+for kind in discovery request mixed gateway pair; do
     case $kind in
-        gateway) end=gateway ;;
+        gateway | pair) end=$kind ;;
         *) end=relay ;;
     esac
     for mib in 1 4 16; do

@@ -1,4 +1,4 @@
-//! Tests of the program, relay and gateway, by the public calls of its crates.
+//! Tests of the program, relay, gateway and both together, by the public calls of its crates.
 //!
 //! Contract: none; it is tests alone. They stand in a crate of their own since the tests of a crate prove
 //! all its functions once more, which costs the gate as much again.
@@ -9,6 +9,8 @@
 mod command;
 #[cfg(test)]
 mod gateway;
+#[cfg(test)]
+mod pair;
 #[cfg(test)]
 mod relay;
 #[cfg(test)]

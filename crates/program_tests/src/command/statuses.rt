@@ -17,6 +17,12 @@ const GATEWAY: &str =
 
 const GATEWAY_TEXT: &str = "= 1 discovering 1\n> 192.0.2.1:2268 0100000000000001\n. 1\n";
 
+const PAIR: &str =
+    "set relay 192.0.2.1\ngateway g 198.51.100.7:5000 v4 10.0.0.2\ng open a 239.1.1.1 exclude\nup 1\n";
+
+const PAIR_TEXT: &str =
+    "= 1 g discovering 1\n> up 1 192.0.2.1:2268 0100000000000001\n= 2 relay advertised\n> down 1 198.51.100.7:5000 0200000000000001c0000201\n. 2\n";
+
 const USAGE: &str =
     "amt: usage: replay relay|gateway|pair, dump, vectors, load SEED N, relay FILE, gateway FILE\n";
 
@@ -30,11 +36,18 @@ enum Input {
 // Words, input and the calls that fail; the status, the output, and the line on standard error.
 type Case = (&'static str, Input, Failing, u8, &'static str, &'static str);
 
-const CASES: [Case; 22] = [
+const CASES: [Case; 26] = [
     ("", Input::Text(""), NONE_FAILS, 2, "", USAGE),
     ("jump", Input::Text(""), NONE_FAILS, 2, "", USAGE),
     ("replay", Input::Text(SCRIPT), NONE_FAILS, 2, "", USAGE),
-    ("replay pair", Input::Text(""), NONE_FAILS, 2, "", USAGE),
+    (
+        "replay pair pair",
+        Input::Text(PAIR),
+        NONE_FAILS,
+        2,
+        "",
+        USAGE,
+    ),
     (
         "replay gateway relay",
         Input::Text(GATEWAY),
@@ -119,6 +132,38 @@ const CASES: [Case; 22] = [
         "",
         "amt: write fault\n",
     ),
+    (
+        "replay pair",
+        Input::Text(PAIR),
+        (0, 2, 0),
+        0,
+        PAIR_TEXT,
+        "",
+    ),
+    (
+        "replay pair",
+        Input::Text(""),
+        NONE_FAILS,
+        3,
+        "",
+        "amt: line 1: missing\n",
+    ),
+    (
+        "replay pair",
+        Input::Text(PAIR),
+        (2, 0, 0),
+        4,
+        "",
+        "amt: read fault\n",
+    ),
+    (
+        "replay pair",
+        Input::Text(PAIR),
+        (0, 1, 0),
+        5,
+        "",
+        "amt: write fault\n",
+    ),
     // A line that can not be written leaves the status.
     ("jump", Input::Text(""), (0, 0, 1), 2, "", ""),
     ("replay relay", Input::Text("jump"), (0, 0, 1), 3, "", ""),
@@ -127,7 +172,15 @@ const CASES: [Case; 22] = [
     ("replay gateway", Input::Text(GATEWAY), (0, 1, 1), 5, "", ""),
 ];
 
-const TOO_LONG: [Case; 3] = [
+const TOO_LONG: [Case; 4] = [
+    (
+        "replay pair",
+        Input::LineFeeds(16_777_217),
+        NONE_FAILS,
+        8,
+        "",
+        "amt: input too long\n",
+    ),
     (
         "replay gateway",
         Input::LineFeeds(16_777_217),
@@ -244,6 +297,7 @@ fn a_process_ends_with_the_status(rt: HostRuntime) {
         ("replay relay", SCRIPT, 0),
         ("replay gateway", GATEWAY, 0),
         ("replay gateway", SCRIPT, 3),
+        ("replay pair", PAIR, 0),
         ("jump", "", 2),
     ] {
         is_exit(&rt, line, exit(rt.alloc(), line, script), status);
