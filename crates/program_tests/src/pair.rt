@@ -1,6 +1,7 @@
 //! The command `amt replay pair`: each row a script and its text. It knows public calls alone.
 
 mod bounds;
+mod calls;
 mod faults;
 mod gateways;
 mod lossy;

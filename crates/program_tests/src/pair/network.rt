@@ -1,6 +1,8 @@
-//! Both ends over a network that loses, repeats or delays one of their datagrams. Whenever the relay has
-//! accepted the gateway's latest full report, it forwards what the sockets want, by the record that the test
-//! itself keeps of them. It must not know what either end has in mind.
+//! Both ends over a network that loses, repeats or delays one of their datagrams. A trial steps a pair, delivers
+//! what is sent, or doesn't, and writes all of it as a script. Whenever the relay has accepted the gateway's latest
+//! full report the next line is `show`. Then the program runs over the script: at each of these places its text
+//! must have a row for each open socket, by the record that the test itself keeps of them, and no other. It must
+//! not know what either end has in mind.
 
 ghost use Rattle.std.specs.Prelude.{◌≡◌, ◌∷◌, [], ◌≤◌, length, IfOk};
 ghost use Rattle.std.proofs.Props.{props};
@@ -8,10 +10,10 @@ ghost use Rattle.amt_pair.specs.Schedule.{MayCome};
 ghost use Rattle.amt_pair.specs.State.{hosts_of};
 ghost use Rattle.program_tests.specs.Trial.{IsTrialCall, trial_host};
 
-use crate::runs::is_out_of_memory;
+use super::ROW;
+use crate::runs::{Ended, is_out_of_memory, replay};
 use amt_pair::{Pair, PairEvent, PairFault, PairStep, Part};
-use amt_values::{Bytes, Endpoint, Ip, Moment, Peer};
-use endpoint_membership::Row;
+use amt_values::{Bytes, Ip, Moment, Peer};
 use gateway_machine::{GatewayEvent, GatewayOutcome, GatewayStep};
 use relay_machine::{Outcome, Settings};
 use response_mac::Secret;
@@ -29,19 +31,14 @@ const PEER: Peer = Peer {
 
 const SOURCE: Ip = Ip::V4(0x0a00_0002);
 
-// 198.51.100.9, the one source that b wants, and 198.51.100.10.
+// 198.51.100.9, the one source that b wants.
 const NINE: Ip = Ip::V4(0xc633_6409);
-
-const TEN: Ip = Ip::V4(0xc633_640a);
 
 const GROUP_A: Ip = Ip::V4(0xef01_0101);
 
 const GROUP_B: Ip = Ip::V4(0xef01_0102);
 
 const GROUP_C: Ip = Ip::V4(0xef01_0103);
-
-// Nobody joins it.
-const GROUP_D: Ip = Ip::V4(0xef01_0104);
 
 // The sockets: a wants 239.1.1.1 from everyone, b 239.1.1.2 from 198.51.100.9 alone, and c 239.1.1.3 from
 // everyone.
@@ -52,11 +49,12 @@ enum Socket {
     C,
 }
 
+// What happens. What is under way arrives after it; after `Left` it is lost.
 #[derive(Clone, Copy)]
 enum Given {
     Time(u64),
-    Open(Socket),
-    Close(Socket),
+    Opened(Socket),
+    Left(Socket),
     Packet,
 }
 
@@ -64,26 +62,45 @@ enum Given {
 const PACKET: &[u8] =
     b"\x45\x00\x00\x1c\x00\x00\x00\x00\x04\x11\x9c\x92\xc6\x33\x64\x09\xef\x01\x01\x01\x00\x04\x00\x04\x00\x00\x08\x00\x00";
 
-// The usual session of a host that wants three groups and leaves one, with moments added at which what got no
-// answer is asked again, and one group opened again at the end. A Discovery or a Request that gets no answer is
-// due again after 1 and 3 s, and a Request is due 125 s after a Query.
-const SESSION: [Given; 15] = [
+// The usual session of a host that wants three groups and leaves one, of which both reports are lost, to its last
+// packet. Whatever becomes of one datagram, the relay accepts a latest full report in it. That isn't always the
+// one of the second Query, which makes good that the reports of leaving were lost. So two moments follow, by which a
+// Request that got no answer has been sent again, and so has one that is due a second later since the first Discovery
+// or Request was lost. Then the group is wanted again.
+const SESSION: [Given; 14] = [
     Given::Time(0),
-    Given::Open(Socket::A),
+    Given::Opened(Socket::A),
+    Given::Opened(Socket::B),
+    Given::Opened(Socket::C),
+    Given::Packet,
     Given::Time(1000),
-    Given::Time(3000),
-    Given::Open(Socket::B),
-    Given::Open(Socket::C),
+    Given::Left(Socket::A),
     Given::Packet,
-    Given::Time(4000),
-    Given::Close(Socket::A),
+    Given::Time(125_000),
     Given::Packet,
-    Given::Time(129_000),
-    Given::Time(130_000),
-    Given::Time(132_000),
+    Given::Time(126_000),
+    Given::Time(128_000),
     Given::Packet,
-    Given::Open(Socket::A),
+    Given::Opened(Socket::A),
 ];
+
+fn line_of(alloc: Global, given: Given) -> Result<String, AllocError> {
+    match given {
+        Given::Time(ms) => format!(in alloc; "at {ms}\n"),
+        Given::Opened(Socket::A) => String::from_str(alloc, "g open a 239.1.1.1 exclude\n"),
+        Given::Opened(Socket::B) => {
+            String::from_str(alloc, "g open b 239.1.1.2 include 198.51.100.9\n")
+        }
+        Given::Opened(Socket::C) => String::from_str(alloc, "g open c 239.1.1.3 exclude\n"),
+        Given::Left(Socket::A) => String::from_str(alloc, "g close a\n"),
+        Given::Left(Socket::B) => String::from_str(alloc, "g close b\n"),
+        Given::Left(Socket::C) => String::from_str(alloc, "g close c\n"),
+        Given::Packet => String::from_str(
+            alloc,
+            "mc 4500001c0000000004119c92c6336409ef0101010400040000080000\n",
+        ),
+    }
+}
 
 // A datagram, by its direction and its number.
 #[derive(Clone, Copy, Debug, PartialEq, Eq)]
@@ -137,16 +154,34 @@ impl Open {
             Socket::C => self.c = is_open,
         }
     }
+}
 
-    fn wants(&self, group: Ip, source: Ip) -> bool {
-        if group == GROUP_A {
-            return self.a;
+fn row_if(is_open: bool, row: &'static str) -> &'static str {
+    if is_open { row } else { "" }
+}
+
+// The text of a show: each open socket has a row.
+fn rows_of(alloc: Global, number: u64, open: Open) -> Result<String, AllocError> {
+    let count = u8::from(open.a) + u8::from(open.b) + u8::from(open.c);
+    let a = row_if(open.a, "* 198.51.100.7:5000 239.1.1.1 exclude -\n");
+    let b = row_if(
+        open.b,
+        "* 198.51.100.7:5000 239.1.1.2 include 198.51.100.9\n",
+    );
+    let c = row_if(open.c, "* 198.51.100.7:5000 239.1.1.3 exclude -\n");
+    format!(in alloc; "= {number} rows {count}\n{a}{b}{c}")
+}
+
+// The lines of a text that a show writes.
+fn shown_in(alloc: Global, text: &str) -> Result<String, AllocError> {
+    let mut shown = String::new(alloc);
+    for line in text.lines() {
+        if line.starts_with("* ") || line.contains(" rows ") {
+            shown.push_str(line)?;
+            shown.push_str("\n")?;
         }
-        if group == GROUP_B {
-            return self.b && source == NINE;
-        }
-        group == GROUP_C && self.c
     }
+    Ok(shown)
 }
 
 // A pair, and what the test knows of its datagrams and sockets.
@@ -166,6 +201,10 @@ struct Trial {
     // The number of the gateway's latest full report, and the sockets.
     full: u64,
     open: Open,
+    // The script, the number of its lines, and what its shows must write.
+    script: String,
+    lines: u64,
+    shown: String,
     // How often the latest full report was accepted.
     agreed: u64,
 }
@@ -182,7 +221,7 @@ fn paired(alloc: Global) -> Result<Pair, PairFault>
     Ok(pair)
 }
 
-fn trial_of(pair: Pair, chosen: Datagram, treatment: Treatment) -> Trial
+fn trial_of(alloc: Global, pair: Pair, chosen: Datagram, treatment: Treatment) -> Trial
     requires { hosts_of pair ≡ trial_host ∷ [] }
 {
     Trial {
@@ -200,6 +239,9 @@ fn trial_of(pair: Pair, chosen: Datagram, treatment: Treatment) -> Trial
             b: false,
             c: false,
         },
+        script: String::new(alloc),
+        lines: 0,
+        shown: String::new(alloc),
         agreed: 0,
     }
 }
@@ -263,8 +305,8 @@ fn event_of(rt: &impl Abort, alloc: Global, given: Given) -> Result<PairEvent, A
 {
     match given {
         Given::Time(ms) => Ok(PairEvent::Moment(Moment::new(ms).expect(rt, "a moment"))),
-        Given::Open(socket) => called(alloc, opening(alloc, socket)?),
-        Given::Close(socket) => called(alloc, closing(alloc, socket)?),
+        Given::Opened(socket) => called(alloc, opening(alloc, socket)?),
+        Given::Left(socket) => called(alloc, closing(alloc, socket)?),
         Given::Packet => {
             let bytes = payload(rt, alloc, PACKET)?;
             Ok(PairEvent::Packet { bytes })
@@ -294,17 +336,19 @@ fn is_accepted(step: &PairStep) -> bool {
     }
 }
 
-fn row_admits(row: &Row, group: Ip, source: Ip) -> bool {
-    Endpoint::of(&PEER) == Some(row.endpoint) && row.group == group && row.filter.admits(&source)
-}
-
-fn rows_admit(rows: &[Row], group: Ip, source: Ip) -> bool {
-    for row in rows {
-        if row_admits(row, group, source) {
-            return true;
+fn delivery(alloc: Global, datagram: Datagram) -> Result<(PairEvent, String), AllocError>
+    ensures { IfOk result (λ both. MayCome (trial_host ∷ []) both.0) }
+{
+    match datagram {
+        Datagram::Up(number) => {
+            let line = format!(in alloc; "up {number}\n")?;
+            Ok((PairEvent::Up(number), line))
+        }
+        Datagram::Down(number) => {
+            let line = format!(in alloc; "down {number}\n")?;
+            Ok((PairEvent::Down(number), line))
         }
     }
-    false
 }
 
 impl Trial {
@@ -321,40 +365,26 @@ impl Trial {
         Ok(is_accepted(&step))
     }
 
-    // The rows forward a source of a group exactly where some socket wants it.
-    fn agrees_on(&self, rt: &impl Abort, rows: &[Row], group: Ip, source: Ip) {
-        assert!(rt;
-            rows_admit(rows, group, source) == self.open.wants(group, source),
-            "{:?} {:?} {:?} {:?}",
-            self.chosen,
-            self.treatment,
-            group,
-            source
-        );
+    fn write(&mut self, line: &str) -> Result<(), AllocError> {
+        self.script.push_str(line)?;
+        self.lines = self.lines.wrapping_add(1);
+        Ok(())
     }
 
-    fn agrees(&mut self, rt: &impl Abort, alloc: Global) -> Result<(), AllocError> {
-        let rows = self.pair.rows(alloc)?;
-        for group in [GROUP_A, GROUP_B, GROUP_C, GROUP_D] {
-            self.agrees_on(rt, rows.as_slice(), group, NINE);
-            self.agrees_on(rt, rows.as_slice(), group, TEN);
-        }
+    // The relay's memberships are shown: they are to be those of the open sockets.
+    fn show(&mut self, alloc: Global) -> Result<(), AllocError> {
+        self.write("show\n")?;
+        let rows = rows_of(alloc, self.lines, self.open)?;
+        self.shown.push_str(rows.as_str())?;
         self.agreed = self.agreed.wrapping_add(1);
         Ok(())
     }
 
-    fn deliver(
-        &mut self,
-        rt: &impl Abort,
-        alloc: Global,
-        datagram: Datagram,
-    ) -> Result<(), AllocError> {
-        let event = match datagram {
-            Datagram::Up(number) => PairEvent::Up(number),
-            Datagram::Down(number) => PairEvent::Down(number),
-        };
+    fn deliver(&mut self, alloc: Global, datagram: Datagram) -> Result<(), AllocError> {
+        let (event, line) = delivery(alloc, datagram)?;
+        self.write(line.as_str())?;
         if self.take(alloc, &event)? && datagram == Datagram::Up(self.full) {
-            self.agrees(rt, alloc)?;
+            self.show(alloc)?;
         }
         Ok(())
     }
@@ -373,12 +403,12 @@ impl Trial {
     }
 
     // The chosen datagram is lost, delivered twice or held back.
-    fn pass_chosen(&mut self, rt: &impl Abort, alloc: Global) -> Result<(), AllocError> {
+    fn pass_chosen(&mut self, alloc: Global) -> Result<(), AllocError> {
         match self.treatment {
             Treatment::Lost => Ok(()),
             Treatment::Twice => {
-                self.deliver(rt, alloc, self.chosen)?;
-                self.deliver(rt, alloc, self.chosen)
+                self.deliver(alloc, self.chosen)?;
+                self.deliver(alloc, self.chosen)
             }
             Treatment::AfterTheNext | Treatment::AfterTheNextThree | Treatment::Last => {
                 self.held = Some(held_for(self.treatment));
@@ -388,7 +418,7 @@ impl Trial {
     }
 
     // One delivery more has gone by: the datagram that is held back may be let go.
-    fn let_go(&mut self, rt: &impl Abort, alloc: Global) -> Result<(), AllocError> {
+    fn let_go(&mut self, alloc: Global) -> Result<(), AllocError> {
         let Some(left) = self.held else {
             return Ok(());
         };
@@ -397,42 +427,57 @@ impl Trial {
             return Ok(());
         }
         self.held = None;
-        self.deliver(rt, alloc, self.chosen)
+        self.deliver(alloc, self.chosen)
     }
 
-    fn pass(
-        &mut self,
-        rt: &impl Abort,
-        alloc: Global,
-        datagram: Datagram,
-    ) -> Result<(), AllocError> {
+    fn pass(&mut self, alloc: Global, datagram: Datagram) -> Result<(), AllocError> {
         if datagram == self.chosen {
-            return self.pass_chosen(rt, alloc);
+            return self.pass_chosen(alloc);
         }
-        self.deliver(rt, alloc, datagram)?;
-        self.let_go(rt, alloc)
+        self.deliver(alloc, datagram)?;
+        self.let_go(alloc)
     }
 
     // Everything that is under way arrives, in the order of sending, but for the chosen datagram.
-    fn run_network(&mut self, rt: &impl Abort, alloc: Global) -> Result<(), AllocError> {
+    fn run_network(&mut self, alloc: Global) -> Result<(), AllocError> {
         for _ in 0..16 {
             let Some(datagram) = self.next() else {
                 return Ok(());
             };
-            self.pass(rt, alloc, datagram)?;
+            self.pass(alloc, datagram)?;
+        }
+        Ok(())
+    }
+
+    // Everything that is under way is lost, but for the chosen datagram.
+    fn lose_all(&mut self, alloc: Global) -> Result<(), AllocError> {
+        for _ in 0..16 {
+            let Some(datagram) = self.next() else {
+                return Ok(());
+            };
+            if datagram == self.chosen {
+                self.pass_chosen(alloc)?;
+            }
         }
         Ok(())
     }
 
     fn give(&mut self, rt: &impl Abort, alloc: Global, given: Given) -> Result<(), AllocError> {
+        let line = line_of(alloc, given)?;
+        self.write(line.as_str())?;
         let event = event_of(rt, alloc, given)?;
         self.take(alloc, &event)?;
         match given {
-            Given::Time(_) | Given::Packet => {}
-            Given::Open(socket) => self.open.set(socket, true),
-            Given::Close(socket) => self.open.set(socket, false),
+            Given::Time(_) | Given::Packet => self.run_network(alloc),
+            Given::Opened(socket) => {
+                self.open.set(socket, true);
+                self.run_network(alloc)
+            }
+            Given::Left(socket) => {
+                self.open.set(socket, false);
+                self.lose_all(alloc)
+            }
         }
-        self.run_network(rt, alloc)
     }
 
     // The session, and at its end what was held back.
@@ -443,30 +488,53 @@ impl Trial {
         if self.held.is_some() {
             self.held = Some(1);
         }
-        self.let_go(rt, alloc)?;
-        self.run_network(rt, alloc)
+        self.let_go(alloc)?;
+        self.run_network(alloc)
     }
 }
 
-// The session with one datagram so treated: how often the latest full report was accepted.
-fn run_trial(
+// The session with one datagram so treated.
+fn session_with(
     rt: &impl Abort,
     alloc: Global,
     chosen: Datagram,
     treatment: Treatment,
-) -> Result<u64, AllocError> {
+) -> Result<Trial, AllocError> {
     let Ok(pair) = paired(alloc) else {
         return Err(AllocError);
     };
-    let mut trial = trial_of(pair, chosen, treatment);
+    let mut trial = trial_of(alloc, pair, chosen, treatment);
     trial.run(rt, alloc)?;
-    Ok(trial.agreed)
+    Ok(trial)
+}
+
+fn shown_by(alloc: Global, ended: &Ended) -> Result<String, AllocError> {
+    let text = String::from_utf8_lossy(alloc, ended.out.as_slice())?;
+    shown_in(alloc, text.as_str())
+}
+
+// The script of the trial ends well, with these rows.
+fn shows(rt: &impl Abort, alloc: Global, script: &str, rows: &str) -> Result<(), AllocError> {
+    let ended = replay(alloc, ROW, script)?;
+    let shown = shown_by(alloc, &ended)?;
+    assert!(rt; ended.status == 0 && shown.as_str() == rows, "{script}");
+    Ok(())
+}
+
+fn try_one(
+    rt: &impl Abort,
+    alloc: Global,
+    chosen: Datagram,
+    treatment: Treatment,
+) -> Result<(), AllocError> {
+    let trial = session_with(rt, alloc, chosen, treatment)?;
+    assert!(rt; trial.agreed >= 3, "{}", trial.script);
+    shows(rt, alloc, trial.script.as_str(), trial.shown.as_str())
 }
 
 fn is_tried(rt: &impl Abort, alloc: Global, chosen: Datagram, treatment: Treatment) {
-    match run_trial(rt, alloc, chosen, treatment) {
-        Ok(agreed) => assert!(rt; agreed >= 3, "{chosen:?} {treatment:?} {agreed}"),
-        Err(_) => is_out_of_memory(rt, "a trial"),
+    if try_one(rt, alloc, chosen, treatment).is_err() {
+        is_out_of_memory(rt, "a trial");
     }
 }
 
