@@ -229,12 +229,13 @@ module _ (setup : PairSetup) (lawful : IsLawfulSetup setup) (host : Host) (among
     stands-socket : (name : List ℕ) (event : GatewayEvent) → IsPairEvent setup.hosts (Socket name event)
         → Stands setup host endpoint InTime (with_pair_event setup course (Socket name event))
     stands-socket name event may =
-        stands-timeless event (has_name name) (timeless-call event may.0)
+        let call = may.may_come in
+        stands-timeless event (has_name name) (timeless-call event call.0)
         (λ reached.
         let named : name ≡ host.name = same_name-exact name host.name reached in
-        let one : may.1 ≡ host = one-name setup.hosts may.1 host lawful.apart may.2 among (may.3 ∙ named) in (
-          subst (λ (other : Host). MayHappen other.settings event) one may.4,
-          hears-call (membership_interval_ms setup.settings) host.settings (run_at host stands.events) event may.0,
+        let one : call.1 ≡ host = one-name setup.hosts call.1 host lawful.apart call.2 among (call.3 ∙ named) in (
+          subst (λ (other : Host). MayHappen other.settings event) one (record { is = may.fits; may_come = call.4 }),
+          hears-call (membership_interval_ms setup.settings) host.settings (run_at host stands.events) event call.0,
         ))
 
     -- a delivery to a gateway

@@ -20,7 +20,7 @@ use Rattle.relay_machine.specs.declared.event.Event.{Event}
 use Rattle.relay_machine.specs.declared.event.Event.TheVariants.{Datagram, Moment, Packet, Rotate}
 use Rattle.relay_machine.specs.declared.sends.OneSend.{OneSend}
 use Rattle.socket_merge.specs.History.{same_name}
-use Rattle.amt_pair.specs.Events.{MayHappen}
+use Rattle.amt_pair.specs.Events.{IsEvent}
 use Rattle.amt_pair.specs.Sent.{Sent, sent_on}
 use Rattle.amt_pair.specs.Setup.{Host, PairSetup, first_nonce, relay_peer}
 use Rattle.amt_pair.specs.declared.event.PairEvent.{PairEvent}
@@ -161,13 +161,17 @@ MayCome hosts (Socket name event) =
 MayCome hosts (Up number) = Unit {0}
 MayCome hosts (Down number) = Unit {0}
 
--- the same of an event of a schedule: besides, the numbers in a socket call fit their fields, and the sources
--- of its filter ascend, as in each value of the type of events
-abbrev pub IsPairEvent : List Host → PairEvent → Type 0
-IsPairEvent hosts (MomentForAll at) = Unit {0}
-IsPairEvent hosts (SecretComes secret) = Unit {0}
-IsPairEvent hosts (PacketComes bytes) = length bytes ≤ 65535
-IsPairEvent hosts (Socket name event) =
-    (is_some (call_in event) ≡ true) × (host : Host) × Contains hosts host × (host.name ≡ name) × MayHappen host.settings event
-IsPairEvent hosts (Up number) = Unit {0}
-IsPairEvent hosts (Down number) = Unit {0}
+-- the numbers in a socket call fit their fields, and the sources of its filter ascend, as in each value of the
+-- type of events
+abbrev pub FitsItsType : PairEvent → Type 0
+FitsItsType (MomentForAll at) = Unit {0}
+FitsItsType (SecretComes secret) = Unit {0}
+FitsItsType (PacketComes bytes) = Unit {0}
+FitsItsType (Socket name event) = IsEvent event
+FitsItsType (Up number) = Unit {0}
+FitsItsType (Down number) = Unit {0}
+
+-- an event of a schedule
+pub record IsPairEvent (hosts : List Host) (event : PairEvent) : Type 0 where
+  pub may_come : MayCome hosts event
+  pub fits : FitsItsType event

@@ -1,11 +1,11 @@
 //! What the types of settings, peers and events say of their numbers, for contracts. It must not know a pair.
 
-ghost use Rattle.std.specs.Prelude.{◌<◌, ◌^◌, All, List};
+ghost use Rattle.std.specs.Prelude.{◌<◌, ◌^◌, All};
 ghost use Rattle.amt_values.specs.Address.{IsAddress};
 ghost use Rattle.amt_pair.specs.Events.{IsEvent, IsFilter};
 ghost use Rattle.amt_pair.specs.Queries.{HasQuerySources};
-ghost use Rattle.amt_pair.specs.Schedule.{IsPairEvent, MayCome};
-ghost use Rattle.amt_pair.specs.Setup.{Host, IsPeer};
+ghost use Rattle.amt_pair.specs.Schedule.{FitsItsType};
+ghost use Rattle.amt_pair.specs.Setup.{IsPeer};
 
 use crate::event::PairEvent;
 use amt_values::{Ip, Peer, wire16};
@@ -64,9 +64,9 @@ fn gateway_event_fits(event: &GatewayEvent)
     }
 }
 
-/// An event that may come is one of a schedule.
+/// The same of a pair's event.
 pub fn pair_event_fits(event: &PairEvent)
-    ensures { (hosts : List Host) → MayCome hosts event.now → IsPairEvent hosts event.now }
+    ensures { FitsItsType event.now }
 {
     match event {
         PairEvent::Moment(_) => {}
