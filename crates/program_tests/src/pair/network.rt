@@ -84,21 +84,17 @@ const SESSION: [Given; 14] = [
     Given::Opened(Socket::A),
 ];
 
-fn line_of(alloc: Global, given: Given) -> Result<String, AllocError> {
+// The line of what happens, but for a time.
+fn line_of(given: Given) -> &'static str {
     match given {
-        Given::Time(ms) => format!(in alloc; "at {ms}\n"),
-        Given::Opened(Socket::A) => String::from_str(alloc, "g open a 239.1.1.1 exclude\n"),
-        Given::Opened(Socket::B) => {
-            String::from_str(alloc, "g open b 239.1.1.2 include 198.51.100.9\n")
-        }
-        Given::Opened(Socket::C) => String::from_str(alloc, "g open c 239.1.1.3 exclude\n"),
-        Given::Left(Socket::A) => String::from_str(alloc, "g close a\n"),
-        Given::Left(Socket::B) => String::from_str(alloc, "g close b\n"),
-        Given::Left(Socket::C) => String::from_str(alloc, "g close c\n"),
-        Given::Packet => String::from_str(
-            alloc,
-            "mc 4500001c0000000004119c92c6336409ef0101010400040000080000\n",
-        ),
+        Given::Time(_) => "",
+        Given::Opened(Socket::A) => "g open a 239.1.1.1 exclude\n",
+        Given::Opened(Socket::B) => "g open b 239.1.1.2 include 198.51.100.9\n",
+        Given::Opened(Socket::C) => "g open c 239.1.1.3 exclude\n",
+        Given::Left(Socket::A) => "g close a\n",
+        Given::Left(Socket::B) => "g close b\n",
+        Given::Left(Socket::C) => "g close c\n",
+        Given::Packet => "mc 4500001c0000000004119c92c6336409ef0101010400040000080000\n",
     }
 }
 
@@ -160,9 +156,15 @@ fn row_if(is_open: bool, row: &'static str) -> &'static str {
     if is_open { row } else { "" }
 }
 
+fn one_if(is_open: bool) -> u64 {
+    if is_open { 1 } else { 0 }
+}
+
 // The text of a show: each open socket has a row.
 fn rows_of(alloc: Global, number: u64, open: Open) -> Result<String, AllocError> {
-    let count = u8::from(open.a) + u8::from(open.b) + u8::from(open.c);
+    let count = one_if(open.a)
+        .wrapping_add(one_if(open.b))
+        .wrapping_add(one_if(open.c));
     let a = row_if(open.a, "* 198.51.100.7:5000 239.1.1.1 exclude -\n");
     let b = row_if(
         open.b,
@@ -336,21 +338,6 @@ fn is_accepted(step: &PairStep) -> bool {
     }
 }
 
-fn delivery(alloc: Global, datagram: Datagram) -> Result<(PairEvent, String), AllocError>
-    ensures { IfOk result (λ both. MayCome (trial_host ∷ []) both.0) }
-{
-    match datagram {
-        Datagram::Up(number) => {
-            let line = format!(in alloc; "up {number}\n")?;
-            Ok((PairEvent::Up(number), line))
-        }
-        Datagram::Down(number) => {
-            let line = format!(in alloc; "down {number}\n")?;
-            Ok((PairEvent::Down(number), line))
-        }
-    }
-}
-
 impl Trial {
     // What comes of an event, and whether the relay accepted a report.
     fn take(&mut self, alloc: Global, event: &PairEvent) -> Result<bool, AllocError>
@@ -366,24 +353,44 @@ impl Trial {
     }
 
     fn write(&mut self, line: &str) -> Result<(), AllocError> {
-        self.script.push_str(line)?;
         self.lines = self.lines.wrapping_add(1);
-        Ok(())
+        self.script.push_str(line)
     }
 
-    // The relay's memberships are shown: they are to be those of the open sockets.
-    fn show(&mut self, alloc: Global) -> Result<(), AllocError> {
-        self.write("show\n")?;
+    fn write_number(&mut self, alloc: Global, word: &str, number: u64) -> Result<(), AllocError> {
+        let line = format!(in alloc; "{word} {number}\n")?;
+        self.write(line.as_str())
+    }
+
+    // The last line is a show of the open sockets' rows.
+    fn expect_rows(&mut self, alloc: Global) -> Result<(), AllocError> {
         let rows = rows_of(alloc, self.lines, self.open)?;
-        self.shown.push_str(rows.as_str())?;
+        self.shown.push_str(rows.as_str())
+    }
+
+    fn show(&mut self, alloc: Global) -> Result<(), AllocError> {
         self.agreed = self.agreed.wrapping_add(1);
-        Ok(())
+        self.write("show\n")?;
+        self.expect_rows(alloc)
+    }
+
+    fn write_delivery(&mut self, alloc: Global, datagram: Datagram) -> Result<(), AllocError> {
+        match datagram {
+            Datagram::Up(number) => self.write_number(alloc, "up", number),
+            Datagram::Down(number) => self.write_number(alloc, "down", number),
+        }
+    }
+
+    fn take_delivery(&mut self, alloc: Global, datagram: Datagram) -> Result<bool, AllocError> {
+        match datagram {
+            Datagram::Up(number) => self.take(alloc, &PairEvent::Up(number)),
+            Datagram::Down(number) => self.take(alloc, &PairEvent::Down(number)),
+        }
     }
 
     fn deliver(&mut self, alloc: Global, datagram: Datagram) -> Result<(), AllocError> {
-        let (event, line) = delivery(alloc, datagram)?;
-        self.write(line.as_str())?;
-        if self.take(alloc, &event)? && datagram == Datagram::Up(self.full) {
+        self.write_delivery(alloc, datagram)?;
+        if self.take_delivery(alloc, datagram)? && datagram == Datagram::Up(self.full) {
             self.show(alloc)?;
         }
         Ok(())
@@ -462,11 +469,26 @@ impl Trial {
         Ok(())
     }
 
-    fn give(&mut self, rt: &impl Abort, alloc: Global, given: Given) -> Result<(), AllocError> {
-        let line = line_of(alloc, given)?;
-        self.write(line.as_str())?;
+    fn write_given(&mut self, alloc: Global, given: Given) -> Result<(), AllocError> {
+        match given {
+            Given::Time(ms) => self.write_number(alloc, "at", ms),
+            _ => self.write(line_of(given)),
+        }
+    }
+
+    fn take_given(
+        &mut self,
+        rt: &impl Abort,
+        alloc: Global,
+        given: Given,
+    ) -> Result<bool, AllocError> {
         let event = event_of(rt, alloc, given)?;
-        self.take(alloc, &event)?;
+        self.take(alloc, &event)
+    }
+
+    fn give(&mut self, rt: &impl Abort, alloc: Global, given: Given) -> Result<(), AllocError> {
+        self.write_given(alloc, given)?;
+        self.take_given(rt, alloc, given)?;
         match given {
             Given::Time(_) | Given::Packet => self.run_network(alloc),
             Given::Opened(socket) => {
