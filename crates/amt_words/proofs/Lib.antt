@@ -1,0 +1,5 @@
+mod Naming
+mod Numbers
+mod OddLines
+mod PlainLines
+mod Reading

@@ -1,0 +1,119 @@
+-- A required number that a parse found, in a command of two arguments.
+use Rattle.std.proofs.Common.{◌≡◌, ◌∙◌, ◌<◌, ◌≤◌, ◌++◌, ◌||◌, ◌^◌, ℕ, zero, suc, true, false, List, [], ◌∷◌, length, Option, Some, codes, refl, sym, subst, ap, inl, inr, arith}
+use Rattle.std.specs.Prelude.{pos, option_map, Ok, Result}
+use Rattle.std.specs.List.{All, slice_index_or}
+use Rattle.std.specs.Str.{bytes_eq}
+use Rattle.std.specs.Str.Parse.{ParsesUnsigned}
+use Rattle.std.proofs.lemmas.List.Elements.{All-nil}
+use Rattle.clap.specs.Words.{AddsArg, IsParsedFrom, IsPlain, IsPlainArg, ReadsOne, SameRules, Text, args_of, found_of, groups_of, one_text, without_minus}
+use Rattle.clap.specs.Built.{TakesValue}
+use Rattle.clap.specs.Facts.{least_values}
+use Rattle.clap.specs.declared.builder.action.ArgAction.TheVariants.{Set}
+use Rattle.clap.specs.declared.builder.arg.Arg.{Arg}
+use Rattle.clap.specs.declared.builder.command.Command.{Command}
+use Rattle.clap.specs.declared.builder.command.Command.TheViews.{out-Command}
+use Rattle.clap.specs.declared.builder.value_parser.ValueParser.TheVariants.{Signed}
+use Rattle.clap.specs.declared.parser.matches.ArgMatches.{ArgMatches}
+use Rattle.clap.specs.declared.parser.matches.Found.{Found}
+use Rattle.clap.proofs.CallerLemmas.{added_plain}
+use Rattle.clap.proofs.CallerReads.{required_reads, signed_reads}
+use Rattle.amt_words.specs.Given.{HasNumber}
+use Rattle.amt_words.specs.Line.{number_of}
+
+same_value : (a x : Arg) → SameRules a x → TakesValue a → TakesValue x
+same_value a x r t = (r.required ∙ t.0, r.action Set t.1, r.val_delim ∙ t.2, r.least t.1 t.3)
+
+-- the required argument at place k has a number
+number_at : (cmd : Command) (m : ArgMatches) → IsParsedFrom cmd m → IsPlain cmd
+    → (out-Command cmd).has_globals ≡ false → (out-Command cmd).subcommand_negates_reqs ≡ false
+    → (k : ℕ) (a : Arg) (id : Text) (least most : ℕ) → k < length (args_of cmd) → slice_index_or (args_of cmd) k a ≡ a
+    → TakesValue a → a.value_parser ≡ Some (Signed (pos least) (pos most)) → a.id.now ≡ id
+    → ((j : ℕ) (e : Arg) → j < length (args_of cmd) → bytes_eq (slice_index_or (args_of cmd) j e).id.now id ≡ true → j ≡ k)
+    → (id ≡ [] → ⊥) → (id ≡ codes "help" → ⊥) → (id ≡ codes "version" → ⊥)
+    → HasNumber (found_of m) id least most
+number_at cmd m p plain globals negates k a id least most lt at takes parser is unique named help version =
+    let same : (slice_index_or (args_of cmd) k a).id.now ≡ id = ap (λ (x : Arg). x.id.now) at ∙ is in
+    let read = required_reads cmd m p plain globals negates k a lt
+    (ap (λ (x : Arg). x.required) at ∙ takes.0)
+    (ap (λ (x : Arg). x.action) at ∙ takes.1)
+    (ap (λ (x : Arg). x.val_delim) at ∙ takes.2)
+    (subst (λ (x : Arg). 1 ≤ least_values x) (sym at) takes.3)
+    (λ j e low eq. unique j e low (subst (λ (t : Text). bytes_eq (slice_index_or (args_of cmd) j e).id.now t ≡ true) same eq))
+    (λ empty. named (sym same ∙ empty))
+    (λ auto. elim auto [ inl h ↦ help (sym same ∙ h) | inr h ↦ version (sym same ∙ h) ])
+    (Signed (pos least) (pos most)) (ap (λ (x : Arg). x.value_parser) at ∙ parser) in
+    (read.0, subst (λ (t : Text). one_text (found_of m) t ≡ Some (without_minus read.0)) same read.1, read.2)
+
+seed_alone : (x y : Arg) → y.id.now ≡ codes "N" → (j : ℕ) (e : Arg) → j < length (x ∷ y ∷ [])
+    → bytes_eq (slice_index_or (x ∷ y ∷ []) j e).id.now (codes "SEED") ≡ true → j ≡ 0
+seed_alone x y is zero e lt eq = refl
+seed_alone x y is (suc zero) e lt eq =
+    let no : false ≡ true = rw is at eq in
+    cc
+seed_alone x y is (suc (suc j)) e lt eq = absurd (omega arith)
+
+count_alone : (x y : Arg) → x.id.now ≡ codes "SEED" → (j : ℕ) (e : Arg) → j < length (x ∷ y ∷ [])
+    → bytes_eq (slice_index_or (x ∷ y ∷ []) j e).id.now (codes "N") ≡ true → j ≡ 1
+count_alone x y is zero e lt eq =
+    let no : false ≡ true = rw is at eq in
+    cc
+count_alone x y is (suc zero) e lt eq = refl
+count_alone x y is (suc (suc j)) e lt eq = absurd (omega arith)
+
+text_differs : (a b : Text) (x y : ℕ) → a ≡ b → length a ≡ x → length b ≡ y → (x ≡ y → ⊥) → ⊥
+text_differs a b x y e f g differ = differ (sym f ∙ ap (λ (t : Text). length t) e ∙ g)
+
+-- a command of the two arguments SEED and N has a number of each
+pub both_numbers : (start mid cmd : Command) (a b : Arg) (m : ArgMatches) → AddsArg start a mid → AddsArg mid b cmd
+    → args_of start ≡ [] → groups_of start ≡ []
+    → (out-Command start).has_globals ≡ false → (out-Command start).subcommand_negates_reqs ≡ false
+    → IsPlainArg a → a.global ≡ false → TakesValue a → IsPlainArg b → b.global ≡ false → TakesValue b
+    → a.id.now ≡ codes "SEED" → a.value_parser ≡ Some (Signed (pos 0) (pos 4294967295))
+    → b.id.now ≡ codes "N" → b.value_parser ≡ Some (Signed (pos 1) (pos 65536))
+    → IsParsedFrom cmd m
+    → HasNumber (found_of m) (codes "SEED") 0 4294967295 × HasNumber (found_of m) (codes "N") 1 65536
+both_numbers start mid cmd a b m first second args groups globals negates plain_a local_a takes_a plain_b local_b takes_b id_a parser_a id_b parser_b p =
+    let x = first.arg in
+    let y = second.arg in
+    let list : args_of cmd ≡ x ∷ y ∷ [] =
+    second.args ∙ ap (λ (l : List Arg). l ++ y ∷ []) (first.args ∙ ap (λ (l : List Arg). l ++ x ∷ []) args) in
+    let plain_start : IsPlain start = (subst (All IsPlainArg) (sym args) (All-nil IsPlainArg), groups) in
+    let plain_mid : IsPlain mid = added_plain start mid a first plain_start plain_a in
+    let plain : IsPlain cmd = added_plain mid cmd b second plain_mid plain_b in
+    let globals_mid = first.globals ∙ (ap (λ g. g || a.global) globals ∙ ap (λ g. false || g) local_a) in
+    let globals_cmd = second.globals ∙ (ap (λ g. g || b.global) globals_mid ∙ ap (λ g. false || g) local_b) in
+    let negates_cmd = second.negates ∙ (first.negates ∙ negates) in
+    let id_x : x.id.now ≡ codes "SEED" = ap (λ i. i.now) first.rules.id ∙ id_a in
+    let id_y : y.id.now ≡ codes "N" = ap (λ i. i.now) second.rules.id ∙ id_b in
+    let two : length (args_of cmd) ≡ 2 = ap (λ (l : List Arg). length l) list in (
+      number_at cmd m p plain globals_cmd negates_cmd 0 x (codes "SEED") 0 4294967295 (omega arith)
+          (ap (λ (l : List Arg). slice_index_or l 0 x) list) (same_value a x first.rules takes_a)
+          (first.rules.parser _ parser_a) id_x
+          (subst (λ (l : List Arg). (j : ℕ) (e : Arg) → j < length l → bytes_eq (slice_index_or l j e).id.now (codes "SEED") ≡ true → j ≡ 0)
+          (sym list) (seed_alone x y id_y))
+          (λ e. text_differs _ _ 4 0 e refl refl (λ n. absurd (omega arith)))
+          (λ e. let no : 83 ≡ 104 = ap (λ (t : Text). slice_index_or t 0 0) e in absurd (omega arith))
+          (λ e. text_differs _ _ 4 7 e refl refl (λ n. absurd (omega arith))),
+      number_at cmd m p plain globals_cmd negates_cmd 1 y (codes "N") 1 65536 (omega arith)
+          (ap (λ (l : List Arg). slice_index_or l 1 y) list) (same_value b y second.rules takes_b)
+          (second.rules.parser _ parser_b) id_y
+          (subst (λ (l : List Arg). (j : ℕ) (e : Arg) → j < length l → bytes_eq (slice_index_or l j e).id.now (codes "N") ≡ true → j ≡ 1)
+          (sym list) (count_alone x y id_x))
+          (λ e. text_differs _ _ 1 0 e refl refl (λ n. absurd (omega arith)))
+          (λ e. text_differs _ _ 1 4 e refl refl (λ n. absurd (omega arith)))
+          (λ e. text_differs _ _ 1 7 e refl refl (λ n. absurd (omega arith))),
+    )
+
+-- a typed getter reads the number of an argument that has one
+pub number_reads : (E : Type 0) (G : List ℕ → Result ℕ E → Type 0) (least most : ℕ) (found : Found) (id : Text) (r : Option ℕ)
+    → most < 2 ^ 32 → HasNumber found id least most
+    → ((t : List ℕ) → one_text found id ≡ Some t → ReadsOne G t r)
+    → ((u : List ℕ) (x : Result ℕ E) → G u x → ParsesUnsigned 32 10 u x)
+    → (n : ℕ) × (r ≡ Some n) × (least ≤ n) × (n ≤ most) × (option_map number_of (one_text found id) ≡ Some n)
+number_reads E G least most found id r fits given reads only =
+    let text = without_minus given.0 in
+    let read = reads text given.1 in
+    let n = signed_reads E G 32 least most given.0 r read only fits given.2 in
+    let gives : G text (Ok n.0) = subst (λ (o : Option ℕ). ReadsOne G text o) n.1 read in
+    let is : n.0 ≡ number_of text = (only text (Ok n.0) gives).1 in
+    (n.0, n.1, n.2, n.3, ap (option_map number_of) given.1 ∙ ap (λ (v : ℕ). Some v) (sym is))

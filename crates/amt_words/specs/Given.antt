@@ -1,0 +1,14 @@
+-- What a parse found for an argument that is a number.
+use Rattle.std.specs.Prelude.{◌≡◌, ◌<◌, ◌^◌, ℕ, Some, pos}
+use Rattle.clap.specs.Words.{IsSignedIn, Text, one_text, without_minus}
+use Rattle.clap.specs.declared.parser.matches.Found.{Found}
+
+-- a text was given for the argument, a number from least to most; clap drops the minus of -0
+abbrev pub HasNumber : Found → Text → ℕ → ℕ → Type 0
+HasNumber found id least most = (text : Text) × (one_text found id ≡ Some (without_minus text))
+    × IsSignedIn (pos least) (pos most) text
+
+-- the same, within some limits of `u32`
+abbrev pub HasSomeNumber : Found → Text → Type 0
+HasSomeNumber found id =
+    (least : ℕ) × (most : ℕ) × (most < 2 ^ 32) × HasNumber found id least most

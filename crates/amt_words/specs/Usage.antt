@@ -1,0 +1,66 @@
+-- What each command takes after its name, as written definitions of `clap`.
+use Rattle.std.specs.Prelude.{◌≡◌, ℕ, List, [], ◌∷◌, Some, true, pos, codes}
+use Rattle.clap.specs.Words.{App, Rule, Text, fault_of, new_app, new_rule, with_rule}
+use Rattle.clap.specs.Words.{with_subcommand}
+use Rattle.clap.specs.Simple.{new_shape, on_top}
+use Rattle.clap.specs.declared.builder.action.ArgAction.TheVariants.{Set}
+use Rattle.clap.specs.declared.builder.value_parser.ValueParser.TheVariants as parsers
+use Rattle.amt_words.specs.declared.command.Replayable.{Replayable}
+use Rattle.amt_words.specs.declared.command.Replayable.TheVariants.{Relay, Gateway, Pair}
+
+-- a name with nothing after it: no argument, and no flag that asks for help or the version
+abbrev pub bare_usage : Text → App
+bare_usage name = on_top (λ s. record s {
+  no_binary_name = true;
+  disable_help_flag = true;
+  disable_version_flag = true;
+}) (new_app name)
+
+-- a required argument without a name, a number from least to most
+abbrev pub number_rule : Text → ℕ → ℕ → Rule
+number_rule id least most = record (new_rule id) {
+  action = Some Set;
+  required = true;
+  parser = Some (parsers.Signed (pos least) (pos most));
+}
+
+-- replay relay|gateway|pair
+abbrev pub replayable_name : Replayable → Text
+replayable_name Relay = codes "relay"
+replayable_name Gateway = codes "gateway"
+replayable_name Pair = codes "pair"
+
+-- `replay` alone: one of its subcommands has to follow, and there is none for help
+abbrev pub replay_head : App
+replay_head = on_top (λ s. record s {
+  disable_help_subcommand = true;
+  subcommand_required = true;
+}) (bare_usage (codes "replay"))
+
+abbrev pub with_replayable : App → Replayable → App
+with_replayable usage kind = with_subcommand usage (new_shape (replayable_name kind))
+
+abbrev pub replay_usage : App
+replay_usage =
+    with_replayable (with_replayable (with_replayable replay_head Relay) Gateway) Pair
+
+-- dump
+abbrev pub dump_usage : App
+dump_usage = bare_usage (codes "dump")
+
+-- vectors
+abbrev pub vectors_usage : App
+vectors_usage = bare_usage (codes "vectors")
+
+-- load SEED N
+abbrev pub load_usage : App
+load_usage = with_rule (with_rule (bare_usage (codes "load"))
+    (number_rule (codes "SEED") 0 4294967295)) (number_rule (codes "N") 1 65536)
+
+-- the written definitions, one a command
+abbrev pub usages : List App
+usages = replay_usage ∷ dump_usage ∷ vectors_usage ∷ load_usage ∷ []
+
+-- the words after a command's name are among those that its written definition takes
+abbrev pub Takes : App → List Text → Type 0
+Takes usage words = fault_of usage words ≡ []

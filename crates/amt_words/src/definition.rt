@@ -1,0 +1,71 @@
+//! The written definitions of the commands, for `clap`. It reads no word.
+
+ghost use Rattle.std.specs.Prelude.{◌≡◌, ◌≤◌, [], codes, false, true, Some, None, pos, IfOk};
+ghost use Rattle.clap.specs.Words.{IsParsedFrom, IsPlainArg, app_of, args_of, found_of, groups_of, rule_of};
+ghost use Rattle.clap.specs.Built.{TakesValue};
+ghost use Rattle.clap.specs.declared.builder.command.Command.TheViews.{out-Command as fields_of};
+ghost use Rattle.clap.specs.declared.builder.value_parser.ValueParser.TheVariants.{Signed};
+ghost use Rattle.clap.specs.declared.parser.matches.ArgMatches.{ArgMatches as MatchesValue};
+ghost use Rattle.amt_words.specs.Given.{HasNumber};
+ghost use Rattle.amt_words.specs.Usage.{bare_usage, load_usage, number_rule, replay_head, replay_usage};
+
+use clap::{Arg, ArgAction};
+use std::alloc::{AllocError, Global};
+
+/// A command with nothing after its name.
+pub fn bare_definition<'a>(alloc: Global, name: &'a str) -> clap::Command<'a>
+    ensures usage { app_of result ≡ bare_usage name.entry.now }
+    ensures empty { (args_of result ≡ []) × (groups_of result ≡ []) }
+    ensures local { ((fields_of result).has_globals ≡ false)
+        × ((fields_of result).subcommand_negates_reqs ≡ false) }
+{
+    clap::Command::new(alloc, name)
+        .no_binary_name(true)
+        .disable_help_flag(true)
+        .disable_version_flag(true)
+}
+
+/// `replay`, and what can be replayed as its subcommands.
+pub fn replay_definition<'a>(alloc: Global) -> Result<clap::Command<'a>, AllocError>
+    ensures { IfOk result (λ definition. app_of definition ≡ replay_usage) }
+{
+    let head = bare_definition(alloc, "replay")
+        .disable_help_subcommand(true)
+        .subcommand_required(true);
+    head.subcommand(clap::Command::new(alloc, "relay"))?
+        .subcommand(clap::Command::new(alloc, "gateway"))?
+        .subcommand(clap::Command::new(alloc, "pair"))
+}
+
+fn seed_argument<'a>(alloc: Global) -> Arg<'a>
+    ensures rule { rule_of result ≡ number_rule (codes "SEED") 0 4294967295 }
+    ensures plain { IsPlainArg result × (result.global ≡ false) }
+    ensures value { TakesValue result }
+{
+    Arg::new(alloc, "SEED")
+        .required(true)
+        .action(ArgAction::Set)
+        .value_parser(clap::value_parser!(u32))
+}
+
+fn count_argument<'a>(alloc: Global) -> Arg<'a>
+    ensures rule { rule_of result ≡ number_rule (codes "N") 1 65536 }
+    ensures plain { IsPlainArg result × (result.global ≡ false) }
+    ensures value { TakesValue result }
+{
+    Arg::new(alloc, "N")
+        .required(true)
+        .action(ArgAction::Set)
+        .value_parser(clap::value_parser!(u32).range(1..=65536))
+}
+
+/// `load SEED N`.
+pub fn load_definition<'a>(alloc: Global) -> Result<clap::Command<'a>, AllocError>
+    ensures usage { IfOk result (λ definition. app_of definition ≡ load_usage) }
+    ensures numbers { IfOk result (λ definition. (found : MatchesValue)
+        → IsParsedFrom definition found → HasNumber (found_of found) (codes "SEED") 0 4294967295
+        × HasNumber (found_of found) (codes "N") 1 65536) }
+{
+    let definition = bare_definition(alloc, "load").arg(seed_argument(alloc))?;
+    definition.arg(count_argument(alloc))
+}

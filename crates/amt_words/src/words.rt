@@ -1,0 +1,53 @@
+//! The arguments as a command: the first names it, and the rest are read by its written definition.
+
+ghost use Rattle.std.specs.Prelude.{◌≡◌, List, map, string_bytes, IfOk, IsErrOf};
+ghost use Rattle.clap.specs.Words.{Text};
+ghost use Rattle.amt_words.specs.declared.command.Command.{Command as CommandValue};
+ghost use Rattle.amt_words.specs.Line.{IsAccepted, IsCommandLine, IsWithinLimits, TakesPlainLines};
+
+use crate::command::{Command, WordsFault};
+use crate::load::read_load;
+use crate::parsing::read_bare;
+use crate::replay::read_replay;
+use std::alloc::Global;
+
+/// The command that the arguments name, those after the program's name.
+///
+/// No line asks for help: `--help`, `-h` and `help` are usage faults.
+#[tactic(auto, using(crate::proofs::PlainLines::plain_lines))]
+pub fn read_words(alloc: Global, words: &[String]) -> Result<Command, WordsFault>
+    ensures found { IfOk result (λ command. IsCommandLine command (map string_bytes words.now)) }
+    ensures range { IfOk result IsWithinLimits }
+
+    ensures usage { IsErrOf result WordsFault.Usage
+        → (command : CommandValue) → IsCommandLine command (map string_bytes words.now) → ⊥ }
+    ensures refused { IsErrOf result WordsFault.Usage → IsAccepted (map string_bytes words.now) → ⊥ }
+
+    // Arguments are a line of at most one command.
+    ensures one_command { (words : List Text) (one other : CommandValue)
+        → IsCommandLine one words → IsCommandLine other words → one ≡ other }
+    ensures plain { TakesPlainLines }
+{
+    let Some((name, rest)) = words.split_first() else {
+        return Err(WordsFault::Usage);
+    };
+    match name.as_str() {
+        "replay" => match read_replay(alloc, rest) {
+            Ok(kind) => Ok(Command::Replay(kind)),
+            Err(fault) => Err(fault),
+        },
+        "dump" => match read_bare(alloc, "dump", rest) {
+            Ok(()) => Ok(Command::Dump),
+            Err(fault) => Err(fault),
+        },
+        "vectors" => match read_bare(alloc, "vectors", rest) {
+            Ok(()) => Ok(Command::Vectors),
+            Err(fault) => Err(fault),
+        },
+        "load" => match read_load(alloc, rest) {
+            Ok((seed, count)) => Ok(Command::Load { seed, count }),
+            Err(fault) => Err(fault),
+        },
+        _ => Err(WordsFault::Usage),
+    }
+}
