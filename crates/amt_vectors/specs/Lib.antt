@@ -1,0 +1,9 @@
+pub mod Answer
+pub mod BuiltIn
+pub mod Fault
+pub mod Kind
+pub mod Reading
+pub mod Report
+pub mod Row
+pub mod Says
+pub mod Texts
