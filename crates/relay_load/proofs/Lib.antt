@@ -1,0 +1,4 @@
+pub mod Draws
+pub mod Items
+pub mod Outcomes
+pub mod Runs

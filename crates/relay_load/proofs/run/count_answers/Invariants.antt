@@ -1,0 +1,13 @@
+use Rattle.std.proofs.Common.{◌≤◌, [], take}
+use Rattle.response_mac.specs.declared.secret.Secret.{Secret}
+use Rattle.relay_machine.specs.declared.settings.Settings.{Settings}
+use Rattle.relay_machine.specs.Answers.{RelayAt}
+use Rattle.relay_load.specs.Counting.{AreSmall, IsCounted}
+use Rattle.relay_load.proofs.run.count_answers.Given as goal
+
+abbrev pub invariant-loop-item : goal.invariant-loop-item
+invariant-loop-item l = record {
+  run : (settings : Settings) (first : Secret) → RelayAt l.initial.relay settings first [] → IsCounted l.relay l.counts settings first (take l.item-index l.items);
+  small : AreSmall l.counts;
+  few : l.counts.events ≤ l.item-index;
+}

@@ -1,0 +1,14 @@
+use Rattle.std.proofs.Common.{◌≡◌, ◌*◌, ◌++◌, map}
+use Rattle.std.specs.List.{AllByRecursion}
+use Rattle.amt_script.specs.declared.script.RelayItem.TheVariants.{Event as EventItem}
+use Rattle.amt_script.specs.Running.{IsItem}
+use Rattle.relay_load.specs.Generator.{number_after}
+use Rattle.relay_load.specs.Script.{load_updates}
+use Rattle.relay_load.proofs.updates.append_updates.Given as goal
+
+abbrev pub invariant-loop-before : goal.invariant-loop-before
+invariant-loop-before l = record {
+  number : l.generator.number ≡ number_after l.fn.seed (4 * l.before);
+  updates : l.items ≡ l.initial.items ++ map EventItem (load_updates l.fn.seed l.before);
+  sized : AllByRecursion IsItem l.initial.items → AllByRecursion IsItem l.items;
+}

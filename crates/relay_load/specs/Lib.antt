@@ -1,0 +1,7 @@
+pub mod Counting
+pub mod Counts
+pub mod Generator
+pub mod Packets
+pub mod Script
+pub mod Texts
+pub mod Updates

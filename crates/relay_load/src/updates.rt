@@ -1,0 +1,77 @@
+//! The Updates of a load. It must not know how their words are drawn.
+
+ghost use Rattle.std.specs.Prelude.{◌≡◌, ◌≤◌, ◌++◌, map, IfOk, OnOk};
+ghost use Rattle.std.specs.List.{AllByRecursion};
+ghost use Rattle.amt_script.specs.Running.{IsItem};
+ghost use Rattle.amt_script.specs.declared.script.RelayItem.TheVariants.{Event as EventItem};
+ghost use Rattle.relay_machine.specs.EventSize.{IsEvent};
+ghost use Rattle.relay_load.specs.Script.{load_updates};
+ghost use Rattle.relay_load.specs.Updates.{load_secret, record_with, update_with};
+
+use crate::generator::Generator;
+use crate::record::{Choice, draw_choice, write_chosen};
+use amt_messages::{Message, encode};
+use amt_script::{RelayItem, RelayItems};
+use amt_values::{Endpoint, Ip, Peer};
+use relay_machine::Event;
+use response_mac::{MacKey, Secret};
+use std::alloc::{AllocError, Global};
+
+/// The relay's secret.
+pub const LOAD_SECRET: Secret = Secret([0; 32]);
+
+/// 10.0.0.0, from which the addresses of the endpoints count.
+const ENDPOINT_BASE: u32 = 0x0a00_0000;
+
+// The Update of this place.
+#[tactic(auto, unfolding(crate::specs::Updates::update_with))]
+fn write_update(
+    alloc: Global,
+    key: &MacKey,
+    place: u32,
+    choice: &Choice,
+) -> Result<Event, AllocError>
+    requires key { key.now ≡ load_secret }
+    requires place { place ≤ 65536 }
+    ensures event { IfOk result (λ event. event ≡ update_with place choice.now.port choice.now.nonce
+        (record_with choice.now.excludes choice.now.group)) }
+    ensures sized { IfOk result IsEvent }
+{
+    let address = ENDPOINT_BASE + place;
+    let endpoint = Endpoint::named(u128::from(address), choice.port);
+    let update = Message::Update {
+        mac: key.mac(&endpoint, choice.nonce),
+        nonce: choice.nonce,
+        inner: write_chosen(alloc, choice)?,
+    };
+    Ok(Event::Datagram {
+        bytes: encode(alloc, &update)?,
+        from: Peer {
+            ip: Ip::V4(address),
+            port: choice.port,
+        },
+    })
+}
+
+/// Puts all Updates at the end.
+pub fn append_updates(
+    alloc: Global,
+    seed: u32,
+    count: u32,
+    items: &mut RelayItems,
+) -> Result<(), AllocError>
+    requires { count ≤ 65536 }
+    ensures updates { OnOk result (items.new ≡ items.old ++ map EventItem (load_updates seed count)) }
+    ensures sized { OnOk result (AllByRecursion IsItem items.old → AllByRecursion IsItem items.new) }
+{
+    let key = MacKey::new(LOAD_SECRET);
+    let mut generator = Generator {
+        number: u64::from(seed),
+    };
+    for before in 0..count {
+        let choice = draw_choice(&mut generator);
+        let event = write_update(alloc, &key, before + 1, &choice)?;
+        items.push(RelayItem::Event(event))?;
+    }
+    Ok(())
+}
