@@ -1,20 +1,77 @@
--- The commands, by cases: each replays a lawful kind of script, and no arguments name two.
-use Rattle.std.specs.Prelude.{◌≡◌, refl}
-use Rattle.script_lines.specs.Kind.{IsLawfulKind}
+-- The commands, by cases: what each reads, it reads in one way at most, and with one fault at most.
+use Rattle.std.proofs.Common.{◌⊎◌, ℕ, List, [], ◌∷◌, Result, Ok, Err, IfErr, inl, inr, refl, arith}
+use Rattle.script_lines.specs.Script.{IsErrorOf, RulesOutScripts}
+use Rattle.script_lines.specs.declared.fault.ScriptError.{ScriptError}
+use Rattle.script_lines.specs.declared.fault.ScriptError.TheVariants as errors
+use Rattle.script_lines.proofs.Verdicts.{one_fault, one_script}
+use Rattle.amt_dump.proofs.Lawful.{dump_kind_lawful, one_dump}
+use Rattle.amt_dump.specs.Lines.{dump_kind}
 use Rattle.amt_script.proofs.Lawful.{relay_kind_lawful}
+use Rattle.amt_script.specs.Script.{relay_kind}
+use Rattle.amt_vectors.proofs.Lawful.{vector_kind_lawful}
+use Rattle.amt_vectors.proofs.Reports.{report_unique}
+use Rattle.amt_vectors.specs.Kind.{vector_kind}
 use Rattle.gateway_script.proofs.Lawful.{gateway_kind_lawful}
+use Rattle.gateway_script.specs.Script.{gateway_kind}
 use Rattle.pair_script.proofs.Lawful.{pair_kind_lawful}
-use Rattle.amt_command.specs.declared.command.Command.{Command}
-use Rattle.amt_command.specs.declared.command.Command.TheVariants.{ReplayRelay, ReplayGateway, ReplayPair}
-use Rattle.amt_command.specs.Command.{arguments_of, replay_of}
+use Rattle.pair_script.specs.Script.{pair_kind}
+use Rattle.amt_words.specs.declared.command.Command.{Command}
+use Rattle.amt_words.specs.declared.command.Command.TheVariants.{Dump, Load, Replay, Vectors}
+use Rattle.amt_words.specs.declared.command.Replayable.TheVariants.{Gateway, Pair, Relay}
+use Rattle.amt_words.specs.Line.{IsAccepted, IsCommandLine}
+use Rattle.amt_words.specs.Usage.{dump_usage, load_usage, replay_usage, vectors_usage}
+use Rattle.amt_command.specs.Command.{dump_task, vectors_task, work_of}
+use Rattle.amt_command.specs.Task.{HasOneFault, HasOneValue, IsErrorBy}
 
-pub lawful_kind_of : (command : Command) → IsLawfulKind (replay_of command).kind
-lawful_kind_of ReplayRelay = relay_kind_lawful
-lawful_kind_of ReplayGateway = gateway_kind_lawful
-lawful_kind_of ReplayPair = pair_kind_lawful
+pub one_value_of : (command : Command) → HasOneValue (work_of command)
+one_value_of (Replay Relay) = one_script relay_kind relay_kind_lawful
+one_value_of (Replay Gateway) = one_script gateway_kind gateway_kind_lawful
+one_value_of (Replay Pair) = one_script pair_kind pair_kind_lawful
+one_value_of Dump = one_dump (one_script dump_kind dump_kind_lawful)
+one_value_of Vectors = report_unique
+one_value_of (Load seed count) = tt
 
-pub one_command : (one other : Command) → arguments_of one ≡ arguments_of other → one ≡ other
-one_command ReplayRelay ReplayRelay same = refl
-one_command ReplayGateway ReplayGateway same = refl
-one_command ReplayPair ReplayPair same = refl
-one_command one other same = cc same
+pub one_fault_of : (command : Command) → HasOneFault (work_of command)
+one_fault_of (Replay Relay) = one_fault relay_kind relay_kind_lawful
+one_fault_of (Replay Gateway) = one_fault gateway_kind gateway_kind_lawful
+one_fault_of (Replay Pair) = one_fault pair_kind pair_kind_lawful
+one_fault_of Dump = one_fault dump_kind dump_kind_lawful
+one_fault_of Vectors = one_fault vector_kind vector_kind_lawful
+one_fault_of (Load seed count) = tt
+
+-- the line of a command is taken by its written definition
+pub accepted : (command : Command) (line : List (List ℕ)) → IsCommandLine command line → IsAccepted line
+accepted command [] is = absurd is
+accepted (Replay kind) (name ∷ words) is = (0, replay_usage, omega arith, refl, (is.0, is.1))
+accepted Dump (name ∷ words) is = (1, dump_usage, omega arith, refl, (is.0, is.1))
+accepted Vectors (name ∷ words) is = (2, vectors_usage, omega arith, refl, (is.0, is.1))
+accepted (Load seed count) (name ∷ words) is = (3, load_usage, omega arith, refl, (is.0, is.1))
+
+-- what is said of an error in two clauses
+both : {T : Type 0} (P Q R : ScriptError → Type 0) (r : Result T ScriptError) → ((error : ScriptError) → P error → Q error → R error)
+    → IfErr r P → IfErr r Q → IfErr r R
+both P Q R (Ok value) f p q = tt
+both P Q R (Err error) f p q = f error p q
+
+dump_error : (bytes : List ℕ) (error : ScriptError) → IsErrorOf dump_kind bytes error → RulesOutScripts dump_kind bytes error → IsErrorBy dump_task bytes error
+dump_error bytes (errors.Fault line reason) fault none = (λ text dump. none dump.datagrams dump.spelled, fault)
+dump_error bytes errors.Memory fault none = tt
+
+pub dump_fault : {T : Type 0} (bytes : List ℕ) (r : Result T ScriptError) → IfErr r (IsErrorOf dump_kind bytes) → IfErr r (RulesOutScripts dump_kind bytes)
+    → IfErr r (IsErrorBy dump_task bytes)
+dump_fault bytes r fault none = both (IsErrorOf dump_kind bytes) (RulesOutScripts dump_kind bytes) (IsErrorBy dump_task bytes) r (dump_error bytes) fault none
+
+vectors_error : (bytes : List ℕ) (error : ScriptError) → IsErrorOf vector_kind bytes error → RulesOutScripts vector_kind bytes error
+    → IsErrorBy vectors_task bytes error
+vectors_error bytes (errors.Fault line reason) fault none = (λ suite report. none report.rows report.spells, fault)
+vectors_error bytes errors.Memory fault none = tt
+
+pub vectors_fault : {T : Type 0} (bytes : List ℕ) (r : Result T ScriptError) → IfErr r (IsErrorOf vector_kind bytes) → IfErr r (RulesOutScripts vector_kind bytes)
+    → IfErr r (IsErrorBy vectors_task bytes)
+vectors_fault bytes r fault none = both (IsErrorOf vector_kind bytes) (RulesOutScripts vector_kind bytes) (IsErrorBy vectors_task bytes) r (vectors_error bytes) fault none
+
+-- words that are no command's
+pub refused_by : {U : Type 0} (line : List (List ℕ)) → U ⊎ ((command : Command) × IsCommandLine command line)
+    → ((command : Command) → IsCommandLine command line → ⊥) → U
+refused_by line (inl refused) none = refused
+refused_by line (inr named) none = absurd (none named.0 named.1)

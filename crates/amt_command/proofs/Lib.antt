@@ -1,3 +1,5 @@
+pub mod Answering
 pub mod Commands
+pub mod Endings
 pub mod Lines
 pub mod Undisturbed

@@ -1,54 +1,68 @@
--- The commands, by their arguments, and the statuses of `amt`.
-use Rattle.std.specs.Prelude.{◌≡◌, ℕ, ◌==◌, List, [], ◌∷◌, ◌++◌, Option, Some, IsTrue, codes, if◌then◌else◌}
+-- The commands, by what each does, and the statuses of `amt`.
+use Rattle.std.specs.Prelude.{ℕ, ◌==◌, List, [], ◌∷◌, ◌++◌, None, IsTrue, codes, if◌then◌else◌}
 use Rattle.std.specs.List.{list_any}
+use Rattle.amt_dump.specs.Dump.{IsDump}
+use Rattle.amt_dump.specs.Lines.{dump_kind}
 use Rattle.amt_ports.specs.Causes.{Rose}
-use Rattle.amt_script.specs.declared.line.RelayStatement.{RelayStatement}
+use Rattle.amt_script.specs.Script.{relay_kind}
+use Rattle.amt_script.specs.Texts.{relay_script_text}
 use Rattle.amt_script.specs.declared.script.RelayScript.{RelayScript}
-use Rattle.gateway_script.specs.declared.line.GatewayStatement.{GatewayStatement}
+use Rattle.amt_vectors.specs.Kind.{vector_kind}
+use Rattle.amt_vectors.specs.Report.{IsReport}
+use Rattle.amt_vectors.specs.Texts.{difference_of, suite_text}
+use Rattle.amt_vectors.specs.declared.report.SuiteReport.{SuiteReport}
+use Rattle.amt_words.specs.Line.{IsAccepted}
+use Rattle.amt_words.specs.declared.command.Command.{Command}
+use Rattle.amt_words.specs.declared.command.Command.TheVariants.{Dump, Load, Replay, Vectors}
+use Rattle.amt_words.specs.declared.command.Replayable.TheVariants.{Gateway, Pair, Relay}
+use Rattle.gateway_script.specs.Script.{gateway_kind}
+use Rattle.gateway_script.specs.Texts.{gateway_script_text}
 use Rattle.gateway_script.specs.declared.script.GatewayScript.{GatewayScript}
+use Rattle.pair_script.specs.Script.{pair_kind}
+use Rattle.pair_script.specs.Texts.{pair_script_text}
 use Rattle.pair_script.specs.declared.script.PairScript.{PairScript}
-use Rattle.pair_script.specs.declared.statement.PairStatement.{PairStatement}
-use Rattle.amt_command.specs.declared.command.Command.{Command}
-use Rattle.amt_command.specs.declared.command.Command.TheVariants.{ReplayRelay, ReplayGateway, ReplayPair}
-use Rattle.amt_command.specs.Replay.{Replay, gateway_replay, pair_replay, relay_replay}
+use Rattle.relay_load.specs.Counts.{summary_of}
+use Rattle.relay_load.specs.Script.{load_script_of}
+use Rattle.relay_load.specs.Texts.{load_text}
+use Rattle.script_lines.specs.Script.{IsFaultAt}
+use Rattle.amt_command.specs.Task.{Task, Work, making, reading, replay_task}
 
--- the arguments of a command, those after the program's name
-abbrev pub arguments_of : Command → List (List ℕ)
-arguments_of ReplayRelay = codes "replay" ∷ codes "relay" ∷ []
-arguments_of ReplayGateway = codes "replay" ∷ codes "gateway" ∷ []
-arguments_of ReplayPair = codes "replay" ∷ codes "pair" ∷ []
+-- relay, gateway and pair scripts, each with the text of its run
+abbrev pub relay_task : Task RelayScript
+relay_task = replay_task relay_kind relay_script_text
 
--- what a line of its scripts says, and its scripts
-abbrev pub statement_of : Command → Type 0
-statement_of ReplayRelay = RelayStatement
-statement_of ReplayGateway = GatewayStatement
-statement_of ReplayPair = PairStatement
+abbrev pub gateway_task : Task GatewayScript
+gateway_task = replay_task gateway_kind gateway_script_text
 
--- what the lines of a whole script make
-abbrev pub script_of : Command → Type 0
-script_of ReplayRelay = RelayScript
-script_of ReplayGateway = GatewayScript
-script_of ReplayPair = PairScript
+abbrev pub pair_task : Task PairScript
+pair_task = replay_task pair_kind pair_script_text
 
--- what it replays
-abbrev pub replay_of : (command : Command) → Replay (statement_of command) (script_of command)
-replay_of ReplayRelay = relay_replay
-replay_of ReplayGateway = gateway_replay
-replay_of ReplayPair = pair_replay
+-- lines of hexadecimal digits, with the text of their messages
+abbrev pub dump_task : Task (List ℕ)
+dump_task = record { Reads = IsDump; HasFault = IsFaultAt dump_kind; text = λ text. text; difference = λ text. None }
 
--- the arguments are those of a command
-abbrev pub IsCommand : List (List ℕ) → Type 0
-IsCommand words = (command : Command) × (words ≡ arguments_of command)
+-- vector rows, with the number of those that passed, or the first that differs
+abbrev pub vectors_task : Task SuiteReport
+vectors_task = record { Reads = IsReport; HasFault = IsFaultAt vector_kind; text = suite_text; difference = difference_of }
 
--- done; usage; script; read; write; memory; too long
+-- what a command does
+abbrev pub work_of : Command → Work
+work_of (Replay Relay) = reading RelayScript relay_task
+work_of (Replay Gateway) = reading GatewayScript gateway_task
+work_of (Replay Pair) = reading PairScript pair_task
+work_of Dump = reading (List ℕ) dump_task
+work_of Vectors = reading SuiteReport vectors_task
+work_of (Load seed count) = making (load_text (summary_of (load_script_of seed count)))
+
+-- done; usage; script; read; write; memory; too long; difference
 abbrev pub IsStatus : ℕ → Type 0
-IsStatus status = IsTrue (list_any (λ known. known == status) (0 ∷ 2 ∷ 3 ∷ 4 ∷ 5 ∷ 7 ∷ 8 ∷ []))
+IsStatus status = IsTrue (list_any (λ known. known == status) (0 ∷ 2 ∷ 3 ∷ 4 ∷ 5 ∷ 7 ∷ 8 ∷ 9 ∷ []))
 
--- the statuses under which nothing is written: usage; script; read; too long
+-- the statuses under which nothing is written: usage; script; read; too long; difference
 abbrev pub IsQuiet : ℕ → Type 0
-IsQuiet status = IsTrue (list_any (λ known. known == status) (2 ∷ 3 ∷ 4 ∷ 8 ∷ []))
+IsQuiet status = IsTrue (list_any (λ known. known == status) (2 ∷ 3 ∷ 4 ∷ 8 ∷ 9 ∷ []))
 
--- what is written to standard error under the other statuses than that of a script with a fault;
+-- what is written to standard error under the other statuses than those of a fault and of a difference;
 -- nothing for status 0
 abbrev pub status_line : ℕ → List ℕ
 status_line status =
@@ -58,10 +72,9 @@ status_line status =
     else (if status == 7 then codes "amt: out of memory" ++ (10 ∷ [])
     else (if status == 8 then codes "amt: input too long" ++ (10 ∷ []) else []))))
 
--- the arguments are those of a command, the input tells these bytes, and neither it nor the output
--- failed, by their counts before and after
-pub record IsUndisturbed (words : List (List ℕ)) (left : Option (List ℕ)) (bytes : List ℕ) (reads reads' writes writes' : ℕ) : Type 0 where
-  pub accepted : IsCommand words
-  pub told : left ≡ Some bytes
+-- the arguments are a command's, and neither the input nor the output failed, by their counts before
+-- and after
+pub record IsUndisturbed (words : List (List ℕ)) (reads reads' writes writes' : ℕ) : Type 0 where
+  pub accepted : IsAccepted words
   pub reading : Rose reads reads' → ⊥
   pub writing : Rose writes writes' → ⊥

@@ -1,25 +1,29 @@
 -- The status and the line of each ending.
 use Rattle.std.specs.Prelude.{◌≡◌, ◌≢◌, ◌⊎◌, ℕ, List, [], Option, Result, Ok, Err, OnOk, IfErr, IsErrOf}
+use Rattle.std.specs.Io.KnownBytes.{Appends}
 use Rattle.amt_ports.specs.Causes.{Rose}
 use Rattle.amt_ports.specs.Reading.{TakesAtMost, TakesMore}
 use Rattle.amt_values.specs.declared.bytes.TheConstants.{INPUT_LIMIT}
+use Rattle.script_lines.specs.Writing.{WritesPrefix}
 use Rattle.amt_command.specs.declared.ending.Ending.{Ending}
-use Rattle.amt_command.specs.declared.ending.Ending.TheVariants.{Usage, Script, ReadFault, WriteFault, Memory, TooLong}
+use Rattle.amt_command.specs.declared.ending.Ending.TheVariants.{Difference, Fault, Memory, ReadFault, TooLong, Usage, WriteFault}
 use Rattle.amt_command.specs.Command.{status_line}
-use Rattle.amt_command.specs.Replay.{Replay, IsFaultText, Replays, BeginsToReplay}
+use Rattle.amt_command.specs.Task.{BeginsToWrite, IsDifferenceText, IsFaultText, Task, Work, Writes, making, reading}
 
 -- the status of an ending that isn't well
 abbrev pub status_of_ending : Ending → ℕ
 status_of_ending Usage = 2
-status_of_ending (Script line) = 3
+status_of_ending (Fault line) = 3
 status_of_ending ReadFault = 4
 status_of_ending WriteFault = 5
 status_of_ending Memory = 7
 status_of_ending TooLong = 8
+status_of_ending (Difference line) = 9
 
 -- its line on standard error
 abbrev pub line_of_ending : Ending → List ℕ
-line_of_ending (Script line) = line
+line_of_ending (Fault line) = line
+line_of_ending (Difference line) = line
 line_of_ending ending = status_line (status_of_ending ending)
 
 -- the status of a run, 0 where it ended well
@@ -32,17 +36,31 @@ abbrev pub line_of : {T : Type 0} → Result T Ending → List ℕ
 line_of (Ok done) = []
 line_of (Err ending) = line_of_ending ending
 
--- where a script has a fault, the line is its fault's
-abbrev pub TellsItsFault : {S W : Type 0} → Replay S W → Option (List ℕ) → Option (List ℕ) → Ending → Type 0
-TellsItsFault replay left left' (Script line) = IsFaultText replay left left' line
-TellsItsFault replay left left' ending = Unit {0}
+-- where the input has a fault or a difference, the line is that one's
+abbrev pub TellsWhy : {X : Type 0} → Task X → Option (List ℕ) → Option (List ℕ) → Ending → Type 0
+TellsWhy task left left' (Fault line) = IsFaultText task left left' line
+TellsWhy task left left' (Difference line) = IsDifferenceText task left left' line
+TellsWhy task left left' ending = Unit {0}
 
--- How a run that replays scripts of a kind ends, and what it leaves.
-pub record EndsFor {W X : Type 0} (replay : Replay W X) (left left' written written' : Option (List ℕ)) (OutIsSame : Type 0) (result : Result (Unit {0}) Ending) : Type 0 where
-  pub done : OnOk result (Replays replay left left' written written')
-  pub script : IfErr result (TellsItsFault replay left left')
-  pub begun : IsErrOf result WriteFault → BeginsToReplay replay left left' written written'
-  pub memory : IsErrOf result Memory → OutIsSame ⊎ BeginsToReplay replay left left' written written'
+-- How a run that reads its input ends, and what it leaves.
+pub record EndsReading {X : Type 0} (task : Task X) (left left' written written' : Option (List ℕ)) (OutIsSame : Type 0) (result : Result (Unit {0}) Ending) : Type 0 where
+  pub done : OnOk result (Writes task left left' written written')
+  pub why : IfErr result (TellsWhy task left left')
+  pub begun : IsErrOf result WriteFault → BeginsToWrite task left left' written written'
+  pub memory : IsErrOf result Memory → OutIsSame ⊎ BeginsToWrite task left left' written written'
+
+-- How a run that writes a text of its words alone ends, and what it leaves.
+pub record EndsMaking (text : List ℕ) (written written' : Option (List ℕ)) (OutIsSame InputIsSame : Type 0) (result : Result (Unit {0}) Ending) : Type 0 where
+  pub done : OnOk result (Appends written written' text)
+  pub begun : IsErrOf result WriteFault → WritesPrefix written written' text
+  pub memory : IsErrOf result Memory → OutIsSame
+  pub untouched : InputIsSame
+  pub only : IfErr result (λ ending. (ending ≡ WriteFault) ⊎ (ending ≡ Memory))
+
+-- how a run of the work ends
+abbrev pub EndsFor : Work → Option (List ℕ) → Option (List ℕ) → Option (List ℕ) → Option (List ℕ) → Type 0 → Type 0 → Result (Unit {0}) Ending → Type 0
+EndsFor (reading X task) left left' written written' OutIsSame InputIsSame result = EndsReading task left left' written written' OutIsSame result
+EndsFor (making text) left left' written written' OutIsSame InputIsSame result = EndsMaking text written written' OutIsSame InputIsSame result
 
 -- How the devices of such a run fare: a device failed once exactly where the ending says so, by its count of
 -- failures, and the input was taken past its limit exactly where the ending says that.

@@ -1,5 +1,5 @@
 pub mod Command
 pub mod Ending
 pub mod Exit
-pub mod Replay
 pub mod Status
+pub mod Task

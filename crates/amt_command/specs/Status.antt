@@ -1,37 +1,59 @@
 -- What a status says of a run, and what its run writes to standard error.
-use Rattle.std.specs.Prelude.{◌≡◌, ◌≢◌, ◌↔◌, ◌⊎◌, ℕ, ◌<◌, ◌≤◌, List, length, Option}
+use Rattle.std.specs.Prelude.{◌≡◌, ◌≢◌, ◌⊎◌, ℕ, ◌<◌, ◌≤◌, List, length, Option, None, Some}
 use Rattle.std.specs.Io.KnownBytes.{Appends}
 use Rattle.amt_ports.specs.Causes.{Rose}
 use Rattle.amt_ports.specs.Reading.{TakesAtMost, TakesMore}
 use Rattle.amt_values.specs.declared.bytes.TheConstants.{INPUT_LIMIT}
-use Rattle.script_lines.specs.Script.{Spells}
+use Rattle.amt_words.specs.Line.{IsAccepted, IsCommandLine}
+use Rattle.amt_words.specs.declared.command.Command.{Command}
 use Rattle.script_lines.specs.Writing.{WritesPrefix}
-use Rattle.amt_command.specs.declared.command.Command.{Command}
-use Rattle.amt_command.specs.Command.{IsCommand, arguments_of, replay_of, IsStatus, IsQuiet, IsUndisturbed, status_line}
-use Rattle.amt_command.specs.Replay.{Replay, Replays, BeginsToReplay, SpellsNothing, WritesFault, BeginsFault}
+use Rattle.amt_command.specs.Command.{IsQuiet, IsStatus, IsUndisturbed, status_line, work_of}
+use Rattle.amt_command.specs.Task.{BeginsToWrite, IsDifferenceText, IsFaultText, Task, Work, Writes, making, reading}
 
--- What the status says of a run that replays scripts of a kind. The functions are as below.
-pub record AnswersFor {W X : Type 0} (replay : Replay W X) {S O : Type 0} (left : S → Option (List ℕ)) (reads : S → ℕ) (written : O → Option (List ℕ)) (writes : O → ℕ) (line : List (List ℕ)) (input input' : S) (out out' : O) (status : ℕ) : Type 0 where
-  pub done : status ≡ 0 → Replays replay (left input) (left input') (written out) (written out')
-  pub script : status ≡ 3 → SpellsNothing replay (left input) (left input')
-  pub begun : status ≡ 5 → BeginsToReplay replay (left input) (left input') (written out) (written out')
-  pub memory : status ≡ 7 → (out' ≡ out) ⊎ BeginsToReplay replay (left input) (left input') (written out) (written out')
-  -- where nothing disturbs the run, the octets alone decide, unless memory runs out
-  pub complete : (bytes : List ℕ) (spelled : X)
-      → IsUndisturbed line (left input) bytes (reads input) (reads input') (writes out) (writes out')
-      → length bytes ≤ INPUT_LIMIT → Spells replay.kind spelled bytes → (status ≡ 0) ⊎ (status ≡ 7)
-  pub no_script : (bytes : List ℕ)
-      → IsUndisturbed line (left input) bytes (reads input) (reads input') (writes out) (writes out')
-      → length bytes ≤ INPUT_LIMIT → ((spelled : X) → Spells replay.kind spelled bytes → ⊥)
-      → (status ≡ 3) ⊎ (status ≡ 7)
+-- where nothing disturbs a run that reads its input, the octets of the input alone decide how it ends, unless
+-- memory runs out: these octets, which the input tells
+pub record Decides {X : Type 0} (task : Task X) (bytes : List ℕ) (status : ℕ) : Type 0 where
+  pub complete : (value : X) → length bytes ≤ INPUT_LIMIT → task.Reads value bytes → task.difference value ≡ None → (status ≡ 0) ⊎ (status ≡ 7)
+  pub differing : (value : X) (difference : List ℕ) → length bytes ≤ INPUT_LIMIT → task.Reads value bytes → task.difference value ≡ Some difference
+      → (status ≡ 9) ⊎ (status ≡ 7)
+  pub unreadable : length bytes ≤ INPUT_LIMIT → ((value : X) → task.Reads value bytes → ⊥) → (status ≡ 3) ⊎ (status ≡ 7)
+  pub overlong : INPUT_LIMIT < length bytes → (status ≡ 8) ⊎ (status ≡ 7)
+
+-- what the status says of a run that reads its input; the functions are as below
+pub record AnswersReading {X : Type 0} (task : Task X) {S O : Type 0} (left : S → Option (List ℕ)) (reads : S → ℕ) (written : O → Option (List ℕ)) (writes : O → ℕ) (line : List (List ℕ)) (input input' : S) (out out' : O) (status : ℕ) : Type 0 where
+  pub done : status ≡ 0 → Writes task (left input) (left input') (written out) (written out')
+  pub fault : status ≡ 3 → (text : List ℕ) × IsFaultText task (left input) (left input') text
+  pub difference : status ≡ 9 → (text : List ℕ) × IsDifferenceText task (left input) (left input') text
+  pub begun : status ≡ 5 → BeginsToWrite task (left input) (left input') (written out) (written out')
+  pub memory : status ≡ 7 → (out' ≡ out) ⊎ BeginsToWrite task (left input) (left input') (written out) (written out')
+  pub decides : (bytes : List ℕ) → left input ≡ Some bytes → IsUndisturbed line (reads input) (reads input') (writes out) (writes out')
+      → Decides task bytes status
+
+-- what the status says of a run that writes a text of its words alone
+pub record AnswersMaking (text : List ℕ) {S O : Type 0} (reads : S → ℕ) (written : O → Option (List ℕ)) (writes : O → ℕ) (line : List (List ℕ)) (input input' : S) (out out' : O) (status : ℕ) : Type 0 where
+  pub done : status ≡ 0 → Appends (written out) (written out') text
+  pub begun : status ≡ 5 → WritesPrefix (written out) (written out') text
+  pub memory : status ≡ 7 → out' ≡ out
+  pub untouched : input' ≡ input
+  pub only : (status ≡ 0) ⊎ ((status ≡ 5) ⊎ (status ≡ 7))
+  pub complete : IsUndisturbed line (reads input) (reads input') (writes out) (writes out') → (status ≡ 0) ⊎ (status ≡ 7)
+
+-- what the status says of a run of the work
+abbrev pub AnswersFor : Work → {S O : Type 0} → (S → Option (List ℕ)) → (S → ℕ) → (O → Option (List ℕ)) → (O → ℕ) → List (List ℕ) → S → S → O → O → ℕ → Type 0
+AnswersFor (reading X task) left reads written writes line input input' out out' status =
+    AnswersReading task left reads written writes line input input' out out' status
+AnswersFor (making text) left reads written writes line input input' out out' status =
+    AnswersMaking text reads written writes line input input' out out' status
 
 -- The status of a run over these arguments, with its input and output before and after. The functions are
 -- the octets that are left and were written, where a device tells them, and how often it failed.
 pub record Answers {S O : Type 0} (left : S → Option (List ℕ)) (reads : S → ℕ) (written : O → Option (List ℕ)) (writes : O → ℕ) (line : List (List ℕ)) (input input' : S) (out out' : O) (status : ℕ) : Type 0 where
-  pub words : (status ≡ 2) ⊎ IsCommand line
-  pub usage : (status ≡ 2) ↔ (IsCommand line → ⊥)
-  pub of_command : (command : Command) → line ≡ arguments_of command
-      → AnswersFor (replay_of command) left reads written writes line input input' out out' status
+  -- usage exactly where the arguments are no command's, unless memory runs out
+  pub words : ((status ≡ 2) ⊎ (status ≡ 7)) ⊎ ((command : Command) × IsCommandLine command line)
+  pub usage : status ≡ 2 → IsAccepted line → ⊥
+  pub refused : (IsAccepted line → ⊥) → (status ≡ 2) ⊎ (status ≡ 7)
+  pub of_command : (command : Command) → IsCommandLine command line
+      → AnswersFor (work_of command) left reads written writes line input input' out out' status
   pub read : status ≡ 4 → Rose (reads input) (reads input')
   pub write : status ≡ 5 → Rose (writes out) (writes out')
   pub calm_input : status ≢ 4 → reads input' ≡ reads input
@@ -39,21 +61,35 @@ pub record Answers {S O : Type 0} (left : S → Option (List ℕ)) (reads : S �
   pub too_long : status ≡ 8 → TakesMore INPUT_LIMIT (left input) (left input')
   pub within : (status ≡ 8 → ⊥) → TakesAtMost INPUT_LIMIT (left input) (left input')
   pub statuses : IsStatus status
-  pub overlong : (bytes : List ℕ)
-      → IsUndisturbed line (left input) bytes (reads input) (reads input') (writes out) (writes out')
-      → INPUT_LIMIT < length bytes → (status ≡ 8) ⊎ (status ≡ 7)
   -- what is left alone
-  pub untouched : status ≡ 2 → input' ≡ input
+  pub untouched : ((command : Command) → IsCommandLine command line → ⊥) → (input' ≡ input) × (out' ≡ out)
   pub quiet : IsQuiet status → out' ≡ out
+
+-- the line that tells a fault of the input; no run without input has one
+abbrev pub IsFaultOf : Work → Option (List ℕ) → Option (List ℕ) → List ℕ → Type 0
+IsFaultOf (reading X task) left left' text = IsFaultText task left left' text
+IsFaultOf (making made) left left' text = ⊥
+
+-- the line that tells a difference
+abbrev pub IsDifferenceOf : Work → Option (List ℕ) → Option (List ℕ) → List ℕ → Type 0
+IsDifferenceOf (reading X task) left left' text = IsDifferenceText task left left' text
+IsDifferenceOf (making made) left left' text = ⊥
+
+-- the line of a run of the work with this status
+pub record IsLineOf (work : Work) (left left' : Option (List ℕ)) (status : ℕ) (text : List ℕ) : Type 0 where
+  pub fault : status ≡ 3 → IsFaultOf work left left' text
+  pub difference : status ≡ 9 → IsDifferenceOf work left left' text
+  pub other : status ≢ 3 → status ≢ 9 → text ≡ status_line status
 
 -- what a run with this status over these arguments and an input writes to standard error
 pub record Reports {S E : Type 0} (left : S → Option (List ℕ)) (told : E → Option (List ℕ)) (failures : E → ℕ) (words : List (List ℕ)) (input input' : S) (err err' : E) (status : ℕ) : Type 0 where
-  pub line : (Rose (failures err) (failures err') → ⊥) → status ≢ 3 → Appends (told err) (told err') (status_line status)
-  pub fault_line : (command : Command) → words ≡ arguments_of command
-      → (Rose (failures err) (failures err') → ⊥) → status ≡ 3 → WritesFault (replay_of command) (left input) (left input') (told err) (told err')
-  pub prefix : status ≢ 3 → WritesPrefix (told err) (told err') (status_line status)
-  pub fault_prefix : (command : Command) → words ≡ arguments_of command
-      → status ≡ 3 → BeginsFault (replay_of command) (left input) (left input') (told err) (told err')
+  pub line : (command : Command) → IsCommandLine command words → (Rose (failures err) (failures err') → ⊥)
+      → (text : List ℕ) × IsLineOf (work_of command) (left input) (left input') status text × Appends (told err) (told err') text
+  pub prefix : (command : Command) → IsCommandLine command words
+      → (text : List ℕ) × IsLineOf (work_of command) (left input) (left input') status text × WritesPrefix (told err) (told err') text
+  -- where the arguments are no command's
+  pub usage_line : ((command : Command) → IsCommandLine command words → ⊥) → (Rose (failures err) (failures err') → ⊥) → Appends (told err) (told err') (status_line status)
+  pub usage_prefix : ((command : Command) → IsCommandLine command words → ⊥) → WritesPrefix (told err) (told err') (status_line status)
   pub silent : status ≡ 0 → err' ≡ err
 
 -- what is written to standard error where memory runs out before there are arguments

@@ -9,8 +9,8 @@ use amt_values::Bytes;
 pub enum Ending {
     /// The words are no command.
     Usage,
-    /// The input is no script; with the line that tells its first bad line and the reason.
-    Script(Bytes),
+    /// The input can't be read; with the line that tells its first bad line and the reason.
+    Fault(Bytes),
     /// A read of the input failed.
     ReadFault,
     /// A write of the output failed.
@@ -19,6 +19,8 @@ pub enum Ending {
     Memory,
     /// The input has more octets than are taken.
     TooLong,
+    /// The input was read and isn't as it should be; with the line that tells the difference.
+    Difference(Bytes),
 }
 
 impl Ending {
@@ -29,11 +31,12 @@ impl Ending {
     {
         match self {
             Ending::Usage => 2,
-            Ending::Script(_) => 3,
+            Ending::Fault(_) => 3,
             Ending::ReadFault => 4,
             Ending::WriteFault => 5,
             Ending::Memory => 7,
             Ending::TooLong => 8,
+            Ending::Difference(_) => 9,
         }
     }
 
@@ -44,11 +47,12 @@ impl Ending {
         match self {
             Ending::Usage =>
                 b"amt: usage: replay relay|gateway|pair, dump, vectors, load SEED N, relay FILE, gateway FILE\n",
-            Ending::Script(line) => line.as_slice(),
+            Ending::Fault(line) => line.as_slice(),
             Ending::ReadFault => b"amt: read fault\n",
             Ending::WriteFault => b"amt: write fault\n",
             Ending::Memory => b"amt: out of memory\n",
             Ending::TooLong => b"amt: input too long\n",
+            Ending::Difference(line) => line.as_slice(),
         }
     }
 }

@@ -1,18 +1,20 @@
 //! The command `amt`.
 //!
 //! Contract: each status has its cause, and with status 0 what was written is the text that the
-//! definitions give for the script that was read.
+//! definitions give for what was read, or for the words.
 //! It knows devices by their traits alone.
 //! Standard: none of its own; the formats stand in docs/FORMATS.md.
 #![tactic(auto)]
 
-mod command;
 mod ending;
 mod exit;
 mod fault;
-mod replayed;
-mod replaying;
+mod running;
+mod scripts;
+mod task;
+mod texts;
 mod top;
+mod writing;
 
 pub use exit::Exit;
 pub use top::{amt, amt_exit, amt_without_memory, exit_without_memory};

@@ -1,25 +1,44 @@
 //! The command: arguments in, status out. It knows devices by their traits alone.
 
-ghost use Rattle.std.specs.Prelude.{◌≡◌, ◌≢◌, ◌↔◌, ◌⊎◌, map, string_bytes, IsOk, IsErrOf, IfErr};
+ghost use Rattle.std.specs.Prelude.{◌≡◌, ◌⊎◌, map, string_bytes, IsOk, IsErrOf};
 ghost use Rattle.std.specs.Io.KnownBytes.{Appends};
 ghost use Rattle.amt_ports.specs.Causes.{Rose};
-ghost use Rattle.amt_ports.specs.Reading.{TakesAtMost, TakesMore};
-ghost use Rattle.amt_values.specs.declared.bytes.TheConstants.{INPUT_LIMIT};
-ghost use Rattle.script_lines.specs.Script.{HasOneScript, HasOneFault};
+ghost use Rattle.amt_words.specs.Line.{IsAccepted, IsCommandLine, IsWithinLimits};
+ghost use Rattle.amt_words.specs.declared.command.Command.{Command as CommandValue};
 ghost use Rattle.script_lines.specs.Writing.{WritesPrefix};
-ghost use Rattle.amt_command.specs.declared.command.Command.{Command as CommandValue};
-ghost use Rattle.amt_command.specs.Command.{IsCommand, arguments_of, replay_of};
+ghost use Rattle.amt_command.specs.Command.{work_of};
 ghost use Rattle.amt_command.specs.Ending.{EndsFor, LeavesDevices, status_of, line_of};
 ghost use Rattle.amt_command.specs.Exit.{status_in};
 ghost use Rattle.amt_command.specs.Status.{Answers, Reports, ReportsMemory};
+ghost use Rattle.amt_command.specs.Task.{HasOneFault, HasOneValue};
 
-use crate::command::{Command, command_of};
 use crate::ending::Ending;
 use crate::exit::Exit;
-use crate::replayed::{GatewayReplay, PairReplay, RelayReplay};
-use crate::replaying::replay;
+use crate::running::{run_load, run_task};
+use crate::scripts::{GatewayReplay, PairReplay, RelayReplay};
+use crate::texts::{Dump, Vectors};
 use amt_ports::{Sink, Source, write_all_own};
+use amt_words::{Command, Replayable, WordsFault, read_words};
 use std::alloc::Global;
+
+fn replay<S: Source, O: Sink>(
+    alloc: Global,
+    kind: Replayable,
+    input: &mut S,
+    out: &mut O,
+) -> Result<(), Ending>
+    ensures no_usage { IsErrOf result Ending.Usage → ⊥ }
+    ensures ends { EndsFor (work_of (CommandValue.Replay kind)) (S.left input.old) (S.left input.new)
+        (O.written out.old) (O.written out.new) (out.new ≡ out.old) (input.new ≡ input.old) result }
+    ensures devices { LeavesDevices S.left S.faults O.faults input.old input.new out.old out.new
+        result }
+{
+    match kind {
+        Replayable::Relay => run_task::<RelayReplay, S, O>(alloc, input, out),
+        Replayable::Gateway => run_task::<GatewayReplay, S, O>(alloc, input, out),
+        Replayable::Pair => run_task::<PairReplay, S, O>(alloc, input, out),
+    }
+}
 
 fn run_command<S: Source, O: Sink>(
     alloc: Global,
@@ -27,16 +46,18 @@ fn run_command<S: Source, O: Sink>(
     input: &mut S,
     out: &mut O,
 ) -> Result<(), Ending>
+    requires { IsWithinLimits command }
     ensures no_usage { IsErrOf result Ending.Usage → ⊥ }
-    ensures ends { EndsFor (replay_of command) (S.left input.old) (S.left input.new)
-        (O.written out.old) (O.written out.new) (out.new ≡ out.old) result }
+    ensures ends { EndsFor (work_of command) (S.left input.old) (S.left input.new)
+        (O.written out.old) (O.written out.new) (out.new ≡ out.old) (input.new ≡ input.old) result }
     ensures devices { LeavesDevices S.left S.faults O.faults input.old input.new out.old out.new
         result }
 {
     match command {
-        Command::ReplayRelay => replay::<RelayReplay, S, O>(alloc, input, out),
-        Command::ReplayGateway => replay::<GatewayReplay, S, O>(alloc, input, out),
-        Command::ReplayPair => replay::<PairReplay, S, O>(alloc, input, out),
+        Command::Replay(kind) => replay(alloc, kind, input, out),
+        Command::Dump => run_task::<Dump, S, O>(alloc, input, out),
+        Command::Vectors => run_task::<Vectors, S, O>(alloc, input, out),
+        Command::Load { seed, count } => run_load(alloc, seed, count, input, out),
     }
 }
 
@@ -46,18 +67,21 @@ fn run<S: Source, O: Sink>(
     input: &mut S,
     out: &mut O,
 ) -> Result<(), Ending>
-    ensures usage { IsErrOf result Ending.Usage ↔ (IsCommand (map string_bytes words.now) → ⊥) }
-    ensures words { IsErrOf result Ending.Usage ⊎ IsCommand (map string_bytes words.now) }
-    ensures untouched { IsErrOf result Ending.Usage → input.new ≡ input.old }
+    ensures usage { IsErrOf result Ending.Usage → IsAccepted (map string_bytes words.now) → ⊥ }
+    ensures words { (IsErrOf result Ending.Usage ⊎ IsErrOf result Ending.Memory) ⊎ ((command : CommandValue) × IsCommandLine command (map string_bytes words.now)) }
+    ensures untouched { ((command : CommandValue) → IsCommandLine command (map string_bytes words.now) → ⊥)
+        → (input.new ≡ input.old) × (out.new ≡ out.old) }
 
-    ensures of_command { (command : CommandValue) → map string_bytes words.now ≡ arguments_of command
-        → EndsFor (replay_of command) (S.left input.old) (S.left input.new) (O.written out.old)
-        (O.written out.new) (out.new ≡ out.old) result }
+    ensures of_command { (command : CommandValue) → IsCommandLine command (map string_bytes words.now)
+        → EndsFor (work_of command) (S.left input.old) (S.left input.new) (O.written out.old)
+        (O.written out.new) (out.new ≡ out.old) (input.new ≡ input.old) result }
     ensures devices { LeavesDevices S.left S.faults O.faults input.old input.new out.old out.new
         result }
 {
-    let Some(command) = command_of(words) else {
-        return Err(Ending::Usage);
+    let command = match read_words(alloc, words) {
+        Ok(command) => command,
+        Err(WordsFault::Usage) => return Err(Ending::Usage),
+        Err(WordsFault::Memory) => return Err(Ending::Memory),
     };
     match run_command(alloc, command, input, out) {
         Ok(()) => Ok(()),
@@ -88,8 +112,8 @@ fn report<E: Sink>(ending: &Result<(), Ending>, err: &mut E)
 
 /// The command `amt`: takes the words after the program's name, and answers the exit status.
 ///
-/// The words are judged first, then the input is read whole, then it is read as a script; only then
-/// is a step taken and something written to `out`.
+/// The words are judged first, then the input is read whole, then it is read as what the command reads; only
+/// then is a step taken and something written to `out`. `load` leaves the input alone.
 pub fn amt<S: Source, O: Sink, E: Sink>(
     alloc: Global,
     words: &[String],
@@ -102,9 +126,9 @@ pub fn amt<S: Source, O: Sink, E: Sink>(
     ensures reports { Reports S.left E.written E.faults (map string_bytes words.now)
         input.old input.new err.old err.new result }
 
-    // The octets of an input spell at most one script of the command, and have at most one fault.
-    ensures one_script { (command : CommandValue) → HasOneScript (replay_of command).kind }
-    ensures one_fault { (command : CommandValue) → HasOneFault (replay_of command).kind }
+    // The octets of an input are read as one value at most, and have one fault at most.
+    ensures one_value { (command : CommandValue) → HasOneValue (work_of command) }
+    ensures one_fault { (command : CommandValue) → HasOneFault (work_of command) }
 {
     let ending = run(alloc, words, input, out);
     report(&ending, err);
@@ -123,8 +147,8 @@ pub fn amt_exit<S: Source, O: Sink, E: Sink>(
         (map string_bytes words.now) input.old input.new out.old out.new (status_in result) }
     ensures reports { Reports S.left E.written E.faults (map string_bytes words.now)
         input.old input.new err.old err.new (status_in result) }
-    ensures one_script { (command : CommandValue) → HasOneScript (replay_of command).kind }
-    ensures one_fault { (command : CommandValue) → HasOneFault (replay_of command).kind }
+    ensures one_value { (command : CommandValue) → HasOneValue (work_of command) }
+    ensures one_fault { (command : CommandValue) → HasOneFault (work_of command) }
 {
     Exit::of(amt(alloc, words, input, out, err))
 }

@@ -1,41 +1,29 @@
-use Rattle.std.proofs.Common.{sym, ap, ◌∙◌, rules}
-use Rattle.script_lines.proofs.Verdicts.{one_script, one_fault}
-use Rattle.amt_command.specs.Command.{replay_of}
-use Rattle.amt_command.specs.Ending.{status_of, line_of}
-use Rattle.amt_command.proofs.Commands.{lawful_kind_of}
-use Rattle.amt_command.proofs.Undisturbed.{done_told, fault_told, script_told, long_done, long_fault, nothing_told, more_told, only_done, only_no_script, only_too_long, ok_of, write_of, memory_of}
+use Rattle.std.proofs.Common.{◌≡◌, ◌⊎◌, ℕ, List, map, string_bytes, sym, ap, subst, ◌∙◌, rules}
+use Rattle.std.specs.Io.KnownBytes.{Appends}
+use Rattle.script_lines.specs.Writing.{WritesPrefix}
+use Rattle.amt_words.specs.declared.command.Command.{Command}
+use Rattle.amt_words.specs.Line.{IsCommandLine}
+use Rattle.amt_command.specs.Command.{status_line, work_of}
+use Rattle.amt_command.specs.Ending.{line_of, status_of}
+use Rattle.amt_command.specs.Status.{AnswersFor, IsLineOf}
+use Rattle.amt_command.proofs.Answering.{answered, line_told}
+use Rattle.amt_command.proofs.Commands.{accepted, one_fault_of, one_value_of, refused_by}
+use Rattle.amt_command.proofs.Endings.{done_of, usage_line, usage_of, usage_status, words_status}
 use Rattle.amt_command.proofs.top.amt.Goals as goal
 
 pub returns-clause-answers : goal.returns-clause-answers
 returns-clause-answers g c =
     let result = c.run-ending.result in
     let run = c.run-ending.ensures in
-    let is = sym c.status_of.ensures in
+    let is : status_of result ≡ c.status_of.result = sym c.status_of.ensures in
     record {
-      words = search rules;
-      usage = search rules;
-      of_command = λ command same.
-          let replay = replay_of command in
-          let ends = run.of_command command same in record {
-            done = λ status. ok_of result ends.done (is ∙ status);
-            script = λ status. (line_of result, script_told replay _ _ result ends.script (is ∙ status));
-            begun = λ status. write_of result ends.begun (is ∙ status);
-            memory = λ status. memory_of result ends.memory (is ∙ status);
-            complete = λ bytes script h short spelled.
-                rw c.status_of.ensures (only_done result
-                (λ usage. run.usage.0 usage h.accepted)
-                (λ text said. nothing_told replay _ _ bytes text script h.told (fault_told replay _ _ result text ends.script said) spelled)
-                (λ fault. h.reading (run.devices.read fault))
-                (λ fault. h.writing (run.devices.write fault))
-                (λ long. more_told _ _ bytes h.told short (run.devices.too_long long)));
-            no_script = λ bytes h short none.
-                rw c.status_of.ensures (only_no_script result
-                (λ usage. run.usage.0 usage h.accepted)
-                (λ done. done_told replay _ _ _ _ result bytes h.told none ends.done done)
-                (λ fault. h.reading (run.devices.read fault))
-                (λ fault. h.writing (run.devices.write fault))
-                (λ long. more_told _ _ bytes h.told short (run.devices.too_long long)));
-          };
+      words = subst (λ (status : ℕ). ((status ≡ 2) ⊎ (status ≡ 7)) ⊎ ((command : Command) × IsCommandLine command (map string_bytes c.args.words.now))) is (words_status result run.words);
+      usage = λ status. run.usage (usage_of result (is ∙ status));
+      refused = λ none. subst (λ (status : ℕ). (status ≡ 2) ⊎ (status ≡ 7)) is (usage_status result (refused_by (map string_bytes c.args.words.now) run.words (λ command line. none (accepted command (map string_bytes c.args.words.now) line))));
+      of_command = λ command line.
+          subst (λ (status : ℕ). AnswersFor (work_of command) g.S.Source.left g.S.Source.faults g.O.Sink.written g.O.Sink.faults (map string_bytes c.args.words.now) c.args.input.now c.run-ending.new.input c.args.out.now c.run-ending.new.out status) is
+          (answered g.S.Source.left g.S.Source.faults g.O.Sink.written g.O.Sink.faults (map string_bytes c.args.words.now) c.args.input.now c.run-ending.new.input c.args.out.now c.run-ending.new.out
+          result run.devices run.usage (work_of command) (one_value_of command) (run.of_command command line));
       read = search rules;
       write = search rules;
       calm_input = search rules;
@@ -43,21 +31,40 @@ returns-clause-answers g c =
       too_long = search rules;
       within = λ other. run.devices.within (λ long. other (c.status_of.ensures ∙ ap status_of long));
       statuses = search rules;
-      overlong = λ bytes h long.
-          let replay = replay_of h.accepted.0 in
-          let ends = run.of_command h.accepted.0 h.accepted.1 in
-          rw c.status_of.ensures (only_too_long result
-          (λ usage. run.usage.0 usage h.accepted)
-          (λ done. long_done replay _ _ _ _ result bytes h.told long ends.done done)
-          (λ text said. long_fault replay _ _ bytes text h.told long (fault_told replay _ _ result text ends.script said))
-          (λ fault. h.reading (run.devices.read fault))
-          (λ fault. h.writing (run.devices.write fault)));
-      untouched = search rules;
+      untouched = run.untouched;
       quiet = search rules;
     }
 
-pub returns-clause-one_script : goal.returns-clause-one_script
-returns-clause-one_script g c = λ command. one_script (replay_of command).kind (lawful_kind_of command)
+pub returns-clause-reports : goal.returns-clause-reports
+returns-clause-reports g c =
+    let result = c.run-ending.result in
+    let run = c.run-ending.ensures in
+    let is : status_of result ≡ c.status_of.result = sym c.status_of.ensures in
+    let told = c.report.ensures in
+    record {
+      line = λ command line calm. (
+        line_of result,
+        subst (λ (status : ℕ). IsLineOf (work_of command) (g.S.Source.left c.args.input.now) (g.S.Source.left c.run-ending.new.input) status (line_of result)) is
+            (line_told _ _ _ _ _ _ result (work_of command) (run.of_command command line)),
+        told.line calm,
+      );
+      prefix = λ command line. (
+        line_of result,
+        subst (λ (status : ℕ). IsLineOf (work_of command) (g.S.Source.left c.args.input.now) (g.S.Source.left c.run-ending.new.input) status (line_of result)) is
+            (line_told _ _ _ _ _ _ result (work_of command) (run.of_command command line)),
+        told.prefix,
+      );
+      usage_line = λ none calm.
+          subst (λ (text : List ℕ). Appends (g.E.Sink.written c.args.err.now) (g.E.Sink.written c.report.new.err) text)
+          (usage_line result (refused_by (map string_bytes c.args.words.now) run.words none) ∙ ap status_line is) (told.line calm);
+      usage_prefix = λ none.
+          subst (λ (text : List ℕ). WritesPrefix (g.E.Sink.written c.args.err.now) (g.E.Sink.written c.report.new.err) text)
+          (usage_line result (refused_by (map string_bytes c.args.words.now) run.words none) ∙ ap status_line is) told.prefix;
+      silent = λ status. told.silent (done_of result (is ∙ status));
+    }
+
+pub returns-clause-one_value : goal.returns-clause-one_value
+returns-clause-one_value g c = one_value_of
 
 pub returns-clause-one_fault : goal.returns-clause-one_fault
-returns-clause-one_fault g c = λ command. one_fault (replay_of command).kind (lawful_kind_of command)
+returns-clause-one_fault g c = one_fault_of

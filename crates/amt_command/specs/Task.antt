@@ -1,0 +1,99 @@
+-- What a command makes of its input, and what it reads and writes of it.
+use Rattle.std.specs.Prelude.{◌≡◌, ℕ, ◌≤◌, List, [], ◌∷◌, ◌++◌, length, Option, None, Some, codes, decimal}
+use Rattle.std.specs.Io.KnownBytes.{Appends}
+use Rattle.amt_ports.specs.Reading.{TakesAll}
+use Rattle.amt_values.specs.declared.bytes.TheConstants.{INPUT_LIMIT}
+use Rattle.script_lines.specs.declared.reason.Reason.{Reason}
+use Rattle.script_lines.specs.declared.fault.ScriptError.{ScriptError}
+use Rattle.script_lines.specs.declared.fault.ScriptError.TheVariants as errors
+use Rattle.script_lines.specs.Kind.{Kind}
+use Rattle.script_lines.specs.Script.{Spells, IsFaultAt}
+use Rattle.script_lines.specs.Texts.{reason_word}
+use Rattle.script_lines.specs.Writing.{WritesPrefix}
+
+-- What a command makes of its input.
+-- `Reads value bytes`: the octets are read as this value.
+-- `HasFault line reason bytes`: they can't be; this is their first bad line, and the first reason in it.
+-- `text value`: what is written of it.
+-- `difference value`: what is told in place of the text, where the value isn't what it should be.
+pub record Task (X : Type 0) : Type 1 where
+  pub Reads : X → List ℕ → Type 0
+  pub HasFault : ℕ → Reason → List ℕ → Type 0
+  pub text : X → List ℕ
+  pub difference : X → Option (List ℕ)
+
+-- scripts of a kind are replayed: the text of each is written
+abbrev pub replay_task : {S W : Type 0} → Kind S W → (W → List ℕ) → Task W
+replay_task kind text = record { Reads = Spells kind; HasFault = IsFaultAt kind; text = text; difference = λ script. None }
+
+-- What a command does: it reads its input as something and writes a text of it, or it writes a text that its
+-- words alone make.
+pub data Work : Type 1 where
+  reading : (X : Type 0) → Task X → Work
+  making : List ℕ → Work
+
+-- the error is the fault of the octets, which can't be read; out of memory says nothing
+abbrev pub IsErrorBy : {X : Type 0} → Task X → List ℕ → ScriptError → Type 0
+IsErrorBy {X = X} task bytes (errors.Fault line reason) = ((value : X) → task.Reads value bytes → ⊥) × task.HasFault line reason bytes
+IsErrorBy task bytes errors.Memory = Unit {0}
+
+-- the input was read to its end, within its limit, and is read as this value
+pub record IsInput {X : Type 0} (task : Task X) (left left' : Option (List ℕ)) (value : X) : Type 0 where
+  pub bytes : List ℕ
+  pub read : TakesAll left left' bytes
+  pub short : length bytes ≤ INPUT_LIMIT
+  pub meant : task.Reads value bytes
+
+-- the input was read to its end, is as it should be, and its text was written
+pub record Writes {X : Type 0} (task : Task X) (left left' written written' : Option (List ℕ)) : Type 0 where
+  pub value : X
+  pub input : IsInput task left left' value
+  pub agrees : task.difference value ≡ None
+  pub text : Appends written written' (task.text value)
+
+-- the input was read to its end, is as it should be, and a prefix of its text was written
+pub record BeginsToWrite {X : Type 0} (task : Task X) (left left' written written' : Option (List ℕ)) : Type 0 where
+  pub value : X
+  pub input : IsInput task left left' value
+  pub agrees : task.difference value ≡ None
+  pub text : WritesPrefix written written' (task.text value)
+
+-- `amt: line L: REASON`
+abbrev pub fault_line : ℕ → Reason → List ℕ
+fault_line line reason =
+    codes "amt: line " ++ (decimal line ++ (codes ": " ++ (reason_word reason ++ (10 ∷ []))))
+
+-- `amt: ` and a difference
+abbrev pub difference_line : List ℕ → List ℕ
+difference_line difference = codes "amt: " ++ (difference ++ (10 ∷ []))
+
+-- the input was read to its end, within its limit, and can't be read as any value; the text gives the first
+-- bad line and the first reason in it
+pub record IsFaultText {X : Type 0} (task : Task X) (left left' : Option (List ℕ)) (text : List ℕ) : Type 0 where
+  pub bytes : List ℕ
+  pub read : TakesAll left left' bytes
+  pub short : length bytes ≤ INPUT_LIMIT
+  pub nothing : (value : X) → task.Reads value bytes → ⊥
+  pub line : ℕ
+  pub reason : Reason
+  pub fault : task.HasFault line reason bytes
+  pub text_is : text ≡ fault_line line reason
+
+-- the input was read to its end and isn't as it should be; the text gives the difference
+pub record IsDifferenceText {X : Type 0} (task : Task X) (left left' : Option (List ℕ)) (text : List ℕ) : Type 0 where
+  pub value : X
+  pub input : IsInput task left left' value
+  pub difference : List ℕ
+  pub differs : task.difference value ≡ Some difference
+  pub text_is : text ≡ difference_line difference
+
+-- octets are read as one value at most, and have one fault at most
+abbrev pub HasOneValue : Work → Type 0
+HasOneValue (reading X task) = (bytes : List ℕ) (one other : X) → task.Reads one bytes → task.Reads other bytes → one ≡ other
+HasOneValue (making text) = Unit {0}
+
+abbrev pub HasOneFault : Work → Type 0
+HasOneFault (reading X task) =
+    (bytes : List ℕ) (line line' : ℕ) (reason reason' : Reason) → task.HasFault line reason bytes → task.HasFault line' reason' bytes
+    → (line ≡ line') × (reason ≡ reason')
+HasOneFault (making text) = Unit {0}

@@ -1,0 +1,90 @@
+//! Scripts are replayed: each kind is read and run by its own crate. It knows no line.
+
+ghost use Rattle.amt_command.specs.Command.{gateway_task, pair_task, relay_task};
+
+use crate::task::HasTask;
+use amt_ports::Sink;
+use amt_script::{RelayScript, read_relay_script, run_relay_script};
+use amt_values::Bytes;
+use gateway_script::{GatewayScript, read_gateway_script, run_gateway_script};
+use pair_script::{PairScript, read_pair_script, run_pair_script};
+use script_lines::{RunFault, ScriptError};
+use std::alloc::{AllocError, Global};
+
+/// Relay scripts.
+#[derive(Drop)]
+pub struct RelayReplay {}
+
+impl HasTask for RelayReplay {
+    ghost use Rattle.amt_script.specs.Running.{IsRunnable};
+
+    type Value = RelayScript;
+
+    ghost task = { relay_task };
+
+    ghost CanWrite = { λ script. IsRunnable script };
+
+    fn read(alloc: Global, bytes: &[u8]) -> Result<RelayScript, ScriptError> {
+        read_relay_script(alloc, bytes)
+    }
+
+    fn difference(_alloc: Global, _script: &RelayScript) -> Result<Option<Bytes>, AllocError> {
+        Ok(None)
+    }
+
+    fn write<O: Sink>(alloc: Global, script: &RelayScript, out: &mut O) -> Result<(), RunFault> {
+        run_relay_script(alloc, script, out)
+    }
+}
+
+/// Gateway scripts.
+#[derive(Drop)]
+pub struct GatewayReplay {}
+
+impl HasTask for GatewayReplay {
+    ghost use Rattle.gateway_script.specs.Running.{IsRunnable};
+
+    type Value = GatewayScript;
+
+    ghost task = { gateway_task };
+
+    ghost CanWrite = { λ script. IsRunnable script };
+
+    fn read(alloc: Global, bytes: &[u8]) -> Result<GatewayScript, ScriptError> {
+        read_gateway_script(alloc, bytes)
+    }
+
+    fn difference(_alloc: Global, _script: &GatewayScript) -> Result<Option<Bytes>, AllocError> {
+        Ok(None)
+    }
+
+    fn write<O: Sink>(alloc: Global, script: &GatewayScript, out: &mut O) -> Result<(), RunFault> {
+        run_gateway_script(alloc, script, out)
+    }
+}
+
+/// Scripts of a relay and its gateways.
+#[derive(Drop)]
+pub struct PairReplay {}
+
+impl HasTask for PairReplay {
+    ghost use Rattle.pair_script.specs.Running.{IsRunnable};
+
+    type Value = PairScript;
+
+    ghost task = { pair_task };
+
+    ghost CanWrite = { λ script. IsRunnable script };
+
+    fn read(alloc: Global, bytes: &[u8]) -> Result<PairScript, ScriptError> {
+        read_pair_script(alloc, bytes)
+    }
+
+    fn difference(_alloc: Global, _script: &PairScript) -> Result<Option<Bytes>, AllocError> {
+        Ok(None)
+    }
+
+    fn write<O: Sink>(alloc: Global, script: &PairScript, out: &mut O) -> Result<(), RunFault> {
+        run_pair_script(alloc, script, out)
+    }
+}
