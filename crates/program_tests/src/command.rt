@@ -6,6 +6,7 @@ mod day;
 mod embedding;
 mod faults;
 mod mld;
+mod others;
 mod outcomes;
 mod packets;
 mod scripts;
@@ -102,4 +103,24 @@ fn a_teardown_ends_the_live_tunnel_that_it_names(rt: HostRuntime) {
 #[test]
 fn updates_change_what_is_shown(rt: HostRuntime) {
     are_texts(&rt, rt.alloc(), RELAY, &updates::ROWS);
+}
+
+#[test]
+fn each_datagram_has_its_lines(rt: HostRuntime) {
+    others::are_ended(&rt, rt.alloc(), &others::DUMPS);
+}
+
+#[test]
+fn vectors_pass_or_the_first_that_differs_ends_the_run(rt: HostRuntime) {
+    others::are_ended(&rt, rt.alloc(), &others::VECTORS);
+}
+
+#[test]
+fn a_load_has_its_summary(rt: HostRuntime) {
+    others::are_ended(&rt, rt.alloc(), &others::LOADS);
+}
+
+#[test]
+fn odd_words_are_usage(rt: HostRuntime) {
+    others::have_statuses(&rt, rt.alloc(), &others::WORDS);
 }

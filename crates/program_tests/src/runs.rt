@@ -17,6 +17,10 @@ pub type Start = (&'static str, &'static str);
 // How scripts begin that end with what a row gives, and the text before and after what it gives.
 pub type Frame = (Start, &'static str, &'static str);
 
+// The line of arguments that are none of a command.
+pub const USAGE: &str =
+    "amt: usage: replay relay|gateway|pair, dump, vectors, load SEED N, relay FILE, gateway FILE\n";
+
 #[derive(Drop)]
 pub struct Ended {
     pub status: u8,

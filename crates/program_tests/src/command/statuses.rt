@@ -23,9 +23,6 @@ const PAIR: &str =
 const PAIR_TEXT: &str =
     "= 1 g discovering 1\n> up 1 192.0.2.1:2268 0100000000000001\n= 2 relay advertised\n> down 1 198.51.100.7:5000 0200000000000001c0000201\n. 2\n";
 
-const USAGE: &str =
-    "amt: usage: replay relay|gateway|pair, dump, vectors, load SEED N, relay FILE, gateway FILE\n";
-
 #[derive(Clone, Copy)]
 enum Input {
     Text(&'static str),
@@ -36,7 +33,7 @@ enum Input {
 // Words, input and the calls that fail; the status, the output, and the line on standard error.
 type Case = (&'static str, Input, Failing, u8, &'static str, &'static str);
 
-const CASES: [Case; 26] = [
+const CASES: [Case; 34] = [
     ("", Input::Text(""), NONE_FAILS, 2, "", USAGE),
     ("jump", Input::Text(""), NONE_FAILS, 2, "", USAGE),
     ("replay", Input::Text(SCRIPT), NONE_FAILS, 2, "", USAGE),
@@ -164,6 +161,57 @@ const CASES: [Case; 26] = [
         "",
         "amt: write fault\n",
     ),
+    (
+        "dump",
+        Input::Text("03"),
+        (1, 0, 0),
+        4,
+        "",
+        "amt: read fault\n",
+    ),
+    (
+        "dump",
+        Input::Text("03"),
+        (0, 1, 0),
+        5,
+        "",
+        "amt: write fault\n",
+    ),
+    (
+        "vectors",
+        Input::Text(""),
+        (1, 0, 0),
+        4,
+        "",
+        "amt: read fault\n",
+    ),
+    (
+        "vectors",
+        Input::Text(""),
+        (0, 1, 0),
+        5,
+        "",
+        "amt: write fault\n",
+    ),
+    ("vectors", Input::Text("sum 00 0000"), (0, 0, 1), 9, "", ""),
+    // The input is left alone, so a read of it can not fail.
+    (
+        "load 0 1",
+        Input::Text(""),
+        (1, 0, 0),
+        0,
+        "events 18\nupdated 1\ncopied 1\nlive 1\n",
+        "",
+    ),
+    (
+        "load 0 1",
+        Input::Text(""),
+        (0, 1, 0),
+        5,
+        "",
+        "amt: write fault\n",
+    ),
+    ("load", Input::Text(""), (0, 0, 1), 2, "", ""),
     // A line that can not be written leaves the status.
     ("jump", Input::Text(""), (0, 0, 1), 2, "", ""),
     ("replay relay", Input::Text("jump"), (0, 0, 1), 3, "", ""),
@@ -172,7 +220,23 @@ const CASES: [Case; 26] = [
     ("replay gateway", Input::Text(GATEWAY), (0, 1, 1), 5, "", ""),
 ];
 
-const TOO_LONG: [Case; 4] = [
+const TOO_LONG: [Case; 6] = [
+    (
+        "dump",
+        Input::LineFeeds(16_777_217),
+        NONE_FAILS,
+        8,
+        "",
+        "amt: input too long\n",
+    ),
+    (
+        "vectors",
+        Input::LineFeeds(16_777_217),
+        NONE_FAILS,
+        8,
+        "",
+        "amt: input too long\n",
+    ),
     (
         "replay pair",
         Input::LineFeeds(16_777_217),
