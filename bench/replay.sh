@@ -1,9 +1,9 @@
 #!/bin/sh
 # What the proved binary costs over scripts of Discovery, of Request and of mixed lines, over one of a gateway
-# that packets come to, and over one of both ends, beside sed over the same octets; then the cost of one
-# update, packet and moment by the number of live tunnel endpoints, and of a packet to 1,000 of them. Times
-# are of the processor, and the least of some runs, so that other work on the machine disturbs them little. It
-# builds nothing: `rt run` in crates/amt leaves the binary at crates/amt/out/amt.
+# that packets come to, and over one of both ends, and of a dump of Queries, beside sed over the same octets;
+# then the cost of one update, packet and moment by the number of live tunnel endpoints, of a packet to 1,000 of
+# them, and of a load. Times are of the processor, and the least of some runs, so that other work on the machine
+# disturbs them little. It builds nothing: `rt run` in crates/amt leaves the binary at crates/amt/out/amt.
 #
 # usage: bench/replay.sh [BINARY]
 set -eu
@@ -78,6 +78,18 @@ for kind in discovery request mixed gateway pair; do
     done
 done
 
+# A Query with an IGMPv3 General Query, for 198.51.100.7:5000.
+query=04014db758a175550a0b0c0d46c000240000000001028211c0000201e0000001940400001164ec1e00000000027d00001388000000000000000000000000c6336407
+for mib in 1 4 16; do
+    input=$work/dump.$mib
+    yes "$query" | head -n $((mib * 1048576 / (${#query} + 1))) > "$input"
+    a=$(cost "$input" "$amt" dump | cut -d ' ' -f 1)
+    s=$(cost "$input" sed 's/^04/query /' | cut -d ' ' -f 1)
+    ratio=$(awk "BEGIN { printf \"%.1f\", $a / ($s > 0 ? $s : 1) }")
+    printf '%-10s %4s %8s %8s %7s %9s\n' dump "$mib" "$a" "$s" "$ratio" \
+        "$(cost "$input" "$amt" dump | cut -d ' ' -f 2)"
+done
+
 # What so many lines more cost, in microseconds a line. Each packet goes to one endpoint, nothing
 # expires at a moment, and in the last column each endpoint expires once.
 printf '\n%-10s %8s %10s %10s %10s %10s %8s\n' \
@@ -104,4 +116,11 @@ for endpoints in 1000 65536; do
     mixed receivers $endpoints 0 > "$work/none"
     mixed receivers $endpoints 100 > "$work/some"
     printf '%-10s %14s\n' $endpoints "$(each "$(replay "$work/none")" "$(replay "$work/some")" 100)"
+done
+
+# A load: an event is an Update, but for the 17 others.
+printf '\n%-10s %8s %10s %8s\n' load ms 'event us' 'peak KB'
+for endpoints in 4096 65536; do
+    set -- $(cost /dev/null "$amt" load 7 $endpoints)
+    printf '%-10s %8s %10s %8s\n' $endpoints "$1" "$(each 0 "$1" $((endpoints + 17)))" "$2"
 done
