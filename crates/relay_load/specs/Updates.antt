@@ -5,14 +5,13 @@ use Rattle.amt_values.specs.EndpointValue.{EndpointValue}
 use Rattle.amt_values.specs.declared.address.Ip.TheVariants.{V4}
 use Rattle.amt_messages.specs.Layout.{spelling_of}
 use Rattle.amt_messages.specs.declared.message.Message.TheVariants.{Update}
-use Rattle.inner_datagrams.specs.Written.{written_inner4}
-use Rattle.igmp_records.specs.Report.{written_report4}
 use Rattle.source_filter.specs.declared.record.Record.{Record}
 use Rattle.source_filter.specs.declared.record.RecordKind.TheVariants.{IsIn, IsEx}
 use Rattle.response_mac.specs.ResponseMac.{mac_of}
 use Rattle.response_mac.specs.declared.secret.Secret.{Secret}
 use Rattle.relay_machine.specs.declared.event.Event.{Event}
 use Rattle.relay_machine.specs.declared.event.Event.TheVariants.{Datagram}
+use Rattle.gateway_machine.specs.Reports.{report_datagram}
 use Rattle.relay_load.specs.Generator.{number_after, word_after}
 
 -- the relay's secret: 32 zero octets
@@ -35,10 +34,6 @@ load_source = 0xc6336401
 abbrev pub report_source : ℕ
 report_source = 0x0a000002
 
--- 224.0.0.22, to which they go (RFC 3376, section 4.2.14)
-abbrev pub report_destination : ℕ
-report_destination = 0xe0000016
-
 -- by the first word: a port from 1024 to 61023
 abbrev pub chosen_port : ℕ → ℕ
 chosen_port number = 1024 + word_after number 0 % 60000
@@ -60,9 +55,9 @@ abbrev pub record_with : Bool → ℕ → Record
 record_with true group = record { kind = IsEx; group = V4 group; sources = [] }
 record_with false group = record { kind = IsIn; group = V4 group; sources = V4 load_source ∷ [] }
 
--- the datagram that carries the report of one record
-abbrev pub report_datagram : Record → List ℕ
-report_datagram group_record = written_inner4 report_source report_destination (written_report4 (group_record ∷ []))
+-- the datagram that carries the report of one record, as a gateway at that address writes it
+abbrev pub load_report : Record → List ℕ
+load_report group_record = report_datagram (V4 report_source) (group_record ∷ [])
 
 -- the endpoint of this place, from 1 on, with this port: each place has an address of its own
 abbrev pub endpoint_at : ℕ → ℕ → EndpointValue
@@ -73,7 +68,7 @@ endpoint_at place port = record { address = endpoint_base + place; port = port }
 unfoldable pub update_with : ℕ → ℕ → ℕ → Record → Event
 update_with place port nonce group_record =
     Datagram
-    (spelling_of (Update (mac_of load_secret (endpoint_at place port) nonce) nonce (report_datagram group_record)))
+    (spelling_of (Update (mac_of load_secret (endpoint_at place port) nonce) nonce (load_report group_record)))
     (record { ip = V4 (endpoint_base + place); port = port })
 
 -- the Update of this place by the four words after a number of the generator

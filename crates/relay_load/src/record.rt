@@ -2,7 +2,7 @@
 
 ghost use Rattle.std.specs.Prelude.{◌≡◌, ◌≤◌, length, IfOk};
 ghost use Rattle.relay_load.specs.Generator.{number_after};
-ghost use Rattle.relay_load.specs.Updates.{chosen_exclude, chosen_group, chosen_nonce, chosen_port, record_with, report_datagram};
+ghost use Rattle.relay_load.specs.Updates.{chosen_exclude, chosen_group, chosen_nonce, chosen_port, record_with, load_report};
 
 use crate::generator::Generator;
 use amt_values::{Bytes, Ip};
@@ -76,9 +76,10 @@ fn chosen_record(alloc: Global, choice: &Choice) -> Result<Record, AllocError>
 }
 
 /// The datagram that carries the report of the record that was chosen.
+#[tactic(auto, unfolding(gateway_machine::specs::Reports::report_datagram))]
 pub fn write_chosen(alloc: Global, choice: &Choice) -> Result<Bytes, AllocError>
     ensures datagram { IfOk result (λ bytes. bytes
-        ≡ report_datagram (record_with choice.now.excludes choice.now.group)) }
+        ≡ load_report (record_with choice.now.excludes choice.now.group)) }
     ensures short { IfOk result (λ bytes. length bytes ≤ 100) }
 {
     let mut records = Records::with_room(alloc, 1)?;
