@@ -15,8 +15,9 @@ use Rattle.relay_machine.specs.declared.outcome.Unlawful.TheVariants.{Inner, Rep
 use Rattle.group_records.specs.Code.{code_count}
 use Rattle.igmp_records.specs.Query.{IsQuery4}
 use Rattle.mld_records.specs.Query.{IsQuery6}
+use Rattle.socket_merge.specs.Refusal.{family_of}
 use Rattle.amt_dump.specs.Queries.{carried_query, query_by, query_in}
-use Rattle.amt_dump.specs.Texts.{datagram_lines, family_of, reading_lines}
+use Rattle.amt_dump.specs.Texts.{datagram_lines, reading_lines}
 
 pub lines_of_message : (number : ℕ) (bytes : List ℕ) (message : Message) → message_of bytes ≡ Ok message → reading_lines number (Ok message) ≡ datagram_lines number bytes
 unfolding datagram_lines

@@ -5,7 +5,6 @@ use Rattle.amt_values.specs.Endpoint.{peer_of}
 use Rattle.amt_values.specs.EndpointValue.{EndpointValue}
 use Rattle.amt_values.specs.Text.{ip_text, peer_text}
 use Rattle.amt_values.specs.declared.address.Ip.{Ip}
-use Rattle.amt_values.specs.declared.address.Ip.TheVariants as addresses
 use Rattle.amt_values.specs.declared.mac.Mac48.{Mac48}
 use Rattle.amt_messages.specs.Refusal.{message_of}
 use Rattle.amt_messages.specs.declared.message.Message.{Message}
@@ -19,8 +18,8 @@ use Rattle.source_filter.specs.declared.record.Record.{Record}
 use Rattle.source_filter.specs.declared.record.RecordKind.{RecordKind}
 use Rattle.source_filter.specs.declared.record.RecordKind.TheVariants.{IsIn, IsEx, ToIn, ToEx, Allow, Block}
 use Rattle.group_records.specs.Code.{code_value}
-use Rattle.group_records.specs.declared.family.Family.{Family}
-use Rattle.group_records.specs.declared.family.Family.TheVariants.{V4, V6}
+use Rattle.group_records.specs.declared.family.Family.TheVariants.{V4}
+use Rattle.socket_merge.specs.Refusal.{family_of}
 use Rattle.relay_machine.specs.Updates.{report_in}
 use Rattle.relay_machine.specs.declared.outcome.Unlawful.{Unlawful}
 use Rattle.script_lines.specs.Texts.{hex_text, nonce_text}
@@ -73,11 +72,6 @@ message_words (Update mac nonce inner) = codes "update" ++ (mac_words mac nonce 
 message_words (Multicast packet) = codes "data length=" ++ (decimal (length packet) ++ packet_words packet)
 message_words (Teardown mac nonce gateway) =
     codes "teardown" ++ (mac_words mac nonce ++ (codes " gateway=" ++ peer_text (peer_of gateway)))
-
--- the family of an address
-abbrev pub family_of : Ip → Family
-family_of (addresses.V4 number) = V4
-family_of (addresses.V6 number) = V6
 
 -- The robustness variable as it is carried; the interval in seconds, and the response time in tenths of a
 -- second or, of MLDv2, in milliseconds, as their codes say. Zeros aren't taken for the defaults (RFC 3376,

@@ -2,8 +2,8 @@
 
 ghost use Rattle.std.specs.Prelude.{◌≡◌, ◌≤◌, ◌<◌, length, IfOk};
 ghost use Rattle.group_records.specs.Code.{code_count};
+ghost use Rattle.socket_merge.specs.Refusal.{family_of};
 ghost use Rattle.amt_dump.specs.Queries.{carried_query, query_in};
-ghost use Rattle.amt_dump.specs.Texts.{family_of};
 
 use amt_values::{Ip, wire16};
 use igmp_records::read_query4;
