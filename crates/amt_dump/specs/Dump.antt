@@ -1,5 +1,5 @@
 -- The text of lines of datagrams.
-use Rattle.std.specs.Prelude.{◌≡◌, ℕ, List, [], ◌∷◌, ◌++◌}
+use Rattle.std.specs.Prelude.{◌≡◌, ℕ, List, [], ◌∷◌, ◌++◌, length}
 use Rattle.std.specs.Str.Lines.{lines}
 use Rattle.script_lines.specs.Script.{Spells}
 use Rattle.amt_dump.specs.Lines.{dump_kind, numbers_that_say}
@@ -11,10 +11,12 @@ dump_text [] datagrams = []
 dump_text (number ∷ numbers) [] = []
 dump_text (number ∷ numbers) (datagram ∷ datagrams) = datagram_lines number datagram ++ dump_text numbers datagrams
 
--- the bytes spell datagrams line by line, and this is their text; lines are counted from 1, skipped ones too
+-- the bytes spell datagrams line by line, each has the number of a line, and this is their text; lines are counted
+-- from 1, skipped ones too
 pub record IsDump (text bytes : List ℕ) : Type 0 where
   pub datagrams : List (List ℕ)
   pub spelled : Spells dump_kind datagrams bytes
+  pub numbered : length (numbers_that_say 1 (lines bytes)) ≡ length datagrams
   pub printed : text ≡ dump_text (numbers_that_say 1 (lines bytes)) datagrams
 
 -- no bytes have two texts
