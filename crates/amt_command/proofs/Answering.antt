@@ -4,7 +4,7 @@ use Rattle.amt_command.specs.declared.ending.Ending.{Ending}
 use Rattle.amt_command.specs.declared.ending.Ending.TheVariants.{Difference, Fault, Memory, ReadFault, TooLong, Usage, WriteFault}
 use Rattle.amt_words.specs.Line.{IsAccepted}
 use Rattle.amt_command.specs.Ending.{EndsFor, LeavesDevices, TellsWhy, line_of, status_of}
-use Rattle.amt_command.specs.Status.{AnswersFor, IsDifferenceOf, IsFaultOf, IsLineOf}
+use Rattle.amt_command.specs.Status.{AnswersFor, IsDifferenceOf, IsFaultOf, IsLineOfStatus}
 use Rattle.amt_command.specs.Task.{HasOneValue, Work, making, reading}
 use Rattle.amt_command.proofs.Endings.{by_ending, difference_of, done_of, done_status, fault_of, memory_of, on_done, on_error, other_line, write_of}
 use Rattle.amt_command.proofs.Undisturbed.{decided}
@@ -39,7 +39,7 @@ module _ (left left' written written' : Option (List ℕ)) (OutIsSame InputIsSam
   difference_told (making text) ends status =
       only_ending r (Difference (line_of r)) (λ same. cc same) (λ same. cc same) (λ is. on_error IsLate r (Difference (line_of r)) ends.only is) (difference_of r status)
 
-  pub line_told : (work : Work) → EndsFor work left left' written written' OutIsSame InputIsSame r → IsLineOf work left left' (status_of r) (line_of r)
+  pub line_told : (work : Work) → EndsFor work left left' written written' OutIsSame InputIsSame r → IsLineOfStatus work left left' (status_of r) (line_of r)
   line_told work ends = record { fault = fault_told work ends; difference = difference_told work ends; other = other_line r }
 
 module _ {S O : Type 0} (left : S → Option (List ℕ)) (reads : S → ℕ) (written : O → Option (List ℕ)) (writes : O → ℕ) (line : List (List ℕ)) (input input' : S) (out out' : O)

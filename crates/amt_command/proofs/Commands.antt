@@ -21,7 +21,7 @@ use Rattle.amt_words.specs.declared.command.Replayable.TheVariants.{Gateway, Pai
 use Rattle.amt_words.specs.Line.{IsAccepted, IsCommandLine}
 use Rattle.amt_words.specs.Usage.{dump_usage, load_usage, replay_usage, vectors_usage}
 use Rattle.amt_command.specs.Command.{dump_task, vectors_task, work_of}
-use Rattle.amt_command.specs.Task.{HasOneFault, HasOneValue, IsErrorBy}
+use Rattle.amt_command.specs.Task.{HasOneFaultFor, HasOneValue, IsErrorBy}
 
 pub one_value_of : (command : Command) → HasOneValue (work_of command)
 one_value_of (Replay Relay) = one_script relay_kind relay_kind_lawful
@@ -31,7 +31,7 @@ one_value_of Dump = one_dump (one_script dump_kind dump_kind_lawful)
 one_value_of Vectors = report_unique
 one_value_of (Load seed count) = tt
 
-pub one_fault_of : (command : Command) → HasOneFault (work_of command)
+pub one_fault_of : (command : Command) → HasOneFaultFor (work_of command)
 one_fault_of (Replay Relay) = one_fault relay_kind relay_kind_lawful
 one_fault_of (Replay Gateway) = one_fault gateway_kind gateway_kind_lawful
 one_fault_of (Replay Pair) = one_fault pair_kind pair_kind_lawful

@@ -8,7 +8,7 @@ use Rattle.amt_script.specs.Script.{relay_kind}
 use Rattle.amt_script.specs.Texts.{relay_script_text}
 use Rattle.amt_script.specs.declared.script.RelayScript.{RelayScript}
 use Rattle.amt_vectors.specs.Kind.{vector_kind}
-use Rattle.amt_vectors.specs.Report.{IsReport}
+use Rattle.amt_vectors.specs.Report.{IsVectorsReport}
 use Rattle.amt_vectors.specs.Texts.{difference_of, suite_text}
 use Rattle.amt_vectors.specs.declared.report.SuiteReport.{SuiteReport}
 use Rattle.amt_words.specs.Line.{IsAccepted}
@@ -43,7 +43,7 @@ dump_task = record { Reads = IsDump; HasFault = IsFaultAt dump_kind; text = λ t
 
 -- vector rows, with the number of those that passed, or the first that differs
 abbrev pub vectors_task : Task SuiteReport
-vectors_task = record { Reads = IsReport; HasFault = IsFaultAt vector_kind; text = suite_text; difference = difference_of }
+vectors_task = record { Reads = IsVectorsReport; HasFault = IsFaultAt vector_kind; text = suite_text; difference = difference_of }
 
 -- what a command does
 abbrev pub work_of : Command → Work

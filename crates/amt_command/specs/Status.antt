@@ -76,7 +76,7 @@ IsDifferenceOf (reading X task) left left' text = IsDifferenceText task left lef
 IsDifferenceOf (making made) left left' text = ⊥
 
 -- the line of a run of the work with this status
-pub record IsLineOf (work : Work) (left left' : Option (List ℕ)) (status : ℕ) (text : List ℕ) : Type 0 where
+pub record IsLineOfStatus (work : Work) (left left' : Option (List ℕ)) (status : ℕ) (text : List ℕ) : Type 0 where
   pub fault : status ≡ 3 → IsFaultOf work left left' text
   pub difference : status ≡ 9 → IsDifferenceOf work left left' text
   pub other : status ≢ 3 → status ≢ 9 → text ≡ status_line status
@@ -84,9 +84,9 @@ pub record IsLineOf (work : Work) (left left' : Option (List ℕ)) (status : ℕ
 -- what a run with this status over these arguments and an input writes to standard error
 pub record Reports {S E : Type 0} (left : S → Option (List ℕ)) (told : E → Option (List ℕ)) (failures : E → ℕ) (words : List (List ℕ)) (input input' : S) (err err' : E) (status : ℕ) : Type 0 where
   pub line : (command : Command) → IsCommandLine command words → (Rose (failures err) (failures err') → ⊥)
-      → (text : List ℕ) × IsLineOf (work_of command) (left input) (left input') status text × Appends (told err) (told err') text
+      → (text : List ℕ) × IsLineOfStatus (work_of command) (left input) (left input') status text × Appends (told err) (told err') text
   pub prefix : (command : Command) → IsCommandLine command words
-      → (text : List ℕ) × IsLineOf (work_of command) (left input) (left input') status text × WritesPrefix (told err) (told err') text
+      → (text : List ℕ) × IsLineOfStatus (work_of command) (left input) (left input') status text × WritesPrefix (told err) (told err') text
   -- where the arguments are no command's
   pub usage_line : ((command : Command) → IsCommandLine command words → ⊥) → (Rose (failures err) (failures err') → ⊥) → Appends (told err) (told err') (status_line status)
   pub usage_prefix : ((command : Command) → IsCommandLine command words → ⊥) → WritesPrefix (told err) (told err') (status_line status)

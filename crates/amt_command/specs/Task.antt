@@ -92,8 +92,8 @@ abbrev pub HasOneValue : Work → Type 0
 HasOneValue (reading X task) = (bytes : List ℕ) (one other : X) → task.Reads one bytes → task.Reads other bytes → one ≡ other
 HasOneValue (making text) = Unit {0}
 
-abbrev pub HasOneFault : Work → Type 0
-HasOneFault (reading X task) =
+abbrev pub HasOneFaultFor : Work → Type 0
+HasOneFaultFor (reading X task) =
     (bytes : List ℕ) (line line' : ℕ) (reason reason' : Reason) → task.HasFault line reason bytes → task.HasFault line' reason' bytes
     → (line ≡ line') × (reason ≡ reason')
-HasOneFault (making text) = Unit {0}
+HasOneFaultFor (making text) = Unit {0}

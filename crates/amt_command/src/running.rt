@@ -91,7 +91,7 @@ pub fn run_task<T: HasTask, S: Source, O: Sink>(
 }
 
 /// Makes the relay script of a number, runs it, and writes the summary of its run.
-pub fn run_load<S: Source, O: Sink>(
+pub fn write_load<S: Source, O: Sink>(
     alloc: Global,
     seed: u32,
     count: u32,

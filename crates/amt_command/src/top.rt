@@ -10,11 +10,11 @@ ghost use Rattle.amt_command.specs.Command.{work_of};
 ghost use Rattle.amt_command.specs.Ending.{EndsFor, LeavesDevices, status_of, line_of};
 ghost use Rattle.amt_command.specs.Exit.{status_in};
 ghost use Rattle.amt_command.specs.Status.{Answers, Reports, ReportsMemory};
-ghost use Rattle.amt_command.specs.Task.{HasOneFault, HasOneValue};
+ghost use Rattle.amt_command.specs.Task.{HasOneFaultFor, HasOneValue};
 
 use crate::ending::Ending;
 use crate::exit::Exit;
-use crate::running::{run_load, run_task};
+use crate::running::{run_task, write_load};
 use crate::scripts::{GatewayReplay, PairReplay, RelayReplay};
 use crate::texts::{Dump, Vectors};
 use amt_ports::{Sink, Source, write_all_own};
@@ -57,7 +57,7 @@ fn run_command<S: Source, O: Sink>(
         Command::Replay(kind) => replay(alloc, kind, input, out),
         Command::Dump => run_task::<Dump, S, O>(alloc, input, out),
         Command::Vectors => run_task::<Vectors, S, O>(alloc, input, out),
-        Command::Load { seed, count } => run_load(alloc, seed, count, input, out),
+        Command::Load { seed, count } => write_load(alloc, seed, count, input, out),
     }
 }
 
@@ -128,7 +128,7 @@ pub fn amt<S: Source, O: Sink, E: Sink>(
 
     // The octets of an input are read as one value at most, and have one fault at most.
     ensures one_value { (command : CommandValue) → HasOneValue (work_of command) }
-    ensures one_fault { (command : CommandValue) → HasOneFault (work_of command) }
+    ensures one_fault { (command : CommandValue) → HasOneFaultFor (work_of command) }
 {
     let ending = run(alloc, words, input, out);
     report(&ending, err);
@@ -148,7 +148,7 @@ pub fn amt_exit<S: Source, O: Sink, E: Sink>(
     ensures reports { Reports S.left E.written E.faults (map string_bytes words.now)
         input.old input.new err.old err.new (status_in result) }
     ensures one_value { (command : CommandValue) → HasOneValue (work_of command) }
-    ensures one_fault { (command : CommandValue) → HasOneFault (work_of command) }
+    ensures one_fault { (command : CommandValue) → HasOneFaultFor (work_of command) }
 {
     Exit::of(amt(alloc, words, input, out, err))
 }

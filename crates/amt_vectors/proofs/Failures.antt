@@ -11,7 +11,7 @@ use Rattle.script_lines.specs.Reading.{FailsFirst}
 use Rattle.script_lines.proofs.Firsts.{First-same}
 use Rattle.amt_vectors.specs.declared.kind.RowKind.{RowKind}
 use Rattle.amt_vectors.specs.declared.kind.RowKind.TheVariants as kinds
-use Rattle.amt_vectors.specs.Fault.{FailsAs, FailsAsRow, FailsInKind, FieldFails, HasOtherCount, SomeFails, order_of_reasons, order_of_values}
+use Rattle.amt_vectors.specs.Fault.{FailsAs, FailsAsRow, FailsInKind, FieldFails, HasOtherFieldCount, SomeFieldFails, order_of_reasons, order_of_values}
 use Rattle.amt_vectors.specs.Row.{Field, fields_of, four_digits, of_form, some_digits, word_of}
 use Rattle.amt_vectors.specs.Says.{WantsNumber}
 use Rattle.amt_vectors.proofs.Rows.{same_kind, same_values}
@@ -37,7 +37,7 @@ none_of_two (inr (inl h)) = h
 none_of_two (inr (inr h)) = h
 
 module _ (values : List (List ℕ)) (key message out : List ℕ) (parts : values ≡ key ∷ message ∷ out ∷ []) where
-  hmac_hex : SomeFails (fields_of kinds.Hmac) (key ∷ message ∷ out ∷ []) reasons.Hex → First (FailsAs kinds.Hmac values) order_of_values reasons.Hex
+  hmac_hex : SomeFieldFails (fields_of kinds.Hmac) (key ∷ message ∷ out ∷ []) reasons.Hex → First (FailsAs kinds.Hmac values) order_of_values reasons.Hex
   hmac_hex fails =
       subst (λ (vs : List (List ℕ)). First (FailsAs kinds.Hmac vs) order_of_values reasons.Hex) (sym parts)
       (inr (λ other. other refl, inr (none_of_three, inl (fails, refl))))
@@ -52,7 +52,7 @@ module _ (values : List (List ℕ)) (key message out : List ℕ) (parts : values
   hmac_out error bad = told (FailsAs kinds.Hmac values) order_of_values reasons.Hex (Fails some_octets out reasons.Hex) error (λ h. hmac_hex (inr (inr (inl h)))) bad
 
 module _ (values : List (List ℕ)) (octets out : List ℕ) (parts : values ≡ octets ∷ out ∷ []) where
-  sum_hex : SomeFails (fields_of kinds.Sum) (octets ∷ out ∷ []) reasons.Hex → First (FailsAs kinds.Sum values) order_of_values reasons.Hex
+  sum_hex : SomeFieldFails (fields_of kinds.Sum) (octets ∷ out ∷ []) reasons.Hex → First (FailsAs kinds.Sum values) order_of_values reasons.Hex
   sum_hex fails =
       subst (λ (vs : List (List ℕ)). First (FailsAs kinds.Sum vs) order_of_values reasons.Hex) (sym parts)
       (inr (λ other. other refl, inr (none_of_two, inl (fails, refl))))
@@ -74,10 +74,10 @@ module _ (values : List (List ℕ)) (octets word : List ℕ) (more : List (List 
 
 -- a row of a code and a number, whose codes are up to a most one
 module _ (kind : RowKind) (most : ℕ) (fields_are : fields_of kind ≡ of_form (a_number 0 most) ∷ some_digits ∷ [])
-    (count : (code value : List ℕ) → HasOtherCount kind (code ∷ value ∷ []) → ⊥)
+    (count : (code value : List ℕ) → HasOtherFieldCount kind (code ∷ value ∷ []) → ⊥)
     (values : List (List ℕ)) (code value : List ℕ) (parts : values ≡ code ∷ value ∷ []) where
   abbrev CodeFails : Reason → Type 0
-  CodeFails reason = SomeFails (of_form (a_number 0 most) ∷ some_digits ∷ []) (code ∷ value ∷ []) reason
+  CodeFails reason = SomeFieldFails (of_form (a_number 0 most) ∷ some_digits ∷ []) (code ∷ value ∷ []) reason
 
   code_first : (reason : Reason) → First (FailsAs kind (code ∷ value ∷ [])) order_of_values reason → First (FailsAs kind values) order_of_values reason
   code_first reason first = subst (λ (vs : List (List ℕ)). First (FailsAs kind vs) order_of_values reason) (sym parts) first
@@ -85,7 +85,7 @@ module _ (kind : RowKind) (most : ℕ) (fields_are : fields_of kind ≡ of_form 
   code_number : CodeFails reasons.Number → First (FailsAs kind values) order_of_values reasons.Number
   code_number fails =
       code_first reasons.Number
-      (inr (count code value, inl (subst (λ (fs : List Field). SomeFails fs (code ∷ value ∷ []) reasons.Number) (sym fields_are) fails, refl)))
+      (inr (count code value, inl (subst (λ (fs : List Field). SomeFieldFails fs (code ∷ value ∷ []) reasons.Number) (sym fields_are) fails, refl)))
 
   pub code_value_bad : (error : LineError) → IsBadFor reasons.Number (FieldFails some_digits value reasons.Number) error
       → FailsFirst (FailsAs kind values) order_of_values error
@@ -106,10 +106,10 @@ module _ (kind : RowKind) (most : ℕ) (fields_are : fields_of kind ≡ of_form 
       (inr (
         count code value,
         inr (
-          λ h. no_number range digits (subst (λ (fs : List Field). SomeFails fs (code ∷ value ∷ []) reasons.Number) fields_are h),
+          λ h. no_number range digits (subst (λ (fs : List Field). SomeFieldFails fs (code ∷ value ∷ []) reasons.Number) fields_are h),
           inr (
-            λ h. no_hex (subst (λ (fs : List Field). SomeFails fs (code ∷ value ∷ []) reasons.Hex) fields_are h),
-            inl (subst (λ (fs : List Field). SomeFails fs (code ∷ value ∷ []) reasons.Range) (sym fields_are) (inl range), refl),
+            λ h. no_hex (subst (λ (fs : List Field). SomeFieldFails fs (code ∷ value ∷ []) reasons.Hex) fields_are h),
+            inl (subst (λ (fs : List Field). SomeFieldFails fs (code ∷ value ∷ []) reasons.Range) (sym fields_are) (inl range), refl),
           ),
         ),
       ))
@@ -124,10 +124,10 @@ module _ (kind : RowKind) (most : ℕ) (fields_are : fields_of kind ≡ of_form 
   code_bad reason want wants number range (inr is) =
       subst (First (FailsAs kind values) order_of_values) (sym is) (code_range (range (ap (λ (r : Reason). Err r) is)) wants.1)
 
-code4_count : (code value : List ℕ) → HasOtherCount kinds.Code4 (code ∷ value ∷ []) → ⊥
+code4_count : (code value : List ℕ) → HasOtherFieldCount kinds.Code4 (code ∷ value ∷ []) → ⊥
 code4_count code value other = other refl
 
-code6_count : (code value : List ℕ) → HasOtherCount kinds.Code6 (code ∷ value ∷ []) → ⊥
+code6_count : (code value : List ℕ) → HasOtherFieldCount kinds.Code6 (code ∷ value ∷ []) → ⊥
 code6_count code value other = other refl
 
 module _ (values : List (List ℕ)) (code value : List ℕ) (parts : values ≡ code ∷ value ∷ []) where

@@ -9,7 +9,7 @@ use Rattle.amt_vectors.specs.declared.kind.RowKind.{RowKind}
 use Rattle.amt_vectors.specs.declared.kind.RowKind.TheVariants as kinds
 use Rattle.amt_vectors.specs.declared.row.Question.{Question}
 use Rattle.amt_vectors.specs.declared.row.Question.TheVariants.{Hmac, Sum, Decode, Code4, Code6, Ip}
-use Rattle.amt_vectors.specs.Fault.{FailsAs, FieldFails, HasOtherCount, SomeFails}
+use Rattle.amt_vectors.specs.Fault.{FailsAs, FieldFails, HasOtherFieldCount, SomeFieldFails}
 use Rattle.amt_vectors.specs.Row.{Field, of_form, four_digits, some_digits, any_text, fields_of, word_of, IsFourDigits}
 use Rattle.amt_vectors.specs.Says.{SaysOf}
 
@@ -30,18 +30,18 @@ any_fits text reason fails = fails
 
 -- each of two fields, and of three; further ones aren't judged
 two_fit : (one other : Field) (x y : List ℕ) (more : List (List ℕ)) → Fits one x → Fits other y → (reason : Reason)
-    → SomeFails (one ∷ other ∷ []) (x ∷ y ∷ more) reason → ⊥
+    → SomeFieldFails (one ∷ other ∷ []) (x ∷ y ∷ more) reason → ⊥
 two_fit one other x y more fits fits' reason (inl h) = fits reason h
 two_fit one other x y more fits fits' reason (inr (inl h)) = fits' reason h
 two_fit one other x y more fits fits' reason (inr (inr h)) = h
 
 three_fit : (one other third : Field) (x y z : List ℕ) → Fits one x → Fits other y → Fits third z → (reason : Reason)
-    → SomeFails (one ∷ other ∷ third ∷ []) (x ∷ y ∷ z ∷ []) reason → ⊥
+    → SomeFieldFails (one ∷ other ∷ third ∷ []) (x ∷ y ∷ z ∷ []) reason → ⊥
 three_fit one other third x y z fits fits' fits'' reason (inl h) = fits reason h
 three_fit one other third x y z fits fits' fits'' reason (inr h) = two_fit other third y z [] fits' fits'' reason h
 
 -- neither their number nor any of them
-all_fit : (kind : RowKind) (values : List (List ℕ)) → (HasOtherCount kind values → ⊥) → ((reason : Reason) → SomeFails (fields_of kind) values reason → ⊥)
+all_fit : (kind : RowKind) (values : List (List ℕ)) → (HasOtherFieldCount kind values → ⊥) → ((reason : Reason) → SomeFieldFails (fields_of kind) values reason → ⊥)
     → (reason : Reason) → FailsAs kind values reason → ⊥
 all_fit kind values count each reasons.Count fails = count fails
 all_fit kind values count each reason fails = each reason fails

@@ -16,7 +16,7 @@ use Rattle.amt_vectors.specs.Answer.{IsAnswer, IsCanonicalOf}
 use Rattle.amt_vectors.specs.BuiltIn.{built_in_text}
 use Rattle.amt_vectors.specs.Kind.{vector_kind}
 use Rattle.amt_vectors.specs.Reading.{CanAsk, IsFirstBadAfter, IsOther, IsReportAfter, ReportsAfter}
-use Rattle.amt_vectors.specs.Report.{IsBadRow, IsFirstBad, IsReport, IsReportOf, Passes, Reports}
+use Rattle.amt_vectors.specs.Report.{IsBadRow, IsFirstBad, IsReportOf, IsVectorsReport, Passes, Reports}
 use Rattle.amt_vectors.proofs.Lawful.{vector_kind_lawful}
 
 IsCanonicalOf-unique : (address one other : List ℕ) → IsCanonicalOf address one → IsCanonicalOf address other → one ≡ other
@@ -94,7 +94,7 @@ report_once rows passed passed' (Some bad) (Some bad') h k =
     let bads = bad_once (length h.before + 1) (length k.before + 1) h.row k.row bad bad' (ap (λ (n : ℕ). n + 1) count) one.last h.is_bad k.is_bad in
     same_report passed passed' (Some bad) (Some bad') (h.counted ∙ (count ∙ sym k.counted)) (ap (λ (b : Bad). Some b) bads)
 
-pub report_unique : (bytes : List ℕ) (one other : SuiteReport) → IsReport one bytes → IsReport other bytes → one ≡ other
+pub report_unique : (bytes : List ℕ) (one other : SuiteReport) → IsVectorsReport one bytes → IsVectorsReport other bytes → one ≡ other
 report_unique bytes one other h k =
     let given = one_script vector_kind vector_kind_lawful built_in_text h.suite.built_in k.suite.built_in h.suite.spells_built_in k.suite.spells_built_in in
     let rows = one_script vector_kind vector_kind_lawful bytes h.rows k.rows h.spells k.spells in

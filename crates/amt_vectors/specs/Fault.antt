@@ -24,19 +24,19 @@ FieldFails some_digits text Number = IsNumeral text → ⊥
 FieldFails field text reason = ⊥
 
 -- some text is no such field
-abbrev pub SomeFails : List Field → List (List ℕ) → Reason → Type 0
-SomeFails (field ∷ fields) (text ∷ texts) reason = FieldFails field text reason ⊎ SomeFails fields texts reason
-SomeFails fields texts reason = ⊥
+abbrev pub SomeFieldFails : List Field → List (List ℕ) → Reason → Type 0
+SomeFieldFails (field ∷ fields) (text ∷ texts) reason = FieldFails field text reason ⊎ SomeFieldFails fields texts reason
+SomeFieldFails fields texts reason = ⊥
 
 -- the fields are too few or too many; a text that is wanted of a decoding has one word or more
-abbrev pub HasOtherCount : RowKind → List (List ℕ) → Type 0
-HasOtherCount kinds.Decode values = length values < 2
-HasOtherCount kind values = length values ≢ length (fields_of kind)
+abbrev pub HasOtherFieldCount : RowKind → List (List ℕ) → Type 0
+HasOtherFieldCount kinds.Decode values = length values < 2
+HasOtherFieldCount kind values = length values ≢ length (fields_of kind)
 
 -- what is wrong with the fields after the first word
 abbrev pub FailsAs : RowKind → List (List ℕ) → Reason → Type 0
-FailsAs kind values Count = HasOtherCount kind values
-FailsAs kind values reason = SomeFails (fields_of kind) values reason
+FailsAs kind values Count = HasOtherFieldCount kind values
+FailsAs kind values reason = SomeFieldFails (fields_of kind) values reason
 
 -- the line is of a kind, and the fields after its first word fail
 abbrev pub FailsInKind : List (List ℕ) → Reason → Type 0

@@ -45,7 +45,7 @@ pub record IsSuiteReport (rows : List Row) (report : SuiteReport) : Type 0 where
   pub report_of : IsReportOf (built_in ++ rows) report
 
 -- that of the rows that these octets spell
-pub record IsReport (report : SuiteReport) (bytes : List ℕ) : Type 0 where
+pub record IsVectorsReport (report : SuiteReport) (bytes : List ℕ) : Type 0 where
   pub rows : List Row
   pub spells : Spells vector_kind rows bytes
   pub suite : IsSuiteReport rows report

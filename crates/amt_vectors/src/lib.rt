@@ -2,7 +2,7 @@
 //!
 //! Contract: a run over rows reports how many pass before the first that doesn't, and of this one the
 //! answer that is wanted and the one that is there; octets that are no rows give the first bad line.
-//! It knows no device, and of the program what its rows ask.
+//! It knows no device, and of the program only what its rows ask.
 //! Standard: none of its own; the formats stand in docs/FORMATS.md.
 #![tactic(auto)]
 
@@ -16,10 +16,7 @@ mod report;
 mod row;
 mod suite;
 
-pub use kind::RowKind;
-pub use reading::read_rows;
 pub use report::{Bad, SuiteReport};
-pub use row::{Question, Row, Rows};
 pub use script_lines::{Reason, ScriptError};
 pub use suite::run_suite;
 

@@ -5,7 +5,7 @@ ghost use Rattle.script_lines.specs.Script.{IsErrorOf, RulesOutScripts, HasOneFa
 ghost use Rattle.amt_vectors.specs.declared.report.SuiteReport.{SuiteReport as ReportValue};
 ghost use Rattle.amt_vectors.specs.Kind.{vector_kind};
 ghost use Rattle.amt_vectors.specs.Reading.{CanAsk, IsOther, IsReportAfter};
-ghost use Rattle.amt_vectors.specs.Report.{IsBadRow, IsReport, IsReportOf, Passes};
+ghost use Rattle.amt_vectors.specs.Report.{IsBadRow, IsReportOf, IsVectorsReport, Passes};
 
 use crate::answer::answer;
 use crate::built_in::built_in_rows;
@@ -80,12 +80,12 @@ fn report_of_both(alloc: Global, given: &[Row], rows: &[Row]) -> Result<SuiteRep
 /// A row that doesn't pass ends the run; octets that spell no rows are an error, whatever the built-in rows give.
 pub fn run_suite(alloc: Global, rows: &[u8]) -> Result<SuiteReport, ScriptError>
     requires { length rows.now ≤ 16777216 }
-    ensures found { IfOk result (λ report. IsReport report rows.now) }
+    ensures found { IfOk result (λ report. IsVectorsReport report rows.now) }
     ensures fault { IfErr result (IsErrorOf vector_kind rows.now) }
     ensures none { IfErr result (RulesOutScripts vector_kind rows.now) }
 
     // The octets alone decide which report is made, or which line and reason are reported.
-    ensures one_report { (one other : ReportValue) → IsReport one rows.now → IsReport other rows.now → one ≡ other }
+    ensures one_report { (one other : ReportValue) → IsVectorsReport one rows.now → IsVectorsReport other rows.now → one ≡ other }
     ensures one_fault { HasOneFault vector_kind }
 {
     let read = match read_rows(alloc, rows) {

@@ -5,7 +5,7 @@ use Rattle.amt_words.specs.declared.command.Command.{Command}
 use Rattle.amt_words.specs.Line.{IsCommandLine}
 use Rattle.amt_command.specs.Command.{status_line, work_of}
 use Rattle.amt_command.specs.Ending.{line_of, status_of}
-use Rattle.amt_command.specs.Status.{AnswersFor, IsLineOf}
+use Rattle.amt_command.specs.Status.{AnswersFor, IsLineOfStatus}
 use Rattle.amt_command.proofs.Answering.{answered, line_told}
 use Rattle.amt_command.proofs.Commands.{accepted, one_fault_of, one_value_of, refused_by}
 use Rattle.amt_command.proofs.Endings.{done_of, usage_line, usage_of, usage_status, words_status}
@@ -44,13 +44,13 @@ returns-clause-reports g c =
     record {
       line = λ command line calm. (
         line_of result,
-        subst (λ (status : ℕ). IsLineOf (work_of command) (g.S.Source.left c.args.input.now) (g.S.Source.left c.run-ending.new.input) status (line_of result)) is
+        subst (λ (status : ℕ). IsLineOfStatus (work_of command) (g.S.Source.left c.args.input.now) (g.S.Source.left c.run-ending.new.input) status (line_of result)) is
             (line_told _ _ _ _ _ _ result (work_of command) (run.of_command command line)),
         told.line calm,
       );
       prefix = λ command line. (
         line_of result,
-        subst (λ (status : ℕ). IsLineOf (work_of command) (g.S.Source.left c.args.input.now) (g.S.Source.left c.run-ending.new.input) status (line_of result)) is
+        subst (λ (status : ℕ). IsLineOfStatus (work_of command) (g.S.Source.left c.args.input.now) (g.S.Source.left c.run-ending.new.input) status (line_of result)) is
             (line_told _ _ _ _ _ _ result (work_of command) (run.of_command command line)),
         told.prefix,
       );
