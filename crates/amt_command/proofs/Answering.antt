@@ -2,7 +2,6 @@
 use Rattle.std.proofs.Common.{◌≡◌, ◌⊎◌, ℕ, Option, List, Result, Err, IsErrOf, inl, inr, refl, ap}
 use Rattle.amt_command.specs.declared.ending.Ending.{Ending}
 use Rattle.amt_command.specs.declared.ending.Ending.TheVariants.{Difference, Fault, Memory, ReadFault, TooLong, Usage, WriteFault}
-use Rattle.amt_words.specs.Line.{IsAccepted}
 use Rattle.amt_command.specs.Ending.{EndsFor, LeavesDevices, TellsWhy, line_of, status_of}
 use Rattle.amt_command.specs.Status.{AnswersFor, IsDifferenceOf, IsFaultOf, IsLineOfStatus}
 use Rattle.amt_command.specs.Task.{HasOneValue, Work, making, reading}
@@ -42,10 +41,10 @@ module _ (left left' written written' : Option (List ℕ)) (OutIsSame InputIsSam
   pub line_told : (work : Work) → EndsFor work left left' written written' OutIsSame InputIsSame r → IsLineOfStatus work left left' (status_of r) (line_of r)
   line_told work ends = record { fault = fault_told work ends; difference = difference_told work ends; other = other_line r }
 
-module _ {S O : Type 0} (left : S → Option (List ℕ)) (reads : S → ℕ) (written : O → Option (List ℕ)) (writes : O → ℕ) (line : List (List ℕ)) (input input' : S) (out out' : O)
-    (r : Result (Unit {0}) Ending) (devices : LeavesDevices left reads writes input input' out out' r) (usage : IsErrOf r Usage → IsAccepted line → ⊥) where
+module _ {S O : Type 0} (left : S → Option (List ℕ)) (reads : S → ℕ) (written : O → Option (List ℕ)) (writes : O → ℕ) (input input' : S) (out out' : O)
+    (r : Result (Unit {0}) Ending) (devices : LeavesDevices left reads writes input input' out out' r) (usage : IsErrOf r Usage → ⊥) where
   pub answered : (work : Work) → HasOneValue work → EndsFor work (left input) (left input') (written out) (written out') (out' ≡ out) (input' ≡ input) r
-      → AnswersFor work left reads written writes line input input' out out' (status_of r)
+      → AnswersFor work left reads written writes input input' out out' (status_of r)
   answered (reading X task) one ends = record {
     done = λ status. on_done r ends.done (done_of r status);
     fault = λ status. (line_of r, fault_told (left input) (left input') (written out) (written out') (out' ≡ out) (input' ≡ input) r (reading X task) ends status);
@@ -54,7 +53,7 @@ module _ {S O : Type 0} (left : S → Option (List ℕ)) (reads : S → ℕ) (wr
     memory = λ status. ends.memory (memory_of r status);
     decides = λ bytes told calm.
         decided task one (left input) (left input') (written out) (written out') (out' ≡ out) r ends
-        (λ is. usage is calm.accepted)
+        usage
         (λ is. calm.reading (devices.read is))
         (λ is. calm.writing (devices.write is))
         devices.too_long bytes told;

@@ -11,7 +11,6 @@ use Rattle.amt_vectors.specs.Kind.{vector_kind}
 use Rattle.amt_vectors.specs.Report.{IsVectorsReport}
 use Rattle.amt_vectors.specs.Texts.{difference_of, suite_text}
 use Rattle.amt_vectors.specs.declared.report.SuiteReport.{SuiteReport}
-use Rattle.amt_words.specs.Line.{IsAccepted}
 use Rattle.amt_words.specs.declared.command.Command.{Command}
 use Rattle.amt_words.specs.declared.command.Command.TheVariants.{Dump, Load, Replay, Vectors}
 use Rattle.amt_words.specs.declared.command.Replayable.TheVariants.{Gateway, Pair, Relay}
@@ -72,9 +71,7 @@ status_line status =
     else (if status == 7 then codes "amt: out of memory" ++ (10 ∷ [])
     else (if status == 8 then codes "amt: input too long" ++ (10 ∷ []) else []))))
 
--- the arguments are a command's, and neither the input nor the output failed, by their counts before
--- and after
-pub record IsUndisturbed (words : List (List ℕ)) (reads reads' writes writes' : ℕ) : Type 0 where
-  pub accepted : IsAccepted words
+-- neither the input nor the output failed, by their counts before and after
+pub record IsUndisturbed (reads reads' writes writes' : ℕ) : Type 0 where
   pub reading : Rose reads reads' → ⊥
   pub writing : Rose writes writes' → ⊥

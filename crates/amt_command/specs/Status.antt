@@ -20,30 +20,30 @@ pub record Decides {X : Type 0} (task : Task X) (bytes : List ℕ) (status : ℕ
   pub overlong : INPUT_LIMIT < length bytes → (status ≡ 8) ⊎ (status ≡ 7)
 
 -- what the status says of a run that reads its input; the functions are as below
-pub record AnswersReading {X : Type 0} (task : Task X) {S O : Type 0} (left : S → Option (List ℕ)) (reads : S → ℕ) (written : O → Option (List ℕ)) (writes : O → ℕ) (line : List (List ℕ)) (input input' : S) (out out' : O) (status : ℕ) : Type 0 where
+pub record AnswersReading {X : Type 0} (task : Task X) {S O : Type 0} (left : S → Option (List ℕ)) (reads : S → ℕ) (written : O → Option (List ℕ)) (writes : O → ℕ) (input input' : S) (out out' : O) (status : ℕ) : Type 0 where
   pub done : status ≡ 0 → Writes task (left input) (left input') (written out) (written out')
   pub fault : status ≡ 3 → (text : List ℕ) × IsFaultText task (left input) (left input') text
   pub difference : status ≡ 9 → (text : List ℕ) × IsDifferenceText task (left input) (left input') text
   pub begun : status ≡ 5 → BeginsToWrite task (left input) (left input') (written out) (written out')
   pub memory : status ≡ 7 → (out' ≡ out) ⊎ BeginsToWrite task (left input) (left input') (written out) (written out')
-  pub decides : (bytes : List ℕ) → left input ≡ Some bytes → IsUndisturbed line (reads input) (reads input') (writes out) (writes out')
+  pub decides : (bytes : List ℕ) → left input ≡ Some bytes → IsUndisturbed (reads input) (reads input') (writes out) (writes out')
       → Decides task bytes status
 
 -- what the status says of a run that writes a text of its words alone
-pub record AnswersMaking (text : List ℕ) {S O : Type 0} (reads : S → ℕ) (written : O → Option (List ℕ)) (writes : O → ℕ) (line : List (List ℕ)) (input input' : S) (out out' : O) (status : ℕ) : Type 0 where
+pub record AnswersMaking (text : List ℕ) {S O : Type 0} (reads : S → ℕ) (written : O → Option (List ℕ)) (writes : O → ℕ) (input input' : S) (out out' : O) (status : ℕ) : Type 0 where
   pub done : status ≡ 0 → Appends (written out) (written out') text
   pub begun : status ≡ 5 → WritesPrefix (written out) (written out') text
   pub memory : status ≡ 7 → out' ≡ out
   pub untouched : input' ≡ input
   pub only : (status ≡ 0) ⊎ ((status ≡ 5) ⊎ (status ≡ 7))
-  pub complete : IsUndisturbed line (reads input) (reads input') (writes out) (writes out') → (status ≡ 0) ⊎ (status ≡ 7)
+  pub complete : IsUndisturbed (reads input) (reads input') (writes out) (writes out') → (status ≡ 0) ⊎ (status ≡ 7)
 
 -- what the status says of a run of the work
-abbrev pub AnswersFor : Work → {S O : Type 0} → (S → Option (List ℕ)) → (S → ℕ) → (O → Option (List ℕ)) → (O → ℕ) → List (List ℕ) → S → S → O → O → ℕ → Type 0
-AnswersFor (reading X task) left reads written writes line input input' out out' status =
-    AnswersReading task left reads written writes line input input' out out' status
-AnswersFor (making text) left reads written writes line input input' out out' status =
-    AnswersMaking text reads written writes line input input' out out' status
+abbrev pub AnswersFor : Work → {S O : Type 0} → (S → Option (List ℕ)) → (S → ℕ) → (O → Option (List ℕ)) → (O → ℕ) → S → S → O → O → ℕ → Type 0
+AnswersFor (reading X task) left reads written writes input input' out out' status =
+    AnswersReading task left reads written writes input input' out out' status
+AnswersFor (making text) left reads written writes input input' out out' status =
+    AnswersMaking text reads written writes input input' out out' status
 
 -- The status of a run over these arguments, with its input and output before and after. The functions are
 -- the octets that are left and were written, where a device tells them, and how often it failed.
@@ -53,7 +53,7 @@ pub record Answers {S O : Type 0} (left : S → Option (List ℕ)) (reads : S �
   pub usage : status ≡ 2 → IsAccepted line → ⊥
   pub refused : (IsAccepted line → ⊥) → (status ≡ 2) ⊎ (status ≡ 7)
   pub of_command : (command : Command) → IsCommandLine command line
-      → AnswersFor (work_of command) left reads written writes line input input' out out' status
+      → AnswersFor (work_of command) left reads written writes input input' out out' status
   pub read : status ≡ 4 → Rose (reads input) (reads input')
   pub write : status ≡ 5 → Rose (writes out) (writes out')
   pub calm_input : status ≢ 4 → reads input' ≡ reads input

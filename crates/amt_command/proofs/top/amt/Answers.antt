@@ -21,9 +21,9 @@ returns-clause-answers g c =
       usage = λ status. run.usage (usage_of result (is ∙ status));
       refused = λ none. subst (λ (status : ℕ). (status ≡ 2) ⊎ (status ≡ 7)) is (usage_status result (refused_by (map string_bytes c.args.words.now) run.words (λ command line. none (accepted command (map string_bytes c.args.words.now) line))));
       of_command = λ command line.
-          subst (λ (status : ℕ). AnswersFor (work_of command) g.S.Source.left g.S.Source.faults g.O.Sink.written g.O.Sink.faults (map string_bytes c.args.words.now) c.args.input.now c.run-ending.new.input c.args.out.now c.run-ending.new.out status) is
-          (answered g.S.Source.left g.S.Source.faults g.O.Sink.written g.O.Sink.faults (map string_bytes c.args.words.now) c.args.input.now c.run-ending.new.input c.args.out.now c.run-ending.new.out
-          result run.devices run.usage (work_of command) (one_value_of command) (run.of_command command line));
+          subst (λ (status : ℕ). AnswersFor (work_of command) g.S.Source.left g.S.Source.faults g.O.Sink.written g.O.Sink.faults c.args.input.now c.run-ending.new.input c.args.out.now c.run-ending.new.out status) is
+          (answered g.S.Source.left g.S.Source.faults g.O.Sink.written g.O.Sink.faults c.args.input.now c.run-ending.new.input c.args.out.now c.run-ending.new.out
+          result run.devices (λ usage. run.usage usage (accepted command (map string_bytes c.args.words.now) line)) (work_of command) (one_value_of command) (run.of_command command line));
       read = search rules;
       write = search rules;
       calm_input = search rules;
