@@ -1,5 +1,5 @@
 -- What a datagram, and the inner octets of a Query, are read as.
-use Rattle.std.proofs.Common.{◌≡◌, ◌<◌, ℕ, List, drop, Some, None, Result, Ok, Err, refl, sym, ap, subst, ◌∙◌, slice_index}
+use Rattle.std.proofs.Common.{◌≡◌, ◌<◌, ℕ, List, drop, Some, None, Ok, Err, refl, sym, ap, subst, ◌∙◌, slice_index}
 use Rattle.amt_values.specs.declared.address.Ip.{Ip}
 use Rattle.amt_messages.specs.Refusal.{message_of}
 use Rattle.amt_messages.specs.declared.message.Message.{Message}

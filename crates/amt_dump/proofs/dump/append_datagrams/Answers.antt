@@ -1,5 +1,5 @@
-use Rattle.std.proofs.Common.{drop, ◌+◌}
-use Rattle.amt_dump.proofs.Printing.{next_number, next_sized, printed_all, printed_to_the_end, printing_more, printing_start}
+use Rattle.std.proofs.Common.{drop}
+use Rattle.amt_dump.proofs.Printing.{printed_all, printing_start}
 use Rattle.amt_dump.proofs.dump.append_datagrams.Goals as goal
 
 pub loop-number-init : goal.loop-number-init

@@ -1,4 +1,4 @@
-use Rattle.std.proofs.Common.{◌≡◌, ◌++◌, codes, decimal, length}
+use Rattle.std.proofs.Common.{codes, decimal, length}
 use Rattle.std.proofs.lemmas.Result.{on_ok_weaker}
 use Rattle.amt_dump.specs.Texts.{mac_words}
 use Rattle.amt_dump.proofs.Joining.{joined_four}
