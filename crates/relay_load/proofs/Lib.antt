@@ -1,4 +1,5 @@
 pub mod Draws
 pub mod Items
 pub mod Outcomes
+pub mod ReportLists
 pub mod Runs

@@ -10,6 +10,7 @@
 mod generator;
 mod packets;
 mod record;
+mod reports;
 mod run;
 mod script;
 mod summary;

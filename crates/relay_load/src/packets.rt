@@ -7,7 +7,7 @@ ghost use Rattle.amt_script.specs.declared.script.RelayItem.TheVariants.{Event a
 ghost use Rattle.relay_load.specs.Packets.{packet_to};
 ghost use Rattle.relay_load.specs.Script.{load_packets};
 
-use crate::record::GROUP_BASE;
+use crate::record::{GROUP_BASE, GROUPS};
 use amt_script::{RelayItem, RelayItems};
 use amt_values::Bytes;
 use byteorder::{BigEndian, ByteOrder};
@@ -15,8 +15,8 @@ use inner_datagrams::internet_sum;
 use relay_machine::Event;
 use std::alloc::{AllocError, Global};
 
-/// The packets of a load, and the groups that they go to.
-pub const PACKETS: u32 = 16;
+/// The packets of a load: one to each group.
+pub const PACKETS: u32 = GROUPS;
 
 // An IPv4 header of 20 octets with nothing after it: time to live 4, UDP, from 198.51.100.1. The checksum
 // and the group are filled in.

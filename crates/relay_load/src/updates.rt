@@ -1,15 +1,17 @@
 //! The Updates of a load. It must not know how their words are drawn.
 
-ghost use Rattle.std.specs.Prelude.{◌≡◌, ◌≤◌, ◌++◌, map, IfOk, OnOk};
+ghost use Rattle.std.specs.Prelude.{◌≡◌, ◌≤◌, ◌<◌, ◌++◌, map, IfOk, OnOk};
 ghost use Rattle.std.specs.List.{AllByRecursion};
 ghost use Rattle.amt_script.specs.Running.{IsItem};
 ghost use Rattle.amt_script.specs.declared.script.RelayItem.TheVariants.{Event as EventItem};
 ghost use Rattle.relay_machine.specs.EventSize.{IsEvent};
+ghost use Rattle.relay_load.specs.Reports.{AreReports, group_at};
 ghost use Rattle.relay_load.specs.Script.{load_updates};
 ghost use Rattle.relay_load.specs.Updates.{load_secret, record_with, update_with};
 
 use crate::generator::Generator;
-use crate::record::{Choice, draw_choice, write_chosen};
+use crate::record::{Choice, draw_choice};
+use crate::reports::{Reports, write_reports};
 use amt_messages::{Message, encode};
 use amt_script::{RelayItem, RelayItems};
 use amt_values::{Endpoint, Ip, Peer};
@@ -28,13 +30,16 @@ const ENDPOINT_BASE: u32 = 0x0a00_0000;
 fn write_update(
     alloc: Global,
     key: &MacKey,
+    reports: &Reports,
     place: u32,
     choice: &Choice,
 ) -> Result<Event, AllocError>
     requires key { key.now ≡ load_secret }
+    requires reports { AreReports reports.now }
     requires place { place ≤ 65536 }
+    requires group { choice.now.group_index < 16 }
     ensures event { IfOk result (λ event. event ≡ update_with place choice.now.port choice.now.nonce
-        (record_with choice.now.excludes choice.now.group)) }
+        (record_with choice.now.excludes (group_at choice.now.group_index))) }
     ensures sized { IfOk result IsEvent }
 {
     let address = ENDPOINT_BASE + place;
@@ -42,7 +47,7 @@ fn write_update(
     let update = Message::Update {
         mac: key.mac(&endpoint, choice.nonce),
         nonce: choice.nonce,
-        inner: write_chosen(alloc, choice)?,
+        inner: reports.chosen(alloc, choice)?,
     };
     Ok(Event::Datagram {
         bytes: encode(alloc, &update)?,
@@ -65,12 +70,13 @@ pub fn append_updates(
     ensures sized { OnOk result (AllByRecursion IsItem items.old → AllByRecursion IsItem items.new) }
 {
     let key = MacKey::new(LOAD_SECRET);
+    let reports = write_reports(alloc)?;
     let mut generator = Generator {
         number: u64::from(seed),
     };
     for before in 0..count {
         let choice = draw_choice(&mut generator);
-        let event = write_update(alloc, &key, before + 1, &choice)?;
+        let event = write_update(alloc, &key, &reports, before + 1, &choice)?;
         items.push(RelayItem::Event(event))?;
     }
     Ok(())
