@@ -1,0 +1,11 @@
+mod ArrayLaws
+mod Exactness
+mod FirstFaults
+mod GatewayLaws
+mod JoinLaws
+mod KeyFaults
+mod ReadTexts
+mod RelayLaws
+mod RelayParts
+mod Scanning
+mod TableFaults
