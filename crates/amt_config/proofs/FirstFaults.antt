@@ -1,7 +1,9 @@
 -- The first fault of keys one after another.
-use Rattle.std.proofs.Common.{◌≡◌, ℕ, List, [], ◌∷◌, ◌++◌, inl, inr, refl, sym, ◌∙◌}
+use Rattle.std.proofs.Common.{◌≡◌, ℕ, List, [], ◌∷◌, ◌++◌, Result, Ok, Err, IfErr, inl, inr, refl, sym, subst, ◌∙◌}
+use Rattle.std.specs.Prelude.{IsErrAnd}
 use Rattle.script_lines.proofs.Firsts.{First-holds, First-unique}
 use Rattle.toml.specs.Data.{Members}
+use Rattle.amt_config.specs.declared.fault.BadKey.{BadKey}
 use Rattle.amt_config.specs.declared.fault.KeyFault.{KeyFault}
 use Rattle.amt_config.specs.Key.{AreRight, Fails, FailsAt, FailsFirst, FailsFirstAt, IsRight, Key, fault_order}
 
@@ -37,3 +39,9 @@ one_first_fault table (key ∷ rest) word word' fault fault' (inl h) (inl k) =
 one_first_fault table (key ∷ rest) word word' fault fault' (inl h) (inr k) = absurd (first_not_right table key fault h.0 k.0)
 one_first_fault table (key ∷ rest) word word' fault fault' (inr h) (inl k) = absurd (first_not_right table key fault' k.0 h.0)
 one_first_fault table (key ∷ rest) word word' fault fault' (inr h) (inr k) = one_first_fault table rest word word' fault fault' h.1 k.1
+
+-- a fault that `?` hands on
+pub handed_on : {T : Type 0} (result : Result T BadKey) (bad : BadKey) (Holds : BadKey → Type 0) → IsErrAnd result (λ other. other ≡ bad) → Holds bad
+    → IfErr result Holds
+handed_on (Ok value) bad Holds same holds = tt
+handed_on (Err other) bad Holds same holds = subst Holds (sym same) holds

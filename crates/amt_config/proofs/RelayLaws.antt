@@ -112,23 +112,22 @@ pub right_of_key : (key : NumberKey) (table : Members) (number : ℕ) → HasNum
 right_of_key key table number h = right_number (number_word key) (range_of key) table number h
 
 pub right_keys : (table : Members) (config : RelayConfig) → HasValues table config → AreRight table relay_keys
-right_keys table config h = (
-  right_ip (key_word words.Relay) table config.relay h.relay,
-  right_peer (codes "listen") table config.listen h.listen,
-  right_peer (codes "feed") table config.feed h.feed,
-  right_ip4 (key_word words.Query4) table config.query4 _ h.query4,
-  right_ip6 (key_word words.Query6) table config.query6 _ h.query6,
-  right_of_key Robustness table _ (h.numbers Robustness),
-  right_of_key QuerySeconds table _ (h.numbers QuerySeconds),
-  right_of_key ResponseTenths table _ (h.numbers ResponseTenths),
-  right_of_key Endpoints table _ (h.numbers Endpoints),
-  right_of_key Groups table _ (h.numbers Groups),
-  right_of_key Sources table _ (h.numbers Sources),
-  right_of_key PacketLimit table _ (h.numbers PacketLimit),
-  right_number (codes "rotate_seconds") rotate_range table config.rotate_seconds h.rotate,
-  right_number (codes "workers") workers_range table config.workers h.workers,
-  tt,
-)
+right_keys table config h =
+    (right_ip (key_word words.Relay) table config.relay h.relay,
+    (right_peer (codes "listen") table config.listen h.listen,
+    (right_peer (codes "feed") table config.feed h.feed,
+    (right_ip4 (key_word words.Query4) table config.query4 _ h.query4,
+    (right_ip6 (key_word words.Query6) table config.query6 _ h.query6,
+    (right_of_key Robustness table _ (h.numbers Robustness),
+    (right_of_key QuerySeconds table _ (h.numbers QuerySeconds),
+    (right_of_key ResponseTenths table _ (h.numbers ResponseTenths),
+    (right_of_key Endpoints table _ (h.numbers Endpoints),
+    (right_of_key Groups table _ (h.numbers Groups),
+    (right_of_key Sources table _ (h.numbers Sources),
+    (right_of_key PacketLimit table _ (h.numbers PacketLimit),
+    (right_number (codes "rotate_seconds") rotate_range table config.rotate_seconds h.rotate,
+    (right_number (codes "workers") workers_range table config.workers h.workers,
+    tt))))))))))))))
 
 -- numbers that fail together aren't lawful
 more_than : (a b : ℕ) → a ≤ b → b < a → ⊥

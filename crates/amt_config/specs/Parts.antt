@@ -28,15 +28,13 @@ place_keys =
 abbrev pub limit_keys : List Key
 limit_keys = number_key Endpoints ∷ number_key Groups ∷ number_key Sources ∷ []
 
+-- the keys of the relay's numbers
+abbrev pub number_keys : List Key
+number_keys = number_key Robustness ∷ number_key QuerySeconds ∷ number_key ResponseTenths ∷ (limit_keys ++ number_key PacketLimit ∷ [])
+
 -- the keys of the relay's own settings but its address
 abbrev pub setting_keys : List Key
-setting_keys =
-    optional (key_word words.Query4) (a_text an_address4)
-    ∷ optional (key_word words.Query6) (a_text an_address6)
-    ∷ number_key Robustness
-    ∷ number_key QuerySeconds
-    ∷ number_key ResponseTenths
-    ∷ (limit_keys ++ number_key PacketLimit ∷ [])
+setting_keys = optional (key_word words.Query4) (a_text an_address4) ∷ optional (key_word words.Query6) (a_text an_address6) ∷ number_keys
 
 -- the keys of how the relay serves
 abbrev pub serving_keys : List Key
