@@ -1,4 +1,4 @@
-//! Why a settings file isn't read. It knows no key.
+//! Why a settings file isn't read. It knows no key but `join`.
 
 ghost use Rattle.std.specs.Prelude.{◌≡◌, ◌⊎◌};
 ghost use Rattle.amt_config.specs.FileKey.{word_of};
@@ -18,7 +18,7 @@ pub enum ConfigFault {
     /// The octets are no text that TOML reads as a table.
     #[error("no TOML")]
     NotToml,
-    /// A key that the file doesn't have; of several, the least one.
+    /// A key that isn't one of the file's; of several, the least one.
     #[error("an unknown key")]
     Unknown(Bytes),
     /// A key that the file must have.
@@ -30,10 +30,11 @@ pub enum ConfigFault {
     /// A text that isn't the address, the peer or the group that the key wants.
     #[error("no such address")]
     Address(Bytes),
-    /// A number out of its range, or a word that isn't one of those allowed.
+    /// A number out of its range, or a word that isn't one of those allowed; or numbers, or a socket, that may not
+    /// stand beside the others.
     #[error("a value out of its range")]
     Range(Bytes),
-    /// Out of memory for the table, or for the key that is at fault.
+    /// Out of memory for the table, the joins or their sockets, or for the key that is at fault.
     #[error("out of memory")]
     Memory,
 }

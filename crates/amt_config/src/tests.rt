@@ -3,5 +3,6 @@
 mod examples;
 mod faults;
 mod gateway_faults;
+mod joins;
 mod relay_faults;
 mod values;

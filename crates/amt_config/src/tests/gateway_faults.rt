@@ -1,6 +1,6 @@
 //! The faults of a gateway's file.
 
-use super::faults::{Row, is_fault};
+use super::faults::{Row, is_fault, is_read};
 use crate::gateway::gateway_settings;
 use std::alloc::Global;
 use std::process::Abort;
@@ -12,6 +12,15 @@ control = \"127.0.0.1:9002\"\ndiscovery = \"192.0.2.1:2268\"\nsource = \"198.51.
 
 const WHOLE_FILES: &[Row] = &[
     ("", "missing", "family"),
+    ("family", "not toml", ""),
+    ("family = \"v4\"\nfamily = \"v4\"", "not toml", ""),
+    ("zebra = 1\nant = 1", "unknown", "ant"),
+    // A key that a join doesn't have is told where the joins are read.
+    (
+        "family = \"v4\"\n[[join]]\ncolour = 1",
+        "missing",
+        "listen",
+    ),
     ("join = 1\nfeed = 1", "unknown", "feed"),
     ("family = 4", "kind", "family"),
     ("family = \"v5\"", "range", "family"),
@@ -100,6 +109,9 @@ const AFTER_THE_ENDS: &[Row] = &[
     ("port = \"2268\"", "kind", "port"),
     ("port = -1", "range", "port"),
     ("port = 65536", "range", "port"),
+    ("port = 2268.0", "kind", "port"),
+    ("port = 65536\n[[join]]\ncolour = 1", "range", "port"),
+    ("[join]\nname = \"a\"", "kind", "join"),
     ("join = 1", "kind", "join"),
     ("join = {}", "kind", "join"),
     ("join = [1]", "kind", "join"),
@@ -191,6 +203,26 @@ const AFTER_THE_ENDS: &[Row] = &[
         "address",
         "join",
     ),
+    (
+        "[[join]]\nname = \"abcdefghijklmnopqrstuvwxyz_012345\"\ngroup = \"239.1.1.1\"\nmode = \"include\"\nsources = []",
+        "range",
+        "join",
+    ),
+    (
+        "[[join]]\nname = \"a\"\ngroup = \"239.1.1.1\"\nmode = \"Include\"\nsources = []",
+        "range",
+        "join",
+    ),
+    (
+        "[[join]]\nname = \"a\"\ngroup = \"239.1.1.1\"\nmode = \"include\"\nsources = [[\"10.0.0.1\"]]",
+        "kind",
+        "join",
+    ),
+    (
+        "[[join]]\nname = \"a\"\ngroup = \"239.1.1.1\"\nmode = \"include\"\nsources = []\nport = 1",
+        "unknown",
+        "join",
+    ),
     ("[[join]]\ncolour = 1", "unknown", "join"),
     // A join that is refused beside those before it.
     (
@@ -229,6 +261,28 @@ const AFTER_THE_ENDS: &[Row] = &[
     ),
 ];
 
+// The same for a gateway of IPv6.
+const ENDS6: &str = "family = \"v6\"\nlisten = \"127.0.0.1:2268\"\ndeliver = \"127.0.0.1:9001\"\n\
+control = \"127.0.0.1:9002\"\ndiscovery = \"192.0.2.1:2268\"\nsource = \"2001:db8::7\"\n";
+
+const AFTER_THE_ENDS6: &[Row] = &[
+    (
+        "[[join]]\nname = \"a\"\ngroup = \"239.1.1.1\"\nmode = \"include\"\nsources = []",
+        "address",
+        "join",
+    ),
+    (
+        "[[join]]\nname = \"a\"\ngroup = \"ff02::1\"\nmode = \"include\"\nsources = []",
+        "address",
+        "join",
+    ),
+    (
+        "[[join]]\nname = \"a\"\ngroup = \"ff3e::1\"\nmode = \"include\"\nsources = [\"10.0.0.1\"]",
+        "address",
+        "join",
+    ),
+];
+
 fn row_fails(rt: &impl Abort, alloc: Global, bytes: &[u8], row: Row) {
     match gateway_settings(alloc, bytes) {
         Ok(_) => is_read(rt, row.0),
@@ -236,12 +290,8 @@ fn row_fails(rt: &impl Abort, alloc: Global, bytes: &[u8], row: Row) {
     }
 }
 
-fn is_read(rt: &impl Abort, text: &str) {
-    assert!(rt; false, "read: {text}");
-}
-
-fn row_fails_after(rt: &impl Abort, alloc: Global, row: Row) -> Result<(), Fail> {
-    let text = format!(in alloc; "{ENDS}{}", row.0)?;
+fn row_fails_after(rt: &impl Abort, alloc: Global, ends: &str, row: Row) -> Result<(), Fail> {
+    let text = format!(in alloc; "{ends}{}", row.0)?;
     row_fails(rt, alloc, text.as_bytes(), row);
     Ok(())
 }
@@ -256,7 +306,20 @@ fn each_fault_of_a_whole_file(rt: HostRuntime) {
 #[test]
 fn each_fault_of_the_keys_that_may_be_left_out(rt: HostRuntime) -> Result<(), Fail> {
     for row in AFTER_THE_ENDS {
-        row_fails_after(&rt, rt.alloc(), *row)?;
+        row_fails_after(&rt, rt.alloc(), ENDS, *row)?;
     }
     Ok(())
+}
+
+#[test]
+fn faults_of_joins_of_the_other_family(rt: HostRuntime) -> Result<(), Fail> {
+    for row in AFTER_THE_ENDS6 {
+        row_fails_after(&rt, rt.alloc(), ENDS6, *row)?;
+    }
+    Ok(())
+}
+
+#[test]
+fn octets_that_are_no_text(rt: HostRuntime) {
+    row_fails(&rt, rt.alloc(), b"family = \"\xff\"", ("", "not toml", ""));
 }

@@ -1,6 +1,6 @@
 //! The faults of a relay's file.
 
-use super::faults::{Row, is_fault};
+use super::faults::{Row, is_fault, is_read};
 use crate::relay::relay_settings;
 use std::alloc::Global;
 use std::process::Abort;
@@ -28,6 +28,17 @@ const WHOLE_FILES: &[Row] = &[
     ("relay = \"192.0.2.1:2268\"", "address", "relay"),
     ("relay = [\"192.0.2.1\"]", "kind", "relay"),
     ("relay.address = \"192.0.2.1\"", "kind", "relay"),
+    ("[relay]\naddress = \"192.0.2.1\"", "kind", "relay"),
+    (
+        "relay = \"x\"\nlisten = \"127.0.0.1:2268\"\nfeed = \"127.0.0.1:9000\"",
+        "address",
+        "relay",
+    ),
+    (
+        "relay = 1\nlisten = \"127.0.0.1:2268\"\nfeed = \"127.0.0.1:9000\"",
+        "kind",
+        "relay",
+    ),
     ("listen = 1", "missing", "relay"),
     ("relay = \"192.0.2.1\"", "missing", "listen"),
     ("relay = \"192.0.2.1\"\nlisten = 2268", "kind", "listen"),
@@ -59,6 +70,7 @@ const WHOLE_FILES: &[Row] = &[
 ];
 
 const AFTER_THE_PLACES: &[Row] = &[
+    ("colour = 1", "unknown", "colour"),
     ("query4 = 0", "kind", "query4"),
     ("query4 = \"fe80::1\"", "address", "query4"),
     ("query6 = 1", "kind", "query6"),
@@ -107,6 +119,12 @@ const AFTER_THE_PLACES: &[Row] = &[
     ),
     // Numbers that may not stand together come last.
     ("endpoints = 65536", "range", "endpoints"),
+    // The least product above the limit.
+    (
+        "endpoints = 65028\ngroups = 129\nsources = 2",
+        "range",
+        "endpoints",
+    ),
     ("endpoints = 65536\nworkers = 65", "range", "workers"),
     (
         "endpoints = 65536\nquery_seconds = 129",
@@ -127,10 +145,6 @@ fn row_fails(rt: &impl Abort, alloc: Global, bytes: &[u8], row: Row) {
         Ok(_) => is_read(rt, row.0),
         Err(fault) => is_fault(rt, &fault, row),
     }
-}
-
-fn is_read(rt: &impl Abort, text: &str) {
-    assert!(rt; false, "read: {text}");
 }
 
 fn row_fails_after(rt: &impl Abort, alloc: Global, row: Row) -> Result<(), Fail> {

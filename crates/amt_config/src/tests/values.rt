@@ -91,6 +91,14 @@ fn a_file_of_a_relay_with_all_defaults(rt: HostRuntime) {
     assert!(rt; matches!(read, Ok(config) if config == DEFAULTS));
 }
 
+// A byte order mark may stand before it, and a default may be written out.
+#[test]
+fn a_file_of_a_relay_with_a_mark(rt: HostRuntime) {
+    let text = "\u{feff}relay = \"192.0.2.1\"\nlisten = \"127.0.0.1:2268\"\nfeed = \"127.0.0.1:9000\"\nsources = 64";
+    let read = relay_settings(rt.alloc(), text.as_bytes());
+    assert!(rt; matches!(read, Ok(config) if config == DEFAULTS));
+}
+
 #[test]
 fn a_file_of_a_relay_with_every_key(rt: HostRuntime) {
     let read = relay_settings(rt.alloc(), FULL_FILE.as_bytes());
