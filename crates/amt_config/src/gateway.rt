@@ -118,7 +118,7 @@ fn read_file(alloc: Global, bytes: &[u8]) -> Result<GatewayConfig, ConfigFault>
 }
 
 /// The configuration that the octets of a gateway's settings file say. Octets say one configuration, or have one
-/// first fault.
+/// have two first faults, or one of each.
 pub fn gateway_settings(alloc: Global, bytes: &[u8]) -> Result<GatewayConfig, ConfigFault>
     ensures found { IfOk result (λ config. IsGatewayFile config bytes.now) }
     ensures only { (config : Config) → IsGatewayFile config bytes.now

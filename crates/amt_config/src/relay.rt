@@ -196,7 +196,7 @@ fn read_file(alloc: Global, bytes: &[u8]) -> Result<RelayConfig, ConfigFault>
 }
 
 /// The configuration that the octets of a relay's settings file say. Octets say one configuration, or have one
-/// first fault.
+/// have two first faults, or one of each.
 pub fn relay_settings(alloc: Global, bytes: &[u8]) -> Result<RelayConfig, ConfigFault>
     ensures found { IfOk result (λ config. IsRelayFile config bytes.now) }
     ensures only { (config : Config) → IsRelayFile config bytes.now
