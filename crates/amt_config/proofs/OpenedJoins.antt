@@ -117,11 +117,6 @@ opened_start family all joins sockets none stands = record {
   reading = subst (λ (listed : List Join). IsReading family all listed all []) (sym none) (record { more = λ rest h. h; fails = λ fault h. h });
 }
 
--- another item that is no table changes nothing
-pub opened_same : (family : Option Family) (all : List Members) (joins : List Join) (left later : List Members) (sockets : SocketsValue) → left ≡ later
-    → AreOpened family all joins left sockets → AreOpened family all joins later sockets
-opened_same family all joins left later sockets same before = subst (λ (tables : List Members). AreOpened family all joins tables sockets) same before
-
 module _ (family : Option Family) (all : List Members) (joins : List Join) (left later : List Members) (table : Members) (parts : left ≡ table ∷ later) where
   next_reading : (history : List AcceptedCall) (join : Join) → JoinOf family table join → MayOpen history join → IsReading family all joins left history
       → IsReading family all (joins ++ join ∷ []) later (with_join join history)
