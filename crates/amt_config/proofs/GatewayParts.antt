@@ -41,29 +41,59 @@ peer_key word = required word (a_text a_peer)
 right_with_family : (table : Members) (ends : Ends) → HasEnds table ends → AreRight table (end_keys (Some ends.family))
 right_with_family table ends h = (
   right_family (codes "family") table ends.family h.family,
-  right_peer (codes "listen") table ends.listen h.listen,
-  right_peer (codes "deliver") table ends.deliver h.deliver,
-  right_peer (codes "control") table ends.control h.control,
-  right_peer (codes "discovery") table ends.discovery h.discovery,
-  right_source (codes "source") table (Some ends.family) ends.source h.source,
-  right_relay (codes "relay") table ends.relay h.relay,
-  right_number (codes "port") port_range table ends.port h.port,
-  tt,
+  (
+    right_peer (codes "listen") table ends.listen h.listen,
+    (
+      right_peer (codes "deliver") table ends.deliver h.deliver,
+      (
+        right_peer (codes "control") table ends.control h.control,
+        (
+          right_peer (codes "discovery") table ends.discovery h.discovery,
+          (
+            right_source (codes "source") table (Some ends.family) ends.source h.source,
+            (
+              right_relay (codes "relay") table ends.relay h.relay,
+              (
+                right_number (codes "port") port_range table ends.port h.port,
+                tt,
+              ),
+            ),
+          ),
+        ),
+      ),
+    ),
+  ),
 )
 
 all_with_family : (table : Members) (ends : Ends) (tables : List Members) → HasEnds table ends → HasTables (codes "join") table tables
     → AreRight table (gateway_keys (Some ends.family))
 all_with_family table ends tables h there = (
   right_family (codes "family") table ends.family h.family,
-  right_peer (codes "listen") table ends.listen h.listen,
-  right_peer (codes "deliver") table ends.deliver h.deliver,
-  right_peer (codes "control") table ends.control h.control,
-  right_peer (codes "discovery") table ends.discovery h.discovery,
-  right_source (codes "source") table (Some ends.family) ends.source h.source,
-  right_relay (codes "relay") table ends.relay h.relay,
-  right_number (codes "port") port_range table ends.port h.port,
-  right_tables (codes "join") table tables there,
-  tt,
+  (
+    right_peer (codes "listen") table ends.listen h.listen,
+    (
+      right_peer (codes "deliver") table ends.deliver h.deliver,
+      (
+        right_peer (codes "control") table ends.control h.control,
+        (
+          right_peer (codes "discovery") table ends.discovery h.discovery,
+          (
+            right_source (codes "source") table (Some ends.family) ends.source h.source,
+            (
+              right_relay (codes "relay") table ends.relay h.relay,
+              (
+                right_number (codes "port") port_range table ends.port h.port,
+                (
+                  right_tables (codes "join") table tables there,
+                  tt,
+                ),
+              ),
+            ),
+          ),
+        ),
+      ),
+    ),
+  ),
 )
 
 given_family : (table : Members) (ends : Ends) → HasEnds table ends → Some ends.family ≡ family_in table
