@@ -25,7 +25,7 @@ use Rattle.amt_config.specs.Table.{IsFirstFault, IsValueFault}
 use Rattle.amt_config.proofs.FirstFaults.{none_fails}
 use Rattle.amt_config.proofs.JoinLaws.{joins_or_fault, one_fault_in_joins, same_joins}
 use Rattle.amt_config.proofs.KeyFaults.{no_value, right_absent, right_number, some_value}
-use Rattle.amt_config.proofs.RelayLaws.{right_in_text, right_peer, same_in_number, same_in_text}
+use Rattle.amt_config.proofs.SharedLaws.{right_in_text, right_peer, same_in_number, same_in_text}
 use Rattle.amt_config.proofs.TableFaults.{one_table_fault}
 use Rattle.amt_config.proofs.ReadTexts.{peer_fits}
 
@@ -68,7 +68,7 @@ same_peer word table (Some peer) None h k = absurd (no_value _ (string h.0) h.1 
 same_peer word table (Some peer) (Some other) h k =
     ap (λ (p : Peer). Some p) (same_in_text IsPeerText IsPeerText-unique word table peer other h k)
 
-right_relay : (word : List ℕ) (table : Members) (peer : Option Peer) → HasPeer word table peer → IsRight table (optional word (a_text a_peer))
+pub right_relay : (word : List ℕ) (table : Members) (peer : Option Peer) → HasPeer word table peer → IsRight table (optional word (a_text a_peer))
 right_relay word table None h = right_absent word (a_text a_peer) table h
 right_relay word table (Some peer) h = right_in_text (IsPeerText peer) a_peer (peer_fits peer) word false table h
 
@@ -92,15 +92,31 @@ right_source word table family ip h = right_in_text (IsAddressText family ip) (a
 right_with_family : (table : Members) (config : GatewayConfig) → HasGatewayValues table config → AreRight table (gateway_keys (Some (family_by config.v6)))
 right_with_family table config h = (
   right_family (codes "family") table (family_by config.v6) h.family,
-  right_peer (codes "listen") table config.listen h.listen,
-  right_peer (codes "deliver") table config.deliver h.deliver,
-  right_peer (codes "control") table config.control h.control,
-  right_peer (codes "discovery") table config.discovery h.discovery,
-  right_source (codes "source") table (Some (family_by config.v6)) config.source h.source,
-  right_relay (codes "relay") table config.relay h.relay,
-  right_number (codes "port") port_range table config.port h.port,
-  right_tables (codes "join") table h.joins.tables h.joins.there,
-  tt,
+  (
+    right_peer (codes "listen") table config.listen h.listen,
+    (
+      right_peer (codes "deliver") table config.deliver h.deliver,
+      (
+        right_peer (codes "control") table config.control h.control,
+        (
+          right_peer (codes "discovery") table config.discovery h.discovery,
+          (
+            right_source (codes "source") table (Some (family_by config.v6)) config.source h.source,
+            (
+              right_relay (codes "relay") table config.relay h.relay,
+              (
+                right_number (codes "port") port_range table config.port h.port,
+                (
+                  right_tables (codes "join") table h.joins.tables h.joins.there,
+                  tt,
+                ),
+              ),
+            ),
+          ),
+        ),
+      ),
+    ),
+  ),
 )
 
 pub right_keys : (table : Members) (config : GatewayConfig) → HasGatewayValues table config → AreRight table (gateway_keys (family_in table))

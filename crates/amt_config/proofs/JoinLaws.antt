@@ -21,7 +21,7 @@ use Rattle.amt_config.specs.Key.{AreRight, Fails, IsNoTextAmong, IsRight, requir
 use Rattle.amt_config.specs.Table.{IsFirstFault}
 use Rattle.amt_config.proofs.FirstFaults.{none_fails}
 use Rattle.amt_config.proofs.KeyFaults.{no_value, some_value}
-use Rattle.amt_config.proofs.RelayLaws.{right_in_text, same_in_text}
+use Rattle.amt_config.proofs.SharedLaws.{right_in_text, same_in_text}
 use Rattle.amt_config.proofs.TableFaults.{one_table_fault}
 
 texts_back : (texts : List (List ℕ)) → texts_in (items_of_texts texts) ≡ texts
@@ -74,10 +74,16 @@ right_sources family table sources h = right_sources_at family table h.listed h.
 right_join : (family : Option Family) (table : Members) (join : Join) → JoinOf family table join → AreRight table (join_keys family)
 right_join family table join h = (
   right_in_text (IsNameText join.name) a_name (name_fits join.name) (codes "name") true table h.name,
-  right_in_text (IsGroupText family join.group) (a_group family) (group_fits family join.group) (codes "group") true table h.group,
-  right_in_text (IsModeText join.filter.mode) a_mode (mode_fits join.filter.mode) (codes "mode") true table h.mode,
-  right_sources family table join.filter.sources h.sources,
-  tt,
+  (
+    right_in_text (IsGroupText family join.group) (a_group family) (group_fits family join.group) (codes "group") true table h.group,
+    (
+      right_in_text (IsModeText join.filter.mode) a_mode (mode_fits join.filter.mode) (codes "mode") true table h.mode,
+      (
+        right_sources family table join.filter.sources h.sources,
+        tt,
+      ),
+    ),
+  ),
 )
 
 join_or_inner : (family : Option Family) (table : Members) (join : Join) (fault : ConfigFault) → JoinOf family table join

@@ -85,8 +85,9 @@ pub enum JoinFault {
 
 impl From<BadKey> for JoinFault {
     ghost use Rattle.std.specs.Prelude.{◌≡◌};
+    ghost use Rattle.amt_config.specs.declared.fault.JoinFault.{JoinFault as Fault};
 
-    ghost from_gives = { λ bad fault. fault ≡ JoinFault.Bad bad.fault };
+    ghost from_gives = { λ bad fault. fault ≡ Fault.Bad bad.fault };
 
     fn from(bad: BadKey) -> JoinFault {
         JoinFault::Bad(bad.fault)

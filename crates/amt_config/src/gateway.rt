@@ -50,15 +50,22 @@ fn read_ends(table: &Table) -> Result<Ends, BadKey>
         FailsFirstAt (table_view table.now) (end_keys (family_in (table_view table.now))) (word_of bad.key) bad.fault) }
 {
     let family = family_at(table, FileKey::Family)?;
+    let listen = peer_at(table, FileKey::Listen)?;
+    let deliver = peer_at(table, FileKey::Deliver)?;
+    let control = peer_at(table, FileKey::Control)?;
+    let discovery = peer_at(table, FileKey::Discovery)?;
+    let source = address_of(table, FileKey::Source, family)?;
+    let relay = peer_or_none(table, FileKey::Relay)?;
+    let port = number_at(table, FileKey::Port, PORT)?;
     Ok(Ends {
         family,
-        listen: peer_at(table, FileKey::Listen)?,
-        deliver: peer_at(table, FileKey::Deliver)?,
-        control: peer_at(table, FileKey::Control)?,
-        discovery: peer_at(table, FileKey::Discovery)?,
-        source: address_of(table, FileKey::Source, family)?,
-        relay: peer_or_none(table, FileKey::Relay)?,
-        port: number_at(table, FileKey::Port, PORT)? as u16,
+        listen,
+        deliver,
+        control,
+        discovery,
+        source,
+        relay,
+        port: port as u16,
     })
 }
 
