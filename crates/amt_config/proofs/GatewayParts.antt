@@ -1,5 +1,5 @@
 -- The parts of a gateway's file, and its first fault from theirs.
-use Rattle.std.proofs.Common.{◌≡◌, ◌≤◌, ◌⊎◌, ℕ, List, [], ◌∷◌, Option, Some, None, codes, inl, inr, refl, sym, subst, ap, ◌∙◌, arith, drop}
+use Rattle.std.proofs.Common.{◌≡◌, ◌≤◌, ◌⊎◌, ℕ, List, [], ◌∷◌, ◌++◌, Option, Some, None, codes, inl, inr, refl, sym, subst, ap, ◌∙◌, arith, drop}
 use Rattle.amt_values.specs.declared.address.Ip.{Ip}
 use Rattle.amt_values.specs.declared.peer.Peer.{Peer}
 use Rattle.amt_values.specs.Text.{IsPeerText}
@@ -65,36 +65,10 @@ right_with_family table ends h = (
   ),
 )
 
-all_with_family : (table : Members) (ends : Ends) (tables : List Members) → HasEnds table ends → HasTables (codes "join") table tables
-    → AreRight table (gateway_keys (Some ends.family))
-all_with_family table ends tables h there = (
-  right_family (codes "family") table ends.family h.family,
-  (
-    right_peer (codes "listen") table ends.listen h.listen,
-    (
-      right_peer (codes "deliver") table ends.deliver h.deliver,
-      (
-        right_peer (codes "control") table ends.control h.control,
-        (
-          right_peer (codes "discovery") table ends.discovery h.discovery,
-          (
-            right_source (codes "source") table (Some ends.family) ends.source h.source,
-            (
-              right_relay (codes "relay") table ends.relay h.relay,
-              (
-                right_number (codes "port") port_range table ends.port h.port,
-                (
-                  right_tables (codes "join") table tables there,
-                  tt,
-                ),
-              ),
-            ),
-          ),
-        ),
-      ),
-    ),
-  ),
-)
+-- keys that are right one after another
+right_both : (table : Members) (front back : List Key) → AreRight table front → AreRight table back → AreRight table (front ++ back)
+right_both table [] back right more = more
+right_both table (key ∷ rest) back right more = (right.0, right_both table rest back right.1 more)
 
 given_family : (table : Members) (ends : Ends) → HasEnds table ends → Some ends.family ≡ family_in table
 given_family table ends h = sym (family_is table ends.family h.family)
@@ -104,7 +78,7 @@ right_ends table ends h = subst (λ (f : Option Family). AreRight table (end_key
 
 all_right : (table : Members) (ends : Ends) (tables : List Members) → HasEnds table ends → HasTables (codes "join") table tables → AreRight table (gateway_keys (family_in table))
 all_right table ends tables h there =
-    subst (λ (f : Option Family). AreRight table (gateway_keys f)) (given_family table ends h) (all_with_family table ends tables h there)
+    right_both table (end_keys (family_in table)) tables_key (right_ends table ends h) (right_tables (codes "join") table tables there, tt)
 
 -- the first fault of the keys, where those before it are right
 module _ (table : Members) (word : List ℕ) (fault : KeyFault) where
