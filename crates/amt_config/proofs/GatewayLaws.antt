@@ -1,5 +1,5 @@
 -- A gateway's table has one configuration, or one first fault.
-use Rattle.std.proofs.Common.{◌≡◌, ℕ, Bool, true, false, List, [], ◌∷◌, Option, Some, None, pos, codes, inl, inr, refl, sym, subst, ap, ◌∙◌}
+use Rattle.std.proofs.Common.{◌≡◌, ℕ, Bool, true, false, List, [], ◌∷◌, Option, Some, None, codes, inl, inr, refl, sym, subst, ap, ◌∙◌}
 use Rattle.std.specs.Option.{option_and_then}
 use Rattle.amt_values.specs.declared.address.Ip.{Ip}
 use Rattle.amt_values.specs.declared.peer.Peer.{Peer}
@@ -11,17 +11,17 @@ use Rattle.script_lines.specs.Form.{IsAddressText, IsFamilyText, a_family, a_pee
 use Rattle.script_lines.specs.Texts.{family_text}
 use Rattle.socket_merge.specs.FullReport.{family_by}
 use Rattle.gateway_script.proofs.Fields.{IsAddressText-unique, IsFamilyText-unique, address_fits, family_fits}
-use Rattle.toml.specs.Data.{Data, Members, as_array, as_str, as_table, get_member, string}
+use Rattle.toml.specs.Data.{Data, Members, as_array, as_str, get_member, string}
 use Rattle.amt_config.specs.declared.config.GatewayConfig.{GatewayConfig}
 use Rattle.amt_config.specs.declared.config.Join.{Join}
 use Rattle.amt_config.specs.declared.fault.ConfigFault.{ConfigFault}
-use Rattle.amt_config.specs.declared.fault.KeyFault.{KeyFault}
 use Rattle.amt_config.specs.declared.fault.KeyFault.TheVariants.{Missing, Kind, Address, Range}
-use Rattle.amt_config.specs.Arrays.{array_of_tables, items_of_tables, tables_in}
-use Rattle.amt_config.specs.Gateway.{GatewayConfigOf, HasGatewayValues, HasJoins, HasPeer, IsFaultInJoins, IsGatewayTableFault, family_in, family_of_text, gateway_keys, port_range}
+use Rattle.amt_config.specs.Arrays.{array_of_tables, items_of_tables}
+use Rattle.amt_config.specs.Scanned.{tables_in}
+use Rattle.amt_config.specs.Gateway.{GatewayConfigOf, HasGatewayValues, HasJoins, HasPeer, IsFaultInJoins, IsGatewayTableFault, table_family, family_of_text, gateway_keys, port_range}
 use Rattle.amt_config.specs.Join.{AreJoins, FailsInJoins}
-use Rattle.amt_config.specs.Key.{AreRight, HasTables, HasText, IsRight, a_text, optional, required, some_tables}
-use Rattle.amt_config.specs.Table.{IsFirstFault, IsValueFault}
+use Rattle.amt_config.specs.Key.{HaveNoFault, HasTables, HasText, HasNoFault, a_text, optional, required, some_tables}
+use Rattle.amt_config.specs.Table.{IsValueFault}
 use Rattle.amt_config.proofs.FirstFaults.{none_fails}
 use Rattle.amt_config.proofs.JoinLaws.{joins_or_fault, one_fault_in_joins, same_joins}
 use Rattle.amt_config.proofs.KeyFaults.{no_value, right_absent, right_number, some_value}
@@ -34,7 +34,7 @@ by_text V4 = refl
 by_text V6 = refl
 
 -- the family by its text
-pub family_is : (table : Members) (family : Family) → HasText (codes "family") table (IsFamilyText family) → family_in table ≡ Some family
+pub family_is : (table : Members) (family : Family) → HasText (codes "family") table (IsFamilyText family) → table_family table ≡ Some family
 family_is table family h =
     ap (λ (found : Option Data). option_and_then family_of_text (option_and_then as_str found)) h.1
     ∙ (ap family_of_text h.2 ∙ by_text family)
@@ -68,28 +68,28 @@ same_peer word table (Some peer) None h k = absurd (no_value _ (string h.0) h.1 
 same_peer word table (Some peer) (Some other) h k =
     ap (λ (p : Peer). Some p) (same_in_text IsPeerText IsPeerText-unique word table peer other h k)
 
-pub right_relay : (word : List ℕ) (table : Members) (peer : Option Peer) → HasPeer word table peer → IsRight table (optional word (a_text a_peer))
+pub right_relay : (word : List ℕ) (table : Members) (peer : Option Peer) → HasPeer word table peer → HasNoFault table (optional word (a_text a_peer))
 right_relay word table None h = right_absent word (a_text a_peer) table h
 right_relay word table (Some peer) h = right_in_text (IsPeerText peer) a_peer (peer_fits peer) word false table h
 
-there_tables : (word : List ℕ) (table : Members) (tables : List Members) → get_member word table ≡ Some (array_of_tables tables) → IsRight table (optional word some_tables)
+there_tables : (word : List ℕ) (table : Members) (tables : List Members) → get_member word table ≡ Some (array_of_tables tables) → HasNoFault table (optional word some_tables)
 there_tables word table tables there Missing fails = no_value _ (array_of_tables tables) there fails.1
 there_tables word table tables there Kind fails = fails.2 tables (some_value _ fails.0 (array_of_tables tables) fails.1 there)
 there_tables word table tables there Address fails = fails.2
 there_tables word table tables there Range fails = fails.2
 
-pub right_tables : (word : List ℕ) (table : Members) (tables : List Members) → HasTables word table tables → IsRight table (optional word some_tables)
+pub right_tables : (word : List ℕ) (table : Members) (tables : List Members) → HasTables word table tables → HasNoFault table (optional word some_tables)
 right_tables word table tables (inl absent) = right_absent word some_tables table absent.0
 right_tables word table tables (inr there) = there_tables word table tables there
 
-pub right_family : (word : List ℕ) (table : Members) (family : Family) → HasText word table (IsFamilyText family) → IsRight table (required word (a_text a_family))
+pub right_family : (word : List ℕ) (table : Members) (family : Family) → HasText word table (IsFamilyText family) → HasNoFault table (required word (a_text a_family))
 right_family word table family h = right_in_text (IsFamilyText family) a_family (family_fits family) word true table h
 
 pub right_source : (word : List ℕ) (table : Members) (family : Option Family) (ip : Ip) → HasText word table (IsAddressText family ip)
-    → IsRight table (required word (a_text (an_address_of family)))
+    → HasNoFault table (required word (a_text (an_address_of family)))
 right_source word table family ip h = right_in_text (IsAddressText family ip) (an_address_of family) (address_fits family ip) word true table h
 
-right_with_family : (table : Members) (config : GatewayConfig) → HasGatewayValues table config → AreRight table (gateway_keys (Some (family_by config.v6)))
+right_with_family : (table : Members) (config : GatewayConfig) → HasGatewayValues table config → HaveNoFault table (gateway_keys (Some (family_by config.v6)))
 right_with_family table config h = (
   right_family (codes "family") table (family_by config.v6) h.family,
   (
@@ -119,9 +119,9 @@ right_with_family table config h = (
   ),
 )
 
-pub right_keys : (table : Members) (config : GatewayConfig) → HasGatewayValues table config → AreRight table (gateway_keys (family_in table))
+pub right_keys : (table : Members) (config : GatewayConfig) → HasGatewayValues table config → HaveNoFault table (gateway_keys (table_family table))
 right_keys table config h =
-    subst (λ (f : Option Family). AreRight table (gateway_keys f)) (sym (family_is table (family_by config.v6) h.family)) (right_with_family table config h)
+    subst (λ (f : Option Family). HaveNoFault table (gateway_keys f)) (sym (family_is table (family_by config.v6) h.family)) (right_with_family table config h)
 
 same_list : (one other : Option Family) (table : Members) (joins others : List Join) → one ≡ other → HasJoins one table joins → HasJoins other table others → joins ≡ others
 same_list one other table joins others same h k =
@@ -161,22 +161,22 @@ one_config table one other h k = same_values table one other h.values k.values
 
 one_in_joins : (table : Members) (one other : ConfigFault) → IsFaultInJoins table one → IsFaultInJoins table other → one ≡ other
 one_in_joins table one other h k =
-    one_fault_in_joins (family_in table) [] k.tables one other
-    (subst (λ (ts : List Members). FailsInJoins (family_in table) [] ts one) (same_tables table h.tables k.tables h.there k.there) h.fails) k.fails
+    one_fault_in_joins (table_family table) [] k.tables one other
+    (subst (λ (ts : List Members). FailsInJoins (table_family table) [] ts one) (same_tables table h.tables k.tables h.there k.there) h.fails) k.fails
 
 pub one_fault : (table : Members) (one other : ConfigFault) → IsGatewayTableFault table one → IsGatewayTableFault table other → one ≡ other
-one_fault table one other h k = one_table_fault IsFaultInJoins one_in_joins (gateway_keys (family_in table)) table one other h k
+one_fault table one other h k = one_table_fault IsFaultInJoins one_in_joins (gateway_keys (table_family table)) table one other h k
 
 no_fault_in_joins : (table : Members) (config : GatewayConfig) (fault : ConfigFault) → HasGatewayValues table config → IsFaultInJoins table fault → ⊥
 no_fault_in_joins table config fault h k =
-    joins_or_fault (family_in table) [] k.tables config.joins fault
+    joins_or_fault (table_family table) [] k.tables config.joins fault
     (subst (λ (f : Option Family). AreJoins f [] k.tables config.joins) (sym (family_is table (family_by config.v6) h.family))
     (subst (λ (ts : List Members). AreJoins (Some (family_by config.v6)) [] ts config.joins) (same_tables table h.joins.tables k.tables h.joins.there k.there) h.joins.are))
     k.fails
 
 no_value_fault : (table : Members) (config : GatewayConfig) (fault : ConfigFault) → HasGatewayValues table config
-    → IsValueFault (gateway_keys (family_in table)) IsFaultInJoins table fault → ⊥
-no_value_fault table config fault h (inl k) = none_fails table (gateway_keys (family_in table)) k.word k.cause (right_keys table config h) k.first
+    → IsValueFault (gateway_keys (table_family table)) IsFaultInJoins table fault → ⊥
+no_value_fault table config fault h (inl k) = none_fails table (gateway_keys (table_family table)) k.word k.cause (right_keys table config h) k.first
 no_value_fault table config fault h (inr k) = no_fault_in_joins table config fault h k.1
 
 pub not_both : (table : Members) (config : GatewayConfig) (fault : ConfigFault) → GatewayConfigOf table config → IsGatewayTableFault table fault → ⊥

@@ -6,7 +6,7 @@ use Rattle.std.specs.Option.{option_copied}
 use Rattle.toml.specs.Data.{Data, Items, Members, array, as_str, as_table, boolean, datetime, float, integer, item, string, table as table_value}
 use Rattle.toml.specs.View.{items_view, table_view, view}
 use Rattle.toml.specs.declared.value.Value.{Value}
-use Rattle.amt_config.specs.Arrays.{tables_in, texts_in}
+use Rattle.amt_config.specs.Scanned.{tables_in, texts_in}
 use Rattle.amt_config.proofs.ReadTexts.{no_text_read, text_read}
 
 next_item : {X : Type 0} (items : List X) (i : ℕ) (one : X) → i < length items → one ≡ get_or items i one → drop i items ≡ one ∷ drop (i + 1) items

@@ -1,23 +1,22 @@
 -- The tables of joins have one list of joins, or one first fault.
-use Rattle.std.proofs.Common.{◌≡◌, ℕ, Bool, true, List, [], ◌∷◌, Option, Some, None, codes, inl, inr, refl, sym, subst, ap, ◌∙◌}
+use Rattle.std.proofs.Common.{◌≡◌, ℕ, true, List, [], ◌∷◌, Option, Some, codes, inl, inr, refl, sym, subst, ap, ◌∙◌}
 use Rattle.amt_values.specs.declared.address.Ip.{Ip}
 use Rattle.group_records.specs.declared.family.Family.{Family}
-use Rattle.source_filter.specs.Filter.{FilterValue, ascending_sources}
-use Rattle.script_lines.specs.declared.reason.Reason.{Reason}
-use Rattle.script_lines.specs.declared.reason.Reason.TheVariants as reasons
-use Rattle.script_lines.specs.Form.{Form, IsGroupText, IsModeText, IsNameText, a_group, a_mode, a_name, an_address_of}
+use Rattle.source_filter.specs.Filter.{ascending_sources}
+use Rattle.script_lines.specs.Form.{IsGroupText, IsModeText, IsNameText, a_group, a_mode, a_name, an_address_of}
 use Rattle.script_lines.specs.Shape.{SomeFails}
 use Rattle.socket_merge.specs.History.{AcceptedCall}
 use Rattle.gateway_script.specs.Says.{AreAddressTexts}
 use Rattle.gateway_script.proofs.Fields.{AreAddressTexts-unique, IsAddressText-unique, IsModeText-unique, IsNameText-unique, addresses_fit, group_fits, mode_fits, name_fits}
-use Rattle.toml.specs.Data.{Data, Items, Members, as_array, get_member}
+use Rattle.toml.specs.Data.{Data, Members, as_array, get_member}
 use Rattle.amt_config.specs.declared.config.Join.{Join}
 use Rattle.amt_config.specs.declared.fault.ConfigFault.{ConfigFault}
 use Rattle.amt_config.specs.declared.fault.KeyFault.{KeyFault}
 use Rattle.amt_config.specs.declared.fault.KeyFault.TheVariants.{Missing, Kind, Address, Range}
-use Rattle.amt_config.specs.Arrays.{array_of_texts, items_of_texts, texts_in}
+use Rattle.amt_config.specs.Arrays.{array_of_texts, items_of_texts}
+use Rattle.amt_config.specs.Scanned.{texts_in}
 use Rattle.amt_config.specs.Join.{AreJoins, FailsInJoins, HasSources, IsJoinFault, JoinOf, MayOpen, in_join, join_keys, with_join}
-use Rattle.amt_config.specs.Key.{AreRight, Fails, IsNoTextAmong, IsRight, required, some_texts}
+use Rattle.amt_config.specs.Key.{HaveNoFault, IsUnfitAmong, HasNoFault, required, some_texts}
 use Rattle.amt_config.specs.Table.{IsFirstFault}
 use Rattle.amt_config.proofs.FirstFaults.{none_fails}
 use Rattle.amt_config.proofs.KeyFaults.{no_value, some_value}
@@ -53,13 +52,13 @@ one_join family table one other h k =
     λ i. record { name = name i; group = group i; filter = record { mode = mode i; sources = sources i } }
 
 no_bad_text : (family : Option Family) (listed : List Ip) (texts : List (List ℕ)) (value : Data) (fault : KeyFault) → AreAddressTexts family listed texts
-    → value ≡ array_of_texts texts → IsNoTextAmong (an_address_of family) value fault → ⊥
+    → value ≡ array_of_texts texts → IsUnfitAmong (an_address_of family) value fault → ⊥
 no_bad_text family listed texts value fault are is found =
     addresses_fit family listed texts are found.reason
     (subst (λ (ts : List (List ℕ)). SomeFails [] (Some (an_address_of family)) ts found.reason) (same_texts found.texts texts (sym found.is ∙ is)) found.fails)
 
 right_sources_at : (family : Option Family) (table : Members) (listed : List Ip) (texts : List (List ℕ)) → get_member (codes "sources") table ≡ Some (array_of_texts texts)
-    → AreAddressTexts family listed texts → IsRight table (required (codes "sources") (some_texts (an_address_of family)))
+    → AreAddressTexts family listed texts → HasNoFault table (required (codes "sources") (some_texts (an_address_of family)))
 right_sources_at family table listed texts there are Missing fails = no_value _ (array_of_texts texts) there fails.1
 right_sources_at family table listed texts there are Kind fails = fails.2 texts (some_value _ fails.0 (array_of_texts texts) fails.1 there)
 right_sources_at family table listed texts there are Address fails =
@@ -68,10 +67,10 @@ right_sources_at family table listed texts there are Range fails =
     no_bad_text family listed texts fails.0 Range are (some_value _ fails.0 (array_of_texts texts) fails.1 there) fails.2
 
 pub right_sources : (family : Option Family) (table : Members) (sources : List Ip) → HasSources family table sources
-    → IsRight table (required (codes "sources") (some_texts (an_address_of family)))
+    → HasNoFault table (required (codes "sources") (some_texts (an_address_of family)))
 right_sources family table sources h = right_sources_at family table h.listed h.texts h.there h.addresses
 
-right_join : (family : Option Family) (table : Members) (join : Join) → JoinOf family table join → AreRight table (join_keys family)
+right_join : (family : Option Family) (table : Members) (join : Join) → JoinOf family table join → HaveNoFault table (join_keys family)
 right_join family table join h = (
   right_in_text (IsNameText join.name) a_name (name_fits join.name) (codes "name") true table h.name,
   (

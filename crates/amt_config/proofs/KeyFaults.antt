@@ -8,7 +8,7 @@ use Rattle.script_lines.specs.Form.{Fails as FailsAsForm, Form}
 use Rattle.toml.specs.Data.{Data, Members, as_integer, as_str, get_member, integer, string}
 use Rattle.amt_config.specs.declared.fault.KeyFault.{KeyFault}
 use Rattle.amt_config.specs.declared.fault.KeyFault.TheVariants.{Missing, Kind, Address, Range}
-use Rattle.amt_config.specs.Key.{Fails, FailsFirst, HasNumber, IsNoText, IsOutside, IsRefused, IsRight, Key, Want, a_text, a_whole, fault_of, optional, required}
+use Rattle.amt_config.specs.Key.{Fails, FailsFirst, HasWholeNumber, IsUnfitText, IsOutside, Refuses, HasNoFault, Key, Want, a_text, a_whole, fault_of, optional, required}
 
 pub some_value : (found : Option Data) (one other : Data) → found ≡ Some one → found ≡ Some other → one ≡ other
 some_value found one other h k = let both : Some one ≡ Some other = sym h ∙ k in cc
@@ -35,7 +35,7 @@ pub first_missing : (word : List ℕ) (want : Want) (table : Members) → get_me
 first_missing word want table none = inl ((refl, none), refl)
 
 -- a value of another type
-pub first_kind : (key : Key) (table : Members) (value : Data) → get_member key.word table ≡ Some value → IsRefused key.want value Kind → FailsFirst key table Kind
+pub first_kind : (key : Key) (table : Members) (value : Data) → get_member key.word table ≡ Some value → Refuses key.want value Kind → FailsFirst key table Kind
 first_kind key table value there refused = inr (λ fails. no_value _ value there fails.1, inl ((value, there, refused), refl))
 
 text_kind : (value : Data) (text : List ℕ) → value ≡ string text → as_str value ≡ None → ⊥
@@ -60,7 +60,7 @@ first_address word must form table text reason there fails told =
     )
 
 some_address : (form : Form) (text : List ℕ) (value : Data) → value ≡ string text → ((reason : Reason) → fault_of reason ≡ Some Address → FailsAsForm form text reason → ⊥)
-    → IsNoText form value Address → ⊥
+    → IsUnfitText form value Address → ⊥
 some_address form text value is free found =
     free found.reason found.told (subst (λ (t : List ℕ). FailsAsForm form t found.reason) (same_text found.text text (sym found.is ∙ is)) found.fails)
 
@@ -105,20 +105,20 @@ first_outside word range table number there outside =
     )
 
 -- a key that may be left out, and is
-pub right_absent : (word : List ℕ) (want : Want) (table : Members) → get_member word table ≡ None → IsRight table (optional word want)
+pub right_absent : (word : List ℕ) (want : Want) (table : Members) → get_member word table ≡ None → HasNoFault table (optional word want)
 right_absent word want table none Missing fails = let no = fails.0 in cc
 right_absent word want table none Kind fails = no_value _ fails.0 fails.1 none
 right_absent word want table none Address fails = no_value _ fails.0 fails.1 none
 right_absent word want table none Range fails = no_value _ fails.0 fails.1 none
 
 no_text : (form : Form) (text : List ℕ) (value : Data) (fault : KeyFault) → ((reason : Reason) → FailsAsForm form text reason → ⊥)
-    → value ≡ string text → IsNoText form value fault → ⊥
+    → value ≡ string text → IsUnfitText form value fault → ⊥
 no_text form text value fault fits is found =
     fits found.reason (subst (λ (t : List ℕ). FailsAsForm form t found.reason) (same_text found.text text (sym found.is ∙ is)) found.fails)
 
 -- a text of the form
 pub right_text : (word : List ℕ) (must : Bool) (form : Form) (table : Members) (text : List ℕ) → get_member word table ≡ Some (string text)
-    → ((reason : Reason) → FailsAsForm form text reason → ⊥) → IsRight table (text_key word must form)
+    → ((reason : Reason) → FailsAsForm form text reason → ⊥) → HasNoFault table (text_key word must form)
 right_text word must form table text there fits Missing fails = no_value _ (string text) there fails.1
 right_text word must form table text there fits Kind fails = text_kind fails.0 text (some_value _ fails.0 (string text) fails.1 there) fails.2
 right_text word must form table text there fits Address fails = no_text form text fails.0 Address fits (some_value _ fails.0 (string text) fails.1 there) fails.2
@@ -128,7 +128,7 @@ not_outside : (range : NumberRange) (value : Data) (number : ℕ) → IsInRange 
 not_outside range value number inside is out = out.outside number inside (same_number out.number (pos number) (sym out.is ∙ is))
 
 there_right : (word : List ℕ) (range : NumberRange) (table : Members) (number : ℕ)
-    → get_member word table ≡ Some (integer (pos number)) → IsInRange range.least range.most number → IsRight table (optional word (a_whole range))
+    → get_member word table ≡ Some (integer (pos number)) → IsInRange range.least range.most number → HasNoFault table (optional word (a_whole range))
 there_right word range table number there inside Missing fails = no_value _ (integer (pos number)) there fails.1
 there_right word range table number there inside Kind fails = number_kind fails.0 (pos number) (some_value _ fails.0 (integer (pos number)) fails.1 there) fails.2
 there_right word range table number there inside Address fails = fails.2
@@ -136,6 +136,6 @@ there_right word range table number there inside Range fails =
     not_outside range fails.0 number inside (some_value _ fails.0 (integer (pos number)) fails.1 there) fails.2
 
 -- a number of the range, or none
-pub right_number : (word : List ℕ) (range : NumberRange) (table : Members) (number : ℕ) → HasNumber word range table number → IsRight table (optional word (a_whole range))
+pub right_number : (word : List ℕ) (range : NumberRange) (table : Members) (number : ℕ) → HasWholeNumber word range table number → HasNoFault table (optional word (a_whole range))
 right_number word range table number (inl absent) = right_absent word (a_whole range) table absent.0
 right_number word range table number (inr there) = there_right word range table number there.0 there.1

@@ -1,5 +1,5 @@
 -- Joins that are opened one after another, and the first that can't be.
-use Rattle.std.proofs.Common.{◌≡◌, ℕ, ◌+◌, ◌≤◌, ◌<◌, Bool, true, false, List, [], ◌∷◌, ◌++◌, length, Option, Some, None, Ok, Err, codes, inl, inr, refl, sym, subst, ap, ◌∙◌, append-nil, append_assoc, arith}
+use Rattle.std.proofs.Common.{◌≡◌, ℕ, ◌≤◌, ◌<◌, true, List, [], ◌∷◌, ◌++◌, length, Option, Some, None, Ok, Err, codes, inl, inr, refl, sym, subst, ap, append-nil, append_assoc, arith}
 use Rattle.std.specs.List.{All}
 use Rattle.std.specs.Ordering.{match_ordering}
 use Rattle.std.specs.declared.cmp.Ordering.{Ordering}
@@ -15,7 +15,7 @@ use Rattle.contract_words.specs.Ascending.{placed}
 use Rattle.contract_words.proofs.ConditionLaws.{NoneHolds-of}
 use Rattle.group_records.specs.declared.family.Family.{Family}
 use Rattle.group_records.specs.Written.{is_of_family}
-use Rattle.source_filter.specs.Filter.{FilterValue, ascending_sources}
+use Rattle.source_filter.specs.Filter.{ascending_sources}
 use Rattle.socket_merge.specs.History.{AcceptedCall, Socket, open_sockets}
 use Rattle.socket_merge.specs.Refusal.{conditions_of, raw_sources, refusal_of}
 use Rattle.socket_merge.specs.Sockets.{AnswersRefusal, AreOfGroup, ForHistory, SocketsHold, SocketsValue}

@@ -1,5 +1,5 @@
 -- Values that are texts or numbers, as they were read, and texts that are of their forms.
-use Rattle.std.proofs.Common.{◌≡◌, ℕ, List, Option, Some, None, Bor, BTreeMap, String, Global, ℤ, option_map, string_bytes, nat_cmp, refl, sym, subst, ap, ◌∙◌}
+use Rattle.std.proofs.Common.{◌≡◌, ℕ, List, Option, Some, None, Bor, BTreeMap, String, Global, ℤ, option_map, string_bytes, nat_cmp, sym, subst, ap, ◌∙◌}
 use Rattle.std.specs.BTreeMap.{is_at}
 use Rattle.std.specs.Cmp.Lexicographic.{slice_cmp}
 use Rattle.std.specs.Map.{lookup}
@@ -12,7 +12,7 @@ use Rattle.amt_values.specs.Text.{IsIpText, IsPeerText}
 use Rattle.script_lines.specs.declared.reason.Reason.{Reason}
 use Rattle.script_lines.specs.declared.reason.Reason.TheVariants as reasons
 use Rattle.script_lines.specs.Form.{Fails, a_family, a_mode, a_name, a_peer, an_address, an_address4, an_address6}
-use Rattle.toml.specs.Data.{Data, Items, Members, array, as_array, as_integer, as_str, as_table, boolean, datetime, float, get_member, integer, string, table as table_value}
+use Rattle.toml.specs.Data.{Data, array, as_integer, as_str, boolean, datetime, float, get_member, integer, string, table as table_value}
 use Rattle.toml.specs.View.{table_view, view}
 use Rattle.toml.specs.declared.value.Value.{Value}
 use Rattle.amt_config.specs.declared.fault.KeyFault.TheVariants.{Address}

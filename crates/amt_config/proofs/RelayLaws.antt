@@ -1,37 +1,30 @@
 -- A relay's table has one configuration, or one first fault.
-use Rattle.std.proofs.Common.{◌≡◌, ◌≤◌, ◌<◌, ◌*◌, ℕ, Bool, true, false, List, [], ◌∷◌, Some, None, ℤ, pos, codes, inl, inr, refl, sym, subst, ap, ◌∙◌, arith}
+use Rattle.std.proofs.Common.{◌≡◌, ◌≤◌, ◌<◌, ◌*◌, ℕ, true, false, List, codes, inl, inr, sym, subst, ap, ◌∙◌, arith}
 use Rattle.amt_values.specs.declared.address.Ip.{Ip}
 use Rattle.amt_values.specs.declared.address.Ip.TheVariants.{V4, V6}
-use Rattle.amt_values.specs.declared.peer.Peer.{Peer}
 use Rattle.amt_values.specs.Text.{IsIpText, IsPeerText}
 use Rattle.amt_values.proofs.Unique.{IsIpText-unique, IsPeerText-unique}
 use Rattle.contract_words.specs.Conditions.{First}
 use Rattle.relay_machine.specs.declared.number_key.NumberKey.{NumberKey}
 use Rattle.relay_machine.specs.declared.number_key.NumberKey.TheVariants.{Robustness, QuerySeconds, ResponseTenths, Endpoints, Groups, Sources, PacketLimit}
-use Rattle.relay_machine.specs.declared.number_key.NumberRange.{NumberRange}
 use Rattle.relay_machine.specs.Settings.{AreLawfulSettings, HasCode, IsInKeyRange, number_at, number_row}
 use Rattle.script_lines.proofs.Firsts.{First-holds, First-unique}
 use Rattle.script_lines.specs.declared.reason.Reason.{Reason}
-use Rattle.script_lines.specs.Form.{Fails as FailsAsForm, Form, a_peer, an_address, an_address4, an_address6}
+use Rattle.script_lines.specs.Form.{Fails as FailsAsForm, Form, an_address, an_address4, an_address6}
 use Rattle.amt_script.specs.declared.kind.Key.TheVariants as words
 use Rattle.amt_script.specs.Row.{key_word, number_word}
-use Rattle.toml.specs.Data.{Data, Members, get_member, integer, string}
+use Rattle.toml.specs.Data.{Members, string}
 use Rattle.amt_config.specs.declared.config.RelayConfig.{RelayConfig}
 use Rattle.amt_config.specs.declared.fault.ConfigFault.{ConfigFault}
 use Rattle.amt_config.specs.declared.fault.ConfigFault.TheVariants as faults
-use Rattle.amt_config.specs.Key.{AreRight, HasNumber, HasText, HasTextOr, IsRight, a_text, optional, required}
-use Rattle.amt_config.specs.Relay.{FailsTogether, HasValues, IsFaultTogether, RelayConfigOf, number_key, range_of, relay_keys, rotate_range, settings_of, workers_range}
+use Rattle.amt_config.specs.Key.{HaveNoFault, HasWholeNumber, HasText, HasTextOr, HasNoFault, a_text, optional, required}
+use Rattle.amt_config.specs.Relay.{FailsTogether, HasValues, IsFaultTogether, RelayConfigOf, number_key, range_of, relay_keys, rotate_range, settings_of, together_order, workers_range}
 use Rattle.amt_config.specs.Table.{IsFirstFault, IsValueFault}
 use Rattle.amt_config.proofs.FirstFaults.{none_fails}
-use Rattle.amt_config.proofs.KeyFaults.{no_value, one_number, one_text, right_absent, right_number, right_text}
+use Rattle.amt_config.proofs.KeyFaults.{no_value, right_absent, right_number}
+use Rattle.amt_config.proofs.SharedLaws.{right_in_text, right_peer, same_in_number, same_in_text}
 use Rattle.amt_config.proofs.TableFaults.{one_table_fault}
-use Rattle.amt_config.proofs.ReadTexts.{ip4_fits, ip6_fits, ip_fits, peer_fits}
-
--- a text names one value
-pub same_in_text : {V : Type 0} (Names : V → List ℕ → Type 0) (unique : (one other : V) (text : List ℕ) → Names one text → Names other text → one ≡ other)
-    (word : List ℕ) (table : Members) (one other : V) → HasText word table (Names one) → HasText word table (Names other) → one ≡ other
-same_in_text Names unique word table one other h k =
-    unique one other h.0 h.2 (subst (Names other) (sym (one_text _ h.0 k.0 h.1 k.1)) k.2)
+use Rattle.amt_config.proofs.ReadTexts.{ip4_fits, ip6_fits, ip_fits}
 
 same_in_text_or : {V : Type 0} (Names : V → List ℕ → Type 0) (unique : (one other : V) (text : List ℕ) → Names one text → Names other text → one ≡ other)
     (word : List ℕ) (table : Members) (default one other : V) → HasTextOr word table (Names one) (one ≡ default) → HasTextOr word table (Names other) (other ≡ default) → one ≡ other
@@ -39,12 +32,6 @@ same_in_text_or Names unique word table default one other (inl h) (inl k) = h.1 
 same_in_text_or Names unique word table default one other (inl h) (inr k) = absurd (no_value _ (string k.0) k.1 h.0)
 same_in_text_or Names unique word table default one other (inr h) (inl k) = absurd (no_value _ (string h.0) h.1 k.0)
 same_in_text_or Names unique word table default one other (inr h) (inr k) = same_in_text Names unique word table one other h k
-
-pub same_in_number : (word : List ℕ) (range : NumberRange) (table : Members) (one other : ℕ) → HasNumber word range table one → HasNumber word range table other → one ≡ other
-same_in_number word range table one other (inl h) (inl k) = h.1 ∙ sym k.1
-same_in_number word range table one other (inl h) (inr k) = absurd (no_value _ (integer (pos other)) k.0 h.0)
-same_in_number word range table one other (inr h) (inl k) = absurd (no_value _ (integer (pos one)) h.0 k.0)
-same_in_number word range table one other (inr h) (inr k) = one_number _ one other h.0 k.0
 
 v4_unique : (one other : ℕ) (text : List ℕ) → IsIpText (V4 one) text → IsIpText (V4 other) text → one ≡ other
 v4_unique one other text h k = let same : V4 one ≡ V4 other = IsIpText-unique (V4 one) (V4 other) text h k in cc
@@ -86,48 +73,67 @@ same_values table one other h k =
 pub one_config : (table : Members) (one other : RelayConfig) → RelayConfigOf table one → RelayConfigOf table other → one ≡ other
 one_config table one other h k = same_values table one other h.values k.values
 
--- a key with such a text is right
-pub right_in_text : (Names : List ℕ → Type 0) (form : Form) (fits : (text : List ℕ) → Names text → (reason : Reason) → FailsAsForm form text reason → ⊥)
-    (word : List ℕ) (must : Bool) (table : Members) → HasText word table Names → IsRight table (record { word = word; is_required = must; want = a_text form })
-right_in_text Names form fits word must table h = right_text word must form table h.0 h.1 (fits h.0 h.2)
-
 pub right_in_text_or : (Names : List ℕ → Type 0) (Default : Type 0) (form : Form) (fits : (text : List ℕ) → Names text → (reason : Reason) → FailsAsForm form text reason → ⊥)
-    (word : List ℕ) (table : Members) → HasTextOr word table Names Default → IsRight table (optional word (a_text form))
+    (word : List ℕ) (table : Members) → HasTextOr word table Names Default → HasNoFault table (optional word (a_text form))
 right_in_text_or Names Default form fits word table (inl absent) = right_absent word (a_text form) table absent.0
 right_in_text_or Names Default form fits word table (inr there) = right_in_text Names form fits word false table there
 
-pub right_ip : (word : List ℕ) (table : Members) (ip : Ip) → HasText word table (IsIpText ip) → IsRight table (required word (a_text an_address))
+pub right_ip : (word : List ℕ) (table : Members) (ip : Ip) → HasText word table (IsIpText ip) → HasNoFault table (required word (a_text an_address))
 right_ip word table ip h = right_in_text (IsIpText ip) an_address (ip_fits ip) word true table h
 
-pub right_peer : (word : List ℕ) (table : Members) (peer : Peer) → HasText word table (IsPeerText peer) → IsRight table (required word (a_text a_peer))
-right_peer word table peer h = right_in_text (IsPeerText peer) a_peer (peer_fits peer) word true table h
-
-pub right_ip4 : (word : List ℕ) (table : Members) (number : ℕ) (Default : Type 0) → HasTextOr word table (IsIpText (V4 number)) Default → IsRight table (optional word (a_text an_address4))
+pub right_ip4 : (word : List ℕ) (table : Members) (number : ℕ) (Default : Type 0) → HasTextOr word table (IsIpText (V4 number)) Default → HasNoFault table (optional word (a_text an_address4))
 right_ip4 word table number Default h = right_in_text_or (IsIpText (V4 number)) Default an_address4 (ip4_fits number) word table h
 
-pub right_ip6 : (word : List ℕ) (table : Members) (number : ℕ) (Default : Type 0) → HasTextOr word table (IsIpText (V6 number)) Default → IsRight table (optional word (a_text an_address6))
+pub right_ip6 : (word : List ℕ) (table : Members) (number : ℕ) (Default : Type 0) → HasTextOr word table (IsIpText (V6 number)) Default → HasNoFault table (optional word (a_text an_address6))
 right_ip6 word table number Default h = right_in_text_or (IsIpText (V6 number)) Default an_address6 (ip6_fits number) word table h
 
-pub right_of_key : (key : NumberKey) (table : Members) (number : ℕ) → HasNumber (number_word key) (range_of key) table number → IsRight table (number_key key)
+pub right_of_key : (key : NumberKey) (table : Members) (number : ℕ) → HasWholeNumber (number_word key) (range_of key) table number → HasNoFault table (number_key key)
 right_of_key key table number h = right_number (number_word key) (range_of key) table number h
 
-pub right_keys : (table : Members) (config : RelayConfig) → HasValues table config → AreRight table relay_keys
-right_keys table config h =
-    (right_ip (key_word words.Relay) table config.relay h.relay,
-    (right_peer (codes "listen") table config.listen h.listen,
-    (right_peer (codes "feed") table config.feed h.feed,
-    (right_ip4 (key_word words.Query4) table config.query4 _ h.query4,
-    (right_ip6 (key_word words.Query6) table config.query6 _ h.query6,
-    (right_of_key Robustness table _ (h.numbers Robustness),
-    (right_of_key QuerySeconds table _ (h.numbers QuerySeconds),
-    (right_of_key ResponseTenths table _ (h.numbers ResponseTenths),
-    (right_of_key Endpoints table _ (h.numbers Endpoints),
-    (right_of_key Groups table _ (h.numbers Groups),
-    (right_of_key Sources table _ (h.numbers Sources),
-    (right_of_key PacketLimit table _ (h.numbers PacketLimit),
-    (right_number (codes "rotate_seconds") rotate_range table config.rotate_seconds h.rotate,
-    (right_number (codes "workers") workers_range table config.workers h.workers,
-    tt))))))))))))))
+pub right_keys : (table : Members) (config : RelayConfig) → HasValues table config → HaveNoFault table relay_keys
+right_keys table config h = (
+  right_ip (key_word words.Relay) table config.relay h.relay,
+  (
+    right_peer (codes "listen") table config.listen h.listen,
+    (
+      right_peer (codes "feed") table config.feed h.feed,
+      (
+        right_ip4 (key_word words.Query4) table config.query4 _ h.query4,
+        (
+          right_ip6 (key_word words.Query6) table config.query6 _ h.query6,
+          (
+            right_of_key Robustness table _ (h.numbers Robustness),
+            (
+              right_of_key QuerySeconds table _ (h.numbers QuerySeconds),
+              (
+                right_of_key ResponseTenths table _ (h.numbers ResponseTenths),
+                (
+                  right_of_key Endpoints table _ (h.numbers Endpoints),
+                  (
+                    right_of_key Groups table _ (h.numbers Groups),
+                    (
+                      right_of_key Sources table _ (h.numbers Sources),
+                      (
+                        right_of_key PacketLimit table _ (h.numbers PacketLimit),
+                        (
+                          right_number (codes "rotate_seconds") rotate_range table config.rotate_seconds h.rotate,
+                          (
+                            right_number (codes "workers") workers_range table config.workers h.workers,
+                            tt,
+                          ),
+                        ),
+                      ),
+                    ),
+                  ),
+                ),
+              ),
+            ),
+          ),
+        ),
+      ),
+    ),
+  ),
+)
 
 -- numbers that fail together aren't lawful
 more_than : (a b : ℕ) → a ≤ b → b < a → ⊥
@@ -142,12 +148,9 @@ not_lawful config Groups fails lawful = fails
 not_lawful config Sources fails lawful = fails
 not_lawful config PacketLimit fails lawful = fails
 
-abbrev order_together : List NumberKey
-order_together = Endpoints ∷ QuerySeconds ∷ ResponseTenths ∷ []
-
-one_key : (one other : RelayConfig) (key key' : NumberKey) → one ≡ other → First (FailsTogether one) order_together key → First (FailsTogether other) order_together key' → key ≡ key'
+one_key : (one other : RelayConfig) (key key' : NumberKey) → one ≡ other → First (FailsTogether one) together_order key → First (FailsTogether other) together_order key' → key ≡ key'
 one_key one other key key' same h k =
-    First-unique (FailsTogether one) order_together key key' h (subst (λ (c : RelayConfig). First (FailsTogether c) order_together key') (sym same) k)
+    First-unique (FailsTogether one) together_order key key' h (subst (λ (c : RelayConfig). First (FailsTogether c) together_order key') (sym same) k)
 
 one_together : (table : Members) (one other : ConfigFault) → IsFaultTogether table one → IsFaultTogether table other → one ≡ other
 one_together table one other h k =
@@ -159,7 +162,7 @@ one_fault table one other h k = one_table_fault IsFaultTogether one_together rel
 
 no_fault_together : (table : Members) (config : RelayConfig) (fault : ConfigFault) → RelayConfigOf table config → IsFaultTogether table fault → ⊥
 no_fault_together table config fault of h =
-    not_lawful h.config h.key (First-holds (FailsTogether h.config) order_together h.key h.first)
+    not_lawful h.config h.key (First-holds (FailsTogether h.config) together_order h.key h.first)
     (subst (λ (c : RelayConfig). AreLawfulSettings (settings_of c)) (same_values table config h.config of.values h.values) of.lawful)
 
 no_value_fault : (table : Members) (config : RelayConfig) (fault : ConfigFault) → RelayConfigOf table config → IsValueFault relay_keys IsFaultTogether table fault → ⊥
@@ -180,7 +183,7 @@ default_in_range Groups = record { least = omega arith; most = omega arith }
 default_in_range Sources = record { least = omega arith; most = omega arith }
 default_in_range PacketLimit = record { least = omega arith; most = omega arith }
 
-in_range : (key : NumberKey) (table : Members) (number : ℕ) → HasNumber (number_word key) (range_of key) table number → IsInKeyRange key number
+in_range : (key : NumberKey) (table : Members) (number : ℕ) → HasWholeNumber (number_word key) (range_of key) table number → IsInKeyRange key number
 in_range key table number (inl absent) = subst (IsInKeyRange key) (sym absent.1) (default_in_range key)
 in_range key table number (inr there) = record { least = there.1.0; most = there.1.1 }
 

@@ -1,5 +1,5 @@
 -- The keys of a table, one after another: the first that is unknown is the least.
-use Rattle.std.proofs.Common.{◌≡◌, ◌≢◌, ◌⊎◌, ℕ, Bool, true, List, [], ◌∷◌, map, Option, Some, None, String, Global, string_bytes, inl, inr, refl, sym, subst, ap, ◌∙◌}
+use Rattle.std.proofs.Common.{◌≡◌, ◌≢◌, ◌⊎◌, ℕ, true, List, [], ◌∷◌, map, Option, Some, String, Global, string_bytes, inl, inr, refl, sym, subst, ap, ◌∙◌}
 use Rattle.std.proofs.lemmas.Cmp.{nat_list_cmp_total, tied_itself}
 use Rattle.std.proofs.lemmas.Map.Lookups.{exact_bytes}
 use Rattle.std.specs.Cmp.Lexicographic.{slice_cmp}
@@ -7,14 +7,14 @@ use Rattle.std.specs.List.{AllByRecursion}
 use Rattle.std.specs.List.Sorted.{IsStrictlySortedBy}
 use Rattle.std.specs.Map.{keys_of}
 use Rattle.std.specs.Ordering.{match_ordering, nat_cmp, ordering_reverse}
-use Rattle.std.specs.Prelude.{IsSome, is_some}
+use Rattle.std.specs.Prelude.{IsSome}
 use Rattle.std.specs.String.{string_cmp}
 use Rattle.std.specs.declared.cmp.Ordering.{Ordering}
 use Rattle.std.specs.declared.cmp.Ordering.TheVariants.{Less, Equal, Greater}
-use Rattle.toml.specs.Data.{Data, Members, get_member, member, no_members}
+use Rattle.toml.specs.Data.{Data, Members, get_member, member}
 use Rattle.toml.specs.View.{members_view, view}
 use Rattle.toml.specs.declared.value.Value.{Value}
-use Rattle.amt_config.specs.Table.{AreKnown, IsLeastUnknown, IsUnknown, is_among}
+use Rattle.amt_config.specs.Table.{AreKnown, IsLeastUnknown, IsUnknownKey, is_among}
 
 abbrev Entry : Type 0
 Entry = String Global × Value
@@ -26,7 +26,7 @@ IsIn text (first ∷ rest) = (text ≡ first) ⊎ IsIn text rest
 
 -- what is left of the keys has every unknown one, they ascend, and the table has them
 pub record IsScanned (words : List (List ℕ)) (table : Members) (left : List (List ℕ)) : Type 0 where
-  pub unknown : (word : List ℕ) → IsUnknown words table word → IsIn word left
+  pub unknown : (word : List ℕ) → IsUnknownKey words table word → IsIn word left
   pub ordered : IsStrictlySortedBy (slice_cmp nat_cmp) left
   pub there : AllByRecursion (λ word. IsSome (get_member word table)) left
 
@@ -84,7 +84,7 @@ scan_start words es ordered = record {
   there = all_found es;
 }
 
-not_known : (words : List (List ℕ)) (table : Members) (word key : List ℕ) (rest : List (List ℕ)) → is_among words key ≡ true → IsUnknown words table word
+not_known : (words : List (List ℕ)) (table : Members) (word key : List ℕ) (rest : List (List ℕ)) → is_among words key ≡ true → IsUnknownKey words table word
     → IsIn word (key ∷ rest) → IsIn word rest
 not_known words table word key rest known is (inl same) = absurd (is.unknown (ap (is_among words) same ∙ known))
 not_known words table word key rest known is (inr later) = later

@@ -4,7 +4,7 @@ use Rattle.toml.specs.Data.{Members}
 use Rattle.amt_config.specs.declared.fault.ConfigFault.{ConfigFault}
 use Rattle.amt_config.specs.declared.fault.ConfigFault.TheVariants.{Unknown}
 use Rattle.amt_config.specs.declared.fault.KeyFault.{KeyFault}
-use Rattle.amt_config.specs.Key.{AreRight, Key}
+use Rattle.amt_config.specs.Key.{HaveNoFault, Key}
 use Rattle.amt_config.specs.Table.{IsFirstFault, IsKeyFault, IsUnknownFault, IsValueFault, told}
 use Rattle.amt_config.proofs.FirstFaults.{none_fails, one_first_fault}
 use Rattle.amt_config.proofs.Scanning.{one_unknown}
@@ -20,7 +20,7 @@ one_key_fault table keys one other h k =
 one_unknown_fault : (words : List (List ℕ)) (table : Members) (one other : ConfigFault) → IsUnknownFault words table one → IsUnknownFault words table other → one ≡ other
 one_unknown_fault words table one other h k = h.is ∙ (ap (λ (w : List ℕ). Unknown w) (one_unknown words table h.word k.word h.least k.least) ∙ sym k.is)
 
-no_key_fault : (table : Members) (keys : List Key) (fault : ConfigFault) → AreRight table keys → IsKeyFault table keys fault → ⊥
+no_key_fault : (table : Members) (keys : List Key) (fault : ConfigFault) → HaveNoFault table keys → IsKeyFault table keys fault → ⊥
 no_key_fault table keys fault right h = none_fails table keys h.word h.cause right h.first
 
 module _ (Together : Members → ConfigFault → Type 0)

@@ -2,6 +2,8 @@
 use Rattle.std.specs.Prelude.{ℕ, List, codes}
 use Rattle.amt_script.specs.declared.kind.Key.TheVariants as set
 use Rattle.amt_script.specs.Row.{key_word}
+use Rattle.gateway_script.specs.declared.kind.Key.TheVariants as set_of_gateway
+use Rattle.gateway_script.specs.Row.{key_word as gateway_word}
 use Rattle.amt_config.specs.declared.key.FileKey.{FileKey}
 use Rattle.amt_config.specs.declared.key.FileKey.TheVariants.{Relay, Listen, Feed, Query4, Query6, Number, RotateSeconds, Workers, Family, Deliver, Control, Discovery, Source, Port, Join, Name, Group, Mode, Sources}
 
@@ -14,12 +16,12 @@ word_of Query6 = key_word set.Query6
 word_of (Number key) = key_word (set.Number key)
 word_of RotateSeconds = codes "rotate_seconds"
 word_of Workers = codes "workers"
-word_of Family = codes "family"
+word_of Family = gateway_word set_of_gateway.Family
 word_of Deliver = codes "deliver"
 word_of Control = codes "control"
-word_of Discovery = codes "discovery"
-word_of Source = codes "source"
-word_of Port = codes "port"
+word_of Discovery = gateway_word set_of_gateway.Discovery
+word_of Source = gateway_word set_of_gateway.Source
+word_of Port = gateway_word set_of_gateway.Port
 word_of Join = codes "join"
 word_of Name = codes "name"
 word_of Group = codes "group"

@@ -1,5 +1,5 @@
 -- The joins of a gateway's file: the sockets that it opens first.
-use Rattle.std.specs.Prelude.{◌≡◌, ◌≢◌, ◌⊎◌, ℕ, List, [], ◌∷◌, codes, map, Option, Some, None}
+use Rattle.std.specs.Prelude.{◌≡◌, ◌⊎◌, ℕ, List, [], ◌∷◌, codes, Option, Some, None}
 use Rattle.amt_values.specs.declared.address.Ip.{Ip}
 use Rattle.group_records.specs.declared.family.Family.{Family}
 use Rattle.script_lines.specs.Form.{IsGroupText, IsModeText, IsNameText, a_group, a_mode, a_name, an_address_of}
@@ -13,7 +13,7 @@ use Rattle.amt_config.specs.declared.fault.ConfigFault.{ConfigFault}
 use Rattle.amt_config.specs.declared.fault.ConfigFault.TheVariants as faults
 use Rattle.amt_config.specs.Arrays.{array_of_texts}
 use Rattle.amt_config.specs.Key.{HasText, Key, a_text, required, some_texts}
-use Rattle.amt_config.specs.Table.{AreKnown, IsFirstFault, words_of}
+use Rattle.amt_config.specs.Table.{AreKnown, IsFirstFault, key_words}
 
 -- the keys of a join, for a gateway of the family
 abbrev pub join_keys : Option Family → List Key
@@ -34,7 +34,7 @@ pub record HasSources (family : Option Family) (table : Members) (sources : List
 
 -- the table is this join
 pub record JoinOf (family : Option Family) (table : Members) (join : Join) : Type 0 where
-  pub known : AreKnown (words_of (join_keys family)) table
+  pub known : AreKnown (key_words (join_keys family)) table
   pub name : HasText (codes "name") table (IsNameText join.name)
   pub group : HasText (codes "group") table (IsGroupText family join.group)
   pub mode : HasText (codes "mode") table (IsModeText join.filter.mode)

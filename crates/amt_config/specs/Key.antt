@@ -44,7 +44,7 @@ fault_of reasons.Word = Some Range
 fault_of reason = None
 
 -- a text that isn't of the form
-pub record IsNoText (form : Form) (value : Data) (fault : KeyFault) : Type 0 where
+pub record IsUnfitText (form : Form) (value : Data) (fault : KeyFault) : Type 0 where
   pub text : List ℕ
   pub is : value ≡ string text
   pub reason : Reason
@@ -52,7 +52,7 @@ pub record IsNoText (form : Form) (value : Data) (fault : KeyFault) : Type 0 whe
   pub told : fault_of reason ≡ Some fault
 
 -- texts of which one isn't of the form
-pub record IsNoTextAmong (form : Form) (value : Data) (fault : KeyFault) : Type 0 where
+pub record IsUnfitAmong (form : Form) (value : Data) (fault : KeyFault) : Type 0 where
   pub texts : List (List ℕ)
   pub is : value ≡ array_of_texts texts
   pub reason : Reason
@@ -66,21 +66,21 @@ pub record IsOutside (range : NumberRange) (value : Data) : Type 0 where
   pub outside : (inside : ℕ) → IsInRange range.least range.most inside → number ≡ pos inside → ⊥
 
 -- a value that a key of this want doesn't take, and why
-abbrev pub IsRefused : Want → Data → KeyFault → Type 0
-IsRefused (a_text form) value Kind = as_str value ≡ None
-IsRefused (a_text form) value fault = IsNoText form value fault
-IsRefused (a_whole range) value Kind = as_integer value ≡ None
-IsRefused (a_whole range) value Range = IsOutside range value
-IsRefused (a_whole range) value fault = ⊥
-IsRefused (some_texts form) value Kind = (texts : List (List ℕ)) → value ≡ array_of_texts texts → ⊥
-IsRefused (some_texts form) value fault = IsNoTextAmong form value fault
-IsRefused some_tables value Kind = (tables : List Members) → value ≡ array_of_tables tables → ⊥
-IsRefused some_tables value fault = ⊥
+abbrev pub Refuses : Want → Data → KeyFault → Type 0
+Refuses (a_text form) value Kind = as_str value ≡ None
+Refuses (a_text form) value fault = IsUnfitText form value fault
+Refuses (a_whole range) value Kind = as_integer value ≡ None
+Refuses (a_whole range) value Range = IsOutside range value
+Refuses (a_whole range) value fault = ⊥
+Refuses (some_texts form) value Kind = (texts : List (List ℕ)) → value ≡ array_of_texts texts → ⊥
+Refuses (some_texts form) value fault = IsUnfitAmong form value fault
+Refuses some_tables value Kind = (tables : List Members) → value ≡ array_of_tables tables → ⊥
+Refuses some_tables value fault = ⊥
 
 -- the table lacks the key, or has a value for it that is refused
 abbrev pub Fails : Key → Members → KeyFault → Type 0
 Fails key table Missing = (key.is_required ≡ true) × (get_member key.word table ≡ None)
-Fails key table fault = (value : Data) × (get_member key.word table ≡ Some value) × IsRefused key.want value fault
+Fails key table fault = (value : Data) × (get_member key.word table ≡ Some value) × Refuses key.want value fault
 
 -- the order in which the faults of a key are tried
 abbrev pub fault_order : List KeyFault
@@ -95,18 +95,18 @@ abbrev pub FailsAt : Key → Members → List ℕ → KeyFault → Type 0
 FailsAt key table word fault = FailsFirst key table fault × (word ≡ key.word)
 
 -- the key has no fault
-abbrev pub IsRight : Members → Key → Type 0
-IsRight table key = (fault : KeyFault) → Fails key table fault → ⊥
+abbrev pub HasNoFault : Members → Key → Type 0
+HasNoFault table key = (fault : KeyFault) → Fails key table fault → ⊥
 
 -- none of the keys has one
-abbrev pub AreRight : Members → List Key → Type 0
-AreRight table keys = AllByRecursion (IsRight table) keys
+abbrev pub HaveNoFault : Members → List Key → Type 0
+HaveNoFault table keys = AllByRecursion (HasNoFault table) keys
 
 -- of these keys, the first that has a fault is of this word, and this is its first fault
 abbrev pub FailsFirstAt : Members → List Key → List ℕ → KeyFault → Type 0
 FailsFirstAt table [] word fault = ⊥
 FailsFirstAt table (key ∷ rest) word fault =
-    FailsAt key table word fault ⊎ (IsRight table key × FailsFirstAt table rest word fault)
+    FailsAt key table word fault ⊎ (HasNoFault table key × FailsFirstAt table rest word fault)
 
 -- the value of the key is a text, of which this holds
 abbrev pub HasText : List ℕ → Members → (List ℕ → Type 0) → Type 0
@@ -117,8 +117,8 @@ abbrev pub HasTextOr : List ℕ → Members → (List ℕ → Type 0) → Type 0
 HasTextOr word table Names Default = ((get_member word table ≡ None) × Default) ⊎ HasText word table Names
 
 -- the value of the key is the number, which is in the range; the default where the key isn't there
-abbrev pub HasNumber : List ℕ → NumberRange → Members → ℕ → Type 0
-HasNumber word range table number =
+abbrev pub HasWholeNumber : List ℕ → NumberRange → Members → ℕ → Type 0
+HasWholeNumber word range table number =
     ((get_member word table ≡ None) × (number ≡ range.default))
     ⊎ ((get_member word table ≡ Some (integer (pos number))) × IsInRange range.least range.most number)
 

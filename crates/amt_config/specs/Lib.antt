@@ -6,5 +6,6 @@ pub mod Key
 pub mod Parts
 pub mod Reading
 pub mod Relay
+pub mod Scanned
 pub mod Table
 pub mod Words

@@ -1,5 +1,5 @@
 -- What the readers of a gateway's file answer. No public contract says these words.
-use Rattle.std.specs.Prelude.{◌≡◌, ℕ, List, [], ◌∷◌, ◌++◌, take, codes, Option, Some, None}
+use Rattle.std.specs.Prelude.{◌≡◌, ℕ, List, [], ◌∷◌, ◌++◌, take, codes, Option, Some}
 use Rattle.amt_values.specs.Text.{IsPeerText}
 use Rattle.group_records.specs.declared.family.Family.{Family}
 use Rattle.script_lines.specs.Form.{IsAddressText, IsFamilyText, IsGroupText, IsModeText, IsNameText, a_mode, an_address_of}
@@ -8,21 +8,22 @@ use Rattle.script_lines.specs.declared.reason.Reason.TheVariants as reasons
 use Rattle.socket_merge.specs.History.{AcceptedCall}
 use Rattle.socket_merge.specs.Sockets.{SocketsHold, SocketsValue}
 use Rattle.source_filter.specs.Filter.{FilterValue}
+use Rattle.gateway_script.specs.declared.kind.Key.TheVariants as words
+use Rattle.gateway_script.specs.Row.{key_word}
 use Rattle.gateway_script.specs.Settling.{is_v6}
 use Rattle.toml.specs.Data.{Members}
 use Rattle.amt_config.specs.declared.fault.ConfigFault.{ConfigFault}
 use Rattle.amt_config.specs.declared.fault.ConfigFault.TheVariants as faults
 use Rattle.amt_config.specs.declared.fault.JoinFault.{JoinFault}
 use Rattle.amt_config.specs.declared.fault.JoinFault.TheVariants.{Unknown, Bad, Memory}
-use Rattle.amt_config.specs.declared.fault.KeyFault.{KeyFault}
 use Rattle.amt_config.specs.declared.fault.KeyFault.TheVariants.{Address, Range}
 use Rattle.amt_config.specs.declared.config.Join.{Join}
 use Rattle.amt_config.specs.declared.config.GatewayConfig.{GatewayConfig}
-use Rattle.amt_config.specs.declared.gateway.Ends.{Ends}
+use Rattle.amt_config.specs.declared.gateway.AllButJoins.{AllButJoins}
 use Rattle.amt_config.specs.Gateway.{HasPeer, gateway_keys, port_range}
 use Rattle.amt_config.specs.Join.{AreJoins, FailsInJoins, HasSources, MayOpen, join_keys}
-use Rattle.amt_config.specs.Key.{FailsFirstAt, HasNumber, HasText, Key, a_text, required, some_texts}
-use Rattle.amt_config.specs.Table.{AreKnown, IsLeastUnknown, told, words_of}
+use Rattle.amt_config.specs.Key.{FailsFirstAt, HasWholeNumber, HasText, Key, a_text, required, some_texts}
+use Rattle.amt_config.specs.Table.{AreKnown, IsLeastUnknown, told, key_words}
 
 -- the fault of a join, as it is told
 abbrev pub told_in_join : JoinFault → ConfigFault
@@ -38,8 +39,8 @@ IsBadAmong keys table Memory = Unit {0}
 
 -- the fault of a join's own table: an unknown key, or else that of the first key that has one
 abbrev pub IsFaultOfJoin : Option Family → Members → JoinFault → Type 0
-IsFaultOfJoin family table Unknown = (word : List ℕ) × IsLeastUnknown (words_of (join_keys family)) table word
-IsFaultOfJoin family table fault = AreKnown (words_of (join_keys family)) table × IsBadAmong (join_keys family) table fault
+IsFaultOfJoin family table Unknown = (word : List ℕ) × IsLeastUnknown (key_words (join_keys family)) table word
+IsFaultOfJoin family table fault = AreKnown (key_words (join_keys family)) table × IsBadAmong (join_keys family) table fault
 
 -- the last keys of a join
 abbrev pub filter_keys : Option Family → List Key
@@ -84,31 +85,31 @@ pub record AreOpened (family : Option Family) (all : List Members) (joins : List
   pub stands : SocketsHold sockets history
   pub reading : IsReading family all joins left history
 
--- all keys but those of the joins
-pub record HasEnds (table : Members) (ends : Ends) : Type 0 where
-  pub family : HasText (codes "family") table (IsFamilyText ends.family)
-  pub listen : HasText (codes "listen") table (IsPeerText ends.listen)
-  pub deliver : HasText (codes "deliver") table (IsPeerText ends.deliver)
-  pub control : HasText (codes "control") table (IsPeerText ends.control)
-  pub discovery : HasText (codes "discovery") table (IsPeerText ends.discovery)
-  pub source : HasText (codes "source") table (IsAddressText (Some ends.family) ends.source)
-  pub relay : HasPeer (codes "relay") table ends.relay
-  pub port : HasNumber (codes "port") port_range table ends.port
+-- the values of all keys but that of the joins
+pub record HasAllButJoins (table : Members) (given : AllButJoins) : Type 0 where
+  pub family : HasText (key_word words.Family) table (IsFamilyText given.family)
+  pub listen : HasText (codes "listen") table (IsPeerText given.listen)
+  pub deliver : HasText (codes "deliver") table (IsPeerText given.deliver)
+  pub control : HasText (codes "control") table (IsPeerText given.control)
+  pub discovery : HasText (key_word words.Discovery) table (IsPeerText given.discovery)
+  pub source : HasText (key_word words.Source) table (IsAddressText (Some given.family) given.source)
+  pub relay : HasPeer (key_word words.Relay) table given.relay
+  pub port : HasWholeNumber (key_word words.Port) port_range table given.port
 
 -- the keys of these values
-abbrev pub end_keys : Option Family → List Key
-end_keys family = take 8 (gateway_keys family)
+abbrev pub keys_but_joins : Option Family → List Key
+keys_but_joins family = take 8 (gateway_keys family)
 
 -- the configuration of these values and joins
-abbrev pub config_of : Ends → List Join → GatewayConfig
-config_of ends joins = record {
-  v6 = is_v6 ends.family;
-  listen = ends.listen;
-  deliver = ends.deliver;
-  control = ends.control;
-  discovery = ends.discovery;
-  source = ends.source;
-  relay = ends.relay;
-  port = ends.port;
+abbrev pub config_of : AllButJoins → List Join → GatewayConfig
+config_of given joins = record {
+  v6 = is_v6 given.family;
+  listen = given.listen;
+  deliver = given.deliver;
+  control = given.control;
+  discovery = given.discovery;
+  source = given.source;
+  relay = given.relay;
+  port = given.port;
   joins = joins;
 }

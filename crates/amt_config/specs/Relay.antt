@@ -15,8 +15,8 @@ use Rattle.toml.specs.Data.{Members}
 use Rattle.amt_config.specs.declared.config.RelayConfig.{RelayConfig}
 use Rattle.amt_config.specs.declared.fault.ConfigFault.{ConfigFault}
 use Rattle.amt_config.specs.declared.fault.ConfigFault.TheVariants as faults
-use Rattle.amt_config.specs.Key.{HasNumber, HasText, HasTextOr, Key, a_text, a_whole, optional, required}
-use Rattle.amt_config.specs.Table.{AreKnown, IsFaultOf, IsFile, IsFirstFault, words_of}
+use Rattle.amt_config.specs.Key.{HasWholeNumber, HasText, HasTextOr, Key, a_text, a_whole, optional, required}
+use Rattle.amt_config.specs.Table.{AreKnown, IsFirstFaultOfFile, IsFile, IsFirstFault, key_words}
 
 -- the row of one of the relay's numbers
 abbrev pub range_of : NumberKey → NumberRange
@@ -73,13 +73,13 @@ pub record HasValues (table : Members) (config : RelayConfig) : Type 0 where
   pub feed : HasText (codes "feed") table (IsPeerText config.feed)
   pub query4 : HasTextOr (key_word words.Query4) table (IsIpText (V4 config.query4)) (config.query4 ≡ (default_settings config.relay).query4)
   pub query6 : HasTextOr (key_word words.Query6) table (IsIpText (V6 config.query6)) (config.query6 ≡ (default_settings config.relay).query6)
-  pub numbers : (key : NumberKey) → HasNumber (number_word key) (range_of key) table (number_at (settings_of config) key)
-  pub rotate : HasNumber (codes "rotate_seconds") rotate_range table config.rotate_seconds
-  pub workers : HasNumber (codes "workers") workers_range table config.workers
+  pub numbers : (key : NumberKey) → HasWholeNumber (number_word key) (range_of key) table (number_at (settings_of config) key)
+  pub rotate : HasWholeNumber (codes "rotate_seconds") rotate_range table config.rotate_seconds
+  pub workers : HasWholeNumber (codes "workers") workers_range table config.workers
 
 -- the table is a relay's: its keys are known, its values are these, and together a relay may have them
 pub record RelayConfigOf (table : Members) (config : RelayConfig) : Type 0 where
-  pub known : AreKnown (words_of relay_keys) table
+  pub known : AreKnown (key_words relay_keys) table
   pub values : HasValues table config
   pub lawful : AreLawfulSettings (settings_of config)
 
@@ -92,12 +92,16 @@ FailsTogether config QuerySeconds = HasCode config.query_seconds → ⊥
 FailsTogether config ResponseTenths = HasCode config.response_tenths × HasMldCode (config.response_tenths * 100) → ⊥
 FailsTogether config key = ⊥
 
+-- the order in which these faults are tried
+abbrev pub together_order : List NumberKey
+together_order = Endpoints ∷ QuerySeconds ∷ ResponseTenths ∷ []
+
 -- the first of these faults, as one of its key's range
 pub record IsFaultTogether (table : Members) (fault : ConfigFault) : Type 0 where
   pub config : RelayConfig
   pub values : HasValues table config
   pub key : NumberKey
-  pub first : First (FailsTogether config) (Endpoints ∷ QuerySeconds ∷ ResponseTenths ∷ []) key
+  pub first : First (FailsTogether config) together_order key
   pub is : fault ≡ faults.Range (number_word key)
 
 -- the octets are the file of a relay with this configuration
@@ -106,4 +110,4 @@ IsRelayFile config bytes = IsFile (λ table. RelayConfigOf table config) bytes
 
 -- this is the first fault of the octets
 abbrev pub IsRelayFault : ConfigFault → List ℕ → Type 0
-IsRelayFault fault bytes = IsFaultOf (IsFirstFault relay_keys IsFaultTogether) fault bytes
+IsRelayFault fault bytes = IsFirstFaultOfFile (IsFirstFault relay_keys IsFaultTogether) fault bytes

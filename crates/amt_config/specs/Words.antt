@@ -5,9 +5,9 @@ use Rattle.amt_config.specs.declared.table.TableKind.TheVariants.{Relay, Gateway
 use Rattle.amt_config.specs.Gateway.{gateway_keys}
 use Rattle.amt_config.specs.Join.{join_keys}
 use Rattle.amt_config.specs.Relay.{relay_keys}
-use Rattle.amt_config.specs.Table.{words_of}
+use Rattle.amt_config.specs.Table.{key_words}
 
 abbrev pub words_in : TableKind → List (List ℕ)
-words_in Relay = words_of relay_keys
-words_in Gateway = words_of (gateway_keys None)
-words_in Join = words_of (join_keys None)
+words_in Relay = key_words relay_keys
+words_in Gateway = key_words (gateway_keys None)
+words_in Join = key_words (join_keys None)

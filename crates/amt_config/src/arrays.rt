@@ -4,7 +4,8 @@ ghost use Rattle.std.specs.Prelude.{◌≡◌, ℕ, List, IfOk, IfErr, IfSome, I
 ghost use Rattle.script_lines.specs.Form.{Form};
 ghost use Rattle.toml.specs.Data.{Members, get_member};
 ghost use Rattle.toml.specs.View.{items_view, table_view, view};
-ghost use Rattle.amt_config.specs.Arrays.{are_tables, are_texts, array_of_tables, array_of_texts, tables_in, texts_in};
+ghost use Rattle.amt_config.specs.Arrays.{array_of_tables, array_of_texts};
+ghost use Rattle.amt_config.specs.Scanned.{are_tables, are_texts, tables_in, texts_in};
 ghost use Rattle.amt_config.specs.FileKey.{word_of};
 ghost use Rattle.amt_config.specs.Key.{FailsAt, HasTables, optional, required, some_tables, some_texts};
 

@@ -5,9 +5,9 @@ ghost use Rattle.toml.specs.View.{table_view};
 ghost use Rattle.amt_config.specs.declared.config.GatewayConfig.{GatewayConfig as Config};
 ghost use Rattle.amt_config.specs.declared.fault.ConfigFault.{ConfigFault as Fault};
 ghost use Rattle.amt_config.specs.FileKey.{word_of};
-ghost use Rattle.amt_config.specs.Gateway.{HasGatewayValues, IsFaultInJoins, IsGatewayFault, IsGatewayFile, family_in, gateway_keys};
+ghost use Rattle.amt_config.specs.Gateway.{HasGatewayValues, IsFaultInJoins, IsGatewayFault, IsGatewayFile, table_family, gateway_keys};
 ghost use Rattle.amt_config.specs.Key.{FailsFirstAt};
-ghost use Rattle.amt_config.specs.Reading.{HasEnds, config_of, end_keys};
+ghost use Rattle.amt_config.specs.Reading.{HasAllButJoins, config_of, keys_but_joins};
 ghost use Rattle.amt_config.specs.Table.{IsValueFault};
 
 use crate::arrays::tables_at;
@@ -33,7 +33,7 @@ const PORT: NumberRange = NumberRange {
 
 // The values of all keys but that of the joins.
 #[derive(Clone, Copy, Debug)]
-struct Ends {
+struct AllButJoins {
     family: Family,
     listen: Peer,
     deliver: Peer,
@@ -44,10 +44,10 @@ struct Ends {
     port: u16,
 }
 
-fn read_ends(table: &Table) -> Result<Ends, BadKey>
-    ensures found { IfOk result (HasEnds (table_view table.now)) }
+fn read_all_but_joins(table: &Table) -> Result<AllButJoins, BadKey>
+    ensures found { IfOk result (HasAllButJoins (table_view table.now)) }
     ensures fault { IfErr result (λ bad.
-        FailsFirstAt (table_view table.now) (end_keys (family_in (table_view table.now))) (word_of bad.key) bad.fault) }
+        FailsFirstAt (table_view table.now) (keys_but_joins (table_family (table_view table.now))) (word_of bad.key) bad.fault) }
 {
     let family = family_at(table, FileKey::Family)?;
     let listen = peer_at(table, FileKey::Listen)?;
@@ -57,7 +57,7 @@ fn read_ends(table: &Table) -> Result<Ends, BadKey>
     let source = address_of(table, FileKey::Source, family)?;
     let relay = peer_or_none(table, FileKey::Relay)?;
     let port = number_at(table, FileKey::Port, PORT)?;
-    Ok(Ends {
+    Ok(AllButJoins {
         family,
         listen,
         deliver,
@@ -69,18 +69,18 @@ fn read_ends(table: &Table) -> Result<Ends, BadKey>
     })
 }
 
-fn config_of(ends: &Ends, joins: Joins) -> GatewayConfig
-    ensures { result ≡ config_of ends.now joins }
+fn config_of(given: &AllButJoins, joins: Joins) -> GatewayConfig
+    ensures { result ≡ config_of given.now joins }
 {
     GatewayConfig {
-        v6: ends.family == Family::V6,
-        listen: ends.listen,
-        deliver: ends.deliver,
-        control: ends.control,
-        discovery: ends.discovery,
-        source: ends.source,
-        relay: ends.relay,
-        port: ends.port,
+        v6: given.family == Family::V6,
+        listen: given.listen,
+        deliver: given.deliver,
+        control: given.control,
+        discovery: given.discovery,
+        source: given.source,
+        relay: given.relay,
+        port: given.port,
         joins,
     }
 }
@@ -88,19 +88,19 @@ fn config_of(ends: &Ends, joins: Joins) -> GatewayConfig
 // The values of all keys.
 fn read_values(alloc: Global, table: &Table) -> Result<GatewayConfig, ConfigFault>
     ensures found { IfOk result (HasGatewayValues (table_view table.now)) }
-    ensures fault { IfErr result (λ fault. IsValueFault (gateway_keys (family_in (table_view table.now))) IsFaultInJoins (table_view table.now) fault
+    ensures fault { IfErr result (λ fault. IsValueFault (gateway_keys (table_family (table_view table.now))) IsFaultInJoins (table_view table.now) fault
         ⊎ (fault ≡ ConfigFault.Memory)) }
 {
-    let ends = match read_ends(table) {
-        Ok(ends) => ends,
+    let given = match read_all_but_joins(table) {
+        Ok(given) => given,
         Err(bad) => return Err(told(alloc, bad)),
     };
     let items = match tables_at(table, FileKey::Join) {
         Ok(items) => items,
         Err(bad) => return Err(told(alloc, bad)),
     };
-    match read_joins(alloc, ends.family, items) {
-        Ok(joins) => Ok(config_of(&ends, joins)),
+    match read_joins(alloc, given.family, items) {
+        Ok(joins) => Ok(config_of(&given, joins)),
         Err(fault) => Err(told_in_join(alloc, fault)),
     }
 }

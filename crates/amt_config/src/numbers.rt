@@ -5,7 +5,7 @@ ghost use Rattle.std.specs.Int.{IsInRange};
 ghost use Rattle.toml.specs.Data.{integer};
 ghost use Rattle.toml.specs.View.{table_view};
 ghost use Rattle.amt_config.specs.FileKey.{word_of};
-ghost use Rattle.amt_config.specs.Key.{FailsAt, HasNumber, IsOutside, a_whole, optional};
+ghost use Rattle.amt_config.specs.Key.{FailsAt, HasWholeNumber, IsOutside, a_whole, optional};
 
 use crate::fault::{BadKey, KeyFault};
 use crate::key::FileKey;
@@ -14,7 +14,7 @@ use toml::Table;
 
 /// The number of a key, which is in the range, or its default where the key isn't there.
 pub fn number_at(table: &Table, key: FileKey, range: NumberRange) -> Result<u32, BadKey>
-    ensures found { IfOk result (λ number. HasNumber (word_of key) range (table_view table.now) number) }
+    ensures found { IfOk result (λ number. HasWholeNumber (word_of key) range (table_view table.now) number) }
     ensures fault { IfErr result
         (λ bad. FailsAt (optional (word_of key) (a_whole range)) (table_view table.now) (word_of bad.key) bad.fault) }
 {

@@ -10,9 +10,9 @@ ghost use Rattle.toml.specs.View.{table_view};
 ghost use Rattle.amt_config.specs.declared.config.RelayConfig.{RelayConfig as Config};
 ghost use Rattle.amt_config.specs.declared.fault.ConfigFault.{ConfigFault as Fault};
 ghost use Rattle.amt_config.specs.FileKey.{word_of};
-ghost use Rattle.amt_config.specs.Key.{FailsAt, FailsFirstAt, HasNumber};
+ghost use Rattle.amt_config.specs.Key.{FailsAt, FailsFirstAt, HasWholeNumber};
 ghost use Rattle.amt_config.specs.Parts.{HasLimits, HasPlaces, HasSettings, IsMadeOf, limit_keys, place_keys, setting_keys};
-ghost use Rattle.amt_config.specs.Relay.{FailsTogether, HasValues, IsFaultTogether, IsRelayFault, IsRelayFile, number_key, range_of, relay_keys, settings_of};
+ghost use Rattle.amt_config.specs.Relay.{FailsTogether, HasValues, IsFaultTogether, IsRelayFault, IsRelayFile, number_key, range_of, relay_keys, settings_of, together_order};
 ghost use Rattle.amt_config.specs.Table.{IsValueFault, told};
 
 use crate::config::RelayConfig;
@@ -63,7 +63,7 @@ fn read_places(table: &Table) -> Result<Places, BadKey>
 }
 
 fn number_of(table: &Table, key: NumberKey) -> Result<u32, BadKey>
-    ensures found { IfOk result (HasNumber (number_word key) (range_of key) (table_view table.now)) }
+    ensures found { IfOk result (HasWholeNumber (number_word key) (range_of key) (table_view table.now)) }
     ensures fault { IfErr result (λ bad. FailsAt (number_key key) (table_view table.now) (word_of bad.key) bad.fault) }
 {
     number_at(table, FileKey::Number(key), key.range())
@@ -144,7 +144,7 @@ fn allows_too_many(config: &RelayConfig) -> bool
 // The first number that a relay may not have beside the others, though it is in its own range.
 fn fault_together(config: &RelayConfig) -> Option<NumberKey>
     requires { (key : AnyNumber) → IsInKeyRange key (number_in (settings_of config.now) key) }
-    ensures found { IfSome result (First (FailsTogether config.now) (Endpoints ∷ QuerySeconds ∷ ResponseTenths ∷ [])) }
+    ensures found { IfSome result (First (FailsTogether config.now) together_order) }
     ensures none { IfNone result (AreLawfulSettings (settings_of config.now)) }
 {
     if allows_too_many(config) {

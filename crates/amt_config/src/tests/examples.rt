@@ -132,7 +132,7 @@ fn has_joins(rt: &impl Abort, config: &GatewayConfig) {
     }
 }
 
-fn has_ends(rt: &impl Abort, config: &GatewayConfig) {
+fn has_all_but_joins(rt: &impl Abort, config: &GatewayConfig) {
     assert!(rt; !config.v6);
     assert!(rt;
         config.listen
@@ -171,7 +171,7 @@ fn has_ends(rt: &impl Abort, config: &GatewayConfig) {
 fn the_file_of_a_gateway(rt: HostRuntime) {
     match gateway_settings(rt.alloc(), GATEWAY_FILE.as_bytes()) {
         Ok(config) => {
-            has_ends(&rt, &config);
+            has_all_but_joins(&rt, &config);
             has_joins(&rt, &config);
         }
         Err(_) => assert!(rt; false, "no configuration"),

@@ -47,10 +47,35 @@ fn the_texts_of_faults(rt: HostRuntime) -> Result<(), Fail> {
     let alloc = rt.alloc();
     let key = Bytes::new(alloc);
     is_shown(&rt, alloc, &ConfigFault::NotToml, "no TOML")?;
-    is_shown(&rt, alloc, &ConfigFault::Unknown(Bytes::new(alloc)), "an unknown key")?;
-    is_shown(&rt, alloc, &ConfigFault::Missing(Bytes::new(alloc)), "a missing key")?;
-    is_shown(&rt, alloc, &ConfigFault::Kind(Bytes::new(alloc)), "a value of another type")?;
-    is_shown(&rt, alloc, &ConfigFault::Address(Bytes::new(alloc)), "no such address")?;
-    is_shown(&rt, alloc, &ConfigFault::Range(key), "a value out of its range")?;
+    is_shown(
+        &rt,
+        alloc,
+        &ConfigFault::Unknown(Bytes::new(alloc)),
+        "an unknown key",
+    )?;
+    is_shown(
+        &rt,
+        alloc,
+        &ConfigFault::Missing(Bytes::new(alloc)),
+        "a missing key",
+    )?;
+    is_shown(
+        &rt,
+        alloc,
+        &ConfigFault::Kind(Bytes::new(alloc)),
+        "a value of another type",
+    )?;
+    is_shown(
+        &rt,
+        alloc,
+        &ConfigFault::Address(Bytes::new(alloc)),
+        "no such address",
+    )?;
+    is_shown(
+        &rt,
+        alloc,
+        &ConfigFault::Range(key),
+        "a value out of its range",
+    )?;
     is_shown(&rt, alloc, &ConfigFault::Memory, "out of memory")
 }

@@ -7,7 +7,8 @@ use std::process::Abort;
 use std::test::Fail;
 
 // What a file must say; rows of the second table go on after it.
-const ENDS: &str = "family = \"v4\"\nlisten = \"127.0.0.1:2268\"\ndeliver = \"127.0.0.1:9001\"\n\
+const REQUIRED: &str =
+    "family = \"v4\"\nlisten = \"127.0.0.1:2268\"\ndeliver = \"127.0.0.1:9001\"\n\
 control = \"127.0.0.1:9002\"\ndiscovery = \"192.0.2.1:2268\"\nsource = \"198.51.100.7\"\n";
 
 const WHOLE_FILES: &[Row] = &[
@@ -16,11 +17,7 @@ const WHOLE_FILES: &[Row] = &[
     ("family = \"v4\"\nfamily = \"v4\"", "not toml", ""),
     ("zebra = 1\nant = 1", "unknown", "ant"),
     // A key that a join doesn't have is told where the joins are read.
-    (
-        "family = \"v4\"\n[[join]]\ncolour = 1",
-        "missing",
-        "listen",
-    ),
+    ("family = \"v4\"\n[[join]]\ncolour = 1", "missing", "listen"),
     ("join = 1\nfeed = 1", "unknown", "feed"),
     ("family = 4", "kind", "family"),
     ("family = \"v5\"", "range", "family"),
@@ -103,7 +100,7 @@ discovery = \"[::1]:4\"\nsource = \"198.51.100.7\"",
     ),
 ];
 
-const AFTER_THE_ENDS: &[Row] = &[
+const AFTER_REQUIRED: &[Row] = &[
     ("relay = 1", "kind", "relay"),
     ("relay = \"192.0.2.1\"", "address", "relay"),
     ("port = \"2268\"", "kind", "port"),
@@ -262,10 +259,11 @@ const AFTER_THE_ENDS: &[Row] = &[
 ];
 
 // The same for a gateway of IPv6.
-const ENDS6: &str = "family = \"v6\"\nlisten = \"127.0.0.1:2268\"\ndeliver = \"127.0.0.1:9001\"\n\
+const REQUIRED6: &str =
+    "family = \"v6\"\nlisten = \"127.0.0.1:2268\"\ndeliver = \"127.0.0.1:9001\"\n\
 control = \"127.0.0.1:9002\"\ndiscovery = \"192.0.2.1:2268\"\nsource = \"2001:db8::7\"\n";
 
-const AFTER_THE_ENDS6: &[Row] = &[
+const AFTER_REQUIRED6: &[Row] = &[
     (
         "[[join]]\nname = \"a\"\ngroup = \"239.1.1.1\"\nmode = \"include\"\nsources = []",
         "address",
@@ -290,8 +288,8 @@ fn row_fails(rt: &impl Abort, alloc: Global, bytes: &[u8], row: Row) {
     }
 }
 
-fn row_fails_after(rt: &impl Abort, alloc: Global, ends: &str, row: Row) -> Result<(), Fail> {
-    let text = format!(in alloc; "{ends}{}", row.0)?;
+fn row_fails_after(rt: &impl Abort, alloc: Global, required: &str, row: Row) -> Result<(), Fail> {
+    let text = format!(in alloc; "{required}{}", row.0)?;
     row_fails(rt, alloc, text.as_bytes(), row);
     Ok(())
 }
@@ -305,16 +303,16 @@ fn each_fault_of_a_whole_file(rt: HostRuntime) {
 
 #[test]
 fn each_fault_of_the_keys_that_may_be_left_out(rt: HostRuntime) -> Result<(), Fail> {
-    for row in AFTER_THE_ENDS {
-        row_fails_after(&rt, rt.alloc(), ENDS, *row)?;
+    for row in AFTER_REQUIRED {
+        row_fails_after(&rt, rt.alloc(), REQUIRED, *row)?;
     }
     Ok(())
 }
 
 #[test]
 fn faults_of_joins_of_the_other_family(rt: HostRuntime) -> Result<(), Fail> {
-    for row in AFTER_THE_ENDS6 {
-        row_fails_after(&rt, rt.alloc(), ENDS6, *row)?;
+    for row in AFTER_REQUIRED6 {
+        row_fails_after(&rt, rt.alloc(), REQUIRED6, *row)?;
     }
     Ok(())
 }

@@ -31,7 +31,9 @@ fn sources6(alloc: Global, count: u32) -> Result<String, Fail> {
 }
 
 fn join4(alloc: Global, name: &str, group: &str, sources: &str) -> Result<String, Fail> {
-    Ok(format!(in alloc; "[[join]]\nname = \"{name}\"\ngroup = \"{group}\"\nmode = \"include\"\nsources = [{sources}]\n")?)
+    Ok(format!(in alloc;
+        "[[join]]\nname = \"{name}\"\ngroup = \"{group}\"\nmode = \"include\"\nsources = [{sources}]\n"
+    )?)
 }
 
 fn file4(alloc: Global, rest: &str) -> Result<String, Fail> {
@@ -93,7 +95,10 @@ fn the_greatest_port(rt: HostRuntime) -> Result<(), Fail> {
 fn is_one_join_of_ipv6(rt: &impl Abort, config: &GatewayConfig) {
     match config.joins.as_slice() {
         [join] => {
-            assert_eq!(rt; join.name.as_slice(), b"abcdefghijklmnopqrstuvwxyz_01234".as_slice());
+            assert_eq!(rt;
+                join.name.as_slice(),
+                b"abcdefghijklmnopqrstuvwxyz_01234".as_slice()
+            );
             assert!(rt; join.group == Ip::V6(0xff3e_0000_0000_0000_0000_0000_0000_0001));
             assert!(rt; join.filter.mode() == Mode::Include);
             // A source that stands twice is kept once.
@@ -127,7 +132,12 @@ fn sources_of_one_group(rt: HostRuntime) -> Result<(), Fail> {
     is_refused(&rt, alloc, &file4(alloc, &more)?);
     // The limit counts a source once.
     let again = format!(in alloc; "{}\"10.0.0.1\"", sources4(alloc, 1, 32)?)?;
-    keeps(&rt, alloc, &file4(alloc, &join4(alloc, "a", "239.1.1.1", &again)?)?, 32);
+    keeps(
+        &rt,
+        alloc,
+        &file4(alloc, &join4(alloc, "a", "239.1.1.1", &again)?)?,
+        32,
+    );
     Ok(())
 }
 

@@ -94,7 +94,8 @@ fn a_file_of_a_relay_with_all_defaults(rt: HostRuntime) {
 // A byte order mark may stand before it, and a default may be written out.
 #[test]
 fn a_file_of_a_relay_with_a_mark(rt: HostRuntime) {
-    let text = "\u{feff}relay = \"192.0.2.1\"\nlisten = \"127.0.0.1:2268\"\nfeed = \"127.0.0.1:9000\"\nsources = 64";
+    let text =
+        "\u{feff}relay = \"192.0.2.1\"\nlisten = \"127.0.0.1:2268\"\nfeed = \"127.0.0.1:9000\"\nsources = 64";
     let read = relay_settings(rt.alloc(), text.as_bytes());
     assert!(rt; matches!(read, Ok(config) if config == DEFAULTS));
 }
@@ -150,7 +151,7 @@ fn is_v6_gateway(rt: &impl Abort, config: &GatewayConfig) {
                 port: 2
             }
     );
-    // The ends may be of either family.
+    // Peers may be of either family.
     assert!(rt;
         config.control
             == Peer {

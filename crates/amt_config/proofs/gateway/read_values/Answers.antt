@@ -1,6 +1,6 @@
 use Rattle.std.proofs.Common.{sym, subst}
 use Rattle.toml.specs.View.{items_view, table_view}
-use Rattle.amt_config.specs.Arrays.{tables_in}
+use Rattle.amt_config.specs.Scanned.{tables_in}
 use Rattle.amt_config.specs.FileKey.{word_of}
 use Rattle.amt_config.specs.Gateway.{HasGatewayValues}
 use Rattle.amt_config.proofs.GatewayParts.{found_in_ends, found_in_joins, found_in_key, values_of}
@@ -12,16 +12,16 @@ returns-in-Err-clause-fault c =
 
 pub returns-in-Err-tables_at-clause-fault : goal.returns-in-Err-tables_at-clause-fault
 returns-in-Err-tables_at-clause-fault c =
-    found_in_key (table_view c.args.table.now) c.in-Ok.ends (word_of c.in-Err-tables_at.bad.key) c.in-Err-tables_at.bad.fault c.told-in-Err-tables_at.result
+    found_in_key (table_view c.args.table.now) c.in-Ok.given (word_of c.in-Err-tables_at.bad.key) c.in-Err-tables_at.bad.fault c.told-in-Err-tables_at.result
     c.in-Ok.ensures.found c.in-Err-tables_at.ensures.fault c.told-in-Err-tables_at.ensures
 
 pub returns-in-Ok-read_joins-clause-found : goal.returns-in-Ok-read_joins-clause-found
 returns-in-Ok-read_joins-clause-found c =
     subst (HasGatewayValues (table_view c.args.table.now)) (sym c.config_of.ensures)
-    (values_of (table_view c.args.table.now) c.in-Ok.ends c.in-Ok-read_joins.joins (tables_in (items_view c.in-Ok-tables_at.items.now)) c.in-Ok.ensures.found
+    (values_of (table_view c.args.table.now) c.in-Ok.given c.in-Ok-read_joins.joins (tables_in (items_view c.in-Ok-tables_at.items.now)) c.in-Ok.ensures.found
     c.in-Ok-tables_at.ensures.found c.in-Ok-read_joins.ensures.found)
 
 pub returns-in-Err-read_joins-clause-fault : goal.returns-in-Err-read_joins-clause-fault
 returns-in-Err-read_joins-clause-fault c =
-    found_in_joins (table_view c.args.table.now) c.in-Ok.ends (tables_in (items_view c.in-Ok-tables_at.items.now)) c.in-Err-read_joins.fault c.told_in_join.result
+    found_in_joins (table_view c.args.table.now) c.in-Ok.given (tables_in (items_view c.in-Ok-tables_at.items.now)) c.in-Err-read_joins.fault c.told_in_join.result
     c.in-Ok.ensures.found c.in-Ok-tables_at.ensures.found c.in-Err-read_joins.ensures.fault c.told_in_join.ensures

@@ -3,7 +3,7 @@ use Rattle.amt_values.specs.declared.address.Ip.{Ip}
 use Rattle.toml.specs.View.{items_view}
 use Rattle.script_lines.specs.Form.{IsAddressText}
 use Rattle.gateway_script.proofs.Addresses.{reading_end, reading_more, reading_start, IsReading}
-use Rattle.amt_config.specs.Arrays.{texts_in}
+use Rattle.amt_config.specs.Scanned.{texts_in}
 use Rattle.amt_config.proofs.ItemParts.{no_text_next, text_next, texts_end, texts_from}
 use Rattle.amt_config.proofs.join.read_sources.Goals.{in-Some+in-Some-read_address+in-Ok, in_default}
 use Rattle.amt_config.proofs.join.read_sources.Goals as goal
@@ -16,17 +16,17 @@ loop-item-preserved c =
     let items = c.args.items.now in
     let i = c.loop-item.item-index in
     elim c.match-as_str.branch [
-      in-Some+in-Some-read_address+in-Ok w ↦
-      reading_more (Some c.args.family) c.loop-item.sources c.match-as_str.sources (texts_in (items_view items)) (texts_from i items) (texts_from (i + 1) items) w.in-Some.text.now
-      w.in-Some-read_address.source
-      (text_next items i c.item-item.result c.as_str.result w.in-Some.text c.loop-item-test.true c.item-item.is c.as_str.ensures w.in-Some.is)
-      (subst (IsAddressText (Some c.args.family) w.in-Some-read_address.source) w.as_bytes.ensures.value w.in-Some-read_address.ensures.found)
-      (let grown : c.match-as_str.sources ≡ c.loop-item.sources ++ w.in-Some-read_address.source ∷ [] = cc (w.in-Ok.ensures.ok, w.sources-is) in grown)
-      c.loop-item.invariant
+      | in-Some+in-Some-read_address+in-Ok w ↦
+          reading_more (Some c.args.family) c.loop-item.sources c.match-as_str.sources (texts_in (items_view items)) (texts_from i items) (texts_from (i + 1) items) w.in-Some.text.now
+          w.in-Some-read_address.source
+          (text_next items i c.item-item.result c.as_str.result w.in-Some.text c.loop-item-test.true c.item-item.is c.as_str.ensures w.in-Some.is)
+          (subst (IsAddressText (Some c.args.family) w.in-Some-read_address.source) w.as_bytes.ensures.value w.in-Some-read_address.ensures.found)
+          (let grown : c.match-as_str.sources ≡ c.loop-item.sources ++ w.in-Some-read_address.source ∷ [] = cc (w.in-Ok.ensures.ok, w.sources-is) in grown)
+          c.loop-item.invariant
       | in_default w ↦
-      subst (λ (sources : List Ip). IsReading (Some c.args.family) sources (texts_in (items_view items)) (texts_from (i + 1) items)) (sym w.sources-is)
-      (subst (IsReading (Some c.args.family) c.loop-item.sources (texts_in (items_view items)))
-      (no_text_next items i c.item-item.result c.as_str.result c.loop-item-test.true c.item-item.is c.as_str.ensures w.in_default.is) c.loop-item.invariant)
+          subst (λ (sources : List Ip). IsReading (Some c.args.family) sources (texts_in (items_view items)) (texts_from (i + 1) items)) (sym w.sources-is)
+          (subst (IsReading (Some c.args.family) c.loop-item.sources (texts_in (items_view items)))
+          (no_text_next items i c.item-item.result c.as_str.result c.loop-item-test.true c.item-item.is c.as_str.ensures w.in_default.is) c.loop-item.invariant)
     ]
 
 pub returns-clause-found : goal.returns-clause-found

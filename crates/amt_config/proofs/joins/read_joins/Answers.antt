@@ -2,7 +2,7 @@ use Rattle.std.proofs.Common.{◌≡◌, ◌+◌, List, [], ◌∷◌, ◌++◌,
 use Rattle.socket_merge.specs.Sockets.{ForHistory, SocketsHold, SocketsValue}
 use Rattle.toml.specs.View.{items_view, table_view}
 use Rattle.amt_config.specs.declared.config.Join.{Join}
-use Rattle.amt_config.specs.Arrays.{tables_in}
+use Rattle.amt_config.specs.Scanned.{tables_in}
 use Rattle.amt_config.specs.Join.{with_join}
 use Rattle.amt_config.specs.Reading.{AreOpened}
 use Rattle.amt_config.proofs.ItemParts.{no_table_next, table_next, tables_end, tables_from}
@@ -37,19 +37,19 @@ loop-item-preserved c =
     let items = c.args.items.now in
     let i = c.loop-item.item-index in
     elim c.match-as_table.branch [
-      in-Some+in-Ok-read_join+in-Ok-open+in-Ok-push w ↦
-      opened_more (Some c.args.family) (tables_in (items_view items)) c.loop-item.joins (tables_from i items) (tables_from (i + 1) items) (table_view w.in-Some.table.now)
-      (table_next items i c.item-item.result c.as_table.result w.in-Some.table c.loop-item-test.true c.item-item.is c.as_table.ensures w.in-Some.is)
-      c.match-as_table.joins c.loop-item.sockets c.match-as_table.sockets w.in-Ok-read_join.join w.in-Ok-read_join.ensures.found w.in-Ok-open.ensures.opened
-      (subst (λ (sockets : SocketsValue). ForHistory c.loop-item.sockets (λ history. SocketsHold sockets (with_join w.in-Ok-read_join.join history))) (sym w.sockets-is)
-      w.in-Ok-open.ensures.stands)
-      (let grown : c.match-as_table.joins ≡ c.loop-item.joins ++ w.in-Ok-read_join.join ∷ [] = cc (w.in-Ok-push.ensures.ok, w.joins-is) in grown)
-      c.loop-item.invariant
+      | in-Some+in-Ok-read_join+in-Ok-open+in-Ok-push w ↦
+          opened_more (Some c.args.family) (tables_in (items_view items)) c.loop-item.joins (tables_from i items) (tables_from (i + 1) items) (table_view w.in-Some.table.now)
+          (table_next items i c.item-item.result c.as_table.result w.in-Some.table c.loop-item-test.true c.item-item.is c.as_table.ensures w.in-Some.is)
+          c.match-as_table.joins c.loop-item.sockets c.match-as_table.sockets w.in-Ok-read_join.join w.in-Ok-read_join.ensures.found w.in-Ok-open.ensures.opened
+          (subst (λ (sockets : SocketsValue). ForHistory c.loop-item.sockets (λ history. SocketsHold sockets (with_join w.in-Ok-read_join.join history))) (sym w.sockets-is)
+          w.in-Ok-open.ensures.stands)
+          (let grown : c.match-as_table.joins ≡ c.loop-item.joins ++ w.in-Ok-read_join.join ∷ [] = cc (w.in-Ok-push.ensures.ok, w.joins-is) in grown)
+          c.loop-item.invariant
       | in_default-as_table w ↦
-      subst (AreOpened (Some c.args.family) (tables_in (items_view items)) c.match-as_table.joins (tables_from (i + 1) items)) (sym w.sockets-is)
-      (subst (λ (joins : List Join). AreOpened (Some c.args.family) (tables_in (items_view items)) joins (tables_from (i + 1) items) c.loop-item.sockets) (sym w.joins-is)
-      (subst (λ left. AreOpened (Some c.args.family) (tables_in (items_view items)) c.loop-item.joins left c.loop-item.sockets)
-      (no_table_next items i c.item-item.result c.as_table.result c.loop-item-test.true c.item-item.is c.as_table.ensures w.in_default-as_table.is) c.loop-item.invariant))
+          subst (AreOpened (Some c.args.family) (tables_in (items_view items)) c.match-as_table.joins (tables_from (i + 1) items)) (sym w.sockets-is)
+          (subst (λ (joins : List Join). AreOpened (Some c.args.family) (tables_in (items_view items)) joins (tables_from (i + 1) items) c.loop-item.sockets) (sym w.joins-is)
+          (subst (λ left. AreOpened (Some c.args.family) (tables_in (items_view items)) c.loop-item.joins left c.loop-item.sockets)
+          (no_table_next items i c.item-item.result c.as_table.result c.loop-item-test.true c.item-item.is c.as_table.ensures w.in_default-as_table.is) c.loop-item.invariant))
     ]
 
 pub returns-clause-found : goal.returns-clause-found

@@ -1,5 +1,5 @@
 use Rattle.std.proofs.Common.{◌≡◌, ℤ, Some, inl, inr, of_z, refl, rules, subst, sym, to_z, w64, ap, ◌∙◌}
-use Rattle.toml.specs.Data.{get_member, integer}
+use Rattle.toml.specs.Data.{integer}
 use Rattle.toml.specs.View.{table_view, view}
 use Rattle.amt_config.specs.FileKey.{word_of}
 use Rattle.amt_config.specs.Key.{IsOutside, a_whole, optional}

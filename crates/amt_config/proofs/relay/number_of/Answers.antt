@@ -1,4 +1,4 @@
-use Rattle.std.proofs.Common.{rules, subst}
+use Rattle.std.proofs.Common.{subst}
 use Rattle.std.specs.Result.{IfErr}
 use Rattle.relay_machine.specs.declared.number_key.NumberRange.{NumberRange}
 use Rattle.amt_script.specs.Row.{number_word}

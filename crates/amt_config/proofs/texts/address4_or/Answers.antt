@@ -1,4 +1,4 @@
-use Rattle.std.proofs.Common.{◌≡◌, rules, Some, true, false, refl, subst, ap, ◌∙◌}
+use Rattle.std.proofs.Common.{◌≡◌, rules, Some, false, refl, subst}
 use Rattle.script_lines.specs.declared.reason.Reason.TheVariants as reasons
 use Rattle.script_lines.specs.Form.{Fails, an_address4}
 use Rattle.toml.specs.Data.{get_member, string}

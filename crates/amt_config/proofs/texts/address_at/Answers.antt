@@ -1,6 +1,6 @@
-use Rattle.std.proofs.Common.{Some, true, false, refl, subst, ap, ◌∙◌}
+use Rattle.std.proofs.Common.{true, refl}
 use Rattle.script_lines.specs.declared.reason.Reason.TheVariants as reasons
-use Rattle.script_lines.specs.Form.{Fails, an_address}
+use Rattle.script_lines.specs.Form.{an_address}
 use Rattle.toml.specs.View.{table_view}
 use Rattle.amt_config.specs.FileKey.{word_of}
 use Rattle.amt_config.proofs.KeyFaults.{first_address}

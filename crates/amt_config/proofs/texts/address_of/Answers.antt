@@ -1,4 +1,4 @@
-use Rattle.std.proofs.Common.{Some, true, false, refl, subst, ap, ◌∙◌}
+use Rattle.std.proofs.Common.{Some, true, refl, subst}
 use Rattle.script_lines.specs.declared.reason.Reason.TheVariants as reasons
 use Rattle.script_lines.specs.Form.{Fails, an_address_of}
 use Rattle.toml.specs.View.{table_view}

@@ -1,4 +1,4 @@
-use Rattle.std.proofs.Common.{Some, true, refl, sym, subst}
+use Rattle.std.proofs.Common.{true, refl, sym, subst}
 use Rattle.script_lines.specs.declared.reason.Reason.TheVariants as reasons
 use Rattle.script_lines.specs.Form.{IsName, a_name}
 use Rattle.toml.specs.View.{table_view}

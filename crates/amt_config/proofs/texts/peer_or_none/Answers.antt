@@ -1,6 +1,6 @@
-use Rattle.std.proofs.Common.{◌≡◌, rules, Some, true, false, refl, subst, ap, ◌∙◌}
+use Rattle.std.proofs.Common.{◌≡◌, rules, Some, false, refl}
 use Rattle.script_lines.specs.declared.reason.Reason.TheVariants as reasons
-use Rattle.script_lines.specs.Form.{Fails, a_peer}
+use Rattle.script_lines.specs.Form.{a_peer}
 use Rattle.toml.specs.Data.{get_member, string}
 use Rattle.toml.specs.View.{table_view}
 use Rattle.amt_config.specs.FileKey.{word_of}

@@ -1,5 +1,4 @@
-use Rattle.std.proofs.Common.{◌≡◌, Some, None, sym, ap, ◌∙◌}
-use Rattle.toml.specs.Data.{string}
+use Rattle.std.proofs.Common.{Some, ap, ◌∙◌}
 use Rattle.toml.specs.View.{table_view, view}
 use Rattle.amt_config.specs.FileKey.{word_of}
 use Rattle.amt_config.specs.Key.{a_text, optional}
