@@ -1,0 +1,14 @@
+use Rattle.amt_config.specs.Gateway.{GatewayConfigOf, IsGatewayTableFault}
+use Rattle.amt_config.proofs.Exactness.{exact_config, exact_fault}
+use Rattle.amt_config.proofs.GatewayLaws.{not_both, one_config, one_fault}
+use Rattle.amt_config.proofs.gateway.gateway_settings.Goals as goal
+
+pub returns-clause-only : goal.returns-clause-only
+returns-clause-only c =
+    exact_config GatewayConfigOf IsGatewayTableFault one_config one_fault not_both c.args.bytes.now c.read_file.result c.read_file.ensures.found
+    c.read_file.ensures.fault
+
+pub returns-clause-first : goal.returns-clause-first
+returns-clause-first c =
+    exact_fault GatewayConfigOf IsGatewayTableFault one_config one_fault not_both c.args.bytes.now c.read_file.result c.read_file.ensures.found
+    c.read_file.ensures.fault

@@ -1,0 +1,16 @@
+use Rattle.std.proofs.Common.{◌≡◌, rules, Some, false, refl, subst}
+use Rattle.script_lines.specs.declared.reason.Reason.TheVariants as reasons
+use Rattle.script_lines.specs.Form.{Fails, an_address6}
+use Rattle.toml.specs.Data.{get_member, string}
+use Rattle.toml.specs.View.{table_view}
+use Rattle.amt_config.specs.FileKey.{word_of}
+use Rattle.amt_config.proofs.KeyFaults.{first_address}
+use Rattle.amt_config.proofs.texts.address6_or.Goals as goal
+
+pub returns-in-Err-clause-fault : goal.returns-in-Err-clause-fault
+returns-in-Err-clause-fault c = (c.in-Err.ensures.fault an_address6, refl)
+
+pub returns-in-None-clause-fault : goal.returns-in-None-clause-fault
+returns-in-None-clause-fault c =
+    let there : get_member (word_of c.args.key) (table_view c.args.table.now) ≡ Some (string c.in-Ok-Some.text.now) = search rules in
+    (first_address (word_of c.args.key) false an_address6 (table_view c.args.table.now) c.in-Ok-Some.text.now reasons.Address there (subst (λ t. Fails an_address6 t reasons.Address) c.as_bytes.ensures.value c.in-None.ensures.none) refl, refl)

@@ -1,0 +1,14 @@
+use Rattle.std.proofs.Common.{Some, true, refl, subst}
+use Rattle.script_lines.specs.declared.reason.Reason.TheVariants as reasons
+use Rattle.script_lines.specs.Form.{Fails, an_address_of}
+use Rattle.toml.specs.View.{table_view}
+use Rattle.amt_config.specs.FileKey.{word_of}
+use Rattle.amt_config.proofs.KeyFaults.{first_address}
+use Rattle.amt_config.proofs.texts.address_of.Goals as goal
+
+pub returns-in-Err-clause-fault : goal.returns-in-Err-clause-fault
+returns-in-Err-clause-fault c = (c.in-Err.ensures.fault (an_address_of (Some c.args.family)), refl)
+
+pub returns-in-None-clause-fault : goal.returns-in-None-clause-fault
+returns-in-None-clause-fault c =
+    (first_address (word_of c.args.key) true (an_address_of (Some c.args.family)) (table_view c.args.table.now) c.in-Ok.text.now reasons.Address c.in-Ok.ensures.text (subst (λ t. Fails (an_address_of (Some c.args.family)) t reasons.Address) c.as_bytes.ensures.value c.in-None.ensures.none) refl, refl)

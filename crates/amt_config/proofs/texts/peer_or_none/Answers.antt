@@ -1,0 +1,17 @@
+use Rattle.std.proofs.Common.{◌≡◌, rules, Some, false, refl}
+use Rattle.script_lines.specs.declared.reason.Reason.TheVariants as reasons
+use Rattle.script_lines.specs.Form.{a_peer}
+use Rattle.toml.specs.Data.{get_member, string}
+use Rattle.toml.specs.View.{table_view}
+use Rattle.amt_config.specs.FileKey.{word_of}
+use Rattle.amt_config.proofs.KeyFaults.{first_address}
+use Rattle.amt_config.proofs.ReadTexts.{no_peer}
+use Rattle.amt_config.proofs.texts.peer_or_none.Goals as goal
+
+pub returns-in-Err-clause-fault : goal.returns-in-Err-clause-fault
+returns-in-Err-clause-fault c = (c.in-Err.ensures.fault a_peer, refl)
+
+pub returns-in-None-clause-fault : goal.returns-in-None-clause-fault
+returns-in-None-clause-fault c =
+    let there : get_member (word_of c.args.key) (table_view c.args.table.now) ≡ Some (string c.in-Ok-Some.text.now) = search rules in
+    (first_address (word_of c.args.key) false a_peer (table_view c.args.table.now) c.in-Ok-Some.text.now reasons.Peer there (no_peer c.parse_peer.result c.as_bytes.result.now c.in-Ok-Some.text.now c.parse_peer.ensures.only c.in-None.is c.as_bytes.ensures.value) refl, refl)

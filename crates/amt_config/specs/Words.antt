@@ -1,0 +1,13 @@
+-- The keys of each kind of table.
+use Rattle.std.specs.Prelude.{ℕ, List, None}
+use Rattle.amt_config.specs.declared.table.TableKind.{TableKind}
+use Rattle.amt_config.specs.declared.table.TableKind.TheVariants.{Relay, Gateway, Join}
+use Rattle.amt_config.specs.Gateway.{gateway_keys}
+use Rattle.amt_config.specs.Join.{join_keys}
+use Rattle.amt_config.specs.Relay.{relay_keys}
+use Rattle.amt_config.specs.Table.{key_words}
+
+abbrev pub words_in : TableKind → List (List ℕ)
+words_in Relay = key_words relay_keys
+words_in Gateway = key_words (gateway_keys None)
+words_in Join = key_words (join_keys None)
