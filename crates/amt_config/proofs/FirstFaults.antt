@@ -37,3 +37,8 @@ one_first_fault table (key ∷ rest) word word' fault fault' (inl h) (inl k) =
 one_first_fault table (key ∷ rest) word word' fault fault' (inl h) (inr k) = absurd (first_not_right table key fault h.0 k.0)
 one_first_fault table (key ∷ rest) word word' fault fault' (inr h) (inl k) = absurd (first_not_right table key fault' k.0 h.0)
 one_first_fault table (key ∷ rest) word word' fault fault' (inr h) (inr k) = one_first_fault table rest word word' fault fault' h.1 k.1
+
+-- keys that are right one after another
+pub right_both : (table : Members) (front back : List Key) → HaveNoFault table front → HaveNoFault table back → HaveNoFault table (front ++ back)
+right_both table [] back right more = more
+right_both table (key ∷ rest) back right more = (right.0, right_both table rest back right.1 more)

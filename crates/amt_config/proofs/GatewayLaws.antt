@@ -27,7 +27,7 @@ use Rattle.amt_config.proofs.JoinLaws.{joins_or_fault, one_fault_in_joins, same_
 use Rattle.amt_config.proofs.KeyFaults.{no_value, right_absent, right_number, some_value}
 use Rattle.amt_config.proofs.SharedLaws.{right_in_text, right_peer, same_in_number, same_in_text}
 use Rattle.amt_config.proofs.TableFaults.{one_table_fault}
-use Rattle.amt_config.proofs.ReadTexts.{peer_fits}
+use Rattle.script_lines.proofs.Forms.{peer_fits}
 
 by_text : (family : Family) → family_of_text (family_text family) ≡ Some family
 by_text V4 = refl

@@ -1,5 +1,5 @@
 -- The parts of a gateway's file, and its first fault from theirs.
-use Rattle.std.proofs.Common.{◌≡◌, ◌≤◌, ◌⊎◌, ℕ, List, [], ◌∷◌, ◌++◌, Option, Some, None, codes, inl, inr, refl, sym, subst, arith, drop}
+use Rattle.std.proofs.Common.{◌≡◌, ◌≤◌, ◌⊎◌, ℕ, List, [], ◌∷◌, Option, Some, None, codes, inl, inr, refl, sym, subst, arith, drop}
 use Rattle.amt_values.specs.declared.address.Ip.{Ip}
 use Rattle.amt_values.specs.declared.peer.Peer.{Peer}
 use Rattle.amt_values.specs.Text.{IsPeerText}
@@ -22,7 +22,7 @@ use Rattle.amt_config.specs.Join.{AreJoins, FailsInJoins}
 use Rattle.amt_config.specs.Key.{HaveNoFault, FailsAt, FailsFirstAt, HasWholeNumber, HasTables, HasText, Key, a_text, a_whole, optional, required, some_tables}
 use Rattle.amt_config.specs.Reading.{HasAllButJoins, IsFaultInTables, config_of, keys_but_joins, told_in_join}
 use Rattle.amt_config.specs.Table.{AreKnown, HasNoTable, IsTableOf, IsUnknownFault, IsValueFault, told, key_words}
-use Rattle.amt_config.proofs.FirstFaults.{first_in_back, first_in_front}
+use Rattle.amt_config.proofs.FirstFaults.{right_both, first_in_back, first_in_front}
 use Rattle.amt_config.proofs.GatewayLaws.{family_is, right_family, right_relay, right_source, right_tables}
 use Rattle.amt_config.proofs.KeyFaults.{right_number}
 use Rattle.amt_config.proofs.SharedLaws.{right_peer}
@@ -64,11 +64,6 @@ right_with_family table given h = (
     ),
   ),
 )
-
--- keys that are right one after another
-right_both : (table : Members) (front back : List Key) → HaveNoFault table front → HaveNoFault table back → HaveNoFault table (front ++ back)
-right_both table [] back right more = more
-right_both table (key ∷ rest) back right more = (right.0, right_both table rest back right.1 more)
 
 given_family : (table : Members) (given : AllButJoins) → HasAllButJoins table given → Some given.family ≡ table_family table
 given_family table given h = sym (family_is table given.family h.family)

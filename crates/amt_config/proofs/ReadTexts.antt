@@ -6,12 +6,11 @@ use Rattle.std.specs.Map.{lookup}
 use Rattle.std.specs.Option.{option_copied}
 use Rattle.toml.proofs.Views.{table_get}
 use Rattle.amt_values.specs.declared.address.Ip.{Ip}
-use Rattle.amt_values.specs.declared.address.Ip.TheVariants.{V4, V6}
 use Rattle.amt_values.specs.declared.peer.Peer.{Peer}
 use Rattle.amt_values.specs.Text.{IsIpText, IsPeerText}
 use Rattle.script_lines.specs.declared.reason.Reason.{Reason}
 use Rattle.script_lines.specs.declared.reason.Reason.TheVariants as reasons
-use Rattle.script_lines.specs.Form.{Fails, a_family, a_mode, a_name, a_peer, an_address, an_address4, an_address6}
+use Rattle.script_lines.specs.Form.{Fails, a_family, a_mode, a_name, a_peer, an_address}
 use Rattle.toml.specs.Data.{Data, array, as_integer, as_str, boolean, datetime, float, get_member, integer, string, table as table_value}
 use Rattle.toml.specs.View.{table_view, view}
 use Rattle.toml.specs.declared.value.Value.{Value}
@@ -67,23 +66,6 @@ no_ip r bytes text only none same = λ ip names. let both : None ≡ Some ip = s
 
 pub no_peer : (r : Option Peer) (bytes text : List ℕ) → ((peer : Peer) → IsPeerText peer bytes → r ≡ Some peer) → r ≡ None → bytes ≡ text → Fails a_peer text reasons.Peer
 no_peer r bytes text only none same = λ peer names. let both : None ≡ Some peer = sym none ∙ only peer (subst (IsPeerText peer) (sym same) names) in cc
-
--- a text of the form fails for no reason
-pub ip_fits : (ip : Ip) (text : List ℕ) → IsIpText ip text → (reason : Reason) → Fails an_address text reason → ⊥
-ip_fits ip text names reasons.Address fails = fails ip names
-ip_fits ip text names reason fails = fails
-
-pub ip4_fits : (number : ℕ) (text : List ℕ) → IsIpText (V4 number) text → (reason : Reason) → Fails an_address4 text reason → ⊥
-ip4_fits number text names reasons.Address fails = fails number names
-ip4_fits number text names reason fails = fails
-
-pub ip6_fits : (number : ℕ) (text : List ℕ) → IsIpText (V6 number) text → (reason : Reason) → Fails an_address6 text reason → ⊥
-ip6_fits number text names reasons.Address fails = fails number names
-ip6_fits number text names reason fails = fails
-
-pub peer_fits : (peer : Peer) (text : List ℕ) → IsPeerText peer text → (reason : Reason) → Fails a_peer text reason → ⊥
-peer_fits peer text names reasons.Peer fails = fails peer names
-peer_fits peer text names reason fails = fails
 
 pub no_address_family : (text : List ℕ) (reason : Reason) → fault_of reason ≡ Some Address → Fails a_family text reason → ⊥
 no_address_family text reasons.Word told fails = cc told

@@ -7,7 +7,9 @@ use Rattle.amt_values.proofs.Unique.{IsIpText-unique, IsPeerText-unique}
 use Rattle.contract_words.specs.Conditions.{First}
 use Rattle.relay_machine.specs.declared.number_key.NumberKey.{NumberKey}
 use Rattle.relay_machine.specs.declared.number_key.NumberKey.TheVariants.{Robustness, QuerySeconds, ResponseTenths, Endpoints, Groups, Sources, PacketLimit}
+use Rattle.relay_machine.specs.declared.settings.Settings.{Settings}
 use Rattle.relay_machine.specs.Settings.{AreLawfulSettings, HasCode, IsInKeyRange, number_at, number_row}
+use Rattle.script_lines.proofs.Forms.{address4_fits, address6_fits, address_fits}
 use Rattle.script_lines.proofs.Firsts.{First-holds, First-unique}
 use Rattle.script_lines.specs.declared.reason.Reason.{Reason}
 use Rattle.script_lines.specs.Form.{Fails as FailsAsForm, Form, an_address, an_address4, an_address6}
@@ -18,13 +20,13 @@ use Rattle.amt_config.specs.declared.config.RelayConfig.{RelayConfig}
 use Rattle.amt_config.specs.declared.fault.ConfigFault.{ConfigFault}
 use Rattle.amt_config.specs.declared.fault.ConfigFault.TheVariants as faults
 use Rattle.amt_config.specs.Key.{HaveNoFault, HasWholeNumber, HasText, HasTextOr, HasNoFault, a_text, optional, required}
+use Rattle.amt_config.specs.Parts.{number_keys, serving_keys}
 use Rattle.amt_config.specs.Relay.{FailsTogether, HasValues, IsFaultTogether, RelayConfigOf, number_key, range_of, relay_keys, rotate_range, settings_of, together_order, workers_range}
 use Rattle.amt_config.specs.Table.{IsFirstFault, IsValueFault}
-use Rattle.amt_config.proofs.FirstFaults.{none_fails}
+use Rattle.amt_config.proofs.FirstFaults.{none_fails, right_both}
 use Rattle.amt_config.proofs.KeyFaults.{no_value, right_absent, right_number}
 use Rattle.amt_config.proofs.SharedLaws.{right_in_text, right_peer, same_in_number, same_in_text}
 use Rattle.amt_config.proofs.TableFaults.{one_table_fault}
-use Rattle.amt_config.proofs.ReadTexts.{ip4_fits, ip6_fits, ip_fits}
 
 same_in_text_or : {V : Type 0} (Names : V → List ℕ → Type 0) (unique : (one other : V) (text : List ℕ) → Names one text → Names other text → one ≡ other)
     (word : List ℕ) (table : Members) (default one other : V) → HasTextOr word table (Names one) (one ≡ default) → HasTextOr word table (Names other) (other ≡ default) → one ≡ other
@@ -79,16 +81,36 @@ right_in_text_or Names Default form fits word table (inl absent) = right_absent 
 right_in_text_or Names Default form fits word table (inr there) = right_in_text Names form fits word false table there
 
 pub right_ip : (word : List ℕ) (table : Members) (ip : Ip) → HasText word table (IsIpText ip) → HasNoFault table (required word (a_text an_address))
-right_ip word table ip h = right_in_text (IsIpText ip) an_address (ip_fits ip) word true table h
+right_ip word table ip h = right_in_text (IsIpText ip) an_address (address_fits ip) word true table h
 
 pub right_ip4 : (word : List ℕ) (table : Members) (number : ℕ) (Default : Type 0) → HasTextOr word table (IsIpText (V4 number)) Default → HasNoFault table (optional word (a_text an_address4))
-right_ip4 word table number Default h = right_in_text_or (IsIpText (V4 number)) Default an_address4 (ip4_fits number) word table h
+right_ip4 word table number Default h = right_in_text_or (IsIpText (V4 number)) Default an_address4 (address4_fits number) word table h
 
 pub right_ip6 : (word : List ℕ) (table : Members) (number : ℕ) (Default : Type 0) → HasTextOr word table (IsIpText (V6 number)) Default → HasNoFault table (optional word (a_text an_address6))
-right_ip6 word table number Default h = right_in_text_or (IsIpText (V6 number)) Default an_address6 (ip6_fits number) word table h
+right_ip6 word table number Default h = right_in_text_or (IsIpText (V6 number)) Default an_address6 (address6_fits number) word table h
 
 pub right_of_key : (key : NumberKey) (table : Members) (number : ℕ) → HasWholeNumber (number_word key) (range_of key) table number → HasNoFault table (number_key key)
 right_of_key key table number h = right_number (number_word key) (range_of key) table number h
+
+-- the keys of the relay's numbers
+pub right_numbers : (table : Members) (settings : Settings) → ((key : NumberKey) → HasWholeNumber (number_word key) (range_of key) table (number_at settings key))
+    → HaveNoFault table number_keys
+right_numbers table settings h = (
+  right_of_key Robustness table _ (h Robustness),
+  (
+    right_of_key QuerySeconds table _ (h QuerySeconds),
+    (
+      right_of_key ResponseTenths table _ (h ResponseTenths),
+      (
+        right_of_key Endpoints table _ (h Endpoints),
+        (
+          right_of_key Groups table _ (h Groups),
+          (right_of_key Sources table _ (h Sources), (right_of_key PacketLimit table _ (h PacketLimit), tt)),
+        ),
+      ),
+    ),
+  ),
+)
 
 pub right_keys : (table : Members) (config : RelayConfig) → HasValues table config → HaveNoFault table relay_keys
 right_keys table config h = (
@@ -101,33 +123,9 @@ right_keys table config h = (
         right_ip4 (key_word words.Query4) table config.query4 _ h.query4,
         (
           right_ip6 (key_word words.Query6) table config.query6 _ h.query6,
-          (
-            right_of_key Robustness table _ (h.numbers Robustness),
-            (
-              right_of_key QuerySeconds table _ (h.numbers QuerySeconds),
-              (
-                right_of_key ResponseTenths table _ (h.numbers ResponseTenths),
-                (
-                  right_of_key Endpoints table _ (h.numbers Endpoints),
-                  (
-                    right_of_key Groups table _ (h.numbers Groups),
-                    (
-                      right_of_key Sources table _ (h.numbers Sources),
-                      (
-                        right_of_key PacketLimit table _ (h.numbers PacketLimit),
-                        (
-                          right_number (codes "rotate_seconds") rotate_range table config.rotate_seconds h.rotate,
-                          (
-                            right_number (codes "workers") workers_range table config.workers h.workers,
-                            tt,
-                          ),
-                        ),
-                      ),
-                    ),
-                  ),
-                ),
-              ),
-            ),
+          right_both table number_keys serving_keys (right_numbers table (settings_of config) h.numbers) (
+            right_number (codes "rotate_seconds") rotate_range table config.rotate_seconds h.rotate,
+            (right_number (codes "workers") workers_range table config.workers h.workers, tt),
           ),
         ),
       ),

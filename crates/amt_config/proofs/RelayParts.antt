@@ -21,7 +21,7 @@ use Rattle.amt_config.specs.Parts.{HasLimits, HasPlaces, HasSettings, limit_keys
 use Rattle.amt_config.specs.Relay.{IsFaultTogether, IsRelayFault, number_key, range_of, relay_keys}
 use Rattle.amt_config.specs.Table.{AreKnown, IsTableOf, IsValueFault, key_words}
 use Rattle.amt_config.proofs.FirstFaults.{first_in_back, first_in_front}
-use Rattle.amt_config.proofs.RelayLaws.{right_ip, right_ip4, right_ip6, right_of_key}
+use Rattle.amt_config.proofs.RelayLaws.{right_numbers, right_ip, right_ip4, right_ip6, right_of_key}
 use Rattle.amt_config.proofs.SharedLaws.{right_peer}
 
 pub same_range : (range : NumberRange) (key : NumberKey) → range.least ≡ (number_row key).least → range.most ≡ (number_row key).most → range.default ≡ (number_row key).default → range ≡ range_of key
@@ -54,31 +54,7 @@ right_limits table limits h = (
 pub right_settings : (table : Members) (relay : Ip) (settings : Settings) → HasSettings table relay settings → HaveNoFault table setting_keys
 right_settings table relay settings h = (
   right_ip4 (key_word words.Query4) table settings.query4 _ h.query4,
-  (
-    right_ip6 (key_word words.Query6) table settings.query6 _ h.query6,
-    (
-      right_of_key Robustness table _ (h.numbers Robustness),
-      (
-        right_of_key QuerySeconds table _ (h.numbers QuerySeconds),
-        (
-          right_of_key ResponseTenths table _ (h.numbers ResponseTenths),
-          (
-            right_of_key Endpoints table _ (h.numbers Endpoints),
-            (
-              right_of_key Groups table _ (h.numbers Groups),
-              (
-                right_of_key Sources table _ (h.numbers Sources),
-                (
-                  right_of_key PacketLimit table _ (h.numbers PacketLimit),
-                  tt,
-                ),
-              ),
-            ),
-          ),
-        ),
-      ),
-    ),
-  ),
+  (right_ip6 (key_word words.Query6) table settings.query6 _ h.query6, right_numbers table settings h.numbers),
 )
 
 -- the numbers of settings, one by one

@@ -1,6 +1,8 @@
 //! The faults of files, each as its kind and its key.
 
 use crate::fault::ConfigFault;
+use crate::gateway::gateway_settings;
+use crate::relay::relay_settings;
 use amt_values::Bytes;
 use std::alloc::Global;
 use std::process::Abort;
@@ -22,17 +24,50 @@ pub fn named(fault: &ConfigFault) -> (&'static str, &[u8]) {
     }
 }
 
-/// The fault is the row's.
-pub fn is_fault(rt: &impl Abort, fault: &ConfigFault, row: Row) {
+// The fault is the row's.
+fn is_fault(rt: &impl Abort, fault: &ConfigFault, row: Row) {
     let (text, kind, key) = row;
     let (told, told_key) = named(fault);
     assert_eq!(rt; told, kind, "{text}");
     assert_eq!(rt; told_key, key.as_bytes(), "{text}");
 }
 
-/// A text was read that has the fault of a row.
-pub fn is_read(rt: &impl Abort, text: &str) {
-    assert!(rt; false, "read: {text}");
+/// Whose settings a file has.
+#[derive(Clone, Copy, Debug)]
+pub enum File {
+    Relay,
+    Gateway,
+}
+
+// The first fault of octets, if they have one.
+fn fault_of(alloc: Global, file: File, bytes: &[u8]) -> Option<ConfigFault> {
+    match file {
+        File::Relay => relay_settings(alloc, bytes).err(),
+        File::Gateway => gateway_settings(alloc, bytes).err(),
+    }
+}
+
+/// The first fault of the octets is the row's.
+pub fn row_fails(rt: &impl Abort, alloc: Global, file: File, bytes: &[u8], row: Row) {
+    match fault_of(alloc, file, bytes) {
+        Some(fault) => is_fault(rt, &fault, row),
+        None => assert!(rt; false, "read: {}", row.0),
+    }
+}
+
+/// The first fault of each row's text, which goes on after these lines, is the row's.
+pub fn rows_fail(
+    rt: &impl Abort,
+    alloc: Global,
+    file: File,
+    lines: &str,
+    rows: &[Row],
+) -> Result<(), Fail> {
+    for row in rows {
+        let text = format!(in alloc; "{lines}{}", row.0)?;
+        row_fails(rt, alloc, file, text.as_bytes(), *row);
+    }
+    Ok(())
 }
 
 // The text of a fault, which no clause speaks of.

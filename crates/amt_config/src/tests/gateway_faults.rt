@@ -1,9 +1,6 @@
 //! The faults of a gateway's file.
 
-use super::faults::{Row, is_fault, is_read};
-use crate::gateway::gateway_settings;
-use std::alloc::Global;
-use std::process::Abort;
+use super::faults::{File, Row, row_fails, rows_fail};
 use std::test::Fail;
 
 // What a file must say; rows of the second table go on after it.
@@ -281,43 +278,28 @@ const AFTER_REQUIRED6: &[Row] = &[
     ),
 ];
 
-fn row_fails(rt: &impl Abort, alloc: Global, bytes: &[u8], row: Row) {
-    match gateway_settings(alloc, bytes) {
-        Ok(_) => is_read(rt, row.0),
-        Err(fault) => is_fault(rt, &fault, row),
-    }
-}
-
-fn row_fails_after(rt: &impl Abort, alloc: Global, required: &str, row: Row) -> Result<(), Fail> {
-    let text = format!(in alloc; "{required}{}", row.0)?;
-    row_fails(rt, alloc, text.as_bytes(), row);
-    Ok(())
-}
-
 #[test]
-fn each_fault_of_a_whole_file(rt: HostRuntime) {
-    for row in WHOLE_FILES {
-        row_fails(&rt, rt.alloc(), row.0.as_bytes(), *row);
-    }
+fn each_fault_of_a_whole_file(rt: HostRuntime) -> Result<(), Fail> {
+    rows_fail(&rt, rt.alloc(), File::Gateway, "", WHOLE_FILES)
 }
 
 #[test]
 fn each_fault_of_the_keys_that_may_be_left_out(rt: HostRuntime) -> Result<(), Fail> {
-    for row in AFTER_REQUIRED {
-        row_fails_after(&rt, rt.alloc(), REQUIRED, *row)?;
-    }
-    Ok(())
+    rows_fail(&rt, rt.alloc(), File::Gateway, REQUIRED, AFTER_REQUIRED)
 }
 
 #[test]
 fn faults_of_joins_of_the_other_family(rt: HostRuntime) -> Result<(), Fail> {
-    for row in AFTER_REQUIRED6 {
-        row_fails_after(&rt, rt.alloc(), REQUIRED6, *row)?;
-    }
-    Ok(())
+    rows_fail(&rt, rt.alloc(), File::Gateway, REQUIRED6, AFTER_REQUIRED6)
 }
 
 #[test]
 fn octets_that_are_no_text(rt: HostRuntime) {
-    row_fails(&rt, rt.alloc(), b"family = \"\xff\"", ("", "not toml", ""));
+    row_fails(
+        &rt,
+        rt.alloc(),
+        File::Gateway,
+        b"family = \"\xff\"",
+        ("", "not toml", ""),
+    );
 }

@@ -1,6 +1,6 @@
 //! Joins at the limits of what a gateway's sockets hold, and files with none.
 
-use super::faults::{is_fault, is_read};
+use super::faults::{File, row_fails};
 use crate::config::GatewayConfig;
 use crate::gateway::gateway_settings;
 use amt_values::Ip;
@@ -53,10 +53,8 @@ fn has_joins(rt: &impl Abort, alloc: Global, text: &str, count: usize) {
 }
 
 fn is_refused(rt: &impl Abort, alloc: Global, text: &str) {
-    match gateway_settings(alloc, text.as_bytes()) {
-        Ok(_) => is_read(rt, text),
-        Err(fault) => is_fault(rt, &fault, ("a refused join", "range", "join")),
-    }
+    let row = ("a refused join", "range", "join");
+    row_fails(rt, alloc, File::Gateway, text.as_bytes(), row);
 }
 
 // The sources of the first join.

@@ -1,9 +1,6 @@
 //! The faults of a relay's file.
 
-use super::faults::{Row, is_fault, is_read};
-use crate::relay::relay_settings;
-use std::alloc::Global;
-use std::process::Abort;
+use super::faults::{File, Row, row_fails, rows_fail};
 use std::test::Fail;
 
 // What a file must say; rows of the second table go on after it.
@@ -140,35 +137,23 @@ const AFTER_THE_PLACES: &[Row] = &[
     ("response_tenths = 129", "range", "response_tenths"),
 ];
 
-fn row_fails(rt: &impl Abort, alloc: Global, bytes: &[u8], row: Row) {
-    match relay_settings(alloc, bytes) {
-        Ok(_) => is_read(rt, row.0),
-        Err(fault) => is_fault(rt, &fault, row),
-    }
-}
-
-fn row_fails_after(rt: &impl Abort, alloc: Global, row: Row) -> Result<(), Fail> {
-    let text = format!(in alloc; "{PLACES}{}", row.0)?;
-    row_fails(rt, alloc, text.as_bytes(), row);
-    Ok(())
-}
-
 #[test]
-fn each_fault_of_a_whole_file(rt: HostRuntime) {
-    for row in WHOLE_FILES {
-        row_fails(&rt, rt.alloc(), row.0.as_bytes(), *row);
-    }
+fn each_fault_of_a_whole_file(rt: HostRuntime) -> Result<(), Fail> {
+    rows_fail(&rt, rt.alloc(), File::Relay, "", WHOLE_FILES)
 }
 
 #[test]
 fn each_fault_of_the_keys_that_may_be_left_out(rt: HostRuntime) -> Result<(), Fail> {
-    for row in AFTER_THE_PLACES {
-        row_fails_after(&rt, rt.alloc(), *row)?;
-    }
-    Ok(())
+    rows_fail(&rt, rt.alloc(), File::Relay, PLACES, AFTER_THE_PLACES)
 }
 
 #[test]
 fn octets_that_are_no_text(rt: HostRuntime) {
-    row_fails(&rt, rt.alloc(), b"relay = \"\xff\"", ("", "not toml", ""));
+    row_fails(
+        &rt,
+        rt.alloc(),
+        File::Relay,
+        b"relay = \"\xff\"",
+        ("", "not toml", ""),
+    );
 }
