@@ -1,5 +1,4 @@
 pub mod Copies
-pub mod Counts
 pub mod Entries
 pub mod History
 pub mod Lists

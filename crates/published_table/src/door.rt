@@ -93,9 +93,10 @@ impl<T: Counted + Drop, V, P: Protocol<T, V>> Inside<T, V, P> {
         ensures handed { result.handed ≡ self.handed }
         ensures view { view result.reader.place ≡ view self.reading.place }
     {
+        let Inside { reading, handed } = self;
         Door {
-            reader: self.reading.leave(),
-            handed: self.handed,
+            reader: reading.leave(),
+            handed,
         }
     }
 }

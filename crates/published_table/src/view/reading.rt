@@ -18,6 +18,7 @@ use endpoint_membership::Targets;
 use std::snapshot::Snapshot;
 
 /// Who gets a copy of a packet from the source to the group at the moment.
+#[derive(Drop)]
 pub struct Wanted {
     pub group: Ip,
     pub source: Ip,

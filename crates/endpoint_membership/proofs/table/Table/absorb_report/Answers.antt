@@ -19,8 +19,8 @@ invariant_of-self-2 c = (
 
 pub returns-clause-stands : goal.returns-clause-stands
 returns-clause-stands c settings log holds =
-    let own = c.in_ok-memberships.memberships.items in
-    let gone = c.in_ok-memberships.gone.items in
+    let own = c.in_ok-memberships.field-0.memberships.items in
+    let gone = c.in_ok-memberships.field-0.gone.items in
     let owned = subst (λ (table : TableValue). AreOwn table.lifetime c.later-moment.result c.args.endpoint.now c.args.records.now table.rows own) (sym c.self.view_is) c.in_ok-memberships.ensures.own in
     let left = subst (λ (table : TableValue). AreGone table.lifetime c.later-moment.result c.args.endpoint.now table.rows own gone) (sym c.self.view_is) c.in_ok-memberships.ensures.gone in
     let put = c.purge.ensures

@@ -1,0 +1,5 @@
+pub mod Beginnings
+pub mod Cases
+pub mod HistoryGrows
+pub mod RuleKept
+pub mod Vouching
