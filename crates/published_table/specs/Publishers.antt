@@ -1,6 +1,5 @@
 -- What is read of a publisher.
 use Rattle.std.specs.Prelude.{◌≡◌, ℕ, ◌-◌, List, [], ◌++◌, drop}
-use Rattle.std_alloc.specs.VecDeque.{deque_capacity, deque_len}
 use Rattle.logbook.specs.Pages.{Book}
 use Rattle.endpoint_membership.specs.declared.change.Change.{Change}
 use Rattle.published_table.specs.Copies.{log_of}
@@ -18,7 +17,7 @@ owing publisher = changes (drop publisher.writer.behind publisher.writer.log.ite
 
 -- how many entries it can take without memory
 abbrev pub spare : Publisher → ℕ
-spare publisher = deque_capacity publisher.taken - deque_len publisher.taken
+spare publisher = publisher.taken.cap - publisher.taken.len
 
 -- who it is, as the book of its history
 abbrev pub book_of : Publisher → Book

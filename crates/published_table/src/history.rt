@@ -4,7 +4,7 @@
 //! Why it is needed: a note leaves the publisher's thread as a value, and may come to any view, whenever
 //! it likes. That the logs of two notes are prefixes of one log is a fact of no single holder, so it is
 //! the rule of a book that all of them have seen a part of.
-ghost use Rattle.std.specs.Prelude.{◌≡◌, ◌×◌, ◌≤◌, [], ◌∷◌, ◌++◌, List, length, map, MatchResult};
+ghost use Rattle.std.specs.Prelude.{◌≡◌, ◌≤◌, [], ◌∷◌, ◌++◌, List, length, map, MatchResult};
 ghost use mathlib.Core.List.{IsPrefix};
 ghost use Rattle.endpoint_membership.specs.declared.change.Change.{Change as Entry};
 ghost use Rattle.logbook.specs.Pages.{Cell};

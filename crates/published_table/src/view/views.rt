@@ -6,27 +6,17 @@ ghost use Rattle.published_table.specs.declared.terms.Terms.{Terms as ReadingTer
 
 use super::View;
 use std::alloc::{AllocError, Global};
-use std::marker::Model;
 
-/// Views, of which contracts see the list.
+/// Views, to be handed out one by one.
 #[derive(Drop)]
 pub struct Views {
     views: Vec<View>,
 }
 
-impl Model for Views {
-    ghost use Rattle.std.specs.Prelude.{List};
-    ghost use Rattle.published_table.specs.declared.view.View.{View};
-
-    ghost Value = { List View };
-
-    ghost view = { λ s. s.views.items };
-}
-
 impl Views {
     /// No views, and room for so many.
     pub fn with_room(alloc: Global, views: u32) -> Result<Views, AllocError>
-        ensures { IfOk result (λ views. views ≡ []) }
+        ensures { IfOk result (λ made. made.views.items ≡ []) }
     {
         Ok(Views {
             views: Vec::with_capacity(alloc, views as usize)?,
@@ -34,15 +24,15 @@ impl Views {
     }
 
     pub fn len(&self) -> usize
-        ensures { result ≡ length self.now }
+        ensures { result ≡ length self.now.views.items }
     {
         self.views.len()
     }
 
     /// Adds a view at the end.
     pub fn push(&mut self, view: View) -> Result<(), View>
-        ensures ok { OnOk result (self.new ≡ self.old ++ view ∷ []) }
-        ensures err { OnErr result (self.new ≡ self.old) }
+        ensures ok { OnOk result (self.new.views.items ≡ self.old.views.items ++ view ∷ []) }
+        ensures err { OnErr result (self.new.views.items ≡ self.old.views.items) }
     {
         match self.views.push(view) {
             Ok(()) => Ok(()),
@@ -52,10 +42,10 @@ impl Views {
 
     /// Takes the last view out, if there is one.
     pub fn pop(&mut self) -> Option<View>
-        ensures some { IfSome result (λ view. self.old ≡ self.new ++ view ∷ []) }
-        ensures none { IfNone result ((self.old ≡ []) × (self.new ≡ [])) }
-        ensures each { (publisher : Book) (terms : ReadingTerms) → All (IsNew publisher terms) self.old
-            → All (IsNew publisher terms) self.new × IfSome result (IsNew publisher terms) }
+        ensures some { IfSome result (λ view. self.old.views.items ≡ self.new.views.items ++ view ∷ []) }
+        ensures none { IfNone result ((self.old.views.items ≡ []) × (self.new.views.items ≡ [])) }
+        ensures each { (publisher : Book) (terms : ReadingTerms) → All (IsNew publisher terms) self.old.views.items
+            → All (IsNew publisher terms) self.new.views.items × IfSome result (IsNew publisher terms) }
     {
         self.views.pop()
     }
