@@ -1,5 +1,5 @@
 -- Lists that begin with others, and logs that are of one history.
-use Rattle.std.proofs.Common.{◌≡◌, ℕ, ◌+◌, ◌≤◌, zero, suc, List, [], ◌∷◌, ◌++◌, length, take, drop, map, refl, sym, ap, subst, ◌∙◌, arith}
+use Rattle.std.proofs.Common.{◌≡◌, ◌⊎◌, ℕ, ◌+◌, ◌≤◌, inl, inr, zero, suc, List, [], ◌∷◌, ◌++◌, length, take, drop, map, refl, sym, ap, subst, ◌∙◌, arith}
 use Rattle.std.proofs.Math.Seq.{take-append_seam, drop-append_seam, take-length}
 use Rattle.std.proofs.lemmas.List.{append-nil, append_assoc, length-append, map-append, take-append-drop}
 use Rattle.std.proofs.lemmas.List.Elements.{All-cons, All-drop, All-push, All-take}
@@ -47,6 +47,23 @@ module _ {X : Type 0} where
 
   pub each_push : (xs : List X) (lists : List (List X)) (last : List X) → BeginsWithEach xs lists → BeginsWith xs last → BeginsWithEach xs (lists ++ last ∷ [])
   each_push xs lists last each begins = All-push (BeginsWith xs) lists last each begins
+
+  -- what begins with a list begins with what that begins with
+  pub each_further : (xs ys : List X) (lists : List (List X)) → BeginsWith xs ys → BeginsWithEach ys lists → BeginsWithEach xs lists
+  each_further xs ys lists begins each index default within = begins_further xs ys (slice_index_or lists index default) begins (each index default within)
+
+  take_none : (number : ℕ) → take {A = X} number [] ≡ []
+  take_none zero = refl
+  take_none (suc number) = refl
+
+  -- a prefix of a list with one more item is one without it, or all
+  pub take_last : (number : ℕ) (xs : List X) (x : X) → (take number (xs ++ x ∷ []) ≡ take number xs) ⊎ (take number (xs ++ x ∷ []) ≡ xs ++ x ∷ [])
+  take_last zero xs x = inl refl
+  take_last (suc number) [] x = inr (ap (λ (rest : List X). x ∷ rest) (take_none number))
+  take_last (suc number) (first ∷ xs) x = elim (take_last number xs x) [
+    | inl same ↦ inl (ap (λ (rest : List X). first ∷ rest) same)
+    | inr whole ↦ inr (ap (λ (rest : List X). first ∷ rest) whole)
+  ]
 
   nothing_more : (rest : List X) → length rest ≡ 0 → rest ≡ []
   nothing_more [] none = refl

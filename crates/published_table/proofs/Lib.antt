@@ -1,5 +1,6 @@
 pub mod Beginnings
 pub mod Cases
+pub mod CopiesFit
 pub mod HistoryGrows
 pub mod RuleKept
 pub mod Vouching

@@ -38,8 +38,11 @@ fn hand_over(
     ensures none { IfOk result (λ _. taken.new.items ≡ []) }
 {
     while let Some(change) = taken.pop_front() {
-        let bookmark = bookmark.again();
-        if let Err(entry) = writer.append(Entry { change, bookmark }) {
+        let entry = Entry {
+            change,
+            bookmark: bookmark.again(),
+        };
+        if let Err(entry) = writer.append(entry) {
             let Entry {
                 change,
                 bookmark: _bookmark,
