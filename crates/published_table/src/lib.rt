@@ -14,6 +14,8 @@ mod publisher;
 mod rule;
 mod table_copy;
 mod terms;
+#[cfg(test)]
+mod tests;
 mod told;
 mod view;
 

@@ -135,8 +135,11 @@ made-clears moment (Some change) made endpoint at is = sym (brought_at change en
 
 event-clears : (settings : Settings) (secrets : Secrets) (moment : ℕ) (log : List Change) (event : Event) → ClearsAt moment (event_answer settings secrets moment log event).entry
 unfolding ClearsAt
-event-clears settings secrets moment log (Moment reported) endpoint at is = cc
-event-clears settings secrets moment log (Rotate secret) endpoint at is = cc
+event-clears settings secrets moment log (Moment reported) = λ endpoint at is. absurd (no_clearing is)
+  where
+    no_clearing : {endpoint : EndpointValue} {at : ℕ} → Some (Mark (max moment reported)) ≡ Some (Clear endpoint at) → ⊥
+    no_clearing same = cc
+event-clears settings secrets moment log (Rotate secret) = made-clears moment None tt
 event-clears settings secrets moment log (Packet bytes) =
     made-clears moment (packet_answer (targets_at (table_settings_of settings) log moment) bytes (head_to_copy settings.packet_limit bytes)).entry
     (packet-made moment (targets_at (table_settings_of settings) log moment) bytes (head_to_copy settings.packet_limit bytes))
