@@ -118,7 +118,7 @@ latest-accepted_log : (settings : Settings) (first : Secret) (events : List Even
 latest-accepted_log settings first events = latest_back settings first (reverse events) ∙ ap now_of (reverse-reverse events)
 
 -- a clearing is made at the moment of the events before it
-ClearsAt : ℕ → Option Change → Type 0
+abbrev ClearsAt : ℕ → Option Change → Type 0
 ClearsAt moment entry = (endpoint : EndpointValue) (at : ℕ) → entry ≡ Some (Clear endpoint at) → at ≡ moment
 
 brought_at : (change : Change) (endpoint : EndpointValue) (at : ℕ) → Some change ≡ Some (Clear endpoint at) → brought change ≡ at
@@ -129,12 +129,10 @@ brought_at change endpoint at is = ap brought_by is
     brought_by (Some one) = brought one
 
 made-clears : (moment : ℕ) (entry : Option Change) → IsMadeAt moment entry → ClearsAt moment entry
-unfolding ClearsAt
 made-clears moment None made endpoint at is = cc
 made-clears moment (Some change) made endpoint at is = sym (brought_at change endpoint at is) ∙ made
 
 event-clears : (settings : Settings) (secrets : Secrets) (moment : ℕ) (log : List Change) (event : Event) → ClearsAt moment (event_answer settings secrets moment log event).entry
-unfolding ClearsAt
 event-clears settings secrets moment log (Moment reported) = λ endpoint at is. absurd (no_clearing is)
   where
     no_clearing : {endpoint : EndpointValue} {at : ℕ} → Some (Mark (max moment reported)) ≡ Some (Clear endpoint at) → ⊥
@@ -148,16 +146,15 @@ event-clears settings secrets moment log (Datagram bytes from) =
     (datagram-made settings secrets moment log (endpoint_of from) (message_of bytes))
 
 -- where a log with one more entry is cut: at that entry, or before it
-IsCutBefore : List Change → List Change → Change → Type 0
+abbrev IsCutBefore : List Change → List Change → Change → Type 0
 IsCutBefore log before cut = (more : List Change) × (log ≡ before ++ cut ∷ more)
 
-first_of : Change → List Change → Change
+abbrev first_of : Change → List Change → Change
 first_of other [] = other
 first_of other (entry ∷ rest) = entry
 
 cut_last : (log before after : List Change) (entry cut : Change) → log ++ entry ∷ [] ≡ before ++ cut ∷ after
     → ((log ≡ before) × (entry ≡ cut)) ⊎ IsCutBefore log before cut
-unfolding IsCutBefore
 cut_last [] [] after entry cut is = inl (refl, ap (first_of entry) is)
 cut_last [] (one ∷ before) after entry cut is = absurd (nowhere before (ap (drop 1) is))
   where
@@ -172,7 +169,6 @@ cut_last (one ∷ log) (other ∷ before) after entry cut is =
     (cut_last log before after entry cut (ap (drop 1) is))
 
 timely-with : (log : List Change) (entry : Option Change) (moment : ℕ) → latest log ≡ moment → ClearsAt moment entry → ClearingsLetNoTimePass log → ClearingsLetNoTimePass (with_change log entry)
-unfolding ClearsAt IsCutBefore
 timely-with log None moment same clears timely = timely
 timely-with log (Some change) moment same clears timely = λ before after endpoint at cut.
     ⊎_elim (λ (here : (log ≡ before) × (change ≡ Clear endpoint at)).
@@ -213,7 +209,6 @@ now_is at now same = omega arith
 
 handed : (terms : TableSettings) (log : List Change) (entry : Option Change) → ClearsAt (latest log) entry
     → published_of terms.lifetime (with_change log entry) ≡ with_change (published_of terms.lifetime log) (handed_out terms log entry)
-unfolding ClearsAt
 handed terms log None clears = refl
 handed terms log (Some (Reported endpoint records at)) clears = published-next terms.lifetime log (Reported endpoint records at)
 handed terms log (Some (Mark at)) clears = published-next terms.lifetime log (Mark at)
