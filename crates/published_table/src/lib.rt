@@ -14,8 +14,6 @@ mod publisher;
 mod rule;
 mod table_copy;
 mod terms;
-#[cfg(test)]
-mod tests;
 mod told;
 mod view;
 

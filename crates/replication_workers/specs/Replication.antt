@@ -1,10 +1,10 @@
 -- What a replicator sends for a packet (RFC 7450, section 5.3.3.2).
-use Rattle.std.specs.Prelude.{◌≡◌, ℕ, ◌≤◌, ◌<◌, ◌⊎◌, ◌-◌, ◌^◌, List, map, Option}
+use Rattle.std.specs.Prelude.{◌≡◌, ℕ, ◌≤◌, ◌<◌, ◌-◌, ◌^◌, List, map, Option}
 use Rattle.amt_values.specs.Endpoint.{peer_of}
+use Rattle.amt_values.specs.EndpointValue.{EndpointValue}
 use Rattle.amt_values.specs.declared.peer.Peer.{Peer}
 use Rattle.endpoint_membership.specs.Table.{TableSettings}
 use Rattle.endpoint_membership.specs.declared.change.Change.{Change}
-use Rattle.published_table.specs.Lists.{BeginsWith, BeginsWithEach}
 use Rattle.relay_machine.specs.EventAnswer.{packet_answer}
 use Rattle.relay_machine.specs.Packets.{head_to_copy, targets_at}
 use Rattle.relay_machine.specs.declared.sends.OneSend.{OneSend}
@@ -18,9 +18,13 @@ copies_by settings limit log moment packet = (packet_answer (targets_at settings
 abbrev pub to_peer : OneSend → Peer × List ℕ
 to_peer send = (peer_of send.to, send.bytes)
 
--- the count rose, or stands at its last value
+-- the message as a datagram to the endpoint
+abbrev pub with_message : List ℕ → EndpointValue → Peer × List ℕ
+with_message message endpoint = (peer_of endpoint, message)
+
+-- the count rose, unless it stands at its last value
 abbrev pub HasRisen : ℕ → ℕ → Type 0
-HasRisen before after = (before < after) ⊎ (after ≡ 2 ^ 64 - 1)
+HasRisen before after = after < 2 ^ 64 - 1 → before < after
 
 -- exactly these datagrams were tried, each once and in order; so many were sent, and so many not, which
 -- the device's count of faults shows

@@ -29,7 +29,13 @@ fn head_of_copied(limit: u32, packet: &[u8]) -> Option<Head>
         return None;
     }
     match packet_head(packet) {
-        Ok(head) => forwardable(&head.group).then_some(head),
+        Ok(head) => {
+            if forwardable(&head.group) {
+                Some(head)
+            } else {
+                None
+            }
+        }
         Err(_) => None,
     }
 }

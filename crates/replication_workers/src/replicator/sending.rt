@@ -1,10 +1,8 @@
 //! One message to many endpoints. It must not know who wants it.
-ghost use Rattle.std.specs.Prelude.{◌≡◌, ◌≤◌, ◌∷◌, ◌+◌, List, length, map, vec_capacity};
-ghost use Rattle.amt_values.specs.declared.peer.Peer.{Peer as PeerValue};
+ghost use Rattle.std.specs.Prelude.{◌≡◌, ◌≤◌, ◌∷◌, ◌+◌, length, map, vec_capacity};
 ghost use Rattle.amt_messages.specs.Layout.{spelling_of};
 ghost use Rattle.amt_messages.specs.declared.message.Message.TheVariants.{Multicast};
-ghost use Rattle.relay_machine.specs.Packets.{copies};
-ghost use Rattle.replication_workers.specs.Replication.{HasTried, to_peer};
+ghost use Rattle.replication_workers.specs.Replication.{HasTried, with_message};
 
 use crate::out_link::OutLink;
 use amt_values::Endpoint;
@@ -19,22 +17,23 @@ pub struct SendCounts {
 pub fn write_message(packet: &[u8], message: &mut Vec<u8>)
     requires { length packet.now + 2 ≤ vec_capacity message.old }
     ensures message { message.new.items ≡ spelling_of (Multicast packet.now) }
-    ensures room { vec_capacity message.new ≡ vec_capacity message.old }
+    ensures room { vec_capacity message.old ≤ vec_capacity message.new }
 {
     message.clear();
     message.push_reserved(6);
     message.push_reserved(0);
-    for octet in packet {
-        message.push_reserved(*octet);
+    match message.extend_from_slice(packet) {
+        Ok(()) => {}
+        // There is room for it.
+        Err(_) => unreachable!(),
     }
 }
 
 /// Tries to send the message to each endpoint, in order: those after a failed send too.
 pub fn send_all<O: OutLink>(out: &mut O, targets: &[Endpoint], message: &[u8]) -> SendCounts
     requires { length targets.now ≤ 16777216 }
-    ensures { (packet : List ℕ) → message.now ≡ spelling_of (Multicast packet)
-        → HasTried (O.tried out.old) (O.tried out.new) (O.faults out.old) (O.faults out.new)
-        (map to_peer (copies targets.now packet)) result.sent result.unsent }
+    ensures { HasTried (O.tried out.old) (O.tried out.new) (O.faults out.old) (O.faults out.new)
+        (map (with_message message.now) targets.now) result.sent result.unsent }
 {
     let mut counts = SendCounts { sent: 0, unsent: 0 };
     for to in targets {
