@@ -57,5 +57,5 @@ pub adds_moves : (before : List Past) (log : Past) (old : ℕ) → length before
     → Moves IsKept shown moved 0 (before, (no_nib, None)) (λ n. either (n == old) (old + 1) n) (Adds (step 0 old (old + 1) log) (before, (no_nib, None)))
 adds_moves before log old counted begins cells logs kept is away =
     let P : List Cell → Type 0 = λ known. (0 < length known) × ((cell known 0).1 ≡ true)
-        × Goes IsKept shown moved 0 (before, (no_nib, None)) (λ n. either (n == old) (old + 1) n) (Adds (step 0 old (old + 1) log) (before, (no_nib, None))) known logs in
+    × Goes IsKept shown moved 0 (before, (no_nib, None)) (λ n. either (n == old) (old + 1) n) (Adds (step 0 old (old + 1) log) (before, (no_nib, None))) known logs in
     subst P (sym kept.words) (omega arith, refl, adds_goes logs before log old counted begins kept.longest kept.begins is (length logs == old) refl)

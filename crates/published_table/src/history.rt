@@ -130,13 +130,9 @@ impl History {
         let mut seen = self.bookmark.seen.again();
         let mut offer: Offer<Past, u64, OneLog, Nothing> = seen.plain::<Nothing, Past, Add>(log);
         let mut pen = seen.no_pen();
-        let found = self.head.compare_exchange::<Add, Nothing>(
-            count,
-            count + 1,
-            &mut seen,
-            &mut offer,
-            &mut pen,
-        );
+        let found = self
+            .head
+            .compare_exchange::<Add, Nothing>(count, count + 1, &mut seen, &mut offer, &mut pen);
         // No one else has the word, but no clause says so.
         if found != count {
             return Err(AllocError);

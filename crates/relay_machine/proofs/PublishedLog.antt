@@ -172,8 +172,8 @@ timely-with : (log : List Change) (entry : Option Change) (moment : ℕ) → lat
 timely-with log None moment same clears timely = timely
 timely-with log (Some change) moment same clears timely = λ before after endpoint at cut.
     ⊎_elim (λ (here : (log ≡ before) × (change ≡ Clear endpoint at)).
-      let made = clears endpoint at (ap (λ (one : Change). Some one) here.1) in
-      let there = ap latest here.0 in omega (arith, made, same, there))
+    let made = clears endpoint at (ap (λ (one : Change). Some one) here.1) in
+    let there = ap latest here.0 in omega (arith, made, same, there))
     (λ (there : IsCutBefore log before (Clear endpoint at)). timely before there.0 endpoint at there.1)
     (cut_last log before after change (Clear endpoint at) cut)
 

@@ -1,5 +1,5 @@
 //! A link in memory, for tests and callers. It must not know the real devices.
-ghost use Rattle.std.specs.Prelude.{◌≡◌, [], ◌∷◌, ◌++◌, Some, OnOk, OnErr};
+ghost use Rattle.std.specs.Prelude.{◌≡◌, ◌≤◌, [], ◌∷◌, ◌++◌, Some, OnOk, OnErr};
 ghost use Rattle.amt_ports.specs.Causes.{HasCause, next_count};
 ghost use Rattle.replication_workers.specs.MemOut.{tried_by};
 ghost use Rattle.replication_workers.specs.Sends.{Appends, tried_send};
@@ -87,6 +87,7 @@ impl MemOut {
     // Each failed call goes through here, so that none is answered and not counted.
     fn fail(&mut self) -> Failed
         ensures faults { self.new.faults ≡ next_count self.old.faults }
+        ensures later { self.old.faults ≤ self.new.faults }
         ensures tried { tried_by self.new ≡ tried_by self.old }
     {
         self.faults = self.faults.saturating_add(1);

@@ -71,4 +71,26 @@ impl<O: OutLink> Replicator<O> {
             packet_limit,
         })
     }
+
+    /// The link that it sends to.
+    pub fn out(&self) -> &O
+        ensures { result.now ≡ self.now.out }
+    {
+        &self.out
+    }
+
+    /// Its view and its link, once nothing more is to be sent.
+    pub fn into_parts(self) -> (View, O)
+        ensures view { result.0 ≡ self.view }
+        ensures out { result.1 ≡ self.out }
+    {
+        let Replicator {
+            view,
+            out,
+            targets: _targets,
+            message: _message,
+            packet_limit: _,
+        } = self;
+        (view, out)
+    }
 }
