@@ -31,7 +31,7 @@ pub fn write_message(packet: &[u8], message: &mut Vec<u8>)
 
 /// Tries to send the message to each endpoint, in order: those after a failed send too.
 pub fn send_all<O: OutLink>(out: &mut O, targets: &[Endpoint], message: &[u8]) -> SendCounts
-    requires { length targets.now ≤ 16777216 }
+    requires { length targets.now ≤ 4294967295 }
     ensures { HasTried (O.tried out.old) (O.tried out.new) (O.faults out.old) (O.faults out.new)
         (map (with_message message.now) targets.now) result.sent result.unsent }
 {
