@@ -1,12 +1,14 @@
 //! How a packet is copied. It must not know how a datagram is sent.
-ghost use Rattle.std.specs.Prelude.{◌≡◌, ◌≤◌, ◌∷◌, Ok, length, MatchOption, IsErr, IfSome, map};
+ghost use Rattle.std.specs.Prelude.{◌≡◌, ◌≤◌, [], ◌∷◌, Ok, length, MatchOption, IsErr, IfSome, map};
+ghost use Rattle.amt_messages.specs.Layout.{spelling_of};
+ghost use Rattle.amt_messages.specs.declared.message.Message.TheVariants.{Multicast};
 ghost use Rattle.endpoint_membership.specs.Targets.{targets_of};
 ghost use Rattle.inner_datagrams.specs.declared.head.Head.{Head as HeadValue};
 ghost use Rattle.published_table.specs.Lists.{BeginsWith, BeginsWithEach};
 ghost use Rattle.published_table.specs.Terms.{settings_by};
 ghost use Rattle.published_table.specs.Views.{IsSameView, named, note_publisher, publisher_of, seen, terms_of, told};
 ghost use Rattle.relay_machine.specs.Packets.{head_to_copy};
-ghost use Rattle.replication_workers.specs.Replication.{HasTried, copies_by, to_peer};
+ghost use Rattle.replication_workers.specs.Replication.{HasTried, copies_by, to_peer, with_message};
 
 use super::Replicator;
 use super::sending::{SendCounts, send_all, write_message};
@@ -22,8 +24,9 @@ use std::sync::Wait;
 // group is forwarded.
 fn head_of_copied(limit: u32, packet: &[u8]) -> Option<Head>
     requires { length packet.now ≤ 65535 }
-    ensures { MatchOption result (IsErr (head_to_copy limit packet.now))
+    ensures head { MatchOption result (IsErr (head_to_copy limit packet.now))
         (λ head. head_to_copy limit packet.now ≡ Ok head) }
+    ensures size { IfSome result (λ head. length packet.now ≤ limit) }
 {
     if packet.len() > limit as usize {
         return None;
@@ -82,6 +85,63 @@ fn find_targets<R: Wait>(
 }
 
 impl<O: OutLink> Replicator<O> {
+    // Sends the packet as a message to the targets. Where there are none no message is written.
+    fn send_to_targets(&mut self, packet: &[u8]) -> SendCounts
+        requires { length packet.now ≤ self.old.packet_limit }
+        ensures view { self.new.view ≡ self.old.view }
+        ensures sends { HasTried (O.tried self.old.out) (O.tried self.new.out) (O.faults self.old.out) (O.faults self.new.out)
+            (map (with_message (spelling_of (Multicast packet.now))) self.old.targets.endpoints) result.sent result.unsent }
+        ensures limit { self.new.packet_limit ≡ self.old.packet_limit }
+    {
+        if self.targets.len() == 0 {
+            return SendCounts { sent: 0, unsent: 0 };
+        }
+        write_message(packet, &mut self.message);
+        send_all(
+            &mut self.out,
+            self.targets.as_slice(),
+            self.message.as_slice(),
+        )
+    }
+
+    // Finds who wants the packet with this head, and sends it to them.
+    fn copy_to_targets<R: Wait>(&mut self, rt: &R, head: &Head, at: &Moment, packet: &[u8]) -> Copied
+        requires size { length packet.now ≤ self.old.packet_limit }
+        requires copied { head_to_copy self.old.packet_limit packet.now ≡ Ok head.now }
+        ensures view { IsSameView self.old.view self.new.view }
+        ensures further { BeginsWith (seen self.new.view) (seen self.old.view) }
+        ensures told { BeginsWithEach (seen self.new.view) (told self.old.view) }
+        ensures prefix { result.prefix ≡ length (seen self.new.view) }
+        ensures sends { HasTried (O.tried self.old.out) (O.tried self.new.out) (O.faults self.old.out) (O.faults self.new.out)
+            (map to_peer (copies_by (settings_by (terms_of self.old.view)) self.old.packet_limit (seen self.new.view) at.now packet.now))
+            result.sent result.unsent }
+        ensures limit { self.new.packet_limit ≡ self.old.packet_limit }
+    {
+        let prefix = find_targets(rt, &mut self.view, head, at, &mut self.targets);
+        let SendCounts { sent, unsent } = self.send_to_targets(packet);
+        Copied {
+            prefix,
+            sent,
+            unsent,
+        }
+    }
+
+    // Brings the view up to date for a packet that isn't copied.
+    fn copy_to_none<R: Wait>(&mut self, rt: &R) -> Copied
+        ensures view { IsSameView self.old.view self.new.view }
+        ensures further { BeginsWith (seen self.new.view) (seen self.old.view) }
+        ensures told { BeginsWithEach (seen self.new.view) (told self.old.view) }
+        ensures prefix { result.prefix ≡ length (seen self.new.view) }
+        ensures sends { HasTried (O.tried self.old.out) (O.tried self.new.out) (O.faults self.old.out) (O.faults self.new.out) [] result.sent result.unsent }
+        ensures limit { self.new.packet_limit ≡ self.old.packet_limit }
+    {
+        Copied {
+            prefix: read_length(rt, &mut self.view),
+            sent: 0,
+            unsent: 0,
+        }
+    }
+
     /// Sends the packet to each endpoint that wants it, in order, as one Multicast Data message each (RFC
     /// 7450, section 5.3.3.2). Who wants it is found by a log that begins with the note's. An endpoint to
     /// which the send fails is not tried again; the others are tried all the same.
@@ -100,24 +160,9 @@ impl<O: OutLink> Replicator<O> {
     {
         let Job { packet, at, note } = job;
         self.view.learn(note);
-        let Some(head) = head_of_copied(self.packet_limit, packet.as_slice()) else {
-            return Copied {
-                prefix: read_length(rt, &mut self.view),
-                sent: 0,
-                unsent: 0,
-            };
-        };
-        let prefix = find_targets(rt, &mut self.view, &head, &at, &mut self.targets);
-        write_message(packet.as_slice(), &mut self.message);
-        let SendCounts { sent, unsent } = send_all(
-            &mut self.out,
-            self.targets.as_slice(),
-            self.message.as_slice(),
-        );
-        Copied {
-            prefix,
-            sent,
-            unsent,
+        match head_of_copied(self.packet_limit, packet.as_slice()) {
+            Some(head) => self.copy_to_targets(rt, &head, &at, packet.as_slice()),
+            None => self.copy_to_none(rt),
         }
     }
 }
