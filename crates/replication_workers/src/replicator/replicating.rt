@@ -142,6 +142,24 @@ impl<O: OutLink> Replicator<O> {
         }
     }
 
+    // Copies the packet by the view as it stands.
+    fn copy<R: Wait>(&mut self, rt: &R, at: &Moment, packet: &[u8]) -> Copied
+        requires { length packet.now ≤ 65535 }
+        ensures view { IsSameView self.old.view self.new.view }
+        ensures further { BeginsWith (seen self.new.view) (seen self.old.view) }
+        ensures told { BeginsWithEach (seen self.new.view) (told self.old.view) }
+        ensures prefix { result.prefix ≡ length (seen self.new.view) }
+        ensures sends { HasTried (O.tried self.old.out) (O.tried self.new.out) (O.faults self.old.out) (O.faults self.new.out)
+            (map to_peer (copies_by (settings_by (terms_of self.old.view)) self.old.packet_limit (seen self.new.view) at.now packet.now))
+            result.sent result.unsent }
+        ensures limit { self.new.packet_limit ≡ self.old.packet_limit }
+    {
+        let Some(head) = head_of_copied(self.packet_limit, packet) else {
+            return self.copy_to_none(rt);
+        };
+        self.copy_to_targets(rt, &head, at, packet)
+    }
+
     /// Sends the packet to each endpoint that wants it, in order, as one Multicast Data message each (RFC
     /// 7450, section 5.3.3.2). Who wants it is found by a log that begins with the note's. An endpoint to
     /// which the send fails is not tried again; the others are tried all the same.
@@ -160,9 +178,6 @@ impl<O: OutLink> Replicator<O> {
     {
         let Job { packet, at, note } = job;
         self.view.learn(note);
-        match head_of_copied(self.packet_limit, packet.as_slice()) {
-            Some(head) => self.copy_to_targets(rt, &head, &at, packet.as_slice()),
-            None => self.copy_to_none(rt),
-        }
+        self.copy(rt, &at, packet.as_slice())
     }
 }
