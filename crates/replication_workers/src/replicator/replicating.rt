@@ -17,7 +17,7 @@ use crate::out_link::OutLink;
 use amt_values::{Moment, forwardable};
 use endpoint_membership::Targets;
 use inner_datagrams::{Head, packet_head};
-use published_table::View;
+use published_table::{Note, View};
 use std::sync::Wait;
 
 // The source and the group of a packet that is copied: it isn't too long, and begins with a head whose
@@ -160,6 +160,19 @@ impl<O: OutLink> Replicator<O> {
         self.copy_to_targets(rt, &head, at, packet)
     }
 
+    // Learns the note's log; all else stays.
+    fn learn(&mut self, note: Note)
+        requires { note_publisher note ≡ publisher_of self.old.view }
+        ensures seen { seen self.new.view ≡ seen self.old.view }
+        ensures told { told self.new.view ≡ named note ∷ told self.old.view }
+        ensures publisher { publisher_of self.new.view ≡ publisher_of self.old.view }
+        ensures terms { terms_of self.new.view ≡ terms_of self.old.view }
+        ensures out { self.new.out ≡ self.old.out }
+        ensures limit { self.new.packet_limit ≡ self.old.packet_limit }
+    {
+        self.view.learn(note);
+    }
+
     /// Sends the packet to each endpoint that wants it, in order, as one Multicast Data message each (RFC
     /// 7450, section 5.3.3.2). Who wants it is found by a log that begins with the note's. An endpoint to
     /// which the send fails is not tried again; the others are tried all the same.
@@ -177,7 +190,7 @@ impl<O: OutLink> Replicator<O> {
         ensures limit { self.new.packet_limit ≡ self.old.packet_limit }
     {
         let Job { packet, at, note } = job;
-        self.view.learn(note);
+        self.learn(note);
         self.copy(rt, &at, packet.as_slice())
     }
 }
