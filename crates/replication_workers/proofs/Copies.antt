@@ -9,9 +9,8 @@ use Rattle.endpoint_membership.specs.Table.{TableSettings}
 use Rattle.endpoint_membership.specs.Targets.{targets_of}
 use Rattle.endpoint_membership.specs.declared.change.Change.{Change}
 use Rattle.relay_machine.specs.EventAnswer.{packet_answer}
-use Rattle.relay_machine.specs.Packets.{copies, head_to_copy, targets_at}
+use Rattle.relay_machine.specs.Packets.{head_to_copy, targets_at}
 use Rattle.relay_machine.specs.declared.outcome.Outcome.{Outcome}
-use Rattle.relay_machine.specs.declared.sends.OneSend.{OneSend}
 use Rattle.published_table.specs.Terms.{settings_by}
 use Rattle.published_table.specs.declared.terms.Terms.{Terms}
 use Rattle.std.specs.Prelude.{Option}

@@ -1,18 +1,14 @@
 -- What was tried so far, and one send more.
-use Rattle.std.proofs.Common.{◌≡◌, ℕ, ◌+◌, ◌<◌, ◌≤◌, ◌^◌, ◌-◌, min, Bool, true, false, cond, not, List, [], ◌∷◌, ◌++◌, map, refl, sym, ap, subst, ◌∙◌, arith}
-use Rattle.std.specs.Prelude.{Option, Some, None, Result, Ok, Err, is_ok}
-use Rattle.std.specs.List.{count_by, sum_by}
-use Rattle.std.proofs.lemmas.List.{append-nil, append_assoc, map-append}
+use Rattle.std.proofs.Common.{◌≡◌, ℕ, ◌+◌, ◌≤◌, true, false, cond, not, List, [], ◌∷◌, ◌++◌, refl, sym, ap, subst, ◌∙◌, arith}
+use Rattle.std.specs.Prelude.{Option, Some, None, Result, is_ok}
+use Rattle.std.specs.List.{sum_by}
+use Rattle.std.proofs.lemmas.List.{append_assoc, map-append}
 use Rattle.std.proofs.lemmas.List.Sums.{sum_by-append}
 use Rattle.amt_ports.specs.Causes.{Rose}
 use Rattle.amt_ports.specs.declared.fault.Failed.{Failed}
 use Rattle.amt_values.specs.declared.peer.Peer.{Peer}
 use Rattle.replication_workers.specs.Replication.{HasRisen, HasTried}
-use Rattle.replication_workers.specs.Sends.{Appends, AppendsAll, TriedSend, datagram_of, sent_count, tried_send, unsent_count}
-
-AppendsAll-none : (told : Option (List TriedSend)) → AppendsAll told told []
-AppendsAll-none None = tt
-AppendsAll-none (Some sends) = (sends, refl, sym (append-nil sends))
+use Rattle.replication_workers.specs.Sends.{Appends, AppendsAll, TriedSend, datagram_of, tried_send}
 
 AppendsAll-then : (before now after : Option (List TriedSend)) (sends more : List TriedSend) → AppendsAll before now sends → AppendsAll now after more → AppendsAll before after (sends ++ more)
 AppendsAll-then before now None sends more first second = tt
@@ -20,19 +16,6 @@ AppendsAll-then before now (Some all) sends more first second =
     let earlier = second.0 in
     let known = subst (λ (one : Option (List TriedSend)). AppendsAll before one sends) second.1 first in
     (known.0, known.1, second.2 ∙ ap (λ (list : List TriedSend). list ++ more) known.2 ∙ append_assoc known.0 sends more)
-
--- nothing was tried
-pub HasTried-none : (told : Option (List TriedSend)) (faults : ℕ) → HasTried told told faults faults [] 0 0
-HasTried-none told faults = record {
-  sends = [];
-  exactly = refl;
-  appended = AppendsAll-none told;
-  sent_is = refl;
-  unsent_is = refl;
-  later = omega arith;
-  cause = λ some. absurd (omega (arith, some));
-  quiet = λ none. refl;
-}
 
 -- one more datagram that the device took
 pub HasTried-sent : (before now after : Option (List TriedSend)) (first middle last : ℕ) (wanted : List (Peer × List ℕ)) (sent unsent : ℕ) (to : Peer) (bytes : List ℕ) (result : Result (Unit {0}) Failed)

@@ -1,4 +1,4 @@
-use Rattle.std.proofs.Common.{◌≡◌, ℕ, List, map, refl, sym, ap, subst, ◌∙◌}
+use Rattle.std.proofs.Common.{ℕ, List, refl, sym, ap, subst, ◌∙◌}
 use Rattle.amt_values.specs.declared.peer.Peer.{Peer}
 use Rattle.amt_messages.specs.Layout.{spelling_of}
 use Rattle.amt_messages.specs.declared.message.Message.TheVariants.{Multicast}

@@ -1,6 +1,4 @@
-use Rattle.std.proofs.Common.{◌≡◌, ◌+◌, map, take, sym, ap, subst, ◌∙◌, arith}
-use Rattle.replication_workers.specs.Replication.{HasTried, with_message}
-use Rattle.replication_workers.specs.declared.replicator.sending.SendCounts.{SendCounts}
+use Rattle.std.proofs.Common.{arith}
 use Rattle.replication_workers.proofs.Sending.{one_failed, one_sent}
 use Rattle.replication_workers.proofs.replicator.sending.send_all.Goals.{in-Err, in-Ok}
 use Rattle.replication_workers.proofs.replicator.sending.send_all.Goals as goal
