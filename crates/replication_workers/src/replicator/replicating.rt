@@ -105,7 +105,13 @@ impl<O: OutLink> Replicator<O> {
     }
 
     // Finds who wants the packet with this head, and sends it to them.
-    fn copy_to_targets<R: Wait>(&mut self, rt: &R, head: &Head, at: &Moment, packet: &[u8]) -> Copied
+    fn copy_to_targets<R: Wait>(
+        &mut self,
+        rt: &R,
+        head: &Head,
+        at: &Moment,
+        packet: &[u8],
+    ) -> Copied
         requires size { length packet.now ≤ self.old.packet_limit }
         requires copied { head_to_copy self.old.packet_limit packet.now ≡ Ok head.now }
         ensures view { IsSameView self.old.view self.new.view }

@@ -19,7 +19,7 @@ returns-clause-sends g c =
     let sent = c.send_to_targets-sent.result in
     let terms = terms_of before.view in
     let are = found.ensures.targets
-        ∙ ap (λ (view : View). targets_of terms.lifetime_ms (seen view) head.group head.source c.args.at.now) (sym c.send_to_targets-sent.ensures.view) in
+    ∙ ap (λ (view : View). targets_of terms.lifetime_ms (seen view) head.group head.source c.args.at.now) (sym c.send_to_targets-sent.ensures.view) in
     subst (λ (wanted : List (Peer × List ℕ)). HasTried (g.O.OutLink.tried before.out) (g.O.OutLink.tried after.out) (g.O.OutLink.faults before.out) (g.O.OutLink.faults after.out) wanted sent.sent sent.unsent)
     (copies_sent (settings_by terms) before.packet_limit (seen after.view) c.args.at.now c.args.packet.now head found.new.targets.endpoints (spelling_of (Multicast c.args.packet.now)) c.requires.copied are refl)
     c.send_to_targets-sent.ensures.sends
