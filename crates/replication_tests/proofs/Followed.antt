@@ -28,3 +28,12 @@ Follows-same table before after same log follows = record {
 
 pub one_longer : (before after : List Change) (change : Change) → after ≡ before ++ change ∷ [] → length after ≤ length before + 1
 one_longer before after change is = omega (arith, ap length is, length-append before (change ∷ []))
+
+-- the table with one entry more, and the publisher that took it
+pub Follows-taken : (table : TableValue) (before after : Publisher) (change : Change) → IsSamePublisher before after → published after ≡ published before → owing after ≡ owing before ++ change ∷ []
+    → Holds (settings_by (reading_terms before)) table (whole_log before ++ change ∷ []) → IsWithinLimits table → Follows table after
+Follows-taken table before after change same shown more stands within = record {
+  stands = subst (λ (terms : Terms). Holds (settings_by terms) table (whole_log after)) (sym same.terms)
+      (subst (Holds (settings_by (reading_terms before)) table) (sym (whole_log-taken before after change shown more)) stands);
+  within = within;
+}
