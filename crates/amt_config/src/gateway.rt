@@ -18,17 +18,16 @@ use crate::key::FileKey;
 use crate::numbers::number_at;
 use crate::table::{TableKind, check_keys, read_table};
 use crate::texts::{address_of, family_at, peer_at, peer_or_none};
-use amt_values::{Ip, Peer};
+use amt_values::{AMT_PORT, Ip, Peer};
 use group_records::Family;
 use relay_machine::NumberRange;
 use std::alloc::Global;
 use toml::Table;
 
-// AMT's own port is the default (RFC 7450, section 7.2).
 const PORT: NumberRange = NumberRange {
     least: 0,
     most: 65_535,
-    default: 2268,
+    default: AMT_PORT as u32,
 };
 
 // The values of all keys but that of the joins.
@@ -124,8 +123,8 @@ fn read_file(alloc: Global, bytes: &[u8]) -> Result<GatewayConfig, ConfigFault>
     }
 }
 
-/// The configuration that the octets of a gateway's settings file say. Octets say one configuration, or have one
-/// have two first faults, or one of each.
+/// The configuration that the octets of a gateway's settings file say, or their first fault. No octets say two
+/// configurations, or have two first faults, or one of each.
 pub fn gateway_settings(alloc: Global, bytes: &[u8]) -> Result<GatewayConfig, ConfigFault>
     ensures found { IfOk result (λ config. IsGatewayFile config bytes.now) }
     ensures only { (config : Config) → IsGatewayFile config bytes.now

@@ -1,10 +1,10 @@
 //! The settings file of a relay.
 
-ghost use Rattle.std.specs.Prelude.{◌≡◌, ◌≤◌, ◌<◌, ◌*◌, ◌↔◌, ◌⊎◌, [], ◌∷◌, IfOk, IfErr, IfNone, IfSome, IsTrue, IsFalse, Ok, Err};
+ghost use Rattle.std.specs.Prelude.{◌≡◌, ◌≤◌, ◌<◌, ◌*◌, ◌⊎◌, [], ◌∷◌, IfOk, IfErr, IfNone, IfSome, IsTrue, IsFalse, Ok, Err};
 ghost use Rattle.contract_words.specs.Conditions.{First};
 ghost use Rattle.relay_machine.specs.declared.number_key.NumberKey.{NumberKey as AnyNumber};
 ghost use Rattle.relay_machine.specs.declared.number_key.NumberKey.TheVariants.{Endpoints, QuerySeconds, ResponseTenths};
-ghost use Rattle.relay_machine.specs.Settings.{AreLawfulSettings, HasCode, IsInKeyRange, number_at as number_in};
+ghost use Rattle.relay_machine.specs.Settings.{AreLawfulSettings, IsInKeyRange, number_at as number_in};
 ghost use Rattle.amt_script.specs.Row.{number_word};
 ghost use Rattle.toml.specs.View.{table_view};
 ghost use Rattle.amt_config.specs.declared.config.RelayConfig.{RelayConfig as Config};
@@ -23,8 +23,7 @@ use crate::table::{TableKind, check_keys, read_table};
 use crate::texts::{address_at, address4_or, address6_or, peer_at};
 use amt_values::{Ip, Peer};
 use endpoint_membership::Limits;
-use igmp_records::value_code4;
-use relay_machine::{NumberKey, NumberRange, Settings};
+use relay_machine::{NumberKey, NumberRange, SOURCE_LIMIT, Settings, has_code};
 use std::alloc::Global;
 use toml::Table;
 
@@ -39,9 +38,6 @@ const WORKERS: NumberRange = NumberRange {
     most: 64,
     default: 4,
 };
-
-// The most sources that a relay keeps in all.
-const MOST_SOURCES: u32 = 16_777_216;
 
 // What a file must say.
 #[derive(Clone, Copy, Debug)]
@@ -123,13 +119,6 @@ fn read_values(table: &Table) -> Result<RelayConfig, BadKey>
     })
 }
 
-// Whether General Queries can carry the time, as a code (RFC 3376, sections 4.1.1 and 4.1.7).
-fn has_code(time: u32) -> bool
-    ensures { IsTrue result ↔ HasCode time }
-{
-    value_code4(time).is_some()
-}
-
 // Whether the limits allow more sources in all than a relay keeps.
 fn allows_too_many(config: &RelayConfig) -> bool
     requires endpoints { config.now.endpoints ≤ 65536 }
@@ -138,7 +127,7 @@ fn allows_too_many(config: &RelayConfig) -> bool
     ensures more { IsTrue result → 16777216 < config.now.endpoints * config.now.groups * config.now.sources }
     ensures within { IsFalse result → config.now.endpoints * config.now.groups * config.now.sources ≤ 16777216 }
 {
-    config.endpoints * config.groups * config.sources > MOST_SOURCES
+    config.endpoints * config.groups * config.sources > SOURCE_LIMIT
 }
 
 // The first number that a relay may not have beside the others, though it is in its own range.
@@ -195,8 +184,8 @@ fn read_file(alloc: Global, bytes: &[u8]) -> Result<RelayConfig, ConfigFault>
     }
 }
 
-/// The configuration that the octets of a relay's settings file say. Octets say one configuration, or have one
-/// have two first faults, or one of each.
+/// The configuration that the octets of a relay's settings file say, or their first fault. No octets say two
+/// configurations, or have two first faults, or one of each.
 pub fn relay_settings(alloc: Global, bytes: &[u8]) -> Result<RelayConfig, ConfigFault>
     ensures found { IfOk result (λ config. IsRelayFile config bytes.now) }
     ensures only { (config : Config) → IsRelayFile config bytes.now

@@ -11,15 +11,12 @@ use crate::event::PairEvent;
 use crate::gateways::{Gateways, NamedGateway};
 use crate::ranges::{pair_event_fits, peer_fits, settings_fit};
 use crate::step::{PairStep, Part, Parts};
-use amt_values::{Bytes, Ip, Moment, Peer};
+use amt_values::{AMT_PORT, Bytes, Ip, Moment, Peer};
 use endpoint_membership::Rows;
 use gateway_machine::{Gateway, GatewayEvent, GatewaySettings};
 use relay_machine::{Event, Relay, Settings};
 use response_mac::Secret;
 use std::alloc::{AllocError, Global};
-
-// The port of AMT (RFC 7450, section 7.2).
-const AMT_PORT: u16 = 2268;
 
 // The nonce of the first Discovery of each gateway.
 const FIRST_NONCE: u32 = 1;

@@ -25,7 +25,7 @@ use Rattle.endpoint_membership.proofs.AfterEntries.{same_back, same_endpoint-exa
 use Rattle.endpoint_membership.proofs.WithinLimits.{IsWithin-filter}
 
 -- by two logs the pair has the same membership from now on
-abbrev AreAlike : ℕ → EndpointGroup → List Change → List Change → Type 0
+abbrev pub AreAlike : ℕ → EndpointGroup → List Change → List Change → Type 0
 AreAlike lifetime endpoint_group one other =
     (latest one ≡ latest other) × ((moment : ℕ) → latest one ≤ moment → membership_at lifetime moment one endpoint_group ≡ membership_at lifetime moment other endpoint_group)
 
@@ -61,7 +61,7 @@ alike_now lifetime endpoint_group one other entry some alike same =
           ∙ sym (membership_at-other lifetime moment entry other endpoint_group (nothing_there (records_at endpoint_group entry) apart))
     ]
 
-alike_all : (lifetime : ℕ) (endpoint_group : EndpointGroup) (one other newer : List Change) → 0 < lifetime → AreAlike lifetime endpoint_group one other
+pub alike_all : (lifetime : ℕ) (endpoint_group : EndpointGroup) (one other newer : List Change) → 0 < lifetime → AreAlike lifetime endpoint_group one other
     → AreAlike lifetime endpoint_group (newer ++ one) (newer ++ other)
 alike_all lifetime endpoint_group one other [] some alike = alike
 alike_all lifetime endpoint_group one other (entry ∷ newer) some alike =
@@ -69,11 +69,11 @@ alike_all lifetime endpoint_group one other (entry ∷ newer) some alike =
     let same = ap (max (brought entry)) older.0 in
     alike_later lifetime endpoint_group (entry ∷ (newer ++ one)) (entry ∷ (newer ++ other)) same (alike_now lifetime endpoint_group (newer ++ one) (newer ++ other) entry some older same)
 
-abbrev at_group : EndpointValue → Ip → EndpointGroup
+abbrev pub at_group : EndpointValue → Ip → EndpointGroup
 at_group endpoint group = record { endpoint = endpoint; group = group }
 
 -- a clearing of nothing and a mark are alike
-alike_cleared : (lifetime : ℕ) (endpoint_group : EndpointGroup) (endpoint : EndpointValue) (at : ℕ) (past : List Change)
+pub alike_cleared : (lifetime : ℕ) (endpoint_group : EndpointGroup) (endpoint : EndpointValue) (at : ℕ) (past : List Change)
     → ((group : Ip) → membership_at lifetime (max at (latest past)) past (at_group endpoint group) ≡ None)
     → AreAlike lifetime endpoint_group (Clear endpoint at ∷ past) (Mark at ∷ past)
 alike_cleared lifetime endpoint_group endpoint at past none =
@@ -105,7 +105,7 @@ membership_at-unless_cleared lifetime log later endpoint at moment endpoint_grou
     ∙ sym (ap (λ (past : List Change). membership_at lifetime moment past endpoint_group) (reverse-around log later (Mark at)))
 
 -- an endpoint that isn't live has no membership
-unseen : (endpoint : EndpointValue) (group : Ip) (rows : List Membership) → is_live endpoint rows ≡ false → membership_in rows (at_group endpoint group) ≡ None
+pub unseen : (endpoint : EndpointValue) (group : Ip) (rows : List Membership) → is_live endpoint rows ≡ false → membership_in rows (at_group endpoint group) ≡ None
 unseen endpoint group [] none = refl
 unseen endpoint group (membership ∷ rest) none = elim (cases_Bool (same_endpoint membership.endpoint endpoint)) [
   | inl here ↦ let wrong = ap (λ (test : Bool). test || is_live endpoint rest) (sym here) ∙ none in absurd cc

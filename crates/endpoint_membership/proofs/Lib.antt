@@ -28,6 +28,7 @@ pub mod OneMembership
 pub mod OwnFilters
 pub mod PairsWalked
 pub mod PartOrders
+pub mod PublishedLog
 pub mod RenewedTogether
 pub mod ReplacedFilters
 pub mod ReportBounds

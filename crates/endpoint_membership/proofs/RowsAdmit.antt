@@ -15,7 +15,8 @@ use Rattle.endpoint_membership.proofs.FilterByRecords.{admits-filter_by_records,
 onward_is : (moment latest_one : ℕ) → latest_one ≤ moment → moment ≡ max moment latest_one
 onward_is moment latest_one onward = omega arith
 
-admits-membership_at : (lifetime : ℕ) (log : List Change) (endpoint_group : EndpointGroup) (source : Ip) (moment : ℕ) (found : Option Membership) → latest log ≤ moment
+-- what the membership lets in, and nothing where there is none
+pub admits-membership_at : (lifetime : ℕ) (log : List Change) (endpoint_group : EndpointGroup) (source : Ip) (moment : ℕ) (found : Option Membership) → latest log ≤ moment
     → membership_at lifetime moment (reverse log) endpoint_group ≡ found → admits (filter_in found) source ≡ is_admitted lifetime log endpoint_group source moment
 admits-membership_at lifetime log endpoint_group source moment found onward is =
     let past = reverse log in

@@ -9,6 +9,7 @@ pub mod Log
 pub mod Membership
 pub mod Memberships
 pub mod Parts
+pub mod Published
 pub mod Stored
 pub mod Table
 pub mod Targets

@@ -14,6 +14,7 @@ mod keys;
 mod laws;
 mod limits;
 mod parts;
+mod published;
 mod row;
 mod stored;
 mod table;
@@ -25,6 +26,10 @@ pub use laws::{
     rows_admit_by_the_newest_record, targets_are_those_that_want,
 };
 pub use limits::{AcceptFault, LimitFault, Limits};
+pub use published::{
+    clearings_of_none_may_be_left_out, published_logs_grow_with_accepted_ones,
+    published_logs_tell_what_accepted_ones_do,
+};
 pub use row::{Row, Rows};
 pub use table::Table;
 pub use targets::Targets;

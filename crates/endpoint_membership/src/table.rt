@@ -29,6 +29,8 @@ use source_filter::Records;
 use std::alloc::{AllocError, Global};
 use std::marker::Model;
 
+mod absorb;
+
 /// The memberships of each tunnel endpoint of a relay.
 ///
 /// A membership lasts from an accepted record by which something is wanted of its group until one

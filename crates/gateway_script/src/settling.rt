@@ -7,12 +7,9 @@ ghost use Rattle.gateway_script.specs.Settling.{Settles, discovery_in, family_gi
 
 use crate::kind::Key;
 use crate::setting::{Setting, setting_at};
-use amt_values::{Ip, Peer};
+use amt_values::{AMT_PORT, Ip, Peer};
 use gateway_machine::GatewaySettings;
 use group_records::Family;
-
-// AMT's own port (RFC 7450, section 7.2).
-const AMT_PORT: u16 = 2268;
 
 /// What a script sets.
 #[derive(Clone, Copy, Debug)]

@@ -30,7 +30,7 @@ fn reports_of(alloc: Global, excludes: bool) -> Result<Items<Bytes>, AllocError>
     Ok(reports)
 }
 
-/// Writes all of them.
+/// Writes every report.
 pub fn write_reports(alloc: Global) -> Result<Reports, AllocError>
     ensures { IfOk result AreReports }
 {

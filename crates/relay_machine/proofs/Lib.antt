@@ -6,6 +6,7 @@ pub mod Lawful
 pub mod Limits
 pub mod Numbers
 pub mod Onward
+pub mod PublishedLog
 pub mod QuerySizes
 pub mod Reports
 pub mod Times

@@ -49,13 +49,13 @@ use Rattle.relay_machine.specs.Settings.{table_settings_of}
 use Rattle.relay_machine.specs.State.{HasLog}
 use Rattle.relay_machine.specs.Updates.{forwardable_records, report_in}
 
-now_of-moment : (events : List Event) (moment : ℕ) → now_of (events ++ Moment moment ∷ []) ≡ max (now_of events) moment
+pub now_of-moment : (events : List Event) (moment : ℕ) → now_of (events ++ Moment moment ∷ []) ≡ max (now_of events) moment
 unfolding now_of
 now_of-moment events moment =
     ap (fold max 0) (filter_map-append moment_in events (Moment moment ∷ [])) ∙ fold-append max 0 (filter_map moment_in events) (moment ∷ [])
 
 -- an event that reports no moment leaves the moment
-now_of-other : (events : List Event) (event : Event) → filter_map moment_in (event ∷ []) ≡ [] → now_of (events ++ event ∷ []) ≡ now_of events
+pub now_of-other : (events : List Event) (event : Event) → filter_map moment_in (event ∷ []) ≡ [] → now_of (events ++ event ∷ []) ≡ now_of events
 unfolding now_of
 now_of-other events event none =
     ap (fold max 0) (filter_map-append moment_in events (event ∷ []) ∙ (ap (λ (reported : List ℕ). filter_map moment_in events ++ reported) none ∙ append-nil _))

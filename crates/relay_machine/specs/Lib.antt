@@ -7,6 +7,7 @@ pub mod Events
 pub mod Lawful
 pub mod Logs
 pub mod Packets
+pub mod Published
 pub mod Queries
 pub mod Reading
 pub mod Sends

@@ -9,6 +9,9 @@ use endpoint_membership::Limits;
 use igmp_records::value_code4;
 use mld_records::value_code6;
 
+/// The most sources that the limits may allow in all: endpoints by groups by sources.
+pub const SOURCE_LIMIT: u32 = 16_777_216;
+
 /// What a relay is set up with. [`NumberKey::range`] has the range and the default of each number.
 #[derive(Clone, Copy, Debug, PartialEq, Eq)]
 pub struct Settings {
@@ -143,7 +146,9 @@ impl Settings {
     }
 }
 
-fn has_code(time: u32) -> bool
+/// Whether General Queries can carry the time, as a code, which not every number has (RFC 3376, sections
+/// 4.1.1 and 4.1.7).
+pub fn has_code(time: u32) -> bool
     ensures { IsTrue result ↔ HasCode time }
 {
     value_code4(time).is_some()
@@ -162,5 +167,5 @@ fn has_lawful_product(limits: &Limits) -> bool
     ensures { IsTrue result
         ↔ (limits.now.endpoints * limits.now.groups * limits.now.sources ≤ 16777216) }
 {
-    limits.endpoints * limits.groups * limits.sources <= 16_777_216
+    limits.endpoints * limits.groups * limits.sources <= SOURCE_LIMIT
 }

@@ -1,0 +1,29 @@
+-- Logs that fit throughout, and the copies that stand for them.
+use Rattle.std.proofs.Common.{◌≡◌, ℕ, ◌≤◌, List, [], ◌∷◌, ◌++◌, length, take, refl, sym, subst, ◌∙◌, inl, inr, arith}
+use Rattle.std.specs.Prelude.{Option, Some, None, OnSome}
+use Rattle.std.proofs.Math.Logic.{∥∥₁_elim}
+use Rattle.std.proofs.Math.Seq.{take-length}
+use Rattle.std.proofs.Props.{props}
+use Rattle.endpoint_membership.specs.Limits.{IsWithin, live_count}
+use Rattle.endpoint_membership.specs.Membership.{Membership}
+use Rattle.endpoint_membership.specs.declared.change.Change.{Change}
+use Rattle.endpoint_membership.proofs.HoldsAfter.{rows_now}
+use Rattle.published_table.specs.Copies.{log_of}
+use Rattle.published_table.specs.Terms.{Fits, FitsThroughout, settings_by}
+use Rattle.published_table.specs.declared.table_copy.TableCopy.{TableCopy}
+use Rattle.published_table.specs.declared.terms.Terms.{Terms}
+use Rattle.published_table.proofs.Beginnings.{take_last}
+
+-- one more entry with which the log fits
+pub FitsThroughout-next : (terms : Terms) (log : List Change) (change : Change) → FitsThroughout terms log → Fits terms (log ++ change ∷ []) → FitsThroughout terms (log ++ change ∷ [])
+FitsThroughout-next terms log change fits more number = elim (take_last number log change) [
+  | inl same ↦ subst (Fits terms) (sym same) (fits number)
+  | inr whole ↦ subst (Fits terms) (sym whole) more
+]
+
+-- what a copy keeps is within the limits
+pub endpoints_fit : (copy : TableCopy) → FitsThroughout copy.terms (log_of copy) → live_count copy.table.rows ≤ copy.terms.limits.endpoints
+endpoints_fit copy fits =
+    let log = log_of copy in
+    let all : Fits copy.terms log = subst (Fits copy.terms) (take-length log) (fits (length log)) in
+    ∥∥₁_elim copy.stands (hlevel props) (λ holds. (subst (IsWithin copy.terms.limits) (sym (rows_now (settings_by copy.terms) copy.table log holds)) all).endpoints)

@@ -1,0 +1,49 @@
+use Rattle.std.proofs.Common.{◌≡◌, ℕ, ◌≤◌, ◌<◌, ◌^◌, List, length, sym, ap, subst, ◌∙◌, arith}
+use Rattle.left_right.specs.Sides.{view}
+use Rattle.logbook.specs.Pages.{Book}
+use Rattle.endpoint_membership.specs.Limits.{live_count}
+use Rattle.endpoint_membership.specs.declared.change.Change.{Change}
+use Rattle.published_table.specs.Copies.{log_of, origin_of}
+use Rattle.published_table.specs.Lists.{AreAll, BeginsWith, BeginsWithEach}
+use Rattle.published_table.specs.Logs.{entries}
+use Rattle.published_table.specs.Terms.{FitsThroughout}
+use Rattle.published_table.specs.Told.{logs_told}
+use Rattle.published_table.specs.declared.past.Past.{Past}
+use Rattle.published_table.specs.declared.table_copy.TableCopy.{TableCopy}
+use Rattle.published_table.specs.declared.terms.Terms.{Terms}
+use Rattle.published_table.proofs.Beginnings.{begins_further}
+use Rattle.published_table.proofs.Cases.{OnSome-less}
+use Rattle.published_table.proofs.CopiesFit.{endpoints_fit}
+use Rattle.published_table.proofs.RuleKept.{looks}
+use Rattle.published_table.proofs.view.reading.look.Goals as goal
+
+pub enter-requires : goal.enter-requires
+enter-requires c = looks _ _
+
+pub fill-requires : goal.fill-requires
+fill-requires c =
+    let reader = c.args.view.reader in
+    let copy = c.in-Ok.inside.reading.part.value in
+    let seen = c.in-Ok.ensures.2 in
+    let fits = subst (FitsThroughout copy.terms) seen.seen seen.fits in
+    let origin = (subst (AreAll (origin_of copy)) reader.same seen.same).0 in
+    let within : live_count copy.table.rows ≤ reader.terms.limits.endpoints =
+    subst (λ (one : Book × Terms). live_count copy.table.rows ≤ one.1.limits.endpoints) origin (endpoints_fit copy fits) in
+    record { room = OnSome-less c.args.wanted _ reader.terms.limits.endpoints c.args.view.targets.room c.requires.room (subst (λ (one : TableCopy). live_count one.table.rows ≤ reader.terms.limits.endpoints) (sym c.get-copy.ensures) within) }
+
+pub returns-clause-number : goal.returns-clause-number
+returns-clause-number c =
+    let reader = c.args.view.reader in
+    let copy = c.in-Ok.inside.reading.part.value in
+    let seen = c.in-Ok.ensures.2 in
+    let past : c.of-log.result.value ≡ copy.past = c.of-log.ensures ∙ (λ i. (c.get-copy.ensures i).past) in
+    let log : entries c.of-log.result.value ≡ log_of copy = ap entries past in
+    let known : List Change = (view reader.door.reader.place).seen in
+    let further = begins_further (log_of copy) known (entries reader.log.value) (subst (λ (one : List Change). BeginsWith one known) seen.seen seen.begins) reader.behind in
+    let short : length (log_of copy) < 2 ^ 62 = subst (λ (one : List Change). length one < 2 ^ 62) seen.seen seen.short in
+    let counted : copy.count ≡ length (log_of copy) = omega (arith, copy.counted, short) in record {
+      further = subst (λ (one : List Change). BeginsWith one (entries reader.log.value)) (sym log) further;
+      each_told = subst (λ (one : Past). BeginsWithEach (entries one) (logs_told reader.told)) (sym c.of-log.ensures) c.compare.ensures;
+      counted = (λ i. (c.get-copy.ensures i).count) ∙ counted ∙ ap length (sym log);
+      same_handed = c.leave.ensures.handed ∙ c.in-Ok.ensures.0;
+    }

@@ -1,0 +1,10 @@
+pub mod Copies
+pub mod Entries
+pub mod History
+pub mod Lists
+pub mod Logs
+pub mod Publishers
+pub mod Rule
+pub mod Terms
+pub mod Told
+pub mod Views

@@ -1,0 +1,60 @@
+-- What was tried so far, and one send more.
+use Rattle.std.proofs.Common.{◌≡◌, ℕ, ◌+◌, ◌≤◌, true, false, cond, not, List, [], ◌∷◌, ◌++◌, refl, sym, ap, subst, ◌∙◌, arith}
+use Rattle.std.specs.Prelude.{Option, Some, None, Result, is_ok}
+use Rattle.std.specs.List.{sum_by}
+use Rattle.std.proofs.lemmas.List.{append_assoc, map-append}
+use Rattle.std.proofs.lemmas.List.Sums.{sum_by-append}
+use Rattle.amt_ports.specs.Causes.{Rose}
+use Rattle.amt_ports.specs.declared.fault.Failed.{Failed}
+use Rattle.amt_values.specs.declared.peer.Peer.{Peer}
+use Rattle.replication_workers.specs.Replication.{HasRisen, HasTried}
+use Rattle.replication_workers.specs.Sends.{Appends, AppendsAll, TriedSend, datagram_of, tried_send}
+
+AppendsAll-then : (before now after : Option (List TriedSend)) (sends more : List TriedSend) → AppendsAll before now sends → AppendsAll now after more → AppendsAll before after (sends ++ more)
+AppendsAll-then before now None sends more first second = tt
+AppendsAll-then before now (Some all) sends more first second =
+    let earlier = second.0 in
+    let known = subst (λ (one : Option (List TriedSend)). AppendsAll before one sends) second.1 first in
+    (known.0, known.1, second.2 ∙ ap (λ (list : List TriedSend). list ++ more) known.2 ∙ append_assoc known.0 sends more)
+
+-- one more datagram that the device took
+pub HasTried-sent : (before now after : Option (List TriedSend)) (first middle last : ℕ) (wanted : List (Peer × List ℕ)) (sent unsent : ℕ) (to : Peer) (bytes : List ℕ) (result : Result (Unit {0}) Failed)
+    → is_ok result ≡ true → HasTried before now first middle wanted sent unsent → Appends now after (tried_send to bytes result) → last ≡ middle
+    → HasTried before after first last (wanted ++ (to, bytes) ∷ []) (sent + 1) unsent
+HasTried-sent before now after first middle last wanted sent unsent to bytes result fine tried more same =
+    let send = tried_send to bytes result in
+    let later = tried.later in
+    let taken = sum_by-append (λ (one : TriedSend). cond one.sent 1 0) tried.sends (send ∷ []) in
+    let missed = sum_by-append (λ (one : TriedSend). cond (not one.sent) 1 0) tried.sends (send ∷ []) in
+    let one : sum_by (λ (one : TriedSend). cond one.sent 1 0) (send ∷ []) ≡ 1 = rw fine refl in
+    let none : sum_by (λ (one : TriedSend). cond (not one.sent) 1 0) (send ∷ []) ≡ 0 = rw fine refl in record {
+      sends = tried.sends ++ send ∷ [];
+      exactly = map-append datagram_of tried.sends (send ∷ []) ∙ ap (λ (list : List (Peer × List ℕ)). list ++ (to, bytes) ∷ []) tried.exactly;
+      appended = AppendsAll-then before now after tried.sends (send ∷ []) tried.appended more;
+      sent_is = omega (arith, taken, one, tried.sent_is);
+      unsent_is = omega (arith, missed, none, tried.unsent_is);
+      later = omega (arith, later, same);
+      cause = λ some. subst (λ (count : ℕ). HasRisen first count) (sym same) (tried.cause some);
+      quiet = λ zero_unsent. same ∙ tried.quiet zero_unsent;
+    }
+
+-- one more that it didn't take; the count never falls
+pub HasTried-failed : (before now after : Option (List TriedSend)) (first middle last : ℕ) (wanted : List (Peer × List ℕ)) (sent unsent : ℕ) (to : Peer) (bytes : List ℕ) (result : Result (Unit {0}) Failed)
+    → is_ok result ≡ false → HasTried before now first middle wanted sent unsent → Appends now after (tried_send to bytes result) → Rose middle last → middle ≤ last
+    → HasTried before after first last (wanted ++ (to, bytes) ∷ []) sent (unsent + 1)
+HasTried-failed before now after first middle last wanted sent unsent to bytes result failed tried more rose onward =
+    let send = tried_send to bytes result in
+    let later = tried.later in
+    let taken = sum_by-append (λ (one : TriedSend). cond one.sent 1 0) tried.sends (send ∷ []) in
+    let missed = sum_by-append (λ (one : TriedSend). cond (not one.sent) 1 0) tried.sends (send ∷ []) in
+    let none : sum_by (λ (one : TriedSend). cond one.sent 1 0) (send ∷ []) ≡ 0 = rw failed refl in
+    let one : sum_by (λ (one : TriedSend). cond (not one.sent) 1 0) (send ∷ []) ≡ 1 = rw failed refl in record {
+      sends = tried.sends ++ send ∷ [];
+      exactly = map-append datagram_of tried.sends (send ∷ []) ∙ ap (λ (list : List (Peer × List ℕ)). list ++ (to, bytes) ∷ []) tried.exactly;
+      appended = AppendsAll-then before now after tried.sends (send ∷ []) tried.appended more;
+      sent_is = omega (arith, taken, none, tried.sent_is);
+      unsent_is = omega (arith, missed, one, tried.unsent_is);
+      later = omega (arith, later, onward);
+      cause = λ some small. omega (arith, later, rose, small);
+      quiet = λ zero_unsent. absurd (omega (arith, zero_unsent));
+    }

@@ -1,0 +1,3 @@
+pub mod MemOut
+pub mod Replication
+pub mod Sends

@@ -1,0 +1,17 @@
+//! What sends a packet to the tunnel endpoints that want it.
+//!
+//! Contract: a replicator sends one Multicast Data message to each endpoint that wants the packet, by a
+//! prefix of the published log that begins with the log of the packet's note.
+//! It knows no membership report, and no device but where it sends to.
+//! Standard: RFC 7450, sections 5.1.6 and 5.3.3.
+#![tactic(auto)]
+
+mod job;
+mod mem_out;
+mod out_link;
+mod replicator;
+
+pub use job::{Copied, Job};
+pub use mem_out::MemOut;
+pub use out_link::OutLink;
+pub use replicator::{NewFault, Replicator};

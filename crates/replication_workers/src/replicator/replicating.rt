@@ -1,0 +1,202 @@
+//! How a packet is copied. It must not know how a datagram is sent.
+ghost use Rattle.std.specs.Prelude.{◌≡◌, ◌≤◌, [], ◌∷◌, Ok, length, MatchOption, IsErr, IfSome, map};
+ghost use Rattle.amt_messages.specs.Layout.{spelling_of};
+ghost use Rattle.amt_messages.specs.declared.message.Message.TheVariants.{Multicast};
+ghost use Rattle.endpoint_membership.specs.Targets.{targets_of};
+ghost use Rattle.inner_datagrams.specs.declared.head.Head.{Head as HeadValue};
+ghost use Rattle.published_table.specs.Lists.{BeginsWith, BeginsWithEach};
+ghost use Rattle.published_table.specs.Terms.{settings_by};
+ghost use Rattle.published_table.specs.Views.{IsSameView, named, note_publisher, publisher_of, seen, terms_of, told};
+ghost use Rattle.relay_machine.specs.Packets.{head_to_copy};
+ghost use Rattle.replication_workers.specs.Replication.{HasTried, copies_by, to_peer, with_message};
+
+use super::Replicator;
+use super::sending::{SendCounts, send_all, write_message};
+use crate::job::{Copied, Job};
+use crate::out_link::OutLink;
+use amt_values::{Moment, forwardable};
+use endpoint_membership::Targets;
+use inner_datagrams::{Head, packet_head};
+use published_table::{Note, View};
+use std::sync::Wait;
+
+// The source and the group of a packet that is copied: it isn't too long, and begins with a head whose
+// group is forwarded.
+fn head_of_copied(limit: u32, packet: &[u8]) -> Option<Head>
+    requires { length packet.now ≤ 65535 }
+    ensures head { MatchOption result (IsErr (head_to_copy limit packet.now))
+        (λ head. head_to_copy limit packet.now ≡ Ok head) }
+    ensures size { IfSome result (λ head. length packet.now ≤ limit) }
+{
+    if packet.len() > limit as usize {
+        return None;
+    }
+    match packet_head(packet) {
+        Ok(head) => {
+            if forwardable(&head.group) {
+                Some(head)
+            } else {
+                None
+            }
+        }
+        Err(_) => None,
+    }
+}
+
+// Asks the view until it answers: how many entries its log has.
+fn read_length<R: Wait>(rt: &R, view: &mut View) -> u64
+    ensures view { IsSameView view.old view.new }
+    ensures further { BeginsWith (seen view.new) (seen view.old) }
+    ensures told { BeginsWithEach (seen view.new) (told view.old) }
+    ensures number { result ≡ length (seen view.new) }
+{
+    for _ in rt.forever() {
+        if let Some(number) = view.length() {
+            return number;
+        }
+    }
+    unreachable!()
+}
+
+// Asks the view until it answers: who gets the packet, and by a log of how many entries.
+fn find_targets<R: Wait>(
+    rt: &R,
+    view: &mut View,
+    head: &Head,
+    at: &Moment,
+    targets: &mut Targets,
+) -> u64
+    requires { (terms_of view.old).limits.endpoints ≤ targets.old.room }
+    ensures view { IsSameView view.old view.new }
+    ensures further { BeginsWith (seen view.new) (seen view.old) }
+    ensures told { BeginsWithEach (seen view.new) (told view.old) }
+    ensures number { result ≡ length (seen view.new) }
+    ensures targets { targets.new.endpoints
+        ≡ targets_of (terms_of view.old).lifetime_ms (seen view.new) head.now.group head.now.source at.now }
+    ensures room { targets.new.room ≡ targets.old.room }
+{
+    for _ in rt.forever() {
+        let found = view.admitting_into(&head.group, &head.source, at, targets);
+        if let Some(number) = found {
+            return number;
+        }
+    }
+    unreachable!()
+}
+
+impl<O: OutLink> Replicator<O> {
+    // Sends the packet as a message to the targets. Where there are none no message is written.
+    fn send_to_targets(&mut self, packet: &[u8]) -> SendCounts
+        requires { length packet.now ≤ self.old.packet_limit }
+        ensures view { self.new.view ≡ self.old.view }
+        ensures sends { HasTried (O.tried self.old.out) (O.tried self.new.out) (O.faults self.old.out) (O.faults self.new.out)
+            (map (with_message (spelling_of (Multicast packet.now))) self.old.targets.endpoints) result.sent result.unsent }
+        ensures limit { self.new.packet_limit ≡ self.old.packet_limit }
+    {
+        if self.targets.len() == 0 {
+            return SendCounts { sent: 0, unsent: 0 };
+        }
+        write_message(packet, &mut self.message);
+        send_all(
+            &mut self.out,
+            self.targets.as_slice(),
+            self.message.as_slice(),
+        )
+    }
+
+    // Finds who wants the packet with this head, and sends it to them.
+    fn copy_to_targets<R: Wait>(
+        &mut self,
+        rt: &R,
+        head: &Head,
+        at: &Moment,
+        packet: &[u8],
+    ) -> Copied
+        requires size { length packet.now ≤ self.old.packet_limit }
+        requires copied { head_to_copy self.old.packet_limit packet.now ≡ Ok head.now }
+        ensures view { IsSameView self.old.view self.new.view }
+        ensures further { BeginsWith (seen self.new.view) (seen self.old.view) }
+        ensures told { BeginsWithEach (seen self.new.view) (told self.old.view) }
+        ensures prefix { result.prefix ≡ length (seen self.new.view) }
+        ensures sends { HasTried (O.tried self.old.out) (O.tried self.new.out) (O.faults self.old.out) (O.faults self.new.out)
+            (map to_peer (copies_by (settings_by (terms_of self.old.view)) self.old.packet_limit (seen self.new.view) at.now packet.now))
+            result.sent result.unsent }
+        ensures limit { self.new.packet_limit ≡ self.old.packet_limit }
+    {
+        let prefix = find_targets(rt, &mut self.view, head, at, &mut self.targets);
+        let SendCounts { sent, unsent } = self.send_to_targets(packet);
+        Copied {
+            prefix,
+            sent,
+            unsent,
+        }
+    }
+
+    // Brings the view up to date for a packet that isn't copied.
+    fn copy_to_none<R: Wait>(&mut self, rt: &R) -> Copied
+        ensures view { IsSameView self.old.view self.new.view }
+        ensures further { BeginsWith (seen self.new.view) (seen self.old.view) }
+        ensures told { BeginsWithEach (seen self.new.view) (told self.old.view) }
+        ensures prefix { result.prefix ≡ length (seen self.new.view) }
+        ensures sends { HasTried (O.tried self.old.out) (O.tried self.new.out) (O.faults self.old.out) (O.faults self.new.out) [] result.sent result.unsent }
+        ensures limit { self.new.packet_limit ≡ self.old.packet_limit }
+    {
+        Copied {
+            prefix: read_length(rt, &mut self.view),
+            sent: 0,
+            unsent: 0,
+        }
+    }
+
+    // Copies the packet by the view as it stands.
+    fn copy<R: Wait>(&mut self, rt: &R, at: &Moment, packet: &[u8]) -> Copied
+        requires { length packet.now ≤ 65535 }
+        ensures view { IsSameView self.old.view self.new.view }
+        ensures further { BeginsWith (seen self.new.view) (seen self.old.view) }
+        ensures told { BeginsWithEach (seen self.new.view) (told self.old.view) }
+        ensures prefix { result.prefix ≡ length (seen self.new.view) }
+        ensures sends { HasTried (O.tried self.old.out) (O.tried self.new.out) (O.faults self.old.out) (O.faults self.new.out)
+            (map to_peer (copies_by (settings_by (terms_of self.old.view)) self.old.packet_limit (seen self.new.view) at.now packet.now))
+            result.sent result.unsent }
+        ensures limit { self.new.packet_limit ≡ self.old.packet_limit }
+    {
+        let Some(head) = head_of_copied(self.packet_limit, packet) else {
+            return self.copy_to_none(rt);
+        };
+        self.copy_to_targets(rt, &head, at, packet)
+    }
+
+    // Learns the note's log; all else stays.
+    fn learn(&mut self, note: Note)
+        requires { note_publisher note ≡ publisher_of self.old.view }
+        ensures seen { seen self.new.view ≡ seen self.old.view }
+        ensures told { told self.new.view ≡ named note ∷ told self.old.view }
+        ensures publisher { publisher_of self.new.view ≡ publisher_of self.old.view }
+        ensures terms { terms_of self.new.view ≡ terms_of self.old.view }
+        ensures out { self.new.out ≡ self.old.out }
+        ensures limit { self.new.packet_limit ≡ self.old.packet_limit }
+    {
+        self.view.learn(note);
+    }
+
+    /// Sends the packet to each endpoint that wants it, in order, as one Multicast Data message each (RFC
+    /// 7450, section 5.3.3.2). Who wants it is found by a log that begins with the note's. An endpoint to
+    /// which the send fails is not tried again; the others are tried all the same.
+    pub fn replicate<R: Wait>(&mut self, rt: &R, job: Job) -> Copied
+        requires publisher { note_publisher job.note ≡ publisher_of self.old.view }
+        requires size { length job.packet ≤ 65535 }
+        ensures view { (terms_of self.new.view ≡ terms_of self.old.view) × (publisher_of self.new.view ≡ publisher_of self.old.view) × (told self.new.view ≡ named job.note ∷ told self.old.view) }
+        ensures further { BeginsWith (seen self.new.view) (seen self.old.view) }
+        ensures told { BeginsWithEach (seen self.new.view) (named job.note ∷ told self.old.view) }
+
+        ensures prefix { result.prefix ≡ length (seen self.new.view) }
+        ensures sends { HasTried (O.tried self.old.out) (O.tried self.new.out) (O.faults self.old.out) (O.faults self.new.out)
+            (map to_peer (copies_by (settings_by (terms_of self.old.view)) self.old.packet_limit (seen self.new.view) job.at job.packet))
+            result.sent result.unsent }
+        ensures limit { self.new.packet_limit ≡ self.old.packet_limit }
+    {
+        let Job { packet, at, note } = job;
+        self.learn(note);
+        self.copy(rt, &at, packet.as_slice())
+    }
+}
