@@ -13,7 +13,7 @@ use Rattle.endpoint_membership.specs.EndpointGroup.{EndpointGroup}
 use Rattle.endpoint_membership.specs.Log.{brought, latest}
 use Rattle.endpoint_membership.specs.Membership.{Membership}
 use Rattle.endpoint_membership.specs.Memberships.{is_live, membership_at, memberships_at, row_of, rows_of}
-use Rattle.endpoint_membership.specs.Published.{AnswerAlike, ClearingsLetNoTimePass, clears_nothing, published_back, published_of, with_published}
+use Rattle.endpoint_membership.specs.Published.{AnswerAlike, ClearingsLetNoTimePass, IsPublishedPart, clears_nothing, published_back, published_of, with_published}
 use Rattle.endpoint_membership.specs.Targets.{targets_of}
 use Rattle.endpoint_membership.specs.declared.change.Change.{Change}
 use Rattle.endpoint_membership.specs.declared.change.Change.TheVariants.{Reported, Clear, Mark}
@@ -240,8 +240,14 @@ timely_prefix : (log accepted rest : List Change) → log ≡ accepted ++ rest �
 timely_prefix log accepted rest is timely before after endpoint at cut =
     timely before (after ++ rest) endpoint at (is ∙ ap (λ (all : List Change). all ++ rest) cut ∙ append_assoc before (Clear endpoint at ∷ after) rest)
 
-pub AnswerAlike-prefix : (lifetime : ℕ) (log : List Change) (number : ℕ) → 0 < lifetime → ClearingsLetNoTimePass log
-    → (accepted rest : List Change) × (log ≡ accepted ++ rest) × AnswerAlike lifetime (take number (published_of lifetime log)) accepted
-AnswerAlike-prefix lifetime log number some timely =
-    let is = prefix_is lifetime log number in
-    (is.0, is.1, is.2, subst (λ (part : List Change). AnswerAlike lifetime part is.0) (sym is.3) (AnswerAlike-published lifetime is.0 some (timely_prefix log is.0 is.1 is.2 timely)))
+pub IsPublishedPart-prefix : (lifetime : ℕ) (log : List Change) (number : ℕ) → 0 < lifetime → ClearingsLetNoTimePass log
+    → IsPublishedPart lifetime (take number (published_of lifetime log)) log
+IsPublishedPart-prefix lifetime log number some timely =
+    let is = prefix_is lifetime log number in record {
+      accepted = is.0;
+      rest = is.1;
+      begins = is.2;
+      published = is.3;
+      tells = subst (λ (part : List Change). AnswerAlike lifetime part is.0) (sym is.3)
+          (AnswerAlike-published lifetime is.0 some (timely_prefix log is.0 is.1 is.2 timely));
+    }

@@ -45,3 +45,11 @@ pub record AnswerAlike (lifetime : ℕ) (one other : List Change) : Type 0 where
   pub targets : (group source : Ip) (moment : ℕ) → targets_of lifetime one group source moment ≡ targets_of lifetime other group source moment
   pub memberships : (moment : ℕ) → latest other ≤ moment → memberships_at lifetime moment one ≡ memberships_at lifetime moment other
   pub rows : (moment : ℕ) → latest other ≤ moment → rows_of lifetime moment one ≡ rows_of lifetime moment other
+
+-- This part is the published log of a prefix of the accepted log, and tells what that prefix tells.
+pub record IsPublishedPart (lifetime : ℕ) (part log : List Change) : Type 0 where
+  pub accepted : List Change
+  pub rest : List Change
+  pub begins : log ≡ accepted ++ rest
+  pub published : part ≡ published_of lifetime accepted
+  pub tells : AnswerAlike lifetime part accepted

@@ -4,7 +4,7 @@ ghost use Rattle.std.specs.Prelude.{ℕ, ◌≡◌, ◌≤◌, ◌<◌, false, L
 ghost use Rattle.amt_values.specs.EndpointValue.{EndpointValue};
 ghost use Rattle.endpoint_membership.specs.Log.{latest};
 ghost use Rattle.endpoint_membership.specs.Memberships.{is_live, memberships_at};
-ghost use Rattle.endpoint_membership.specs.Published.{AnswerAlike, ClearingsLetNoTimePass, clears_nothing, published_of, with_published};
+ghost use Rattle.endpoint_membership.specs.Published.{AnswerAlike, ClearingsLetNoTimePass, IsPublishedPart, clears_nothing, published_of, with_published};
 ghost use Rattle.endpoint_membership.specs.declared.change.Change.{Change};
 ghost use Rattle.endpoint_membership.specs.declared.change.Change.TheVariants.{Clear};
 
@@ -28,14 +28,13 @@ pub fn published_logs_grow_with_accepted_ones()
         ≡ with_published (clears_nothing lifetime log entry) (published_of lifetime log) entry }
 {}
 
-/// Whoever has a prefix of the published log knows what a prefix of the accepted log tells, and whoever
-/// has all of it knows what all of that tells.
+/// Whoever has a prefix of the published log has the published log of a prefix of the accepted one, and
+/// knows what that tells; whoever has all of it knows what all of that tells.
 pub fn published_logs_tell_what_accepted_ones_do()
     ensures whole { (lifetime : ℕ) (log : List Change)
         → 0 < lifetime → ClearingsLetNoTimePass log
         → AnswerAlike lifetime (published_of lifetime log) log }
     ensures prefixes { (lifetime : ℕ) (log : List Change) (number : ℕ)
         → 0 < lifetime → ClearingsLetNoTimePass log
-        → (accepted rest : List Change) × (log ≡ accepted ++ rest)
-        × AnswerAlike lifetime (take number (published_of lifetime log)) accepted }
+        → IsPublishedPart lifetime (take number (published_of lifetime log)) log }
 {}

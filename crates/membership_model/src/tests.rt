@@ -1,6 +1,7 @@
 //! Worked examples of calls, each by a table of steps.
 
 mod fixtures;
+mod following;
 mod long;
 mod packets;
 mod random;

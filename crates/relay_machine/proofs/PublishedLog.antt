@@ -17,13 +17,13 @@ use Rattle.endpoint_membership.specs.Limits.{IsWithin}
 use Rattle.endpoint_membership.specs.Log.{brought, latest}
 use Rattle.endpoint_membership.specs.Membership.{Membership}
 use Rattle.endpoint_membership.specs.Memberships.{is_live, memberships_at}
-use Rattle.endpoint_membership.specs.Published.{AnswerAlike, ClearingsLetNoTimePass, clears_nothing, published_of, with_published}
+use Rattle.endpoint_membership.specs.Published.{AnswerAlike, ClearingsLetNoTimePass, IsPublishedPart, clears_nothing, published_of, with_published}
 use Rattle.endpoint_membership.specs.Table.{TableSettings, limit_passed, memberships_now}
 use Rattle.endpoint_membership.specs.declared.change.Change.{Change}
 use Rattle.endpoint_membership.specs.declared.change.Change.TheVariants.{Mark, Clear, Reported}
 use Rattle.endpoint_membership.specs.declared.limits.LimitFault.{LimitFault}
 use Rattle.endpoint_membership.proofs.HoldsAfter.{latest-push}
-use Rattle.endpoint_membership.proofs.PublishedLog.{AnswerAlike-prefix, AnswerAlike-published, published-next, published-none}
+use Rattle.endpoint_membership.proofs.PublishedLog.{AnswerAlike-published, IsPublishedPart-prefix, published-next, published-none}
 use Rattle.relay_machine.specs.declared.event.Event.{Event}
 use Rattle.relay_machine.specs.declared.event.Event.TheVariants.{Moment, Datagram, Packet, Rotate}
 use Rattle.relay_machine.specs.declared.outcome.Outcome.{Outcome}
@@ -235,10 +235,9 @@ published_log-whole settings first events lawful =
     AnswerAlike-published (membership_interval_ms settings) (accepted_log settings first events) (some_time settings lawful) (timely settings first events)
 
 pub published_log-prefixes : (settings : Settings) (first : Secret) (events : List Event) (number : ℕ) → AreLawfulSettings settings
-    → (accepted rest : List Change) × (accepted_log settings first events ≡ accepted ++ rest)
-    × AnswerAlike (membership_interval_ms settings) (take number (published_log settings first events)) accepted
+    → IsPublishedPart (membership_interval_ms settings) (take number (published_log settings first events)) (accepted_log settings first events)
 published_log-prefixes settings first events number lawful =
-    AnswerAlike-prefix (membership_interval_ms settings) (accepted_log settings first events) number (some_time settings lawful) (timely settings first events)
+    IsPublishedPart-prefix (membership_interval_ms settings) (accepted_log settings first events) number (some_time settings lawful) (timely settings first events)
 
 pub published_log-within : (settings : Settings) (first : Secret) (events : List Event) → AreLawfulSettings settings
     → IsWithin settings.limits (memberships_now (table_settings_of settings) (published_log settings first events))

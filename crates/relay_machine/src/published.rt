@@ -2,7 +2,7 @@
 ghost use Rattle.std.specs.Prelude.{ℕ, ◌≡◌, List, [], ◌∷◌, ◌++◌, take};
 ghost use Rattle.response_mac.specs.declared.secret.Secret.{Secret};
 ghost use Rattle.endpoint_membership.specs.Limits.{IsWithin};
-ghost use Rattle.endpoint_membership.specs.Published.{AnswerAlike};
+ghost use Rattle.endpoint_membership.specs.Published.{AnswerAlike, IsPublishedPart};
 ghost use Rattle.endpoint_membership.specs.Table.{memberships_now};
 ghost use Rattle.endpoint_membership.specs.declared.change.Change.{Change};
 ghost use Rattle.relay_machine.specs.Accepted.{accepted_log, change_of, with_change};
@@ -12,8 +12,8 @@ ghost use Rattle.relay_machine.specs.declared.event.Event.{Event};
 ghost use Rattle.relay_machine.specs.declared.settings.Settings.{Settings};
 
 /// The entries that steps hand out are the published log, in order. It tells what the accepted log of the
-/// events tells, each prefix of it what a prefix of that one tells, and its memberships are within the
-/// limits whatever comes.
+/// events tells; each prefix of it is the published log of a prefix of that one, and tells what that tells;
+/// and its memberships are within the limits whatever comes.
 pub fn steps_hand_out_the_published_log()
     ensures none { (settings : Settings) (first : Secret) → published_log settings first [] ≡ [] }
     ensures next { (settings : Settings) (first : Secret) (events : List Event) (event : Event)
@@ -25,9 +25,8 @@ pub fn steps_hand_out_the_published_log()
         (accepted_log settings first events) }
     ensures prefixes { (settings : Settings) (first : Secret) (events : List Event) (number : ℕ)
         → AreLawfulSettings settings
-        → (accepted rest : List Change) × (accepted_log settings first events ≡ accepted ++ rest)
-        × AnswerAlike (membership_interval_ms settings)
-        (take number (published_log settings first events)) accepted }
+        → IsPublishedPart (membership_interval_ms settings)
+        (take number (published_log settings first events)) (accepted_log settings first events) }
     ensures within { (settings : Settings) (first : Secret) (events : List Event)
         → AreLawfulSettings settings
         → IsWithin settings.limits (memberships_now (table_settings_of settings)

@@ -66,7 +66,7 @@ pub fn record_of(alloc: Global, row: &RecordRow) -> Result<Record, AllocError> {
     })
 }
 
-fn records_of(alloc: Global, record_rows: &[RecordRow]) -> Result<Records, AllocError> {
+pub fn records_of(alloc: Global, record_rows: &[RecordRow]) -> Result<Records, AllocError> {
     let mut records = Records::new(alloc);
     for row in record_rows {
         records.push(record_of(alloc, row)?)?;
