@@ -11,6 +11,7 @@ use Rattle.published_table.specs.declared.terms.Terms.{Terms}
 use Rattle.published_table.specs.declared.view.Note.{Note}
 use Rattle.published_table.specs.declared.view.View.{View}
 use Rattle.published_table.specs.declared.view.reading.Wanted.{Wanted}
+use Rattle.published_table.specs.declared.view.views.Views.{Views}
 
 -- the log by which the view answered last
 abbrev pub seen : View → List Change
@@ -31,6 +32,10 @@ terms_of view = view.reader.terms
 -- whose log it reads, as the book of its history
 abbrev pub publisher_of : View → Book
 publisher_of view = view.reader.bookmark.seen.book
+
+-- the views that are still to be handed out, in order
+abbrev pub views_of : Views → List View
+views_of views = views.views.items
 
 -- the log that a note names, and whose it is
 abbrev pub named : Note → List Change

@@ -1,3 +1,4 @@
 pub mod MemOut
 pub mod Replication
+pub mod Replicators
 pub mod Sends

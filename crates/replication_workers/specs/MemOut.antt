@@ -1,5 +1,5 @@
 -- What a link in memory tells.
-use Rattle.std.specs.Prelude.{List, map, Option, Some, None, if◌then◌else◌}
+use Rattle.std.specs.Prelude.{ℕ, List, map, Option, Some, None, if◌then◌else◌}
 use Rattle.replication_workers.specs.Sends.{TriedSend}
 use Rattle.replication_workers.specs.declared.mem_out.MemOut.{MemOut}
 use Rattle.replication_workers.specs.declared.mem_out.Tried.{Tried}
@@ -10,3 +10,7 @@ tried_of tried = record { to = tried.to; bytes = tried.bytes; sent = tried.sent 
 -- the sends that were tried, if none is missing
 abbrev pub tried_by : MemOut → Option (List TriedSend)
 tried_by out = if out.is_whole then Some (map tried_of out.tried.items) else None
+
+-- how many of its calls failed
+abbrev pub faults_of : MemOut → ℕ
+faults_of out = out.faults

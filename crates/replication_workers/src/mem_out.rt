@@ -1,7 +1,7 @@
 //! A link in memory, for tests and callers. It must not know the real devices.
 ghost use Rattle.std.specs.Prelude.{◌≡◌, ◌≤◌, [], ◌∷◌, ◌++◌, Some, OnOk, OnErr};
 ghost use Rattle.amt_ports.specs.Causes.{HasCause, next_count};
-ghost use Rattle.replication_workers.specs.MemOut.{tried_by};
+ghost use Rattle.replication_workers.specs.MemOut.{faults_of, tried_by};
 ghost use Rattle.replication_workers.specs.Sends.{Appends, tried_send};
 
 use crate::out_link::OutLink;
@@ -35,7 +35,7 @@ impl MemOut {
     /// No call of it fails unless memory runs out.
     pub fn new(alloc: Global) -> Self
         ensures tried { tried_by result ≡ Some [] }
-        ensures faults { result.faults ≡ 0 }
+        ensures faults { faults_of result ≡ 0 }
     {
         MemOut::failing(alloc, Vec::new(alloc))
     }
@@ -43,7 +43,7 @@ impl MemOut {
     /// The calls of these numbers fail, counted from 1.
     pub fn failing(alloc: Global, calls: Vec<u64>) -> Self
         ensures tried { tried_by result ≡ Some [] }
-        ensures faults { result.faults ≡ 0 }
+        ensures faults { faults_of result ≡ 0 }
     {
         MemOut {
             alloc,
@@ -62,7 +62,7 @@ impl MemOut {
 
     /// How many calls failed.
     pub fn faults(&self) -> u64
-        ensures { result ≡ self.now.faults }
+        ensures { result ≡ faults_of self.now }
     {
         self.faults
     }
@@ -73,7 +73,7 @@ impl MemOut {
             ≡ self.old.tried.items ++ record { to = to.now; bytes = bytes.now; sent = sent } ∷ []) }
         ensures err { OnErr result (self.new.tried.items ≡ self.old.tried.items) }
         ensures whole { self.new.is_whole ≡ self.old.is_whole }
-        ensures faults { self.new.faults ≡ self.old.faults }
+        ensures faults { faults_of self.new ≡ faults_of self.old }
     {
         let bytes = Bytes::copied(self.alloc, bytes)?;
         self.tried.push(Tried {
@@ -86,8 +86,8 @@ impl MemOut {
 
     // Each failed call goes through here, so that none is answered and not counted.
     fn fail(&mut self) -> Failed
-        ensures faults { self.new.faults ≡ next_count self.old.faults }
-        ensures later { self.old.faults ≤ self.new.faults }
+        ensures faults { faults_of self.new ≡ next_count (faults_of self.old) }
+        ensures later { faults_of self.old ≤ faults_of self.new }
         ensures tried { tried_by self.new ≡ tried_by self.old }
     {
         self.faults = self.faults.saturating_add(1);
@@ -98,11 +98,11 @@ impl MemOut {
 impl OutLink for MemOut {
     ghost tried = { tried_by };
 
-    ghost faults = { λ out. out.faults };
+    ghost faults = { faults_of };
 
     fn send(&mut self, to: &Peer, bytes: &[u8]) -> Result<(), Failed>
         ensures tried { Appends (tried_by self.old) (tried_by self.new) (tried_send to.now bytes.now result) }
-        ensures cause { HasCause self.old.faults self.new.faults result }
+        ensures cause { HasCause (faults_of self.old) (faults_of self.new) result }
     {
         self.made = self.made.saturating_add(1);
         let fails = self.failing.contains(&self.made);

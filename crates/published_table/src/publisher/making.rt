@@ -2,7 +2,7 @@
 ghost use Rattle.std.specs.Prelude.{◌≡◌, ◌≤◌, [], All, length, IfOk};
 ghost use Rattle.published_table.specs.Publishers.{IsSamePublisher, ShowsAlike, book_of, owing, published, reading_terms};
 ghost use Rattle.published_table.specs.Terms.{AreLawfulTerms};
-ghost use Rattle.published_table.specs.Views.{IsNew};
+ghost use Rattle.published_table.specs.Views.{IsNew, views_of};
 
 use super::{Publisher, TableWriter};
 use crate::door::Door;
@@ -31,8 +31,8 @@ impl Publisher {
         requires views { (1 ≤ views) × (views ≤ 64) }
         requires terms { AreLawfulTerms terms }
         ensures publisher { IfOk result (λ made. (published made.0 ≡ []) × (owing made.0 ≡ []) × (reading_terms made.0 ≡ terms)) }
-        ensures count { IfOk result (λ made. length made.1.views.items ≡ views) }
-        ensures views { IfOk result (λ made. All (IsNew (book_of made.0) terms) made.1.views.items) }
+        ensures count { IfOk result (λ made. length (views_of made.1) ≡ views) }
+        ensures views { IfOk result (λ made. All (IsNew (book_of made.0) terms) (views_of made.1)) }
     {
         let history = History::new();
         let first = TableCopy::new(alloc, terms, history.bookmark.again())?;
@@ -64,8 +64,8 @@ impl Publisher {
     fn views(&mut self, alloc: Global, count: u32) -> Result<Views, AllocError>
         ensures same { IsSamePublisher self.old self.new }
         ensures logs { ShowsAlike self.old self.new }
-        ensures count { IfOk result (λ made. length made.views.items ≡ count) }
-        ensures new { IfOk result (λ made. All (IsNew (book_of self.old) (reading_terms self.old)) made.views.items) }
+        ensures count { IfOk result (λ made. length (views_of made) ≡ count) }
+        ensures new { IfOk result (λ made. All (IsNew (book_of self.old) (reading_terms self.old)) (views_of made)) }
     {
         let mut views = Views::with_room(alloc, count)?;
         for _ in 0..count {

@@ -1,7 +1,7 @@
 //! Views that are handed out one by one. It must not know what a view reads.
 ghost use Rattle.std.specs.Prelude.{◌≡◌, ℕ, [], ◌∷◌, ◌++◌, All, length, IfSome, IfNone, IfOk, OnOk, OnErr};
 ghost use Rattle.logbook.specs.Pages.{Book};
-ghost use Rattle.published_table.specs.Views.{IsNew};
+ghost use Rattle.published_table.specs.Views.{IsNew, views_of};
 ghost use Rattle.published_table.specs.declared.terms.Terms.{Terms as ReadingTerms};
 
 use super::View;
@@ -16,7 +16,7 @@ pub struct Views {
 impl Views {
     /// No views, and room for so many.
     pub fn with_room(alloc: Global, views: u32) -> Result<Views, AllocError>
-        ensures { IfOk result (λ made. made.views.items ≡ []) }
+        ensures { IfOk result (λ made. views_of made ≡ []) }
     {
         Ok(Views {
             views: Vec::with_capacity(alloc, views as usize)?,
@@ -24,15 +24,15 @@ impl Views {
     }
 
     pub fn len(&self) -> usize
-        ensures { result ≡ length self.now.views.items }
+        ensures { result ≡ length (views_of self.now) }
     {
         self.views.len()
     }
 
     /// Adds a view at the end.
     pub fn push(&mut self, view: View) -> Result<(), View>
-        ensures ok { OnOk result (self.new.views.items ≡ self.old.views.items ++ view ∷ []) }
-        ensures err { OnErr result (self.new.views.items ≡ self.old.views.items) }
+        ensures ok { OnOk result (views_of self.new ≡ views_of self.old ++ view ∷ []) }
+        ensures err { OnErr result (views_of self.new ≡ views_of self.old) }
     {
         match self.views.push(view) {
             Ok(()) => Ok(()),
@@ -42,10 +42,10 @@ impl Views {
 
     /// Takes the last view out, if there is one.
     pub fn pop(&mut self) -> Option<View>
-        ensures some { IfSome result (λ view. self.old.views.items ≡ self.new.views.items ++ view ∷ []) }
-        ensures none { IfNone result ((self.old.views.items ≡ []) × (self.new.views.items ≡ [])) }
-        ensures each { (publisher : Book) (terms : ReadingTerms) → All (IsNew publisher terms) self.old.views.items
-            → All (IsNew publisher terms) self.new.views.items × IfSome result (IsNew publisher terms) }
+        ensures some { IfSome result (λ view. views_of self.old ≡ views_of self.new ++ view ∷ []) }
+        ensures none { IfNone result ((views_of self.old ≡ []) × (views_of self.new ≡ [])) }
+        ensures each { (publisher : Book) (terms : ReadingTerms) → All (IsNew publisher terms) (views_of self.old)
+            → All (IsNew publisher terms) (views_of self.new) × IfSome result (IsNew publisher terms) }
     {
         self.views.pop()
     }

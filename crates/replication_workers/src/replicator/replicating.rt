@@ -5,10 +5,10 @@ ghost use Rattle.amt_messages.specs.declared.message.Message.TheVariants.{Multic
 ghost use Rattle.endpoint_membership.specs.Targets.{targets_of};
 ghost use Rattle.inner_datagrams.specs.declared.head.Head.{Head as HeadValue};
 ghost use Rattle.published_table.specs.Lists.{BeginsWith, BeginsWithEach};
-ghost use Rattle.published_table.specs.Terms.{settings_by};
 ghost use Rattle.published_table.specs.Views.{IsSameView, named, note_publisher, publisher_of, seen, terms_of, told};
 ghost use Rattle.relay_machine.specs.Packets.{head_to_copy};
-ghost use Rattle.replication_workers.specs.Replication.{HasTried, copies_by, to_peer, with_message};
+ghost use Rattle.replication_workers.specs.Replication.{with_message};
+ghost use Rattle.replication_workers.specs.Replicators.{Tries, copies_due, limit_of, out_of, view_of};
 
 use super::Replicator;
 use super::sending::{SendCounts, send_all, write_message};
@@ -87,11 +87,11 @@ fn find_targets<R: Wait>(
 impl<O: OutLink> Replicator<O> {
     // Sends the packet as a message to the targets. Where there are none no message is written.
     fn send_to_targets(&mut self, packet: &[u8]) -> SendCounts
-        requires { length packet.now ≤ self.old.packet_limit }
-        ensures view { self.new.view ≡ self.old.view }
-        ensures sends { HasTried (O.tried self.old.out) (O.tried self.new.out) (O.faults self.old.out) (O.faults self.new.out)
+        requires { length packet.now ≤ limit_of self.old }
+        ensures view { view_of self.new ≡ view_of self.old }
+        ensures sends { Tries self.old self.new
             (map (with_message (spelling_of (Multicast packet.now))) self.old.targets.endpoints) result.sent result.unsent }
-        ensures limit { self.new.packet_limit ≡ self.old.packet_limit }
+        ensures limit { limit_of self.new ≡ limit_of self.old }
     {
         if self.targets.len() == 0 {
             return SendCounts { sent: 0, unsent: 0 };
@@ -112,16 +112,16 @@ impl<O: OutLink> Replicator<O> {
         at: &Moment,
         packet: &[u8],
     ) -> Copied
-        requires size { length packet.now ≤ self.old.packet_limit }
-        requires copied { head_to_copy self.old.packet_limit packet.now ≡ Ok head.now }
-        ensures view { IsSameView self.old.view self.new.view }
-        ensures further { BeginsWith (seen self.new.view) (seen self.old.view) }
-        ensures told { BeginsWithEach (seen self.new.view) (told self.old.view) }
-        ensures prefix { result.prefix ≡ length (seen self.new.view) }
-        ensures sends { HasTried (O.tried self.old.out) (O.tried self.new.out) (O.faults self.old.out) (O.faults self.new.out)
-            (map to_peer (copies_by (settings_by (terms_of self.old.view)) self.old.packet_limit (seen self.new.view) at.now packet.now))
+        requires size { length packet.now ≤ limit_of self.old }
+        requires copied { head_to_copy (limit_of self.old) packet.now ≡ Ok head.now }
+        ensures view { IsSameView (view_of self.old) (view_of self.new) }
+        ensures further { BeginsWith (seen (view_of self.new)) (seen (view_of self.old)) }
+        ensures told { BeginsWithEach (seen (view_of self.new)) (told (view_of self.old)) }
+        ensures prefix { result.prefix ≡ length (seen (view_of self.new)) }
+        ensures sends { Tries self.old self.new
+            (copies_due self.old (seen (view_of self.new)) at.now packet.now)
             result.sent result.unsent }
-        ensures limit { self.new.packet_limit ≡ self.old.packet_limit }
+        ensures limit { limit_of self.new ≡ limit_of self.old }
     {
         let prefix = find_targets(rt, &mut self.view, head, at, &mut self.targets);
         let SendCounts { sent, unsent } = self.send_to_targets(packet);
@@ -134,12 +134,12 @@ impl<O: OutLink> Replicator<O> {
 
     // Brings the view up to date for a packet that isn't copied.
     fn copy_to_none<R: Wait>(&mut self, rt: &R) -> Copied
-        ensures view { IsSameView self.old.view self.new.view }
-        ensures further { BeginsWith (seen self.new.view) (seen self.old.view) }
-        ensures told { BeginsWithEach (seen self.new.view) (told self.old.view) }
-        ensures prefix { result.prefix ≡ length (seen self.new.view) }
-        ensures sends { HasTried (O.tried self.old.out) (O.tried self.new.out) (O.faults self.old.out) (O.faults self.new.out) [] result.sent result.unsent }
-        ensures limit { self.new.packet_limit ≡ self.old.packet_limit }
+        ensures view { IsSameView (view_of self.old) (view_of self.new) }
+        ensures further { BeginsWith (seen (view_of self.new)) (seen (view_of self.old)) }
+        ensures told { BeginsWithEach (seen (view_of self.new)) (told (view_of self.old)) }
+        ensures prefix { result.prefix ≡ length (seen (view_of self.new)) }
+        ensures sends { Tries self.old self.new [] result.sent result.unsent }
+        ensures limit { limit_of self.new ≡ limit_of self.old }
     {
         Copied {
             prefix: read_length(rt, &mut self.view),
@@ -151,14 +151,14 @@ impl<O: OutLink> Replicator<O> {
     // Copies the packet by the view as it stands.
     fn copy<R: Wait>(&mut self, rt: &R, at: &Moment, packet: &[u8]) -> Copied
         requires { length packet.now ≤ 65535 }
-        ensures view { IsSameView self.old.view self.new.view }
-        ensures further { BeginsWith (seen self.new.view) (seen self.old.view) }
-        ensures told { BeginsWithEach (seen self.new.view) (told self.old.view) }
-        ensures prefix { result.prefix ≡ length (seen self.new.view) }
-        ensures sends { HasTried (O.tried self.old.out) (O.tried self.new.out) (O.faults self.old.out) (O.faults self.new.out)
-            (map to_peer (copies_by (settings_by (terms_of self.old.view)) self.old.packet_limit (seen self.new.view) at.now packet.now))
+        ensures view { IsSameView (view_of self.old) (view_of self.new) }
+        ensures further { BeginsWith (seen (view_of self.new)) (seen (view_of self.old)) }
+        ensures told { BeginsWithEach (seen (view_of self.new)) (told (view_of self.old)) }
+        ensures prefix { result.prefix ≡ length (seen (view_of self.new)) }
+        ensures sends { Tries self.old self.new
+            (copies_due self.old (seen (view_of self.new)) at.now packet.now)
             result.sent result.unsent }
-        ensures limit { self.new.packet_limit ≡ self.old.packet_limit }
+        ensures limit { limit_of self.new ≡ limit_of self.old }
     {
         let Some(head) = head_of_copied(self.packet_limit, packet) else {
             return self.copy_to_none(rt);
@@ -168,13 +168,13 @@ impl<O: OutLink> Replicator<O> {
 
     // Learns the note's log; all else stays.
     fn learn(&mut self, note: Note)
-        requires { note_publisher note ≡ publisher_of self.old.view }
-        ensures seen { seen self.new.view ≡ seen self.old.view }
-        ensures told { told self.new.view ≡ named note ∷ told self.old.view }
-        ensures publisher { publisher_of self.new.view ≡ publisher_of self.old.view }
-        ensures terms { terms_of self.new.view ≡ terms_of self.old.view }
-        ensures out { self.new.out ≡ self.old.out }
-        ensures limit { self.new.packet_limit ≡ self.old.packet_limit }
+        requires { note_publisher note ≡ publisher_of (view_of self.old) }
+        ensures seen { seen (view_of self.new) ≡ seen (view_of self.old) }
+        ensures told { told (view_of self.new) ≡ named note ∷ told (view_of self.old) }
+        ensures publisher { publisher_of (view_of self.new) ≡ publisher_of (view_of self.old) }
+        ensures terms { terms_of (view_of self.new) ≡ terms_of (view_of self.old) }
+        ensures out { out_of self.new ≡ out_of self.old }
+        ensures limit { limit_of self.new ≡ limit_of self.old }
     {
         self.view.learn(note);
     }
@@ -183,17 +183,19 @@ impl<O: OutLink> Replicator<O> {
     /// 7450, section 5.3.3.2). Who wants it is found by a log that begins with the note's. An endpoint to
     /// which the send fails is not tried again; the others are tried all the same.
     pub fn replicate<R: Wait>(&mut self, rt: &R, job: Job) -> Copied
-        requires publisher { note_publisher job.note ≡ publisher_of self.old.view }
+        requires publisher { note_publisher job.note ≡ publisher_of (view_of self.old) }
         requires size { length job.packet ≤ 65535 }
-        ensures view { (terms_of self.new.view ≡ terms_of self.old.view) × (publisher_of self.new.view ≡ publisher_of self.old.view) × (told self.new.view ≡ named job.note ∷ told self.old.view) }
-        ensures further { BeginsWith (seen self.new.view) (seen self.old.view) }
-        ensures told { BeginsWithEach (seen self.new.view) (named job.note ∷ told self.old.view) }
+        ensures view { (terms_of (view_of self.new) ≡ terms_of (view_of self.old))
+            × (publisher_of (view_of self.new) ≡ publisher_of (view_of self.old))
+            × (told (view_of self.new) ≡ named job.note ∷ told (view_of self.old)) }
+        ensures further { BeginsWith (seen (view_of self.new)) (seen (view_of self.old)) }
+        ensures told { BeginsWithEach (seen (view_of self.new)) (named job.note ∷ told (view_of self.old)) }
 
-        ensures prefix { result.prefix ≡ length (seen self.new.view) }
-        ensures sends { HasTried (O.tried self.old.out) (O.tried self.new.out) (O.faults self.old.out) (O.faults self.new.out)
-            (map to_peer (copies_by (settings_by (terms_of self.old.view)) self.old.packet_limit (seen self.new.view) job.at job.packet))
+        ensures prefix { result.prefix ≡ length (seen (view_of self.new)) }
+        ensures sends { Tries self.old self.new
+            (copies_due self.old (seen (view_of self.new)) job.at job.packet)
             result.sent result.unsent }
-        ensures limit { self.new.packet_limit ≡ self.old.packet_limit }
+        ensures limit { limit_of self.new ≡ limit_of self.old }
     {
         let Job { packet, at, note } = job;
         self.learn(note);

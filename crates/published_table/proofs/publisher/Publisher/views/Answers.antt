@@ -4,7 +4,7 @@ use Rattle.std.proofs.lemmas.List.{length-append}
 use Rattle.std.proofs.lemmas.List.Elements.{All-push}
 use Rattle.logbook.specs.Pages.{Book}
 use Rattle.published_table.specs.Publishers.{book_of, reading_terms}
-use Rattle.published_table.specs.Views.{IsNew}
+use Rattle.published_table.specs.Views.{IsNew, views_of}
 use Rattle.published_table.specs.declared.terms.Terms.{Terms}
 use Rattle.published_table.proofs.publisher.Publisher.views.Goals as goal
 
@@ -13,7 +13,7 @@ loop-preserved c =
     let before = c.loop.invariant in
     let step = c.in_ok-view.ensures in
     let view = c.in_ok-view.view in
-    let views = c.loop.views.views.items in
+    let views = views_of c.loop.views in
     let pushed = c.in-Ok.ensures.ok in
     let new = subst (λ (terms : Terms). IsNew (book_of c.args.self.now) terms view) before.0.terms (subst (λ (book : Book). IsNew book (reading_terms c.loop.self) view) before.0.book step.new) in (
       record { book = step.same.book ∙ before.0.book; terms = step.same.terms ∙ before.0.terms },

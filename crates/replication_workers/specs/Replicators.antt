@@ -1,0 +1,33 @@
+-- What is read of a replicator, and what it does.
+use Rattle.std.specs.Prelude.{ℕ, List, map}
+use Rattle.amt_values.specs.declared.peer.Peer.{Peer}
+use Rattle.endpoint_membership.specs.declared.change.Change.{Change}
+use Rattle.published_table.specs.Terms.{settings_by}
+use Rattle.published_table.specs.Views.{terms_of}
+use Rattle.published_table.specs.declared.view.View.{View}
+use Rattle.replication_workers.specs.Replication.{HasTried, copies_by, to_peer}
+use Rattle.replication_workers.specs.declared.out_link.OutLink.{Ghosts}
+use Rattle.replication_workers.specs.declared.replicator.Replicator.{Replicator}
+
+module _ {O : Type 0} {g : Ghosts O} where
+  -- by which the receivers of a packet are found
+  abbrev pub view_of : Replicator O g → View
+  view_of replicator = replicator.view
+
+  -- where its datagrams are sent to
+  abbrev pub out_of : Replicator O g → O
+  out_of replicator = replicator.out
+
+  -- how many octets a packet has at most that is copied
+  abbrev pub limit_of : Replicator O g → ℕ
+  limit_of replicator = replicator.packet_limit
+
+  -- the datagrams that it has to send for the packet, if this is the log
+  abbrev pub copies_due : Replicator O g → List Change → ℕ → List ℕ → List (Peer × List ℕ)
+  copies_due replicator log moment packet =
+      map to_peer (copies_by (settings_by (terms_of (view_of replicator))) (limit_of replicator) log moment packet)
+
+  -- exactly these datagrams were tried at its link; so many were sent, and so many not
+  abbrev pub Tries : Replicator O g → Replicator O g → List (Peer × List ℕ) → ℕ → ℕ → Type 0
+  Tries before after wanted sent unsent =
+      HasTried (g.tried (out_of before)) (g.tried (out_of after)) (g.faults (out_of before)) (g.faults (out_of after)) wanted sent unsent
