@@ -1,5 +1,5 @@
 -- What is read of views and notes.
-use Rattle.std.specs.Prelude.{◌≡◌, ℕ, List, [], length, Option, Some, None}
+use Rattle.std.specs.Prelude.{◌≡◌, ℕ, List, [], length, vec_capacity, Option, Some, None}
 use Rattle.amt_ports.specs.Causes.{Rose}
 use Rattle.logbook.specs.Pages.{Book}
 use Rattle.endpoint_membership.specs.Targets.{TargetsValue, targets_of}
@@ -36,6 +36,10 @@ publisher_of view = view.reader.bookmark.seen.book
 -- the views that are still to be handed out, in order
 abbrev pub views_of : Views → List View
 views_of views = views.views.items
+
+-- for how many views there is room
+abbrev pub room_of : Views → ℕ
+room_of views = vec_capacity views.views
 
 -- the log that a note names, and whose it is
 abbrev pub named : Note → List Change

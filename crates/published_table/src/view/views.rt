@@ -1,7 +1,7 @@
 //! Views that are handed out one by one. It must not know what a view reads.
-ghost use Rattle.std.specs.Prelude.{◌≡◌, ℕ, [], ◌∷◌, ◌++◌, All, length, IfSome, IfNone, IfOk, OnOk, OnErr};
+ghost use Rattle.std.specs.Prelude.{◌≡◌, ◌≤◌, ◌<◌, ℕ, [], ◌∷◌, ◌++◌, All, length, IfSome, IfNone, IfOk, IfErr, IsOk, OnOk, OnErr};
 ghost use Rattle.logbook.specs.Pages.{Book};
-ghost use Rattle.published_table.specs.Views.{IsNew, views_of};
+ghost use Rattle.published_table.specs.Views.{IsNew, room_of, views_of};
 ghost use Rattle.published_table.specs.declared.terms.Terms.{Terms as ReadingTerms};
 
 use super::View;
@@ -16,7 +16,8 @@ pub struct Views {
 impl Views {
     /// No views, and room for so many.
     pub fn with_room(alloc: Global, views: u32) -> Result<Views, AllocError>
-        ensures { IfOk result (λ made. views_of made ≡ []) }
+        ensures none { IfOk result (λ made. views_of made ≡ []) }
+        ensures room { IfOk result (λ made. views ≤ room_of made) }
     {
         Ok(Views {
             views: Vec::with_capacity(alloc, views as usize)?,
@@ -29,10 +30,14 @@ impl Views {
         self.views.len()
     }
 
-    /// Adds a view at the end.
+    /// Adds a view at the end. Where there is room it doesn't fail.
     pub fn push(&mut self, view: View) -> Result<(), View>
         ensures ok { OnOk result (views_of self.new ≡ views_of self.old ++ view ∷ []) }
         ensures err { OnErr result (views_of self.new ≡ views_of self.old) }
+        ensures back { IfErr result (λ back. back ≡ view) }
+
+        ensures fits { length (views_of self.old) < room_of self.old → IsOk result }
+        ensures room { room_of self.old ≤ room_of self.new }
     {
         match self.views.push(view) {
             Ok(()) => Ok(()),
