@@ -1,4 +1,4 @@
--- The history of a published log, as a book whose log has each published log whole.
+-- The history of a published log, as a book whose log has each log whole that was to be published.
 use Rattle.std.specs.Prelude.{◌≡◌, ℕ, ◌≤◌, ◌==◌, true, List, [], ◌∷◌, ◌++◌, length, map, MatchBool}
 use Rattle.std.specs.List.{All}
 use Rattle.logbook.specs.Pages.{Book, Cell, Named, Step, View}
@@ -7,7 +7,7 @@ use Rattle.published_table.specs.Lists.{BeginsWith, BeginsWithEach}
 use Rattle.published_table.specs.Logs.{entries}
 use Rattle.published_table.specs.declared.past.Past.{Past}
 
--- The first word is how many logs were published; a book has two words, of which this one leaves the
+-- The first word is how many logs were to be published; a book has two words, of which this one leaves the
 -- second at 0. Some log begins with each of them.
 pub record IsKept (cells : List Cell) (logs : List Past) : Type 0 where
   pub words : cells ≡ (length logs, true) ∷ (0, true) ∷ []

@@ -1,5 +1,5 @@
-//! The history of a published log: each log that was published, in order. It exists for contracts
-//! alone, but for one word, its length.
+//! The history of a published log: each log that was to be published, in order, before it is shown. It
+//! exists for contracts alone, but for one word, its length.
 //!
 //! Why it is needed: a note leaves the publisher's thread as a value, and may come to any view, whenever
 //! it likes. That the logs of two notes are prefixes of one log is a fact of no single holder, so it is
