@@ -32,7 +32,7 @@ pub record IsPublisher (known : Known) (shown : TableCopy) (pending : List Entry
   pub under : IsUnder bookmark.seen.log (log_of shown)
   pub above : BeginsWithEach (entries whole) (map entries bookmark.seen.log)
   pub counted : owed ≡ length (changes pending ++ taken)
-  pub short : length (entries whole) < 2 ^ 62
+  pub short : length (entries whole) < 2 ^ 63
   pub fits : FitsThroughout terms (entries whole)
 
 module _ (known : Known) (shown : TableCopy) (pending : List Entry) (taken : List Change) (owed : ℕ) (whole : Past) (bookmark : Bookmark) (terms : Terms) where
@@ -91,7 +91,7 @@ module _ (known : Known) (shown : TableCopy) (pending : List Entry) (owed : ℕ)
   pub may_publish : (seat : ℕ) → TurnsAt TableRule seat known shown next Seen
   may_publish seat =
       steps seat known shown next (origin_next ∙ sym is.origin) (begins_by (log_of next) (log_of shown) (changes pending) log_next)
-      (λ short. subst (λ (log : List Change). length log < 2 ^ 62) (sym whole_next) is.short)
+      (λ short. subst (λ (log : List Change). length log < 2 ^ 63) (sym whole_next) is.short)
       (λ fits. subst (λ (by : Terms). FitsThroughout by (log_of next)) (sym terms_next) (subst (FitsThroughout terms) (sym whole_next) is.fits))
       (λ under. vouched_next.1)
 
@@ -144,7 +144,7 @@ pub shows_same : (known : Known) (shown next : TableCopy) → state_of next ≡ 
 shows_same known shown next same seat =
     steps seat known shown next (λ i. ((same i).bookmark.seen.book, (same i).terms))
     (subst (λ (log : List Change). BeginsWith log (log_of shown)) (λ i. (sym same i).log) (begins_itself (log_of shown)))
-    (subst (λ (one : CopyState). length one.log < 2 ^ 62) (sym same))
+    (subst (λ (one : CopyState). length one.log < 2 ^ 63) (sym same))
     (subst (λ (one : CopyState). FitsThroughout one.terms one.log) (sym same))
     (subst (λ (one : CopyState). IsUnder one.bookmark.seen.log one.log) (sym same))
 

@@ -46,7 +46,7 @@ admits x holders rule = with_holders x holders (holders ++ newcomer ∷ []) rule
 
 -- a copy of the same origin, whose log is as long or longer
 pub steps : (seat : ℕ) (known : Known) (x y : TableCopy) → origin_of y ≡ origin_of x → BeginsWith (log_of y) (log_of x)
-    → (length (log_of x) < 2 ^ 62 → length (log_of y) < 2 ^ 62)
+    → (length (log_of x) < 2 ^ 63 → length (log_of y) < 2 ^ 63)
     → (FitsThroughout x.terms (log_of x) → FitsThroughout y.terms (log_of y))
     → (IsUnder x.bookmark.seen.log (log_of x) → IsUnder y.bookmark.seen.log (log_of y)) → TurnsAt TableRule seat known x y Seen
 steps seat known x y same begins short fits under holders rule at =
