@@ -2,7 +2,6 @@
 use Rattle.std.specs.Prelude.{◌≡◌, ℕ, ◌<◌, ◌^◌, List, [], ◌∷◌, length, map}
 use mathlib.Core.Option.{some}
 use lib.ListN.{get_elem?}
-use Rattle.endpoint_membership.specs.declared.change.Change.{Change}
 use Rattle.published_table.specs.Copies.{log_of, origin_of}
 use Rattle.published_table.specs.History.{IsUnder}
 use Rattle.published_table.specs.Lists.{AreAll, BeginsWith}
