@@ -1,11 +1,9 @@
 -- Logs that fit throughout, and the copies that stand for them.
-use Rattle.std.proofs.Common.{◌≡◌, ℕ, ◌≤◌, List, [], ◌∷◌, ◌++◌, length, take, refl, sym, subst, ◌∙◌, inl, inr, arith}
-use Rattle.std.specs.Prelude.{Option, Some, None, OnSome}
+use Rattle.std.proofs.Common.{◌≤◌, List, [], ◌∷◌, ◌++◌, length, sym, subst, inl, inr}
 use Rattle.std.proofs.Math.Logic.{∥∥₁_elim}
 use Rattle.std.proofs.Math.Seq.{take-length}
 use Rattle.std.proofs.Props.{props}
 use Rattle.endpoint_membership.specs.Limits.{IsWithin, live_count}
-use Rattle.endpoint_membership.specs.Membership.{Membership}
 use Rattle.endpoint_membership.specs.declared.change.Change.{Change}
 use Rattle.endpoint_membership.proofs.HoldsAfter.{rows_now}
 use Rattle.published_table.specs.Copies.{log_of}

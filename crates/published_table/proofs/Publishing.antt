@@ -1,7 +1,8 @@
 -- What holds of a publisher, said of plain values, and what each part of a publishing makes of it.
 use Rattle.std.proofs.Common.{◌≡◌, ℕ, ◌<◌, ◌^◌, List, [], ◌∷◌, ◌++◌, fold, length, map, MatchResult, Result, Ok, Err, refl, sym, ap, subst, ◌∙◌, arith}
-use Rattle.std.proofs.lemmas.List.{append-nil, map-append}
+use Rattle.std.proofs.lemmas.List.{append-nil}
 use Rattle.std.proofs.lemmas.List.Elements.{All-nil}
+use mathlib.Core.List.{IsPrefix}
 use Rattle.crossbeam_utils.specs.Register.{TurnsAt}
 use Rattle.logbook.specs.Pages.{Book}
 use Rattle.endpoint_membership.specs.declared.change.Change.{Change}
@@ -19,7 +20,7 @@ use Rattle.published_table.specs.declared.past.Past.{Past, Empty}
 use Rattle.published_table.specs.declared.rule.Known.{Known}
 use Rattle.published_table.specs.declared.table_copy.TableCopy.{TableCopy}
 use Rattle.published_table.specs.declared.terms.Terms.{Terms}
-use Rattle.published_table.proofs.Beginnings.{IsUnder-later, begins_by, begins_itself, each_push}
+use Rattle.published_table.proofs.Beginnings.{IsUnder-later, begins_by, begins_itself}
 use Rattle.published_table.proofs.RuleKept.{Seen, steps}
 use Rattle.published_table.proofs.Vouching.{log_after, terms_after}
 
@@ -32,23 +33,21 @@ pub record IsPublisher (known : Known) (shown : TableCopy) (pending : List Entry
   pub under : IsUnder bookmark.seen.log (log_of shown)
   pub above : BeginsWithEach (entries whole) (map entries bookmark.seen.log)
   pub counted : owed ≡ length (changes pending ++ taken)
-  pub short : length (entries whole) < 2 ^ 62
+  pub short : length (entries whole) < 2 ^ 63
   pub fits : FitsThroughout terms (entries whole)
 
 module _ (known : Known) (shown : TableCopy) (pending : List Entry) (taken : List Change) (owed : ℕ) (whole : Past) (bookmark : Bookmark) (terms : Terms) where
-  -- the whole log is in the history now
-  pub recorded : (after : Bookmark) → after.seen.book ≡ bookmark.seen.book → after.seen.log ≡ bookmark.seen.log ++ whole ∷ []
+  -- the history is longer now, and what was taken begins with each of its logs
+  pub recorded : (after : Bookmark) → after.seen.book ≡ bookmark.seen.book → IsPrefix bookmark.seen.log after.seen.log → BeginsWithEach (entries whole) (map entries after.seen.log)
       → IsPublisher known shown pending taken owed whole bookmark terms → IsPublisher known shown pending taken owed whole after terms
-  recorded after book logs is =
-      let same : ◌≡◌ {A = Book × Terms} (bookmark.seen.book, terms) (after.seen.book, terms) = ap (λ (one : Book). (one, terms)) (sym book) in
-      let longer = map-append entries bookmark.seen.log (whole ∷ []) in record {
+  recorded after book kept above is =
+      let same : ◌≡◌ {A = Book × Terms} (bookmark.seen.book, terms) (after.seen.book, terms) = ap (λ (one : Book). (one, terms)) (sym book) in record {
         marked = is.marked ∙ ap (λ (one : Book × Terms). one ∷ []) same;
         origin = is.origin ∙ same;
         all = is.all;
         vouched = subst (λ (one : Book). IsVouched one (fold with_entry (state_of shown) pending)) (sym book) is.vouched;
-        under = IsUnder-later bookmark.seen.log after.seen.log (log_of shown) (whole ∷ [], sym logs) is.under;
-        above = subst (λ (known_logs : List Past). BeginsWithEach (entries whole) (map entries known_logs)) (sym logs)
-            (subst (BeginsWithEach (entries whole)) (sym longer) (each_push (entries whole) (map entries bookmark.seen.log) (entries whole) is.above (begins_itself (entries whole))));
+        under = IsUnder-later bookmark.seen.log after.seen.log (log_of shown) kept is.under;
+        above = above;
         counted = is.counted;
         short = is.short;
         fits = is.fits;
@@ -91,7 +90,7 @@ module _ (known : Known) (shown : TableCopy) (pending : List Entry) (owed : ℕ)
   pub may_publish : (seat : ℕ) → TurnsAt TableRule seat known shown next Seen
   may_publish seat =
       steps seat known shown next (origin_next ∙ sym is.origin) (begins_by (log_of next) (log_of shown) (changes pending) log_next)
-      (λ short. subst (λ (log : List Change). length log < 2 ^ 62) (sym whole_next) is.short)
+      (λ short. subst (λ (log : List Change). length log < 2 ^ 63) (sym whole_next) is.short)
       (λ fits. subst (λ (by : Terms). FitsThroughout by (log_of next)) (sym terms_next) (subst (FitsThroughout terms) (sym whole_next) is.fits))
       (λ under. vouched_next.1)
 
@@ -109,16 +108,26 @@ module _ (known : Known) (shown : TableCopy) (pending : List Entry) (owed : ℕ)
     fits = is.fits;
   }
 
--- after the whole log was recorded and some of what was taken handed over
+-- after the history grew, and some of what was taken was handed over
 pub after_handing : (known known_now : Known) (shown shown_then : TableCopy) (pending pending_now : List Entry) (taken taken_now : List Change) (owed : ℕ) (whole : Past) (before after : Bookmark) (terms : Terms)
-    → known_now ≡ known → shown_then ≡ shown → after.seen.book ≡ before.seen.book → after.seen.log ≡ before.seen.log ++ whole ∷ []
+    → known_now ≡ known → shown_then ≡ shown → after.seen.book ≡ before.seen.book → IsPrefix before.seen.log after.seen.log → BeginsWithEach (entries whole) (map entries after.seen.log)
     → changes pending_now ++ taken_now ≡ changes pending ++ taken → IsVouched after.seen.book (fold with_entry (state_of shown_then) pending_now)
     → IsPublisher known shown pending taken owed whole before terms → IsPublisher known_now shown_then pending_now taken_now owed whole after terms
-after_handing known known_now shown shown_then pending pending_now taken taken_now owed whole before after terms same_known same_shown book logs same vouched is =
-    let here = recorded known shown pending taken owed whole before terms after book logs is in
+after_handing known known_now shown shown_then pending pending_now taken taken_now owed whole before after terms same_known same_shown book kept above same vouched is =
+    let here = recorded known shown pending taken owed whole before terms after book kept above is in
     let there = subst (λ (one : TableCopy). IsPublisher known_now one pending taken owed whole after terms) (sym same_shown)
     (subst (λ (one : Known). IsPublisher one shown pending taken owed whole after terms) (sym same_known) here) in
     handed_over known_now shown_then pending taken owed whole after terms pending_now taken_now same vouched there
+
+-- nothing was shown
+pub nothing_shown : (known known_now : Known) (shown shown_then : TableCopy) (pending pending_now : List Entry) (taken : List Change) (owed owed_now : ℕ) (whole : Past) (bookmark : Bookmark) (terms : Terms)
+    → IsPublisher known shown pending taken owed whole bookmark terms → known_now ≡ known → shown_then ≡ shown → pending_now ≡ pending → owed_now ≡ owed
+    → IsPublisher known_now shown_then pending_now taken owed_now whole bookmark terms
+nothing_shown known known_now shown shown_then pending pending_now taken owed owed_now whole bookmark terms is same_known same_shown same_pending counted =
+    subst (λ (one : Known). IsPublisher one shown_then pending_now taken owed_now whole bookmark terms) (sym same_known)
+    (subst (λ (one : TableCopy). IsPublisher known one pending_now taken owed_now whole bookmark terms) (sym same_shown)
+    (subst (λ (one : List Entry). IsPublisher known shown one taken owed_now whole bookmark terms) (sym same_pending)
+    (subst (λ (one : ℕ). IsPublisher known shown pending taken one whole bookmark terms) (sym counted) is)))
 
 -- whether the copy was shown or not
 pub published_or_not : {D E : Type 0} (known known_now : Known) (shown shown_then : TableCopy) (pending pending_now : List Entry) (taken : List Change) (owed owed_now : ℕ) (whole : Past) (bookmark : Bookmark) (terms : Terms)
@@ -134,17 +143,14 @@ published_or_not known known_now shown shown_then pending pending_now taken owed
     (subst (λ (one : List Entry). IsPublisher known_now shown_then one [] owed_now whole bookmark terms) (sym values.1)
     (subst (λ (one : ℕ). IsPublisher known_now shown_then [] [] one whole bookmark terms) (sym counted) next))
 published_or_not known known_now shown shown_then pending pending_now taken owed owed_now whole bookmark terms (Err error) is none under values same counted =
-    subst (λ (one : Known). IsPublisher one shown_then pending_now taken owed_now whole bookmark terms) (sym same)
-    (subst (λ (one : TableCopy). IsPublisher known one pending_now taken owed_now whole bookmark terms) (sym values.0)
-    (subst (λ (one : List Entry). IsPublisher known shown one taken owed_now whole bookmark terms) (sym values.1)
-    (subst (λ (one : ℕ). IsPublisher known shown pending taken one whole bookmark terms) (sym counted) is)))
+    nothing_shown known known_now shown shown_then pending pending_now taken owed owed_now whole bookmark terms is same values.0 values.1 counted
 
 -- a copy in the same state may be shown
 pub shows_same : (known : Known) (shown next : TableCopy) → state_of next ≡ state_of shown → (seat : ℕ) → TurnsAt TableRule seat known shown next Seen
 shows_same known shown next same seat =
     steps seat known shown next (λ i. ((same i).bookmark.seen.book, (same i).terms))
     (subst (λ (log : List Change). BeginsWith log (log_of shown)) (λ i. (sym same i).log) (begins_itself (log_of shown)))
-    (subst (λ (one : CopyState). length one.log < 2 ^ 62) (sym same))
+    (subst (λ (one : CopyState). length one.log < 2 ^ 63) (sym same))
     (subst (λ (one : CopyState). FitsThroughout one.terms one.log) (sym same))
     (subst (λ (one : CopyState). IsUnder one.bookmark.seen.log one.log) (sym same))
 

@@ -1,10 +1,9 @@
 -- Each step keeps the rule of the published table.
-use Rattle.std.proofs.Common.{◌≡◌, ℕ, ◌<◌, ◌^◌, ◌≢◌, ◌⊎◌, List, [], ◌∷◌, ◌++◌, set, length, map, refl, sym, ap, subst, ◌∙◌, ⊎_elim, arith}
+use Rattle.std.proofs.Common.{◌≡◌, ℕ, ◌<◌, ◌^◌, ◌≢◌, List, [], ◌∷◌, ◌++◌, set, length, map, refl, sym, subst, ⊎_elim}
 use mathlib.Core.Option.{some}
 use lib.ListN.{get_elem?}
 use Rattle.crossbeam_utils.specs.Register.{Admits, Forks, Merges, TurnsAt}
 use Rattle.atomic_table.proofs.Lists.{at_set, at_snoc}
-use Rattle.endpoint_membership.specs.declared.change.Change.{Change}
 use Rattle.logbook.specs.Pages.{Book}
 use Rattle.published_table.specs.Copies.{log_of, origin_of}
 use Rattle.published_table.specs.History.{IsUnder}
@@ -46,7 +45,7 @@ admits x holders rule = with_holders x holders (holders ++ newcomer ∷ []) rule
 
 -- a copy of the same origin, whose log is as long or longer
 pub steps : (seat : ℕ) (known : Known) (x y : TableCopy) → origin_of y ≡ origin_of x → BeginsWith (log_of y) (log_of x)
-    → (length (log_of x) < 2 ^ 62 → length (log_of y) < 2 ^ 62)
+    → (length (log_of x) < 2 ^ 63 → length (log_of y) < 2 ^ 63)
     → (FitsThroughout x.terms (log_of x) → FitsThroughout y.terms (log_of y))
     → (IsUnder x.bookmark.seen.log (log_of x) → IsUnder y.bookmark.seen.log (log_of y)) → TurnsAt TableRule seat known x y Seen
 steps seat known x y same begins short fits under holders rule at =

@@ -1,5 +1,5 @@
 -- Entries on their way into the copies.
-use Rattle.std.specs.Prelude.{◌≡◌, List, [], ◌∷◌, ◌++◌, fold, map}
+use Rattle.std.specs.Prelude.{◌≡◌, List, [], ◌∷◌, ◌++◌, map}
 use Rattle.logbook.specs.Pages.{Book}
 use Rattle.endpoint_membership.specs.declared.change.Change.{Change}
 use Rattle.published_table.specs.History.{IsUnder}

@@ -2,7 +2,6 @@
 use Rattle.std.specs.Prelude.{◌≡◌, ℕ, ◌<◌, ◌^◌, List, [], ◌∷◌, length, map}
 use mathlib.Core.Option.{some}
 use lib.ListN.{get_elem?}
-use Rattle.endpoint_membership.specs.declared.change.Change.{Change}
 use Rattle.published_table.specs.Copies.{log_of, origin_of}
 use Rattle.published_table.specs.History.{IsUnder}
 use Rattle.published_table.specs.Lists.{AreAll, BeginsWith}
@@ -28,7 +27,7 @@ EachKnows copy holders = (seat : ℕ) (known : Known) → get_elem? holders seat
 
 -- of the copy that is published, and of all who may read it
 pub record TableRule (copy : TableCopy) (holders : List Known) : Type 0 where
-  pub short : length (log_of copy) < 2 ^ 62
+  pub short : length (log_of copy) < 2 ^ 63
   pub fits : FitsThroughout copy.terms (log_of copy)
   pub under : IsUnder copy.bookmark.seen.log (log_of copy)
   pub each : EachKnows copy holders
@@ -39,6 +38,6 @@ pub record HasSeen (before : Known) (copy : TableCopy) (after : Known) : Type 0 
   pub begins : BeginsWith after.seen before.seen
   pub origin : map origin_of after.copies ≡ origin_of copy ∷ []
   pub same : AreAll (origin_of copy) (map origin_of before.copies)
-  pub short : length after.seen < 2 ^ 62
+  pub short : length after.seen < 2 ^ 63
   pub fits : FitsThroughout copy.terms after.seen
   pub under : IsUnder copy.bookmark.seen.log after.seen

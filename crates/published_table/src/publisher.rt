@@ -46,6 +46,6 @@ pub struct Publisher {
     ghost under: { IsUnder history.bookmark.seen.log (log_of writer.desk.shown.value) },
     ghost above: { BeginsWithEach (entries whole) (map entries history.bookmark.seen.log) },
     ghost counted: { owed ≡ length (changes (drop writer.behind writer.log.items) ++ taken.items) },
-    ghost short: { length (entries whole) < 2 ^ 62 },
+    ghost short: { length (entries whole) < 2 ^ 63 },
     ghost fits: { FitsThroughout terms (entries whole) } by { Prim.hlevel props },
 }

@@ -1,6 +1,6 @@
 -- What was tried so far, and one send more.
 use Rattle.std.proofs.Common.{◌≡◌, ℕ, ◌+◌, ◌≤◌, true, false, cond, not, List, [], ◌∷◌, ◌++◌, refl, sym, ap, subst, ◌∙◌, arith}
-use Rattle.std.specs.Prelude.{Option, Some, None, Result, is_ok}
+use Rattle.std.specs.Prelude.{IsSome, Option, Some, None, Result, is_ok}
 use Rattle.std.specs.List.{sum_by}
 use Rattle.std.proofs.lemmas.List.{append_assoc, map-append}
 use Rattle.std.proofs.lemmas.List.Sums.{sum_by-append}
@@ -19,9 +19,9 @@ AppendsAll-then before now (Some all) sends more first second =
 
 -- one more datagram that the device took
 pub HasTried-sent : (before now after : Option (List TriedSend)) (first middle last : ℕ) (wanted : List (Peer × List ℕ)) (sent unsent : ℕ) (to : Peer) (bytes : List ℕ) (result : Result (Unit {0}) Failed)
-    → is_ok result ≡ true → HasTried before now first middle wanted sent unsent → Appends now after (tried_send to bytes result) → last ≡ middle
+    → is_ok result ≡ true → HasTried before now first middle wanted sent unsent → Appends now after (tried_send to bytes result) → (IsSome now → IsSome after) → last ≡ middle
     → HasTried before after first last (wanted ++ (to, bytes) ∷ []) (sent + 1) unsent
-HasTried-sent before now after first middle last wanted sent unsent to bytes result fine tried more same =
+HasTried-sent before now after first middle last wanted sent unsent to bytes result fine tried more still same =
     let send = tried_send to bytes result in
     let later = tried.later in
     let taken = sum_by-append (λ (one : TriedSend). cond one.sent 1 0) tried.sends (send ∷ []) in
@@ -36,6 +36,7 @@ HasTried-sent before now after first middle last wanted sent unsent to bytes res
       later = omega (arith, later, same);
       cause = λ some. subst (λ (count : ℕ). HasRisen first count) (sym same) (tried.cause some);
       quiet = λ zero_unsent. same ∙ tried.quiet zero_unsent;
+      tells = λ zero_unsent told. still (tried.tells zero_unsent told);
     }
 
 -- one more that it didn't take; the count never falls
@@ -57,4 +58,5 @@ HasTried-failed before now after first middle last wanted sent unsent to bytes r
       later = omega (arith, later, onward);
       cause = λ some small. omega (arith, later, rose, small);
       quiet = λ zero_unsent. absurd (omega (arith, zero_unsent));
+      tells = λ zero_unsent. absurd (omega (arith, zero_unsent));
     }

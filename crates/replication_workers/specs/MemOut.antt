@@ -7,9 +7,13 @@ use Rattle.replication_workers.specs.declared.mem_out.Tried.{Tried}
 abbrev pub tried_of : Tried → TriedSend
 tried_of tried = record { to = tried.to; bytes = tried.bytes; sent = tried.sent }
 
+-- the sends that it keeps, in order
+abbrev pub kept_by : MemOut → List Tried
+kept_by out = out.tried.items
+
 -- the sends that were tried, if none is missing
 abbrev pub tried_by : MemOut → Option (List TriedSend)
-tried_by out = if out.is_whole then Some (map tried_of out.tried.items) else None
+tried_by out = if out.is_whole then Some (map tried_of (kept_by out)) else None
 
 -- how many of its calls failed
 abbrev pub faults_of : MemOut → ℕ

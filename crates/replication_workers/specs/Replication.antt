@@ -1,5 +1,5 @@
 -- What a replicator sends for a packet (RFC 7450, section 5.3.3.2).
-use Rattle.std.specs.Prelude.{◌≡◌, ℕ, ◌≤◌, ◌<◌, ◌-◌, ◌^◌, List, map, Option}
+use Rattle.std.specs.Prelude.{◌≡◌, ℕ, ◌≤◌, ◌<◌, ◌-◌, ◌^◌, IsSome, List, map, Option}
 use Rattle.amt_values.specs.Endpoint.{peer_of}
 use Rattle.amt_values.specs.EndpointValue.{EndpointValue}
 use Rattle.amt_values.specs.declared.peer.Peer.{Peer}
@@ -27,7 +27,7 @@ abbrev pub HasRisen : ℕ → ℕ → Type 0
 HasRisen before after = after < 2 ^ 64 - 1 → before < after
 
 -- exactly these datagrams were tried, each once and in order; so many were sent, and so many not, which
--- the device's count of faults shows
+-- the device's count of faults shows; where all were sent, a device that told its sends still tells them
 pub record HasTried (before after : Option (List TriedSend)) (faults_before faults_after : ℕ) (wanted : List (Peer × List ℕ)) (sent unsent : ℕ) : Type 0 where
   pub sends : List TriedSend
   pub exactly : map datagram_of sends ≡ wanted
@@ -37,3 +37,4 @@ pub record HasTried (before after : Option (List TriedSend)) (faults_before faul
   pub later : faults_before ≤ faults_after
   pub cause : 0 < unsent → HasRisen faults_before faults_after
   pub quiet : unsent ≡ 0 → faults_after ≡ faults_before
+  pub tells : unsent ≡ 0 → IsSome before → IsSome after

@@ -1,7 +1,7 @@
 //! A link in memory, for tests and callers. It must not know the real devices.
-ghost use Rattle.std.specs.Prelude.{◌≡◌, ◌≤◌, [], ◌∷◌, ◌++◌, Some, OnOk, OnErr};
+ghost use Rattle.std.specs.Prelude.{◌≡◌, ◌≤◌, [], ◌∷◌, ◌++◌, IsSome, Some, OnOk, OnErr};
 ghost use Rattle.amt_ports.specs.Causes.{HasCause, next_count};
-ghost use Rattle.replication_workers.specs.MemOut.{faults_of, tried_by};
+ghost use Rattle.replication_workers.specs.MemOut.{faults_of, kept_by, tried_by};
 ghost use Rattle.replication_workers.specs.Sends.{Appends, tried_send};
 
 use crate::out_link::OutLink;
@@ -56,7 +56,9 @@ impl MemOut {
     }
 
     /// What was tried, in order; all of it, unless memory ran out.
-    pub fn tried(&self) -> &[Tried] {
+    pub fn tried(&self) -> &[Tried]
+        ensures { result.now ≡ kept_by self.now }
+    {
         self.tried.as_slice()
     }
 
@@ -102,6 +104,7 @@ impl OutLink for MemOut {
 
     fn send(&mut self, to: &Peer, bytes: &[u8]) -> Result<(), Failed>
         ensures tried { Appends (tried_by self.old) (tried_by self.new) (tried_send to.now bytes.now result) }
+        ensures tells { OnOk result (IsSome (tried_by self.old) → IsSome (tried_by self.new)) }
         ensures cause { HasCause (faults_of self.old) (faults_of self.new) result }
     {
         self.made = self.made.saturating_add(1);

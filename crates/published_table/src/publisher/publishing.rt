@@ -1,14 +1,16 @@
 //! How a publisher shows what it owes. It must not know who reads it.
-ghost use Rattle.std.specs.Prelude.{◌≡◌, [], ◌++◌, drop, fold, IfOk, MatchResult};
+ghost use Rattle.std.specs.Prelude.{◌≡◌, [], ◌++◌, drop, fold, map, IfOk, MatchResult};
+ghost use mathlib.Core.List.{IsPrefix};
 ghost use Rattle.published_table.specs.Copies.{log_of, state_of};
 ghost use Rattle.published_table.specs.Entries.{IsVouched, changes, with_entry};
 ghost use Rattle.published_table.specs.History.{IsUnder};
+ghost use Rattle.published_table.specs.Lists.{BeginsWithEach};
 ghost use Rattle.published_table.specs.Logs.{entries};
 ghost use Rattle.published_table.specs.Publishers.{HasPublished, IsSamePublisher, ShowsAlike};
 
 use super::{Publisher, TableWriter};
 use crate::entry::Entry;
-use crate::history::Bookmark;
+use crate::history::{Bookmark, History};
 use crate::past::Past;
 use crate::rule::Sees;
 use core::mem::replace_with;
@@ -63,7 +65,35 @@ fn still_owed(done: &Result<(), AllocError>, owed: u64) -> u64
     }
 }
 
-// The whole log goes into the history before it is shown: what shows it has to know that it is there.
+// Hands the writer all that was taken, after the whole log went into the history: what shows it has to
+// know that it is there.
+fn hand_all_over(
+    writer: &mut TableWriter,
+    taken: &mut VecDeque<Change>,
+    history: &mut History,
+    whole: &Past,
+) -> Result<(), AllocError>
+    requires all { entries whole.now ≡ log_of writer.old.desk.shown.value
+        ++ (changes (drop writer.old.behind writer.old.log.items) ++ taken.old.items) }
+    requires above { BeginsWithEach (entries whole.now) (map entries history.old.bookmark.seen.log) }
+    requires vouched { IsVouched history.old.bookmark.seen.book
+        (fold with_entry (state_of writer.old.desk.shown.value) (drop writer.old.behind writer.old.log.items)) }
+    ensures desk { writer.new.desk ≡ writer.old.desk }
+    ensures owed { changes (drop writer.new.behind writer.new.log.items) ++ taken.new.items
+        ≡ changes (drop writer.old.behind writer.old.log.items) ++ taken.old.items }
+    ensures vouched { IsVouched history.new.bookmark.seen.book
+        (fold with_entry (state_of writer.new.desk.shown.value) (drop writer.new.behind writer.new.log.items)) }
+    ensures book { history.new.bookmark.seen.book ≡ history.old.bookmark.seen.book }
+    ensures kept { IsPrefix history.old.bookmark.seen.log history.new.bookmark.seen.log }
+    ensures above { BeginsWithEach (entries whole.now) (map entries history.new.bookmark.seen.log) }
+    ensures under { IfOk result (λ _. IsUnder history.new.bookmark.seen.log (entries whole.now)) }
+    ensures none { IfOk result (λ _. taken.new.items ≡ []) }
+{
+    history.record(whole)?;
+    hand_over(writer, taken, &history.bookmark, whole)
+}
+
+// Shows the whole log. Where some of it couldn't be handed over, nothing is shown.
 fn publish_by<R: Wait>(publisher: Publisher, rt: &R) -> (Publisher, Result<(), AllocError>)
     ensures same { IsSamePublisher publisher result.0 }
     ensures logs { MatchResult result.1 (λ _. HasPublished publisher result.0) (λ _. ShowsAlike publisher result.0) }
@@ -76,29 +106,10 @@ fn publish_by<R: Wait>(publisher: Publisher, rt: &R) -> (Publisher, Result<(), A
         whole,
         mut history,
     } = publisher;
-    if history.record(&whole).is_err() {
-        let kept = Publisher {
-            writer,
-            terms,
-            taken,
-            owed,
-            whole,
-            history,
-        };
-        return (kept, Err(AllocError));
-    }
-    if hand_over(&mut writer, &mut taken, &history.bookmark, &whole).is_err() {
-        let kept = Publisher {
-            writer,
-            terms,
-            taken,
-            owed,
-            whole,
-            history,
-        };
-        return (kept, Err(AllocError));
-    }
-    let (writer, done) = writer.publish_as::<Sees, R>(rt);
+    let (writer, done) = match hand_all_over(&mut writer, &mut taken, &mut history, &whole) {
+        Ok(()) => writer.publish_as::<Sees, R>(rt),
+        Err(error) => (writer, Err(error)),
+    };
     let owed = still_owed(&done, owed);
     let next = Publisher {
         writer,

@@ -24,7 +24,7 @@ impl Publisher {
     /// it are within the limits.
     pub fn take(&mut self, change: Change)
         requires room { 0 < spare self.old }
-        requires few { length (published self.old ++ owing self.old) + 1 < 2 ^ 62 }
+        requires few { length (published self.old ++ owing self.old) < 2 ^ 62 }
         requires fits { Fits (reading_terms self.old) ((published self.old ++ owing self.old) ++ change ∷ []) }
         ensures same { IsSamePublisher self.old self.new }
         ensures published { published self.new ≡ published self.old }

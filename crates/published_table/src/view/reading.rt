@@ -1,17 +1,21 @@
 //! How a view reads the table. It must not know how a copy is published.
-ghost use Rattle.std.specs.Prelude.{◌≡◌, ◌≤◌, ℕ, Some, IfSome, OnSome, MatchOption};
+ghost use Rattle.std.specs.Prelude.{◌≡◌, ◌≤◌, ℕ, Some, length, IfSome, OnSome, MatchOption};
 ghost use Rattle.endpoint_membership.specs.Limits.{live_count};
 ghost use Rattle.endpoint_membership.specs.Table.{Holds};
 ghost use Rattle.endpoint_membership.specs.Targets.{targets_of};
 ghost use Rattle.endpoint_membership.specs.declared.change.Change.{Change as LogEntry};
+ghost use Rattle.published_table.specs.History.{AreUnder, IsUnder};
+ghost use Rattle.published_table.specs.Lists.{BeginsWithEach};
 ghost use Rattle.published_table.specs.Logs.{entries};
 ghost use Rattle.published_table.specs.Terms.{settings_by};
+ghost use Rattle.published_table.specs.Told.{logs_told};
 ghost use Rattle.published_table.specs.Views.{Fills, HasRead, IsHandedBack, IsSameView, handed, publisher_of, seen, terms_of, told};
 
 use super::{Reader, View};
-use crate::history::compare;
+use crate::history::{Bookmark, compare};
 use crate::rule::Sees;
 use crate::table_copy::TableCopy;
+use crate::told::Told;
 use amt_values::{Ip, Moment};
 use core::mem::{replace_with, swap};
 use endpoint_membership::Targets;
@@ -39,6 +43,30 @@ fn fill(copy: &TableCopy, wanted: &Option<Wanted>, targets: &mut Targets)
     }
 }
 
+// Fills the targets by the copy, and answers how many entries its log has, which begins with each log
+// that the reader was told of.
+fn answer(
+    copy: &TableCopy,
+    bookmark: &Bookmark,
+    told: &Told,
+    least: u64,
+    wanted: &Option<Wanted>,
+    targets: &mut Targets,
+) -> u64
+    requires same { copy.now.bookmark.seen.book ≡ bookmark.now.seen.book }
+    requires told { AreUnder bookmark.now.seen.log least (logs_told told.now) }
+    requires under { IsUnder copy.now.bookmark.seen.log (entries copy.now.past) }
+    requires longer { least ≤ length (entries copy.now.past) }
+    requires room { OnSome wanted.now (live_count copy.now.table.rows ≤ targets.old.room) }
+    ensures number { result ≡ copy.now.count }
+    ensures told { BeginsWithEach (entries copy.now.past) (logs_told told.now) }
+    ensures targets { Fills wanted.now copy.now.terms (entries copy.now.past) targets.old targets.new }
+{
+    compare(bookmark, told, least, &copy.bookmark, &copy.past);
+    fill(copy, wanted, targets);
+    copy.count
+}
+
 // Reads once.
 fn look(view: View, wanted: Option<Wanted>) -> (View, Option<u64>)
     requires room { OnSome wanted ((terms_of view).limits.endpoints ≤ view.targets.room) }
@@ -59,34 +87,24 @@ fn look(view: View, wanted: Option<Wanted>) -> (View, Option<u64>)
         least,
         bookmark,
     } = reader;
-    let inside = match door.enter::<Sees>(least) {
-        Ok(inside) => inside,
-        Err(door) => {
-            let reader = Reader {
-                door,
-                terms,
-                log,
-                told,
-                least,
-                bookmark,
-            };
-            return (View { reader, targets }, None);
+    let (door, log, number) = match door.enter::<Sees>(least) {
+        Ok(inside) => {
+            let copy = inside.get();
+            let number = answer(copy, &bookmark, &told, least, &wanted, &mut targets);
+            let log = Snapshot::of(&copy.past);
+            (inside.leave(), log, Some(number))
         }
+        Err(door) => (door, log, None),
     };
-    let copy = inside.get();
-    compare(&bookmark, &told, least, &copy.bookmark, &copy.past);
-    fill(copy, &wanted, &mut targets);
-    let log = Snapshot::of(&copy.past);
-    let number = copy.count;
     let reader = Reader {
-        door: inside.leave(),
+        door,
         terms,
         log,
         told,
         least,
         bookmark,
     };
-    (View { reader, targets }, Some(number))
+    (View { reader, targets }, number)
 }
 
 impl View {

@@ -7,6 +7,9 @@ ghost use Rattle.replication_workers.specs.Replication.{HasTried, with_message};
 use crate::out_link::OutLink;
 use amt_values::Endpoint;
 
+// The first octet of a Multicast Data message: version 0, and its type (RFC 7450, section 5.1.6).
+const MULTICAST_DATA: u8 = 6;
+
 /// How many datagrams were sent, and how many the device didn't take.
 pub struct SendCounts {
     pub sent: u32,
@@ -20,7 +23,8 @@ pub fn write_message(packet: &[u8], message: &mut Vec<u8>)
     ensures room { vec_capacity message.old ≤ vec_capacity message.new }
 {
     message.clear();
-    message.push_reserved(6);
+    message.push_reserved(MULTICAST_DATA);
+    // A reserved octet.
     message.push_reserved(0);
     match message.extend_from_slice(packet) {
         Ok(()) => {}

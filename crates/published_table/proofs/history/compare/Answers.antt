@@ -1,4 +1,4 @@
-use Rattle.std.proofs.Common.{◌≤◌, subst, arith}
+use Rattle.std.proofs.Common.{subst, arith}
 use mathlib.Core.List.{IsPrefix}
 use Rattle.published_table.specs.Logs.{entries}
 use Rattle.published_table.specs.Told.{logs_told}

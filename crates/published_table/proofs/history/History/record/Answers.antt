@@ -1,6 +1,5 @@
 use Rattle.std.proofs.Common.{ap, sym, subst, ◌∙◌, length, map}
 use Rattle.logbook.specs.Pages.{Named}
-use Rattle.logbook.specs.declared.tokens.Seen.{Seen}
 use Rattle.published_table.specs.Lists.{BeginsWithEach}
 use Rattle.published_table.specs.Logs.{entries}
 use Rattle.published_table.proofs.HistoryGrows.{adds_moves}

@@ -33,6 +33,6 @@ invariant_of-self c =
       above = subst (λ (log : List Change). BeginsWithEach log (map entries publisher.history.bookmark.seen.log)) (sym next)
           (each_further (whole ++ change ∷ []) whole (map entries publisher.history.bookmark.seen.log) (begins_by (whole ++ change ∷ []) whole (change ∷ []) refl) publisher.above);
       counted = omega (arith, publisher.counted, ap length owing, length-append (pending ++ taken) (change ∷ []));
-      short = subst (λ (log : List Change). length log < 2 ^ 62) (sym next) (omega (arith, one_more, as_long, few));
+      short = subst (λ (log : List Change). length log < 2 ^ 63) (sym next) (omega (arith, one_more, as_long, few));
       fits = subst (FitsThroughout publisher.terms) (sym next) (FitsThroughout-next publisher.terms whole change publisher.fits fits);
     }

@@ -1,8 +1,7 @@
-use Rattle.std.proofs.Common.{◌≡◌, List, [], drop, fold, sym, ap, ◌∙◌}
+use Rattle.std.proofs.Common.{List, drop, fold, sym, ap, ◌∙◌}
 use Rattle.left_right.specs.Sides.{view}
 use Rattle.published_table.specs.Copies.{state_of}
 use Rattle.published_table.specs.Entries.{with_entry}
-use Rattle.published_table.specs.Rule.{HasSeen}
 use Rattle.published_table.specs.declared.entry.Entry.{Entry}
 use Rattle.published_table.proofs.Cases.{ok_case}
 use Rattle.published_table.proofs.Publishing.{opened, shows_same}

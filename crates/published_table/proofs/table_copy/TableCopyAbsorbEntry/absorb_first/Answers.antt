@@ -1,4 +1,4 @@
-use Rattle.std.proofs.Common.{◌≡◌, ◌+◌, ◌%◌, ◌^◌, List, [], ◌∷◌, ◌++◌, length, sym, ap, subst, ◌∙◌, arith}
+use Rattle.std.proofs.Common.{List, [], ◌∷◌, length, sym, ap, subst, ◌∙◌, arith}
 use Rattle.std.proofs.Math.Logic.{∥∥₁_map}
 use Rattle.std.proofs.lemmas.List.{length-append}
 use Rattle.endpoint_membership.specs.Table.{Holds}

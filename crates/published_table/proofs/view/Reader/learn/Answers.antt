@@ -1,4 +1,4 @@
-use Rattle.std.proofs.Common.{◌≡◌, ◌≤◌, [], ◌∷◌, ap, sym, subst, ◌∙◌, arith}
+use Rattle.std.proofs.Common.{[], ◌∷◌, ap, sym, subst, ◌∙◌, arith}
 use Rattle.logbook.specs.Pages.{Book}
 use Rattle.published_table.specs.History.{AreUnder}
 use Rattle.published_table.specs.Logs.{entries}

@@ -12,7 +12,7 @@ loop-to-preserved g c =
     elim c.match-send.branch [
       | in-Ok w ↦
           let counts = w.counts-is in
-          let next = one_sent _ _ _ _ _ _ c.args.message.now targets place _ _ c.to-item.result c.peer.result c.send.result _ w.in-Ok.is c.loop-to-test.true c.to-item.is c.peer.ensures.value tried c.send.ensures.tried c.send.ensures.cause in
+          let next = one_sent _ _ _ _ _ _ c.args.message.now targets place _ _ c.to-item.result c.peer.result c.send.result _ w.in-Ok.is c.loop-to-test.true c.to-item.is c.peer.ensures.value tried c.send.ensures.tried c.send.ensures.tells c.send.ensures.cause in
           (rw counts next, rw counts (omega (arith, all)))
       | in-Err w ↦
           let counts = w.counts-is in
