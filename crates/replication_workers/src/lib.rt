@@ -12,6 +12,6 @@ mod out_link;
 mod replicator;
 
 pub use job::{Copied, Job};
-pub use mem_out::MemOut;
+pub use mem_out::{MemOut, Tried};
 pub use out_link::OutLink;
 pub use replicator::{NewFault, Replicator};
