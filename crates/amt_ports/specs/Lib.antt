@@ -4,6 +4,7 @@ pub mod Causes
 pub mod Contents
 pub mod MemSink
 pub mod MemSource
+pub mod Peers
 pub mod Reading
 pub mod Sends
 pub mod Starts

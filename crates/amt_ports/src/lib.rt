@@ -22,7 +22,10 @@ mod task;
 mod words;
 mod writing;
 
-pub use adapters::{Adapted, ReaderSource, WriterSink};
+pub use adapters::{
+    Adapted, HostClock, HostFiles, HostWords, ReaderSource, UdpFeed, UdpLink, UdpOut, WriterSink,
+    open_sockets,
+};
 pub use clock::Clock;
 pub use fault::Failed;
 pub use feed::{Feed, FeedAnswer, FeedGot};
