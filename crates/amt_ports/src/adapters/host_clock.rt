@@ -1,7 +1,6 @@
 //! The machine's clock. It must not know what is timed.
 
 ghost use Rattle.std.specs.Prelude.{◌≡◌, ◌<◌, ◌≤◌, None};
-ghost use Rattle.amt_ports.specs.Told.{Appends};
 
 use crate::Clock;
 use crate::fault::count_fault;
@@ -53,7 +52,6 @@ impl<C: time::Clock + Drop> Clock for HostClock<C> {
     ghost faults = { λ clock. clock.faults };
 
     fn now(&mut self) -> Moment
-        ensures given { Appends None None result }
         ensures faults { self.old.faults ≤ self.new.faults }
 
         ensures last { self.new.last ≡ result }
