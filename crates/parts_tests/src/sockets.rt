@@ -5,10 +5,11 @@ ghost use Rattle.std.specs.Prelude.{◌≡◌, IfOk, vec_len};
 use amt_ports::*;
 use amt_values::{Ip, Peer};
 use std::alloc::{AllocError, Global};
-use std::io;
 use std::net::{IpAddr, Ipv4Addr, Net, SocketAddr, UdpSocket};
 use std::test::Fail;
+use std::thread::Threads;
 use std::time::{Duration, Instant};
+use std::{io, thread};
 
 // 127.0.0.1, which an IPv6 socket knows as ::ffff:127.0.0.1.
 const LOOPBACK: u32 = 0x7f00_0001;
@@ -123,6 +124,24 @@ fn what_a_worker_sends_comes_from_the_links_port(rt: HostRuntime) -> Result<(), 
     let mut out = link.worker_end()?;
     assert!(rt; out.send(&peer, b"multicast data").is_ok());
     assert!(rt; far_end_takes(&far, link.local_peer()?.port, b"multicast data"));
+    Ok(())
+}
+
+// Whether a worker's end sends from a thread of its own.
+fn sends_beside<R: Threads>(rt: &R, out: UdpOut, to: Peer) -> bool {
+    let mut out = out;
+    match thread::spawn(rt, move || out.send(&to, b"from a worker")) {
+        Ok(started) => started.join(rt) == Ok(()),
+        Err(_) => false,
+    }
+}
+
+#[test]
+fn a_worker_sends_from_a_thread_of_its_own(rt: HostRuntime) -> Result<(), Fail> {
+    let (link, _feed) = open_at(&rt, Ip::V4(LOOPBACK))?;
+    let (far, peer) = far_end(&rt)?;
+    assert!(rt; sends_beside(&rt, link.worker_end()?, peer));
+    assert!(rt; far_end_takes(&far, link.local_peer()?.port, b"from a worker"));
     Ok(())
 }
 
