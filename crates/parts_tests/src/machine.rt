@@ -1,7 +1,5 @@
 //! The machine's clock, random words and files, and those of a machine that fails. It knows public calls alone.
 
-ghost use Rattle.std.specs.Prelude.{◌≡◌, IfOk};
-
 use amt_ports::*;
 use amt_values::Bytes;
 use std::alloc::Global;

@@ -1,6 +1,6 @@
 //! UDP sockets as links and feeds, over the loopback. It knows public calls alone.
 
-ghost use Rattle.std.specs.Prelude.{◌≡◌, IfOk, vec_len};
+ghost use Rattle.std.specs.Prelude.{◌≡◌, ◌≤◌, IfOk, vec_len};
 
 use amt_ports::*;
 use amt_values::{Ip, Peer};
