@@ -98,17 +98,21 @@ fn two_words_of_the_machine_differ(rt: HostRuntime) {
     assert_eq!(rt; words.faults(), 0);
 }
 
-// A random source with no octets, or with these in order.
+// A random source that gives 1, 2, 3 and so on, or fails.
 #[derive(Drop)]
-struct ListedOctets(Option<[u8; 8]>);
+struct CountingOctets {
+    fails: bool,
+}
 
-impl RandomSource for ListedOctets {
+impl RandomSource for CountingOctets {
     fn fill_bytes(&self, buf: &mut [u8]) -> io::Result<()> {
-        let Some(octets) = self.0 else {
+        if self.fails {
             return Err(io::Error::from(ErrorKind::Other));
-        };
-        if buf.len() == 8 {
-            buf.copy_from_slice(&octets);
+        }
+        let mut last = 0u8;
+        for octet in buf.iter_mut() {
+            last = last.wrapping_add(1);
+            *octet = last;
         }
         Ok(())
     }
@@ -116,10 +120,10 @@ impl RandomSource for ListedOctets {
 
 #[test]
 fn a_word_is_eight_octets_or_a_fault(rt: HostRuntime) {
-    let mut words = HostWords::new(ListedOctets(Some([1, 2, 3, 4, 5, 6, 7, 8])));
+    let mut words = HostWords::new(CountingOctets { fails: false });
     assert_eq!(rt; words.word(), Ok(0x0102_0304_0506_0708));
     assert_eq!(rt; words.faults(), 0);
-    let mut none = HostWords::new(ListedOctets(None));
+    let mut none = HostWords::new(CountingOctets { fails: true });
     assert_eq!(rt; none.word(), Err(Failed));
     assert_eq!(rt; none.faults(), 1);
 }
