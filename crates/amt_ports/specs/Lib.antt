@@ -1,6 +1,12 @@
 pub mod AdaptedDevice
+pub mod Arrivals
 pub mod Causes
+pub mod Contents
 pub mod MemSink
 pub mod MemSource
+pub mod Peers
 pub mod Reading
+pub mod Sends
+pub mod Starts
 pub mod Tally
+pub mod Told

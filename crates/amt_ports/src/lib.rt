@@ -7,18 +7,35 @@
 #![tactic(auto)]
 
 mod adapters;
+mod clock;
 mod fault;
+mod feed;
+mod files;
+mod link;
 mod memory;
+mod out_link;
 mod reading;
 mod sink;
 mod source;
 mod tally;
+mod task;
+mod words;
 mod writing;
 
-pub use adapters::{Adapted, ReaderSource, WriterSink};
+pub use adapters::{
+    Adapted, HostClock, HostFiles, HostWords, ReaderSource, UdpFeed, UdpLink, UdpOut, WriterSink,
+    open_sockets,
+};
+pub use clock::Clock;
 pub use fault::Failed;
+pub use feed::{Feed, FeedAnswer, FeedGot};
+pub use files::{FileFault, Files};
+pub use link::{Got, Link, LinkAnswer};
 pub use memory::{FaultlessSource, MemSink, MemSource};
+pub use out_link::OutLink;
 pub use reading::{READ_SIZE, ReadAllFault, read_all};
 pub use sink::Sink;
 pub use source::Source;
+pub use task::{Spawner, Task};
+pub use words::Words;
 pub use writing::{WriteFault, write_all_own};
