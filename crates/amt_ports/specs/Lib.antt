@@ -2,6 +2,8 @@ pub mod AdaptedDevice
 pub mod Arrivals
 pub mod Causes
 pub mod Contents
+pub mod MemLink
+pub mod MemOut
 pub mod MemSink
 pub mod MemSource
 pub mod Reading
