@@ -2,11 +2,14 @@ pub mod AdaptedDevice
 pub mod Arrivals
 pub mod Causes
 pub mod Contents
+pub mod MemFeed
 pub mod MemLink
 pub mod MemOut
 pub mod MemSink
 pub mod MemSource
+pub mod MemWords
 pub mod Reading
+pub mod Scripted
 pub mod Sends
 pub mod Starts
 pub mod Tally

@@ -15,6 +15,7 @@ mod link;
 mod memory;
 mod out_link;
 mod reading;
+mod script;
 mod sink;
 mod source;
 mod tally;
@@ -29,7 +30,10 @@ pub use fault::Failed;
 pub use feed::{Feed, FeedAnswer, FeedGot};
 pub use files::{FileFault, Files};
 pub use link::{Got, Link, LinkAnswer};
-pub use memory::{FaultlessSource, MemLink, MemOut, MemSink, MemSource};
+pub use memory::{
+    FaultlessFeed, FaultlessSource, FaultlessWords, MemClock, MemFeed, MemLink, MemOut, MemSink,
+    MemSource, MemWords,
+};
 pub use out_link::OutLink;
 pub use reading::{READ_SIZE, ReadAllFault, read_all};
 pub use sink::Sink;
