@@ -3,6 +3,7 @@ pub mod Arrivals
 pub mod Causes
 pub mod Contents
 pub mod MemFeed
+pub mod MemFiles
 pub mod MemLink
 pub mod MemOut
 pub mod MemSink

@@ -31,8 +31,8 @@ pub use feed::{Feed, FeedAnswer, FeedGot};
 pub use files::{FileFault, Files};
 pub use link::{Got, Link, LinkAnswer};
 pub use memory::{
-    FaultlessFeed, FaultlessSource, FaultlessWords, MemClock, MemFeed, MemLink, MemOut, MemSink,
-    MemSource, MemWords,
+    FaultlessFeed, FaultlessSource, FaultlessWords, MemClock, MemFeed, MemFile, MemFiles, MemLink,
+    MemOut, MemSink, MemSource, MemWords,
 };
 pub use out_link::OutLink;
 pub use reading::{READ_SIZE, ReadAllFault, read_all};

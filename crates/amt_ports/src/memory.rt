@@ -2,6 +2,7 @@
 mod buffer;
 mod clock;
 mod feed;
+mod files;
 mod link;
 mod out;
 mod sink;
@@ -10,6 +11,7 @@ mod words;
 
 pub use clock::MemClock;
 pub use feed::{FaultlessFeed, MemFeed};
+pub use files::{MemFile, MemFiles};
 pub use link::MemLink;
 pub use out::MemOut;
 pub use sink::MemSink;
