@@ -2,6 +2,7 @@ pub mod AdaptedDevice
 pub mod Arrivals
 pub mod Causes
 pub mod Contents
+pub mod ListedSpawner
 pub mod MemFeed
 pub mod MemFiles
 pub mod MemLink
