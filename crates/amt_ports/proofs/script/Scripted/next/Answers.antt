@@ -1,5 +1,5 @@
 -- The value that is given next stands at the end of those that were given.
-use Rattle.std.proofs.Common.{rules, ◌<◌, ◌^◌, length, ◌≡◌, List, drop, ap, sym, ◌∙◌, subst}
+use Rattle.std.proofs.Common.{rules, ◌<◌, ◌^◌, length, ◌≡◌, List, drop, ap, ◌∙◌, subst}
 use Rattle.amt_ports.specs.Scripted.{head_or, given_of, Script}
 use Rattle.amt_ports.specs.Told.{Appends}
 use Rattle.amt_ports.proofs.Given.{given_more, coming_less}
