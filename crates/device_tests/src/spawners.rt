@@ -1,0 +1,98 @@
+//! The spawners with a small task. It knows public calls alone.
+
+ghost use Rattle.std.specs.Prelude.{◌≡◌, ◌+◌, IfSome};
+
+use amt_ports::{
+    Failed, GivenBy, ListedSpawner, Spawner, Starts, Task, ThreadSpawner, start_promised,
+};
+use std::alloc::Global;
+use std::sync::Wait;
+use std::thread::{PromisedHandle, Threads};
+
+// Two numbers to add.
+#[derive(Drop)]
+struct Sum {
+    one: u32,
+    other: u32,
+}
+
+impl Task for Sum {
+    type Done = u64;
+
+    ghost gives = { λ sum done. done ≡ sum.one + sum.other };
+
+    fn run<R: Wait>(self, _rt: &R) -> u64 {
+        u64::from(self.one) + u64::from(self.other)
+    }
+}
+
+// Starts threads that add.
+#[derive(Drop)]
+struct Adders<'a, R> {
+    rt: &'a R,
+}
+
+impl<'a, R: Threads + Wait + 'static> Starts<Sum> for Adders<'a, R> {
+    fn start_thread(&self, work: Sum) -> Result<PromisedHandle<u64, GivenBy<Sum>>, Failed> {
+        start_promised(self.rt, work)
+    }
+}
+
+// The sum by a thread of its own, unless none is started.
+fn added<P: Spawner<Sum>>(spawner: &mut P, one: u32, other: u32) -> Option<u64>
+    ensures { IfSome result (λ sum. sum ≡ one + other) }
+{
+    match spawner.start(Sum { one, other }) {
+        Ok(started) => Some(spawner.join(started)),
+        Err(_) => None,
+    }
+}
+
+#[test]
+fn a_thread_runs_its_task(rt: HostRuntime) {
+    let mut spawner = ThreadSpawner::new(&rt, Adders { rt: &rt });
+    assert_eq!(rt; added(&mut spawner, u32::MAX, 2), Some(4_294_967_297));
+    assert_eq!(rt; spawner.faults(), 0);
+}
+
+// The starts that fail, what three tasks give, and how many starts fail.
+const STARTS: [(&str, &[u64], [Option<u64>; 3], u64); 3] = [
+    ("no start is refused", &[], [Some(3), Some(5), Some(7)], 0),
+    (
+        "a listed start is refused and counted",
+        &[2],
+        [Some(3), None, Some(7)],
+        1,
+    ),
+    ("each start is refused", &[1, 2, 3], [None, None, None], 3),
+];
+
+fn adds<P: Spawner<Sum>>(spawner: &mut P, want: &[Option<u64>; 3]) -> bool {
+    added(spawner, 1, 2) == want[0]
+        && added(spawner, 2, 3) == want[1]
+        && added(spawner, 3, 4) == want[2]
+}
+
+fn adds_unless_listed<R: Threads + Wait + 'static>(
+    rt: &R,
+    alloc: Global,
+    failing: &[u64],
+    want: &[Option<u64>; 3],
+    faults: u64,
+) -> bool {
+    let Ok(failing) = Vec::from_slice(alloc, failing) else {
+        return false;
+    };
+    let mut spawner = ListedSpawner::new(rt, Adders { rt }, failing);
+    adds(&mut spawner, want) && spawner.faults() == faults && spawner.starts() == 3 - faults
+}
+
+#[test]
+fn a_listed_start_is_refused_and_the_others_run(rt: HostRuntime) {
+    for (what, failing, want, faults) in STARTS.as_slice() {
+        assert!(rt;
+            adds_unless_listed(&rt, rt.alloc(), failing, want, *faults),
+            "{what}"
+        );
+    }
+}
