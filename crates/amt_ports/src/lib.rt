@@ -1,8 +1,9 @@
-//! The outside as traits: sources and sinks of bytes, with devices in memory and over std's.
+//! The outside as traits: bytes, datagrams, packets, moments, random words, files and threads, with
+//! devices in memory, adapters over std's readers and writers, and spawners over std's threads.
 //!
 //! Contract: a call fails where its device's count of faults rose, and only there; where a device
-//! tells its bytes, they are what was read or written.
-//! It knows no message, endpoint or moment.
+//! tells what it gave, took or tried, that is what its calls answered.
+//! It knows no message and no endpoint, and of time the moments alone.
 //! No standard.
 #![tactic(auto)]
 
