@@ -1,13 +1,20 @@
 //! The spawners with a small task. It knows public calls alone.
 
-ghost use Rattle.std.specs.Prelude.{◌≡◌, ◌+◌, IfSome};
+ghost use Rattle.std.specs.Prelude.{◌≡◌, ◌≤◌, ◌+◌, IfSome};
 
 use amt_ports::{
-    Failed, GivenBy, ListedSpawner, Spawner, Starts, Task, ThreadSpawner, start_promised,
+    Failed, GivenBy, ListedSpawner, MemOut, OutLink, Spawner, Starts, Task, ThreadSpawner,
+    start_promised,
 };
+use amt_values::{Ip, Peer};
 use std::alloc::Global;
 use std::sync::Wait;
 use std::thread::{PromisedHandle, Threads};
+
+const PEER: Peer = Peer {
+    ip: Ip::V4(0xc633_6407),
+    port: 2268,
+};
 
 // Two numbers to add.
 #[derive(Drop)]
@@ -26,14 +33,41 @@ impl Task for Sum {
     }
 }
 
-// Starts threads that add.
+// Starts threads of both kinds of task.
 #[derive(Drop)]
-struct Adders<'a, R> {
+struct Starter<'a, R> {
     rt: &'a R,
 }
 
-impl<'a, R: Threads + Wait + 'static> Starts<Sum> for Adders<'a, R> {
+impl<'a, R: Threads + Wait + 'static> Starts<Sum> for Starter<'a, R> {
     fn start_thread(&self, work: Sum) -> Result<PromisedHandle<u64, GivenBy<Sum>>, Failed> {
+        start_promised(self.rt, work)
+    }
+}
+
+// A link that sends a datagram in a thread, and comes back from it.
+#[derive(Drop)]
+struct SendThere {
+    out: MemOut,
+}
+
+impl Task for SendThere {
+    type Done = MemOut;
+
+    ghost gives = { λ task out. task.out.tally.faults ≤ out.tally.faults };
+
+    fn run<R: Wait>(self, _rt: &R) -> MemOut {
+        let SendThere { mut out } = self;
+        let _ = out.send(&PEER, b"one");
+        out
+    }
+}
+
+impl<'a, R: Threads + Wait + 'static> Starts<SendThere> for Starter<'a, R> {
+    fn start_thread(
+        &self,
+        work: SendThere,
+    ) -> Result<PromisedHandle<MemOut, GivenBy<SendThere>>, Failed> {
         start_promised(self.rt, work)
     }
 }
@@ -50,7 +84,7 @@ fn added<P: Spawner<Sum>>(spawner: &mut P, one: u32, other: u32) -> Option<u64>
 
 #[test]
 fn a_thread_runs_its_task(rt: HostRuntime) {
-    let mut spawner = ThreadSpawner::new(&rt, Adders { rt: &rt });
+    let mut spawner = ThreadSpawner::new(&rt, Starter { rt: &rt });
     assert_eq!(rt; added(&mut spawner, u32::MAX, 2), Some(4_294_967_297));
     assert_eq!(rt; spawner.faults(), 0);
 }
@@ -83,7 +117,7 @@ fn adds_unless_listed<R: Threads + Wait + 'static>(
     let Ok(failing) = Vec::from_slice(alloc, failing) else {
         return false;
     };
-    let mut spawner = ListedSpawner::new(rt, Adders { rt }, failing);
+    let mut spawner = ListedSpawner::new(rt, Starter { rt }, failing);
     adds(&mut spawner, want) && spawner.faults() == faults && spawner.starts() == 3 - faults
 }
 
@@ -95,4 +129,24 @@ fn a_listed_start_is_refused_and_the_others_run(rt: HostRuntime) {
             "{what}"
         );
     }
+}
+
+fn sent_there<P: Spawner<SendThere>>(spawner: &mut P, out: MemOut) -> Option<MemOut> {
+    match spawner.start(SendThere { out }) {
+        Ok(started) => Some(spawner.join(started)),
+        Err(_) => None,
+    }
+}
+
+fn comes_back<R: Threads + Wait + 'static>(rt: &R, alloc: Global) -> bool {
+    let mut spawner = ThreadSpawner::new(rt, Starter { rt });
+    match sent_there(&mut spawner, MemOut::new(alloc)) {
+        Some(out) => out.tried().len() == 1 && out.faults() == 0,
+        None => false,
+    }
+}
+
+#[test]
+fn a_link_goes_to_a_thread_and_comes_back(rt: HostRuntime) {
+    assert!(rt; comes_back(&rt, rt.alloc()));
 }
