@@ -2,10 +2,17 @@ pub mod AdaptedDevice
 pub mod Arrivals
 pub mod Causes
 pub mod Contents
+pub mod ListedSpawner
+pub mod MemFeed
+pub mod MemFiles
+pub mod MemLink
+pub mod MemOut
 pub mod MemSink
 pub mod MemSource
+pub mod MemWords
 pub mod Peers
 pub mod Reading
+pub mod Scripted
 pub mod Sends
 pub mod Starts
 pub mod Tally

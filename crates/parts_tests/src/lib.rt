@@ -10,13 +10,9 @@ mod datagrams;
 #[cfg(test)]
 mod filters;
 #[cfg(test)]
-mod machine;
-#[cfg(test)]
 mod messages;
 #[cfg(test)]
 mod ports;
-#[cfg(test)]
-mod sockets;
 #[cfg(test)]
 mod values;
 #[cfg(test)]
