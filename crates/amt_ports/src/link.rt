@@ -1,6 +1,6 @@
 //! What a UDP socket is to a machine: datagrams come in, and datagrams go out. It must not know any
 //! device.
-ghost use Rattle.std.specs.Prelude.{◌≡◌, ◌≤◌, ℕ, List, Option, length, IfOk, OnErr};
+ghost use Rattle.std.specs.Prelude.{◌≡◌, ◌≤◌, ℕ, IsSome, List, Option, length, IfOk, OnOk, OnErr};
 ghost use Rattle.amt_ports.specs.Arrivals.{IsShortGot, link_answer};
 ghost use Rattle.amt_ports.specs.Causes.{HasCause};
 ghost use Rattle.amt_ports.specs.Sends.{TriedSend, tried_send};
@@ -61,6 +61,7 @@ pub trait Link {
     /// Tries to send the octets to the peer, once.
     fn send(&mut self, to: &Peer, bytes: &[u8]) -> Result<(), Failed>
         ensures tried { Appends (tried self.old) (tried self.new) (tried_send to.now bytes.now result) }
+        ensures tells { OnOk result (IsSome (tried self.old) → IsSome (tried self.new)) }
         ensures cause { HasCause (send_faults self.old) (send_faults self.new) result }
         ensures apart { receive_faults self.new ≡ receive_faults self.old }
         ensures coming { coming self.new ≡ coming self.old };

@@ -1,5 +1,5 @@
 //! Where datagrams are sent to. It must not know any device.
-ghost use Rattle.std.specs.Prelude.{ℕ, List, Option};
+ghost use Rattle.std.specs.Prelude.{ℕ, IsSome, List, OnOk, Option};
 ghost use Rattle.amt_ports.specs.Causes.{HasCause};
 ghost use Rattle.amt_ports.specs.Sends.{TriedSend, tried_send};
 ghost use Rattle.amt_ports.specs.Told.{Appends};
@@ -18,5 +18,6 @@ pub trait OutLink {
     /// Tries to send the octets to the peer, once.
     fn send(&mut self, to: &Peer, bytes: &[u8]) -> Result<(), Failed>
         ensures tried { Appends (tried self.old) (tried self.new) (tried_send to.now bytes.now result) }
+        ensures tells { OnOk result (IsSome (tried self.old) → IsSome (tried self.new)) }
         ensures cause { HasCause (faults self.old) (faults self.new) result };
 }

@@ -8,7 +8,8 @@ use Rattle.amt_ports.specs.Causes.{Rose}
 use Rattle.amt_ports.specs.declared.fault.Failed.{Failed}
 use Rattle.amt_values.specs.declared.peer.Peer.{Peer}
 use Rattle.replication_workers.specs.Replication.{HasRisen, HasTried}
-use Rattle.replication_workers.specs.Sends.{Appends, AppendsAll, TriedSend, datagram_of, tried_send}
+use Rattle.amt_ports.specs.Sends.{TriedSend, datagram_of, tried_send}
+use Rattle.amt_ports.specs.Told.{Appends, AppendsAll}
 
 AppendsAll-then : (before now after : Option (List TriedSend)) (sends more : List TriedSend) → AppendsAll before now sends → AppendsAll now after more → AppendsAll before after (sends ++ more)
 AppendsAll-then before now None sends more first second = tt

@@ -1,4 +1,2 @@
-pub mod MemOut
 pub mod Replication
 pub mod Replicators
-pub mod Sends

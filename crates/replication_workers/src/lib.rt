@@ -7,11 +7,7 @@
 #![tactic(auto)]
 
 mod job;
-mod mem_out;
-mod out_link;
 mod replicator;
 
 pub use job::{Copied, Job};
-pub use mem_out::{MemOut, Tried};
-pub use out_link::OutLink;
 pub use replicator::{NewFault, Replicator};

@@ -2,7 +2,7 @@
 ghost use Rattle.std.specs.Prelude.{◌≤◌, ◌+◌, vec_capacity};
 ghost use Rattle.published_table.specs.Views.{terms_of};
 
-use crate::out_link::OutLink;
+use amt_ports::OutLink;
 use endpoint_membership::Targets;
 use published_table::View;
 

@@ -4,7 +4,7 @@ ghost use Rattle.published_table.specs.Views.{terms_of};
 ghost use Rattle.replication_workers.specs.Replicators.{limit_of, out_of, view_of};
 
 use super::{NewFault, Replicator};
-use crate::out_link::OutLink;
+use amt_ports::OutLink;
 use endpoint_membership::Targets;
 use published_table::View;
 use std::alloc::{AllocError, Global};

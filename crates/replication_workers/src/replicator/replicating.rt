@@ -13,7 +13,7 @@ ghost use Rattle.replication_workers.specs.Replicators.{Tries, copies_due, limit
 use super::Replicator;
 use super::sending::{SendCounts, send_all, write_message};
 use crate::job::{Copied, Job};
-use crate::out_link::OutLink;
+use amt_ports::OutLink;
 use amt_values::{Moment, forwardable};
 use endpoint_membership::Targets;
 use inner_datagrams::{Head, packet_head};

@@ -4,7 +4,7 @@ ghost use Rattle.amt_messages.specs.Layout.{spelling_of};
 ghost use Rattle.amt_messages.specs.declared.message.Message.TheVariants.{Multicast};
 ghost use Rattle.replication_workers.specs.Replication.{HasTried, with_message};
 
-use crate::out_link::OutLink;
+use amt_ports::OutLink;
 use amt_values::Endpoint;
 
 // The first octet of a Multicast Data message: version 0, and its type (RFC 7450, section 5.1.6).
