@@ -1,3 +1,5 @@
 pub mod Copies
+pub mod Queues
 pub mod Sending
+pub mod Steps
 pub mod Trying

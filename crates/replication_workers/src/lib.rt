@@ -7,6 +7,7 @@
 #![tactic(auto)]
 
 mod job;
+mod queue;
 mod replicator;
 
 pub use job::{Copied, Job};
