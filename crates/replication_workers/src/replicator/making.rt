@@ -34,6 +34,7 @@ impl<O: OutLink> Replicator<O> {
         packet_limit: u32,
     ) -> Result<Replicator<O>, NewFault<O>>
         requires endpoints { (terms_of view).limits.endpoints ≤ endpoints }
+        requires few { endpoints ≤ 65536 }
         requires limit { packet_limit ≤ 65000 }
         ensures made { IfOk result (λ made. (view_of made ≡ view) × (out_of made ≡ out)
             × (limit_of made ≡ packet_limit)) }
