@@ -1,4 +1,5 @@
 pub mod Copies
+pub mod Handling
 pub mod Queues
 pub mod Sending
 pub mod Steps

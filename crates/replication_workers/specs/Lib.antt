@@ -1,3 +1,5 @@
+pub mod Jobs
 pub mod Queue
 pub mod Replication
 pub mod Replicators
+pub mod Workers

@@ -9,6 +9,8 @@
 mod job;
 mod queue;
 mod replicator;
+mod worker;
 
 pub use job::{Copied, Job};
 pub use replicator::{NewFault, Replicator};
+pub use worker::{Worker, WorkerDone};
