@@ -1,6 +1,7 @@
 -- What a worker keeps while it takes jobs.
-use Rattle.std.proofs.Common.{◌≡◌, ℕ, ◌+◌, ◌*◌, ◌≤◌, ◌^◌, true, List, [], ◌∷◌, ◌++◌, length, map, refl, sym, ap, subst, ◌∙◌, append_assoc, arith, length-append}
+use Rattle.std.proofs.Common.{◌≡◌, ℕ, ◌+◌, ◌*◌, ◌≤◌, ◌<◌, ◌^◌, true, List, [], ◌∷◌, ◌++◌, length, map, refl, sym, ap, subst, ◌∙◌, append_assoc, arith, length-append}
 use Rattle.std.proofs.lemmas.List.{append-nil}
+use Rattle.std.proofs.lemmas.List.Elements.{All-head}
 use Rattle.crossbeam_channel.specs.Claims.{IsSeatAt, view}
 use Rattle.crossbeam_channel.specs.Ends.{receives_on}
 use Rattle.logbook.specs.Pages.{Book}
@@ -8,9 +9,9 @@ use Rattle.amt_ports.specs.declared.out_link.OutLink.{Ghosts}
 use Rattle.amt_values.specs.declared.peer.Peer.{Peer}
 use Rattle.endpoint_membership.specs.Table.{TableSettings}
 use Rattle.endpoint_membership.specs.declared.change.Change.{Change}
-use Rattle.published_table.specs.Lists.{BeginsWith}
+use Rattle.published_table.specs.Lists.{BeginsWith, BeginsWithEach}
 use Rattle.published_table.specs.Terms.{settings_by}
-use Rattle.published_table.specs.Views.{named, note_publisher, publisher_of, seen, terms_of}
+use Rattle.published_table.specs.Views.{named, note_publisher, publisher_of, seen, terms_of, told}
 use Rattle.published_table.specs.declared.terms.Terms.{Terms}
 use Rattle.published_table.specs.declared.view.View.{View}
 use Rattle.replication_workers.proofs.Queues.{jobs_of-append}
@@ -32,23 +33,23 @@ use Rattle.replication_workers.specs.declared.worker.WorkerDone.{WorkerDone}
 pub handled_more : (settings : TableSettings) (limit : ℕ) (before : List Change) (jobs : List Job) (wanted : List (Peer × List ℕ)) (last : List Change) (job : Job) (log : List Change)
     → Handled settings limit before jobs wanted last → BeginsWith log last → BeginsWith log (named job.note)
     → Handled settings limit before (jobs ++ job ∷ []) (wanted ++ copies_of settings limit log job) log
-handled_more settings limit before [] wanted last job log handled further told =
+handled_more settings limit before [] wanted last job log handled further names =
     let due = copies_of settings limit log job in (
       log,
       [],
       subst (BeginsWith log) handled.0 further,
-      told,
+      names,
       ap (λ (list : List (Peer × List ℕ)). list ++ due) handled.1 ∙ sym (append-nil due),
       (refl, refl),
     )
-handled_more settings limit before (one ∷ jobs) wanted last job log handled further told =
+handled_more settings limit before (one ∷ jobs) wanted last job log handled further names =
     let due = copies_of settings limit log job in (
       handled.0,
       handled.1 ++ due,
       handled.2,
       handled.3,
       ap (λ (list : List (Peer × List ℕ)). list ++ due) handled.4 ∙ append_assoc (copies_of settings limit handled.0 one) handled.1 due,
-      handled_more settings limit handled.0 jobs handled.1 last job log handled.5 further told,
+      handled_more settings limit handled.0 jobs handled.1 last job log handled.5 further names,
     )
 
 -- two lists of one publisher
@@ -111,7 +112,7 @@ module _ {O : Type 0} {g : Ghosts O} where
       → BeginsWith (seen (view_of next)) (seen (view_of now)) → BeginsWith (seen (view_of next)) (named job.note)
       → Tries now next (copies_due now (seen (view_of next)) job.at job.packet) more missed → more + missed ≤ 65536
       → Going worker next after (jobs + 1) (sent + more) (unsent + missed)
-  going_more worker now known jobs sent unsent job after next more missed going taken terms publisher limit further told tries few =
+  going_more worker now known jobs sent unsent job after next more missed going taken terms publisher limit further names tries few =
       let start = worker.replicator in
       let log = seen (view_of next) in
       let due = copies_of (settings_by (terms_of (view_of start))) (limit_of start) log job in
@@ -127,7 +128,7 @@ module _ {O : Type 0} {g : Ghosts O} where
         few_sends = omega (arith, sums, few);
         wanted = going.wanted ++ due;
         handled = subst (λ (jobs : List Job). HandledSince start jobs (going.wanted ++ due) log) same
-            (handled_more (settings_by (terms_of (view_of start))) (limit_of start) (seen (view_of start)) (jobs_of known.taken) going.wanted (seen (view_of now)) job log going.handled further told);
+            (handled_more (settings_by (terms_of (view_of start))) (limit_of start) (seen (view_of start)) (jobs_of known.taken) going.wanted (seen (view_of now)) job log going.handled further names);
         tried = HasTried-then _ _ _ _ _ _ going.wanted due sent unsent more missed going.tried
             (subst (λ (wanted : List (Peer × List ℕ)). Tries now next wanted more missed) same_due tries);
         terms = terms ∙ going.terms;
@@ -151,3 +152,23 @@ module _ {O : Type 0} {g : Ghosts O} where
         terms = ap terms_of view_is ∙ going.terms;
         publisher = ap publisher_of view_is ∙ going.publisher;
       }
+
+  -- one more job has room to be counted
+  pub room_for_job : (worker : Worker O g) (now : Replicator O g) (known : End) (jobs sent unsent : ℕ) (job : Job) (after : End) → Going worker now known jobs sent unsent → HasTaken known (Work job) after → jobs < 2 ^ 46
+  room_for_job worker now known jobs sent unsent job after going taken =
+      let same : jobs_of after.taken ≡ jobs_of known.taken ++ job ∷ [] = ap (λ (end : End). jobs_of end.taken) taken.after_is ∙ jobs_of-append known.taken (Work job ∷ []) in
+      let count : length (jobs_of after.taken) ≡ jobs + 1 = omega (arith, ap (λ (list : List Job). length list) same, length-append (jobs_of known.taken) (job ∷ []), going.counted) in
+      let most = taken.few in omega (arith, most, count)
+
+  -- the counts as they stand then
+  pub going_then : (worker : Worker O g) (now : Replicator O g) (known : End) (jobs sent unsent : ℕ) (job : Job) (after : End) (next : Replicator O g) (more missed jobs_then sent_then unsent_then : ℕ)
+      → jobs_then ≡ jobs + 1 → sent_then ≡ sent + more → unsent_then ≡ unsent + missed
+      → Going worker now known jobs sent unsent → HasTaken known (Work job) after
+      → (terms_of (view_of next) ≡ terms_of (view_of now)) × (publisher_of (view_of next) ≡ publisher_of (view_of now)) × (limit_of next ≡ limit_of now)
+      → BeginsWith (seen (view_of next)) (seen (view_of now)) → BeginsWithEach (seen (view_of next)) (named job.note ∷ told (view_of now))
+      → Tries now next (copies_due now (seen (view_of next)) job.at job.packet) more missed → more + missed ≤ 65536
+      → Going worker next after jobs_then sent_then unsent_then
+  going_then worker now known jobs sent unsent job after next more missed jobs_then sent_then unsent_then one all none going taken same further each tries few =
+      subst (λ (counts : ℕ × ℕ × ℕ). Going worker next after counts.0 counts.1 counts.2) (λ i. (sym one i, sym all i, sym none i))
+      (going_more worker now known jobs sent unsent job after next more missed going taken same.0 same.1 same.2 further
+      (All-head (BeginsWith (seen (view_of next))) (named job.note) (told (view_of now)) each) tries few)

@@ -52,8 +52,7 @@ settles places port home items ends _ rule at =
     let takes = mine.taking refl in
     let item : Item = Home home in
     let after : End = settled whole_end item in
-    let none : rule.put ≡ [] = sym puts.2 in
-    (
+    let none : rule.put ≡ [] = sym puts.2 in (
       after,
       record {
         putter = rule.putter;
@@ -80,8 +79,7 @@ puts places port known item may items ends _ rule at =
     let mine = rule.each port known at in
     let here = mine.putting may.puts in
     let after : End = with_put known item in
-    let all : known.put ++ item ∷ [] ≡ rule.put ++ item ∷ [] = ap (λ (list : List Item). list ++ item ∷ []) here.2 in
-    (
+    let all : known.put ++ item ∷ [] ≡ rule.put ++ item ∷ [] = ap (λ (list : List Item). list ++ item ∷ []) here.2 in (
       after,
       record {
         putter = rule.putter;
@@ -122,8 +120,7 @@ takes port known may item items ends rule at =
     let here = mine.taking may in
     let after : End = with_taken known item in
     let taken = rule.taken ++ item ∷ [] in
-    let same : known.taken ++ item ∷ [] ≡ taken = ap (λ (list : List Item). list ++ item ∷ []) here.2 in
-    (
+    let same : known.taken ++ item ∷ [] ≡ taken = ap (λ (list : List Item). list ++ item ∷ []) here.2 in (
       after,
       record {
         putter = rule.putter;
@@ -211,8 +208,7 @@ merges port known other theirs may_put may_take items ends rule at apart at_othe
 pub totals : (port : ℕ) (known : End) → known.puts ≡ true → known.takes ≡ true → Learns Holds port known (λ items. AddsUp known items)
 totals port known may_put may_take items ends rule at =
     let mine = rule.each port known at in
-    let puts = mine.putting may_put in
-    (
+    let puts = mine.putting may_put in (
       puts.2 ∙ rule.in_order ∙ ap (λ (list : List Item). list ++ items) (sym (mine.taking may_take).2),
       subst StopIsLast (sym puts.2) rule.last,
     )

@@ -14,12 +14,7 @@ use std::thread;
 const TRIES: u32 = 1000;
 
 // Tries to put the item, and hands it back where the queue stays full.
-fn offer<R: Wait>(
-    rt: &R,
-    sender: &Sender,
-    pass: &mut QueuePass,
-    mut item: Item,
-) -> Result<(), Item>
+fn offer<R: Wait>(rt: &R, sender: &Sender, pass: &mut QueuePass, mut item: Item) -> Result<(), Item>
     requires seat { IsSeatAt (sends_on sender.now) pass.old }
     requires may { MayPut (view pass.old) item }
     ensures seat { IsSeatAt (sends_on sender.now) pass.new × (pass.new.id ≡ pass.old.id) }

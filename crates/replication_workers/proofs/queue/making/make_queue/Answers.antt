@@ -14,8 +14,7 @@ bounded_with-requires-clause-rule g c = begins
 
 pub try_send_as-requires-clause-rule : goal.try_send_as-requires-clause-rule
 try_send_as-requires-clause-rule g c =
-    let known : whole_end ≡ view c.in_ok-sender.pass = sym (search rules) in
-    (
+    let known : whole_end ≡ view c.in_ok-sender.pass = sym (search rules) in (
       subst (λ (end : End). Pushes (λ (items : List Item) (ends : List End). QueueRule items ends) (ruled_capacity (sends_on c.in_ok-sender.sender)) c.in_ok-sender.pass.id end (Home c.of.result) (λ (after : End). after ≡ settled end (Home c.of.result))) known (settles _ _ c.of.result),
       λ items views holds at. tt,
     )
