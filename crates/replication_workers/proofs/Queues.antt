@@ -1,8 +1,8 @@
 -- Lists of items and their jobs.
-use Rattle.std.proofs.Common.{◌≡◌, ℕ, ◌+◌, ◌≤◌, ◌<◌, ◌^◌, List, [], ◌∷◌, ◌++◌, length, map, refl, sym, ap, subst, ◌∙◌, arith, length-append}
+use Rattle.std.proofs.Common.{◌≡◌, ◌≤◌, ◌<◌, ◌^◌, List, [], ◌∷◌, ◌++◌, length, refl, sym, ap, subst, ◌∙◌, arith, length-append, true, false, true≢false}
 use Rattle.std.proofs.lemmas.List.{append-nil}
 use Rattle.published_table.specs.declared.view.View.{View}
-use Rattle.replication_workers.specs.Queue.{AreOfHome, EndsWithStop, IsOfHome, IsOpen, IsPutting, HasEnded, HasStopped, MayPut, StopIsLast, jobs_of, with_put}
+use Rattle.replication_workers.specs.Queue.{AreOfHome, HasEnded, HasStopped, IsOfHome, IsPutting, MayPut, StopIsLast, has_stop, jobs_of, with_put}
 use Rattle.replication_workers.specs.declared.job.Job.{Job}
 use Rattle.replication_workers.specs.declared.queue.End.{End}
 use Rattle.replication_workers.specs.declared.queue.Item.{Item}
@@ -15,20 +15,20 @@ jobs_of-append (Work job ∷ xs) ys = ap (λ (jobs : List Job). job ∷ jobs) (j
 jobs_of-append (Stop ∷ xs) ys = jobs_of-append xs ys
 
 -- an open list takes one item more, whatever it is
-pub open-then : (xs : List Item) (item : Item) → IsOpen xs → StopIsLast (xs ++ item ∷ [])
+pub open-then : (xs : List Item) (item : Item) → has_stop xs ≡ false → StopIsLast (xs ++ item ∷ [])
 open-then [] (Home view) opened = tt
 open-then [] (Work job) opened = tt
 open-then [] Stop opened = refl
 open-then (Home view ∷ xs) item opened = open-then xs item opened
 open-then (Work job ∷ xs) item opened = open-then xs item opened
-open-then (Stop ∷ xs) item opened = absurd opened
+open-then (Stop ∷ xs) item opened = absurd (true≢false opened)
 
 -- and stays open after a job
-pub open-job : (xs : List Item) (job : Job) → IsOpen xs → IsOpen (xs ++ Work job ∷ [])
-open-job [] job opened = tt
+pub open-job : (xs : List Item) (job : Job) → has_stop xs ≡ false → has_stop (xs ++ Work job ∷ []) ≡ false
+open-job [] job opened = refl
 open-job (Home view ∷ xs) job opened = open-job xs job opened
 open-job (Work one ∷ xs) job opened = open-job xs job opened
-open-job (Stop ∷ xs) job opened = absurd opened
+open-job (Stop ∷ xs) job opened = absurd (true≢false opened)
 
 -- what stands after Stop is nothing
 pub none_after : (earlier later : List Item) → StopIsLast ((earlier ++ Stop ∷ []) ++ later) → later ≡ []
@@ -70,7 +70,7 @@ pub still_putting : (known after : End) (job : Job) → IsPutting known → leng
 still_putting known after job putting few is = record {
   puts = ap (λ (end : End). end.puts) is ∙ putting.puts;
   takes = ap (λ (end : End). end.takes) is ∙ putting.takes;
-  opened = subst (λ (end : End). IsOpen end.put) (sym is) (open-job known.put job putting.opened);
+  opened = subst (λ (end : End). has_stop end.put ≡ false) (sym is) (open-job known.put job putting.opened);
   few = (let all = ap (λ (jobs : List Job). length jobs) (job_was_put known after job is) in omega (arith, few, all, length-append (jobs_of known.put) (job ∷ [])));
 }
 

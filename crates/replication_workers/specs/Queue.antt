@@ -1,5 +1,5 @@
 -- The rule of a worker's queue, and what its ends know.
-use Rattle.std.specs.Prelude.{◌≡◌, ℕ, ◌≤◌, ◌<◌, ◌^◌, Bool, true, false, List, [], ◌∷◌, ◌++◌, length, map}
+use Rattle.std.specs.Prelude.{◌≡◌, ℕ, ◌≤◌, ◌^◌, Bool, true, false, List, [], ◌∷◌, ◌++◌, length, map}
 use Rattle.std.specs.List.{AllByRecursion}
 use mathlib.Core.Option.{some}
 use lib.ListN.{get_elem?}
@@ -24,12 +24,12 @@ StopIsLast (Home view ∷ later) = StopIsLast later
 StopIsLast (Work job ∷ later) = StopIsLast later
 StopIsLast (Stop ∷ later) = later ≡ []
 
--- there is no Stop yet
-abbrev pub IsOpen : List Item → Type 0
-IsOpen [] = Unit {0}
-IsOpen (Home view ∷ later) = IsOpen later
-IsOpen (Work job ∷ later) = IsOpen later
-IsOpen (Stop ∷ later) = ⊥
+-- whether Stop is among them
+abbrev pub has_stop : List Item → Bool
+has_stop [] = false
+has_stop (Home view ∷ later) = has_stop later
+has_stop (Work job ∷ later) = has_stop later
+has_stop (Stop ∷ later) = true
 
 -- the last item is Stop
 abbrev pub EndsWithStop : List Item → Type 0
@@ -115,7 +115,7 @@ AddsUp known items = (known.put ≡ known.taken ++ items) × StopIsLast known.pu
 pub record IsPutting (known : End) : Type 0 where
   pub puts : known.puts ≡ true
   pub takes : known.takes ≡ false
-  pub opened : IsOpen known.put
+  pub opened : has_stop known.put ≡ false
   pub few : length (jobs_of known.put) ≤ 2 ^ 46
 
 -- it has put Stop

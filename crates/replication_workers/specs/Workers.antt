@@ -7,6 +7,7 @@ use Rattle.amt_values.specs.declared.peer.Peer.{Peer}
 use Rattle.endpoint_membership.specs.declared.change.Change.{Change}
 use Rattle.published_table.specs.Terms.{settings_by}
 use Rattle.published_table.specs.Views.{publisher_of, seen, terms_of}
+use Rattle.published_table.specs.declared.view.View.{View}
 use Rattle.replication_workers.specs.Jobs.{Handled}
 use Rattle.replication_workers.specs.Queue.{HasEnded, jobs_of}
 use Rattle.replication_workers.specs.Replication.{HasTried}
@@ -27,13 +28,18 @@ module _ {O : Type 0} {g : Ghosts O} where
   HandledSince replicator jobs wanted last =
       Handled (settings_by (terms_of (view_of replicator))) (limit_of replicator) (seen (view_of replicator)) jobs wanted last
 
-  -- it took jobs until Stop, and handled exactly these: its link has tried their datagrams and no others
+  -- since the replicator was as it is here, these jobs were handled: the link has tried their datagrams
+  -- and no others; so many were sent, and so many not
+  pub record HasHandled (replicator : Replicator O g) (jobs : List Job) (out : O) (view : View) (sent unsent : ℕ) : Type 0 where
+    pub wanted : List (Peer × List ℕ)
+    pub handled : HandledSince replicator jobs wanted (seen view)
+    pub tried : HasTried (g.tried (out_of replicator)) (g.tried out) (g.faults (out_of replicator)) (g.faults out) wanted sent unsent
+    pub terms : terms_of view ≡ terms_of (view_of replicator)
+    pub publisher : publisher_of view ≡ publisher_of (view_of replicator)
+
+  -- it took jobs until Stop, and handled exactly these
   pub record WorkerGives (worker : Worker O g) (done : WorkerDone O) : Type 0 where
     pub seat : IsSeatAt (receives_on worker.inbox) done.pass
     pub ended : HasEnded (view done.pass)
     pub counted : done.jobs ≡ length (jobs_taken done)
-    pub wanted : List (Peer × List ℕ)
-    pub handled : HandledSince worker.replicator (jobs_taken done) wanted (seen done.view)
-    pub tried : HasTried (g.tried (out_of worker.replicator)) (g.tried done.out) (g.faults (out_of worker.replicator)) (g.faults done.out) wanted done.sent done.unsent
-    pub terms : terms_of done.view ≡ terms_of (view_of worker.replicator)
-    pub publisher : publisher_of done.view ≡ publisher_of (view_of worker.replicator)
+    pub has_handled : HasHandled worker.replicator (jobs_taken done) done.out done.view done.sent done.unsent

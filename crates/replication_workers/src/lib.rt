@@ -9,6 +9,7 @@
 mod job;
 mod queue;
 mod replicator;
+mod slot;
 mod worker;
 
 pub use job::{Copied, Job};

@@ -10,6 +10,7 @@ ghost use Rattle.replication_workers.specs.Replicators.{Tries, copies_due, limit
 use crate::job::{Copied, Job};
 use crate::queue::{Item, QueuePass, Receiver, Takes};
 use crate::replicator::Replicator;
+use crate::slot::Left;
 use amt_ports::{OutLink, Task};
 use published_table::View;
 use std::sync::Wait;
@@ -38,6 +39,49 @@ pub struct WorkerDone<O> {
     /// How many the device didn't take.
     pub unsent: u64,
     pass: QueuePass,
+}
+
+impl<O: OutLink> Worker<O> {
+    /// A worker with this replicator, which takes from a new queue with this pass.
+    pub(crate) fn new(replicator: Replicator<O>, inbox: Receiver, pass: QueuePass) -> Worker<O>
+        requires seat { IsSeatAt (receives_on inbox) pass }
+        requires taking { IsTaking (view pass) }
+        requires fresh { (view pass).taken ≡ [] }
+        requires home { map publisher_of (view pass).home ≡ publisher_of (view_of replicator) ∷ [] }
+        ensures replicator { result.replicator ≡ replicator }
+        ensures inbox { result.inbox ≡ inbox }
+    {
+        Worker {
+            replicator,
+            inbox,
+            pass,
+        }
+    }
+}
+
+impl<O> WorkerDone<O> {
+    /// What it left, and the pass of the end that took Stop.
+    pub(crate) fn into_left(self) -> (Left<O>, QueuePass)
+        ensures { (result.0.out ≡ self.out) × (result.0.view ≡ self.view) × (result.0.jobs ≡ self.jobs)
+            × (result.0.sent ≡ self.sent) × (result.0.unsent ≡ self.unsent) × (result.1 ≡ self.pass) }
+    {
+        let WorkerDone {
+            out,
+            view,
+            jobs,
+            sent,
+            unsent,
+            pass,
+        } = self;
+        let left = Left {
+            out,
+            view,
+            jobs,
+            sent,
+            unsent,
+        };
+        (left, pass)
+    }
 }
 
 // Handles the job, counts it, and says what became of its datagrams.

@@ -59,6 +59,13 @@ impl<O: OutLink> Replicator<O> {
         &self.out
     }
 
+    /// The view by which it finds who wants a packet.
+    pub fn view(&self) -> &View
+        ensures { result.now ≡ view_of self.now }
+    {
+        &self.view
+    }
+
     /// Its view and its link, once nothing more is to be sent.
     pub fn into_parts(self) -> (View, O)
         ensures view { result.0 ≡ view_of self }
