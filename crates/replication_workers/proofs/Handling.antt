@@ -11,19 +11,17 @@ use Rattle.endpoint_membership.specs.Table.{TableSettings}
 use Rattle.endpoint_membership.specs.declared.change.Change.{Change}
 use Rattle.published_table.specs.Lists.{BeginsWith, BeginsWithEach}
 use Rattle.published_table.specs.Terms.{settings_by}
-use Rattle.published_table.specs.Views.{named, note_publisher, publisher_of, seen, terms_of, told}
-use Rattle.published_table.specs.declared.terms.Terms.{Terms}
+use Rattle.published_table.specs.Views.{named, publisher_of, seen, terms_of, told}
 use Rattle.published_table.specs.declared.view.View.{View}
 use Rattle.replication_workers.proofs.Queues.{jobs_of-append}
 use Rattle.replication_workers.proofs.Trying.{HasTried-none, HasTried-then}
 use Rattle.replication_workers.specs.Jobs.{Handled, copies_of}
-use Rattle.replication_workers.specs.Queue.{HasEnded, HasTaken, jobs_of, with_taken}
+use Rattle.replication_workers.specs.Queue.{HasTaken, jobs_of}
 use Rattle.replication_workers.specs.Replication.{HasTried}
 use Rattle.replication_workers.specs.Replicators.{Tries, copies_due, limit_of, out_of, view_of}
 use Rattle.replication_workers.specs.Workers.{HandledSince, WorkerGives}
 use Rattle.replication_workers.specs.declared.job.Job.{Job}
 use Rattle.replication_workers.specs.declared.queue.End.{End}
-use Rattle.replication_workers.specs.declared.queue.Item.{Item}
 use Rattle.replication_workers.specs.declared.queue.Item.TheVariants.{Home, Work, Stop}
 use Rattle.replication_workers.specs.declared.replicator.Replicator.{Replicator}
 use Rattle.replication_workers.specs.declared.worker.Worker.{Worker}

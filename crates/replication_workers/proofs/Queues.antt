@@ -1,8 +1,8 @@
 -- Lists of items and their jobs.
-use Rattle.std.proofs.Common.{◌≡◌, ℕ, ◌+◌, ◌≤◌, ◌<◌, ◌^◌, List, [], ◌∷◌, ◌++◌, length, map, refl, sym, ap, subst, ◌∙◌, arith, length-append}
+use Rattle.std.proofs.Common.{◌≡◌, ◌≤◌, ◌<◌, ◌^◌, List, [], ◌∷◌, ◌++◌, length, refl, sym, ap, subst, ◌∙◌, arith, length-append}
 use Rattle.std.proofs.lemmas.List.{append-nil}
 use Rattle.published_table.specs.declared.view.View.{View}
-use Rattle.replication_workers.specs.Queue.{AreOfHome, EndsWithStop, IsOfHome, IsOpen, IsPutting, HasEnded, HasStopped, MayPut, StopIsLast, jobs_of, with_put}
+use Rattle.replication_workers.specs.Queue.{AreOfHome, IsOfHome, IsOpen, IsPutting, HasEnded, HasStopped, MayPut, StopIsLast, jobs_of, with_put}
 use Rattle.replication_workers.specs.declared.job.Job.{Job}
 use Rattle.replication_workers.specs.declared.queue.End.{End}
 use Rattle.replication_workers.specs.declared.queue.Item.{Item}

@@ -1,4 +1,4 @@
-use Rattle.std.proofs.Common.{◌≡◌, ◌++◌, List, ap, sym, subst, ◌∙◌}
+use Rattle.std.proofs.Common.{◌++◌, ap, sym, subst, ◌∙◌}
 use Rattle.crossbeam_channel.specs.Claims.{view}
 use Rattle.replication_workers.specs.declared.queue.End.{End}
 use Rattle.replication_workers.specs.Queue.{StopIsLast}

@@ -1,4 +1,4 @@
-use Rattle.std.proofs.Common.{rules, ◌≡◌, ap, sym, subst, List}
+use Rattle.std.proofs.Common.{rules, ◌≡◌, sym, subst, List}
 use Rattle.crossbeam_channel.specs.Claims.{view}
 use Rattle.crossbeam_channel.specs.Ends.{ruled_capacity, sends_on}
 use Rattle.crossbeam_channel.specs.Fifo.{Pushes}

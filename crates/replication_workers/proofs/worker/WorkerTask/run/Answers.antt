@@ -1,4 +1,4 @@
-use Rattle.std.proofs.Common.{rules, ◌≡◌, ◌≤◌, ◌<◌, ◌+◌, ◌*◌, ◌^◌, ℕ, ap, sym, subst, ◌∙◌, arith}
+use Rattle.std.proofs.Common.{◌+◌, ℕ, ap, sym, subst, arith}
 use Rattle.crossbeam_channel.specs.Claims.{view}
 use Rattle.replication_workers.proofs.Handling.{Going, going_first, going_home, going_stop, going_then, room_for_job, same_publisher}
 use Rattle.replication_workers.proofs.Steps.{takes}
