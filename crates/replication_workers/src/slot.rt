@@ -1,14 +1,11 @@
 //! One started worker, with the putting end of its queue. It must not know how many there are.
-ghost use Rattle.std.specs.Prelude.{◌≡◌, ◌<◌, ◌^◌, [], ◌∷◌, ◌++◌, length, map, IfOk, IfErr, MatchResult, OnErr};
-ghost use Rattle.amt_ports.specs.Causes.{HasCause};
-ghost use Rattle.amt_ports.specs.Starts.{HasStarted};
+ghost use Rattle.std.specs.Prelude.{◌≡◌, [], ◌∷◌, map};
 ghost use Rattle.crossbeam_channel.specs.Claims.{IsSeatAt, view};
 ghost use Rattle.crossbeam_channel.specs.Ends.{receives_on, sends_on};
-ghost use Rattle.published_table.specs.Views.{note_publisher, publisher_of};
-ghost use Rattle.replication_workers.specs.Queue.{IsPutting, jobs_of};
+ghost use Rattle.published_table.specs.Views.{publisher_of};
+ghost use Rattle.replication_workers.specs.Queue.{IsPutting};
 ghost use Rattle.replication_workers.specs.Replicators.{view_of};
 
-use crate::job::Job;
 use crate::queue::{QueuePass, Sender};
 use crate::worker::Worker;
 use amt_ports::OutLink;
