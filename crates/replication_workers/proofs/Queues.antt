@@ -1,5 +1,5 @@
 -- Lists of items and their jobs.
-use Rattle.std.proofs.Common.{◌≡◌, ◌≤◌, ◌<◌, ◌^◌, List, [], ◌∷◌, ◌++◌, length, refl, sym, ap, subst, ◌∙◌, arith, length-append, true, false, true≢false}
+use Rattle.std.proofs.Common.{◌≡◌, ◌≤◌, ◌<◌, ◌^◌, List, [], ◌∷◌, ◌++◌, length, refl, sym, ap, subst, ◌∙◌, arith, length-append, false, true≢false}
 use Rattle.std.proofs.lemmas.List.{append-nil}
 use Rattle.published_table.specs.declared.view.View.{View}
 use Rattle.replication_workers.specs.Queue.{AreOfHome, HasEnded, HasStopped, IsOfHome, IsPutting, MayPut, StopIsLast, has_stop, jobs_of, with_put}

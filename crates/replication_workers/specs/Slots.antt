@@ -1,5 +1,5 @@
 -- What is read of a slot.
-use Rattle.std.specs.Prelude.{◌≡◌, ℕ, List, length}
+use Rattle.std.specs.Prelude.{◌≡◌, List, length}
 use Rattle.crossbeam_channel.specs.Claims.{view}
 use Rattle.amt_ports.specs.declared.out_link.OutLink.{Ghosts}
 use Rattle.replication_workers.specs.Queue.{jobs_of}
