@@ -1,5 +1,5 @@
 //! The sends that a device in memory keeps. It must not know why one failed.
-ghost use Rattle.std.specs.Prelude.{◌≡◌, [], Some, None, Contains, IsErr, OnOk, OnErr};
+ghost use Rattle.std.specs.Prelude.{◌≡◌, [], Some, None, Contains, IsErr, IsSome, OnOk, OnErr};
 ghost use Rattle.amt_ports.specs.Causes.{HasCause, next_count};
 ghost use Rattle.amt_ports.specs.MemOut.{Shows};
 ghost use Rattle.amt_ports.specs.Sends.{tried_send};
@@ -59,6 +59,7 @@ impl SendLog {
     pub(crate) fn keep(&mut self, to: &Peer, bytes: &[u8], sent: bool) -> Result<(), AllocError>
         ensures ok { OnOk result (Appends self.old self.new
             (record { to = to.now; bytes = bytes.now; sent = sent })) }
+        ensures tells { OnOk result (IsSome self.old → IsSome self.new) }
         ensures err { OnErr result (self.new ≡ None) }
     {
         let kept = self.push(to, bytes, sent);
@@ -69,8 +70,9 @@ impl SendLog {
     }
 
     fn push(&mut self, to: &Peer, bytes: &[u8], sent: bool) -> Result<(), AllocError>
-        ensures { OnOk result (Appends self.old self.new
+        ensures ok { OnOk result (Appends self.old self.new
             (record { to = to.now; bytes = bytes.now; sent = sent })) }
+        ensures tells { OnOk result (IsSome self.old → IsSome self.new) }
     {
         let bytes = Bytes::copied(self.alloc, bytes)?;
         let to = *to;
@@ -87,6 +89,7 @@ pub(crate) fn send_by(
     bytes: &[u8],
 ) -> Result<(), Failed>
     ensures tried { Appends log.old log.new (tried_send to.now bytes.now result) }
+    ensures tells { OnOk result (IsSome log.old → IsSome log.new) }
     ensures cause { HasCause tally.old.faults tally.new.faults result }
     ensures listed { Contains tally.old.failing (next_count tally.old.made) → IsErr result }
     ensures ok { OnOk result (tally.new ≡ with_call tally.old) }

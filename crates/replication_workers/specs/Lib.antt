@@ -1,2 +1,6 @@
+pub mod Jobs
+pub mod Queue
 pub mod Replication
 pub mod Replicators
+pub mod Slots
+pub mod Workers

@@ -7,7 +7,11 @@
 #![tactic(auto)]
 
 mod job;
+mod queue;
 mod replicator;
+mod slot;
+mod worker;
 
 pub use job::{Copied, Job};
 pub use replicator::{NewFault, Replicator};
+pub use worker::{Worker, WorkerDone};

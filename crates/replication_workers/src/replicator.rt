@@ -21,7 +21,7 @@ pub struct Replicator<O: OutLink> {
     message: Vec<u8>,
     packet_limit: u32,
     ghost receivers: { (terms_of view).limits.endpoints ≤ targets.room },
-    ghost few: { targets.room ≤ 4294967295 },
+    ghost few: { targets.room ≤ 65536 },
     ghost room: { packet_limit + 2 ≤ vec_capacity message },
 }
 

@@ -1,5 +1,5 @@
 //! A link in memory, for tests and callers. It must not know the real devices.
-ghost use Rattle.std.specs.Prelude.{◌≡◌, ◌≤◌, ◌↔◌, [], Some, All, Contains, length, IsErr, IfOk, OnOk, OnErr};
+ghost use Rattle.std.specs.Prelude.{◌≡◌, ◌≤◌, ◌↔◌, [], Some, All, Contains, length, IsErr, IsSome, IfOk, OnOk, OnErr};
 ghost use Rattle.amt_ports.specs.Arrivals.{IsShortAnswer, IsShortGot, link_answer};
 ghost use Rattle.amt_ports.specs.Causes.{HasCause, next_count};
 ghost use Rattle.amt_ports.specs.MemOut.{Shows};
@@ -135,6 +135,7 @@ impl Link for MemLink {
     fn send(&mut self, to: &Peer, bytes: &[u8]) -> Result<(), Failed>
         ensures tried { Appends self.old.tried self.new.tried
             (tried_send to.now bytes.now result) }
+        ensures tells { OnOk result (IsSome self.old.tried → IsSome self.new.tried) }
         ensures cause { HasCause self.old.sends.faults self.new.sends.faults result }
         ensures apart { self.new.receivings.faults ≡ self.old.receivings.faults }
         ensures coming { Some self.new.coming ≡ Some self.old.coming }

@@ -1,5 +1,5 @@
 //! An out link in memory, for tests and callers. It must not know the real devices.
-ghost use Rattle.std.specs.Prelude.{◌≡◌, [], Some, Contains, IsErr, OnOk, OnErr};
+ghost use Rattle.std.specs.Prelude.{◌≡◌, [], Some, Contains, IsErr, IsSome, OnOk, OnErr};
 ghost use Rattle.amt_ports.specs.Causes.{HasCause, next_count};
 ghost use Rattle.amt_ports.specs.MemOut.{Shows};
 ghost use Rattle.amt_ports.specs.Sends.{tried_send};
@@ -74,6 +74,7 @@ impl OutLink for MemOut {
     fn send(&mut self, to: &Peer, bytes: &[u8]) -> Result<(), Failed>
         ensures tried { Appends self.old.tried self.new.tried
             (tried_send to.now bytes.now result) }
+        ensures tells { OnOk result (IsSome self.old.tried → IsSome self.new.tried) }
         ensures cause { HasCause self.old.tally.faults self.new.tally.faults result }
 
         ensures listed { Contains self.old.tally.failing (next_count self.old.tally.made)

@@ -35,9 +35,10 @@ pub fn write_message(packet: &[u8], message: &mut Vec<u8>)
 
 /// Tries to send the message to each endpoint, in order: those after a failed send too.
 pub fn send_all<O: OutLink>(out: &mut O, targets: &[Endpoint], message: &[u8]) -> SendCounts
-    requires { length targets.now ≤ 4294967295 }
-    ensures { HasTried (O.tried out.old) (O.tried out.new) (O.faults out.old) (O.faults out.new)
+    requires { length targets.now ≤ 65536 }
+    ensures sends { HasTried (O.tried out.old) (O.tried out.new) (O.faults out.old) (O.faults out.new)
         (map (with_message message.now) targets.now) result.sent result.unsent }
+    ensures counted { result.sent + result.unsent ≡ length targets.now }
 {
     let mut counts = SendCounts { sent: 0, unsent: 0 };
     for to in targets {
