@@ -2,15 +2,18 @@
 
 usage: python3 bench/published.py [ROWS [ROUNDS [PROGRAM]]]
 
-It builds the program `published.rattle` in a folder of its own, over the repository's proved crates, which takes some
-minutes, and leaves it as bench/out/published; where that file is given as PROGRAM, nothing is built. `rt lib` first
-proves those of the crates that aren't built yet, which takes longer, and then they are kept. The program is compiled
-as the relay is, but nothing of it is proved: it assumes what it should show.
+It copies the program below bench/published into a folder of its own, proves and builds it there over the repository's
+proved crates, which takes some minutes, and leaves it as bench/out/published; where that file is given as PROGRAM,
+nothing is built. `rt lib` first proves those of the crates that aren't built yet, which takes longer, and then they
+are kept. The files of the program end in `.in`, since the gate takes sources only in the crates of the repository.
 
 Each endpoint has one group of its own, there are 4 views, and nothing expires. A round takes 16,384 entries, and reads
-as often through a view and of the table, in the same run. Times are of the processor, and the least of all rounds, so
-that other work on the machine disturbs them little. Memory is what is resident after all rows, without what was before
-the first, the least of some runs. All of it is one thread: what a publishing waits for readings isn't measured.
+as often through a view and of the table, in the same run. An entry is accepted by a table as in a relay, and then goes
+from `ready` to a reading by a view that was told of it; the views take turns. Times are of the processor, and the least
+of all rounds, so that other work on the machine disturbs them little. The clock is read at each entry, and what that
+takes is taken off. Memory is what is resident after all rows, without what was before the first, the least of some
+runs; the copies' is that of a relay without that of its table. All of it is one thread: what a publishing waits for
+readings isn't measured.
 """
 import os
 import pathlib
@@ -25,7 +28,7 @@ NAME = "published_bench"
 USES = ["amt_values", "source_filter", "endpoint_membership", "published_table"]
 VIEWS = 4
 COUNT = 16384
-# Of an entry, of the readings of both kinds: each has one target.
+# Of an entry, of two readings of both kinds: each has one target.
 READINGS = 5
 
 
@@ -40,34 +43,37 @@ def crate_lines():
 
 
 def lines_needed():
-    """The lines of the crates that the program stands on."""
+    """The lines of the crates that the program stands on, and what it and they use of the kit's."""
     lines, uses = crate_lines()
-    names, left = [], list(USES)
+    names, libraries, left = [], [], list(USES)
     while left:
         name = left.pop()
-        if name in lines and name not in names:
+        if name not in lines:
+            libraries.append(name)
+        elif name not in names:
             names.append(name)
             left += uses[name]
-    return {name: lines[name] for name in names}
+    return {name: lines[name] for name in names}, sorted(set(libraries))
 
 
-def run_quietly(command, folder, **environment):
+def run_quietly(command, folder):
     """Runs a command, and shows what it printed only where it fails."""
-    ran = subprocess.run(
-        command,
-        cwd=folder,
-        env={**os.environ, **environment},
-        stdout=subprocess.PIPE,
-        stderr=subprocess.STDOUT,
-        text=True,
-    )
+    ran = subprocess.run(command, cwd=folder, stdout=subprocess.PIPE, stderr=subprocess.STDOUT, text=True)
     if ran.returncode:
         sys.exit(ran.stdout + f"{' '.join(command)} failed")
 
 
+def copy_program(crate):
+    """The program's own files, without the ending by which the gate passes them over."""
+    for source in sorted((HERE / "published").rglob("*.in")):
+        target = crate / source.relative_to(HERE / "published").with_suffix("")
+        target.parent.mkdir(parents=True, exist_ok=True)
+        shutil.copy(source, target)
+
+
 def build(top):
-    """The program, built below this folder."""
-    lines = lines_needed()
+    """The program, proved and built below this folder."""
+    lines, libraries = lines_needed()
     print("building; proves what isn't yet of " + ", ".join(sorted(lines)), file=sys.stderr, flush=True)
     for name in USES:
         run_quietly(["rt", "lib", "--jobs", "2"], REPOSITORY / "crates" / name)
@@ -76,14 +82,12 @@ def build(top):
             source = REPOSITORY / "crates" / name / part
             if source.exists():
                 shutil.copytree(source, top / "crates" / name / part)
-    (top / "crates.txt").write_text("\n".join([*lines.values(), f"{NAME}: {' '.join(USES)}", ""]))
+    used = " ".join([*lines, *libraries])
+    (top / "crates.txt").write_text("\n".join([*lines.values(), f"{NAME}: {used}", ""]))
     shutil.copy(REPOSITORY / "HANDLES", top)
     crate = top / "crates" / NAME
-    (crate / "src").mkdir(parents=True)
-    (crate / "c").mkdir()
-    shutil.copy(HERE / "published.rattle", crate / "src" / "main.rt")
-    (crate / "c" / "assumed.c").write_text("void assumed(void) {}\n")
-    run_quietly(["rt", "run", "--jobs", "2", "--", "table", "1", "1"], crate, RT_ALLOW_C=NAME)
+    copy_program(crate)
+    run_quietly(["rt", "run", "--jobs", "2", "--", "table", "1"], crate)
     (HERE / "out").mkdir(exist_ok=True)
     return shutil.copy(crate / "out" / NAME, HERE / "out" / "published")
 
@@ -94,17 +98,18 @@ def output_lines(program, *words):
 
 
 def times(program, rows, rounds):
-    """Microseconds of the table's `accept`, of an entry, and of a reading through a view and of the table."""
+    """Microseconds of the table's `accept`, of an entry, and of a reading through a view, of the table and of the clock."""
     lines = output_lines(program, "time", rows, VIEWS, rounds, COUNT)
     found = [list(map(int, line.split()[1:])) for line in lines]
     if len(found) != rounds or any(each[-1] != READINGS * COUNT for each in found):
         sys.exit("a reading had not its one target, so nothing was measured")
-    return [min(column) / COUNT / 1000 for column in list(zip(*found))[:-1]]
+    accept, entry, view, table, clock = (min(column) / COUNT / 1000 for column in list(zip(*found))[:-1])
+    return accept - clock, entry - clock, view, table, clock
 
 
-def memory(program, kind, rows):
+def memory(program, *words):
     """KB that are resident after all rows, without those before the first."""
-    before, after = [int(line.split()[1]) for line in output_lines(program, kind, rows, VIEWS)]
+    before, after = [int(line.split()[1]) for line in output_lines(program, *words)]
     return after - before
 
 
@@ -128,13 +133,14 @@ def main():
         with tempfile.TemporaryDirectory(prefix="published-bench-") as top:
             program = build(pathlib.Path(top))
     before = load()
-    accept, entry, view, table = times(program, rows, rounds)
-    kinds = [(memory(program, "table", rows), memory(program, "copies", rows)) for _ in range(3)]
-    one, both = (min(column) for column in zip(*kinds))
+    accept, entry, view, table, clock = times(program, rows, rounds)
+    one = min(memory(program, "table", rows) for _ in range(3))
+    both = min(memory(program, "copies", rows, VIEWS) for _ in range(3)) - one
     print(f"{rows} rows, {VIEWS} views, {os.cpu_count()} processors; load {before} before, {load()} after")
     print(f"{'':<46} {'is':>9} {'':<6} {'asked':>6} met")
     show("an entry, from `ready` to a reading by a view", entry, "us", 60)
     show("  the table's own `accept` of it, beside that", accept, "us")
+    show("  taken off both, a reading of the clock", clock, "us")
     show("a reading through a view", view, "us")
     show("a reading of the table", table, "us")
     show("  more through a view", view - table, "us", 3)
