@@ -1,4 +1,5 @@
 pub mod Copies
+pub mod Doors
 pub mod Entries
 pub mod History
 pub mod Lists

@@ -1,4 +1,4 @@
--- Which entries a log without bytes has.
+-- Which entries a log has of which none is kept.
 use Rattle.std.specs.Prelude.{List, [], ◌∷◌, ◌++◌}
 use Rattle.endpoint_membership.specs.declared.change.Change.{Change}
 use Rattle.published_table.specs.declared.past.Past.{Past, Empty, Then'}

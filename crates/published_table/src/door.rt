@@ -7,6 +7,7 @@ ghost use Rattle.std.specs.Prelude.{◌≡◌, ◌≤◌, ◌<◌, ◌⊎◌, �
 ghost use Rattle.amt_ports.specs.Causes.{Rose};
 ghost use Rattle.crossbeam_utils.specs.Register.{Turns};
 ghost use Rattle.left_right.specs.Sides.{view};
+ghost use Rattle.published_table.specs.Doors.{handed_at, handed_in, known_at, known_in, seat_of, value_in};
 
 use crossbeam_utils::rule::{Outcome, Protocol};
 use left_right::reader::{Reader, Reading};
@@ -35,22 +36,24 @@ pub struct Inside<T: Counted + Drop, V, P: Protocol<T, V>> {
 impl<T: Counted + Drop, V, P: Protocol<T, V>> Door<T, V, P> {
     /// A door through which nobody went yet.
     pub fn new(reader: Reader<T, V, P>) -> Door<T, V, P>
-        ensures reader { result.reader ≡ reader }
-        ensures handed { result.handed ≡ 0 }
+        ensures seat { seat_of result ≡ reader.place.id }
+        ensures known { known_at result ≡ view reader.place }
+        ensures handed { handed_at result ≡ 0 }
     {
         Door { reader, handed: 0 }
     }
 
     /// How many readings were handed back.
     pub fn handed(&self) -> u64
-        ensures { result ≡ self.now.handed }
+        ensures { result ≡ handed_at self.now }
     {
         self.handed
     }
 
     fn handed_back(reader: Reader<T, V, P>, handed: u64) -> Door<T, V, P>
-        ensures reader { result.reader ≡ reader }
-        ensures handed { Rose handed result.handed }
+        ensures seat { seat_of result ≡ reader.place.id }
+        ensures known { known_at result ≡ view reader.place }
+        ensures handed { Rose handed (handed_at result) }
     {
         Door {
             reader,
@@ -61,13 +64,13 @@ impl<T: Counted + Drop, V, P: Protocol<T, V>> Door<T, V, P> {
     /// Takes the value that was published last, once. A value that is smaller than the least that is
     /// wanted is handed back too.
     pub fn enter<M: Outcome<T, V>>(self, least: u64) -> Result<Inside<T, V, P>, Door<T, V, P>>
-        requires { Turns P.holds self.reader.place.id (view self.reader.place) (λ x. x) M.then }
+        requires { Turns P.holds (seat_of self) (known_at self) (λ x. x) M.then }
         ensures { MatchResult result
-            (λ inside. (inside.handed ≡ self.handed) × (least ≤ T.counts inside.reading.part.value)
-            × M.then (view self.reader.place) inside.reading.part.value inside.reading.part.value (view inside.reading.place))
-            (λ door. Rose self.handed door.handed
-            × ((view door.reader.place ≡ view self.reader.place)
-            ⊎ ((x : T) × (T.counts x < least) × M.then (view self.reader.place) x x (view door.reader.place)))) }
+            (λ inside. (handed_in inside ≡ handed_at self) × (least ≤ T.counts (value_in inside))
+            × M.then (known_at self) (value_in inside) (value_in inside) (known_in inside))
+            (λ door. Rose (handed_at self) (handed_at door)
+            × ((known_at door ≡ known_at self)
+            ⊎ ((x : T) × (T.counts x < least) × M.then (known_at self) x x (known_at door)))) }
     {
         let Door { reader, handed } = self;
         match reader.enter_as::<M>() {
@@ -84,14 +87,14 @@ impl<T: Counted + Drop, V, P: Protocol<T, V>> Door<T, V, P> {
 
 impl<T: Counted + Drop, V, P: Protocol<T, V>> Inside<T, V, P> {
     pub fn get(&self) -> &T
-        ensures { result.now ≡ self.now.reading.part.value }
+        ensures { result.now ≡ value_in self.now }
     {
         self.reading.get()
     }
 
     pub fn leave(self) -> Door<T, V, P>
-        ensures handed { result.handed ≡ self.handed }
-        ensures view { view result.reader.place ≡ view self.reading.place }
+        ensures handed { handed_at result ≡ handed_in self }
+        ensures view { known_at result ≡ known_in self }
     {
         let Inside { reading, handed } = self;
         Door {

@@ -1,11 +1,12 @@
-//! Logs that have no bytes: contracts see their entries. It must not know who publishes a log.
+//! Logs of which no entry is kept: contracts see what they have. It must not know who publishes a log.
 ghost use Rattle.std.specs.Prelude.{◌≡◌, [], ◌∷◌, ◌++◌};
 ghost use Rattle.published_table.specs.Logs.{entries};
 
 use endpoint_membership::Change;
 use std::snapshot::Snapshot;
 
-/// The entries of a log so far, oldest first. None of them is kept: they are for contracts alone.
+/// The entries of a log so far, oldest first. They are for contracts alone: all that is kept is whether
+/// there is one.
 #[derive(Drop)]
 pub enum Past {
     Empty,

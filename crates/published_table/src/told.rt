@@ -1,4 +1,4 @@
-//! What a view was told of. It has no bytes either.
+//! What a view was told of. None of that is kept either: it is for contracts alone.
 ghost use Rattle.std.specs.Prelude.{◌≡◌, ◌∷◌};
 ghost use Rattle.published_table.specs.Logs.{entries};
 ghost use Rattle.published_table.specs.Told.{logs_told};

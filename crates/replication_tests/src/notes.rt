@@ -21,11 +21,7 @@ const PUBLISHINGS: u64 = 20_000;
 const LETTERS: usize = 64;
 
 /// A note, and how many entries were published when it was told.
-#[derive(Drop)]
-pub struct Letter {
-    note: Note,
-    number: u64,
-}
+pub type Letter = (Note, u64);
 
 /// Each note is of the publisher of the first one: a ring can't name a publisher.
 pub struct OnePublisher;
@@ -41,12 +37,9 @@ type Sender = Producer<Letter, Global, OnePublisher>;
 type Receiver = Consumer<Letter, Global, OnePublisher>;
 
 fn letter_of(publisher: &Publisher) -> Letter
-    ensures { note_publisher result.note ≡ book_of publisher.now }
+    ensures { note_publisher result.0 ≡ book_of publisher.now }
 {
-    Letter {
-        note: publisher.tell(),
-        number: publisher.published(),
-    }
+    (publisher.tell(), publisher.published())
 }
 
 // A ring through which the publisher's first letter went, so that both ends know whose letters it has.
@@ -64,7 +57,7 @@ fn ring_of(alloc: Global, publisher: &Publisher) -> Result<(Sender, Receiver), A
 }
 
 fn send<R: Wait>(rt: &R, sender: &mut Sender, letter: Letter)
-    requires { BeginWithOneOf (note_publisher letter.note) (sent sender.old) }
+    requires { BeginWithOneOf (note_publisher letter.0) (sent sender.old) }
     ensures { sent sender.new ≡ sent sender.old ++ letter ∷ [] }
 {
     let mut letter = letter;
@@ -82,7 +75,7 @@ fn send<R: Wait>(rt: &R, sender: &mut Sender, letter: Letter)
 fn receive<R: Wait>(rt: &R, receiver: &mut Receiver, me: &View) -> Option<Letter>
     requires { BeginWithOneOf (publisher_of me.now) (received receiver.old) }
     ensures begins { BeginWithOneOf (publisher_of me.now) (received receiver.new) }
-    ensures mine { IfSome result (λ letter. note_publisher letter.note ≡ publisher_of me.now) }
+    ensures mine { IfSome result (λ letter. note_publisher letter.0 ≡ publisher_of me.now) }
 {
     for _ in rt.forever() {
         let ended = receiver.is_abandoned();
@@ -98,10 +91,10 @@ fn receive<R: Wait>(rt: &R, receiver: &mut Receiver, me: &View) -> Option<Letter
 }
 
 fn assert_learned(rt: &impl Abort, view: &mut View, letter: Letter)
-    requires { note_publisher letter.note ≡ publisher_of view.old }
+    requires { note_publisher letter.0 ≡ publisher_of view.old }
     ensures { publisher_of view.new ≡ publisher_of view.old }
 {
-    let Letter { note, number } = letter;
+    let (note, number) = letter;
     view.learn(note);
     let found = view.length();
     assert!(rt; matches!(found, Some(length) if number <= length));
