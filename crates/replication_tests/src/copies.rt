@@ -6,8 +6,9 @@ ghost use Rattle.replication_workers.specs.Replicators.{view_of};
 
 use crate::fixtures::{ENDPOINTS, GROUP, endpoint, moment};
 use crate::relay::Relay;
+use amt_ports::MemOut;
 use amt_values::{Bytes, Ip, Peer};
-use replication_workers::{Copied, Job, MemOut, Replicator};
+use replication_workers::{Copied, Job, Replicator};
 use std::alloc::Global;
 use std::process::Abort;
 use std::sync::Wait;

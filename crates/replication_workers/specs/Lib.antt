@@ -1,4 +1,6 @@
-pub mod MemOut
+pub mod Jobs
+pub mod Queue
 pub mod Replication
 pub mod Replicators
-pub mod Sends
+pub mod Slots
+pub mod Workers

@@ -6,7 +6,7 @@ use Rattle.published_table.specs.Terms.{settings_by}
 use Rattle.published_table.specs.Views.{terms_of}
 use Rattle.published_table.specs.declared.view.View.{View}
 use Rattle.replication_workers.specs.Replication.{HasTried, copies_by, to_peer}
-use Rattle.replication_workers.specs.declared.out_link.OutLink.{Ghosts}
+use Rattle.amt_ports.specs.declared.out_link.OutLink.{Ghosts}
 use Rattle.replication_workers.specs.declared.replicator.Replicator.{Replicator}
 
 module _ {O : Type 0} {g : Ghosts O} where

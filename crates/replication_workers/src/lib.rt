@@ -7,11 +7,11 @@
 #![tactic(auto)]
 
 mod job;
-mod mem_out;
-mod out_link;
+mod queue;
 mod replicator;
+mod slot;
+mod worker;
 
 pub use job::{Copied, Job};
-pub use mem_out::{MemOut, Tried};
-pub use out_link::OutLink;
 pub use replicator::{NewFault, Replicator};
+pub use worker::{Worker, WorkerDone};

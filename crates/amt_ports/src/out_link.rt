@@ -1,9 +1,10 @@
 //! Where datagrams are sent to. It must not know any device.
 ghost use Rattle.std.specs.Prelude.{ℕ, IsSome, List, OnOk, Option};
 ghost use Rattle.amt_ports.specs.Causes.{HasCause};
-ghost use Rattle.replication_workers.specs.Sends.{Appends, TriedSend, tried_send};
+ghost use Rattle.amt_ports.specs.Sends.{TriedSend, tried_send};
+ghost use Rattle.amt_ports.specs.Told.{Appends};
 
-use amt_ports::Failed;
+use crate::Failed;
 use amt_values::Peer;
 
 /// A place that datagrams are sent to, each to a peer.

@@ -1,8 +1,8 @@
 -- What was sent, and what was tried.
-use Rattle.std.specs.Prelude.{◌≡◌, ℕ, Bool, not, List, [], ◌∷◌, ◌++◌, Option, Some, None, Result, is_ok}
+use Rattle.std.specs.Prelude.{ℕ, Bool, not, List, Result, is_ok}
 use Rattle.std.specs.List.{count_by}
-use Rattle.amt_ports.specs.declared.fault.Failed.{Failed}
 use Rattle.amt_values.specs.declared.peer.Peer.{Peer}
+use Rattle.amt_ports.specs.declared.fault.Failed.{Failed}
 
 -- a datagram and its peer, and whether the device took it
 pub record TriedSend : Type 0 where
@@ -12,15 +12,6 @@ pub record TriedSend : Type 0 where
 
 abbrev pub tried_send : Peer → List ℕ → Result (Unit {0}) Failed → TriedSend
 tried_send to bytes result = record { to = to; bytes = bytes; sent = is_ok result }
-
--- where the device still tells its sends, they are those that it told before, and then these
-abbrev pub AppendsAll : Option (List TriedSend) → Option (List TriedSend) → List TriedSend → Type 0
-AppendsAll before None sends = Unit {0}
-AppendsAll before (Some after) sends = (earlier : List TriedSend) × (before ≡ Some earlier) × (after ≡ earlier ++ sends)
-
--- where the device still tells its sends, there is this one more
-abbrev pub Appends : Option (List TriedSend) → Option (List TriedSend) → TriedSend → Type 0
-Appends before after send = AppendsAll before after (send ∷ [])
 
 -- what was to be sent
 abbrev pub datagram_of : TriedSend → Peer × List ℕ
