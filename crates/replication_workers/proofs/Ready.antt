@@ -1,5 +1,5 @@
 -- Slots that are taken from the end of a list.
-use Rattle.std.proofs.Common.{◌≡◌, ℕ, ◌+◌, List, [], ◌∷◌, ◌++◌, length, refl, ap, arith, length-append}
+use Rattle.std.proofs.Common.{◌≡◌, ℕ, ◌+◌, List, [], ◌∷◌, ◌++◌, Option, Some, None, length, option_to_list, refl, sym, ap, ◌∙◌, append_assoc, append-nil, arith, length-append}
 use Rattle.amt_ports.specs.declared.out_link.OutLink.{Ghosts}
 use Rattle.replication_workers.specs.Slots.{from_the_end, ready_worker, replicator_of}
 use Rattle.replication_workers.specs.declared.replicator.Replicator.{Replicator}
@@ -17,3 +17,18 @@ module _ {O : Type 0} {g : Ghosts O} where
   pub length-from_the_end : (ready : List (ReadySlot O g)) → length (from_the_end ready) ≡ length ready
   length-from_the_end [] = refl
   length-from_the_end (first ∷ ready) = one_longer (from_the_end ready) (from_the_end (first ∷ ready)) (replicator_of (ready_worker first)) (length ready) refl (length-from_the_end ready)
+
+  -- one goes from the end of one list to the end of the other
+  pub moved_back : (slots longer : List (Replicator O g)) (later ready : List (ReadySlot O g)) (one : ReadySlot O g) → ready ≡ later ++ one ∷ []
+      → longer ≡ slots ++ replicator_of (ready_worker one) ∷ [] → longer ++ from_the_end later ≡ slots ++ from_the_end ready
+  moved_back slots longer later ready one is long =
+      ap (λ (list : List (Replicator O g)). list ++ from_the_end later) long
+      ∙ append_assoc slots (replicator_of (ready_worker one) ∷ []) (from_the_end later)
+      ∙ ap (λ (list : List (Replicator O g)). slots ++ list) (sym (from_the_end-last later one) ∙ ap (λ (list : List (ReadySlot O g)). from_the_end list) (sym is))
+
+-- the list without the last one that was taken out
+pub popped : {A : Type 0} (before after : List A) (result : Option A) (last : A) → before ≡ after ++ option_to_list result → result ≡ Some last → before ≡ after ++ last ∷ []
+popped before after result last items is = items ∙ ap (λ (one : Option _). after ++ option_to_list one) is
+
+pub none_popped : {A : Type 0} (before after : List A) (result : Option A) → before ≡ after ++ option_to_list result → result ≡ None → before ≡ after
+none_popped before after result items is = items ∙ ap (λ (one : Option _). after ++ option_to_list one) is ∙ append-nil after
