@@ -1,5 +1,7 @@
 pub mod Backs
 pub mod Copies
+pub mod Copying
+pub mod Crossing
 pub mod Ending
 pub mod Filling
 pub mod Giving

@@ -19,4 +19,4 @@ pub use dispatcher::{Dispatcher, Finished, Outs, Replicators, StartFault};
 pub use job::{Copied, Job};
 pub use replicator::{NewFault, Replicator};
 pub use slot::Left;
-pub use worker::{Worker, WorkerDone};
+pub use worker::{Worker, WorkerDone, start_worker};

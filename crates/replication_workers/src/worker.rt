@@ -15,6 +15,10 @@ use amt_ports::{OutLink, Task};
 use published_table::View;
 use std::sync::Wait;
 
+mod thread;
+
+pub use thread::start_worker;
+
 /// A slot's replicator, and the taking end of its queue.
 #[derive(Drop)]
 pub struct Worker<O: OutLink> {
