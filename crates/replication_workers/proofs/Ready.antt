@@ -26,6 +26,18 @@ module _ {O : Type 0} {g : Ghosts O} where
       ∙ append_assoc slots (replicator_of (ready_worker one) ∷ []) (from_the_end later)
       ∙ ap (λ (list : List (Replicator O g)). slots ++ list) (sym (from_the_end-last later one) ∙ ap (λ (list : List (ReadySlot O g)). from_the_end list) (sym is))
 
+  -- the last one was made ready
+  pub put_on : (slots shorter next : List (Replicator O g)) (ready more : List (ReadySlot O g)) {one : Replicator O g} → slots ≡ shorter ++ one ∷ [] → next ≡ shorter
+      → from_the_end more ≡ one ∷ from_the_end ready → next ++ from_the_end more ≡ slots ++ from_the_end ready
+  put_on slots shorter next ready more {one} is same first =
+      (λ i. same i ++ first i) ∙ sym (append_assoc shorter (one ∷ []) (from_the_end ready))
+      ∙ ap (λ (list : List (Replicator O g)). list ++ from_the_end ready) (sym is)
+
+  -- the last one came back
+  pub put_back : (slots shorter next : List (Replicator O g)) (ready same : List (ReadySlot O g)) {one : Replicator O g} → slots ≡ shorter ++ one ∷ [] → next ≡ shorter ++ one ∷ []
+      → same ≡ ready → next ++ from_the_end same ≡ slots ++ from_the_end ready
+  put_back slots shorter next ready same {one} is back kept = λ i. (back ∙ sym is) i ++ from_the_end (kept i)
+
 -- the list without the last one that was taken out
 pub popped : {A : Type 0} (before after : List A) (result : Option A) (last : A) → before ≡ after ++ option_to_list result → result ≡ Some last → before ≡ after ++ last ∷ []
 popped before after result last items is = items ∙ ap (λ (one : Option _). after ++ option_to_list one) is
