@@ -26,17 +26,16 @@ module _ {O : Type 0} {g : Ghosts O} where
       ∙ append_assoc slots (replicator_of (ready_worker one) ∷ []) (from_the_end later)
       ∙ ap (λ (list : List (Replicator O g)). slots ++ list) (sym (from_the_end-last later one) ∙ ap (λ (list : List (ReadySlot O g)). from_the_end list) (sym is))
 
-  -- the last one was made ready
-  pub put_on : (slots shorter next : List (Replicator O g)) (ready more : List (ReadySlot O g)) {one : Replicator O g} → slots ≡ shorter ++ one ∷ [] → next ≡ shorter
-      → from_the_end more ≡ one ∷ from_the_end ready → next ++ from_the_end more ≡ slots ++ from_the_end ready
-  put_on slots shorter next ready more {one} is same first =
-      (λ i. same i ++ first i) ∙ sym (append_assoc shorter (one ∷ []) (from_the_end ready))
-      ∙ ap (λ (list : List (Replicator O g)). list ++ from_the_end ready) (sym is)
+-- the last one of the one list becomes the first one of the other
+pub put_on : {A : Type 0} (all shorter next rest more : List A) (one : A) → all ≡ shorter ++ one ∷ [] → next ≡ shorter → more ≡ one ∷ rest → next ++ more ≡ all ++ rest
+put_on all shorter next rest more one is same first =
+    ap (λ (list : List _). list ++ more) same ∙ ap (λ (list : List _). shorter ++ list) first
+    ∙ sym (append_assoc shorter (one ∷ []) rest) ∙ ap (λ (list : List _). list ++ rest) (sym is)
 
-  -- the last one came back
-  pub put_back : (slots shorter next : List (Replicator O g)) (ready same : List (ReadySlot O g)) {one : Replicator O g} → slots ≡ shorter ++ one ∷ [] → next ≡ shorter ++ one ∷ []
-      → same ≡ ready → next ++ from_the_end same ≡ slots ++ from_the_end ready
-  put_back slots shorter next ready same {one} is back kept = λ i. (back ∙ sym is) i ++ from_the_end (kept i)
+-- the last one came back
+pub put_back : {A : Type 0} (all shorter next rest more : List A) (one : A) → all ≡ shorter ++ one ∷ [] → next ≡ shorter ++ one ∷ [] → more ≡ rest → next ++ more ≡ all ++ rest
+put_back all shorter next rest more one is back kept =
+    ap (λ (list : List _). list ++ more) (back ∙ sym is) ∙ ap (λ (list : List _). all ++ list) kept
 
 -- the list without the last one that was taken out
 pub popped : {A : Type 0} (before after : List A) (result : Option A) (last : A) → before ≡ after ++ option_to_list result → result ≡ Some last → before ≡ after ++ last ∷ []

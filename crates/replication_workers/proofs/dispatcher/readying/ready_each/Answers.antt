@@ -32,7 +32,7 @@ pub loop-replicator-preserved : goal.loop-replicator-preserved
 loop-replicator-preserved g c =
     let at = MatchOption-at_some _ _ _ c.in-Some.is c.pop.ensures.cases in
     let one = c.in-Ok.ensures in (
-      put_on _ _ _ _ _ (popped _ _ _ _ c.pop.ensures.items c.in-Some.is) one.others one.ready ∙ c.loop-replicator.invariant.0,
+      put_on _ _ _ _ _ c.in-Some.replicator (popped _ _ _ _ c.pop.ensures.items c.in-Some.is) one.others one.ready ∙ c.loop-replicator.invariant.0,
       omega (arith, at, ap length one.others, one.number, c.pop.new.self.ok.0, c.ready_one.new.slots.ok.0, c.ready_one.new.ready.ok.0, c.loop-replicator.ready.ok.0, c.loop-replicator.invariant.1),
       c.ready_one.ensures.capacity.0 ∙ c.pop.ensures.capacity ∙ c.loop-replicator.invariant.2,
       c.ready_one.ensures.capacity.1 ∙ c.loop-replicator.invariant.3,
