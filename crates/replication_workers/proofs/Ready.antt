@@ -26,6 +26,17 @@ module _ {O : Type 0} {g : Ghosts O} where
       ∙ append_assoc slots (replicator_of (ready_worker one) ∷ []) (from_the_end later)
       ∙ ap (λ (list : List (Replicator O g)). slots ++ list) (sym (from_the_end-last later one) ∙ ap (λ (list : List (ReadySlot O g)). from_the_end list) (sym is))
 
+-- the last one of the one list becomes the first one of the other
+pub put_on : {A : Type 0} (all shorter next rest more : List A) (one : A) → all ≡ shorter ++ one ∷ [] → next ≡ shorter → more ≡ one ∷ rest → next ++ more ≡ all ++ rest
+put_on all shorter next rest more one is same first =
+    ap (λ (list : List _). list ++ more) same ∙ ap (λ (list : List _). shorter ++ list) first
+    ∙ sym (append_assoc shorter (one ∷ []) rest) ∙ ap (λ (list : List _). list ++ rest) (sym is)
+
+-- the last one came back
+pub put_back : {A : Type 0} (all shorter next rest more : List A) (one : A) → all ≡ shorter ++ one ∷ [] → next ≡ shorter ++ one ∷ [] → more ≡ rest → next ++ more ≡ all ++ rest
+put_back all shorter next rest more one is back kept =
+    ap (λ (list : List _). list ++ more) (back ∙ sym is) ∙ ap (λ (list : List _). all ++ list) kept
+
 -- the list without the last one that was taken out
 pub popped : {A : Type 0} (before after : List A) (result : Option A) (last : A) → before ≡ after ++ option_to_list result → result ≡ Some last → before ≡ after ++ last ∷ []
 popped before after result last items is = items ∙ ap (λ (one : Option _). after ++ option_to_list one) is

@@ -1,6 +1,7 @@
 use Rattle.std.proofs.Common.{◌∙◌, ℕ, refl, sym, ap, subst, arith, length}
 use Rattle.std.proofs.lemmas.List.{nil_from_length}
 use Rattle.std.proofs.lemmas.Option.{MatchOption-at_none, MatchOption-at_some}
+use Rattle.amt_ports.specs.Causes.{HasCause}
 use Rattle.replication_workers.specs.Slots.{from_the_end}
 use Rattle.replication_workers.specs.Starting.{HaveStarted}
 use Rattle.replication_workers.proofs.Filling.{all_started, none_started, one_refused, one_started, starting_first, starting_more}
@@ -37,7 +38,7 @@ loop-one-preserved g c =
           (λ i. record { first = (ap (λ worker. worker.replicator) started.started.1) i; jobs = started.started.2 i }) refl started.started.0,
       subst (λ (count : ℕ). HaveStarted count (g.P.Spawner.starts c.args.spawner.now) (g.P.Spawner.starts c.start_slot.new.spawner)) (omega (arith, put.len))
           (one_started _ _ _ _ c.loop-one.invariant.1 started.counted),
-      c.start_slot.ensures.cause.quiet ∙ c.loop-one.invariant.2,
+      (subst (λ result. HasCause (g.P.Spawner.faults c.loop-one.spawner) (g.P.Spawner.faults c.start_slot.new.spawner) result) c.in-Ok.is c.start_slot.ensures.cause).quiet ∙ c.loop-one.invariant.2,
       omega (arith, at, put.len, c.loop-one.invariant.3),
       put.capacity ∙ c.loop-one.invariant.4,
     )
