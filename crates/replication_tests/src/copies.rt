@@ -4,40 +4,17 @@ ghost use Rattle.published_table.specs.Publishers.{book_of};
 ghost use Rattle.published_table.specs.Views.{publisher_of};
 ghost use Rattle.replication_workers.specs.Replicators.{view_of};
 
-use crate::fixtures::{ENDPOINTS, GROUP, endpoint, moment};
+use crate::fixtures::{ENDPOINTS, GROUP, endpoint};
+use crate::packets::{
+    CUT_PACKET, HostSend, LOCAL_GROUP, LOCAL_PACKET, MESSAGE, PACKET, assert_tried, job_of,
+};
 use crate::relay::Relay;
-use amt_ports::{MemOut, Tried};
-use amt_values::{Bytes, Ip, Peer};
-use published_table::Note;
-use replication_workers::{Job, Replicator};
+use amt_ports::MemOut;
+use amt_values::Ip;
+use replication_workers::Replicator;
 use std::alloc::Global;
 use std::process::Abort;
 use std::sync::Wait;
-
-// UDP of no octets from 198.51.100.9 to 239.1.1.1.
-const PACKET: [u8; 28] = [
-    0x45, 0, 0, 0x1c, 0, 0, 0, 0, 4, 0x11, 0x9c, 0x92, 0xc6, 0x33, 0x64, 9, 0xef, 1, 1, 1, 4, 0, 4,
-    0, 0, 8, 0, 0,
-];
-
-// The Multicast Data message that carries it.
-const MESSAGE: [u8; 30] = [
-    6, 0, 0x45, 0, 0, 0x1c, 0, 0, 0, 0, 4, 0x11, 0x9c, 0x92, 0xc6, 0x33, 0x64, 9, 0xef, 1, 1, 1, 4,
-    0, 4, 0, 0, 8, 0, 0,
-];
-
-// The same to 224.0.0.5, which no router forwards.
-const LOCAL_PACKET: [u8; 28] = [
-    0x45, 0, 0, 0x1c, 0, 0, 0, 0, 4, 0x11, 0xac, 0x8f, 0xc6, 0x33, 0x64, 9, 0xe0, 0, 0, 5, 4, 0, 4,
-    0, 0, 8, 0, 0,
-];
-
-const LOCAL_GROUP: Ip = Ip::V4(0xe000_0005);
-
-// Its first octets, one fewer than a header has.
-const CUT_PACKET: [u8; 19] = [
-    0x45, 0, 0, 0x1c, 0, 0, 0, 0, 4, 0x11, 0x9c, 0x92, 0xc6, 0x33, 0x64, 9, 0xef, 1, 1,
-];
 
 // What is done with a relay and its replicator, and what comes of it.
 enum Step<'a> {
@@ -48,8 +25,8 @@ enum Step<'a> {
     Publish,
     // The packet of this moment comes to this: the length of the log, how many were sent, and how many not.
     Copies(&'a [u8], u64, (u64, u32, u32)),
-    // The sends that the link has tried: the host, and whether it was sent.
-    Tried(&'a [(u8, bool)]),
+    // The link has tried these sends.
+    Tried(&'a [HostSend<'a>]),
 }
 
 // A relay with one replicator of what it publishes. It isn't `Drop`: end it by `end`.
@@ -58,47 +35,6 @@ struct RelayWithReplicator {
     relay: Relay,
     replicator: Replicator<MemOut>,
     ghost mine: { publisher_of (view_of replicator) ≡ book_of relay.publisher },
-}
-
-fn is_tried(tried: &Tried, host: u8, sent: bool) -> bool {
-    let to = Peer {
-        ip: Ip::V4(0xc633_6400 | u32::from(host)),
-        port: 5000,
-    };
-    tried.to == to && tried.bytes.as_slice() == MESSAGE.as_slice() && tried.sent == sent
-}
-
-fn are_tried(tried: &[Tried], wanted: &[(u8, bool)]) -> bool {
-    for (one, (host, sent)) in tried.iter().zip(wanted) {
-        if !is_tried(one, *host, *sent) {
-            return false;
-        }
-    }
-    tried.len() == wanted.len()
-}
-
-fn fault_count(wanted: &[(u8, bool)]) -> u64 {
-    let mut count = 0u64;
-    for (_, sent) in wanted {
-        if !*sent {
-            count = count.saturating_add(1);
-        }
-    }
-    count
-}
-
-fn job_of(rt: &impl Abort, alloc: Global, packet: &[u8], ms: u64, note: Note) -> Job
-    ensures { result.note ≡ note }
-{
-    assert!(rt; packet.len() <= 65_535);
-    let Ok(packet) = Bytes::copied(alloc, packet) else {
-        panic!(rt; "out of memory");
-    };
-    Job {
-        packet,
-        at: moment(rt, ms),
-        note,
-    }
 }
 
 impl RelayWithReplicator {
@@ -128,12 +64,6 @@ impl RelayWithReplicator {
         (copied.prefix, copied.sent, copied.unsent)
     }
 
-    fn assert_tried(&self, rt: &impl Abort, wanted: &[(u8, bool)]) {
-        let out = self.replicator.out();
-        assert!(rt; are_tried(out.tried(), wanted), "{out:?}");
-        assert_eq!(rt; out.faults(), fault_count(wanted));
-    }
-
     fn take<R: Wait + Abort>(&mut self, rt: &R, step: &Step) {
         match step {
             Step::Report(host, group) => self.relay.report(rt, endpoint(*host), *group, 0),
@@ -142,7 +72,7 @@ impl RelayWithReplicator {
             Step::Copies(packet, ms, wanted) => {
                 assert_eq!(rt; self.copied(rt, packet, *ms), *wanted, "at {ms}");
             }
-            Step::Tried(wanted) => self.assert_tried(rt, wanted),
+            Step::Tried(wanted) => assert_tried(rt, self.replicator.out(), wanted),
         }
     }
 
@@ -182,7 +112,7 @@ const FOR_ONE_LIFETIME: [Step<'static>; 5] = [
     Step::Publish,
     Step::Copies(&PACKET, 259_999, (1, 1, 0)),
     Step::Copies(&PACKET, 260_000, (1, 0, 0)),
-    Step::Tried(&[(7, true)]),
+    Step::Tried(&[(7, &MESSAGE, true)]),
 ];
 
 #[test]
@@ -209,7 +139,11 @@ const THREE_SENDS: [Step<'static>; 6] = [
     Step::Report(9, GROUP),
     Step::Publish,
     Step::Copies(&PACKET, 0, (3, 2, 1)),
-    Step::Tried(&[(7, true), (8, false), (9, true)]),
+    Step::Tried(&[
+        (7, &MESSAGE, true),
+        (8, &MESSAGE, false),
+        (9, &MESSAGE, true),
+    ]),
 ];
 
 #[test]
@@ -238,7 +172,7 @@ const NOT_FORWARDED: [Step<'static>; 9] = [
     Step::Copies(&LOCAL_PACKET, 0, (2, 0, 0)),
     Step::Tried(&[]),
     Step::Copies(&PACKET, 0, (2, 1, 0)),
-    Step::Tried(&[(7, true)]),
+    Step::Tried(&[(7, &MESSAGE, true)]),
 ];
 
 #[test]

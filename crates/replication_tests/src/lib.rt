@@ -16,8 +16,12 @@ mod fixtures;
 #[cfg(test)]
 mod notes;
 #[cfg(test)]
+mod packets;
+#[cfg(test)]
 mod refused;
 #[cfg(test)]
 mod relay;
+#[cfg(test)]
+mod starters;
 #[cfg(test)]
 mod views;
