@@ -187,7 +187,12 @@ fn assert_links(rt: &impl Abort, outs: &[MemOut], sends: &[&[HostSend]]) {
 
 // What is left of the run, with so many jobs on the calling thread.
 fn assert_left(rt: &impl Abort, run: &Run, left: &Finished<MemOut>, inline: u64) {
-    assert_eq!(rt; (left.sent, left.unsent, left.inline), (run.sent, 0, inline), "{}", run.what);
+    assert_eq!(rt;
+        (left.sent, left.unsent, left.inline),
+        (run.sent, 0, inline),
+        "{}",
+        run.what
+    );
     assert_eq!(rt; left.views.len(), run.slots as usize);
     assert_links(rt, left.outs.as_slice(), run.sends);
 }
@@ -300,7 +305,13 @@ fn send_many<R: Wait + Abort, T>(rt: &R, one: &mut RelayWithDispatcher<T>)
 fn assert_many_sent(rt: &impl Abort, out: &MemOut) {
     assert_eq!(rt; out.tried().len(), MANY as usize);
     for (tried, number) in out.tried().iter().zip(0..MANY) {
-        assert!(rt; tried.bytes.as_slice().ends_with(numbered(number).as_slice()), "{number}");
+        assert!(rt;
+            tried
+                .bytes
+                .as_slice()
+                .ends_with(numbered(number).as_slice()),
+            "{number}"
+        );
     }
 }
 
