@@ -1,5 +1,5 @@
 //! What the slots of a dispatcher send, with threads and without. It must not know what a slot is.
-ghost use Rattle.std.specs.Prelude.{◌≡◌, ◌≤◌, ◌×◌, All};
+ghost use Rattle.std.specs.Prelude.{◌≡◌, ◌≤◌, All};
 ghost use Rattle.published_table.specs.Publishers.{book_of};
 ghost use Rattle.published_table.specs.Views.{IsNew, publisher_of, terms_of};
 ghost use Rattle.replication_workers.specs.Dispatchers.{AllRun, KeepsAllRun, slots_of};

@@ -10,6 +10,8 @@ mod beside;
 #[cfg(test)]
 mod copies;
 #[cfg(test)]
+mod dispatching;
+#[cfg(test)]
 mod doors;
 #[cfg(test)]
 mod fixtures;
