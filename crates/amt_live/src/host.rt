@@ -32,6 +32,15 @@ impl<R: Threads + Wait + 'static> Starts<Worker<UdpOut>> for WorkerThreads<R> {
     }
 }
 
+type HostDevices<R> = RelayDevices<
+    UdpLink,
+    UdpFeed,
+    HostClock<R>,
+    HostWords<R>,
+    UdpOut,
+    ThreadSpawner<R, WorkerThreads<R>>,
+>;
+
 /// The sockets, clock, random words and threads of the machine.
 #[derive(Debug, Drop)]
 pub struct HostLive<R> {
@@ -82,10 +91,15 @@ where
     R: Net + Threads + Wait + Clock + RandomSource + Copy + Drop + 'static,
 {
     type L = UdpLink;
+
     type F = UdpFeed;
+
     type C = HostClock<R>;
+
     type W = HostWords<R>;
+
     type O = UdpOut;
+
     type P = ThreadSpawner<R, WorkerThreads<R>>;
 
     ghost relays = { λ _. None };
@@ -103,10 +117,7 @@ where
         listen: &Peer,
         feed: &Peer,
         slots: u32,
-    ) -> Result<
-        RelayDevices<UdpLink, UdpFeed, HostClock<R>, HostWords<R>, UdpOut, ThreadSpawner<R, WorkerThreads<R>>>,
-        OpenFault,
-    > {
+    ) -> Result<HostDevices<R>, OpenFault> {
         let opened = open_devices(self.rt, self.alloc, listen, feed, slots);
         if matches!(&opened, Err(OpenFault::Failed)) {
             self.faults = self.faults.saturating_add(1);
@@ -114,23 +125,13 @@ where
         opened
     }
 
-    fn return_relay(
-        &mut self,
-        devices: RelayDevices<UdpLink, UdpFeed, HostClock<R>, HostWords<R>, UdpOut, ThreadSpawner<R, WorkerThreads<R>>>,
-    ) {
+    fn return_relay(&mut self, devices: HostDevices<R>)
+        ensures faults { self.new.faults ≡ self.old.faults }
+    {
         // The sockets are closed here.
         drop(devices);
     }
 }
-
-type HostDevices<R> = RelayDevices<
-    UdpLink,
-    UdpFeed,
-    HostClock<R>,
-    HostWords<R>,
-    UdpOut,
-    ThreadSpawner<R, WorkerThreads<R>>,
->;
 
 fn open_devices<R>(
     rt: R,

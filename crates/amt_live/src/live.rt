@@ -25,10 +25,15 @@ pub enum OpenFault {
 /// A place where the devices of a run are opened, and where they are given back at its end.
 pub trait Live {
     type L: Link;
+
     type F: Feed;
+
     type C: Clock;
+
     type W: Words;
+
     type O: OutLink + Drop;
+
     type P: Spawner<Worker<Self::O>>;
 
     /// The sets of a relay's devices that openings will give from here on, where it tells them.

@@ -114,10 +114,15 @@ where
     P: Spawner<Worker<O>> + Drop,
 {
     type L = L;
+
     type F = F;
+
     type C = C;
+
     type W = W;
+
     type O = O;
+
     type P = P;
 
     ghost relays = { λ live. Some live.relays };
@@ -161,7 +166,7 @@ where
         ensures unfit { fits slots self.old.relays ≡ false → IsErr result }
         ensures only { IsErrOf result OpenFault.Failed
             → Contains self.old.calls.failing (next_count self.old.calls.made)
-                ⊎ (fits slots self.old.relays ≡ false) }
+            ⊎ (fits slots self.old.relays ≡ false) }
         ensures err { IsErrOf result OpenFault.Failed
             → self.new.calls ≡ with_fault (with_call self.old.calls) }
         ensures ok { ¬ IsErrOf result OpenFault.Failed
