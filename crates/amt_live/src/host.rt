@@ -5,11 +5,11 @@ use crate::devices::RelayDevices;
 use crate::live::{Live, OpenFault};
 use amt_ports::{
     Failed, GivenBy, HostClock, HostWords, Starts, ThreadSpawner, UdpFeed, UdpLink, UdpOut,
-    open_sockets, start_promised,
+    open_sockets,
 };
 use amt_values::Peer;
 use contract_words::Items;
-use replication_workers::{Worker, WorkerDone};
+use replication_workers::{Worker, WorkerDone, start_worker};
 use std::alloc::Global;
 use std::net::Net;
 use std::random::RandomSource;
@@ -28,7 +28,7 @@ impl<R: Threads + Wait + 'static> Starts<Worker<UdpOut>> for WorkerThreads<R> {
         &self,
         work: Worker<UdpOut>,
     ) -> Result<PromisedHandle<WorkerDone<UdpOut>, GivenBy<Worker<UdpOut>>>, Failed> {
-        start_promised(&self.rt, work)
+        start_worker(&self.rt, work)
     }
 }
 
