@@ -12,6 +12,7 @@ pub mod MemSource
 pub mod MemWords
 pub mod Peers
 pub mod Reading
+pub mod RealDevices
 pub mod Scripted
 pub mod Sends
 pub mod Starts

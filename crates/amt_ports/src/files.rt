@@ -22,6 +22,9 @@ pub trait Files {
     /// The octets of the file with this name, where the device tells them and has one.
     ghost contents: { Self → List ℕ → Option (List ℕ) };
 
+    /// The device tells that it has no file of this name.
+    ghost lacks: { Self → List ℕ → Type 0 };
+
     /// How often the device has failed. A count at 2^64 - 1 stays there.
     ghost faults: { Self → ℕ };
 
@@ -31,6 +34,7 @@ pub trait Files {
         ensures short { IfOk result (λ bytes. length bytes ≤ INPUT_LIMIT) }
         ensures long { IfErr result (IsLonger (contents self.old name.now)) }
         ensures same { (other : List ℕ) → contents self.new other ≡ contents self.old other }
+        ensures absent { lacks self.old name.now → IsErrOf result FileFault.Failed }
 
         ensures later { faults self.old ≤ faults self.new }
         ensures failed { IsErrOf result FileFault.Failed → Rose (faults self.old) (faults self.new) }

@@ -1,8 +1,9 @@
 //! The outside as traits: bytes, datagrams, packets, moments, random words, files and threads, with
-//! devices in memory, adapters over std's readers and writers, and spawners over std's threads.
+//! devices in memory, adapters over std's readers, writers, sockets, clock, random source and files, and
+//! spawners over std's threads.
 //!
-//! Contract: a call fails where its device's count of faults rose, and only there; where a device
-//! tells what it gave, took or tried, that is what its calls answered.
+//! Contract: a call answers that its device failed where the device's count of faults rose, and only there;
+//! where a device tells what it gave, took or tried, that is what its calls answered.
 //! It knows no message and no endpoint, and of time the moments alone.
 //! No standard.
 #![tactic(auto)]

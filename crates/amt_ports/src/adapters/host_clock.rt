@@ -1,6 +1,7 @@
 //! The machine's clock. It must not know what is timed.
 
 ghost use Rattle.std.specs.Prelude.{◌≡◌, ◌<◌, ◌≤◌, None};
+ghost use Rattle.amt_ports.specs.RealDevices.{readings_failed};
 
 use crate::Clock;
 use crate::fault::count_fault;
@@ -31,7 +32,9 @@ impl<C: time::Clock + Drop> HostClock<C> {
     }
 
     /// How often the clock could not be read.
-    pub fn faults(&self) -> u64 {
+    pub fn faults(&self) -> u64
+        ensures { result ≡ readings_failed self.now }
+    {
         self.faults
     }
 
@@ -49,14 +52,14 @@ impl<C: time::Clock + Drop> HostClock<C> {
 impl<C: time::Clock + Drop> Clock for HostClock<C> {
     ghost given = { λ _. None };
 
-    ghost faults = { λ clock. clock.faults };
+    ghost faults = { readings_failed };
 
     fn now(&mut self) -> Moment
-        ensures faults { self.old.faults ≤ self.new.faults }
+        ensures faults { readings_failed self.old ≤ readings_failed self.new }
 
         ensures last { self.new.last ≡ result }
         ensures forward { self.old.last ≤ result }
-        ensures unread { self.old.faults < self.new.faults → result ≡ self.old.last }
+        ensures unread { readings_failed self.old < readings_failed self.new → result ≡ self.old.last }
     {
         match self.read() {
             Some(moment) => self.last = self.last.later(&moment),

@@ -1,6 +1,7 @@
 //! The file system. It must not know what files say.
 
-ghost use Rattle.std.specs.Prelude.{None};
+ghost use Rattle.std.specs.Prelude.{◌≡◌, None};
+ghost use Rattle.amt_ports.specs.RealDevices.{files_failed};
 
 use crate::fault::count_fault;
 use crate::{FileFault, Files, ReadAllFault, ReaderSource, read_all};
@@ -20,12 +21,16 @@ pub struct HostFiles<F> {
 }
 
 impl<F: fs::Files + Drop> HostFiles<F> {
-    pub fn new(files: F) -> Self {
+    pub fn new(files: F) -> Self
+        ensures { files_failed result ≡ 0 }
+    {
         HostFiles { files, faults: 0 }
     }
 
     /// How often a file could not be opened or read.
-    pub fn faults(&self) -> u64 {
+    pub fn faults(&self) -> u64
+        ensures { result ≡ files_failed self.now }
+    {
         self.faults
     }
 }
@@ -33,7 +38,10 @@ impl<F: fs::Files + Drop> HostFiles<F> {
 impl<F: fs::Files + Drop> Files for HostFiles<F> {
     ghost contents = { λ _ _. None };
 
-    ghost faults = { λ files. files.faults };
+    // A file that can't be opened may be there.
+    ghost lacks = { λ _ _. ⊥ };
+
+    ghost faults = { files_failed };
 
     fn read_file(&mut self, alloc: Global, name: &str) -> Result<Bytes, FileFault> {
         let Ok(file) = File::open(&self.files, name) else {

@@ -1,6 +1,7 @@
 //! The machine's random numbers. It must not know what they are for.
 
-ghost use Rattle.std.specs.Prelude.{None};
+ghost use Rattle.std.specs.Prelude.{◌≡◌, None};
+ghost use Rattle.amt_ports.specs.RealDevices.{drawings_failed};
 
 use crate::fault::count_fault;
 use crate::{Failed, Words};
@@ -14,12 +15,16 @@ pub struct HostWords<R> {
 }
 
 impl<R: RandomSource + Drop> HostWords<R> {
-    pub fn new(source: R) -> Self {
+    pub fn new(source: R) -> Self
+        ensures { drawings_failed result ≡ 0 }
+    {
         HostWords { source, faults: 0 }
     }
 
     /// How often a word could not be drawn.
-    pub fn faults(&self) -> u64 {
+    pub fn faults(&self) -> u64
+        ensures { result ≡ drawings_failed self.now }
+    {
         self.faults
     }
 }
@@ -27,7 +32,7 @@ impl<R: RandomSource + Drop> HostWords<R> {
 impl<R: RandomSource + Drop> Words for HostWords<R> {
     ghost given = { λ _. None };
 
-    ghost faults = { λ words. words.faults };
+    ghost faults = { drawings_failed };
 
     fn word(&mut self) -> Result<u64, Failed> {
         let mut octets = [0; 8];

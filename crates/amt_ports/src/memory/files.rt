@@ -1,5 +1,5 @@
 //! Files in memory, for tests and callers. They must not know the file system.
-ghost use Rattle.std.specs.Prelude.{◌≡◌, ◌≤◌, ◌↔◌, ℕ, [], List, Some, None, Contains, find, length, option_copied, IfOk, IfErr, IsErrOf};
+ghost use Rattle.std.specs.Prelude.{◌≡◌, ◌≤◌, ◌↔◌, ◌⊎◌, ℕ, [], List, Some, None, Contains, find, length, option_copied, IfOk, IfErr, IsErrOf};
 ghost use Rattle.amt_ports.specs.Causes.{Rose, next_count};
 ghost use Rattle.amt_ports.specs.Contents.{IsContent, IsLonger};
 ghost use Rattle.amt_ports.specs.MemFiles.{SaysLength, content_named, has_name};
@@ -69,6 +69,8 @@ impl Files for MemFiles {
 
     ghost contents = { λ f name. content_named f.files name };
 
+    ghost lacks = { λ f name. content_named f.files name ≡ None };
+
     ghost faults = { λ f. f.tally.faults };
 
     fn read_file(&mut self, alloc: Global, name: &str) -> Result<Bytes, FileFault>
@@ -77,6 +79,8 @@ impl Files for MemFiles {
         ensures long { IfErr result (IsLonger (content_named self.old.files name.now)) }
         ensures same { (other : List ℕ)
             → content_named self.new.files other ≡ content_named self.old.files other }
+        ensures absent { content_named self.old.files name.now ≡ None
+            → IsErrOf result FileFault.Failed }
 
         ensures later { self.old.tally.faults ≤ self.new.tally.faults }
         ensures failed { IsErrOf result FileFault.Failed
@@ -88,8 +92,9 @@ impl Files for MemFiles {
         ensures exact { IfErr result (SaysLength (content_named self.old.files name.now)) }
         ensures listed { Contains self.old.tally.failing (next_count self.old.tally.made)
             → IsErrOf result FileFault.Failed }
-        ensures absent { content_named self.old.files name.now ≡ None
-            → IsErrOf result FileFault.Failed }
+        ensures only { IsErrOf result FileFault.Failed
+            → Contains self.old.tally.failing (next_count self.old.tally.made)
+            ⊎ (content_named self.old.files name.now ≡ None) }
         ensures err { IsErrOf result FileFault.Failed
             → self.new.tally ≡ with_fault (with_call self.old.tally) }
         ensures ok { ¬ IsErrOf result FileFault.Failed

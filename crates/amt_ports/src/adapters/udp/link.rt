@@ -1,6 +1,9 @@
 //! A UDP socket as a link. It must not know what datagrams say.
 
-ghost use Rattle.std.specs.Prelude.{◌≡◌, None};
+ghost use Rattle.std.specs.Prelude.{◌≡◌, ◌≢◌, ◌≤◌, None, length, IfOk};
+ghost use Rattle.amt_ports.specs.Arrivals.{IsShortGot};
+ghost use Rattle.amt_ports.specs.Causes.{HasCause};
+ghost use Rattle.amt_ports.specs.RealDevices.{out_failed, receivings_failed, sends_failed};
 
 use super::out::UdpOut;
 use super::room::send_whole;
@@ -22,7 +25,9 @@ pub struct UdpLink {
 }
 
 impl UdpLink {
-    pub(crate) fn new(own: UdpSocket, other: UdpSocket) -> Self {
+    pub(crate) fn new(own: UdpSocket, other: UdpSocket) -> Self
+        ensures { (receivings_failed result ≡ 0) × (sends_failed result ≡ 0) }
+    {
         UdpLink {
             socket: WatchedSocket::new(own, other),
             receive_faults: 0,
@@ -31,7 +36,9 @@ impl UdpLink {
     }
 
     /// An end for a worker, which sends through the same socket.
-    pub fn worker_end(&self) -> io::Result<UdpOut> {
+    pub fn worker_end(&self) -> io::Result<UdpOut>
+        ensures { IfOk result (λ out. out_failed out ≡ 0) }
+    {
         Ok(UdpOut::new(self.socket.own.try_clone()?))
     }
 
@@ -41,12 +48,16 @@ impl UdpLink {
     }
 
     /// How often a receiving has failed.
-    pub fn receive_faults(&self) -> u64 {
+    pub fn receive_faults(&self) -> u64
+        ensures { result ≡ receivings_failed self.now }
+    {
         self.receive_faults
     }
 
     /// How often a send has failed.
-    pub fn send_faults(&self) -> u64 {
+    pub fn send_faults(&self) -> u64
+        ensures { result ≡ sends_failed self.now }
+    {
         self.send_faults
     }
 }
@@ -56,11 +67,20 @@ impl Link for UdpLink {
 
     ghost tried = { λ _. None };
 
-    ghost receive_faults = { λ link. link.receive_faults };
+    ghost receive_faults = { receivings_failed };
 
-    ghost send_faults = { λ link. link.send_faults };
+    ghost send_faults = { sends_failed };
 
-    fn recv(&mut self, buf: &mut [u8], wait_ms: u32) -> Result<Got, Failed> {
+    fn recv(&mut self, buf: &mut [u8], wait_ms: u32) -> Result<Got, Failed>
+        requires room { 65536 ≤ length buf.old }
+        requires wait { 1 ≤ wait_ms }
+        ensures short { IfOk result IsShortGot }
+        ensures buffer { length buf.new ≡ length buf.old }
+        ensures cause { HasCause (receivings_failed self.old) (receivings_failed self.new) result }
+        ensures apart { sends_failed self.new ≡ sends_failed self.old }
+
+        ensures open { IfOk result (λ got. got ≢ Got.Closed) }
+    {
         match self.socket.recv(buf, wait_ms) {
             Ok(Some((count, source))) => Ok(Got::Datagram(source_peer(source), count)),
             Ok(None) => Ok(Got::Nothing),

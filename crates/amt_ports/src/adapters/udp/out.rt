@@ -1,6 +1,7 @@
 //! A worker's end of the listening socket. It must not know who else sends through it.
 
-ghost use Rattle.std.specs.Prelude.{ℕ, None};
+ghost use Rattle.std.specs.Prelude.{◌≡◌, None};
+ghost use Rattle.amt_ports.specs.RealDevices.{out_failed};
 
 use super::room::send_whole;
 use crate::fault::count_fault;
@@ -16,12 +17,16 @@ pub struct UdpOut {
 }
 
 impl UdpOut {
-    pub(crate) fn new(socket: UdpSocket) -> Self {
+    pub(crate) fn new(socket: UdpSocket) -> Self
+        ensures { out_failed result ≡ 0 }
+    {
         UdpOut { socket, faults: 0 }
     }
 
     /// How often a send has failed.
-    pub fn faults(&self) -> u64 {
+    pub fn faults(&self) -> u64
+        ensures { result ≡ out_failed self.now }
+    {
         self.faults
     }
 }
@@ -29,7 +34,7 @@ impl UdpOut {
 impl OutLink for UdpOut {
     ghost tried = { λ _. None };
 
-    ghost faults = { λ out. out.faults };
+    ghost faults = { out_failed };
 
     fn send(&mut self, to: &Peer, bytes: &[u8]) -> Result<(), Failed> {
         match send_whole(&self.socket, to, bytes) {
