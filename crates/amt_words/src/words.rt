@@ -14,7 +14,8 @@ use std::alloc::Global;
 
 /// The command that the arguments name, those after the program's name.
 ///
-/// No line asks for help: `--help`, `-h` and `help` are usage faults.
+/// No line asks for help: `--help`, `-h` and `help` are usage faults. Only as the FILE of `relay` they
+/// may stand, the first two after `--`.
 #[tactic(auto, using(crate::proofs::PlainLines::plain_lines))]
 pub fn read_words<'a>(alloc: Global, words: &'a [String]) -> Result<Command<'a>, WordsFault>
     ensures found { IfOk result (λ command. IsCommandLine command (map string_bytes words.entry.now)) }
