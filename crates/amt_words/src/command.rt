@@ -21,7 +21,10 @@ pub enum Command<'a> {
     /// Compare known answers.
     Vectors,
     /// Run a relay under `count` endpoints that `seed` makes.
-    Load { seed: u32, count: u32 },
+    Load {
+        seed: u32,
+        count: u32,
+    },
     /// Serve as the relay that the settings of `file` say, for so many turns at most. `workers`
     /// outweighs the settings.
     Relay {

@@ -136,7 +136,10 @@ const FILES: [RelayRow; 17] = [
 const TURNS: [RelayRow; 21] = [
     (&["relay", "f", "--turns", "1"], Some(("f", 1, None))),
     (&["relay", "f", "--turns", "0"], None),
-    (&["relay", "f", "--turns", "1099511627776"], Some(("f", MOST, None))),
+    (
+        &["relay", "f", "--turns", "1099511627776"],
+        Some(("f", MOST, None)),
+    ),
     (&["relay", "f", "--turns", "1099511627777"], None),
     (&["relay", "f", "--turns", "18446744073709551616"], None),
     (&["relay", "--turns", "3", "f"], Some(("f", 3, None))),
@@ -158,17 +161,32 @@ const TURNS: [RelayRow; 21] = [
 ];
 
 const WORKERS: [RelayRow; 13] = [
-    (&["relay", "f", "--workers", "0"], Some(("f", MOST, Some(0)))),
-    (&["relay", "f", "--workers", "64"], Some(("f", MOST, Some(64)))),
+    (
+        &["relay", "f", "--workers", "0"],
+        Some(("f", MOST, Some(0))),
+    ),
+    (
+        &["relay", "f", "--workers", "64"],
+        Some(("f", MOST, Some(64))),
+    ),
     (&["relay", "f", "--workers", "65"], None),
     (&["relay", "f", "--workers=-0"], Some(("f", MOST, Some(0)))),
     (&["relay", "f", "--workers=-1"], None),
     (&["relay", "f", "--workers"], None),
     (&["relay", "--workers=2", "f"], Some(("f", MOST, Some(2)))),
     (&["relay", "f", "--workers", "2", "--workers", "2"], None),
-    (&["relay", "f", "--turns", "3", "--workers", "2"], Some(("f", 3, Some(2)))),
-    (&["relay", "f", "--workers", "2", "--turns", "3"], Some(("f", 3, Some(2)))),
-    (&["relay", "--workers", "2", "f", "--turns=3"], Some(("f", 3, Some(2)))),
+    (
+        &["relay", "f", "--turns", "3", "--workers", "2"],
+        Some(("f", 3, Some(2))),
+    ),
+    (
+        &["relay", "f", "--workers", "2", "--turns", "3"],
+        Some(("f", 3, Some(2))),
+    ),
+    (
+        &["relay", "--workers", "2", "f", "--turns=3"],
+        Some(("f", 3, Some(2))),
+    ),
     (&["relay", "--turns", "--workers", "2", "f"], None),
     (&["relay", "f", "3", "2"], None),
 ];
