@@ -1,5 +1,5 @@
 -- Words that are no flag, decimal digits among them.
-use Rattle.std.proofs.Common.{◌≡◌, ◌<◌, ◌≤◌, ◌==◌, ◌^◌, subst, ℕ, ℤ, Bool, true, false, List, [], ◌∷◌, Some, None, refl, sym, arith}
+use Rattle.std.proofs.Common.{◌≡◌, ◌<◌, ◌≤◌, ◌==◌, ◌^◌, subst, ℕ, ℤ, Bool, true, false, [], ◌∷◌, Some, None, refl, sym, arith}
 use Rattle.std.specs.Prelude.{pos, FitsSigned, ◌≤ℤ◌}
 use Rattle.std.specs.Str.{bytes_eq}
 use Rattle.std.specs.Str.Parse.{IsNumeral, digits_value, signed_digits_value, without_leading_sign}

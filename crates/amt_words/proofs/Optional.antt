@@ -1,18 +1,17 @@
 -- What a parse found, in a command of a required word and two options.
-use Rattle.std.proofs.Common.{◌≡◌, ◌∙◌, ◌<◌, ◌≤◌, ◌++◌, ◌||◌, ℕ, zero, suc, true, false, List, [], ◌∷◌, length, is_some, Option, Some, None, codes, refl, sym, subst, ap, inl, inr, arith}
-use Rattle.std.specs.Prelude.{pos, option_map, slice_get}
+use Rattle.std.proofs.Common.{◌≡◌, ◌∙◌, ◌<◌, ◌≤◌, ◌++◌, ◌||◌, ℕ, zero, suc, true, false, List, [], ◌∷◌, length, Option, Some, None, codes, refl, sym, subst, ap, inl, inr, arith}
+use Rattle.std.specs.Prelude.{pos}
 use Rattle.std.specs.Borrow.{Bor}
 use Rattle.std.specs.List.{All, slice_index_or}
 use Rattle.std.specs.Str.{bytes_eq}
 use Rattle.std.proofs.lemmas.List.Elements.{All-get_or, All-nil}
 use Rattle.std.proofs.lemmas.Slice.Eq.{bytes_eq-Decides}
-use Rattle.clap.specs.Words.{Accepts, AddsArg, IsParsedFrom, IsPlain, IsPlainArg, IsSignedIn, Text, args_of, found_of, groups_of, has_subcommand, matched_of, one_text, read_as, reading_of, without_minus}
-use Rattle.clap.specs.Built.{IsAuto, SameRules, TakesValue}
-use Rattle.clap.specs.Facts.{least_values, Entry, EntryPasses, HasReading, IsParsed, PassesArg, parser_of, parser_of_value}
+use Rattle.clap.specs.Words.{Accepts, AddsArg, IsParsedFrom, IsPlain, IsPlainArg, IsSignedIn, Text, args_of, found_of, groups_of, has_subcommand, matched_of, one_text, reading_of, without_minus}
+use Rattle.clap.specs.Built.{SameRules, TakesValue}
+use Rattle.clap.specs.Facts.{least_values, Entry, EntryPasses, IsParsed, PassesArg, parser_of, parser_of_value}
 use Rattle.clap.specs.declared.builder.arg.Arg.{Arg}
 use Rattle.clap.specs.declared.builder.command.Command.{Command}
 use Rattle.clap.specs.declared.builder.command.Command.TheViews.{out-Command}
-use Rattle.clap.specs.declared.builder.value_parser.Reading.{Reading}
 use Rattle.clap.specs.declared.builder.value_parser.Reading.TheVariants.{WithoutMinus}
 use Rattle.clap.specs.declared.builder.value_parser.ValueParser.{ValueParser}
 use Rattle.clap.specs.declared.builder.value_parser.ValueParser.TheVariants.{Signed}
