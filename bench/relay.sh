@@ -6,8 +6,8 @@
 # printed, and `chrt -f 1 bench/relay.sh` gives every program of the trial the same advantage over it.
 #
 # It builds no relay: `rt run` in crates/amt leaves the binary at crates/amt/out/amt. The programs of bench/relay are
-# compiled into a folder of its own. COMMAND is called with a settings file and `--workers W`; `least` is the C loop in
-# the place of the relay.
+# compiled into a folder of its own. COMMAND is called with a settings file and `--workers W`; `loop` is the C loop in
+# the place of the relay. With 6 runs of 2 seconds it takes some five minutes.
 #
 # usage: bench/relay.sh [COMMAND [RUNS [SECONDS]]]
 #        bench/relay.sh "crates/amt/out/amt relay" 6 2
@@ -23,27 +23,25 @@ trap 'end; rm -rf "$work"' EXIT
 trap 'exit 1' INT TERM
 
 # An address of the loopback that two runs of this script don't share.
-address=127.77.$(($$ % 255)).1
+third=$(($$ % 255))
+address=127.77.$third.1
 link=$address:2268
 feed=$address:9000
 many=65536
 
-for program in bare flood least trial; do
+for program in bare flood loop trial; do
     ${CC:-cc} -O2 -o "$work/$program" "$here/relay/$program.c"
 done
-least=$work/least
-[ "$relay" != least ] || relay=$least
+loop=$work/loop
+[ "$relay" != loop ] || relay=$loop
 
-# settings ENDPOINTS: what the relay has room for
-settings() {
-    cat > "$work/relay.toml" << END
+cat > "$work/relay.toml" << END
 relay = "192.0.2.1"
 listen = "$link"
 feed = "$feed"
-endpoints = $1
+endpoints = $many
 groups = 4
 END
-}
 
 # serve COMMAND WORKERS: the relay runs
 serve() {
@@ -81,21 +79,33 @@ median() {
         END { printf format, (row[int((NR + 1) / 2)] + row[int(NR / 2) + 1]) / 2 }'
 }
 
+# least ROW: processor times are the least of the runs, which other work disturbs little
+least() {
+    sort -g "$work/row.$1" | head -n 1
+}
+
 # bare RECEIVERS: a trial of the bare loop
 bare() {
     "$work/trial" - 0 shared "$1" "$work/bare" "$seconds" > "$work/figures"
+}
+
+# unread: packets that the system dropped since the buffer of the feed's socket was full
+unread() {
+    awk -v feed="$(printf '01%02X4D7F:%04X' "$third" 9000)" '$2 == feed { print "unread", $NF }' /proc/net/udp
 }
 
 # relayed COMMAND WORKERS KIND ENDPOINTS RATE GROUP: a trial of a relay, with so many packets a second to a group
 relayed() {
     serve "$1" "$2"
     "$work/trial" "$link" "$process" "$3" "$4" "$work/flood" "$feed" "$5" "$seconds" "$6" > "$work/figures"
+    unread >> "$work/figures"
     end
 }
 
-# lost ROW: packets of the last trial that the relay didn't send. What the system dropped behind it was sent.
+# lost ROW BARE: packets of the last trial that the relay didn't send, and of these those that it hadn't read. What
+# the system dropped after it was sent.
 lost() {
-    keep "lost.$1" $(($(figure offered) - $(figure arrived) - $(figure dropped)))
+    keep "lost.$1" "$(($(figure offered) - $(figure arrived) - $(figure dropped))) $(figure unread)"
     keep "share.$1" "$(sum "$(figure offered) / $seconds / $2")"
 }
 
@@ -103,9 +113,9 @@ lost() {
 quarter_rate() {
     bare 1
     bare=$(figure rate)
-    for form in least:0 relay:0 relay:1; do
+    for form in loop:0 relay:0 relay:1; do
         command=$relay
-        [ ${form%:*} != least ] || command=$least
+        [ ${form%:*} != loop ] || command=$loop
         relayed "$command" ${form#*:} shared 1 $((bare / 4)) 0
         lost $form "$bare"
     done
@@ -115,7 +125,7 @@ quarter_rate() {
 full_rate() {
     bare 1
     one=$(figure rate)
-    relayed "$least" 0 shared 1 $((one * 3 / 2)) 0
+    relayed "$loop" 0 shared 1 $((one * 3 / 2)) 0
     c=$(figure rate)
     relayed "$relay" 0 shared 1 $((one * 3 / 2)) 0
     r=$(figure rate)
@@ -123,7 +133,7 @@ full_rate() {
 
     bare 16
     all=$(figure rate)
-    relayed "$least" 0 shared 16 $((all * 3 / 32)) 0
+    relayed "$loop" 0 shared 16 $((all * 3 / 32)) 0
     c=$(figure rate)
     relayed "$relay" 1 shared 16 $((all * 3 / 32)) 0
     r=$(figure rate)
@@ -143,20 +153,18 @@ endpoints() {
     bare 1
     rate=$(($(figure rate) * 3 / 2))
     keep bare.us "$(a_copy)"
-    for form in least relay; do
+    for form in loop relay; do
         command=$relay
-        [ $form != least ] || command=$least
+        [ $form != loop ] || command=$loop
         relayed "$command" 0 own 16 $rate 7
-        few=$(a_copy)
+        keep $form.few "$(a_copy)"
         relayed "$command" 0 own $many $rate 40503
-        keep $form.few "$few"
         keep $form.many "$(a_copy)"
-        keep $form.ratio "$(sum "$(a_copy) / $few")"
         keep $form.updates "$(figure updates)"
         full=$(figure full)
     done
     # The C loop has room for everybody, and never says that it hasn't.
-    if [ "$full" != 1 ] && [ "$relay" != "$least" ]; then
+    if [ "$full" != 1 ] && [ "$relay" != "$loop" ]; then
         echo "not all endpoints are live, so their rows say nothing" >&2
     fi
 }
@@ -178,19 +186,17 @@ show() {
     printf '%-46s %9s %9s %9s %8s %8s %s\n' "$1" "$2" "$3" "$4" "$5" "${6:-}" "$met" | sed 's/ *$//'
 }
 
-# show_lost WHAT ROW: the lost packets of each run, and in how many there were none
+# show_lost WHAT ROW: the lost packets of each run, and those of them that waited unread in a full buffer
 show_lost() {
-    kept=$(grep -c '^0$' "$work/row.lost.$2" || true)
+    kept=$(grep -c '^0 ' "$work/row.lost.$2" || true)
     # In one run of six a packet may be lost.
     met=$(awk "BEGIN { print ($kept * 6 >= $runs * 5) ? \"yes\" : \"NO\" }")
-    [ "$2" != least:0 ] || met=
+    [ "$2" != loop:0 ] || met=
     printf '%-30s %s of %s %4s  offered %s of bare; lost' "$1" "$kept" "$runs" "$met" "$(median "share.$2" %.2f)"
-    awk '{ printf " %s", $1 }' "$work/row.lost.$2"
-    echo
+    awk '{ printf " %s", $1; unread = unread " " $2 } END { print ", unread" unread }' "$work/row.lost.$2"
 }
 
 echo "$(getconf _NPROCESSORS_ONLN) processors;$(uptime | sed 's/.*load/ load/')"
-settings $many
 run=0
 while [ $run -lt "$runs" ]; do
     run=$((run + 1))
@@ -201,7 +207,7 @@ done
 
 echo
 echo "quarter of the bare rate, 1 receiver: runs without loss (asked: 5 of 6)"
-show_lost 'C loop' least:0
+show_lost 'C loop' loop:0
 show_lost 'relay, 0 workers' relay:0
 show_lost 'relay, 1 worker' relay:1
 echo
@@ -215,14 +221,13 @@ show 'copies/s, 16 receivers, 1 worker, of bare' "$(median relay.16 %.0f)" "$(me
 share=$(median two.16.one %.2f)
 show 'copies/s, 16 receivers, 2 workers, of 1 worker' "$(median two.16 %.0f)" "$(median c.16 %.0f)" \
     "$(median bare.16 %.0f)" "$share" '> 1' "$share > 1"
-show 'processor us a copy, 16 endpoints' "$(median relay.few %.2f)" "$(median least.few %.2f)" \
-    "$(median bare.us %.2f)" ''
-share=$(median relay.ratio %.2f)
-show "processor us a copy, $many endpoints, of 16" "$(median relay.many %.2f)" "$(median least.many %.2f)" \
-    "$(median bare.us %.2f)" "$share" 1.30 "$share <= 1.3"
+show 'least processor us a copy, 16 endpoints' "$(least relay.few)" "$(least loop.few)" "$(least bare.us)" ''
+share=$(sum "$(least relay.many) / $(least relay.few)")
+show "least processor us a copy, $many, of 16" "$(least relay.many)" "$(least loop.many)" "$(least bare.us)" \
+    "$share" 1.30 "$share <= 1.3"
 updates=$(median relay.updates %.0f)
-show "Updates/s, $many endpoints" "$updates" "$(median least.updates %.0f)" '' '' 20000 "$updates >= 20000"
-idle "$least" 0
+show "Updates/s, $many endpoints" "$updates" "$(median loop.updates %.0f)" '' '' 20000 "$updates >= 20000"
+idle "$loop" 0
 c=$idle
 for workers in 0 1; do
     idle "$relay" $workers

@@ -40,7 +40,9 @@ static struct endpoints endpoints_of(const char *kind, int count) {
 /* Sends to the relay, from the socket or the address that is the endpoint's. */
 static void send_from(struct endpoints *all, int index, const uint8_t *octets, size_t length) {
     struct iovec part = {(void *)octets, length};
-    struct msghdr message = {.msg_name = &all->relay, .msg_namelen = sizeof all->relay, .msg_iov = &part, .msg_iovlen = 1};
+    struct msghdr message = {.msg_iov = &part, .msg_iovlen = 1};
+    message.msg_name = &all->relay;
+    message.msg_namelen = sizeof all->relay;
     char control[CMSG_SPACE(sizeof(struct in_pktinfo))] = "";
     if (all->is_own) {
         message.msg_control = control;

@@ -22,8 +22,8 @@
 
 enum { BATCH = 64, HEAD = 8 };
 
-/* How long nothing may come before the trial is over, in milliseconds. */
-enum { QUIET = 200 };
+/* The trial is over where nothing has come for so many milliseconds, or so many seconds after the command. */
+enum { QUIET = 200, LIMIT_S = 5 };
 
 struct counts {
     long arrived, other;
@@ -82,32 +82,39 @@ static void count_batch(int socket, struct counts *counts) {
     }
 }
 
-/* Counts until the command has ended and all is quiet. */
+/* Whether the command has ended; if it failed, so does the trial. */
+static int has_ended(pid_t command) {
+    int status = 0;
+    if (waitpid(command, &status, WNOHANG) != command) {
+        return 0;
+    }
+    if (status) {
+        fprintf(stderr, "the command failed\n");
+        exit(1);
+    }
+    return 1;
+}
+
+/* Counts until the command has ended and all is quiet, or a slow relay has had its time to come to an end. */
 static struct counts count_all(struct endpoints *all, pid_t command) {
     static struct pollfd waiting[64];
     for (uint32_t at = 0; at < all->sockets_open; at++) {
         waiting[at] = (struct pollfd){.fd = all->sockets[at], .events = POLLIN};
     }
     struct counts counts = {0};
-    int status = 0, has_ended = 0;
-    for (;;) {
-        int ready = poll(waiting, all->sockets_open, QUIET);
-        if (!ready && has_ended) {
-            return counts;
+    double limit = 0;
+    for (int ready = 1; !limit || (ready && seconds_now() < limit);) {
+        if (!limit && has_ended(command)) {
+            limit = seconds_now() + LIMIT_S;
         }
+        ready = poll(waiting, all->sockets_open, QUIET);
         for (uint32_t at = 0; ready > 0 && at < all->sockets_open; at++) {
             if (waiting[at].revents) {
                 count_batch(waiting[at].fd, &counts);
             }
         }
-        if (!ready && waitpid(command, &status, WNOHANG) == command) {
-            has_ended = 1;
-            if (status) {
-                fprintf(stderr, "the command failed\n");
-                exit(1);
-            }
-        }
     }
+    return counts;
 }
 
 /* Starts the command; without a relay the receivers' addresses follow its words. */
@@ -130,8 +137,7 @@ static pid_t start(char **words, int count, struct endpoints *all, int has_relay
     return made;
 }
 
-static void print(struct endpoints *all, struct counts *counts, double processor, double lasted) {
-    long lost = dropped(all);
+static void print(struct counts *counts, long lost, double processor, double lasted) {
     double between = counts->last - counts->first;
     printf("arrived %ld\ndropped %ld\nother %ld\n", counts->arrived, lost, counts->other);
     printf("rate %.0f\n", between > 0 ? (counts->arrived + lost) / between : 0);
@@ -152,12 +158,13 @@ int main(int count, char **words) {
         printf("full %d\n", all.is_full);
     }
     fflush(stdout);
+    long before = dropped(&all);
     double processor = has_relay ? processor_of(relay) : 0, begin = seconds_now();
     pid_t command = start(words + 5, count - 5, &all, has_relay);
     struct counts counts = count_all(&all, command);
     struct rusage used;
     getrusage(RUSAGE_CHILDREN, &used);
     double own = used.ru_utime.tv_sec + used.ru_stime.tv_sec + (used.ru_utime.tv_usec + used.ru_stime.tv_usec) / 1e6;
-    print(&all, &counts, has_relay ? processor_of(relay) - processor : own, seconds_now() - begin);
+    print(&counts, dropped(&all) - before, has_relay ? processor_of(relay) - processor : own, seconds_now() - begin);
     return 0;
 }

@@ -1,6 +1,6 @@
 /* The least that a relay can do: a plain loop of `recv` and `sendto`, which relay.sh sets beside the real one.
  *
- * usage: least FILE [--turns T] [--workers W]
+ * usage: loop FILE [--turns T] [--workers W]
  *
  * FILE has the settings of a relay, of which `listen` and `feed` are read. A Request is answered with a Query of no
  * MAC, an Update is believed, and every packet goes to all who named its group, whatever their filter. There is no
@@ -74,7 +74,7 @@ static void copy_packet(int link, ssize_t length) {
 
 int main(int count, char **words) {
     if (count < 2) {
-        fprintf(stderr, "usage: least FILE [--turns T] [--workers W]\n");
+        fprintf(stderr, "usage: loop FILE [--turns T] [--workers W]\n");
         return 2;
     }
     int link = socket_at(setting(words[1], "listen")), feed = socket_at(setting(words[1], "feed"));
