@@ -100,6 +100,10 @@ relayed() {
     "$work/trial" "$link" "$process" "$3" "$4" "$work/flood" "$feed" "$5" "$seconds" "$6" > "$work/figures"
     unread >> "$work/figures"
     end
+    if [ "$(figure arrived)" = 0 ]; then
+        echo "no copy came from $1 with $2 workers" >&2
+        exit 1
+    fi
 }
 
 # lost ROW BARE: packets of the last trial that the relay didn't send, and of these those that it hadn't read. What
@@ -109,7 +113,7 @@ lost() {
     keep "share.$1" "$(sum "$(figure offered) / $seconds / $2")"
 }
 
-# One run of the quarter rate. The offered share of the bare rate is told, since a sender that is put aside sends less.
+# One run of the quarter rate. What share of the bare rate was offered is kept: a preempted sender offers less.
 quarter_rate() {
     bare 1
     bare=$(figure rate)
@@ -165,7 +169,8 @@ endpoints() {
     done
     # The C loop has room for everybody, and never says that it hasn't.
     if [ "$full" != 1 ] && [ "$relay" != "$loop" ]; then
-        echo "not all endpoints are live, so their rows say nothing" >&2
+        echo "not all endpoints are live, so their rows would say nothing" >&2
+        exit 1
     fi
 }
 

@@ -3,8 +3,8 @@
  * usage: flood FEED RATE SECONDS GROUP
  *
  * RATE is in packets a second. A packet is UDP over IPv4 to the group with that number. Two sources take turns, by
- * which a relay with two workers gives each of them every other packet. What a sender that was put aside has missed
- * isn't made up for: a burst of it would be a higher rate than the one that is asked for.
+ * which a relay with two workers gives each of them every other packet. A sender that was preempted doesn't make up for
+ * what it has missed: the burst would be a higher rate than the one that is asked for.
  */
 #include "bench.h"
 #include <sys/prctl.h>

@@ -120,19 +120,19 @@ static struct counts count_all(struct endpoints *all, pid_t command) {
 /* Starts the command; without a relay the receivers' addresses follow its words. */
 static pid_t start(char **words, int count, struct endpoints *all, int has_relay) {
     static char texts[64][32];
-    char *told[128] = {0};
-    memcpy(told, words, count * sizeof *words);
+    char *line[128] = {0};
+    memcpy(line, words, count * sizeof *words);
     for (uint32_t at = 0; !has_relay && at < all->sockets_open; at++) {
         struct sockaddr_in own;
         socklen_t size = sizeof own;
         getsockname(all->sockets[at], (struct sockaddr *)&own, &size);
         snprintf(texts[at], sizeof texts[at], "%s:%d", inet_ntoa(own.sin_addr), ntohs(own.sin_port));
-        told[count + at] = texts[at];
+        line[count + at] = texts[at];
     }
     pid_t made = fork();
     if (!made) {
-        execvp(told[0], told);
-        stop(told[0]);
+        execvp(line[0], line);
+        stop(line[0]);
     }
     return made;
 }
