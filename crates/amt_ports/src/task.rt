@@ -7,7 +7,7 @@ use crate::Failed;
 use std::sync::Wait;
 
 /// Work that gives something in the end.
-pub trait Task: Drop {
+pub trait Task: Sized + Drop {
     type Done;
 
     /// What the task gives, of all that it may give.
