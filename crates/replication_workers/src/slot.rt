@@ -3,7 +3,7 @@ ghost use Rattle.std.specs.Prelude.{◌≡◌, [], ◌∷◌, map};
 ghost use Rattle.crossbeam_channel.specs.Claims.{IsSeatAt, view};
 ghost use Rattle.crossbeam_channel.specs.Ends.{receives_on, sends_on};
 ghost use Rattle.published_table.specs.Views.{publisher_of};
-ghost use Rattle.replication_workers.specs.Queue.{IsPutting, jobs_of};
+ghost use Rattle.replication_workers.specs.Queue.{IsPutting};
 ghost use Rattle.replication_workers.specs.Replicators.{view_of};
 
 use crate::queue::{QueuePass, Sender};
@@ -25,7 +25,6 @@ pub struct ReadySlot<O: OutLink> {
     ghost seated: { IsSeatAt (sends_on sender) pass },
     ghost linked: { receives_on worker.inbox ≡ sends_on sender },
     ghost putting: { IsPutting (view pass) },
-    ghost fresh: { jobs_of (view pass).put ≡ [] },
     ghost home: { map publisher_of (view pass).home ≡ publisher_of (view_of worker.replicator) ∷ [] },
 }
 
