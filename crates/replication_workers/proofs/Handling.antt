@@ -17,9 +17,8 @@ use Rattle.replication_workers.proofs.Queues.{jobs_of-append}
 use Rattle.replication_workers.proofs.Trying.{HasTried-none, HasTried-then}
 use Rattle.replication_workers.specs.Jobs.{Handled, copies_of}
 use Rattle.replication_workers.specs.Queue.{HasTaken, jobs_of}
-use Rattle.replication_workers.specs.Replication.{HasTried}
 use Rattle.replication_workers.specs.Replicators.{Tries, copies_due, limit_of, out_of, view_of}
-use Rattle.replication_workers.specs.Workers.{HandledSince, WorkerGives}
+use Rattle.replication_workers.specs.Workers.{HasHandled, WorkerGives}
 use Rattle.replication_workers.specs.declared.job.Job.{Job}
 use Rattle.replication_workers.specs.declared.queue.End.{End}
 use Rattle.replication_workers.specs.declared.queue.Item.TheVariants.{Home, Work, Stop}
@@ -55,33 +54,56 @@ pub same_publisher : (homes : List Book) (one other : Book) → homes ≡ one �
 same_publisher homes one other first second = cc
 
 module _ {O : Type 0} {g : Ghosts O} where
+  -- no job was handled
+  pub has_handled_none : (first : Replicator O g) → HasHandled first [] (out_of first) (view_of first) 0 0
+  has_handled_none first = record {
+    wanted = [];
+    handled = (refl, refl);
+    tried = HasTried-none (g.tried (out_of first)) (g.faults (out_of first));
+    terms = refl;
+    publisher = refl;
+    few = omega arith;
+  }
+
+  -- one more job was handled
+  pub has_handled_more : (first now next : Replicator O g) (jobs : List Job) (sent unsent : ℕ) (job : Job) (more missed : ℕ)
+      → HasHandled first jobs (out_of now) (view_of now) sent unsent → limit_of now ≡ limit_of first
+      → terms_of (view_of next) ≡ terms_of (view_of now) → publisher_of (view_of next) ≡ publisher_of (view_of now)
+      → BeginsWith (seen (view_of next)) (seen (view_of now)) → BeginsWith (seen (view_of next)) (named job.note)
+      → Tries now next (copies_due now (seen (view_of next)) job.at job.packet) more missed → more + missed ≤ 65536
+      → HasHandled first (jobs ++ job ∷ []) (out_of next) (view_of next) (sent + more) (unsent + missed)
+  has_handled_more first now next jobs sent unsent job more missed done limit terms publisher further names tries few =
+      let log = seen (view_of next) in
+      let due = copies_of (settings_by (terms_of (view_of first))) (limit_of first) log job in
+      let same_due : copies_due now log job.at job.packet ≡ due = λ i. copies_of (settings_by (done.terms i)) (limit i) log job in
+      let sums = done.few in record {
+        wanted = done.wanted ++ due;
+        handled = handled_more (settings_by (terms_of (view_of first))) (limit_of first) (seen (view_of first)) jobs done.wanted (seen (view_of now)) job log done.handled further names;
+        tried = HasTried-then _ _ _ _ _ _ done.wanted due sent unsent more missed done.tried
+            (subst (λ (wanted : List (Peer × List ℕ)). Tries now next wanted more missed) same_due tries);
+        terms = terms ∙ done.terms;
+        publisher = publisher ∙ done.publisher;
+        few = omega (arith, sums, few, length-append jobs (job ∷ []));
+      }
+
   -- since the worker began: what its pass knows, and what was counted
   pub record Going (worker : Worker O g) (now : Replicator O g) (known : End) (jobs sent unsent : ℕ) : Type 0 where
     pub takes : known.takes ≡ true
     pub home : map publisher_of known.home ≡ publisher_of (view_of now) ∷ []
     pub few : jobs ≤ 2 ^ 46
     pub counted : jobs ≡ length (jobs_of known.taken)
-    pub few_sends : sent + unsent ≤ 65536 * jobs
-    pub wanted : List (Peer × List ℕ)
-    pub handled : HandledSince worker.replicator (jobs_of known.taken) wanted (seen (view_of now))
-    pub tried : Tries worker.replicator now wanted sent unsent
-    pub terms : terms_of (view_of now) ≡ terms_of (view_of worker.replicator)
-    pub publisher : publisher_of (view_of now) ≡ publisher_of (view_of worker.replicator)
+    pub has_handled : HasHandled worker.replicator (jobs_of known.taken) (out_of now) (view_of now) sent unsent
     pub limit : limit_of now ≡ limit_of worker.replicator
 
   pub going_first : (worker : Worker O g) → Going worker worker.replicator (view worker.pass) 0 0 0
   going_first worker =
-      let none : jobs_of (view worker.pass).taken ≡ [] = ap jobs_of worker.fresh in record {
+      let none : jobs_of (view worker.pass).taken ≡ [] = ap jobs_of worker.fresh in
+      let start = worker.replicator in record {
         takes = worker.taking.takes;
         home = worker.home;
         few = omega arith;
         counted = ap (λ (jobs : List Job). length jobs) (sym none);
-        few_sends = omega arith;
-        wanted = [];
-        handled = subst (λ (jobs : List Job). HandledSince worker.replicator jobs [] (seen (view_of worker.replicator))) (sym none) (refl, refl);
-        tried = HasTried-none (g.tried (out_of worker.replicator)) (g.faults (out_of worker.replicator));
-        terms = refl;
-        publisher = refl;
+        has_handled = subst (λ (jobs : List Job). HasHandled start jobs (out_of start) (view_of start) 0 0) (sym none) (has_handled_none start);
         limit = refl;
       }
 
@@ -94,12 +116,7 @@ module _ {O : Type 0} {g : Ghosts O} where
         home = ap (λ (end : End). map publisher_of end.home) taken.after_is ∙ going.home;
         few = going.few;
         counted = going.counted ∙ ap (λ (jobs : List Job). length jobs) same;
-        few_sends = going.few_sends;
-        wanted = going.wanted;
-        handled = subst (λ (jobs : List Job). HandledSince worker.replicator jobs going.wanted (seen (view_of now))) same going.handled;
-        tried = going.tried;
-        terms = going.terms;
-        publisher = going.publisher;
+        has_handled = subst (λ (jobs : List Job). HasHandled worker.replicator jobs (out_of now) (view_of now) sent unsent) same going.has_handled;
         limit = going.limit;
       }
 
@@ -111,26 +128,15 @@ module _ {O : Type 0} {g : Ghosts O} where
       → Tries now next (copies_due now (seen (view_of next)) job.at job.packet) more missed → more + missed ≤ 65536
       → Going worker next after (jobs + 1) (sent + more) (unsent + missed)
   going_more worker now known jobs sent unsent job after next more missed going taken terms publisher limit further names tries few =
-      let start = worker.replicator in
-      let log = seen (view_of next) in
-      let due = copies_of (settings_by (terms_of (view_of start))) (limit_of start) log job in
-      let same_due : copies_due now log job.at job.packet ≡ due = λ i. copies_of (settings_by (going.terms i)) (going.limit i) log job in
       let same : jobs_of known.taken ++ job ∷ [] ≡ jobs_of after.taken = sym (ap (λ (end : End). jobs_of end.taken) taken.after_is ∙ jobs_of-append known.taken (Work job ∷ [])) in
       let count : length (jobs_of after.taken) ≡ jobs + 1 = omega (arith, ap (λ (jobs : List Job). length jobs) same, length-append (jobs_of known.taken) (job ∷ []), going.counted) in
-      let most = taken.few in
-      let sums = going.few_sends in record {
+      let most = taken.few in record {
         takes = ap (λ (end : End). end.takes) taken.after_is ∙ going.takes;
         home = ap (λ (end : End). map publisher_of end.home) taken.after_is ∙ going.home ∙ ap (λ (book : Book). book ∷ []) (sym publisher);
         few = omega (arith, most, count);
         counted = sym count;
-        few_sends = omega (arith, sums, few);
-        wanted = going.wanted ++ due;
-        handled = subst (λ (jobs : List Job). HandledSince start jobs (going.wanted ++ due) log) same
-            (handled_more (settings_by (terms_of (view_of start))) (limit_of start) (seen (view_of start)) (jobs_of known.taken) going.wanted (seen (view_of now)) job log going.handled further names);
-        tried = HasTried-then _ _ _ _ _ _ going.wanted due sent unsent more missed going.tried
-            (subst (λ (wanted : List (Peer × List ℕ)). Tries now next wanted more missed) same_due tries);
-        terms = terms ∙ going.terms;
-        publisher = publisher ∙ going.publisher;
+        has_handled = subst (λ (jobs : List Job). HasHandled worker.replicator jobs (out_of next) (view_of next) (sent + more) (unsent + missed)) same
+            (has_handled_more worker.replicator now next (jobs_of known.taken) sent unsent job more missed going.has_handled going.limit terms publisher further names tries few);
         limit = limit ∙ going.limit;
       }
 
@@ -140,17 +146,12 @@ module _ {O : Type 0} {g : Ghosts O} where
       → done.view ≡ view_of now → done.out ≡ out_of now → WorkerGives worker done
   going_stop worker now known done going taken seat view_is out_is =
       let same : jobs_of known.taken ≡ jobs_of (view done.pass).taken = sym (ap (λ (end : End). jobs_of end.taken) taken.after_is ∙ jobs_of-append known.taken (Stop ∷ []) ∙ append-nil (jobs_of known.taken)) in
-      let start = worker.replicator in record {
+      record {
         seat = seat;
         ended = record { takes = ap (λ (end : End). end.takes) taken.after_is ∙ going.takes; ended = (known.taken, ap (λ (end : End). end.taken) taken.after_is) };
         counted = going.counted ∙ ap (λ (jobs : List Job). length jobs) same;
-        has_handled = record {
-          wanted = going.wanted;
-          handled = subst (λ (pair : List Job × View). HandledSince start pair.0 going.wanted (seen pair.1)) (λ i. (same i, sym view_is i)) going.handled;
-          tried = subst (λ (out : O). HasTried (g.tried (out_of start)) (g.tried out) (g.faults (out_of start)) (g.faults out) going.wanted done.sent done.unsent) (sym out_is) going.tried;
-          terms = ap terms_of view_is ∙ going.terms;
-          publisher = ap publisher_of view_is ∙ going.publisher;
-        };
+        has_handled = subst (λ (all : List Job × O × View). HasHandled worker.replicator all.0 all.1 all.2 done.sent done.unsent)
+            (λ i. (same i, sym out_is i, sym view_is i)) going.has_handled;
       }
 
   -- one more job has room to be counted

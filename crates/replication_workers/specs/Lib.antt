@@ -1,6 +1,14 @@
+pub mod Backs
+pub mod Dispatchers
+pub mod Gathering
+pub mod InlineSlots
 pub mod Jobs
+pub mod JobsSoFar
+pub mod KeptSlots
 pub mod Queue
 pub mod Replication
 pub mod Replicators
+pub mod SlotStates
 pub mod Slots
+pub mod Starting
 pub mod Workers

@@ -3,10 +3,11 @@ use Rattle.std.specs.Prelude.{ℕ, List, map}
 use Rattle.amt_values.specs.declared.peer.Peer.{Peer}
 use Rattle.endpoint_membership.specs.declared.change.Change.{Change}
 use Rattle.published_table.specs.Terms.{settings_by}
-use Rattle.published_table.specs.Views.{terms_of}
+use Rattle.published_table.specs.Views.{seen, terms_of}
 use Rattle.published_table.specs.declared.view.View.{View}
 use Rattle.replication_workers.specs.Replication.{HasTried, copies_by, to_peer}
 use Rattle.amt_ports.specs.declared.out_link.OutLink.{Ghosts}
+use Rattle.replication_workers.specs.declared.job.Job.{Job}
 use Rattle.replication_workers.specs.declared.replicator.Replicator.{Replicator}
 
 module _ {O : Type 0} {g : Ghosts O} where
@@ -31,3 +32,8 @@ module _ {O : Type 0} {g : Ghosts O} where
   abbrev pub Tries : Replicator O g → Replicator O g → List (Peer × List ℕ) → ℕ → ℕ → Type 0
   Tries before after wanted sent unsent =
       HasTried (g.tried (out_of before)) (g.tried (out_of after)) (g.faults (out_of before)) (g.faults (out_of after)) wanted sent unsent
+
+  -- it has handled the job: exactly its datagrams were tried, by the log that the view has seen then
+  abbrev pub HasCopied : Replicator O g → Job → Replicator O g → Type 0
+  HasCopied before job after =
+      (sent : ℕ) × (unsent : ℕ) × Tries before after (copies_due before (seen (view_of after)) job.at job.packet) sent unsent

@@ -1,5 +1,5 @@
 -- What is read of a slot.
-use Rattle.std.specs.Prelude.{◌≡◌, List, length}
+use Rattle.std.specs.Prelude.{◌≡◌, List, [], ◌∷◌, ◌++◌, length}
 use Rattle.crossbeam_channel.specs.Claims.{view}
 use Rattle.amt_ports.specs.declared.out_link.OutLink.{Ghosts}
 use Rattle.replication_workers.specs.Queue.{jobs_of}
@@ -21,9 +21,14 @@ module _ {O : Type 0} {g : Ghosts O} where
     pub counted : left.jobs ≡ length jobs
     pub has_handled : HasHandled replicator jobs left.out left.view left.sent left.unsent
 
-  -- the jobs that stand in the queue of a worker that isn't started
-  abbrev pub jobs_waiting : ReadySlot O g → List Job
-  jobs_waiting ready = jobs_of (view ready.pass).put
+  -- the worker that can be started
+  abbrev pub ready_worker : ReadySlot O g → Worker O g
+  ready_worker ready = ready.worker
+
+  -- the replicators of slots that are taken from the end of this list
+  abbrev pub from_the_end : List (ReadySlot O g) → List (Replicator O g)
+  from_the_end [] = []
+  from_the_end (ready ∷ others) = from_the_end others ++ replicator_of (ready_worker ready) ∷ []
 
   module _ {T : Type 0} where
     -- the worker that was started

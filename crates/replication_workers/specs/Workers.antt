@@ -1,5 +1,5 @@
 -- What a worker gives.
-use Rattle.std.specs.Prelude.{◌≡◌, ℕ, List, length}
+use Rattle.std.specs.Prelude.{◌≡◌, ◌≤◌, ◌+◌, ◌*◌, ℕ, List, length}
 use Rattle.crossbeam_channel.specs.Claims.{IsSeatAt, view}
 use Rattle.crossbeam_channel.specs.Ends.{receives_on}
 use Rattle.amt_ports.specs.declared.out_link.OutLink.{Ghosts}
@@ -29,13 +29,14 @@ module _ {O : Type 0} {g : Ghosts O} where
       Handled (settings_by (terms_of (view_of replicator))) (limit_of replicator) (seen (view_of replicator)) jobs wanted last
 
   -- since the replicator was as it is here, these jobs were handled: the link has tried their datagrams
-  -- and no others; so many were sent, and so many not
+  -- and no others; so many were sent, and so many not, which are at most 65,536 a job
   pub record HasHandled (replicator : Replicator O g) (jobs : List Job) (out : O) (view : View) (sent unsent : ℕ) : Type 0 where
     pub wanted : List (Peer × List ℕ)
     pub handled : HandledSince replicator jobs wanted (seen view)
     pub tried : HasTried (g.tried (out_of replicator)) (g.tried out) (g.faults (out_of replicator)) (g.faults out) wanted sent unsent
     pub terms : terms_of view ≡ terms_of (view_of replicator)
     pub publisher : publisher_of view ≡ publisher_of (view_of replicator)
+    pub few : sent + unsent ≤ 65536 * length jobs
 
   -- it took jobs until Stop, and handled exactly these
   pub record WorkerGives (worker : Worker O g) (done : WorkerDone O) : Type 0 where

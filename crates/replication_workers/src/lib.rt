@@ -6,12 +6,17 @@
 //! Standard: RFC 7450, sections 5.1.6 and 5.3.3.
 #![tactic(auto)]
 
+mod batch;
+mod dispatcher;
 mod job;
 mod queue;
 mod replicator;
 mod slot;
 mod worker;
 
+pub use batch::Batch;
+pub use dispatcher::{Dispatcher, Finished, Outs, Replicators, StartFault};
 pub use job::{Copied, Job};
 pub use replicator::{NewFault, Replicator};
+pub use slot::Left;
 pub use worker::{Worker, WorkerDone};

@@ -1,9 +1,9 @@
 //! One started worker, with the putting end of its queue. It must not know how many there are.
-ghost use Rattle.std.specs.Prelude.{◌≡◌, [], ◌∷◌, map};
+ghost use Rattle.std.specs.Prelude.{◌≡◌, [], ◌∷◌, length, map};
 ghost use Rattle.crossbeam_channel.specs.Claims.{IsSeatAt, view};
 ghost use Rattle.crossbeam_channel.specs.Ends.{receives_on, sends_on};
 ghost use Rattle.published_table.specs.Views.{publisher_of};
-ghost use Rattle.replication_workers.specs.Queue.{IsPutting};
+ghost use Rattle.replication_workers.specs.Queue.{IsPutting, jobs_of};
 ghost use Rattle.replication_workers.specs.Replicators.{view_of};
 
 use crate::queue::{QueuePass, Sender};
@@ -25,6 +25,7 @@ pub struct ReadySlot<O: OutLink> {
     ghost seated: { IsSeatAt (sends_on sender) pass },
     ghost linked: { receives_on worker.inbox ≡ sends_on sender },
     ghost putting: { IsPutting (view pass) },
+    ghost fresh: { length (jobs_of (view pass).put) ≡ 0 },
     ghost home: { map publisher_of (view pass).home ≡ publisher_of (view_of worker.replicator) ∷ [] },
 }
 

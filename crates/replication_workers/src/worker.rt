@@ -57,6 +57,18 @@ impl<O: OutLink> Worker<O> {
             pass,
         }
     }
+
+    /// The replicator of a worker that is not to be run.
+    pub(crate) fn into_replicator(self) -> Replicator<O>
+        ensures { result ≡ self.replicator }
+    {
+        let Worker {
+            replicator,
+            inbox: _inbox,
+            pass: _pass,
+        } = self;
+        replicator
+    }
 }
 
 impl<O> WorkerDone<O> {

@@ -4,7 +4,7 @@ ghost use Rattle.amt_ports.specs.Causes.{HasCause};
 ghost use Rattle.amt_ports.specs.Starts.{HasStarted};
 ghost use Rattle.published_table.specs.Views.{note_publisher, publisher_of};
 ghost use Rattle.replication_workers.specs.Replicators.{view_of};
-ghost use Rattle.replication_workers.specs.Slots.{LeftAfter, jobs_put, jobs_waiting, replicator_of, started_of, worker_of};
+ghost use Rattle.replication_workers.specs.Slots.{LeftAfter, jobs_put, ready_worker, replicator_of, started_of, worker_of};
 
 use super::{Left, ReadySlot, Slot};
 use crate::job::Job;
@@ -23,7 +23,7 @@ pub fn ready_slot<O: OutLink, R: Wait>(
     replicator: Replicator<O>,
 ) -> Result<ReadySlot<O>, Replicator<O>>
     ensures { MatchResult result
-        (λ ready. (replicator_of ready.worker ≡ replicator) × (jobs_waiting ready ≡ []))
+        (λ ready. replicator_of (ready_worker ready) ≡ replicator)
         (λ back. back ≡ replicator) }
 {
     match make_queue(rt, alloc, replicator.view()) {
@@ -36,13 +36,27 @@ pub fn ready_slot<O: OutLink, R: Wait>(
     }
 }
 
+impl<O: OutLink> ReadySlot<O> {
+    /// The replicator of a slot that is not to be started.
+    pub fn into_replicator(self) -> Replicator<O>
+        ensures { result ≡ replicator_of (ready_worker self) }
+    {
+        let ReadySlot {
+            sender: _sender,
+            pass: _pass,
+            worker,
+        } = self;
+        worker.into_replicator()
+    }
+}
+
 /// Starts the slot's worker. One that isn't started is dropped.
 pub fn start_slot<O: OutLink + Drop, P: Spawner<Worker<O>>>(
     ready: ReadySlot<O>,
     spawner: &mut P,
 ) -> Result<Slot<O, P::Started>, Failed>
     ensures started { IfOk result (λ slot. (P.task_of (started_of slot) ≡ worker_of slot)
-        × (worker_of slot ≡ ready.worker) × (jobs_put slot ≡ jobs_waiting ready)) }
+        × (worker_of slot ≡ ready_worker ready) × (jobs_put slot ≡ [])) }
     ensures counted { IfOk result (λ _. HasStarted (P.starts spawner.old) (P.starts spawner.new)) }
     ensures kept { OnErr result (P.starts spawner.new ≡ P.starts spawner.old) }
     ensures cause { HasCause (P.faults spawner.old) (P.faults spawner.new) result }

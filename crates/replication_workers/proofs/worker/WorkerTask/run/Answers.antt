@@ -27,16 +27,18 @@ handle-copied-requires-clause-jobs g c =
 pub overflow_add-sent : goal.overflow_add-sent
 overflow_add-sent g c =
     let few = c.loop.invariant.1.few in
-    let sums = c.loop.invariant.1.few_sends in
+    let sums = c.loop.invariant.1.has_handled.few in
+    let counted = c.loop.invariant.1.counted in
     let more = c.handle-copied.ensures.few in
-    omega (arith, few, sums, more, c.from-sent.ensures)
+    omega (arith, few, counted, sums, more, c.from-sent.ensures)
 
 pub overflow_add-unsent : goal.overflow_add-unsent
 overflow_add-unsent g c =
     let few = c.loop.invariant.1.few in
-    let sums = c.loop.invariant.1.few_sends in
+    let sums = c.loop.invariant.1.has_handled.few in
+    let counted = c.loop.invariant.1.counted in
     let more = c.handle-copied.ensures.few in
-    omega (arith, few, sums, more, c.from-unsent.ensures)
+    omega (arith, few, counted, sums, more, c.from-unsent.ensures)
 
 pub loop-preserved-in-Ok-Work : goal.loop-preserved-in-Ok-Work
 loop-preserved-in-Ok-Work g c =
