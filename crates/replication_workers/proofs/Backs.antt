@@ -1,5 +1,5 @@
 -- What slots give back that were given no job.
-use Rattle.std.proofs.Common.{◌≡◌, ℕ, ◌+◌, ◌*◌, ◌≤◌, ◌<◌, List, [], ◌∷◌, ◌++◌, get_or, length, map, refl, sym, ap, subst, ◌∙◌, append-nil, map-id}
+use Rattle.std.proofs.Common.{◌≡◌, ℕ, ◌+◌, ◌*◌, ◌≤◌, ◌<◌, List, [], ◌∷◌, ◌++◌, get_or, length, map, refl, sym, ap, subst, ◌∙◌, append-nil, map-id, true≢false}
 use Rattle.std.specs.Prelude.{IsSome, Option, Some, None}
 use Rattle.std.specs.List.{All}
 use Rattle.std.proofs.lemmas.List.{get_or-map, length-map, nil_from_length}
@@ -24,7 +24,7 @@ use Rattle.replication_workers.specs.declared.slot.Left.{Left}
 -- no send was told
 told_same : (before after : Option (List TriedSend)) → AppendsAll before after [] → (IsSome before → IsSome after) → after ≡ before
 told_same None None appended tells = refl
-told_same (Some sends) None appended tells = absurd (tells tt)
+told_same (Some sends) None appended tells = absurd (true≢false (sym (tells refl)))
 told_same before (Some all) appended tells =
     ap Some (appended.2 ∙ append-nil appended.0) ∙ sym appended.1
 
@@ -75,7 +75,7 @@ module _ {O : Type 0} {g : Ghosts O} where
     idle = λ none. back_after slot.first slot.jobs left.out left.view left.sent left.unsent after.has_handled (sym after.counted ∙ none);
   }
 
-  back_of : SlotLeft O g → SlotBack O g
+  abbrev back_of : SlotLeft O g → SlotBack O g
   back_of one = record { given = one.slot.first; out = one.left.out; view = one.left.view }
 
   pub are_back : (given : List (Replicator O g)) (slots : List (SlotState O g)) (outs : List O) (views : List View) (sent unsent : ℕ) → HaveLeft slots outs views sent unsent → slots ≡ map new_slot given → AreBack given outs views

@@ -1,12 +1,12 @@
 -- Slots that were ended one after another, and what they left.
-use Rattle.std.proofs.Common.{◌≡◌, ℕ, ◌+◌, ◌≤◌, ◌^◌, false, List, [], ◌∷◌, ◌++◌, length, map, refl, sym, ap, subst, ◌∙◌, append_assoc, append-nil, arith, length-append}
+use Rattle.std.proofs.Common.{◌≡◌, ℕ, suc, ◌+◌, ◌≤◌, ◌^◌, false, List, [], ◌∷◌, ◌++◌, length, map, vec_capacity, refl, sym, ap, subst, ◌∙◌, append_assoc, append-nil, arith, length-append}
 use Rattle.std.specs.List.{All, sum_by}
 use Rattle.std.proofs.lemmas.List.{map-append, nil_from_length}
 use Rattle.std.proofs.lemmas.List.Elements.{All-append, All-head, All-map, All-nil, All-push, All-tail}
 use Rattle.std.proofs.lemmas.List.Sums.{sum_by-append, sum_by-cons}
 use Rattle.std.proofs.lemmas.Simd.{map-map}
 use Rattle.amt_ports.specs.declared.out_link.OutLink.{Ghosts}
-use Rattle.published_table.specs.Views.{views_of}
+use Rattle.published_table.specs.Views.{room_of, views_of}
 use Rattle.published_table.specs.declared.view.View.{View}
 use Rattle.replication_workers.specs.Gathering.{HasAdded, HasRoom, IsFresh, LeavesRoom}
 use Rattle.replication_workers.specs.KeptSlots.{AreThreaded, IsRunBy, is_threaded_slot, now_of, state_of}
@@ -46,6 +46,15 @@ HasAdded-then before now next done more first second = record {
   sent_is = sum_then _ _ _ _ _ first.sent_is second.sent_is ∙ ap (λ (sum : ℕ). before.sent + sum) (sym (sum_by-append (λ left. left.sent) done more));
   unsent_is = sum_then _ _ _ _ _ first.unsent_is second.unsent_is ∙ ap (λ (sum : ℕ). before.unsent + sum) (sym (sum_by-append (λ left. left.unsent) done more));
 }
+
+after_none : {A : Type 0} (before now done : List A) → now ≡ before ++ done → length before ≡ 0 → now ≡ done
+after_none before now done is none = is ∙ ap (λ (list : List _). list ++ done) (nil_from_length before none)
+
+one_and : (number : ℕ) → suc number ≡ 1 + number
+one_and number = omega arith
+
+room_for_one : (taken later capacity : ℕ) → taken + suc later ≤ capacity → taken + 1 ≤ capacity
+room_for_one taken later capacity fits = omega (arith, fits)
 
 plus_none : (number : ℕ) → number ≡ number + 0
 plus_none number = omega arith
@@ -91,7 +100,7 @@ module _ {O T : Type 0} {g : Ghosts O} where
         added = subst (λ (list : List (Left O)). HasAdded list first next) (sym (map-append (λ (one : Ended O T g). one.left) ending.done (last ∷ [])))
             (HasAdded-then first now next (map (λ one. one.left) ending.done) (left ∷ []) ending.added added);
         each = All-push HasEnded ending.done last ending.each ended;
-        room = leaves (length later) (subst (λ (list : List (Kept O T g)). HasRoom (length list) now) is ending.room);
+        room = leaves (length later) (subst (λ (count : ℕ). HasRoom count now) (ap length is ∙ one_and (length later)) ending.room);
         run = All-tail (IsRunBy task_of) one later (subst (All (IsRunBy task_of)) is ending.run);
       }
 
@@ -125,16 +134,16 @@ module _ {O T : Type 0} {g : Ghosts O} where
       (jobs_of_all (map (λ one. one.kept) ending.done) one later all (ending.all_are ∙ ap (λ (list : List (Kept O T g)). map (λ one. one.kept) ending.done ++ list) is)) few
 
   room_of_one : (later : List (Kept O T g)) (one : Kept O T g) (now : Gathered O) → HasRoom (length (one ∷ later)) now → HasRoom 1 now
-  room_of_one later one now room = record { for_outs = less _ _ _ room.for_outs; for_views = less _ _ _ room.for_views }
-    where
-      less : (taken later capacity : ℕ) → taken + (later + 1) ≤ capacity → taken + 1 ≤ capacity
-      less taken later capacity fits = omega (arith, fits)
+  room_of_one later one now room = record {
+    for_outs = room_for_one (length now.outs.items) (length later) (vec_capacity now.outs) room.for_outs;
+    for_views = room_for_one (length (views_of now.views)) (length later) (room_of now.views) room.for_views;
+  }
 
   pub room_for_next : (task_of : T → Worker O g) (all rest later : List (Kept O T g)) (first now : Gathered O) (one : Kept O T g) → Ending task_of all rest first now → rest ≡ one ∷ later → HasRoom 1 now
   room_for_next task_of all rest later first now one ending is = room_of_one later one now (subst (λ (list : List (Kept O T g)). HasRoom (length list) now) is ending.room)
 
   -- all were ended
-  left_by : Ended O T g → SlotLeft O g
+  abbrev left_by : Ended O T g → SlotLeft O g
   left_by one = record { slot = state_of one.kept; left = one.left }
 
   all_done : (task_of : T → Worker O g) (all rest : List (Kept O T g)) (first now : Gathered O) (ending : Ending task_of all rest first now) → rest ≡ [] → all ≡ map (λ one. one.kept) ending.done
@@ -151,9 +160,6 @@ module _ {O T : Type 0} {g : Ghosts O} where
   sums_of f (one ∷ done) =
       sum_by-cons f one.left (map (λ one. one.left) done) ∙ ap (λ (sum : ℕ). f one.left + sum) (sums_of f done)
       ∙ sym (sum_by-cons (λ (one : SlotLeft O g). f one.left) (left_by one) (map left_by done))
-
-  after_none : {A : Type 0} (before now done : List A) → now ≡ before ++ done → length before ≡ 0 → now ≡ done
-  after_none before now done is none = is ∙ ap (λ (list : List _). list ++ done) (nil_from_length before none)
 
   pub have_left : (task_of : T → Worker O g) (all rest : List (Kept O T g)) (first now : Gathered O) → Ending task_of all rest first now → rest ≡ [] → IsFresh first
       → HaveLeft (map state_of all) now.outs.items (views_of now.views) now.sent now.unsent

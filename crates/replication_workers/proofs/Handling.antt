@@ -86,6 +86,19 @@ module _ {O : Type 0} {g : Ghosts O} where
         few = omega (arith, sums, few, length-append jobs (job ∷ []));
       }
 
+  -- the jobs and the counts as they stand then
+  pub has_handled_then : (first now next : Replicator O g) (jobs jobs_then : List Job) (sent unsent sent_then unsent_then : ℕ) (job : Job) (more missed : ℕ)
+      → jobs_then ≡ jobs ++ job ∷ [] → sent_then ≡ sent + more → unsent_then ≡ unsent + missed
+      → HasHandled first jobs (out_of now) (view_of now) sent unsent → limit_of now ≡ limit_of first
+      → terms_of (view_of next) ≡ terms_of (view_of now) → publisher_of (view_of next) ≡ publisher_of (view_of now)
+      → BeginsWith (seen (view_of next)) (seen (view_of now)) → BeginsWithEach (seen (view_of next)) (named job.note ∷ told (view_of now))
+      → Tries now next (copies_due now (seen (view_of next)) job.at job.packet) more missed → more + missed ≤ 65536
+      → HasHandled first jobs_then (out_of next) (view_of next) sent_then unsent_then
+  has_handled_then first now next jobs jobs_then sent unsent sent_then unsent_then job more missed one all none done limit terms publisher further each tries few =
+      subst (λ (then : List Job × ℕ × ℕ). HasHandled first then.0 (out_of next) (view_of next) then.1 then.2) (λ i. (sym one i, sym all i, sym none i))
+      (has_handled_more first now next jobs sent unsent job more missed done limit terms publisher further
+      (All-head (BeginsWith (seen (view_of next))) (named job.note) (told (view_of now)) each) tries few)
+
   -- since the worker began: what its pass knows, and what was counted
   pub record Going (worker : Worker O g) (now : Replicator O g) (known : End) (jobs sent unsent : ℕ) : Type 0 where
     pub takes : known.takes ≡ true

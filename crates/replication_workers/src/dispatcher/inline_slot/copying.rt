@@ -42,10 +42,12 @@ impl<O: OutLink> InlineSlot<O> {
     {
         let handled = self.handled.then(&job);
         let copied = self.replicator.replicate(rt, job);
+        let sent = self.sent + u64::from(copied.sent);
+        let unsent = self.unsent + u64::from(copied.unsent);
         self.handled = handled;
         self.jobs += 1;
-        self.sent += u64::from(copied.sent);
-        self.unsent += u64::from(copied.unsent);
+        self.sent = sent;
+        self.unsent = unsent;
     }
 
     /// What the slot left.
