@@ -1,6 +1,7 @@
 -- What one event more adds to the counts of a run, and how large they are.
-use Rattle.std.proofs.Common.{◌≡◌, ◌≤◌, ℕ, ◌+◌, Bool, true, false, List, [], ◌∷◌, ◌++◌, length, refl, sym, ap, subst, ◌∙◌, arith}
+use Rattle.std.proofs.Common.{◌≡◌, ◌≤◌, ℕ, ◌+◌, Bool, true, false, List, [], ◌∷◌, ◌++◌, length, map, refl, sym, ap, subst, ◌∙◌, arith}
 use Rattle.std.specs.Prelude.{Option, Some, None, Result, Ok, Err, count_by}
+use Rattle.std.proofs.lemmas.List.{length-map}
 use Rattle.std.proofs.lemmas.List.Sums.{count_by-le-length}
 use Rattle.amt_values.specs.Endpoint.{endpoint_of}
 use Rattle.amt_values.specs.EndpointValue.{EndpointValue}
@@ -18,9 +19,11 @@ use Rattle.endpoint_membership.specs.Table.{limit_passed, memberships_now}
 use Rattle.endpoint_membership.specs.declared.change.Change.{Change}
 use Rattle.endpoint_membership.specs.declared.limits.LimitFault.{LimitFault}
 use Rattle.relay_machine.specs.declared.event.Event.{Event}
-use Rattle.relay_machine.specs.declared.event.Event.TheVariants.{Datagram}
+use Rattle.relay_machine.specs.declared.event.Event.TheVariants.{Datagram, Rotate}
 use Rattle.relay_machine.specs.declared.outcome.Outcome.{Outcome}
+use Rattle.relay_machine.specs.declared.outcome.Outcome.TheVariants.{Rotated}
 use Rattle.relay_machine.specs.declared.outcome.Unlawful.{Unlawful}
+use Rattle.relay_machine.specs.declared.sends.OneSend.{OneSend}
 use Rattle.relay_machine.specs.declared.settings.Settings.{Settings}
 use Rattle.relay_machine.specs.Accepted.{accepted_log}
 use Rattle.relay_machine.specs.Answers.{outcome_of, sends_of}
@@ -30,6 +33,7 @@ use Rattle.relay_machine.specs.Events.{now_of, secrets_of}
 use Rattle.relay_machine.specs.Settings.{table_settings_of}
 use Rattle.relay_machine.specs.Updates.{forwardable_records, report_in}
 use Rattle.relay_machine.proofs.Courses.{each_more, sum_more}
+use Rattle.replication_workers.specs.Replication.{to_peer}
 use Rattle.relay_serving.specs.Counting.{HasAnswered, IsCounted, is_datagram, is_packet, one_if, with_outcome}
 use Rattle.relay_serving.specs.Devices.{LinkSeen}
 use Rattle.relay_serving.specs.declared.counts.Counts.{Counts}
@@ -73,6 +77,33 @@ IsCounted-then settings after first events later event outcome counts counts' sa
     (subst (λ (all : List Event). IsCounted settings first all counts') (sym next)
     (subst (IsCounted settings first (events ++ event ∷ [])) (sym (count ∙ ap (with_outcome counts event) is))
     (IsCounted-next settings first events event counts counted)))
+
+-- a secret is not counted
+pub secret-uncounted : (counts : Counts) (secret : Secret) → counts ≡ with_outcome counts (Rotate secret) Rotated
+secret-uncounted counts secret =
+    let datagrams : counts.datagrams ≡ counts.datagrams + 0 = omega arith in
+    let packets : counts.packets ≡ counts.packets + 0 = omega arith in
+    let updated : counts.updated ≡ counts.updated + 0 = omega arith in
+    let torn : counts.torn ≡ counts.torn + 0 = omega arith in
+    λ i. record { datagrams = datagrams i; packets = packets i; updated = updated i; torn = torn i; sent = counts.sent; unsent = counts.unsent }
+
+-- at most one answer was tried to a datagram that is counted already
+pub IsCounted-answered : (settings : Settings) (first : Secret) (events : List Event) (link link' : LinkSeen) (counts counts' : Counts) (sends : List OneSend) → HasAnswered link link' counts counts' (map to_peer sends)
+    → length sends ≤ 1 → counts.sent + counts.unsent + 1 ≤ counts.datagrams → counts'.datagrams ≡ counts.datagrams → counts'.packets ≡ counts.packets → counts'.updated ≡ counts.updated → counts'.torn ≡ counts.torn
+    → IsCounted settings first events counts → IsCounted settings first events counts'
+IsCounted-answered settings first events link link' counts counts' sends answered few room datagrams packets updated torn counted =
+    let all = answered.as_many in
+    let long = length-map sends to_peer in
+    let sent = answered.sent_are in
+    let unsent = answered.unsent_are in record {
+      events_are = record {
+        datagrams_are = datagrams ∙ counted.events_are.datagrams_are;
+        packets_are = packets ∙ counted.events_are.packets_are;
+        updated_are = updated ∙ counted.events_are.updated_are;
+        torn_are = torn ∙ counted.events_are.torn_are;
+      };
+      few_sends = omega (arith, all, long, sent, unsent, few, room, datagrams);
+    }
 
 -- no count passes the number of events
 pub datagrams-few : (settings : Settings) (first : Secret) (events : List Event) (counts : Counts) → IsCounted settings first events counts → counts.datagrams ≤ length events
@@ -129,6 +160,7 @@ datagram-few settings secrets moment log None reading = omega arith
 datagram-few settings secrets moment log (Some source) (Err refusal) = omega arith
 datagram-few settings secrets moment log (Some source) (Ok message) = message-few settings secrets moment log source message
 
-pub answers-few : (settings : Settings) (first : Secret) (earlier : List Event) (bytes : List ℕ) (from : Peer) → length (sends_of settings first earlier (Datagram bytes from)) ≤ 1
-answers-few settings first earlier bytes from =
-    datagram-few settings (secrets_of first earlier) (now_of earlier) (accepted_log settings first earlier) (endpoint_of from) (message_of bytes)
+pub answers-few : (settings : Settings) (first : Secret) (earlier : List Event) (bytes : List ℕ) (from : Peer) (sends : List OneSend) → sends ≡ sends_of settings first earlier (Datagram bytes from) → length sends ≤ 1
+answers-few settings first earlier bytes from sends are =
+    subst (λ (all : List OneSend). length all ≤ 1) (sym are)
+    (datagram-few settings (secrets_of first earlier) (now_of earlier) (accepted_log settings first earlier) (endpoint_of from) (message_of bytes))
