@@ -160,7 +160,18 @@ datagram-few settings secrets moment log None reading = omega arith
 datagram-few settings secrets moment log (Some source) (Err refusal) = omega arith
 datagram-few settings secrets moment log (Some source) (Ok message) = message-few settings secrets moment log source message
 
-pub answers-few : (settings : Settings) (first : Secret) (earlier : List Event) (bytes : List ℕ) (from : Peer) (sends : List OneSend) → sends ≡ sends_of settings first earlier (Datagram bytes from) → length sends ≤ 1
-answers-few settings first earlier bytes from sends are =
-    subst (λ (all : List OneSend). length all ≤ 1) (sym are)
-    (datagram-few settings (secrets_of first earlier) (now_of earlier) (accepted_log settings first earlier) (endpoint_of from) (message_of bytes))
+pub answers-few : (settings : Settings) (first : Secret) (earlier : List Event) (bytes : List ℕ) (from : Peer) (sends all : List OneSend) → sends ≡ sends_of settings first earlier (Datagram bytes from) → all ≡ sends
+    → length all ≤ 1
+answers-few settings first earlier bytes from sends all are same =
+    subst (λ (list : List OneSend). length list ≤ 1) (sym same)
+    (subst (λ (list : List OneSend). length list ≤ 1) (sym are)
+    (datagram-few settings (secrets_of first earlier) (now_of earlier) (accepted_log settings first earlier) (endpoint_of from) (message_of bytes)))
+
+-- such a datagram is counted before its answers are
+pub datagram-room : (before after : Counts) (bytes : List ℕ) (from : Peer) (outcome : Outcome) → after ≡ with_outcome before (Datagram bytes from) outcome → before.sent + before.unsent ≤ before.datagrams
+    → after.sent + after.unsent + 1 ≤ after.datagrams
+datagram-room before after bytes from outcome counted few =
+    let datagrams : after.datagrams ≡ before.datagrams + 1 = ap (λ (one : Counts). one.datagrams) counted in
+    let sent : after.sent ≡ before.sent = ap (λ (one : Counts). one.sent) counted in
+    let unsent : after.unsent ≡ before.unsent = ap (λ (one : Counts). one.unsent) counted in
+    omega (arith, datagrams, sent, unsent, few)

@@ -1,15 +1,15 @@
 -- Where one event more, which is no packet, leaves a running relay.
-use Rattle.std.proofs.Common.{◌≡◌, ◌≤◌, ℕ, ◌+◌, Bool, true, false, List, [], ◌∷◌, ◌++◌, length, map, reverse, refl, sym, ap, subst, ◌∙◌, arith}
+use Rattle.std.proofs.Common.{◌≡◌, ◌≤◌, ◌+◌, true, false, List, [], ◌∷◌, ◌++◌, length, reverse, refl, sym, ap, subst, ◌∙◌, arith}
 use Rattle.std.specs.Prelude.{Option, Some, None}
 use Rattle.std.specs.List.{flat_map}
 use Rattle.std.proofs.Math.Logic.{∥∥₁_elim, ∥∥₁_map}
 use Rattle.std.proofs.Props.{props}
-use Rattle.std.proofs.lemmas.List.{append-nil, append_assoc, flat_map_more, length_push, length-append, reverse-append, reverse-reverse}
+use Rattle.std.proofs.lemmas.List.{append-nil, flat_map_more, length_push, reverse-append, reverse-reverse}
 use Rattle.amt_ports.specs.declared.out_link.OutLink.{Ghosts}
 use Rattle.endpoint_membership.specs.Limits.{IsWithin}
 use Rattle.endpoint_membership.specs.Table.{memberships_now}
 use Rattle.endpoint_membership.specs.declared.change.Change.{Change}
-use Rattle.published_table.specs.Terms.{Fits, settings_by}
+use Rattle.published_table.specs.Terms.{Fits}
 use Rattle.published_table.specs.declared.terms.Terms.{Terms}
 use Rattle.response_mac.specs.declared.secret.Secret.{Secret}
 use Rattle.relay_machine.specs.Accepted.{change_of, with_change}

@@ -1,3 +1,3 @@
-pub mod Answered
+pub mod AnswerSends
 pub mod Counting
 pub mod Entering

@@ -1,15 +1,13 @@
-use Rattle.std.proofs.Common.{◌≡◌, ◌++◌, ◌∷◌, [], List, ℕ, length, refl, sym, ap, subst, ◌∙◌, arith}
-use Rattle.std.specs.Prelude.{Some, None, Option}
+use Rattle.std.proofs.Common.{◌++◌, ◌∷◌, [], length, refl, sym, ap, subst, ◌∙◌, arith}
+use Rattle.std.specs.Prelude.{Some, None}
 use Rattle.std.proofs.lemmas.List.{append_assoc}
 use Rattle.logbook.specs.Pages.{Book}
 use Rattle.replication_workers.specs.Dispatchers.{slots_of}
-use Rattle.endpoint_membership.specs.declared.change.Change.{Change}
 use Rattle.published_table.specs.Publishers.{owing, published, reading_terms}
-use Rattle.relay_machine.specs.Answers.{outcome_of, settings_of}
+use Rattle.relay_machine.specs.Answers.{settings_of}
 use Rattle.relay_machine.specs.Settings.{AreLawfulSettings}
-use Rattle.relay_machine.specs.declared.outcome.Outcome.{Outcome}
 use Rattle.relay_machine.specs.declared.settings.Settings.{Settings}
-use Rattle.relay_serving.specs.Counting.{IsCounted, with_outcome}
+use Rattle.relay_serving.specs.Counting.{with_outcome}
 use Rattle.relay_serving.specs.Courses.{events_so_far}
 use Rattle.relay_serving.specs.GivenOut.{AreOfPublisher, terms_by}
 use Rattle.relay_serving.specs.Servers.{counts_in}

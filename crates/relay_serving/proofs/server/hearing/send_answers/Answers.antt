@@ -1,10 +1,9 @@
-use Rattle.std.proofs.Common.{◌≡◌, ℕ, List, map, take, refl, ap, subst, ◌∙◌, arith}
-use Rattle.amt_values.specs.declared.peer.Peer.{Peer}
+use Rattle.std.proofs.Common.{map, take, refl, ap, subst, ◌∙◌, arith}
 use Rattle.replication_workers.specs.Replication.{to_peer}
 use Rattle.relay_serving.specs.Counting.{HasAnswered}
 use Rattle.relay_serving.specs.Devices.{LinkSeen, link_seen}
 use Rattle.relay_serving.specs.declared.counts.Counts.{Counts}
-use Rattle.relay_serving.proofs.Answered.{answered-failed, answered-none, answered-sent, answers_more}
+use Rattle.relay_serving.proofs.AnswerSends.{answered-failed, answered-none, answered-sent, answers_more}
 use Rattle.relay_serving.proofs.server.hearing.send_answers.Goals.{in-Ok, in-Err}
 use Rattle.relay_serving.proofs.server.hearing.send_answers.Goals as goal
 
@@ -35,20 +34,34 @@ loop-send-preserved g c =
     elim c.match-send.branch [
       | in-Ok w ↦
           let sent = ap (λ (one : Counts). one.sent) w.counts-is in
-          let unsent = ap (λ (one : Counts). one.unsent) w.counts-is in
-          ((ap (λ (one : Counts). one.datagrams) w.counts-is ∙ alike.0, ap (λ (one : Counts). one.packets) w.counts-is ∙ alike.1,
-          ap (λ (one : Counts). one.updated) w.counts-is ∙ alike.2, ap (λ (one : Counts). one.torn) w.counts-is ∙ alike.3),
-          subst (HasAnswered seen seen_after c.args.counts.now counts) grown
-          (answered-sent seen seen_now seen_after c.args.counts.now before counts (map to_peer (take place sends)) c.peer.result c.as_slice.result.now c.send.result _ w.in-Ok.is answered
-          c.send.ensures.tried c.send.ensures.tells c.send.ensures.cause sent unsent),
-          omega (arith, sent, unsent, all), same_coming, same_faults)
+          let unsent = ap (λ (one : Counts). one.unsent) w.counts-is in (
+            (
+              ap (λ (one : Counts). one.datagrams) w.counts-is ∙ alike.0,
+              ap (λ (one : Counts). one.packets) w.counts-is ∙ alike.1,
+              ap (λ (one : Counts). one.updated) w.counts-is ∙ alike.2,
+              ap (λ (one : Counts). one.torn) w.counts-is ∙ alike.3,
+            ),
+            subst (HasAnswered seen seen_after c.args.counts.now counts) grown
+                (answered-sent seen seen_now seen_after c.args.counts.now before counts (map to_peer (take place sends)) c.peer.result c.as_slice.result.now c.send.result _ w.in-Ok.is answered
+                c.send.ensures.tried c.send.ensures.tells c.send.ensures.cause sent unsent),
+            omega (arith, sent, unsent, all),
+            same_coming,
+            same_faults,
+          )
       | in-Err w ↦
           let sent = ap (λ (one : Counts). one.sent) w.counts-is in
-          let unsent = ap (λ (one : Counts). one.unsent) w.counts-is in
-          ((ap (λ (one : Counts). one.datagrams) w.counts-is ∙ alike.0, ap (λ (one : Counts). one.packets) w.counts-is ∙ alike.1,
-          ap (λ (one : Counts). one.updated) w.counts-is ∙ alike.2, ap (λ (one : Counts). one.torn) w.counts-is ∙ alike.3),
-          subst (HasAnswered seen seen_after c.args.counts.now counts) grown
-          (answered-failed seen seen_now seen_after c.args.counts.now before counts (map to_peer (take place sends)) c.peer.result c.as_slice.result.now c.send.result _ w.in-Err.is answered
-          c.send.ensures.tried c.send.ensures.cause sent unsent),
-          omega (arith, sent, unsent, all), same_coming, same_faults)
+          let unsent = ap (λ (one : Counts). one.unsent) w.counts-is in (
+            (
+              ap (λ (one : Counts). one.datagrams) w.counts-is ∙ alike.0,
+              ap (λ (one : Counts). one.packets) w.counts-is ∙ alike.1,
+              ap (λ (one : Counts). one.updated) w.counts-is ∙ alike.2,
+              ap (λ (one : Counts). one.torn) w.counts-is ∙ alike.3,
+            ),
+            subst (HasAnswered seen seen_after c.args.counts.now counts) grown
+                (answered-failed seen seen_now seen_after c.args.counts.now before counts (map to_peer (take place sends)) c.peer.result c.as_slice.result.now c.send.result _ w.in-Err.is answered
+                c.send.ensures.tried c.send.ensures.cause sent unsent),
+            omega (arith, sent, unsent, all),
+            same_coming,
+            same_faults,
+          )
     ]

@@ -3,7 +3,7 @@ use Rattle.std.proofs.Common.{◌≡◌, ◌+◌, map, take}
 use Rattle.replication_workers.specs.Replication.{to_peer}
 use Rattle.relay_serving.specs.Counting.{HasAnswered}
 use Rattle.relay_serving.specs.Devices.{link_seen}
-use Rattle.relay_serving.proofs.Answered.{CountsAlike}
+use Rattle.relay_serving.proofs.AnswerSends.{CountsAlike}
 use Rattle.relay_serving.proofs.server.hearing.send_answers.Given as goal
 
 abbrev pub invariant-loop-send : goal.invariant-loop-send

@@ -1,15 +1,15 @@
 -- One answer more that a link tried.
 use Rattle.std.proofs.Common.{◌≡◌, ℕ, ◌+◌, ◌<◌, List, [], ◌∷◌, ◌++◌, length, get_or, map, take, refl, sym, ap, subst, ◌∙◌, arith}
-use Rattle.std.specs.Prelude.{IsSome, OnOk, Option, Result, Ok, Err, is_ok}
+use Rattle.std.specs.Prelude.{IsSome, OnOk, Result, Ok, Err, is_ok}
 use Rattle.std.proofs.lemmas.List.{length_push, take_more, map-append}
 use Rattle.amt_ports.specs.Causes.{HasCause}
-use Rattle.amt_ports.specs.Sends.{TriedSend, tried_send}
+use Rattle.amt_ports.specs.Sends.{tried_send}
 use Rattle.amt_ports.specs.Told.{Appends}
 use Rattle.amt_ports.specs.declared.fault.Failed.{Failed}
 use Rattle.amt_values.specs.Endpoint.{peer_of}
 use Rattle.amt_values.specs.declared.peer.Peer.{Peer}
 use Rattle.relay_machine.specs.declared.sends.OneSend.{OneSend}
-use Rattle.replication_workers.specs.Replication.{HasTried, to_peer}
+use Rattle.replication_workers.specs.Replication.{to_peer}
 use Rattle.replication_workers.proofs.Trying.{HasTried-failed, HasTried-none, HasTried-sent}
 use Rattle.relay_serving.specs.Counting.{HasAnswered}
 use Rattle.relay_serving.specs.Devices.{LinkSeen}
