@@ -1,0 +1,3 @@
+pub mod AnswerSends
+pub mod Counting
+pub mod Entering

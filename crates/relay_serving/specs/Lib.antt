@@ -1,0 +1,15 @@
+pub mod Bursts
+pub mod Counting
+pub mod Courses
+pub mod Devices
+pub mod Drawing
+pub mod Events
+pub mod GivenOut
+pub mod Plans
+pub mod Runs
+pub mod Sending
+pub mod Servers
+pub mod Serving
+pub mod Stages
+pub mod Turning
+pub mod Turns
