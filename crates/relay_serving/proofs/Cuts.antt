@@ -2,13 +2,14 @@
 use Rattle.std.proofs.Common.{◌≡◌, ◌≢◌, ℕ, ◌<◌, Bool, true, false, List, [], Result, Ok, Err, refl, sym, ap, subst, ◌∙◌, length}
 use Rattle.std.specs.Prelude.{IsErrOf}
 use Rattle.amt_ports.specs.Causes.{Rose}
+use Rattle.amt_ports.specs.declared.feed.FeedAnswer.{FeedAnswer}
 use Rattle.amt_ports.specs.declared.feed.FeedAnswer.TheVariants.{Nothing as NothingFed, Closed as FeedClosed}
 use Rattle.amt_ports.specs.declared.link.LinkAnswer.TheVariants.{Nothing as NothingCame, Closed as LinkClosed}
 use Rattle.relay_serving.specs.Bursts.{AreAsked, IsCauseOf, IsCausedBy}
 use Rattle.relay_serving.specs.Runs.{IsCut, IsUnfed, IsUnheard, LacksMemory, at_moment, at_datagram, at_publishing, at_packet, FindsClosed, of_link, of_feed}
 use Rattle.relay_serving.specs.Stages.{IsBegunBy}
 use Rattle.relay_serving.specs.Turning.{IsTurnBy}
-use Rattle.relay_serving.specs.Turns.{Ahead, HasBegun, HasHeard, IsDatagram, IsPacket, IsWhole, Progress, Turn, is_due, moment_of_turn}
+use Rattle.relay_serving.specs.Turns.{Ahead, HasBegun, HasHeard, IsDatagram, IsPacket, IsWhole, Progress, Taken, Turn, is_due, moment_of_turn}
 use Rattle.relay_serving.specs.declared.plan.End.{End}
 use Rattle.relay_serving.specs.declared.plan.End.TheVariants.{Turns, Closed, LinkFault, FeedFault, WordsFault, SpawnFault, Memory}
 
@@ -26,8 +27,8 @@ module _ (rotate : ℕ) (progress : Progress) (turn : Turn) where
 
   -- when the link is asked
   pub cut_heard : (end : End) → HasBegun rotate progress turn → AreAsked IsDatagram NothingCame LinkClosed (Err end) turn.heard
-      → (IsErrOf {Unit {0}} (Err end) FeedFault → ⊥) → IsUnfed Ahead turn → IsCut end rotate progress turn
-  cut_heard Memory begun asked of_link unfed = at_datagram begun asked unfed
+      → (IsErrOf {T = Unit {0}} (Err end) FeedFault → ⊥) → IsUnfed Ahead turn → IsCut end rotate progress turn
+  cut_heard Memory begun asked other unfed = at_datagram begun asked unfed
   cut_heard Closed begun asked other unfed = of_link begun asked unfed
   cut_heard LinkFault begun asked other unfed = (begun, asked, unfed)
   cut_heard FeedFault begun asked other unfed = absurd (other refl)
@@ -37,7 +38,7 @@ module _ (rotate : ℕ) (progress : Progress) (turn : Turn) where
 
   -- when the feed is asked
   pub cut_fed : (end : End) → HasHeard rotate progress turn → AreAsked IsPacket NothingFed FeedClosed (Err end) turn.fed
-      → (IsErrOf {Unit {0}} (Err end) LinkFault → ⊥) → IsCut end rotate progress turn
+      → (IsErrOf {T = Unit {0}} (Err end) LinkFault → ⊥) → IsCut end rotate progress turn
   cut_fed Memory heard asked other = at_packet heard asked
   cut_fed Closed heard asked other = of_feed heard asked
   cut_fed FeedFault heard asked other = (heard, asked)
@@ -51,7 +52,7 @@ pub not_caused : {A : Type 0} (result : Result A End) (cause : End) (before afte
 not_caused result cause before after not same = record { rose = λ is. absurd (not is); calm = λ _. same }
 
 -- a success has none
-pub no_error : (cause : End) → IsErrOf {Unit {0}} (Ok tt) cause → ⊥
+pub no_error : (cause : End) → IsErrOf {T = Unit {0}} (Ok tt) cause → ⊥
 no_error cause is = cc is
 
 -- what the feed's asking comes to
@@ -61,5 +62,5 @@ turn_fed rotate progress turn (Ok unit) heard asked other = record { heard = hea
 turn_fed rotate progress turn (Err end) heard asked other = cut_fed rotate progress turn end heard asked other
 
 -- no word is drawn then
-pub no_words_fed : {fed : _} (result : Result (Unit {0}) End) → AreAsked IsPacket NothingFed FeedClosed result fed → IsErrOf result WordsFault → ⊥
-no_words_fed {fed} result asked is = subst (λ (one : Result (Unit {0}) End). AreAsked IsPacket NothingFed FeedClosed one fed) is asked
+pub no_words_fed : (fed : List (Taken FeedAnswer)) (result : Result (Unit {0}) End) → AreAsked IsPacket NothingFed FeedClosed result fed → IsErrOf result WordsFault → ⊥
+no_words_fed fed result asked is = subst (λ (one : Result (Unit {0}) End). AreAsked IsPacket NothingFed FeedClosed one fed) is asked

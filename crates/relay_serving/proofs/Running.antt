@@ -1,8 +1,9 @@
 -- What the turns of a run come to together.
-use Rattle.std.proofs.Common.{◌≡◌, ◌≢◌, ℕ, ◌+◌, ◌*◌, ◌≤◌, List, [], ◌∷◌, ◌++◌, length, map, flat_map, Option, None, Some, Result, Ok, Err, refl, sym, ap, subst, ◌∙◌, arith, length-append}
+use Rattle.std.proofs.Common.{◌≡◌, ◌≢◌, ℕ, ◌+◌, ◌*◌, ◌≤◌, ◌<◌, List, [], ◌∷◌, ◌++◌, length, map, flat_map, Option, None, Some, Result, Ok, Err, refl, sym, ap, subst, ◌∙◌, arith, length-append}
 use Rattle.std.proofs.lemmas.Grind.{flat_map-append}
 use Rattle.std.proofs.lemmas.List.{append-nil, append_assoc, map-append}
-use Rattle.std.specs.Prelude.{IsErrOf, IsOk}
+use Rattle.std.specs.List.{count_by}
+use Rattle.amt_ports.specs.Causes.{Rose}
 use Rattle.amt_ports.specs.Told.{AppendsAll}
 use Rattle.amt_ports.specs.declared.feed.FeedAnswer.{FeedAnswer}
 use Rattle.amt_ports.specs.declared.feed.FeedAnswer.TheVariants.{Closed as FeedClosed}
@@ -12,12 +13,18 @@ use Rattle.amt_ports.specs.declared.out_link.OutLink.{Ghosts}
 use Rattle.amt_values.specs.declared.peer.Peer.{Peer}
 use Rattle.relay_machine.specs.Events.{now_of}
 use Rattle.relay_machine.specs.declared.event.Event.{Event}
-use Rattle.relay_serving.specs.Counting.{HasAnswered}
+use Rattle.endpoint_membership.specs.Published.{published_back}
+use Rattle.response_mac.specs.declared.secret.Secret.{Secret}
+use Rattle.relay_machine.specs.Accepted.{accepted_back}
+use Rattle.relay_machine.specs.Published.{published_log}
+use Rattle.relay_machine.specs.declared.settings.Settings.{Settings}
+use Rattle.relay_serving.specs.Bursts.{IsCauseOf, IsCausedBy}
+use Rattle.relay_serving.specs.Counting.{HasAnswered, is_packet}
 use Rattle.relay_serving.specs.Devices.{AnswersAll, Devices}
 use Rattle.relay_serving.specs.Events.{events_from, events_of_turn}
 use Rattle.relay_serving.specs.Runs.{HasEnded, feed_answers, link_answers, moments_given, with_cut, words_drawn}
 use Rattle.relay_serving.specs.Sending.{answers_after}
-use Rattle.relay_serving.specs.Servers.{HasEvents, counts_in, events_in, first_in, now_in, owing_in, settings_in}
+use Rattle.relay_serving.specs.Servers.{HasEvents, counts_in, events_in, first_in, now_in, owing_in, published_in, settings_in}
 use Rattle.relay_serving.specs.Turning.{AreCausesOf, EndsIn, Goes, RunsSo, TurnsSo, progress_in}
 use Rattle.relay_serving.specs.Turns.{AreWhole, IsWhole, Progress, Turn, after_turn, moment_of_turn, no_progress}
 use Rattle.relay_serving.specs.declared.plan.End.{End}
@@ -25,6 +32,7 @@ use Rattle.relay_serving.specs.declared.plan.End.TheVariants.{Turns, Closed, Lin
 use Rattle.relay_serving.specs.declared.plan.ServePlan.{ServePlan}
 use Rattle.relay_serving.specs.declared.server.Server.{Server}
 use Rattle.relay_serving.proofs.Answered.{AnswersAll-then, HasAnswered-none, HasAnswered-then}
+use Rattle.relay_serving.proofs.Cuts.{no_error}
 use Rattle.relay_serving.proofs.Drawing.{AppendsAll-none, AppendsAll-then}
 use Rattle.relay_serving.proofs.Silence.{answers-append, now_of-none}
 use Rattle.relay_serving.proofs.Turning.{HasEvents-none, IsSameRun-then}
@@ -46,6 +54,43 @@ events_from-more rotate progress last (one ∷ turns) turn whole =
     let next = after_turn rotate progress one in
     ap (λ (list : List Event). head ++ list) (events_from-more rotate next last turns turn whole.1)
     ∙ sym (append_assoc head (events_from next.latest turns) (events_from last.latest (turn ∷ [])))
+
+later_none : {X : Type 0} (one two : List X) → one ++ two ≡ [] → two ≡ []
+later_none [] two none = none
+later_none (x ∷ one) two none = absurd (cc none)
+
+published_log-none : (settings : Settings) (first : Secret) → published_log settings first [] ≡ []
+unfolding accepted_back published_back
+published_log-none settings first = refl
+
+-- where a count stood still, and then rose for a cause or didn't
+cause_then : (end cause : End) (first middle last : ℕ) → middle ≡ first → IsCausedBy {A = Unit {0}} (Err end) cause middle last → IsCauseOf end cause first last
+cause_then end cause first middle last same by = (
+  λ is. subst (λ (n : ℕ). Rose n last) same (by.rose (ap Err is)),
+  λ other. by.calm (λ is. other (cc is)) ∙ same,
+)
+
+-- no device failed
+pub record AreCalm (devices devices' : Devices) : Type 0 where
+  pub link : devices'.link.receive_faults ≡ devices.link.receive_faults
+  pub feed : devices'.feed.faults ≡ devices.feed.faults
+  pub words : devices'.words.faults ≡ devices.words.faults
+
+-- all turns are done
+pub EndsIn-whole : (devices devices' : Devices) → AreCalm devices devices' → EndsIn Turns devices devices'
+EndsIn-whole devices devices' calm = record {
+  link = (λ is. absurd (cc is), λ _. calm.link);
+  feed = (λ is. absurd (cc is), λ _. calm.feed);
+  words = (λ is. absurd (cc is), λ _. calm.words);
+}
+
+-- the run ended in a turn
+pub EndsIn-cut : (devices devices' devices'' : Devices) (end : End) → AreCalm devices devices' → AreCausesOf {A = Unit {0}} (Err end) devices' devices'' → EndsIn end devices devices''
+EndsIn-cut devices devices' devices'' end calm causes = record {
+  link = cause_then end LinkFault _ _ _ calm.link causes.link;
+  feed = cause_then end FeedFault _ _ _ calm.feed causes.feed;
+  words = cause_then end WordsFault _ _ _ calm.words causes.words;
+}
 
 module _ {O : Type 0} {g : Ghosts O} {T : Type 0} where
   pub Goes-none : (server : Server O T g) (devices : Devices) → Goes [] server server devices devices
@@ -92,17 +137,100 @@ module _ {O : Type 0} {g : Ghosts O} {T : Type 0} where
             (AnswersAll-then FeedClosed devices.feed.coming devices'.feed.coming devices''.feed.coming (feed_answers turns) (feed_answers (turn ∷ [])) first.feed second.feed);
       }
 
-  -- no device failed
-  pub record AreCalm (devices devices' : Devices) : Type 0 where
-    pub link : devices'.link.receive_faults ≡ devices.link.receive_faults
-    pub feed : devices'.feed.faults ≡ devices.feed.faults
-    pub words : devices'.words.faults ≡ devices.words.faults
-
-  -- a run after these whole turns
-  pub record IsRunning (rotate : ℕ) (renewed : Option ℕ) (before now : Server O T g) (devices devices' : Devices) (turns : List Turn) : Type 0 where
+  -- a run after so many whole turns
+  pub record IsRunning (rotate : ℕ) (renewed : Option ℕ) (before now : Server O T g) (devices devices' : Devices) (done : ℕ) : Type 0 where
+    pub turns : List Turn
     pub goes : Goes turns before now devices devices'
     pub are_whole : AreWhole rotate no_progress turns (progress_in now renewed)
+    pub done_is : done ≡ length turns
+    pub since : now_in before ≡ 0
     pub none_owed : owing_in now ≢ [] → ⊥
     pub calm : AreCalm devices devices'
-    pub few_events : length (events_in now) ≤ 130 * length turns
-    pub few_packets : (counts_in now).packets ≤ 64 * length turns
+    pub few_events : length (events_in now) ≤ 130 * done
+    pub few_packets : (counts_in now).packets ≤ 64 * done
+
+  -- nothing was owed before the first event
+  none_owing : (server : Server O T g) → events_in server ≡ [] → owing_in server ≡ []
+  none_owing server fresh =
+      later_none (published_in server) (owing_in server)
+      (server.log ∙ ap (published_log (settings_in server) (first_in server)) fresh ∙ published_log-none (settings_in server) (first_in server))
+
+  pub IsRunning-none : (rotate : ℕ) (renewed : Option ℕ) (server : Server O T g) (devices : Devices) → events_in server ≡ [] → renewed ≡ None → IsRunning rotate renewed server server devices devices 0
+  IsRunning-none rotate renewed server devices fresh first =
+      let time : now_in server ≡ 0 = server.at.moment ∙ ap now_of fresh ∙ now_of-none in
+      let packets : (counts_in server).packets ≡ 0 = server.counted.events_are.packets_are ∙ ap (count_by is_packet) fresh in
+      let none = ap length fresh in
+      record {
+        turns = [];
+        goes = Goes-none server devices;
+        are_whole = λ i. record { latest = time i; renewed = first i };
+        done_is = refl;
+        since = time;
+        none_owed = λ some. some (none_owing server fresh);
+        calm = record { link = refl; feed = refl; words = refl };
+        few_events = omega (arith, none);
+        few_packets = omega (arith, packets);
+      }
+
+  -- the events of one turn more
+  events_then : (rotate : ℕ) (renewed : Option ℕ) (before now : Server O T g) (turns : List Turn) (turn : Turn) → now_in before ≡ 0 → AreWhole rotate no_progress turns (progress_in now renewed)
+      → events_from (now_in before) (turns ++ turn ∷ []) ≡ events_from (now_in before) turns ++ events_from (now_in now) (turn ∷ [])
+  events_then rotate renewed before now turns turn since whole =
+      subst (λ (from : ℕ). events_from from (turns ++ turn ∷ []) ≡ events_from from turns ++ events_from (now_in now) (turn ∷ [])) (sym since)
+      (events_from-more rotate no_progress (progress_in now renewed) turns turn whole)
+
+  -- a whole turn more
+  pub IsRunning-then : (rotate : ℕ) (renewed renewed' : Option ℕ) (before now after : Server O T g) (devices devices' devices'' : Devices) (done : ℕ)
+      → IsRunning rotate renewed before now devices devices' done → TurnsSo rotate renewed renewed' now after devices' devices'' (Ok tt) → AreCausesOf {A = Unit {0}} (Ok tt) devices' devices''
+      → length (events_in after) ≤ length (events_in now) + 130 → (counts_in after).packets ≤ (counts_in now).packets + 64
+      → IsRunning rotate renewed' before after devices devices'' (done + 1)
+  IsRunning-then rotate renewed renewed' before now after devices devices' devices'' done run next causes events packets =
+      let so_far = run.few_events in
+      let packets_so_far = run.few_packets in
+      let whole = AreWhole-more rotate no_progress (progress_in now renewed) run.turns next.turn run.are_whole next.is_turn in
+      let reached : after_turn rotate (progress_in now renewed) next.turn ≡ progress_in after renewed' =
+      λ i. record { latest = sym (next.latest refl) i; renewed = sym (next.renewed_is refl) i } in
+      record {
+        turns = run.turns ++ next.turn ∷ [];
+        goes = Goes-then before now after devices devices' devices'' run.turns next.turn (events_then rotate renewed before now run.turns next.turn run.since run.are_whole) run.goes next.goes;
+        are_whole = subst (λ (last : Progress). AreWhole rotate no_progress (run.turns ++ next.turn ∷ []) last) reached whole;
+        done_is = ap (λ (n : ℕ). n + 1) run.done_is ∙ sym (length-append run.turns (next.turn ∷ []));
+        since = run.since;
+        none_owed = λ some. next.owed some next.is_turn.heard.published;
+        calm = record {
+          link = causes.link.calm (no_error LinkFault) ∙ run.calm.link;
+          feed = causes.feed.calm (no_error FeedFault) ∙ run.calm.feed;
+          words = causes.words.calm (no_error WordsFault) ∙ run.calm.words;
+        };
+        few_events = omega (arith, so_far, events);
+        few_packets = omega (arith, packets_so_far, packets);
+      }
+
+  -- all turns are done
+  pub RunsSo-whole : (plan : ServePlan) (renewed : Option ℕ) (before after : Server O T g) (devices devices' : Devices) (done : ℕ)
+      → IsRunning plan.rotate_ms renewed before after devices devices' done → done ≡ plan.turns → RunsSo plan before after devices devices' Turns done
+  RunsSo-whole plan renewed before after devices devices' done run all = record {
+    whole = run.turns;
+    cut = None;
+    last = progress_in after renewed;
+    goes = run.goes;
+    are_whole = run.are_whole;
+    ended = (refl, sym run.done_is ∙ all);
+    done_is = run.done_is;
+    owed = λ some. absurd (run.none_owed some);
+  }
+
+  -- the run ended in a turn
+  pub RunsSo-cut : (plan : ServePlan) (renewed renewed' : Option ℕ) (before now after : Server O T g) (devices devices' devices'' : Devices) (done : ℕ) (end : End)
+      → IsRunning plan.rotate_ms renewed before now devices devices' done → TurnsSo plan.rotate_ms renewed renewed' now after devices' devices'' (Err end) → done < plan.turns
+      → RunsSo plan before after devices devices'' end done
+  RunsSo-cut plan renewed renewed' before now after devices devices' devices'' done end run next few = record {
+    whole = run.turns;
+    cut = Some next.turn;
+    last = progress_in now renewed;
+    goes = Goes-then before now after devices devices' devices'' run.turns next.turn (events_then plan.rotate_ms renewed before now run.turns next.turn run.since run.are_whole) run.goes next.goes;
+    are_whole = run.are_whole;
+    ended = (subst (λ (n : ℕ). n < plan.turns) run.done_is few, next.is_turn);
+    done_is = run.done_is;
+    owed = λ some. (run.turns, next.turn, refl, next.owed some);
+  }

@@ -55,7 +55,7 @@ all_answers settings first before starved moment drawn datagrams fed =
     ∙ append-nil (answers_after settings first later datagrams)
 
 -- the answers of a turn
-pub turn_of : ℕ → Bool → List ℕ → List (Taken LinkAnswer) → Publishing → List (Taken FeedAnswer) → Turn
+abbrev pub turn_of : ℕ → Bool → List ℕ → List (Taken LinkAnswer) → Publishing → List (Taken FeedAnswer) → Turn
 turn_of answer starved drawn heard publishing fed = record {
   clock = record { answer = answer; starved = starved };
   drawn = drawn;

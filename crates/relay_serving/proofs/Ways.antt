@@ -69,7 +69,7 @@ module _ {O : Type 0} {g : Ghosts O} {T : Type 0} where
         record {
           turn = turn;
           goes = goes_of before after _ _ turn stages;
-          is_turn = cut_begun rotate (progress_in before renewed) turn end begins.is_begun (refl, refl, refl);
+          is_turn = cut_begun rotate (progress_in before renewed) turn end begins.is_begun (refl, (refl, refl));
           latest = λ fine. absurd (true≢false (sym fine));
           renewed_is = λ fine. absurd (true≢false (sym fine));
           owed = λ some same. cc same;
@@ -78,7 +78,7 @@ module _ {O : Type 0} {g : Ghosts O} {T : Type 0} where
     -- when the link is asked
     pub ends_heard : (before began after : Server O T g) (link link' : LinkSeen) (feed : FeedSeen) (end : End)
         → BeginsSo rotate renewed renewed' before began clock clock' words words' (Ok tt) → counts_in began ≡ counts_in before
-        → HearsSo began after link link' (AreAsked IsDatagram NothingCame LinkClosed (Err end)) → (IsErrOf {Unit {0}} (Err end) FeedFault → ⊥)
+        → HearsSo began after link link' (AreAsked IsDatagram NothingCame LinkClosed (Err end)) → (IsErrOf {T = Unit {0}} (Err end) FeedFault → ⊥)
         → TurnsSo rotate renewed renewed' before after (devices_seen clock (words_seen words faults) link feed 0) (devices_seen clock' (words_seen words' faults') link' feed 0) (Err end)
     ends_heard before began after link link' feed end begins counts hears other =
         let turn = turn_of begins.answer begins.starved begins.drawn hears.heard Ahead [] in

@@ -120,13 +120,12 @@ impl<O: OutLink + Drop, T> Server<O, T> {
             (feed_seen (F.coming feed.new) (F.faults feed.new)) 0) }
     {
         let mut renewal = Renewal::new();
-        let mut turns = 0;
-        for _ in 0..plan.turns {
+        for done in 0..plan.turns {
             match self.turn(rt, alloc, plan.rotate_ms, &mut renewal, clock, words, link, feed, buf) {
-                Ok(()) => turns += 1,
-                Err(end) => return (end, turns),
+                Ok(()) => {}
+                Err(end) => return (end, done),
             }
         }
-        (End::Turns, turns)
+        (End::Turns, plan.turns)
     }
 }

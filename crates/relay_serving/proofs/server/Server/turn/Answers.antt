@@ -4,6 +4,7 @@ use Rattle.relay_serving.specs.Servers.{counts_in}
 use Rattle.relay_serving.specs.declared.counts.Counts.{Counts}
 use Rattle.relay_serving.specs.declared.plan.End.TheVariants.{FeedFault, LinkFault, WordsFault}
 use Rattle.relay_serving.proofs.Cuts.{no_error, no_words_fed, not_caused}
+use Rattle.relay_serving.proofs.Turning.{Keeps}
 use Rattle.relay_serving.proofs.Ways.{ends_begun, ends_fed, ends_heard, ends_refused, packets-kept}
 use Rattle.relay_serving.proofs.server.Server.turn.Goals as goal
 
@@ -21,7 +22,7 @@ returns-in_err-hear-clause-turns g c =
 
 pub returns-then-is_err-clause-turns : goal.returns-then-is_err-clause-turns
 returns-then-is_err-clause-turns g c =
-    let keeps = record { same = c.publish.ensures.same; events = c.publish.ensures.events; counts = c.publish.ensures.counts } in
+    let keeps : Keeps c.hear.new.self c.publish.new.self = record { same = c.publish.ensures.same; events = c.publish.ensures.events; counts = c.publish.ensures.counts } in
     ends_refused _ _ _ _ _ _ _ _ _ _ _ _ _ _ _ _ c.in_ok-begin_turn.ensures.begins c.begin_turn.ensures.counts c.in_ok-hear.ensures.hears keeps
 
 pub returns-then-is_err-clause-causes : goal.returns-then-is_err-clause-causes
@@ -41,7 +42,7 @@ feed-requires-clause-few g c =
 
 pub returns-clause-turns : goal.returns-clause-turns
 returns-clause-turns g c =
-    let keeps = record { same = c.publish.ensures.same; events = c.publish.ensures.events; counts = c.publish.ensures.counts } in
+    let keeps : Keeps c.hear.new.self c.publish.new.self = record { same = c.publish.ensures.same; events = c.publish.ensures.events; counts = c.publish.ensures.counts } in
     ends_fed _ _ _ _ _ _ _ _ _ _ _ _ _ _ _ _ _ _ _ c.in_ok-begin_turn.ensures.begins c.begin_turn.ensures.counts c.in_ok-hear.ensures.hears keeps
     c.feed.ensures.feeds c.feed.ensures.of_feed c.feed.ensures.owing
 
@@ -49,7 +50,7 @@ pub returns-clause-causes : goal.returns-clause-causes
 returns-clause-causes g c = record {
   link = not_caused c.feed.result LinkFault _ _ c.feed.ensures.of_feed (c.in_ok-hear.ensures.cause.calm (no_error LinkFault));
   feed = c.feed.ensures.cause;
-  words = not_caused c.feed.result WordsFault _ _ (no_words_fed c.feed.result c.feed.ensures.feeds.ends) (c.in_ok-begin_turn.ensures.cause.calm (no_error WordsFault));
+  words = not_caused c.feed.result WordsFault _ _ (no_words_fed c.feed.ensures.feeds.fed c.feed.result c.feed.ensures.feeds.ends) (c.in_ok-begin_turn.ensures.cause.calm (no_error WordsFault));
 }
 
 pub returns-clause-few_packets : goal.returns-clause-few_packets
