@@ -1,7 +1,5 @@
 -- What a link was asked and answered, in a row.
-use Rattle.std.proofs.Common.{◌≡◌, ℕ, ◌+◌, List, [], ◌∷◌, ◌++◌, length, Option, refl, sym, ap, subst, ◌∙◌, arith, length-append}
-use Rattle.std.proofs.lemmas.List.{append-nil}
-use Rattle.amt_ports.specs.Told.{Answers}
+use Rattle.std.proofs.Common.{◌≡◌, ℕ, ◌+◌, List, [], ◌∷◌, ◌++◌, length, Option, refl, ap, subst, ◌∙◌, arith, length-append}
 use Rattle.amt_values.specs.declared.peer.Peer.{Peer}
 use Rattle.replication_workers.specs.Replication.{HasTried}
 use Rattle.replication_workers.proofs.Trying.{HasTried-none, HasTried-then}

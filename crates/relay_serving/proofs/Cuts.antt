@@ -1,15 +1,14 @@
 -- In which turns a run ends, and why.
-use Rattle.std.proofs.Common.{◌≡◌, ◌≢◌, ℕ, ◌<◌, Bool, true, false, List, [], Result, Ok, Err, refl, sym, ap, subst, ◌∙◌, length}
+use Rattle.std.proofs.Common.{◌≡◌, ℕ, List, Result, Ok, Err, refl, subst}
 use Rattle.std.specs.Prelude.{IsErrOf}
-use Rattle.amt_ports.specs.Causes.{Rose}
 use Rattle.amt_ports.specs.declared.feed.FeedAnswer.{FeedAnswer}
 use Rattle.amt_ports.specs.declared.feed.FeedAnswer.TheVariants.{Nothing as NothingFed, Closed as FeedClosed}
 use Rattle.amt_ports.specs.declared.link.LinkAnswer.TheVariants.{Nothing as NothingCame, Closed as LinkClosed}
-use Rattle.relay_serving.specs.Bursts.{AreAsked, IsCauseOf, IsCausedBy}
-use Rattle.relay_serving.specs.Runs.{IsCut, IsUnfed, IsUnheard, LacksMemory, at_moment, at_datagram, at_publishing, at_packet, FindsClosed, of_link, of_feed}
+use Rattle.relay_serving.specs.Bursts.{AreAsked, IsCausedBy}
+use Rattle.relay_serving.specs.Runs.{IsCut, IsUnfed, IsUnheard, at_moment, at_datagram, at_packet, of_link, of_feed}
 use Rattle.relay_serving.specs.Stages.{IsBegunBy}
 use Rattle.relay_serving.specs.Turning.{IsTurnBy}
-use Rattle.relay_serving.specs.Turns.{Ahead, HasBegun, HasHeard, IsDatagram, IsPacket, IsWhole, Progress, Taken, Turn, is_due, moment_of_turn}
+use Rattle.relay_serving.specs.Turns.{Ahead, HasBegun, HasHeard, IsDatagram, IsPacket, Progress, Taken, Turn, is_due, moment_of_turn}
 use Rattle.relay_serving.specs.declared.plan.End.{End}
 use Rattle.relay_serving.specs.declared.plan.End.TheVariants.{Turns, Closed, LinkFault, FeedFault, WordsFault, SpawnFault, Memory}
 

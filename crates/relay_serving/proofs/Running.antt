@@ -1,7 +1,7 @@
 -- What the turns of a run come to together.
-use Rattle.std.proofs.Common.{◌≡◌, ◌≢◌, ℕ, ◌+◌, ◌*◌, ◌≤◌, ◌<◌, List, [], ◌∷◌, ◌++◌, length, map, flat_map, Option, None, Some, Result, Ok, Err, refl, sym, ap, subst, ◌∙◌, arith, length-append}
+use Rattle.std.proofs.Common.{◌≡◌, ◌≢◌, ℕ, ◌+◌, ◌*◌, ◌≤◌, ◌<◌, List, [], ◌∷◌, ◌++◌, length, map, Option, None, Some, Ok, Err, refl, sym, ap, subst, ◌∙◌, arith, length-append}
 use Rattle.std.proofs.lemmas.Grind.{flat_map-append}
-use Rattle.std.proofs.lemmas.List.{append-nil, append_assoc, map-append}
+use Rattle.std.proofs.lemmas.List.{append_assoc, map-append}
 use Rattle.std.specs.List.{count_by}
 use Rattle.amt_ports.specs.Causes.{Rose}
 use Rattle.amt_ports.specs.Told.{AppendsAll}
@@ -22,13 +22,13 @@ use Rattle.relay_serving.specs.Bursts.{IsCauseOf, IsCausedBy}
 use Rattle.relay_serving.specs.Counting.{HasAnswered, is_packet}
 use Rattle.relay_serving.specs.Devices.{AnswersAll, Devices}
 use Rattle.relay_serving.specs.Events.{events_from, events_of_turn}
-use Rattle.relay_serving.specs.Runs.{HasEnded, feed_answers, link_answers, moments_given, with_cut, words_drawn}
+use Rattle.relay_serving.specs.Runs.{feed_answers, link_answers, moments_given, words_drawn}
 use Rattle.relay_serving.specs.Sending.{answers_after}
-use Rattle.relay_serving.specs.Servers.{HasEvents, counts_in, events_in, first_in, now_in, owing_in, published_in, settings_in}
+use Rattle.relay_serving.specs.Servers.{counts_in, events_in, first_in, now_in, owing_in, published_in, settings_in}
 use Rattle.relay_serving.specs.Turning.{AreCausesOf, EndsIn, Goes, RunsSo, TurnsSo, progress_in}
-use Rattle.relay_serving.specs.Turns.{AreWhole, IsWhole, Progress, Turn, after_turn, moment_of_turn, no_progress}
+use Rattle.relay_serving.specs.Turns.{AreWhole, IsWhole, Progress, Turn, after_turn, no_progress}
 use Rattle.relay_serving.specs.declared.plan.End.{End}
-use Rattle.relay_serving.specs.declared.plan.End.TheVariants.{Turns, Closed, LinkFault, FeedFault, WordsFault, SpawnFault, Memory}
+use Rattle.relay_serving.specs.declared.plan.End.TheVariants.{LinkFault, FeedFault, WordsFault}
 use Rattle.relay_serving.specs.declared.plan.ServePlan.{ServePlan}
 use Rattle.relay_serving.specs.declared.server.Server.{Server}
 use Rattle.relay_serving.proofs.Answered.{AnswersAll-then, HasAnswered-none, HasAnswered-then}
@@ -41,7 +41,6 @@ use Rattle.relay_serving.proofs.Turning.{HasEvents-none, IsSameRun-then}
 pub AreWhole-more : (rotate : ℕ) (progress last : Progress) (turns : List Turn) (turn : Turn) → AreWhole rotate progress turns last → IsWhole rotate last turn
     → AreWhole rotate progress (turns ++ turn ∷ []) (after_turn rotate last turn)
 AreWhole-more rotate progress last [] turn whole next =
-    let same : progress ≡ last = sym whole in
     (subst (λ (from : Progress). IsWhole rotate from turn) whole next, ap (λ (from : Progress). after_turn rotate from turn) whole)
 AreWhole-more rotate progress last (one ∷ turns) turn whole next = (whole.0, AreWhole-more rotate (after_turn rotate progress one) last turns turn whole.1 next)
 
@@ -75,14 +74,6 @@ pub record AreCalm (devices devices' : Devices) : Type 0 where
   pub link : devices'.link.receive_faults ≡ devices.link.receive_faults
   pub feed : devices'.feed.faults ≡ devices.feed.faults
   pub words : devices'.words.faults ≡ devices.words.faults
-
--- all turns are done
-pub EndsIn-whole : (devices devices' : Devices) → AreCalm devices devices' → EndsIn Turns devices devices'
-EndsIn-whole devices devices' calm = record {
-  link = (λ is. absurd (cc is), λ _. calm.link);
-  feed = (λ is. absurd (cc is), λ _. calm.feed);
-  words = (λ is. absurd (cc is), λ _. calm.words);
-}
 
 -- the run ended in a turn
 pub EndsIn-cut : (devices devices' devices'' : Devices) (end : End) → AreCalm devices devices' → AreCausesOf {A = Unit {0}} (Err end) devices' devices'' → EndsIn end devices devices''
@@ -205,20 +196,6 @@ module _ {O : Type 0} {g : Ghosts O} {T : Type 0} where
         few_events = omega (arith, so_far, events);
         few_packets = omega (arith, packets_so_far, packets);
       }
-
-  -- all turns are done
-  pub RunsSo-whole : (plan : ServePlan) (renewed : Option ℕ) (before after : Server O T g) (devices devices' : Devices) (done : ℕ)
-      → IsRunning plan.rotate_ms renewed before after devices devices' done → done ≡ plan.turns → RunsSo plan before after devices devices' Turns done
-  RunsSo-whole plan renewed before after devices devices' done run all = record {
-    whole = run.turns;
-    cut = None;
-    last = progress_in after renewed;
-    goes = run.goes;
-    are_whole = run.are_whole;
-    ended = (refl, sym run.done_is ∙ all);
-    done_is = run.done_is;
-    owed = λ some. absurd (run.none_owed some);
-  }
 
   -- the run ended in a turn
   pub RunsSo-cut : (plan : ServePlan) (renewed renewed' : Option ℕ) (before now after : Server O T g) (devices devices' devices'' : Devices) (done : ℕ) (end : End)

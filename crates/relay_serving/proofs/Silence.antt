@@ -1,5 +1,5 @@
 -- Events to which a link sends nothing, and that report no moment.
-use Rattle.std.proofs.Common.{◌≡◌, ℕ, max, Bool, true, false, List, [], ◌∷◌, ◌++◌, Option, None, Some, flat_map, refl, sym, ap, ◌∙◌}
+use Rattle.std.proofs.Common.{◌≡◌, ℕ, max, Bool, true, false, List, [], ◌∷◌, ◌++◌, flat_map, refl, sym, ap, ◌∙◌}
 use Rattle.std.proofs.lemmas.Grind.{flat_map-append}
 use Rattle.std.proofs.lemmas.List.{append-nil, append_assoc}
 use Rattle.std.proofs.lemmas.List.Elements.{filter_map-append}
@@ -9,12 +9,11 @@ use Rattle.amt_ports.specs.declared.feed.FeedAnswer.{FeedAnswer}
 use Rattle.amt_ports.specs.declared.feed.FeedAnswer.TheVariants.{Packet as PacketFed, Nothing as NothingFed, Closed as FeedClosed}
 use Rattle.amt_ports.specs.declared.link.LinkAnswer.{LinkAnswer}
 use Rattle.amt_ports.specs.declared.link.LinkAnswer.TheVariants.{Datagram as DatagramCame, Nothing as NothingCame, Closed as LinkClosed}
-use Rattle.amt_values.specs.declared.peer.Peer.{Peer}
 use Rattle.response_mac.specs.declared.secret.Secret.{Secret}
 use Rattle.relay_machine.specs.Courses.{each_after}
 use Rattle.relay_machine.specs.Events.{moment_in, now_of}
 use Rattle.relay_machine.specs.declared.event.Event.{Event}
-use Rattle.relay_machine.specs.declared.event.Event.TheVariants.{Moment, Datagram, Packet, Rotate}
+use Rattle.relay_machine.specs.declared.event.Event.TheVariants.{Packet}
 use Rattle.relay_machine.specs.declared.settings.Settings.{Settings}
 use Rattle.relay_serving.specs.Events.{datagram_of, datagrams_in, moment_event, packet_of, packets_in, rotation, unless_starved}
 use Rattle.relay_serving.specs.Sending.{answers_after, answers_to}

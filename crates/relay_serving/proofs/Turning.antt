@@ -1,29 +1,24 @@
 -- What the stages of a turn come to together.
-use Rattle.std.proofs.Common.{◌≡◌, ◌≢◌, ℕ, ◌+◌, ◌≤◌, max, Bool, true, false, List, [], ◌∷◌, ◌++◌, length, map, Option, None, Some, Result, Ok, Err, refl, sym, ap, subst, ◌∙◌}
+use Rattle.std.proofs.Common.{◌≡◌, ℕ, ◌+◌, Bool, List, [], ◌∷◌, ◌++◌, map, refl, sym, ap, subst, ◌∙◌}
 use Rattle.std.proofs.lemmas.List.{append-nil, append_assoc}
-use Rattle.std.specs.Prelude.{IsErrOf, IsOk}
 use Rattle.std.specs.List.{filter_map}
 use Rattle.amt_ports.specs.Told.{Appends, AppendsAll}
 use Rattle.amt_ports.specs.declared.feed.FeedAnswer.{FeedAnswer}
-use Rattle.amt_ports.specs.declared.feed.FeedAnswer.TheVariants.{Nothing as NothingFed, Closed as FeedClosed}
+use Rattle.amt_ports.specs.declared.feed.FeedAnswer.TheVariants.{Closed as FeedClosed}
 use Rattle.amt_ports.specs.declared.link.LinkAnswer.{LinkAnswer}
-use Rattle.amt_ports.specs.declared.link.LinkAnswer.TheVariants.{Nothing as NothingCame, Closed as LinkClosed}
+use Rattle.amt_ports.specs.declared.link.LinkAnswer.TheVariants.{Closed as LinkClosed}
 use Rattle.amt_ports.specs.declared.out_link.OutLink.{Ghosts}
 use Rattle.amt_values.specs.declared.peer.Peer.{Peer}
 use Rattle.response_mac.specs.declared.secret.Secret.{Secret}
 use Rattle.relay_machine.specs.Events.{moment_in, now_of}
 use Rattle.relay_machine.specs.declared.event.Event.{Event}
 use Rattle.relay_machine.specs.declared.settings.Settings.{Settings}
-use Rattle.relay_serving.specs.Bursts.{AreAsked}
-use Rattle.relay_serving.specs.Counting.{HasAnswered}
-use Rattle.relay_serving.specs.Devices.{AnswersAll, Devices, FeedSeen, LinkSeen, devices_seen}
-use Rattle.relay_serving.specs.Events.{datagrams_in, events_from, moment_event, packets_in, rotation}
+use Rattle.relay_serving.specs.Devices.{AnswersAll, Devices, FeedSeen, LinkSeen}
+use Rattle.relay_serving.specs.Events.{datagrams_in, moment_event, packets_in, rotation}
 use Rattle.relay_serving.specs.Sending.{answers_after}
-use Rattle.relay_serving.specs.Servers.{Feeds, HasEvents, Hears, IsSameRun, counts_in, events_in, first_in, now_in, owing_in, published_in, settings_in}
-use Rattle.relay_serving.specs.Stages.{BeginsSo}
-use Rattle.relay_serving.specs.Turning.{Goes, IsTurnBy, TurnsSo, progress_in}
-use Rattle.relay_serving.specs.Turns.{Ahead, Done, HasBegun, HasHeard, IsBurst, IsDatagram, IsPacket, Publishing, Refused, Taken, Turn, moment_of_turn}
-use Rattle.relay_serving.specs.declared.plan.End.{End}
+use Rattle.relay_serving.specs.Servers.{Feeds, HasEvents, Hears, IsSameRun, counts_in, events_in, first_in, now_in, settings_in}
+use Rattle.relay_serving.specs.Turning.{Goes}
+use Rattle.relay_serving.specs.Turns.{Publishing, Taken, Turn, moment_of_turn}
 use Rattle.relay_serving.specs.declared.server.Server.{Server}
 use Rattle.relay_serving.proofs.Answered.{HasAnswered-alike, HasAnswered-none}
 use Rattle.relay_serving.proofs.Silence.{answers-append, none-begun, none-packets, now_of-silent, timeless-datagrams, timeless-packets}

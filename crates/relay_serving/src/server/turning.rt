@@ -121,7 +121,17 @@ impl<O: OutLink + Drop, T> Server<O, T> {
     {
         let mut renewal = Renewal::new();
         for done in 0..plan.turns {
-            match self.turn(rt, alloc, plan.rotate_ms, &mut renewal, clock, words, link, feed, buf) {
+            match self.turn(
+                rt,
+                alloc,
+                plan.rotate_ms,
+                &mut renewal,
+                clock,
+                words,
+                link,
+                feed,
+                buf,
+            ) {
                 Ok(()) => {}
                 Err(end) => return (end, done),
             }

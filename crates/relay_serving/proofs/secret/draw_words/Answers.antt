@@ -1,4 +1,4 @@
-use Rattle.std.proofs.Common.{[], ◌∷◌, arith}
+use Rattle.std.proofs.Common.{arith}
 use Rattle.std.proofs.lemmas.Result.{err_from_is_err_and}
 use Rattle.relay_serving.proofs.Drawing.{AppendsAll-then, HasDrawn-fewer}
 use Rattle.relay_serving.proofs.secret.draw_words.Goals as goal

@@ -1,7 +1,6 @@
-use Rattle.std.proofs.Common.{◌≡◌, ◌≤◌, ◌+◌, ◌++◌, [], ◌∷◌, false, true, max, length, length-append, arith, ap, sym, ◌∙◌, refl, subst, List}
-use Rattle.relay_machine.specs.declared.event.Event.{Event}
-use Rattle.relay_serving.specs.Servers.{HasEvents, events_in, now_in}
-use Rattle.relay_serving.specs.Turns.{is_due, words_due}
+use Rattle.std.proofs.Common.{[], false, true, max, length, length-append, arith, ap, sym, ◌∙◌, refl, subst}
+use Rattle.relay_serving.specs.Servers.{HasEvents, events_in}
+use Rattle.relay_serving.specs.Turns.{words_due}
 use Rattle.relay_serving.proofs.Beginning.{begins, ok_gives, rotation-few, rotation-four}
 use Rattle.relay_serving.proofs.Drawing.{AppendsAll-none}
 use Rattle.relay_serving.proofs.Turning.{HasEvents-none}

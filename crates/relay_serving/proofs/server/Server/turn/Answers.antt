@@ -1,6 +1,5 @@
-use Rattle.std.proofs.Common.{◌≡◌, ◌≤◌, ◌+◌, ap, sym, ◌∙◌, refl, arith}
+use Rattle.std.proofs.Common.{ap, refl, arith}
 use Rattle.std.proofs.lemmas.Result.{err_from_is_err_and}
-use Rattle.relay_serving.specs.Servers.{counts_in}
 use Rattle.relay_serving.specs.declared.counts.Counts.{Counts}
 use Rattle.relay_serving.specs.declared.plan.End.TheVariants.{FeedFault, LinkFault, WordsFault}
 use Rattle.relay_serving.proofs.Cuts.{no_error, no_words_fed, not_caused}
