@@ -83,7 +83,7 @@ impl<O: OutLink + Drop, T> Server<O, T> {
         self.begin_turn(alloc, rotate_ms, renewal, clock, words)?;
         self.hear(alloc, link, buf)?;
         if self.publish(rt).is_err() {
-            return Err(End::Memory);
+            return Err(End::Memory); // What is owed is owed still.
         }
         self.feed(rt, alloc, feed, buf)
     }
