@@ -1,3 +1,11 @@
 pub mod AnswerSends
+pub mod Answered
+pub mod Beginning
 pub mod Counting
+pub mod Cuts
+pub mod Drawing
 pub mod Entering
+pub mod Running
+pub mod Silence
+pub mod Turning
+pub mod Ways

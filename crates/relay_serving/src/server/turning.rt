@@ -83,7 +83,7 @@ impl<O: OutLink + Drop, T> Server<O, T> {
         self.begin_turn(alloc, rotate_ms, renewal, clock, words)?;
         self.hear(alloc, link, buf)?;
         if self.publish(rt).is_err() {
-            return Err(End::Memory);
+            return Err(End::Memory); // What is owed is owed still.
         }
         self.feed(rt, alloc, feed, buf)
     }
@@ -120,13 +120,22 @@ impl<O: OutLink + Drop, T> Server<O, T> {
             (feed_seen (F.coming feed.new) (F.faults feed.new)) 0) }
     {
         let mut renewal = Renewal::new();
-        let mut turns = 0;
-        for _ in 0..plan.turns {
-            match self.turn(rt, alloc, plan.rotate_ms, &mut renewal, clock, words, link, feed, buf) {
-                Ok(()) => turns += 1,
-                Err(end) => return (end, turns),
+        for done in 0..plan.turns {
+            match self.turn(
+                rt,
+                alloc,
+                plan.rotate_ms,
+                &mut renewal,
+                clock,
+                words,
+                link,
+                feed,
+                buf,
+            ) {
+                Ok(()) => {}
+                Err(end) => return (end, done),
             }
         }
-        (End::Turns, turns)
+        (End::Turns, plan.turns)
     }
 }
