@@ -1,3 +1,9 @@
+pub mod AnswerSends
 pub mod Answering
 pub mod Bursts
+pub mod Counting
+pub mod Entering
 pub mod Events
+pub mod GivenOut
+pub mod Hearing
+pub mod Packets
