@@ -1,15 +1,16 @@
 -- A burst of askings: one more of them.
 use Rattle.std.proofs.Common.{◌≡◌, ◌<◌, ◌+◌, ℕ, false, List, [], ◌∷◌, ◌++◌, length, inl, inr, refl, sym, ap, ◌∙◌, subst, append-nil, arith, length-append}
-use Rattle.std.specs.Prelude.{Result, Ok, Err}
-use Rattle.relay_serving.specs.Bursts.{AreAsked, BurstEnds, IsNext, NextEnds}
+use Rattle.std.specs.Prelude.{Result, Ok, Err, IsErrOf}
+use Rattle.relay_serving.specs.Bursts.{BurstEnds, IsCausedBy, IsNext, NextEnds}
 use Rattle.relay_serving.specs.Turns.{CameAll, IsBegun, IsBurst, Taken, taken}
 use Rattle.relay_serving.specs.declared.plan.End.{End}
 use Rattle.relay_serving.specs.declared.plan.End.TheVariants.{Turns, Closed, LinkFault, FeedFault, WordsFault, SpawnFault, Memory}
 use Rattle.relay_serving.specs.declared.server.Asked.{Asked}
 use Rattle.relay_serving.specs.declared.server.Asked.TheVariants.{Something, Nothing}
 
-one_longer : (number : ℕ) → number + 1 ≡ number + 1
-one_longer number = refl
+-- it didn't end the run
+pub not_cause : {A : Type 0} (result : Result A End) (cause : End) (before after : ℕ) → (IsErrOf result cause → ⊥) → after ≡ before → IsCausedBy result cause before after
+not_cause result cause before after isnt same = record { rose = λ is. absurd (isnt is); calm = λ _. same }
 
 module _ {X : Type 0} (Came : X → Type 0) where
   pub CameAll-push : (came : List (Taken X)) (one : X) → CameAll Came came → Came one → CameAll Came (came ++ taken one ∷ [])
