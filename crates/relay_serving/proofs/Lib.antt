@@ -7,3 +7,4 @@ pub mod Events
 pub mod GivenOut
 pub mod Hearing
 pub mod Packets
+pub mod SoFar
