@@ -1,30 +1,30 @@
 -- One job more, given to the slot of its packet.
 use Rattle.std.proofs.Common.{◌≡◌, ◌≢◌, ◌≤◌, ◌<◌, ◌+◌, ◌^◌, ℕ, zero, suc, Bool, true, false, cond, List, [], ◌∷◌, ◌++◌, length, map, reverse, ⊎_elim, refl, sym, ap, subst, ◌∙◌, append-nil, arith, length-append}
 use Rattle.std.specs.Prelude.{nat_eq, count_by}
-use Rattle.std.specs.List.{enumerate_from, filter, flat_map, sum_by}
+use Rattle.std.specs.List.{All, enumerate_from}
 use Rattle.std.proofs.Math.Logic.{∥∥₁_elim, ∥∥₁_map}
 use Rattle.std.proofs.Props.{props}
 use Rattle.std.proofs.lemmas.Bool.Decides.{eqb_tells}
 use Rattle.std.proofs.lemmas.List.{length-map, length_push, map-append, reverse-append, reverse-reverse}
-use Rattle.std.proofs.lemmas.List.Elements.{filter-append}
+use Rattle.std.proofs.lemmas.List.Elements.{All-cons, All-head, All-tail, filter-append}
+use Rattle.logbook.specs.Pages.{Book}
 use Rattle.std.proofs.lemmas.List.Sums.{sum_by-cons}
 use Rattle.amt_ports.specs.declared.out_link.OutLink.{Ghosts}
-use Rattle.endpoint_membership.specs.declared.change.Change.{Change}
-use Rattle.published_table.specs.Views.{named}
+use Rattle.published_table.specs.Views.{named, note_publisher, publisher_of}
 use Rattle.response_mac.specs.declared.secret.Secret.{Secret}
-use Rattle.relay_machine.specs.Courses.{each_after}
 use Rattle.relay_machine.specs.Events.{now_of}
 use Rattle.relay_machine.specs.Published.{published_log}
 use Rattle.relay_machine.specs.declared.event.Event.{Event}
 use Rattle.relay_machine.specs.declared.event.Event.TheVariants.{Moment, Datagram, Packet, Rotate}
 use Rattle.relay_machine.specs.declared.settings.Settings.{Settings}
-use Rattle.replication_workers.specs.Dispatchers.{slot_for}
+use Rattle.replication_workers.specs.Dispatchers.{IsForSlot, slot_for}
+use Rattle.replication_workers.specs.Replicators.{view_of}
 use Rattle.replication_workers.specs.SlotStates.{SlotState, jobs_in_all, with_job}
 use Rattle.replication_workers.specs.declared.job.Job.{Job}
 use Rattle.replication_workers.specs.declared.replicator.Replicator.{Replicator}
 use Rattle.relay_serving.specs.Counting.{is_packet}
-use Rattle.relay_serving.specs.GivenOut.{AreGivenOut, jobs_at, slots_after, starts_in}
-use Rattle.relay_serving.specs.Sending.{Due, due_of, due_to, dues_after}
+use Rattle.relay_serving.specs.GivenOut.{AreGivenOut, AreOfPublisher, jobs_at, slots_after, starts_in}
+use Rattle.relay_serving.specs.Sending.{due_of, due_to, dues_after}
 use Rattle.relay_serving.proofs.Entering.{dues-next}
 
 same_number : (a b : ℕ) → a ≡ b → nat_eq a b ≡ true
@@ -172,3 +172,20 @@ module _ {O : Type 0} {g : Ghosts O} where
   given_out-packet settings first events later slots slots' job bytes place slot put next packet at log given =
       subst (λ (all : List Event). ∥ AreGivenOut settings first all slots' ∥₁) (sym next)
       (∥∥₁_map given (given_more settings first events slots slots' job bytes place slot put packet at log))
+
+  -- the job's note is of the slots' publisher
+  pub for_slots : (publisher : Book) (job : Job) (slots : List (SlotState O g)) → note_publisher job.note ≡ publisher → AreOfPublisher publisher slots → All (IsForSlot job) slots
+  for_slots publisher job slots is of = λ number default within. is ∙ sym (of number default within)
+
+  -- which stays so
+  of_publisher-with : (publisher : Book) (place : ℕ) (job : Job) (slots : List (SlotState O g)) → AreOfPublisher publisher slots → AreOfPublisher publisher (with_job place job slots)
+  of_publisher-with publisher place job [] of = of
+  of_publisher-with publisher zero job (slot ∷ later) of =
+      let Of : SlotState O g → Type 0 = λ one. publisher_of (view_of one.first) ≡ publisher in
+      All-cons Of (record { first = slot.first; jobs = slot.jobs ++ job ∷ [] }) later (All-head Of slot later of) (All-tail Of slot later of)
+  of_publisher-with publisher (suc place) job (slot ∷ later) of =
+      let Of : SlotState O g → Type 0 = λ one. publisher_of (view_of one.first) ≡ publisher in
+      All-cons Of slot (with_job place job later) (All-head Of slot later of) (of_publisher-with publisher place job later (All-tail Of slot later of))
+
+  pub of_publisher-put : (publisher : Book) (place : ℕ) (job : Job) (slots slots' : List (SlotState O g)) → slots' ≡ with_job place job slots → AreOfPublisher publisher slots → AreOfPublisher publisher slots'
+  of_publisher-put publisher place job slots slots' put of = subst (AreOfPublisher publisher) (sym put) (of_publisher-with publisher place job slots of)

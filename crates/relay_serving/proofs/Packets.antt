@@ -1,6 +1,6 @@
 -- A packet changes nothing of a relay: neither its log nor its moment nor its secrets.
-use Rattle.std.proofs.Common.{◌≡◌, ◌+◌, ℕ, Bool, true, false, List, [], ◌∷◌, ◌++◌, length, nat_lt, if◌then◌else◌, refl, sym, ap, subst, ◌∙◌, append-nil, arith}
-use Rattle.std.specs.Prelude.{Option, Some, None, Result, Ok, Err}
+use Rattle.std.proofs.Common.{◌≡◌, ◌+◌, ℕ, Bool, true, false, List, [], ◌∷◌, ◌++◌, length, nat_lt, if◌then◌else◌, refl, sym, ap, subst, ◌∙◌, arith}
+use Rattle.std.specs.Prelude.{Option, None, Result, Ok, Err}
 use Rattle.amt_values.specs.EndpointValue.{EndpointValue}
 use Rattle.response_mac.specs.declared.secret.Secret.{Secret}
 use Rattle.inner_datagrams.specs.Head.{head_of}
