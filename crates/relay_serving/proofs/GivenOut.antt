@@ -46,9 +46,16 @@ jobs_elsewhere slots number jobs job isnt =
     jobs_more slots number jobs job
     ∙ (ap (λ (known : Bool). jobs_at slots number jobs ++ cond known (job ∷ []) []) (other_number (slot_for slots job.packet) number isnt) ∙ append-nil (jobs_at slots number jobs))
 
+length-turned : {X : Type 0} (xs : List X) → length (reverse xs) ≡ length xs
+length-turned [] = refl
+length-turned {X} (x ∷ xs) =
+    let turned = ap length (reverse-append (x ∷ []) xs) in
+    let pushed = length_push (reverse xs) x in
+    let before = length-turned xs in omega (arith, turned, pushed, before)
+
 module _ {O : Type 0} {g : Ghosts O} where
   -- the slots from this number on, of so many
-  slots_from : ℕ → ℕ → List (Replicator O g) → List Job → List (SlotState O g)
+  abbrev slots_from : ℕ → ℕ → List (Replicator O g) → List Job → List (SlotState O g)
   slots_from slots from firsts jobs = map (λ numbered. record { first = numbered.1; jobs = jobs_at slots numbered.0 jobs }) (enumerate_from from firsts)
 
   slots_later : (slots from : ℕ) (firsts : List (Replicator O g)) (jobs : List Job) (job : Job) → slot_for slots job.packet < from → slots_from slots from firsts (jobs ++ job ∷ []) ≡ slots_from slots from firsts jobs
@@ -72,7 +79,7 @@ module _ {O : Type 0} {g : Ghosts O} where
 
   pub slots_after-put : (firsts : List (Replicator O g)) (jobs : List Job) (job : Job)
       → slots_after firsts (jobs ++ job ∷ []) ≡ with_job (slot_for (length firsts) job.packet) job (slots_after firsts jobs)
-  slots_after-put firsts jobs job = slots_put (length firsts) 0 (slot_for (length firsts) job.packet) firsts jobs job refl
+  slots_after-put firsts jobs job = slots_put (length firsts) 0 (slot_for (length firsts) job.packet) firsts jobs job (omega arith)
 
   pub starts_in-put : (place : ℕ) (job : Job) (slots : List (SlotState O g)) → starts_in (with_job place job slots) ≡ starts_in slots
   starts_in-put place job [] = refl
@@ -105,13 +112,6 @@ module _ {O : Type 0} {g : Ghosts O} where
       let put = ap jobs_in_all (slots_after-put firsts (reverse earlier) job) in
       let more = few_put (slot_for (length firsts) job.packet) job (slots_after firsts (reverse earlier)) in
       omega (arith, before, turned, put, more)
-
-  length-turned : {X : Type 0} (xs : List X) → length (reverse xs) ≡ length xs
-  length-turned [] = refl
-  length-turned {X} (x ∷ xs) =
-      let turned = ap length (reverse-append (x ∷ []) xs) in
-      let pushed = length_push (reverse xs) x in
-      let before = length-turned xs in omega (arith, turned, pushed, before)
 
   few_jobs : (firsts : List (Replicator O g)) (jobs : List Job) → jobs_in_all (slots_after firsts jobs) ≤ length jobs
   few_jobs firsts jobs =

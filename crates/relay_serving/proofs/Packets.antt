@@ -6,6 +6,7 @@ use Rattle.response_mac.specs.declared.secret.Secret.{Secret}
 use Rattle.inner_datagrams.specs.Head.{head_of}
 use Rattle.inner_datagrams.specs.declared.head.Head.{Head}
 use Rattle.inner_datagrams.specs.declared.head.HeadFault.{HeadFault}
+use Rattle.amt_values.specs.Group.{is_forwardable}
 use Rattle.endpoint_membership.specs.Table.{Holds}
 use Rattle.endpoint_membership.specs.declared.change.Change.{Change}
 use Rattle.relay_machine.specs.Accepted.{accepted_log, handed_out, with_change}
@@ -13,7 +14,7 @@ use Rattle.relay_machine.specs.Answers.{RelayAt, outcome_of}
 use Rattle.relay_machine.specs.Courses.{is_torn, is_updated}
 use Rattle.relay_machine.specs.EventAnswer.{packet_answer}
 use Rattle.relay_machine.specs.Events.{now_of}
-use Rattle.relay_machine.specs.Packets.{by_head, by_scope, head_to_copy, is_forwardable, targets_at}
+use Rattle.relay_machine.specs.Packets.{by_head, by_scope, head_to_copy, targets_at}
 use Rattle.relay_machine.specs.Published.{published_log}
 use Rattle.relay_machine.specs.Settings.{table_settings_of}
 use Rattle.relay_machine.specs.declared.event.Event.{Event}
