@@ -1,4 +1,4 @@
-use Rattle.std.proofs.Common.{◌≡◌, ◌++◌, List, refl, sym, ap, subst, ◌∙◌, append-nil}
+use Rattle.std.proofs.Common.{◌≡◌, ℕ, [], ◌∷◌, ◌++◌, List, refl, sym, ap, subst, ◌∙◌, append-nil}
 use Rattle.endpoint_membership.specs.declared.change.Change.{Change}
 use Rattle.published_table.specs.Publishers.{book_of, published}
 use Rattle.relay_machine.specs.Answers.{RelayAt, outcome_of, settings_of}
@@ -7,8 +7,9 @@ use Rattle.relay_machine.specs.declared.event.Event.{Event}
 use Rattle.relay_machine.specs.declared.event.Event.TheVariants.{Packet}
 use Rattle.replication_workers.specs.Dispatchers.{slots_of}
 use Rattle.relay_serving.specs.Courses.{events_so_far}
+use Rattle.relay_serving.specs.GivenOut.{starts_in}
 use Rattle.relay_serving.proofs.Counting.{IsCounted-then}
-use Rattle.relay_serving.proofs.GivenOut.{few-given, for_slots, given_out-packet, of_publisher-put}
+use Rattle.relay_serving.proofs.GivenOut.{few-given, for_slots, given_out-packet, of_publisher-put, starts_in-put}
 use Rattle.relay_serving.proofs.Packets.{RelayAt-packet, counted-packet, outcome-plain, published_log-packet}
 use Rattle.relay_serving.proofs.server.Server.feed_packet.Goals as goal
 
@@ -43,4 +44,18 @@ invariant_of-self g c =
       publishers = of_publisher-put (book_of server.publisher) c.send.result _ (slots_of server.dispatcher) (slots_of c.send.new.self) c.send.ensures.put server.publishers;
       counted = IsCounted-then settings settings first events later (Packet bytes) outcome server.counts _ refl next refl
           (counted-packet server.counts bytes outcome (outcome-plain settings first events bytes)) server.counted;
+    }
+
+pub returns-clause-events : goal.returns-clause-events
+returns-clause-events g c =
+    let server = c.args.self.now in record {
+      same = record {
+        same_settings = refl;
+        same_first = refl;
+        same_starts = ap starts_in c.send.ensures.put ∙ starts_in-put c.send.result _ (slots_of server.dispatcher);
+        same_book = refl;
+        same_mode = c.send.ensures.mode;
+        same_tasks = c.send.ensures.run;
+      };
+      events = c.fed.ensures ∙ ap (λ (bytes : List ℕ). events_so_far server.course ++ Packet bytes ∷ []) c.in_ok-copied.ensures;
     }
