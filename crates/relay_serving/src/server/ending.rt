@@ -1,10 +1,11 @@
 //! How a running relay is ended. It must not know turns.
-ghost use Rattle.std.specs.Prelude.{◌≡◌, ◌≤◌, ◌<◌, ◌++◌, [], length};
-ghost use Rattle.published_table.specs.Publishers.{published};
-ghost use Rattle.published_table.specs.Views.{room_of, views_of};
+ghost use Rattle.std.specs.Prelude.{◌≡◌, ◌≤◌, [], All, count_by, length, reverse};
+ghost use Rattle.published_table.specs.Publishers.{book_of, published};
+ghost use Rattle.published_table.specs.Views.{publisher_of, room_of, views_of};
 ghost use Rattle.replication_workers.specs.Dispatchers.{AllRun};
 ghost use Rattle.relay_serving.specs.Ending.{AreAsked, Finishes};
 ghost use Rattle.relay_serving.specs.Servers.{slots_in};
+ghost use Rattle.relay_serving.specs.Views.{is_apart};
 
 use super::Server;
 use crate::counts::Counts;
@@ -29,7 +30,11 @@ pub(crate) struct Ending<O> {
 }
 
 // Puts the views after the others, the last one first.
-fn turn_round(from: &mut Views, to: &mut Views) {
+fn turn_round(from: &mut Views, to: &mut Views)
+    requires none { views_of to.old ≡ [] }
+    requires room { length (views_of from.old) ≤ room_of to.old }
+    ensures { views_of to.new ≡ reverse (views_of from.old) }
+{
     while let Some(view) = from.pop() {
         let _ = to.push(view);
     }
@@ -37,7 +42,13 @@ fn turn_round(from: &mut Views, to: &mut Views) {
 
 // Tells each view, the last one first, what is published, and asks it until it answers. Those whose log isn't
 // the published one are counted.
-fn ask_each<R: Wait>(rt: &R, publisher: &Publisher, from: &mut Views, to: &mut Views) -> u64 {
+fn ask_each<R: Wait>(rt: &R, publisher: &Publisher, from: &mut Views, to: &mut Views) -> u64
+    requires none { views_of to.old ≡ [] }
+    requires room { length (views_of from.old) ≤ room_of to.old }
+    requires publisher { All (λ view. publisher_of view ≡ book_of publisher.now) (views_of from.old) }
+    ensures asked { AreAsked (published publisher.now) (reverse (views_of from.old)) (views_of to.new) }
+    ensures apart { result ≡ count_by (is_apart (length (published publisher.now))) (views_of to.new) }
+{
     let mut apart = 0;
     while let Some(mut view) = from.pop() {
         view.learn(publisher.tell());

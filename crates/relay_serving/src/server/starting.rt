@@ -5,8 +5,11 @@ ghost use Rattle.amt_ports.specs.Causes.{Rose};
 ghost use Rattle.published_table.specs.Views.{IsNew, views_of};
 ghost use Rattle.relay_machine.specs.Settings.{AreLawfulSettings};
 ghost use Rattle.replication_workers.specs.Replicators.{out_of};
-ghost use Rattle.relay_serving.specs.GivenOut.{terms_by};
-ghost use Rattle.relay_serving.specs.Starting.{AreStarts, IsAtStart, IsLeftAfter};
+ghost use Rattle.replication_workers.specs.Dispatchers.{AllRun, is_threaded, slots_of};
+ghost use Rattle.replication_workers.specs.SlotStates.{new_slot};
+ghost use Rattle.relay_serving.specs.Devices.{outs_seen};
+ghost use Rattle.relay_serving.specs.GivenOut.{starts_in, terms_by};
+ghost use Rattle.relay_serving.specs.Starting.{AreLeftBy, AreStarts, HasRoomBack, IsAtStart};
 
 use super::Server;
 use crate::counts::Counts;
@@ -87,6 +90,7 @@ fn make_each<O: OutLink + Drop>(
 }
 
 // Replicators that aren't started yet, and the room in which their outs come back where they never are.
+#[derive(Drop)]
 struct Made<O: OutLink> {
     slots: Replicators<O>,
     turned: Vec<Replicator<O>>,
@@ -142,6 +146,18 @@ fn take_back<O: OutLink + Drop>(
     Outs::from(outs)
 }
 
+impl<O> NotStarted<O> {
+    // Out of memory, with all outs.
+    fn memory(outs: Outs<O>) -> NotStarted<O>
+        ensures { (result.end ≡ End.Memory) × (result.outs ≡ outs) }
+    {
+        NotStarted {
+            end: End::Memory,
+            outs,
+        }
+    }
+}
+
 // Starts a dispatcher over the replicators.
 fn dispatch<O: OutLink + Drop, R: Wait, P: Spawner<Worker<O>>>(
     rt: &R,
@@ -157,7 +173,8 @@ fn dispatch<O: OutLink + Drop, R: Wait, P: Spawner<Worker<O>>>(
     ensures mode { IfOk result (λ dispatcher. is_threaded dispatcher ≡ threads) }
     ensures run { IfOk result (AllRun P.task_of) }
     ensures quiet { OnOk result (P.faults spawner.new ≡ P.faults spawner.old) }
-    ensures left { IfErr result (IsLeftOf made.slots (P.faults spawner.old) (P.faults spawner.new)) }
+    ensures left { IfErr result (λ not. AreLeftBy not.end (outs_seen O.tried O.faults (map out_of made.slots))
+        (outs_seen O.tried O.faults not.outs) (P.faults spawner.old) (P.faults spawner.new)) }
 {
     let Made {
         slots,
@@ -174,6 +191,36 @@ fn dispatch<O: OutLink + Drop, R: Wait, P: Spawner<Worker<O>>>(
             end: End::SpawnFault,
             outs,
         }),
+    }
+}
+
+// A dispatcher with a slot for each out, by these views.
+fn start_slots<O: OutLink + Drop, R: Wait, P: Spawner<Worker<O>>>(
+    rt: &R,
+    alloc: Global,
+    settings: &Settings,
+    views: Views,
+    outs: Outs<O>,
+    threads: bool,
+    spawner: &mut P,
+) -> Result<Dispatcher<O, P::Started>, NotStarted<O>>
+    requires lawful { AreLawfulSettings settings.now }
+    requires some { 1 ≤ length outs }
+    requires few { length outs ≤ 64 }
+    requires views { length (views_of views) ≡ length outs }
+    ensures outs { IfOk result (λ dispatcher. map out_of (starts_in (slots_of dispatcher)) ≡ outs) }
+    ensures jobs { IfOk result (λ dispatcher. slots_of dispatcher ≡ map new_slot (starts_in (slots_of dispatcher))) }
+    ensures starts { (book : Book) → All (IsNew book (terms_by settings.now)) (views_of views)
+        → IfOk result (λ dispatcher. AreStarts settings.now book (starts_in (slots_of dispatcher))) }
+    ensures mode { IfOk result (λ dispatcher. is_threaded dispatcher ≡ threads) }
+    ensures run { IfOk result (AllRun P.task_of) }
+    ensures quiet { OnOk result (P.faults spawner.new ≡ P.faults spawner.old) }
+    ensures left { IfErr result (λ not. AreLeftBy not.end (outs_seen O.tried O.faults outs)
+        (outs_seen O.tried O.faults not.outs) (P.faults spawner.old) (P.faults spawner.new)) }
+{
+    match make_replicators(alloc, settings, views, outs) {
+        Ok(made) => dispatch(rt, alloc, made, threads, spawner),
+        Err(outs) => Err(NotStarted::memory(outs)),
     }
 }
 
@@ -195,7 +242,8 @@ impl<O: OutLink + Drop, T> Server<O, T> {
         ensures started { IfOk result (IsAtStart settings first outs threads) }
         ensures run { IfOk result (λ server. AllRun P.task_of server.dispatcher) }
         ensures quiet { OnOk result (P.faults spawner.new ≡ P.faults spawner.old) }
-        ensures left { IfErr result (IsLeftAfter outs (P.faults spawner.old) (P.faults spawner.new)) }
+        ensures left { IfErr result (λ not. AreLeftBy not.end (outs_seen O.tried O.faults outs)
+            (outs_seen O.tried O.faults not.outs) (P.faults spawner.old) (P.faults spawner.new)) }
     {
         let terms = Terms {
             limits: settings.limits,
