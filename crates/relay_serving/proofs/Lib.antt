@@ -1,1 +1,4 @@
-
+pub mod Ending
+pub mod SlotsServed
+pub mod Starting
+pub mod WholeRuns

@@ -6,7 +6,9 @@ use Rattle.amt_ports.specs.Causes.{Rose}
 use Rattle.amt_ports.specs.Sends.{TriedSend}
 use Rattle.amt_ports.specs.declared.out_link.OutLink.{Ghosts}
 use Rattle.published_table.specs.Publishers.{book_of, owing, published}
-use Rattle.published_table.specs.Views.{IsNew}
+use Rattle.published_table.specs.Views.{IsNew, terms_of}
+use Rattle.published_table.specs.declared.terms.Terms.{Terms}
+use Rattle.published_table.specs.declared.view.View.{View}
 use Rattle.response_mac.specs.declared.secret.Secret.{Secret}
 use Rattle.relay_machine.specs.declared.settings.Settings.{Settings}
 use Rattle.replication_workers.specs.Dispatchers.{is_threaded}
@@ -39,6 +41,10 @@ AreLeftBy Closed outs left faults faults' = ⊥
 AreLeftBy LinkFault outs left faults faults' = ⊥
 AreLeftBy FeedFault outs left faults faults' = ⊥
 AreLeftBy WordsFault outs left faults faults' = ⊥
+
+-- views that read by these terms
+abbrev pub AreReadBy : Terms → List View → Type 0
+AreReadBy terms views = All (λ view. terms_of view ≡ terms) views
 
 module _ {O : Type 0} {g : Ghosts O} where
   -- a replicator over a new view, for packets of the relay's limit

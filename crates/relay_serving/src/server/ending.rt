@@ -1,5 +1,5 @@
 //! How a running relay is ended. It must not know turns.
-ghost use Rattle.std.specs.Prelude.{◌≡◌, ◌≤◌, [], All, count_by, length, reverse};
+ghost use Rattle.std.specs.Prelude.{◌≡◌, ◌≤◌, ◌+◌, ◌^◌, [], All, count_by, length, reverse};
 ghost use Rattle.published_table.specs.Publishers.{book_of, published};
 ghost use Rattle.published_table.specs.Views.{publisher_of, room_of, views_of};
 ghost use Rattle.replication_workers.specs.Dispatchers.{AllRun};
@@ -74,6 +74,7 @@ impl<O: OutLink + Drop, T> Server<O, T> {
         requires none { (views_of turned ≡ []) × (views_of asked ≡ []) }
         requires room { (length (slots_in self) ≤ room_of turned) × (length (slots_in self) ≤ room_of asked) }
         ensures finishes { Finishes self result }
+        ensures few { result.outs_sent + result.outs_unsent ≤ 2 ^ 62 }
         ensures faults { P.faults spawner.new ≡ P.faults spawner.old }
     {
         let Server {

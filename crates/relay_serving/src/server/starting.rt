@@ -9,7 +9,7 @@ ghost use Rattle.replication_workers.specs.Dispatchers.{AllRun, is_threaded, slo
 ghost use Rattle.replication_workers.specs.SlotStates.{new_slot};
 ghost use Rattle.relay_serving.specs.Devices.{outs_seen};
 ghost use Rattle.relay_serving.specs.GivenOut.{starts_in, terms_by};
-ghost use Rattle.relay_serving.specs.Starting.{AreLeftBy, AreStarts, HasRoomBack, IsAtStart};
+ghost use Rattle.relay_serving.specs.Starting.{AreLeftBy, AreReadBy, AreStarts, HasRoomBack, IsAtStart};
 
 use super::Server;
 use crate::counts::Counts;
@@ -48,7 +48,7 @@ fn turn_round<O: OutLink + Drop>(from: &mut Vec<Replicator<O>>, to: &mut Vec<Rep
     requires room { length to.old.items + length from.old.items ≤ vec_capacity to.old }
     ensures turned { to.new.items ≡ to.old.items ++ reverse from.old.items }
     ensures none { from.new.items ≡ [] }
-    ensures room { vec_capacity to.new ≡ vec_capacity to.old }
+    ensures room { (vec_capacity to.new ≡ vec_capacity to.old) × (vec_capacity from.new ≡ vec_capacity from.old) }
 {
     while let Some(replicator) = from.pop() {
         to.push_reserved(replicator);
@@ -65,13 +65,14 @@ fn make_each<O: OutLink + Drop>(
 ) -> Result<(), AllocError>
     requires lawful { AreLawfulSettings settings.now }
     requires views { length (views_of views.old) ≡ length outs.old.items }
+    requires terms { AreReadBy (terms_by settings.now) (views_of views.old) }
     requires none { made.old.items ≡ [] }
     requires room { length outs.old.items ≤ vec_capacity made.old }
     ensures outs { outs.new.items ++ map out_of (reverse made.new.items) ≡ outs.old.items }
     ensures all { OnOk result (outs.new.items ≡ []) }
     ensures starts { (book : Book) → All (IsNew book (terms_by settings.now)) (views_of views.old)
         → AreStarts settings.now book made.new.items }
-    ensures room { vec_capacity outs.new ≡ vec_capacity outs.old }
+    ensures room { (vec_capacity outs.new ≡ vec_capacity outs.old) × (vec_capacity made.new ≡ vec_capacity made.old) }
 {
     while let Some(out) = outs.pop() {
         let Some(view) = views.pop() else {
@@ -106,6 +107,7 @@ fn make_replicators<O: OutLink + Drop>(
 ) -> Result<Made<O>, Outs<O>>
     requires lawful { AreLawfulSettings settings.now }
     requires views { length (views_of views) ≡ length outs }
+    requires terms { AreReadBy (terms_by settings.now) (views_of views) }
     ensures outs { IfOk result (λ made. map out_of made.slots ≡ outs) }
     ensures starts { (book : Book) → All (IsNew book (terms_by settings.now)) (views_of views)
         → IfOk result (λ made. AreStarts settings.now book made.slots) }
@@ -208,6 +210,7 @@ fn start_slots<O: OutLink + Drop, R: Wait, P: Spawner<Worker<O>>>(
     requires some { 1 ≤ length outs }
     requires few { length outs ≤ 64 }
     requires views { length (views_of views) ≡ length outs }
+    requires terms { AreReadBy (terms_by settings.now) (views_of views) }
     ensures outs { IfOk result (λ dispatcher. map out_of (starts_in (slots_of dispatcher)) ≡ outs) }
     ensures jobs { IfOk result (λ dispatcher. slots_of dispatcher ≡ map new_slot (starts_in (slots_of dispatcher))) }
     ensures starts { (book : Book) → All (IsNew book (terms_by settings.now)) (views_of views)
