@@ -1,5 +1,5 @@
 -- Views that are asked one after the other.
-use Rattle.std.proofs.Common.{◌≡◌, ◌<◌, ◌≤◌, ℕ, ◌+◌, Bool, true, false, cond, List, [], ◌∷◌, ◌++◌, count_by, length, reverse, Result, Ok, Err, IsOk, OnOk, refl, sym, ap, subst, ◌∙◌, append_assoc, append-nil, true≢false}
+use Rattle.std.proofs.Common.{◌≡◌, ◌<◌, ◌≤◌, ℕ, ◌+◌, Bool, true, false, cond, List, [], ◌∷◌, ◌++◌, count_by, length, reverse, Result, Ok, Err, IsOk, OnOk, refl, sym, ap, subst, ◌∙◌, append_assoc, append-nil, true≢false, if◌then◌else◌}
 use Rattle.std.specs.List.{All, AllZip}
 use Rattle.std.proofs.lemmas.List.{length_push}
 use Rattle.std.proofs.lemmas.List.Elements.{AllZip-push, All-nil, All-push}
@@ -53,3 +53,8 @@ pub counted_more : {A : Type 0} (test : A → Bool) (list longer : List A) (one 
     → count_by test longer ≡ count_by test list + cond passes 1 0
 counted_more test list longer one passes is same =
     ap (count_by test) is ∙ sum_by_push (λ other. cond (test other) 1 0) list one ∙ ap (λ (passed : Bool). count_by test list + cond passed 1 0) same
+
+-- what was copied inline
+pub inline_by : (inline jobs : ℕ) (threaded : Bool) → (threaded ≡ false → inline ≡ jobs) → (threaded ≡ true → inline ≡ 0) → inline ≡ (if threaded then 0 else jobs)
+inline_by inline jobs true all none = none refl
+inline_by inline jobs false all none = all refl

@@ -1,3 +1,4 @@
+pub mod Drawing
 pub mod Ending
 pub mod SlotsServed
 pub mod Starting

@@ -2,6 +2,7 @@
 use Rattle.std.proofs.Common.{◌≡◌, ℕ, zero, suc, ◌+◌, ◌*◌, ◌%◌, ◌≤◌, ◌==◌, Bool, true, false, cond, List, [], ◌∷◌, ◌++◌, length, map, count_by, refl, sym, ap, subst, ◌∙◌, arith, length-append}
 use Rattle.std.specs.Prelude.{Result, Ok, Err}
 use Rattle.std.specs.List.{All, AllZip, enumerate_from, filter, sum_by}
+use Rattle.std.proofs.Props.{props}
 use Rattle.std.proofs.Math.Logic.{∥∥₁_elim, ∥∥₁_map, ∥∥₁_prop}
 use Rattle.std.proofs.lemmas.List.{length-map}
 use Rattle.std.proofs.lemmas.List.Elements.{All-cons, All-head, All-nil, All-tail}
@@ -14,7 +15,7 @@ use Rattle.inner_datagrams.specs.declared.head.Head.{Head}
 use Rattle.inner_datagrams.specs.declared.head.HeadFault.{HeadFault}
 use Rattle.published_table.specs.Lists.{BeginsWith}
 use Rattle.published_table.specs.Terms.{settings_by}
-use Rattle.published_table.specs.Views.{seen, terms_of}
+use Rattle.published_table.specs.Views.{publisher_of, seen, terms_of}
 use Rattle.published_table.specs.declared.terms.Terms.{Terms}
 use Rattle.published_table.specs.declared.view.View.{View}
 use Rattle.response_mac.specs.declared.secret.Secret.{Secret}
@@ -30,7 +31,7 @@ use Rattle.replication_workers.specs.declared.job.Job.{Job}
 use Rattle.replication_workers.specs.declared.replicator.Replicator.{Replicator}
 use Rattle.relay_serving.specs.Counting.{is_packet}
 use Rattle.relay_serving.specs.Devices.{OutSeen, out_seen, outs_seen}
-use Rattle.relay_serving.specs.GivenOut.{jobs_at, slots_after, starts_in, terms_by}
+use Rattle.relay_serving.specs.GivenOut.{AreOfPublisher, jobs_at, slots_after, starts_in, terms_by}
 use Rattle.relay_serving.specs.Sending.{due_of, due_to, dues_after}
 use Rattle.relay_serving.specs.Serving.{AreServed, IsServed, SlotServed}
 use Rattle.relay_serving.specs.Starting.{AreStarts, IsStart}
@@ -65,7 +66,7 @@ due_count settings first before (Rotate secret ∷ events) =
 
 -- there are as many jobs as packets
 pub jobs_count : (settings : Settings) (first : Secret) (events : List Event) (jobs : List Job) → map due_of jobs ≡ dues_after settings first [] events → length jobs ≡ count_by is_packet events
-jobs_count settings first events jobs due = sym (length-map due_of jobs) ∙ ap length due ∙ due_count settings first [] events
+jobs_count settings first events jobs due = sym (length-map jobs due_of) ∙ ap length due ∙ due_count settings first [] events
 
 module _ {O : Type 0} {g : Ghosts O} where
   -- what slots left, and their views as they were asked then
@@ -203,3 +204,27 @@ module _ {O : Type 0} {g : Ghosts O} where
       of_only [] none = absurd (omega (arith, none))
       of_only (first ∷ []) only = ap length (all_at_first jobs)
       of_only (first ∷ second ∷ firsts) many = absurd (omega (arith, many))
+
+  each_publisher : (book : Book) (lefts : List (SlotLeft O g)) → All (λ (one : SlotLeft O g). IsLeft one.slot one.left) lefts → AreOfPublisher book (map (λ (one : SlotLeft O g). one.slot) lefts)
+      → All (λ view. publisher_of view ≡ book) (map (λ (one : SlotLeft O g). one.left.view) lefts)
+  each_publisher book [] each of = All-nil (λ view. publisher_of view ≡ book)
+  each_publisher book (one ∷ lefts) each of =
+      let slots = map (λ (one : SlotLeft O g). one.slot) lefts in
+      let left = All-head (λ (one : SlotLeft O g). IsLeft one.slot one.left) one lefts each in
+      let first = All-head (λ (slot : SlotState O g). publisher_of (view_of slot.first) ≡ book) one.slot slots of in
+      let rest = each_publisher book lefts (All-tail (λ (one : SlotLeft O g). IsLeft one.slot one.left) one lefts each)
+          (All-tail (λ (slot : SlotState O g). publisher_of (view_of slot.first) ≡ book) one.slot slots of) in
+      let same : publisher_of one.left.view ≡ publisher_of (view_of one.slot.first) = ∥∥₁_elim left.has_handled (hlevel props) (λ has. has.publisher) in
+      All-cons (λ view. publisher_of view ≡ book) one.left.view (map (λ (one : SlotLeft O g). one.left.view) lefts) (same ∙ first) rest
+
+  -- the views that slots left are of the slots' publisher
+  pub left_publisher : (book : Book) (slots : List (SlotState O g)) (outs : List O) (views : List View) (sent unsent : ℕ) → HaveLeft slots outs views sent unsent → AreOfPublisher book slots
+      → All (λ view. publisher_of view ≡ book) views
+  left_publisher book slots outs views sent unsent left of =
+      subst (All (λ view. publisher_of view ≡ book)) left.views_are (each_publisher book left.lefts left.each (subst (AreOfPublisher book) (sym left.slots_are) of))
+
+  -- each slot left one view
+  pub left_number : (slots : List (SlotState O g)) (outs : List O) (views : List View) (sent unsent : ℕ) → HaveLeft slots outs views sent unsent → length views ≡ length slots
+  left_number slots outs views sent unsent left =
+      ap length (sym left.views_are) ∙ length-map left.lefts (λ (one : SlotLeft O g). one.left.view)
+      ∙ sym (length-map left.lefts (λ (one : SlotLeft O g). one.slot)) ∙ ap length left.slots_are

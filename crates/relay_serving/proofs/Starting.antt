@@ -1,11 +1,13 @@
 -- Replicators that are made and taken apart from the end of a list, and slots without jobs.
 use Rattle.std.proofs.Common.{◌≡◌, ℕ, ◌+◌, ◌≤◌, List, [], ◌∷◌, ◌++◌, length, map, reverse, refl, sym, ap, subst, ◌∙◌, append_assoc, append-nil, arith, length-append}
+use Rattle.std.specs.Prelude.{Some}
 use Rattle.std.specs.List.{All, enumerate_from}
 use Rattle.std.proofs.lemmas.List.{length-map, length-reverse, map-append, reverse-append}
-use Rattle.std.proofs.lemmas.List.Elements.{All-cons, All-head, All-nil, All-push, All-tail}
+use Rattle.std.proofs.lemmas.List.Elements.{All-cons, All-head, All-nil, All-pop, All-push, All-tail}
 use Rattle.logbook.specs.Pages.{Book}
 use Rattle.amt_ports.specs.declared.out_link.OutLink.{Ghosts}
-use Rattle.published_table.specs.Views.{IsNew, publisher_of}
+use Rattle.published_table.specs.Views.{IsNew, publisher_of, terms_of}
+use Rattle.published_table.specs.declared.terms.Terms.{Terms}
 use Rattle.published_table.specs.declared.view.View.{View}
 use Rattle.relay_machine.specs.declared.settings.Settings.{Settings}
 use Rattle.replication_workers.specs.Backs.{AllButOneBack, AreBack, IsBack, SlotBack}
@@ -53,7 +55,15 @@ All-unmap P f (one ∷ list) all = All-cons (λ one. P (f one)) one list (All-he
 
 -- so many were taken from one list and put in the other
 pub as_many : {A B : Type 0} (f : A → B) (outs all : List B) (made : List A) → outs ++ map f (reverse made) ≡ all → length outs + length made ≡ length all
-as_many f outs all made is = omega (arith, ap length is, length-append outs (map f (reverse made)), length-map f (reverse made), length-reverse made)
+as_many f outs all made is = omega (arith, ap length is, length-append outs (map f (reverse made)), length-map (reverse made) f, length-reverse made)
+
+-- of all but the last one, and of that
+pub all_but_last : {A : Type 0} (P : A → Type 0) (list shorter : List A) (one : A) → list ≡ shorter ++ one ∷ [] → All P list → All P shorter × P one
+all_but_last P list shorter one is all = All-pop P list shorter (Some one) is all
+
+-- a view reads by the settings' limits
+pub few_endpoints : (settings : Settings) (view : View) → terms_of view ≡ terms_by settings → (terms_of view).limits.endpoints ≤ settings.limits.endpoints
+few_endpoints settings view by = let same = ap (λ (terms : Terms). terms.limits.endpoints) by in omega (arith, same)
 
 module _ {O : Type 0} {g : Ghosts O} where
   -- a replicator as it was made

@@ -1,10 +1,11 @@
 -- A whole run, put together.
 use Rattle.std.proofs.Common.{◌≡◌, ◌≢◌, ◌⊎◌, ℕ, zero, suc, ◌+◌, ◌==◌, ◌<◌, max, not, Bool, true, false, List, [], ◌∷◌, ◌++◌, length, map, take, refl, sym, ap, subst, ◌∙◌, append_assoc, append-nil, arith, length-append, true≢false, inl, inr, if◌then◌else◌}
-use Rattle.std.specs.Prelude.{Option, None, Some}
+use Rattle.std.specs.Prelude.{Option, None, Some, Result, Ok, Err}
 use Rattle.std.specs.List.{All, AllZip}
 use Rattle.std.proofs.Math.Logic.{∥∥₁_elim, ∥∥₁_map, ∥∥₁_prop}
 use Rattle.std.proofs.lemmas.List.{length-map}
-use Rattle.amt_ports.specs.Causes.{Rose}
+use Rattle.amt_ports.specs.Causes.{HasCause, Rose}
+use Rattle.amt_ports.specs.declared.fault.Failed.{Failed}
 use Rattle.amt_ports.specs.Told.{AppendsAll}
 use Rattle.amt_ports.specs.declared.out_link.OutLink.{Ghosts}
 use Rattle.amt_values.specs.declared.peer.Peer.{Peer}
@@ -25,7 +26,8 @@ use Rattle.replication_workers.specs.SlotStates.{SlotState, jobs_in_all}
 use Rattle.replication_workers.proofs.Trying.{HasTried-none}
 use Rattle.relay_serving.specs.Bursts.{IsCauseOf}
 use Rattle.relay_serving.specs.Counting.{AreCounted}
-use Rattle.relay_serving.specs.Devices.{FeedSeen, LinkSeen, OutSeen, WordsSeen, devices_seen, outs_seen}
+use Rattle.relay_serving.specs.Devices.{Devices, FeedSeen, LinkSeen, OutSeen, WordsSeen, devices_seen, outs_seen}
+use Rattle.relay_serving.specs.Drawing.{DrawsSecret, IsDrawn}
 use Rattle.relay_serving.specs.Ending.{Finishes}
 use Rattle.relay_serving.specs.Events.{events_from, events_of, first_of, secret_by}
 use Rattle.relay_serving.specs.GivenOut.{AreGivenOut, starts_in}
@@ -41,6 +43,7 @@ use Rattle.relay_serving.specs.declared.counts.Counts.{Counts}
 use Rattle.relay_serving.specs.declared.plan.End.{End}
 use Rattle.relay_serving.specs.declared.plan.End.TheVariants.{Turns, Closed, LinkFault, FeedFault, WordsFault, SpawnFault, Memory}
 use Rattle.relay_serving.specs.declared.plan.ServePlan.{ServePlan}
+use Rattle.relay_serving.specs.declared.plan.ServeReport.{ServeReport}
 use Rattle.relay_serving.specs.declared.server.Server.{Server}
 use Rattle.relay_serving.specs.declared.server.ending.Ending.{Ending}
 use Rattle.relay_serving.proofs.SlotsServed.{Slotted, all_inline, are_served, jobs_count, slotted}
@@ -127,6 +130,28 @@ serves_unstarted settings plan Closed first clock words words' link feed starts 
 serves_unstarted settings plan LinkFault first clock words words' link feed starts starts' outs outs' drawn four quiet left = absurd left
 serves_unstarted settings plan FeedFault first clock words words' link feed starts starts' outs outs' drawn four quiet left = absurd left
 serves_unstarted settings plan WordsFault first clock words words' link feed starts starts' outs outs' drawn four quiet left = absurd left
+
+-- the same of what a call gave
+pub reported : (settings : Settings) (plan : ServePlan) (before after : Devices) (outs left left' : List OutSeen) (views views' : List View) (report report' : ServeReport)
+    → left' ≡ left → views' ≡ views → report' ≡ report → Serves settings plan before after outs left views report → Serves settings plan before after outs left' views' report'
+reported settings plan before after outs left left' views views' report report' one two three serves =
+    subst (Serves settings plan before after outs left' views') (sym three)
+    (subst (λ (list : List View). Serves settings plan before after outs left' list report) (sym two)
+    (subst (λ (list : List OutSeen). Serves settings plan before after outs list views report) (sym one) serves))
+
+-- the first secret is of four words
+pub four_words : (before after : Option (List ℕ)) (result : Result Secret Failed) (secret : Secret) (drawn : DrawsSecret before after result) → result ≡ Ok secret
+    → (secret ≡ secret_by drawn.words) × (length drawn.words ≡ 4)
+four_words before after result secret drawn is = subst (λ (one : Result Secret Failed). IsDrawn one drawn.words) is drawn.are
+
+pub few_words : (before after : Option (List ℕ)) (result : Result Secret Failed) (failed : Failed) (drawn : DrawsSecret before after result) → result ≡ Err failed → length drawn.words < 4
+few_words before after result failed drawn is = subst (λ (one : Result Secret Failed). IsDrawn one drawn.words) is drawn.are
+
+pub is_quiet : (before after : ℕ) (result : Result Secret Failed) (secret : Secret) → HasCause before after result → result ≡ Ok secret → after ≡ before
+is_quiet before after result secret cause is = (subst (λ (one : Result Secret Failed). HasCause before after one) is cause).quiet
+
+pub has_risen : (before after : ℕ) (result : Result Secret Failed) (failed : Failed) → HasCause before after result → result ≡ Err failed → Rose before after
+has_risen before after result failed cause is = (subst (λ (one : Result Secret Failed). HasCause before after one) is cause).failed
 
 -- no start is refused in turns
 no_spawn : (plan : ServePlan) (end : End) (done : ℕ) (last : Progress) (cut : Option Turn) → HasEnded plan end done last cut → end ≢ SpawnFault
@@ -224,7 +249,7 @@ module _ {O : Type 0} {g : Ghosts O} {T : Type 0} where
           (λ none.
             let zero_workers = zero_of plan.workers none in
             let outs_number = ap length outs_were in
-            let firsts_number = length-map out_of (starts_in (slots_in server)) in
+            let firsts_number = length-map (starts_in (slots_in server)) out_of in
             let one : length (starts_in (slots_in server)) ≡ 1 = sym firsts_number ∙ outs_number ∙ number ∙ ap (λ (workers : ℕ). max workers 1) zero_workers in
             all_inline (slots_in server) given.jobs one given.at_slots ∙ jobs_count settings (first_of run_of) (events_of run_of) given.jobs due ∙ sym counted.packets_are)
 

@@ -6,16 +6,16 @@ use Rattle.relay_serving.proofs.Starting.{turned_on}
 use Rattle.relay_serving.proofs.server.ending.turn_round.Goals as goal
 
 pub loop-view-init : goal.loop-view-init
-loop-view-init g c =
+loop-view-init c =
     (ap (λ to. to ++ reverse (views_of c.args.from.now)) c.requires.none, omega (arith, ap length c.requires.none, c.requires.room))
 
 pub loop-view-smaller : goal.loop-view-smaller
-loop-view-smaller g c =
+loop-view-smaller c =
     let one = one_fewer _ _ _ (MatchOption-at_some _ _ _ c.in-Some.is c.pop.ensures.some) in
     omega (arith, one)
 
 pub loop-view-preserved : goal.loop-view-preserved
-loop-view-preserved g c =
+loop-view-preserved c =
     let popped = MatchOption-at_some _ _ _ c.in-Some.is c.pop.ensures.some in
     let one = one_fewer _ _ _ popped in
     let put = of_ok c.push.result (c.push.ensures.fits (omega (arith, one, c.loop-view.invariant.1))) c.push.ensures.ok in (
@@ -24,6 +24,6 @@ loop-view-preserved g c =
     )
 
 pub returns : goal.returns
-returns g c =
+returns c =
     let none = (MatchOption-at_none _ _ c.in_default.is c.pop.ensures.none).0 in
     sym (append-nil (views_of c.loop-view.to)) ∙ ap (λ from. views_of c.loop-view.to ++ reverse from) (sym none) ∙ c.loop-view.invariant.0

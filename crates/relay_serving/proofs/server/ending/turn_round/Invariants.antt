@@ -4,9 +4,9 @@ use Rattle.published_table.specs.Views.{room_of, views_of}
 use Rattle.relay_serving.proofs.server.ending.turn_round.Given as goal
 
 abbrev pub invariant-loop-view : goal.invariant-loop-view
-invariant-loop-view g l =
+invariant-loop-view l =
     (views_of l.to ++ reverse (views_of l.from) ≡ reverse (views_of l.initial.from))
     × (length (views_of l.to) + length (views_of l.from) ≤ room_of l.to)
 
 abbrev pub decreases-loop-view : goal.decreases-loop-view
-decreases-loop-view g l = length (views_of l.from)
+decreases-loop-view l = length (views_of l.from)

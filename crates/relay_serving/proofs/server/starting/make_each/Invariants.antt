@@ -14,9 +14,9 @@ invariant-loop-out g l =
     × (vec_len l.outs + vec_len l.made ≡ vec_len l.initial.outs)
     × (vec_capacity l.outs ≡ vec_capacity l.initial.outs)
     × (vec_capacity l.made ≡ vec_capacity l.initial.made)
-    × AreReadBy (terms_by l.fn.settings.now) (views_of l.views)
-    × ((book : Book) → All (IsNew book (terms_by l.fn.settings.now)) (views_of l.initial.views)
-        → All (IsNew book (terms_by l.fn.settings.now)) (views_of l.views) × AreStarts l.fn.settings.now book l.made.items)
+    × AreReadBy (terms_by l.fn.settings) (views_of l.views)
+    × ((book : Book) → All (IsNew book (terms_by l.fn.settings)) (views_of l.initial.views)
+        → All (IsNew book (terms_by l.fn.settings)) (views_of l.views) × AreStarts l.fn.settings book l.made.items)
 
 abbrev pub decreases-loop-out : goal.decreases-loop-out
 decreases-loop-out g l = vec_len l.outs

@@ -24,7 +24,7 @@ loop-replicator-preserved g c =
     let at = MatchOption-at_some _ _ _ c.in-Some.is c.pop.ensures.cases in
     let put = c.push_reserved.ensures in (
       turned_by out_of _ _ c.loop-replicator.outs.items _ c.in-Some.replicator (popped _ _ _ _ c.pop.ensures.items c.in-Some.is)
-          (put.items ∙ ap (λ last. c.loop-replicator.outs.items ++ last ∷ []) c.into_parts.ensures.out) ∙ c.loop-replicator.invariant.0,
+          (put.items ∙ ap (λ last. c.loop-replicator.outs.items ++ last ∷ []) c.into_parts-view.ensures.out) ∙ c.loop-replicator.invariant.0,
       omega (arith, at, put.len, put.capacity, c.loop-replicator.invariant.1),
     )
 
