@@ -52,17 +52,23 @@ filter_all test (one ∷ list) passes =
 all_at_first : (jobs : List Job) → jobs_at 1 0 jobs ≡ jobs
 all_at_first jobs = filter_all (λ (job : Job). slot_for 1 job.packet == 0) jobs (λ job. ap (λ (slot : ℕ). slot == 0) (of_one (head_of job.packet)))
 
+none_more : (number : ℕ) → number ≡ 0 + number
+none_more number = omega arith
+
+one_more : (number : ℕ) → suc number ≡ 1 + number
+one_more number = omega arith
+
 -- one is due for each packet
 due_count : (settings : Settings) (first : Secret) (before events : List Event) → length (dues_after settings first before events) ≡ count_by is_packet events
 due_count settings first before [] = refl
 due_count settings first before (Packet bytes ∷ events) =
-    ap suc (due_count settings first (before ++ Packet bytes ∷ []) events) ∙ sym (sum_by-cons (λ event. cond (is_packet event) 1 0) (Packet bytes) events)
+    ap suc (due_count settings first (before ++ Packet bytes ∷ []) events) ∙ one_more _ ∙ sym (sum_by-cons (λ event. cond (is_packet event) 1 0) (Packet bytes) events)
 due_count settings first before (Datagram bytes from ∷ events) =
-    due_count settings first (before ++ Datagram bytes from ∷ []) events ∙ sym (sum_by-cons (λ event. cond (is_packet event) 1 0) (Datagram bytes from) events)
+    due_count settings first (before ++ Datagram bytes from ∷ []) events ∙ none_more _ ∙ sym (sum_by-cons (λ event. cond (is_packet event) 1 0) (Datagram bytes from) events)
 due_count settings first before (Moment moment ∷ events) =
-    due_count settings first (before ++ Moment moment ∷ []) events ∙ sym (sum_by-cons (λ event. cond (is_packet event) 1 0) (Moment moment) events)
+    due_count settings first (before ++ Moment moment ∷ []) events ∙ none_more _ ∙ sym (sum_by-cons (λ event. cond (is_packet event) 1 0) (Moment moment) events)
 due_count settings first before (Rotate secret ∷ events) =
-    due_count settings first (before ++ Rotate secret ∷ []) events ∙ sym (sum_by-cons (λ event. cond (is_packet event) 1 0) (Rotate secret) events)
+    due_count settings first (before ++ Rotate secret ∷ []) events ∙ none_more _ ∙ sym (sum_by-cons (λ event. cond (is_packet event) 1 0) (Rotate secret) events)
 
 -- there are as many jobs as packets
 pub jobs_count : (settings : Settings) (first : Secret) (events : List Event) (jobs : List Job) → map due_of jobs ≡ dues_after settings first [] events → length jobs ≡ count_by is_packet events
@@ -80,7 +86,7 @@ module _ {O : Type 0} {g : Ghosts O} where
     pub sent_is : sum_by (λ (slot : SlotServed). slot.sent) slots ≡ sum_by (λ (one : SlotLeft O g). one.left.sent) lefts
     pub unsent_is : sum_by (λ (slot : SlotServed). slot.unsent) slots ≡ sum_by (λ (one : SlotLeft O g). one.left.unsent) lefts
 
-  slot_served : SlotLeft O g → View → SlotServed
+  abbrev slot_served : SlotLeft O g → View → SlotServed
   slot_served one view = record {
     before = out_seen (g.tried (out_of one.slot.first)) (g.faults (out_of one.slot.first));
     jobs = one.slot.jobs;
@@ -136,7 +142,7 @@ module _ {O : Type 0} {g : Ghosts O} where
   firsts_out [] = refl
   firsts_out (one ∷ lefts) = ap (λ (list : List O). out_of one.slot.first ∷ list) (firsts_out lefts)
 
-  jobs_of : List (SlotState O g) → List (List Job)
+  abbrev jobs_of : List (SlotState O g) → List (List Job)
   jobs_of slots = map (λ (slot : SlotState O g). slot.jobs) slots
 
   jobs_left : (lefts : List (SlotLeft O g)) → map (λ (one : SlotLeft O g). one.slot.jobs) lefts ≡ jobs_of (map (λ (one : SlotLeft O g). one.slot) lefts)
@@ -202,7 +208,7 @@ module _ {O : Type 0} {g : Ghosts O} where
     where
       of_only : (firsts : List (Replicator O g)) → length firsts ≡ 1 → jobs_in_all (slots_after firsts jobs) ≡ length jobs
       of_only [] none = absurd (omega (arith, none))
-      of_only (first ∷ []) only = ap length (all_at_first jobs)
+      of_only (first ∷ []) only = sym (none_more _) ∙ ap length (all_at_first jobs)
       of_only (first ∷ second ∷ firsts) many = absurd (omega (arith, many))
 
   each_publisher : (book : Book) (lefts : List (SlotLeft O g)) → All (λ (one : SlotLeft O g). IsLeft one.slot one.left) lefts → AreOfPublisher book (map (λ (one : SlotLeft O g). one.slot) lefts)

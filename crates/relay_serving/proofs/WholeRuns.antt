@@ -1,5 +1,5 @@
 -- A whole run, put together.
-use Rattle.std.proofs.Common.{◌≡◌, ◌≢◌, ◌⊎◌, ℕ, zero, suc, ◌+◌, ◌==◌, ◌<◌, max, not, Bool, true, false, List, [], ◌∷◌, ◌++◌, length, map, take, refl, sym, ap, subst, ◌∙◌, append_assoc, append-nil, arith, length-append, true≢false, inl, inr, if◌then◌else◌}
+use Rattle.std.proofs.Common.{◌≡◌, ◌≢◌, ◌⊎◌, ℕ, zero, suc, ◌+◌, ◌==◌, ◌<◌, max, not, nat_eq, Bool, true, false, List, [], ◌∷◌, ◌++◌, length, map, take, refl, sym, ap, subst, ◌∙◌, append_assoc, append-nil, arith, length-append, true≢false, inl, inr, if◌then◌else◌}
 use Rattle.std.specs.Prelude.{Option, None, Some, Result, Ok, Err}
 use Rattle.std.specs.List.{All, AllZip}
 use Rattle.std.proofs.Math.Logic.{∥∥₁_elim, ∥∥₁_map, ∥∥₁_prop}
@@ -49,7 +49,7 @@ use Rattle.relay_serving.specs.declared.server.ending.Ending.{Ending}
 use Rattle.relay_serving.proofs.SlotsServed.{Slotted, all_inline, are_served, jobs_count, slotted}
 
 -- which end it is
-number_of : End → ℕ
+abbrev number_of : End → ℕ
 number_of Turns = 0
 number_of Closed = 1
 number_of LinkFault = 2
@@ -57,6 +57,9 @@ number_of FeedFault = 3
 number_of WordsFault = 4
 number_of SpawnFault = 5
 number_of Memory = 6
+
+apart : (one other : ℕ) → nat_eq one other ≡ false → one ≡ other → ⊥
+apart one other differ same = omega (arith, differ, same)
 
 -- what is told, in a row
 pub told_then : {X : Type 0} (before now after : Option (List X)) (one more : List X) → AppendsAll before now one → AppendsAll now after more → AppendsAll before after (one ++ more)
@@ -70,7 +73,7 @@ told_none None = tt
 told_none (Some list) = (list, refl, sym (append-nil list))
 
 -- of a run without any turn
-unrun : List ℕ → Run
+abbrev unrun : List ℕ → Run
 unrun first = record { first = first; whole = []; cut = None }
 
 not_run : (settings : Settings) (plan : ServePlan) (end : End) (first : List ℕ) (clock : Option (List ℕ)) (words words' : WordsSeen) (link : LinkSeen) (feed : FeedSeen) (starts starts' : ℕ) (outs outs' : List OutSeen)
@@ -107,24 +110,24 @@ pub serves_unsown : (settings : Settings) (plan : ServePlan) (first : List ℕ) 
     → AppendsAll words.given words'.given first → length first < 4 → Rose words.faults words'.faults
     → Serves settings plan (devices_seen clock words link feed starts) (devices_seen clock words' link feed starts) outs outs [] (unused_report WordsFault)
 serves_unsown settings plan first clock words words' link feed starts outs drawn few rose =
-    let not_spawn : WordsFault ≢ SpawnFault = λ is. omega (arith, ap number_of is) in
+    let not_spawn : WordsFault ≢ SpawnFault = λ is. apart 4 5 refl (ap number_of is) in
     not_run settings plan WordsFault first clock words words' link feed starts starts outs outs drawn (unsown few refl refl refl)
         (unused not_spawn refl refl refl (record { no_inline = refl; none_owed = refl; none_published = refl; none_apart = refl }) refl refl)
-        (λ is. omega (arith, ap number_of is)) (λ is. omega (arith, ap number_of is)) ((λ is. rose), (λ other. absurd (other refl))) ((λ is. absurd (not_spawn is)), (λ other. refl))
+        (λ is. apart 4 2 refl (ap number_of is)) (λ is. apart 4 3 refl (ap number_of is)) ((λ is. rose), (λ other. absurd (other refl))) ((λ is. absurd (not_spawn is)), (λ other. refl))
 
 -- no relay was started
 pub serves_unstarted : (settings : Settings) (plan : ServePlan) (end : End) (first : List ℕ) (clock : Option (List ℕ)) (words words' : WordsSeen) (link : LinkSeen) (feed : FeedSeen) (starts starts' : ℕ) (outs outs' : List OutSeen)
     → AppendsAll words.given words'.given first → length first ≡ 4 → words'.faults ≡ words.faults → AreLeftBy end outs outs' starts starts'
     → Serves settings plan (devices_seen clock words link feed starts) (devices_seen clock words' link feed starts') outs outs' [] (unused_report end)
 serves_unstarted settings plan Memory first clock words words' link feed starts starts' outs outs' drawn four quiet left =
-    let not_spawn : Memory ≢ SpawnFault = λ is. omega (arith, ap number_of is) in
+    let not_spawn : Memory ≢ SpawnFault = λ is. apart 6 5 refl (ap number_of is) in
     not_run settings plan Memory first clock words words' link feed starts starts' outs outs' drawn (unstarted four (inl refl) refl refl)
         (unused not_spawn refl left.0 refl (record { no_inline = refl; none_owed = refl; none_published = refl; none_apart = refl }) refl refl)
-        (λ is. omega (arith, ap number_of is)) (λ is. omega (arith, ap number_of is)) ((λ is. omega (arith, ap number_of is)), (λ other. quiet)) ((λ is. absurd (not_spawn is)), (λ other. left.1))
+        (λ is. apart 6 2 refl (ap number_of is)) (λ is. apart 6 3 refl (ap number_of is)) ((λ is. apart 6 4 refl (ap number_of is)), (λ other. quiet)) ((λ is. absurd (not_spawn is)), (λ other. left.1))
 serves_unstarted settings plan SpawnFault first clock words words' link feed starts starts' outs outs' drawn four quiet left =
     not_run settings plan SpawnFault first clock words words' link feed starts starts' outs outs' drawn (unstarted four (inr refl) refl refl)
         (one_lost refl refl left.0 refl (record { no_inline = refl; none_owed = refl; none_published = refl; none_apart = refl }) refl refl)
-        (λ is. omega (arith, ap number_of is)) (λ is. omega (arith, ap number_of is)) ((λ is. omega (arith, ap number_of is)), (λ other. quiet)) ((λ is. left.1), (λ other. absurd (other refl)))
+        (λ is. apart 5 2 refl (ap number_of is)) (λ is. apart 5 3 refl (ap number_of is)) ((λ is. apart 5 4 refl (ap number_of is)), (λ other. quiet)) ((λ is. left.1), (λ other. absurd (other refl)))
 serves_unstarted settings plan Turns first clock words words' link feed starts starts' outs outs' drawn four quiet left = absurd left
 serves_unstarted settings plan Closed first clock words words' link feed starts starts' outs outs' drawn four quiet left = absurd left
 serves_unstarted settings plan LinkFault first clock words words' link feed starts starts' outs outs' drawn four quiet left = absurd left
@@ -155,12 +158,14 @@ has_risen before after result failed cause is = (subst (λ (one : Result Secret 
 
 -- no start is refused in turns
 no_spawn : (plan : ServePlan) (end : End) (done : ℕ) (last : Progress) (cut : Option Turn) → HasEnded plan end done last cut → end ≢ SpawnFault
-no_spawn plan end done last None ended is = omega (arith, ap number_of (sym ended.0 ∙ is))
+no_spawn plan end done last None ended is = apart 0 5 refl (ap number_of (sym ended.0 ∙ is))
 no_spawn plan end done last (Some turn) ended is = subst (λ (one : End). IsCut one plan.rotate_ms last turn) is ended.1
 
+sum_is : (now start more outs : ℕ) → now ≡ start + more → start ≡ 0 → now + outs ≡ more + outs
+sum_is now start more outs is none = omega (arith, is, none)
+
 zero_of : (number : ℕ) → (number == 0) ≡ true → number ≡ 0
-zero_of zero is = refl
-zero_of (suc number) is = absurd (true≢false (sym is))
+zero_of number is = omega (arith, is)
 
 -- all packets are copied inline without workers, and else none
 inline_of : (inline packets jobs : ℕ) (threaded none : Bool) → inline ≡ (if threaded then 0 else jobs) → threaded ≡ not none → (none ≡ true → jobs ≡ packets)
@@ -187,6 +192,7 @@ moved F {settings' = settings'} {first = first} {first' = first'} {events = even
 module _ {O : Type 0} {g : Ghosts O} {T : Type 0} where
   -- before all events it is moment 0
   now_none : (server : Server O T g) → events_in server ≡ [] → now_in server ≡ 0
+  unfolding now_of
   now_none server none = server.at.moment ∙ ap now_of none
 
   module _ (settings : Settings) (plan : ServePlan) (secret : Secret) (outs : List O) (threads : Bool) (drawn : List ℕ) (start server : Server O T g) (ending : Ending O) (end : End) (turns : ℕ)
@@ -197,7 +203,7 @@ module _ {O : Type 0} {g : Ghosts O} {T : Type 0} where
       (ends : EndsIn end (devices_seen clock words' link feed 0) (devices_seen clock' words'' link' feed' 0))
       (finishes : Finishes server ending) (number : length outs ≡ max plan.workers 1) (mode : threads ≡ not (plan.workers == 0)) where
 
-    run_of : Run
+    abbrev run_of : Run
     run_of = record { first = drawn; whole = runs.whole; cut = runs.cut }
 
     settings_are : settings_in server ≡ settings
@@ -272,8 +278,8 @@ module _ {O : Type 0} {g : Ghosts O} {T : Type 0} where
             are_published is_owed inline;
         turns_are = runs.done_is;
         counted = counted;
-        sent_are = ap (λ (counts : Counts). counts.sent + ending.outs_sent) finishes.same_counts ∙ ap (λ (sent : ℕ). sent + ending.outs_sent) (runs.goes.answered.sent_are ∙ ap (λ (counts : Counts). counts.sent + runs.goes.answered.more) at.none_counted);
-        unsent_are = ap (λ (counts : Counts). counts.unsent + ending.outs_unsent) finishes.same_counts ∙ ap (λ (unsent : ℕ). unsent + ending.outs_unsent) (runs.goes.answered.unsent_are ∙ ap (λ (counts : Counts). counts.unsent + runs.goes.answered.missed) at.none_counted);
+        sent_are = ap (λ (counts : Counts). counts.sent + ending.outs_sent) finishes.same_counts ∙ sum_is server.counts.sent start.counts.sent runs.goes.answered.more ending.outs_sent runs.goes.answered.sent_are (ap (λ (counts : Counts). counts.sent) at.none_counted);
+        unsent_are = ap (λ (counts : Counts). counts.unsent + ending.outs_unsent) finishes.same_counts ∙ sum_is server.counts.unsent start.counts.unsent runs.goes.answered.missed ending.outs_unsent runs.goes.answered.unsent_are (ap (λ (counts : Counts). counts.unsent) at.none_counted);
         none_starved = refl;
         none_late = refl;
         link_cause = ends.link;

@@ -26,9 +26,7 @@ fn secret_of(words: &[u64; WORDS]) -> Secret
     ensures { result ≡ secret_by words.now }
 {
     let mut octets = [0; 8 * WORDS];
-    for place in 0..WORDS {
-        BigEndian::write_u64(&mut octets[8 * place..8 * place + 8], words[place]);
-    }
+    BigEndian::write_u64_into(words, &mut octets);
     Secret(octets)
 }
 

@@ -8,10 +8,10 @@ use Rattle.relay_serving.proofs.server.ending.ask_each.Given as goal
 
 abbrev pub invariant-loop-view : goal.invariant-loop-view
 invariant-loop-view g l =
-    AskedSoFar (published l.fn.publisher.now) (views_of l.initial.from) (views_of l.from) (views_of l.to)
+    AskedSoFar (published l.fn.publisher) (views_of l.initial.from) (views_of l.from) (views_of l.to)
     × (length (views_of l.to) + length (views_of l.from) ≤ room_of l.to)
-    × All (λ view. publisher_of view ≡ book_of l.fn.publisher.now) (views_of l.from)
-    × (l.apart ≡ count_by (is_apart (length (published l.fn.publisher.now))) (views_of l.to))
+    × All (λ view. publisher_of view ≡ book_of l.fn.publisher) (views_of l.from)
+    × (l.apart ≡ count_by (is_apart (length (published l.fn.publisher))) (views_of l.to))
 
 abbrev pub decreases-loop-view : goal.decreases-loop-view
 decreases-loop-view g l = length (views_of l.from)

@@ -11,4 +11,4 @@ unmake-requires g c =
 pub returns : goal.returns
 returns g c =
     let turned = c.turn_round.ensures.turned ∙ (λ i. c.requires.none.0 i ++ reverse (c.into_items.ensures i)) in
-    c.unmake.ensures.outs ∙ (λ i. c.requires.none.1 i ++ map out_of (reverse (turned i))) ∙ ap (λ list. map out_of list) (reverse-reverse c.args.slots)
+    c.from.ensures ∙ c.unmake.ensures.outs ∙ (λ i. c.requires.none.1 i ++ map out_of (reverse (turned i))) ∙ ap (λ list. map out_of list) (reverse-reverse c.args.slots)
