@@ -4,6 +4,7 @@ use Rattle.std.specs.Prelude.{Option, None, Some, Result, Ok, Err}
 use Rattle.std.specs.List.{All, AllZip}
 use Rattle.std.proofs.Math.Logic.{∥∥₁_elim, ∥∥₁_map, ∥∥₁_prop}
 use Rattle.std.proofs.lemmas.List.{length-map}
+use Rattle.std.proofs.lemmas.Bool.{eqb-true}
 use Rattle.amt_ports.specs.Causes.{HasCause, Rose}
 use Rattle.amt_ports.specs.declared.fault.Failed.{Failed}
 use Rattle.amt_ports.specs.Told.{AppendsAll}
@@ -58,9 +59,6 @@ number_of WordsFault = 4
 number_of SpawnFault = 5
 number_of Memory = 6
 
-apart : (one other : ℕ) → nat_eq one other ≡ false → one ≡ other → ⊥
-apart one other differ same = omega (arith, differ, same)
-
 -- what is told, in a row
 pub told_then : {X : Type 0} (before now after : Option (List X)) (one more : List X) → AppendsAll before now one → AppendsAll now after more → AppendsAll before after (one ++ more)
 told_then before now None one more first second = tt
@@ -110,24 +108,24 @@ pub serves_unsown : (settings : Settings) (plan : ServePlan) (first : List ℕ) 
     → AppendsAll words.given words'.given first → length first < 4 → Rose words.faults words'.faults
     → Serves settings plan (devices_seen clock words link feed starts) (devices_seen clock words' link feed starts) outs outs [] (unused_report WordsFault)
 serves_unsown settings plan first clock words words' link feed starts outs drawn few rose =
-    let not_spawn : WordsFault ≢ SpawnFault = λ is. apart 4 5 refl (ap number_of is) in
+    let not_spawn : WordsFault ≢ SpawnFault = λ is. (let same : 4 ≡ 5 = ap number_of is in omega (arith, same)) in
     not_run settings plan WordsFault first clock words words' link feed starts starts outs outs drawn (unsown few refl refl refl)
         (unused not_spawn refl refl refl (record { no_inline = refl; none_owed = refl; none_published = refl; none_apart = refl }) refl refl)
-        (λ is. apart 4 2 refl (ap number_of is)) (λ is. apart 4 3 refl (ap number_of is)) ((λ is. rose), (λ other. absurd (other refl))) ((λ is. absurd (not_spawn is)), (λ other. refl))
+        (λ is. (let same : 4 ≡ 2 = ap number_of is in omega (arith, same))) (λ is. (let same : 4 ≡ 3 = ap number_of is in omega (arith, same))) ((λ is. rose), (λ other. absurd (other refl))) ((λ is. absurd (not_spawn is)), (λ other. refl))
 
 -- no relay was started
 pub serves_unstarted : (settings : Settings) (plan : ServePlan) (end : End) (first : List ℕ) (clock : Option (List ℕ)) (words words' : WordsSeen) (link : LinkSeen) (feed : FeedSeen) (starts starts' : ℕ) (outs outs' : List OutSeen)
     → AppendsAll words.given words'.given first → length first ≡ 4 → words'.faults ≡ words.faults → AreLeftBy end outs outs' starts starts'
     → Serves settings plan (devices_seen clock words link feed starts) (devices_seen clock words' link feed starts') outs outs' [] (unused_report end)
 serves_unstarted settings plan Memory first clock words words' link feed starts starts' outs outs' drawn four quiet left =
-    let not_spawn : Memory ≢ SpawnFault = λ is. apart 6 5 refl (ap number_of is) in
+    let not_spawn : Memory ≢ SpawnFault = λ is. (let same : 6 ≡ 5 = ap number_of is in omega (arith, same)) in
     not_run settings plan Memory first clock words words' link feed starts starts' outs outs' drawn (unstarted four (inl refl) refl refl)
         (unused not_spawn refl left.0 refl (record { no_inline = refl; none_owed = refl; none_published = refl; none_apart = refl }) refl refl)
-        (λ is. apart 6 2 refl (ap number_of is)) (λ is. apart 6 3 refl (ap number_of is)) ((λ is. apart 6 4 refl (ap number_of is)), (λ other. quiet)) ((λ is. absurd (not_spawn is)), (λ other. left.1))
+        (λ is. (let same : 6 ≡ 2 = ap number_of is in omega (arith, same))) (λ is. (let same : 6 ≡ 3 = ap number_of is in omega (arith, same))) ((λ is. (let same : 6 ≡ 4 = ap number_of is in omega (arith, same))), (λ other. quiet)) ((λ is. absurd (not_spawn is)), (λ other. left.1))
 serves_unstarted settings plan SpawnFault first clock words words' link feed starts starts' outs outs' drawn four quiet left =
     not_run settings plan SpawnFault first clock words words' link feed starts starts' outs outs' drawn (unstarted four (inr refl) refl refl)
         (one_lost refl refl left.0 refl (record { no_inline = refl; none_owed = refl; none_published = refl; none_apart = refl }) refl refl)
-        (λ is. apart 5 2 refl (ap number_of is)) (λ is. apart 5 3 refl (ap number_of is)) ((λ is. apart 5 4 refl (ap number_of is)), (λ other. quiet)) ((λ is. left.1), (λ other. absurd (other refl)))
+        (λ is. (let same : 5 ≡ 2 = ap number_of is in omega (arith, same))) (λ is. (let same : 5 ≡ 3 = ap number_of is in omega (arith, same))) ((λ is. (let same : 5 ≡ 4 = ap number_of is in omega (arith, same))), (λ other. quiet)) ((λ is. left.1), (λ other. absurd (other refl)))
 serves_unstarted settings plan Turns first clock words words' link feed starts starts' outs outs' drawn four quiet left = absurd left
 serves_unstarted settings plan Closed first clock words words' link feed starts starts' outs outs' drawn four quiet left = absurd left
 serves_unstarted settings plan LinkFault first clock words words' link feed starts starts' outs outs' drawn four quiet left = absurd left
@@ -158,14 +156,14 @@ has_risen before after result failed cause is = (subst (λ (one : Result Secret 
 
 -- no start is refused in turns
 no_spawn : (plan : ServePlan) (end : End) (done : ℕ) (last : Progress) (cut : Option Turn) → HasEnded plan end done last cut → end ≢ SpawnFault
-no_spawn plan end done last None ended is = apart 0 5 refl (ap number_of (sym ended.0 ∙ is))
+no_spawn plan end done last None ended is = (let same : 0 ≡ 5 = ap number_of (sym ended.0 ∙ is) in omega (arith, same))
 no_spawn plan end done last (Some turn) ended is = subst (λ (one : End). IsCut one plan.rotate_ms last turn) is ended.1
 
 sum_is : (now start more outs : ℕ) → now ≡ start + more → start ≡ 0 → now + outs ≡ more + outs
 sum_is now start more outs is none = omega (arith, is, none)
 
 zero_of : (number : ℕ) → (number == 0) ≡ true → number ≡ 0
-zero_of number is = omega (arith, is)
+zero_of number is = eqb-true number 0 is
 
 -- all packets are copied inline without workers, and else none
 inline_of : (inline packets jobs : ℕ) (threaded none : Bool) → inline ≡ (if threaded then 0 else jobs) → threaded ≡ not none → (none ≡ true → jobs ≡ packets)

@@ -1,8 +1,9 @@
-use Rattle.std.proofs.Common.{◌++◌, ◌∷◌, [], ◌∙◌, All, length, map, reverse, vec_capacity, refl, sym, ap, subst, append-nil, arith}
+use Rattle.std.proofs.Common.{◌≡◌, ◌++◌, ◌∷◌, [], ◌∙◌, All, length, map, reverse, vec_capacity, refl, sym, ap, subst, append-nil, arith}
 use Rattle.std.proofs.lemmas.List.{nil_from_length}
 use Rattle.std.proofs.lemmas.List.Elements.{All-nil, All-push}
 use Rattle.std.proofs.lemmas.Option.{MatchOption-at_none, MatchOption-at_some}
 use Rattle.relay_machine.specs.declared.number_key.NumberKey.TheVariants.{Endpoints, PacketLimit}
+use Rattle.published_table.specs.Views.{terms_of}
 use Rattle.replication_workers.specs.Replicators.{out_of}
 use Rattle.replication_workers.proofs.Ready.{none_popped, popped}
 use Rattle.relay_serving.specs.GivenOut.{terms_by}
@@ -31,7 +32,7 @@ unreachable-requires g c =
 pub new-requires-clause-endpoints : goal.new-requires-clause-endpoints
 new-requires-clause-endpoints g c =
     let one = MatchOption-at_some _ _ _ c.in-Some-pop.is c.pop-in-Some.ensures.some in
-    few_endpoints c.args.settings.now c.in-Some-pop.view (all_but_last _ _ _ _ one c.loop-out.invariant.5).1
+    few_endpoints c.args.settings.now c.in-Some-pop.view (all_but_last (λ view. terms_of view ≡ terms_by c.args.settings.now) _ _ _ one c.loop-out.invariant.5).1
 
 pub new-requires-clause-few : goal.new-requires-clause-few
 new-requires-clause-few g c = (c.requires.lawful.numbers Endpoints).most
@@ -55,7 +56,7 @@ loop-out-preserved g c =
       omega (arith, at, put.len, c.loop-out.invariant.2),
       c.pop.ensures.capacity ∙ c.loop-out.invariant.3,
       put.capacity ∙ c.loop-out.invariant.4,
-      (all_but_last _ _ _ _ one c.loop-out.invariant.5).0,
+      (all_but_last (λ view. terms_of view ≡ terms_by c.args.settings.now) _ _ _ one c.loop-out.invariant.5).0,
       (λ book new.
         let now = c.loop-out.invariant.6 book new in
         let later = c.pop-in-Some.ensures.each book (terms_by c.args.settings.now) now.0 in
