@@ -1,10 +1,11 @@
 -- A whole run, put together.
-use Rattle.std.proofs.Common.{◌≡◌, ◌≢◌, ◌⊎◌, ℕ, zero, suc, ◌+◌, ◌==◌, ◌<◌, max, not, nat_eq, Bool, true, false, List, [], ◌∷◌, ◌++◌, length, map, take, refl, sym, ap, subst, ◌∙◌, append_assoc, append-nil, arith, length-append, true≢false, inl, inr, if◌then◌else◌}
+use Rattle.std.proofs.Common.{◌≡◌, ◌≢◌, ◌⊎◌, ℕ, zero, suc, ◌+◌, ◌==◌, ◌<◌, ◌≤◌, ◌^◌, max, not, nat_eq, Bool, true, false, List, [], ◌∷◌, ◌++◌, length, map, take, refl, sym, ap, subst, ◌∙◌, append_assoc, append-nil, arith, length-append, true≢false, inl, inr, if◌then◌else◌}
 use Rattle.std.specs.Prelude.{Option, None, Some, Result, Ok, Err}
 use Rattle.std.specs.List.{All, AllZip}
 use Rattle.std.proofs.Math.Logic.{∥∥₁_elim, ∥∥₁_map, ∥∥₁_prop}
 use Rattle.std.proofs.lemmas.List.{length-map}
 use Rattle.std.proofs.lemmas.Bool.{eqb-true}
+use Rattle.std.proofs.lemmas.List.Sums.{count_by-le-length}
 use Rattle.amt_ports.specs.Causes.{HasCause, Rose}
 use Rattle.amt_ports.specs.declared.fault.Failed.{Failed}
 use Rattle.amt_ports.specs.Told.{AppendsAll}
@@ -26,7 +27,7 @@ use Rattle.replication_workers.specs.Replicators.{out_of}
 use Rattle.replication_workers.specs.SlotStates.{SlotState, jobs_in_all}
 use Rattle.replication_workers.proofs.Trying.{HasTried-none}
 use Rattle.relay_serving.specs.Bursts.{IsCauseOf}
-use Rattle.relay_serving.specs.Counting.{AreCounted}
+use Rattle.relay_serving.specs.Counting.{AreCounted, is_datagram}
 use Rattle.relay_serving.specs.Devices.{Devices, FeedSeen, LinkSeen, OutSeen, WordsSeen, devices_seen, outs_seen}
 use Rattle.relay_serving.specs.Drawing.{DrawsSecret, IsDrawn}
 use Rattle.relay_serving.specs.Ending.{Finishes}
@@ -192,6 +193,16 @@ module _ {O : Type 0} {g : Ghosts O} {T : Type 0} where
   now_none : (server : Server O T g) → events_in server ≡ [] → now_in server ≡ 0
   unfolding now_of
   now_none server none = server.at.moment ∙ ap now_of none
+
+  -- what link and outs tried can be counted
+  pub few_in_all : (server : Server O T g) (ending : Ending O) → Finishes server ending → length (events_in server) < 2 ^ 50 → ending.outs_sent + ending.outs_unsent ≤ 2 ^ 62
+      → (ending.counts.sent + ending.outs_sent < 2 ^ 64) × (ending.counts.unsent + ending.outs_unsent < 2 ^ 64)
+  few_in_all server ending finishes few outs_few =
+      let sent = ap (λ (counts : Counts). counts.sent) finishes.same_counts in
+      let unsent = ap (λ (counts : Counts). counts.unsent) finishes.same_counts in
+      let within = count_by-le-length is_datagram (events_in server) in
+      (omega (arith, sent, within, few, outs_few, server.counted.few_sends, server.counted.events_are.datagrams_are),
+       omega (arith, unsent, within, few, outs_few, server.counted.few_sends, server.counted.events_are.datagrams_are))
 
   module _ (settings : Settings) (plan : ServePlan) (secret : Secret) (outs : List O) (threads : Bool) (drawn : List ℕ) (start server : Server O T g) (ending : Ending O) (end : End) (turns : ℕ)
       (clock clock' : Option (List ℕ)) (words words' words'' : WordsSeen) (link link' : LinkSeen) (feed feed' : FeedSeen)

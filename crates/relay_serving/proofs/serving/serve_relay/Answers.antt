@@ -7,7 +7,7 @@ use Rattle.relay_serving.specs.Devices.{outs_seen}
 use Rattle.relay_serving.specs.GivenOut.{starts_in}
 use Rattle.relay_serving.specs.Servers.{slots_in}
 use Rattle.relay_serving.specs.Starting.{AreLeftBy}
-use Rattle.relay_serving.proofs.WholeRuns.{few_words, four_words, has_risen, is_quiet, reported, serves_run, serves_unsown, serves_unstarted}
+use Rattle.relay_serving.proofs.WholeRuns.{few_in_all, few_words, four_words, has_risen, is_quiet, reported, serves_run, serves_unsown, serves_unstarted}
 use Rattle.relay_serving.proofs.serving.serve_relay.Goals as goal
 
 pub returns-in_default : goal.returns-in_default
@@ -49,7 +49,17 @@ finish-ending-requires-clause-room g c =
     )
 
 pub of-requires : goal.of-requires
-of-requires g c = ?
+of-requires g c = record { few = few_in_all c.run-end.new.self c.finish-ending.result c.finish-ending.ensures.finishes c.run-end.ensures.few c.finish-ending.ensures.few }
 
 pub returns : goal.returns
-returns g c = ?
+returns g c =
+    let drawn = c.draw_secret.ensures.drawn in
+    let four = four_words _ _ _ _ drawn c.in-Ok.is in
+    let start = c.in-Ok-start.ensures in
+    let seen = outs_seen g.O.OutLink.tried g.O.OutLink.faults in record {
+      serves = ∥∥₁_map
+          (serves_run c.args.settings c.args.plan.now c.in-Ok.first c.args.outs _ drawn.words c.in-Ok-start.server c.run-end.new.self c.finish-ending.result c.run-end.result.0 c.run-end.result.1
+            _ _ _ _ _ _ _ _ _ four.0 four.1 drawn.given (is_quiet _ _ _ _ c.draw_secret.ensures.cause c.in-Ok.is) start.started c.run-end.ensures.runs c.run-end.ensures.causes
+            c.finish-ending.ensures.finishes c.requires.outs refl _ _ (c.finish-ending.ensures.faults ∙ start.quiet))
+          (λ serves. reported _ _ _ _ _ _ _ _ _ _ _ (ap seen c.of.ensures.outs) c.of.ensures.views c.of.ensures.report serves);
+    }
