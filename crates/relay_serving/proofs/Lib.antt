@@ -6,6 +6,7 @@ pub mod Bursts
 pub mod Counting
 pub mod Cuts
 pub mod Drawing
+pub mod Ending
 pub mod Entering
 pub mod Events
 pub mod GivenOut
@@ -13,6 +14,9 @@ pub mod Hearing
 pub mod Packets
 pub mod Running
 pub mod Silence
+pub mod SlotsServed
 pub mod SoFar
+pub mod Starting
 pub mod Turning
 pub mod Ways
+pub mod WholeRuns

@@ -1,5 +1,5 @@
 -- What is seen of the devices of a serving relay, before a call and after it.
-use Rattle.std.specs.Prelude.{◌≡◌, ℕ, List, [], ◌∷◌, Option}
+use Rattle.std.specs.Prelude.{◌≡◌, ℕ, List, [], ◌∷◌, map, Option}
 use Rattle.amt_ports.specs.Sends.{TriedSend}
 use Rattle.amt_ports.specs.Told.{Answers}
 use Rattle.amt_ports.specs.declared.feed.FeedAnswer.{FeedAnswer}
@@ -39,6 +39,10 @@ pub record OutSeen : Type 0 where
 
 abbrev pub out_seen : Option (List TriedSend) → ℕ → OutSeen
 out_seen tried faults = record { tried = tried; faults = faults }
+
+-- of outs, in order, by what they tell of their tried sends and how often they failed
+abbrev pub outs_seen : {O : Type 0} → (O → Option (List TriedSend)) → (O → ℕ) → List O → List OutSeen
+outs_seen tried faults outs = map (λ out. out_seen (tried out) (faults out)) outs
 
 -- each of these was the next answer to come, where the device tells them
 abbrev pub AnswersAll : {X : Type 0} → X → Option (List X) → Option (List X) → List X → Type 0

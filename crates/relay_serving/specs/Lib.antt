@@ -3,13 +3,17 @@ pub mod Counting
 pub mod Courses
 pub mod Devices
 pub mod Drawing
+pub mod Ending
 pub mod Events
 pub mod GivenOut
 pub mod Plans
+pub mod Reports
 pub mod Runs
 pub mod Sending
 pub mod Servers
 pub mod Serving
 pub mod Stages
+pub mod Starting
 pub mod Turning
 pub mod Turns
+pub mod Views

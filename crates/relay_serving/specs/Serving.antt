@@ -1,5 +1,5 @@
 -- What a run of a serving relay comes to.
-use Rattle.std.specs.Prelude.{◌≡◌, ◌≢◌, ◌==◌, ℕ, ◌+◌, Bool, not, List, [], ◌∷◌, ◌++◌, length, map, take, count_by, sum_by, if◌then◌else◌}
+use Rattle.std.specs.Prelude.{◌≡◌, ◌≢◌, ◌==◌, ℕ, ◌+◌, List, [], ◌∷◌, ◌++◌, length, map, take, count_by, sum_by, if◌then◌else◌}
 use Rattle.std.specs.List.{All, enumerate_from}
 use Rattle.amt_ports.specs.Told.{AppendsAll}
 use Rattle.amt_ports.specs.declared.feed.FeedAnswer.TheVariants.{Closed as FeedClosed}
@@ -22,7 +22,9 @@ use Rattle.relay_serving.specs.Events.{events_of, first_of}
 use Rattle.relay_serving.specs.Runs.{MayGo, Run, feed_answers, link_answers, moments_given, turns_of, words_drawn}
 use Rattle.relay_serving.specs.Sending.{answers_after, due_of, dues_after}
 use Rattle.relay_serving.specs.GivenOut.{jobs_at}
+use Rattle.relay_serving.specs.Starting.{LosesOne}
 use Rattle.relay_serving.specs.Turns.{Done, Turn}
+use Rattle.relay_serving.specs.Views.{is_apart}
 use Rattle.relay_serving.specs.declared.plan.End.{End}
 use Rattle.relay_serving.specs.declared.plan.End.TheVariants.{LinkFault, FeedFault, WordsFault, SpawnFault}
 use Rattle.relay_serving.specs.declared.plan.ServePlan.{ServePlan}
@@ -58,10 +60,6 @@ pub record AreServed (settings : Settings) (outs : List OutSeen) (jobs : List Jo
   pub sent_is : sent ≡ sum_by (λ slot. slot.sent) slots
   pub unsent_is : unsent ≡ sum_by (λ slot. slot.unsent) slots
 
--- a view whose log isn't so long
-abbrev pub is_apart : ℕ → View → Bool
-is_apart published view = not (length (seen view) == published)
-
 -- each view's log begins with the published one, which is so many of the entries of all events; the others
 -- are owed, and so many views have a longer one
 pub record ArePublished (log : List Change) (views : List View) (published owed apart : ℕ) : Type 0 where
@@ -85,7 +83,7 @@ pub record IsIdle (report : ServeReport) : Type 0 where
 pub data OutsServed (settings : Settings) (plan : ServePlan) (run : Run) (report : ServeReport) (outs after : List OutSeen) (views : List View) (sent unsent : ℕ) : Type 0 where
   unused : report.end ≢ SpawnFault → turns_of run ≡ [] → after ≡ outs → views ≡ [] → IsIdle report → sent ≡ 0 → unsent ≡ 0
       → OutsServed settings plan run report outs after views sent unsent
-  one_lost : (earlier later : List OutSeen) (lost : OutSeen) → report.end ≡ SpawnFault → outs ≡ earlier ++ lost ∷ later → after ≡ earlier ++ later
+  one_lost : report.end ≡ SpawnFault → turns_of run ≡ [] → LosesOne outs after
       → views ≡ [] → IsIdle report → sent ≡ 0 → unsent ≡ 0 → OutsServed settings plan run report outs after views sent unsent
   used : (jobs : List Job) → map due_of jobs ≡ dues_after settings (first_of run) [] (events_of run)
       → AreServed settings outs jobs after views sent unsent

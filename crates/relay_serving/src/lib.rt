@@ -14,5 +14,7 @@ mod plan;
 mod renewal;
 mod secret;
 mod server;
+mod serving;
 
 pub use plan::{End, ServePlan, ServeReport, Served};
+pub use serving::serve_relay;

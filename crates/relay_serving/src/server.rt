@@ -20,10 +20,15 @@ use replication_workers::Dispatcher;
 use response_mac::Secret;
 use std::snapshot::Snapshot;
 
+mod ending;
 mod entering;
 mod feeding;
 mod hearing;
+mod starting;
 mod turning;
+
+pub(crate) use ending::Ending;
+pub(crate) use starting::NotStarted;
 
 // A device is asked so often in a turn.
 const BURST: u32 = 64;

@@ -72,7 +72,7 @@ impl<T: Drop> Batch<T> {
     }
 
     /// The values with all their room.
-    pub(crate) fn into_items(self) -> Vec<T>
+    pub fn into_items(self) -> Vec<T>
         ensures { result.items ≡ self }
     {
         let Batch { items } = self;

@@ -104,6 +104,7 @@ impl<O: OutLink + Drop, T> Server<O, T> {
         requires plan { IsLawfulPlan plan.now }
         requires room { 65536 ≤ length buf.old }
         requires fresh { events_in self.old ≡ [] }
+        ensures few { length (events_in self.new) < 2 ^ 50 }
         ensures runs { RunsSo plan.now self.old self.new
             (devices_seen (C.given clock.old) (words_seen (W.given words.old) (W.faults words.old))
             (link_seen (L.coming link.old) (L.tried link.old) (L.receive_faults link.old) (L.send_faults link.old))
