@@ -5,12 +5,17 @@ use Rattle.std.proofs.lemmas.List.{get_or-map, length-map, map-set}
 use Rattle.std.proofs.lemmas.List.Elements.{All-get_or, All-set}
 use Rattle.std.proofs.lemmas.List.Sums.{get_or-le-sum_by, sum_by-set}
 use Rattle.amt_ports.specs.declared.out_link.OutLink.{Ghosts}
+use Rattle.replication_workers.specs.InlineSlots.{first_of, jobs_done, replicator_now}
 use Rattle.replication_workers.specs.KeptSlots.{IsRunBy, KeepsRun, is_threaded_slot, now_of, state_of}
 use Rattle.replication_workers.specs.Replicators.{HasCopied}
 use Rattle.replication_workers.specs.SlotStates.{CopiedAt, SlotState, jobs_in_all, with_job, with_one_job}
+use Rattle.replication_workers.specs.Slots.{jobs_put, replicator_of, started_of, worker_of}
+use Rattle.replication_workers.specs.declared.dispatcher.inline_slot.InlineSlot.{InlineSlot}
 use Rattle.replication_workers.specs.declared.dispatcher.kept.Kept.{Kept}
+use Rattle.replication_workers.specs.declared.dispatcher.kept.Kept.TheVariants.{Threaded, Inline}
 use Rattle.replication_workers.specs.declared.job.Job.{Job}
 use Rattle.replication_workers.specs.declared.replicator.Replicator.{Replicator}
+use Rattle.replication_workers.specs.declared.slot.Slot.{Slot}
 use Rattle.replication_workers.specs.declared.worker.Worker.{Worker}
 
 none_within : (place : ℕ) → place < 0 → ⊥
@@ -24,6 +29,10 @@ one_more jobs longer job is = omega (arith, ap length is, length-append jobs (jo
 
 still_few : (before after one more : ℕ) → after + one ≡ before + more → more ≡ one + 1 → before < 2 ^ 46 → after ≤ 2 ^ 46
 still_few before after one more sums is few = omega (arith, sums, is, few)
+
+module _ {O : Type 0} {g : Ghosts O} where
+  abbrev state_with : Replicator O g → List Job → SlotState O g
+  state_with replicator jobs = record { first = replicator; jobs = jobs }
 
 module _ {O T : Type 0} {g : Ghosts O} where
   -- the slots then
@@ -98,3 +107,22 @@ module _ {O T : Type 0} {g : Ghosts O} where
   runs_then task_of slots place before after within is keeps all =
       All-set (IsRunBy task_of) slots place after
       (keeps task_of (subst (IsRunBy task_of) (sym is) (All-get_or (IsRunBy task_of) slots place before within all))) all
+
+  -- a slot's worker was given a job
+  pub threaded_next : (kept : Kept O T g) (before after : Slot O T g) (job : Job) → kept ≡ Threaded before → jobs_put after ≡ jobs_put before ++ job ∷ [] → worker_of after ≡ worker_of before
+      → state_of (Threaded after) ≡ with_one_job job (state_of kept)
+  threaded_next kept before after job is put worker =
+      ap (λ (pair : Worker O g × List Job). state_with (replicator_of pair.0) pair.1) (λ i. (worker i, put i)) ∙ ap (λ (one : Kept O T g). with_one_job job (state_of one)) (sym is)
+
+  pub threaded_runs : (kept : Kept O T g) (before after : Slot O T g) → kept ≡ Threaded before → started_of after ≡ started_of before → worker_of after ≡ worker_of before → KeepsRun kept (Threaded after)
+  threaded_runs kept before after is started worker task_of run =
+      ap task_of started ∙ subst (IsRunBy task_of) is run ∙ sym worker
+
+  -- a slot without a thread was
+  pub inline_next : (kept : Kept O T g) (before after : InlineSlot O g) (job : Job) → kept ≡ Inline before → jobs_done after ≡ jobs_done before ++ job ∷ [] → first_of after ≡ first_of before
+      → state_of (Inline after) ≡ with_one_job job (state_of kept)
+  inline_next kept before after job is done first =
+      ap (λ (pair : Replicator O g × List Job). state_with pair.0 pair.1) (λ i. (first i, done i)) ∙ ap (λ (one : Kept O T g). with_one_job job (state_of one)) (sym is)
+
+  pub copied_inline : (kept : Kept O T g) (before after : InlineSlot O g) (job : Job) → kept ≡ Inline before → HasCopied (replicator_now before) job (replicator_now after) → HasCopied (now_of kept) job (replicator_now after)
+  copied_inline kept before after job is copied = subst (λ (one : Kept O T g). HasCopied (now_of one) job (replicator_now after)) (sym is) copied
