@@ -74,7 +74,7 @@ module _ {O T : Type 0} {g : Ghosts O} where
   state_at : (slots : List (Kept O T g)) (place : ℕ) (before : Kept O T g) → place < length slots → before ≡ get_or slots place before → get_or (map state_of slots) place (state_of before) ≡ state_of before
   state_at slots place before within is = get_or-map state_of slots place before (state_of before) within ∙ ap (λ (one : Kept O T g). state_of one) (sym is)
 
-  within_states : (slots : List (Kept O T g)) (place : ℕ) → place < length slots → place < length (map (state_of {O} {T} {g}) slots)
+  within_states : (slots : List (Kept O T g)) (place : ℕ) → place < length slots → place < length (map (state_of {O = O} {T = T} {g = g}) slots)
   within_states slots place within = subst (λ (count : ℕ). place < count) (sym (length-map slots state_of)) within
 
   pub said_at : (P : SlotState O g → Type 0) (slots : List (Kept O T g)) (place : ℕ) (before : Kept O T g) → place < length slots → before ≡ get_or slots place before
@@ -120,7 +120,7 @@ module _ {O T : Type 0} {g : Ghosts O} where
 
   -- a slot without a thread was
   pub inline_next : (kept : Kept O T g) (before after : InlineSlot O g) (job : Job) → kept ≡ Inline before → jobs_done after ≡ jobs_done before ++ job ∷ [] → first_of after ≡ first_of before
-      → state_of (Inline after) ≡ with_one_job job (state_of kept)
+      → state_of {O = O} {T = T} {g = g} (Inline after) ≡ with_one_job job (state_of kept)
   inline_next kept before after job is done first =
       ap (λ (pair : Replicator O g × List Job). state_with pair.0 pair.1) (λ i. (first i, done i)) ∙ ap (λ (one : Kept O T g). with_one_job job (state_of one)) (sym is)
 

@@ -18,22 +18,22 @@ pub copy-requires-clause-publisher : goal.copy-requires-clause-publisher
 copy-requires-clause-publisher g c = subst (λ kept. note_publisher c.args.job.note ≡ publisher_of (view_of (state_of kept).first)) c.in-Inline.is c.requires.publisher
 
 pub returns-in-Threaded-clause-state : goal.returns-in-Threaded-clause-state
-returns-in-Threaded-clause-state g c = threaded_next _ _ _ c.args.job c.in-Threaded.is c.put.ensures.put c.put.ensures.worker
+returns-in-Threaded-clause-state g c = threaded_next _ c.in-Threaded.slot c.put.new.self c.args.job c.in-Threaded.is c.put.ensures.put c.put.ensures.worker
 
 pub returns-in-Threaded-clause-kind : goal.returns-in-Threaded-clause-kind
 returns-in-Threaded-clause-kind g c = ap is_threaded_slot (sym c.in-Threaded.is)
 
 pub returns-in-Threaded-clause-run : goal.returns-in-Threaded-clause-run
-returns-in-Threaded-clause-run g c = threaded_runs _ _ _ c.in-Threaded.is c.put.ensures.started c.put.ensures.worker
+returns-in-Threaded-clause-run g c = threaded_runs _ c.in-Threaded.slot c.put.new.self c.in-Threaded.is c.put.ensures.started c.put.ensures.worker
 
 pub returns-in-Threaded-clause-copied : goal.returns-in-Threaded-clause-copied
 returns-in-Threaded-clause-copied g c = λ inline. absurd (true≢false (ap is_threaded_slot (sym c.in-Threaded.is) ∙ inline))
 
 pub returns-in-Inline-clause-state : goal.returns-in-Inline-clause-state
-returns-in-Inline-clause-state g c = inline_next _ _ _ c.args.job c.in-Inline.is c.copy.ensures.jobs c.copy.ensures.first
+returns-in-Inline-clause-state g c = inline_next _ c.in-Inline.slot c.copy.new.self c.args.job c.in-Inline.is c.copy.ensures.jobs c.copy.ensures.first
 
 pub returns-in-Inline-clause-kind : goal.returns-in-Inline-clause-kind
 returns-in-Inline-clause-kind g c = ap is_threaded_slot (sym c.in-Inline.is)
 
 pub returns-in-Inline-clause-copied : goal.returns-in-Inline-clause-copied
-returns-in-Inline-clause-copied g c = λ inline. copied_inline _ _ _ c.args.job c.in-Inline.is c.copy.ensures.copied
+returns-in-Inline-clause-copied g c = λ inline. copied_inline _ c.in-Inline.slot c.copy.new.self c.args.job c.in-Inline.is c.copy.ensures.copied
