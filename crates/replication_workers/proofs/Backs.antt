@@ -71,6 +71,8 @@ module _ {O : Type 0} {g : Ghosts O} where
   left_as slot left after = record {
     counted = after.counted;
     few = subst (λ (count : ℕ). left.sent + left.unsent ≤ 65536 * count) (sym after.counted) after.has_handled.few;
+    terms = after.has_handled.terms;
+    publisher = after.has_handled.publisher;
     has_handled = ∣ after.has_handled ∣₁;
     idle = λ none. back_after slot.first slot.jobs left.out left.view left.sent left.unsent after.has_handled (sym after.counted ∙ none);
   }

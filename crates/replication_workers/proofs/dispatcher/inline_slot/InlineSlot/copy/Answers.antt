@@ -34,6 +34,7 @@ invariant_of-self g c =
           listed (ap (λ (number : ℕ). slot.sent + number) c.from.ensures) (ap (λ (number : ℕ). slot.unsent + number) c.from-2.ensures)
           so_far slot.limit copied.view.0 copied.view.1 copied.further copied.told copied.sends copied.few);
       idle = λ none. absurd (omega (arith, none));
+      terms = copied.view.0 ∙ slot.terms;
       publisher = copied.view.1 ∙ slot.publisher;
       limit = copied.limit ∙ slot.limit;
     }
