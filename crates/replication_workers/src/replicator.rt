@@ -10,6 +10,8 @@ mod making;
 mod replicating;
 mod sending;
 
+pub use replicating::read_length;
+
 /// Copies packets, one at a time, to the endpoints that want them. All its memory is taken when it is
 /// made, so that no packet waits for memory or is lost without it.
 #[derive(Drop)]

@@ -43,8 +43,8 @@ fn head_of_copied(limit: u32, packet: &[u8]) -> Option<Head>
     }
 }
 
-// Asks the view until it answers: how many entries its log has.
-fn read_length<R: Wait>(rt: &R, view: &mut View) -> u64
+/// Asks the view until it answers: how many entries its log has.
+pub fn read_length<R: Wait>(rt: &R, view: &mut View) -> u64
     ensures view { IsSameView view.old view.new }
     ensures further { BeginsWith (seen view.new) (seen view.old) }
     ensures told { BeginsWithEach (seen view.new) (told view.old) }
