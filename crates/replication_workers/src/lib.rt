@@ -17,6 +17,5 @@ mod worker;
 pub use batch::Batch;
 pub use dispatcher::{Dispatcher, Finished, Outs, Replicators, StartFault};
 pub use job::{Copied, Job};
-pub use replicator::{NewFault, Replicator};
-pub use slot::Left;
+pub use replicator::{NewFault, Replicator, read_length};
 pub use worker::{Worker, WorkerDone};
