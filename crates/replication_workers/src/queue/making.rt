@@ -12,7 +12,8 @@ use std::alloc::{AllocError, Global};
 use std::snapshot::Snapshot;
 use std::sync::Wait;
 
-// 256 jobs, and one place more for the first item, which says whose they are.
+// The first item, which says whose jobs they are, and 256 jobs. Once it is taken there is room for one job
+// more.
 const PLACES: usize = 257;
 
 // Puts whose jobs the queue is for. There is room for it, but no clause of the queue says so: where it is
