@@ -1,4 +1,4 @@
-use Rattle.std.proofs.Common.{◌≡◌, ◌<◌, ◌≤◌, ◌∙◌, ℕ, ap, length, length-set, map, refl, set, subst, sym, arith, lt_of_le_of_lt}
+use Rattle.std.proofs.Common.{◌≡◌, ◌<◌, ◌≤◌, ◌∙◌, [], if◌then◌else◌, ℕ, ap, length, length-set, map, refl, set, subst, sym, arith, lt_of_le_of_lt}
 use Rattle.std.proofs.lemmas.List.{length-map}
 use Rattle.replication_workers.specs.Dispatchers.{IsForSlot, slot_for}
 use Rattle.replication_workers.specs.Gathering.{HasRoom}
@@ -82,6 +82,6 @@ returns-clause-copied g c = λ inline.
     let within : place < length slots.items = omega (arith, c.choose_slot-slot.ensures.within, c.len.ensures, slots.ok.0) in
     let one = sym (held_alone self.threads (map now_of slots.items) inline) in
     let other = sym (held_alone self.threads (map now_of (set slots.items place after)) inline) in
-    subst (λ held. CopiedAt place c.args.job held _) one
+    subst (λ held. CopiedAt place c.args.job held (if self.threads then [] else map now_of (set slots.items place after))) one
     (subst (λ held. CopiedAt place c.args.job (map now_of slots.items) held) other
     (copied_at slots.items place c.args.job before after within value (c.give.ensures.copied (kind_at self.threads slots.items place before within value self.kinds ∙ inline))))
