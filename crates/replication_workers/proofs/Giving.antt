@@ -1,12 +1,12 @@
 -- One job more for one slot of many.
-use Rattle.std.proofs.Common.{◌≡◌, ℕ, zero, suc, ◌+◌, ◌<◌, ◌≤◌, ◌^◌, List, [], ◌∷◌, ◌++◌, get_or, length, map, set, refl, sym, ap, subst, ◌∙◌, arith, length-append}
+use Rattle.std.proofs.Common.{◌≡◌, ℕ, zero, suc, ◌+◌, ◌<◌, ◌≤◌, ◌^◌, Bool, true, false, true≢false, if◌then◌else◌, List, [], ◌∷◌, ◌++◌, get_or, length, map, set, refl, sym, ap, subst, ◌∙◌, arith, length-append}
 use Rattle.std.specs.List.{All, sum_by}
 use Rattle.std.proofs.lemmas.List.{get_or-map, length-map, map-set}
 use Rattle.std.proofs.lemmas.List.Elements.{All-get_or, All-set}
 use Rattle.std.proofs.lemmas.List.Sums.{get_or-le-sum_by, sum_by-set}
 use Rattle.amt_ports.specs.declared.out_link.OutLink.{Ghosts}
 use Rattle.replication_workers.specs.InlineSlots.{first_of, jobs_done, replicator_now}
-use Rattle.replication_workers.specs.KeptSlots.{IsRunBy, KeepsRun, is_threaded_slot, now_of, state_of}
+use Rattle.replication_workers.specs.KeptSlots.{AreThreaded, IsRunBy, KeepsRun, is_threaded_slot, now_of, state_of}
 use Rattle.replication_workers.specs.Replicators.{HasCopied}
 use Rattle.replication_workers.specs.SlotStates.{CopiedAt, SlotState, jobs_in_all, with_job, with_one_job}
 use Rattle.replication_workers.specs.Slots.{jobs_put, replicator_of, started_of, worker_of}
@@ -126,3 +126,19 @@ module _ {O T : Type 0} {g : Ghosts O} where
 
   pub copied_inline : (kept : Kept O T g) (before after : InlineSlot O g) (job : Job) → kept ≡ Inline before → HasCopied (replicator_now before) job (replicator_now after) → HasCopied (now_of kept) job (replicator_now after)
   copied_inline kept before after job is copied = subst (λ (one : Kept O T g). HasCopied (now_of one) job (replicator_now after)) (sym is) copied
+
+  -- all are of one kind
+  pub kind_at : (threads : Bool) (slots : List (Kept O T g)) (place : ℕ) (before : Kept O T g) → place < length slots → before ≡ get_or slots place before → AreThreaded threads slots
+      → is_threaded_slot before ≡ threads
+  kind_at threads slots place before within is kinds =
+      subst (λ (one : Kept O T g). is_threaded_slot one ≡ threads) (sym is) (All-get_or (λ slot. is_threaded_slot slot ≡ threads) slots place before within kinds)
+
+  pub kinds_then : (threads : Bool) (slots : List (Kept O T g)) (place : ℕ) (before after : Kept O T g) → place < length slots → before ≡ get_or slots place before → AreThreaded threads slots
+      → is_threaded_slot after ≡ is_threaded_slot before → AreThreaded threads (set slots place after)
+  kinds_then threads slots place before after within is kinds same =
+      All-set (λ slot. is_threaded_slot slot ≡ threads) slots place after (same ∙ kind_at threads slots place before within is kinds) kinds
+
+-- what is held without threads
+pub held_alone : {A : Type 0} (threads : Bool) (list : List A) → threads ≡ false → (if threads then [] else list) ≡ list
+held_alone true list none = absurd (true≢false none)
+held_alone false list none = refl

@@ -59,7 +59,6 @@ fn give_back<O: OutLink + Drop, R: Wait, P: Spawner<Worker<O>>>(
 }
 
 // Starts a worker for each of the slots. After a start that fails, those that were started are stopped.
-#[tactic(none)]
 fn start_workers<O: OutLink + Drop, R: Wait, P: Spawner<Worker<O>>>(
     rt: &R,
     alloc: Global,

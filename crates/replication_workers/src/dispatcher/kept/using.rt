@@ -14,7 +14,6 @@ use std::sync::Wait;
 
 impl<O: OutLink, T> Kept<O, T> {
     /// Puts the job in the queue of the slot's worker, or copies it at once where there is none.
-    #[tactic(none)]
     pub fn give<R: Wait>(&mut self, rt: &R, job: Job)
         requires few { length (state_of self.old).jobs < 2 ^ 46 }
         requires publisher { note_publisher job.note ≡ publisher_of (view_of (state_of self.old).first) }

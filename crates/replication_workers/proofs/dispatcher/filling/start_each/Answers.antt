@@ -43,3 +43,13 @@ loop-one-preserved g c =
       omega (arith, at, put.len, c.loop-one.invariant.3),
       put.capacity ∙ c.loop-one.invariant.4,
     )
+
+pub returns-in-Err-clause-refused : goal.returns-in-Err-clause-refused
+returns-in-Err-clause-refused g c =
+    let left = ap (λ ready. from_the_end ready) (popped _ _ _ _ c.pop.ensures.items c.in-Some.is) ∙ from_the_end-last c.pop.new.self.items c.in-Some.one in
+    one_refused _ _ _ _ _ _ c.loop-one.invariant.0 left
+
+pub returns-clause-started : goal.returns-clause-started
+returns-clause-started g c =
+    let at = MatchOption-at_none _ _ c.in_default.is c.pop.ensures.cases in
+    all_started _ _ _ _ c.loop-one.invariant.0 (ap (λ ready. from_the_end ready) (nil_from_length c.loop-one.ready.items (omega (arith, at.0, c.loop-one.ready.ok.0))))
