@@ -1,6 +1,6 @@
 -- Slots that are filled one after another.
 use Rattle.std.proofs.Common.{◌≡◌, ℕ, ◌+◌, ◌≤◌, ◌^◌, zero, suc, Bool, true, false, true≢false, List, [], ◌∷◌, ◌++◌, get_or, length, map, vec_capacity, refl, sym, ap, subst, ◌∙◌, append_assoc, append-nil, arith}
-use Rattle.std.specs.Prelude.{Option, Some, None}
+use Rattle.std.specs.Prelude.{IfErr, Option, Some, None, Result, Ok, Err}
 use Rattle.std.specs.List.{All}
 use Rattle.std.proofs.lemmas.List.{length-map, map-append}
 use Rattle.std.proofs.lemmas.List.Elements.{All-append, All-nil, All-push}
@@ -12,7 +12,9 @@ use Rattle.published_table.specs.Views.{room_of, views_of}
 use Rattle.replication_workers.specs.Gathering.{HasRoom}
 use Rattle.replication_workers.specs.KeptSlots.{AreStarted, AreThreaded, HasKept, IsRunBy, is_threaded_slot, now_of, state_of}
 use Rattle.replication_workers.specs.SlotStates.{SlotState, jobs_in_all, new_slot}
-use Rattle.replication_workers.specs.Starting.{HasRefusedOne, HaveStarted, count_on}
+use Rattle.replication_workers.specs.Starting.{HasRefusedOne, HaveStarted, OnFailed, count_on}
+use Rattle.replication_workers.specs.declared.dispatcher.StartFault.{StartFault}
+use Rattle.replication_workers.specs.declared.dispatcher.StartFault.TheVariants.{Memory, Failed}
 use Rattle.replication_workers.specs.declared.dispatcher.gathered.Gathered.{Gathered}
 use Rattle.replication_workers.specs.declared.dispatcher.kept.Kept.{Kept}
 use Rattle.replication_workers.specs.declared.dispatcher.kept.Kept.TheVariants.{Threaded, Inline}
@@ -151,7 +153,7 @@ module _ {O T : Type 0} {g : Ghosts O} where
   filled_few replicators slots states = few_when_none (jobs_in_all (map state_of slots)) (filled_idle replicators slots states)
 
   -- a slot without a thread has no task
-  inline_run : (task_of : T → Worker O g) (slot : Kept O T g) → is_threaded_slot slot ≡ false → IsRunBy task_of slot
+  pub inline_run : (task_of : T → Worker O g) (slot : Kept O T g) → is_threaded_slot slot ≡ false → IsRunBy task_of slot
   inline_run task_of (Threaded slot) kind = absurd (true≢false kind)
   inline_run task_of (Inline slot) kind = tt
 
@@ -179,3 +181,13 @@ less_room fewer more gathered fits room = record {
   where
     within : (taken fewer more capacity : ℕ) → fewer ≤ more → taken + more ≤ capacity → taken + fewer ≤ capacity
     within taken fewer more capacity fits room = omega (arith, fits, room)
+
+pub inline_runs : {O T : Type 0} {g : Ghosts O} (task_of : T → Worker O g) (threads : Bool) (slots : List (Kept O T g)) → AreThreaded threads slots → threads ≡ false → All (IsRunBy task_of) slots
+inline_runs task_of threads slots kinds none place default within = inline_run task_of (get_or slots place default) (kinds place default within ∙ none)
+
+-- one fact more of a start that failed
+pub on_failed_also : {A O : Type 0} {g : Ghosts O} (result : Result A (StartFault O g)) (first second : Type 0) → first → IfErr result (λ fault. OnFailed fault (λ _ _. second))
+    → IfErr result (λ fault. OnFailed fault (λ _ _. first × second))
+on_failed_also (Ok made) first second one other = other
+on_failed_also (Err (Memory back)) first second one other = other
+on_failed_also (Err (Failed outs views)) first second one other = (one, other)

@@ -131,7 +131,6 @@ impl<O: OutLink + Drop, T> Dispatcher<O, T> {
     /// A dispatcher over these slots, from 1 to 64. All its memory is taken before the first start, so that
     /// without it the replicators come back as they were. Then, with threads, a worker is started for each
     /// slot, in slot order; without, the dispatcher keeps the replicators.
-    #[tactic(none)]
     pub fn start<R: Wait, P: Spawner<Worker<O>, Started = T>>(
         rt: &R,
         alloc: Global,
