@@ -1,5 +1,5 @@
 -- Slots that are filled one after another.
-use Rattle.std.proofs.Common.{◌≡◌, ℕ, ◌+◌, ◌≤◌, ◌^◌, zero, suc, Bool, true, false, true≢false, List, [], ◌∷◌, ◌++◌, get_or, length, map, vec_capacity, refl, sym, ap, subst, ◌∙◌, append_assoc, append-nil, arith}
+use Rattle.std.proofs.Common.{◌≡◌, ℕ, ◌+◌, ◌≤◌, ◌^◌, suc, Bool, true, false, true≢false, List, [], ◌∷◌, ◌++◌, get_or, length, map, vec_capacity, refl, sym, ap, subst, ◌∙◌, append_assoc, append-nil, arith}
 use Rattle.std.specs.Prelude.{IfErr, Option, Some, None, Result, Ok, Err}
 use Rattle.std.specs.List.{All}
 use Rattle.std.proofs.lemmas.List.{length-map, map-append}
@@ -12,7 +12,7 @@ use Rattle.published_table.specs.Views.{room_of, views_of}
 use Rattle.replication_workers.specs.Gathering.{HasRoom}
 use Rattle.replication_workers.specs.KeptSlots.{AreStarted, AreThreaded, HasKept, IsRunBy, is_threaded_slot, now_of, state_of}
 use Rattle.replication_workers.specs.SlotStates.{SlotState, jobs_in_all, new_slot}
-use Rattle.replication_workers.specs.Starting.{HasRefusedOne, HaveStarted, OnFailed, count_on}
+use Rattle.replication_workers.specs.Starting.{HasRefusedOne, HaveStarted, OnFailed}
 use Rattle.replication_workers.specs.declared.dispatcher.StartFault.{StartFault}
 use Rattle.replication_workers.specs.declared.dispatcher.StartFault.TheVariants.{Memory, Failed}
 use Rattle.replication_workers.specs.declared.dispatcher.gathered.Gathered.{Gathered}

@@ -1,5 +1,5 @@
 -- What is read of a dispatcher.
-use Rattle.std.specs.Prelude.{◌≡◌, ℕ, ◌+◌, ◌%◌, ◌^◌, Bool, List, [], if◌then◌else◌, length, map, Result, Ok, Err}
+use Rattle.std.specs.Prelude.{◌≡◌, ℕ, ◌+◌, ◌%◌, ◌^◌, Bool, List, [], if◌then◌else◌, map, Result, Ok, Err}
 use Rattle.std.specs.List.{All}
 use Rattle.amt_ports.specs.declared.out_link.OutLink.{Ghosts}
 use Rattle.amt_values.specs.Address.{number_of}

@@ -1,5 +1,5 @@
 -- What is read of a dispatcher's slot.
-use Rattle.std.specs.Prelude.{◌≡◌, Bool, true, false, List, [], ◌++◌, map}
+use Rattle.std.specs.Prelude.{◌≡◌, Bool, true, false, List, ◌++◌, map}
 use Rattle.std.specs.List.{All}
 use Rattle.amt_ports.specs.declared.out_link.OutLink.{Ghosts}
 use Rattle.replication_workers.specs.InlineSlots.{inline_state, replicator_now}

@@ -1,4 +1,4 @@
-use Rattle.std.proofs.Common.{◌≡◌, ◌<◌, ◌≤◌, ◌∙◌, [], if◌then◌else◌, ℕ, ap, length, length-set, map, refl, set, subst, sym, arith, lt_of_le_of_lt}
+use Rattle.std.proofs.Common.{◌≡◌, ◌<◌, ◌≤◌, ◌∙◌, [], if◌then◌else◌, length, length-set, map, refl, set, subst, sym, arith, lt_of_le_of_lt}
 use Rattle.std.proofs.lemmas.List.{length-map}
 use Rattle.replication_workers.specs.Dispatchers.{IsForSlot, slot_for}
 use Rattle.replication_workers.specs.Gathering.{HasRoom}

@@ -1,6 +1,6 @@
-use Rattle.std.proofs.Common.{◌≡◌, ◌≤◌, ◌∙◌, IfErr, IfOk, OnOk, ap, length, map, refl, subst, sym, true≢false, arith}
+use Rattle.std.proofs.Common.{◌≡◌, ◌∙◌, IfErr, IfOk, OnOk, ap, length, map, refl, subst, sym, true≢false, arith}
 use Rattle.replication_workers.specs.Backs.{AllButOneBack}
-use Rattle.replication_workers.specs.Dispatchers.{held_by, is_threaded, slots_of}
+use Rattle.replication_workers.specs.Dispatchers.{is_threaded, slots_of}
 use Rattle.replication_workers.specs.Gathering.{HasRoom}
 use Rattle.replication_workers.specs.SlotStates.{new_slot}
 use Rattle.replication_workers.specs.Starting.{HaveStarted, OnFailed, OnMemory}

@@ -1,4 +1,4 @@
-use Rattle.std.proofs.Common.{◌∙◌, List, ap, length, map, subst, sym, arith}
+use Rattle.std.proofs.Common.{◌∙◌, ap, length, map, subst, sym, arith}
 use Rattle.replication_workers.specs.Gathering.{HasRoom}
 use Rattle.replication_workers.specs.KeptSlots.{AreThreaded, now_of, state_of}
 use Rattle.replication_workers.proofs.Filling.{filled_few, filled_length, kept_alone}

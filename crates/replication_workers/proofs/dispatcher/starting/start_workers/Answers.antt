@@ -1,7 +1,6 @@
-use Rattle.std.proofs.Common.{◌≡◌, ◌≤◌, ◌+◌, ◌∙◌, ap, length, map, refl, subst, sym, vec_capacity, arith}
+use Rattle.std.proofs.Common.{◌≤◌, ◌+◌, ◌∙◌, ap, length, map, refl, subst, sym, arith}
 use Rattle.amt_ports.specs.Causes.{HasCause, Rose}
 use Rattle.replication_workers.specs.Gathering.{HasRoom}
-use Rattle.replication_workers.specs.KeptSlots.{state_of}
 use Rattle.replication_workers.specs.SlotStates.{new_slot}
 use Rattle.replication_workers.specs.Slots.{from_the_end}
 use Rattle.replication_workers.specs.Starting.{HasRefusedOne, HaveStarted}
