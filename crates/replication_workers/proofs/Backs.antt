@@ -1,5 +1,5 @@
 -- What slots give back that were given no job.
-use Rattle.std.proofs.Common.{◌≡◌, ℕ, ◌+◌, ◌*◌, ◌≤◌, ◌<◌, List, [], ◌∷◌, ◌++◌, get_or, length, map, refl, sym, ap, subst, ◌∙◌, append-nil, map-id, true≢false}
+use Rattle.std.proofs.Common.{◌≡◌, ℕ, ◌+◌, ◌*◌, ◌≤◌, ◌<◌, List, [], ◌∷◌, length, map, refl, sym, ap, subst, ◌∙◌, append-nil, map-id, true≢false}
 use Rattle.std.specs.Prelude.{IsSome, Option, Some, None}
 use Rattle.std.specs.List.{All}
 use Rattle.std.proofs.lemmas.List.{get_or-map, length-map, nil_from_length}
@@ -9,7 +9,6 @@ use Rattle.amt_ports.specs.Sends.{TriedSend, datagram_of, unsent_count}
 use Rattle.amt_ports.specs.Told.{AppendsAll}
 use Rattle.amt_ports.specs.declared.out_link.OutLink.{Ghosts}
 use Rattle.amt_values.specs.declared.peer.Peer.{Peer}
-use Rattle.published_table.specs.Views.{seen}
 use Rattle.published_table.specs.declared.view.View.{View}
 use Rattle.replication_workers.specs.Replication.{HasTried}
 use Rattle.replication_workers.specs.Replicators.{out_of, view_of}
@@ -71,6 +70,8 @@ module _ {O : Type 0} {g : Ghosts O} where
   left_as slot left after = record {
     counted = after.counted;
     few = subst (λ (count : ℕ). left.sent + left.unsent ≤ 65536 * count) (sym after.counted) after.has_handled.few;
+    terms = after.has_handled.terms;
+    publisher = after.has_handled.publisher;
     has_handled = ∣ after.has_handled ∣₁;
     idle = λ none. back_after slot.first slot.jobs left.out left.view left.sent left.unsent after.has_handled (sym after.counted ∙ none);
   }

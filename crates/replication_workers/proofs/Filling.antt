@@ -1,16 +1,23 @@
 -- Slots that are filled one after another.
-use Rattle.std.proofs.Common.{◌≡◌, ℕ, zero, suc, Bool, true, false, List, [], ◌∷◌, ◌++◌, length, map, refl, sym, ap, subst, ◌∙◌, append_assoc, append-nil}
-use Rattle.std.specs.Prelude.{Option, Some, None}
+use Rattle.std.proofs.Common.{◌≡◌, ℕ, ◌+◌, ◌≤◌, ◌^◌, suc, Bool, true, false, true≢false, List, [], ◌∷◌, ◌++◌, get_or, length, map, vec_capacity, refl, sym, ap, subst, ◌∙◌, append_assoc, append-nil, arith}
+use Rattle.std.specs.Prelude.{IfErr, Option, Some, None, Result, Ok, Err}
 use Rattle.std.specs.List.{All}
-use Rattle.std.proofs.lemmas.List.{map-append}
-use Rattle.std.proofs.lemmas.List.Elements.{All-nil, All-push}
+use Rattle.std.proofs.lemmas.List.{length-map, map-append}
+use Rattle.std.proofs.lemmas.List.Elements.{All-append, All-nil, All-push}
+use Rattle.std.proofs.lemmas.List.Sums.{sum_by-append, sum_by-cons}
 use Rattle.amt_ports.specs.Causes.{next_count}
 use Rattle.amt_ports.specs.Starts.{HasStarted}
 use Rattle.amt_ports.specs.declared.out_link.OutLink.{Ghosts}
+use Rattle.published_table.specs.Views.{room_of, views_of}
+use Rattle.replication_workers.specs.Gathering.{HasRoom}
 use Rattle.replication_workers.specs.KeptSlots.{AreStarted, AreThreaded, HasKept, IsRunBy, is_threaded_slot, now_of, state_of}
-use Rattle.replication_workers.specs.SlotStates.{SlotState, new_slot}
-use Rattle.replication_workers.specs.Starting.{HasRefusedOne, HaveStarted, count_on}
+use Rattle.replication_workers.specs.SlotStates.{SlotState, jobs_in_all, new_slot}
+use Rattle.replication_workers.specs.Starting.{HasRefusedOne, HaveStarted, OnFailed}
+use Rattle.replication_workers.specs.declared.dispatcher.StartFault.{StartFault}
+use Rattle.replication_workers.specs.declared.dispatcher.StartFault.TheVariants.{Memory, Failed}
+use Rattle.replication_workers.specs.declared.dispatcher.gathered.Gathered.{Gathered}
 use Rattle.replication_workers.specs.declared.dispatcher.kept.Kept.{Kept}
+use Rattle.replication_workers.specs.declared.dispatcher.kept.Kept.TheVariants.{Threaded, Inline}
 use Rattle.replication_workers.specs.declared.replicator.Replicator.{Replicator}
 use Rattle.replication_workers.specs.declared.worker.Worker.{Worker}
 
@@ -37,6 +44,23 @@ mapped_then f list longer last images image is are one =
 
 split_then : {A : Type 0} (all done left later : List A) (one : A) → all ≡ done ++ left → left ≡ one ∷ later → all ≡ (done ++ one ∷ []) ++ later
 split_then all done left later one whole is = whole ∙ ap (λ (list : List _). done ++ list) is ∙ sym (append_assoc done (one ∷ []) later)
+
+few_when_none : (jobs : ℕ) → jobs ≡ 0 → jobs ≤ 2 ^ 46
+few_when_none jobs none = omega (arith, none)
+
+none_in_both : (first second : ℕ) → first ≡ 0 → second ≡ 0 → first + second ≤ 2 ^ 46
+none_in_both first second one other = omega (arith, one, other)
+
+both_none : (first second : ℕ) → first ≡ 0 → second ≡ 0 → first + second ≡ 0
+both_none first second one other = omega (arith, one, other)
+
+module _ {O : Type 0} {g : Ghosts O} where
+  -- slots of which no one has a job
+  pub no_jobs : (replicators : List (Replicator O g)) → jobs_in_all (map new_slot replicators) ≡ 0
+  no_jobs [] = refl
+  no_jobs (one ∷ replicators) =
+      sum_by-cons (λ (slot : SlotState O g). length slot.jobs) (new_slot one) (map new_slot replicators)
+      ∙ both_none (length (new_slot one).jobs) (jobs_in_all (map new_slot replicators)) refl (no_jobs replicators)
 
 module _ {O T : Type 0} {g : Ghosts O} where
   -- of all replicators these are still to be kept
@@ -113,3 +137,57 @@ module _ {O T : Type 0} {g : Ghosts O} where
     all_are = starting.all_are ∙ ap (λ (list : List (Replicator O g)). starting.done ++ list) is;
     started = starting.started;
   }
+
+  -- what a dispatcher has whose slots were all kept
+  pub kept_alone : (replicators : List (Replicator O g)) (before after : List (Kept O T g)) (kept : HasKept replicators before after) → before ≡ [] → after ≡ kept.added
+  kept_alone replicators before after kept none = kept.after_is ∙ ap (λ (list : List (Kept O T g)). list ++ kept.added) none
+
+  -- as many slots as replicators, and no jobs
+  pub filled_length : (replicators : List (Replicator O g)) (slots : List (Kept O T g)) → map state_of slots ≡ map new_slot replicators → length slots ≡ length replicators
+  filled_length replicators slots states = sym (length-map slots state_of) ∙ ap (λ (list : List (SlotState O g)). length list) states ∙ length-map replicators new_slot
+
+  pub filled_idle : (replicators : List (Replicator O g)) (slots : List (Kept O T g)) → map state_of slots ≡ map new_slot replicators → jobs_in_all (map state_of slots) ≡ 0
+  filled_idle replicators slots states = ap jobs_in_all states ∙ no_jobs replicators
+
+  pub filled_few : (replicators : List (Replicator O g)) (slots : List (Kept O T g)) → map state_of slots ≡ map new_slot replicators → jobs_in_all (map state_of slots) ≤ 2 ^ 46
+  filled_few replicators slots states = few_when_none (jobs_in_all (map state_of slots)) (filled_idle replicators slots states)
+
+  -- a slot without a thread has no task
+  pub inline_run : (task_of : T → Worker O g) (slot : Kept O T g) → is_threaded_slot slot ≡ false → IsRunBy task_of slot
+  inline_run task_of (Threaded slot) kind = absurd (true≢false kind)
+  inline_run task_of (Inline slot) kind = tt
+
+  pub runs_with : (task_of : T → Worker O g) (before added : List (Kept O T g)) → All (IsRunBy task_of) before → AreThreaded false added → All (IsRunBy task_of) (before ++ added)
+  runs_with task_of before added run kind = All-append (IsRunBy task_of) before added run (λ place default within. inline_run task_of (get_or added place default) (kind place default within))
+
+  pub states_with : (before added : List (Kept O T g)) (earlier later : List (Replicator O g)) → map state_of before ≡ map new_slot earlier → map state_of added ≡ map new_slot later
+      → map state_of (before ++ added) ≡ map new_slot (earlier ++ later)
+  states_with before added earlier later first second =
+      map-append state_of before added ∙ ap (λ (list : List (SlotState O g)). list ++ map state_of added) first ∙ ap (λ (list : List (SlotState O g)). map new_slot earlier ++ list) second
+      ∙ sym (map-append new_slot earlier later)
+
+  pub idle_with : (before added : List (Kept O T g)) (later : List (Replicator O g)) → jobs_in_all (map state_of before) ≡ 0 → map state_of added ≡ map new_slot later
+      → jobs_in_all (map state_of (before ++ added)) ≤ 2 ^ 46
+  idle_with before added later idle states =
+      subst (λ (count : ℕ). count ≤ 2 ^ 46)
+      (sym (ap jobs_in_all (map-append state_of before added) ∙ sum_by-append (λ (slot : SlotState O g). length slot.jobs) (map state_of before) (map state_of added)))
+      (none_in_both (jobs_in_all (map state_of before)) (jobs_in_all (map state_of added)) idle (filled_idle later added states))
+
+pub less_room : {O : Type 0} (fewer more : ℕ) (gathered : Gathered O) → fewer ≤ more → HasRoom more gathered → HasRoom fewer gathered
+less_room fewer more gathered fits room = record {
+  for_outs = within (length gathered.outs.items) fewer more (vec_capacity gathered.outs) fits room.for_outs;
+  for_views = within (length (views_of gathered.views)) fewer more (room_of gathered.views) fits room.for_views;
+}
+  where
+    within : (taken fewer more capacity : ℕ) → fewer ≤ more → taken + more ≤ capacity → taken + fewer ≤ capacity
+    within taken fewer more capacity fits room = omega (arith, fits, room)
+
+pub inline_runs : {O T : Type 0} {g : Ghosts O} (task_of : T → Worker O g) (threads : Bool) (slots : List (Kept O T g)) → AreThreaded threads slots → threads ≡ false → All (IsRunBy task_of) slots
+inline_runs task_of threads slots kinds none place default within = inline_run task_of (get_or slots place default) (kinds place default within ∙ none)
+
+-- one fact more of a start that failed
+pub on_failed_also : {A O : Type 0} {g : Ghosts O} (result : Result A (StartFault O g)) (first second : Type 0) → first → IfErr result (λ fault. OnFailed fault (λ _ _. second))
+    → IfErr result (λ fault. OnFailed fault (λ _ _. first × second))
+on_failed_also (Ok made) first second one other = other
+on_failed_also (Err (Memory back)) first second one other = other
+on_failed_also (Err (Failed outs views)) first second one other = (one, other)

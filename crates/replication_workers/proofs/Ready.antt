@@ -1,5 +1,5 @@
 -- Slots that are taken from the end of a list.
-use Rattle.std.proofs.Common.{◌≡◌, ℕ, suc, ◌+◌, List, [], ◌∷◌, ◌++◌, Option, Some, None, length, option_to_list, refl, sym, ap, ◌∙◌, append_assoc, append-nil, arith, length-append}
+use Rattle.std.proofs.Common.{◌≡◌, ℕ, suc, List, [], ◌∷◌, ◌++◌, Option, Some, None, length, option_to_list, refl, sym, ap, ◌∙◌, append_assoc, append-nil, arith, length-append}
 use Rattle.amt_ports.specs.declared.out_link.OutLink.{Ghosts}
 use Rattle.replication_workers.specs.Slots.{from_the_end, ready_worker, replicator_of}
 use Rattle.replication_workers.specs.declared.replicator.Replicator.{Replicator}

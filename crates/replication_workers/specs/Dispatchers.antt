@@ -1,5 +1,5 @@
 -- What is read of a dispatcher.
-use Rattle.std.specs.Prelude.{◌≡◌, ℕ, ◌+◌, ◌%◌, ◌^◌, Bool, List, [], if◌then◌else◌, length, map, Result, Ok, Err}
+use Rattle.std.specs.Prelude.{◌≡◌, ℕ, ◌+◌, ◌%◌, ◌^◌, Bool, List, [], if◌then◌else◌, map, Result, Ok, Err}
 use Rattle.std.specs.List.{All}
 use Rattle.amt_ports.specs.declared.out_link.OutLink.{Ghosts}
 use Rattle.amt_values.specs.Address.{number_of}
@@ -42,7 +42,7 @@ module _ {O T : Type 0} {g : Ghosts O} where
   abbrev pub AllRun : (T → Worker O g) → Dispatcher O T g → Type 0
   AllRun task_of dispatcher = All (IsRunBy task_of) dispatcher.slots.items
 
-  -- and still is, whatever tells the tasks
+  -- if each was, each still is, by any reading of tasks as workers
   abbrev pub KeepsAllRun : Dispatcher O T g → Dispatcher O T g → Type 0
   KeepsAllRun before after = (task_of : T → Worker O g) → AllRun task_of before → AllRun task_of after
 

@@ -1,5 +1,5 @@
 -- What is read of a dispatcher's slot.
-use Rattle.std.specs.Prelude.{◌≡◌, Bool, true, false, List, [], ◌++◌, map}
+use Rattle.std.specs.Prelude.{◌≡◌, Bool, true, false, List, ◌++◌, map}
 use Rattle.std.specs.List.{All}
 use Rattle.amt_ports.specs.declared.out_link.OutLink.{Ghosts}
 use Rattle.replication_workers.specs.InlineSlots.{inline_state, replicator_now}
@@ -31,7 +31,7 @@ module _ {O T : Type 0} {g : Ghosts O} where
   IsRunBy task_of (Threaded slot) = task_of (started_of slot) ≡ worker_of slot
   IsRunBy task_of (Inline slot) = Unit {0}
 
-  -- whatever tells the tasks
+  -- if its task was its worker, it still is, by any reading of tasks as workers
   abbrev pub KeepsRun : Kept O T g → Kept O T g → Type 0
   KeepsRun before after = (task_of : T → Worker O g) → IsRunBy task_of before → IsRunBy task_of after
 

@@ -39,7 +39,7 @@ EndsWithStop items = (earlier : List Item) × (items ≡ earlier ++ Stop ∷ [])
 abbrev pub IsOfHome : List View → Job → Type 0
 IsOfHome home job = map publisher_of home ≡ note_publisher job.note ∷ []
 
--- each of them was
+-- each of these jobs is of that publisher
 abbrev pub AreOfHome : List View → List Job → Type 0
 AreOfHome home jobs = AllByRecursion (IsOfHome home) jobs
 
@@ -49,6 +49,7 @@ pub record FitsEnd (putter taker : ℕ) (home : List View) (put taken : List Ite
   pub putting : known.puts ≡ true → (seat ≡ putter) × (known.home ≡ home) × (known.put ≡ put)
   pub taking : known.takes ≡ true → (seat ≡ taker) × (known.home ≡ home) × (known.taken ≡ taken)
 
+-- so of each holder: its seat is its place in the list of what the holders know
 abbrev pub FitEach : ℕ → ℕ → List View → List Item → List Item → List End → Type 0
 FitEach putter taker home put taken ends = (seat : ℕ) (known : End) → get_elem? ends seat ≡ some known → FitsEnd putter taker home put taken seat known
 
@@ -66,6 +67,7 @@ pub record QueueRule (items : List Item) (ends : List End) : Type 0 where
   pub of_home : AreOfHome home (jobs_of put)
   pub each : FitEach putter taker home put taken ends
 
+-- what a holder knows, of these parts
 abbrev pub end_of : Bool → Bool → List View → List Item → List Item → End
 end_of puts takes home put taken = record { puts = puts; takes = takes; home = home; put = put; taken = taken }
 

@@ -2,9 +2,10 @@
 use Rattle.std.specs.Prelude.{◌≡◌, ◌≤◌, ◌+◌, ◌*◌, ℕ, zero, suc, List, [], ◌∷◌, ◌++◌, length, map}
 use Rattle.std.specs.List.{All, sum_by}
 use Rattle.amt_ports.specs.declared.out_link.OutLink.{Ghosts}
+use Rattle.published_table.specs.Views.{publisher_of, terms_of}
 use Rattle.published_table.specs.declared.view.View.{View}
 use Rattle.replication_workers.specs.Backs.{IsBack}
-use Rattle.replication_workers.specs.Replicators.{HasCopied}
+use Rattle.replication_workers.specs.Replicators.{HasCopied, view_of}
 use Rattle.replication_workers.specs.Workers.{HasHandled}
 use Rattle.replication_workers.specs.declared.job.Job.{Job}
 use Rattle.replication_workers.specs.declared.replicator.Replicator.{Replicator}
@@ -50,11 +51,13 @@ module _ {O : Type 0} {g : Ghosts O} where
     pub after_is : after ≡ earlier ++ copied ∷ later
     pub has_copied : HasCopied one job copied
 
-  -- The slot left this after exactly its jobs. That logs are there by which it handled them is known, and
-  -- not which.
+  -- The slot left this after exactly its jobs, with a view of the same publisher and terms. That logs are
+  -- there by which it handled them is known, and not which.
   pub record IsLeft (slot : SlotState O g) (left : Left O) : Type 0 where
     pub counted : left.jobs ≡ length slot.jobs
     pub few : left.sent + left.unsent ≤ 65536 * left.jobs
+    pub terms : terms_of left.view ≡ terms_of (view_of slot.first)
+    pub publisher : publisher_of left.view ≡ publisher_of (view_of slot.first)
     pub has_handled : ∥ HasHandled slot.first slot.jobs left.out left.view left.sent left.unsent ∥₁
     pub idle : left.jobs ≡ 0 → IsBack slot.first left.out left.view
 

@@ -39,5 +39,6 @@ module _ {O : Type 0} {g : Ghosts O} where
     abbrev pub jobs_put : Slot O T g → List Job
     jobs_put slot = jobs_of (view slot.pass).put
 
+    -- what the spawner gave for the start
     abbrev pub started_of : Slot O T g → T
     started_of slot = slot.started

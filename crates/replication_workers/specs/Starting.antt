@@ -4,6 +4,7 @@ use Rattle.amt_ports.specs.Causes.{next_count}
 use Rattle.amt_ports.specs.declared.out_link.OutLink.{Ghosts}
 use Rattle.published_table.specs.Views.{views_of}
 use Rattle.published_table.specs.declared.view.View.{View}
+use Rattle.replication_workers.specs.Backs.{AllButOneBack}
 use Rattle.replication_workers.specs.KeptSlots.{AreStarted}
 use Rattle.replication_workers.specs.declared.dispatcher.StartFault.{StartFault}
 use Rattle.replication_workers.specs.declared.dispatcher.StartFault.TheVariants.{Memory, Failed}
@@ -29,6 +30,11 @@ module _ {O T : Type 0} {g : Ghosts O} where
     pub refused : Replicator O g
     pub all_are : all ≡ earlier ++ refused ∷ left
     pub started : AreStarted task_of earlier slots
+
+  -- whichever replicators they were of which one was refused its start
+  abbrev pub GivesAllButOne : (T → Worker O g) → List (Replicator O g) → List (Kept O T g) → List O → List View → Type 0
+  GivesAllButOne task_of left slots outs views =
+      (all : List (Replicator O g)) → HasRefusedOne task_of all left slots → AllButOneBack all outs views
 
 module _ {O : Type 0} {g : Ghosts O} where
   -- a fact of the replicators that come back without memory

@@ -1,7 +1,7 @@
 //! Values in order that are handed on one by one: unlike other lists they can be taken out again. It must
 //! not know what they are.
 
-use std::alloc::{AllocError, Global};
+use std::alloc::Global;
 use std::marker::Model;
 
 /// Values in order, of which contracts see the list. Spare room is all that they don't see.
@@ -19,7 +19,7 @@ impl<T> Model for Batch<T> {
 }
 
 impl<T: Drop> Batch<T> {
-    ghost use Rattle.std.specs.Prelude.{◌≡◌, [], ◌∷◌, ◌++◌, length, IfErr, IfNone, IfOk, IfSome, OnErr, OnOk};
+    ghost use Rattle.std.specs.Prelude.{◌≡◌, [], ◌∷◌, ◌++◌, length, IfErr, IfNone, IfSome, OnErr, OnOk};
 
     /// No value. It takes no memory.
     pub fn new(alloc: Global) -> Self
@@ -28,15 +28,6 @@ impl<T: Drop> Batch<T> {
         Batch {
             items: Vec::new(alloc),
         }
-    }
-
-    /// No value, and room for so many.
-    pub fn with_room(alloc: Global, room: usize) -> Result<Self, AllocError>
-        ensures { IfOk result (λ batch. batch ≡ []) }
-    {
-        Ok(Batch {
-            items: Vec::with_capacity(alloc, room)?,
-        })
     }
 
     pub fn as_slice(&self) -> &[T]

@@ -26,7 +26,7 @@ pub enum Item {
     Stop,
 }
 
-/// What the holder of a pass knows. It has no bytes.
+/// What the holder of a pass knows, for contracts alone: the pass itself has no bytes.
 pub struct End {
     /// It alone may put.
     pub puts: bool,

@@ -161,7 +161,7 @@ impl<O: OutLink + Drop> Task for Worker<O> {
                     };
                 }
                 Ok(Item::Home(_home)) => {}
-                // Nothing was there.
+                // Nothing was there, or the sender is gone, which can't be before Stop: asked again.
                 Err(_) => {}
             }
         }

@@ -1,24 +1,62 @@
 //! How a dispatcher is started. It must not know jobs.
-ghost use Rattle.std.specs.Prelude.{◌≡◌, ◌≤◌, [], true, false, length, map, vec_capacity, IfErr, IfOk, OnErr, OnOk};
+ghost use Rattle.std.specs.Prelude.{◌≡◌, ◌≤◌, ◌+◌, [], true, false, length, map, vec_capacity, IfErr, IfOk, OnErr, OnOk};
+ghost use Rattle.std.specs.List.{All};
 ghost use Rattle.amt_ports.specs.Causes.{Rose};
+ghost use Rattle.published_table.specs.Views.{views_of};
 ghost use Rattle.replication_workers.specs.Backs.{AllButOneBack};
 ghost use Rattle.replication_workers.specs.Dispatchers.{AllRun, held_by, is_threaded, slots_of};
 ghost use Rattle.replication_workers.specs.Gathering.{HasRoom, IsFresh};
-ghost use Rattle.replication_workers.specs.SlotStates.{new_slot};
-ghost use Rattle.replication_workers.specs.Starting.{HaveStarted, OnFailed, OnMemory};
+ghost use Rattle.replication_workers.specs.KeptSlots.{IsRunBy, state_of};
+ghost use Rattle.replication_workers.specs.SlotStates.{jobs_in_all, new_slot};
+ghost use Rattle.replication_workers.specs.Slots.{from_the_end};
+ghost use Rattle.replication_workers.specs.Starting.{GivesAllButOne, HaveStarted, OnFailed, OnMemory};
 
 use super::filling::{keep_inline, start_each};
 use super::finishing::finish_all;
 use super::gathered::Gathered;
 use super::kept::Kept;
 use super::readying::{ready_all, unready};
-use super::{Dispatcher, Replicators, StartFault};
+use super::{Dispatcher, Outs, Replicators, StartFault};
 use crate::batch::Batch;
 use crate::replicator::Replicator;
+use crate::slot::ReadySlot;
 use crate::worker::Worker;
 use amt_ports::{OutLink, Spawner};
+use published_table::Views;
 use std::alloc::Global;
 use std::sync::Wait;
+
+// Ends the slots that were started, and gives back what they and the slots that are ready leave, in order.
+fn give_back<O: OutLink + Drop, R: Wait, P: Spawner<Worker<O>>>(
+    rt: &R,
+    mut slots: Vec<Replicator<O>>,
+    mut ready: Vec<ReadySlot<O>>,
+    mut kept: Vec<Kept<O, P::Started>>,
+    gathered: Gathered<O>,
+    spawner: &mut P,
+) -> (Outs<O>, Views)
+    requires none { slots.items ≡ [] }
+    requires room_back { length ready.items ≤ vec_capacity slots }
+    requires places { length kept.items + length ready.items ≤ vec_capacity kept }
+    requires fresh { IsFresh gathered }
+    requires room { HasRoom (length kept.items + length ready.items) gathered }
+    requires idle { jobs_in_all (map state_of kept.items) ≡ 0 }
+    requires run { All (IsRunBy P.task_of) kept.items }
+    ensures back { GivesAllButOne P.task_of (from_the_end ready.items) kept.items result.0 (views_of result.1) }
+    ensures starts { P.starts spawner.new ≡ P.starts spawner.old }
+    ensures faults { P.faults spawner.new ≡ P.faults spawner.old }
+{
+    unready(&mut slots, &mut ready);
+    keep_inline(&mut kept, slots);
+    let Gathered {
+        outs,
+        views,
+        jobs: _,
+        sent: _,
+        unsent: _,
+    } = finish_all(rt, kept, gathered, spawner);
+    (Batch::from(outs), views)
+}
 
 // Starts a worker for each of the slots. After a start that fails, those that were started are stopped.
 fn start_workers<O: OutLink + Drop, R: Wait, P: Spawner<Worker<O>>>(
@@ -52,26 +90,17 @@ fn start_workers<O: OutLink + Drop, R: Wait, P: Spawner<Worker<O>>>(
         kept.destroy_empty();
         return Err(StartFault::Memory(Batch::from(slots)));
     };
-    if start_each(&mut ready, &mut kept, spawner).is_ok() {
-        return Ok(Dispatcher {
+    match start_each(&mut ready, &mut kept, spawner) {
+        Ok(()) => Ok(Dispatcher {
             slots: kept,
             gathered,
             threads: true,
-        });
+        }),
+        Err(_) => {
+            let (outs, views) = give_back(rt, slots, ready, kept, gathered, spawner);
+            Err(StartFault::Failed { outs, views })
+        }
     }
-    unready(&mut slots, &mut ready);
-    keep_inline(&mut kept, slots);
-    let Gathered {
-        outs,
-        views,
-        jobs: _,
-        sent: _,
-        unsent: _,
-    } = finish_all(rt, kept, gathered, spawner);
-    Err(StartFault::Failed {
-        outs: Batch::from(outs),
-        views,
-    })
 }
 
 // Keeps the replicators, to copy jobs on the calling thread.

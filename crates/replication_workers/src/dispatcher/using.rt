@@ -16,6 +16,14 @@ use crate::worker::Worker;
 use amt_ports::{OutLink, Spawner};
 use std::sync::Wait;
 
+// How many of the jobs were copied on the calling thread.
+fn inline_jobs(threads: bool, jobs: u64) -> u64
+    ensures inline { threads ≡ false → result ≡ jobs }
+    ensures none { threads ≡ true → result ≡ 0 }
+{
+    if threads { 0 } else { jobs }
+}
+
 impl<O: OutLink + Drop, T> Dispatcher<O, T> {
     /// Gives the job to its packet's slot, and answers which one that is, from 0. With threads the job is put
     /// in the queue of the slot's worker, which may wait for room; without, it is copied in this call.
@@ -35,7 +43,11 @@ impl<O: OutLink + Drop, T> Dispatcher<O, T> {
 
     /// Ends the slots, in order, and gives what they leave: with threads each worker is stopped and waited
     /// for. It takes no memory.
-    pub fn finish<R: Wait, P: Spawner<Worker<O>, Started = T>>(self, rt: &R, spawner: &mut P) -> Finished<O>
+    pub fn finish<R: Wait, P: Spawner<Worker<O>, Started = T>>(
+        self,
+        rt: &R,
+        spawner: &mut P,
+    ) -> Finished<O>
         requires run { AllRun P.task_of self }
         ensures left { HaveLeft (slots_of self) result.outs (views_of result.views) result.sent result.unsent }
         ensures inline { is_threaded self ≡ false → result.inline ≡ jobs_in_all (slots_of self) }
@@ -62,7 +74,7 @@ impl<O: OutLink + Drop, T> Dispatcher<O, T> {
             views,
             sent,
             unsent,
-            inline: if threads { 0 } else { jobs },
+            inline: inline_jobs(threads, jobs),
         }
     }
 }

@@ -2,7 +2,8 @@
 ghost use Rattle.std.specs.Prelude.{◌≡◌, [], ◌∷◌, IfOk};
 ghost use Rattle.crossbeam_channel.specs.Claims.{IsSeatAt, view};
 ghost use Rattle.crossbeam_channel.specs.Ends.{receives_on, sends_on};
-ghost use Rattle.replication_workers.specs.Queue.{IsPutting, IsTaking, jobs_of};
+ghost use Rattle.replication_workers.specs.Queue.{IsPutting, IsTaking, jobs_of, settled, whole_end};
+ghost use Rattle.replication_workers.specs.declared.queue.Item.TheVariants.{Home};
 
 use super::{End, Ends, InOrder, Item, QueuePass, Receiver, Sender, Settles};
 use crossbeam_channel::bounded_with;
@@ -11,8 +12,27 @@ use std::alloc::{AllocError, Global};
 use std::snapshot::Snapshot;
 use std::sync::Wait;
 
-// So many jobs and, before them, whose they are.
+// The first item, which says whose jobs they are, and 256 jobs. Once it is taken there is room for one job
+// more.
 const PLACES: usize = 257;
+
+// Puts whose jobs the queue is for. There is room for it, but no clause of the queue says so: where it is
+// handed back, it is put again.
+fn settle<R: Wait>(rt: &R, sender: &Sender, pass: &mut QueuePass, home: Snapshot<View>)
+    requires seat { IsSeatAt (sends_on sender.now) pass.old }
+    requires new { view pass.old ≡ whole_end }
+    ensures seat { IsSeatAt (sends_on sender.now) pass.new × (pass.new.id ≡ pass.old.id) }
+    ensures settled { view pass.new ≡ settled whole_end (Home home) }
+{
+    let mut item = Item::Home(home);
+    for _ in rt.forever() {
+        match sender.send_as::<Settles, R>(rt, pass, item) {
+            Ok(()) => return,
+            Err(refused) => item = refused.into_inner(),
+        }
+    }
+    unreachable!()
+}
 
 /// A queue for jobs of this view's publisher: what puts with its pass, and what takes with its own.
 pub fn make_queue<R: Wait>(
@@ -28,12 +48,7 @@ pub fn make_queue<R: Wait>(
         × ((view made.3).taken ≡ []) × ((view made.3).home ≡ home.now ∷ [])) }
 {
     let (sender, receiver, mut pass) = bounded_with::<Item, End, InOrder, Global>(alloc, PLACES)?;
-    let home = Item::Home(Snapshot::of(home));
-    match sender.try_send_as::<Settles, R>(rt, &mut pass, home) {
-        Ok(()) => {}
-        // The queue is empty, and its taker is here.
-        Err(_) => return Err(AllocError),
-    }
+    settle(rt, &sender, &mut pass, Snapshot::of(home));
     let taking = sender.another::<Ends>(&mut pass);
     Ok((sender, pass, receiver, taking))
 }

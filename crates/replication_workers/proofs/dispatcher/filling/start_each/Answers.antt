@@ -1,4 +1,4 @@
-use Rattle.std.proofs.Common.{◌∙◌, ℕ, refl, sym, ap, subst, arith, length}
+use Rattle.std.proofs.Common.{◌≡◌, ◌∙◌, ℕ, suc, vec_len, refl, sym, ap, subst, arith, length}
 use Rattle.std.proofs.lemmas.List.{nil_from_length}
 use Rattle.std.proofs.lemmas.Option.{MatchOption-at_none, MatchOption-at_some}
 use Rattle.amt_ports.specs.Causes.{HasCause}
@@ -33,12 +33,23 @@ loop-one-preserved g c =
     let at = MatchOption-at_some _ _ _ c.in-Some.is c.pop.ensures.cases in
     let put = c.push_reserved.ensures in
     let started = c.in-Ok.ensures in
+    let longer : suc (vec_len c.loop-one.kept) ≡ vec_len c.push_reserved.new.self = omega (arith, put.len) in
     let left = ap (λ ready. from_the_end ready) (popped _ _ _ _ c.pop.ensures.items c.in-Some.is) ∙ from_the_end-last c.pop.new.self.items c.in-Some.one in (
       starting_more _ _ _ _ _ _ _ _ c.loop-one.invariant.0 left put.items
           (λ i. record { first = (ap (λ worker. worker.replicator) started.started.1) i; jobs = started.started.2 i }) refl started.started.0,
-      subst (λ (count : ℕ). HaveStarted count (g.P.Spawner.starts c.args.spawner.now) (g.P.Spawner.starts c.start_slot.new.spawner)) (omega (arith, put.len))
+      subst (λ (count : ℕ). HaveStarted count (g.P.Spawner.starts c.args.spawner.now) (g.P.Spawner.starts c.start_slot.new.spawner)) longer
           (one_started _ _ _ _ c.loop-one.invariant.1 started.counted),
       (subst (λ result. HasCause (g.P.Spawner.faults c.loop-one.spawner) (g.P.Spawner.faults c.start_slot.new.spawner) result) c.in-Ok.is c.start_slot.ensures.cause).quiet ∙ c.loop-one.invariant.2,
       omega (arith, at, put.len, c.loop-one.invariant.3),
       put.capacity ∙ c.loop-one.invariant.4,
     )
+
+pub returns-in-Err-clause-refused : goal.returns-in-Err-clause-refused
+returns-in-Err-clause-refused g c =
+    let left = ap (λ ready. from_the_end ready) (popped _ _ _ _ c.pop.ensures.items c.in-Some.is) ∙ from_the_end-last c.pop.new.self.items c.in-Some.one in
+    one_refused _ _ _ _ _ _ c.loop-one.invariant.0 left
+
+pub returns-clause-started : goal.returns-clause-started
+returns-clause-started g c =
+    let at = MatchOption-at_none _ _ c.in_default.is c.pop.ensures.cases in
+    all_started _ _ _ _ c.loop-one.invariant.0 (ap (λ ready. from_the_end ready) (nil_from_length c.loop-one.ready.items (omega (arith, at.0, c.loop-one.ready.ok.0))))

@@ -1,5 +1,5 @@
 -- The slots that aren't ready yet, and those that are.
-use Rattle.std.proofs.Common.{◌≡◌, ◌≤◌, ◌+◌, ◌++◌, vec_capacity, vec_len}
+use Rattle.std.proofs.Common.{◌≡◌, ◌+◌, ◌++◌, vec_capacity, vec_len}
 use Rattle.replication_workers.specs.Slots.{from_the_end}
 use Rattle.replication_workers.proofs.dispatcher.readying.ready_each.Given as goal
 

@@ -2,7 +2,7 @@ use Rattle.std.proofs.Common.{◌++◌, ◌∷◌, [], ◌∙◌, refl, sym, ap,
 use Rattle.std.proofs.lemmas.List.{nil_from_length}
 use Rattle.std.proofs.lemmas.Option.{MatchOption-at_none, MatchOption-at_some}
 use Rattle.replication_workers.specs.Slots.{from_the_end}
-use Rattle.replication_workers.proofs.Ready.{moved_back, none_popped, popped}
+use Rattle.replication_workers.proofs.Ready.{moved_back, popped}
 use Rattle.replication_workers.proofs.dispatcher.readying.unready.Goals as goal
 
 pub loop-one-init : goal.loop-one-init

@@ -1,6 +1,10 @@
 use Rattle.std.proofs.Common.{[], ◌∷◌, ◌+◌, ℕ, ap, length, ◌∙◌, sym, arith, length-append}
 use Rattle.std.proofs.Math.Logic.{∥∥₁_map}
+use Rattle.std.proofs.lemmas.List.Elements.{All-head}
+use Rattle.published_table.specs.Lists.{BeginsWith}
+use Rattle.published_table.specs.Views.{named, seen, told}
 use Rattle.replication_workers.specs.JobsSoFar.{jobs_listed}
+use Rattle.replication_workers.specs.Replicators.{view_of}
 use Rattle.replication_workers.proofs.Handling.{has_handled_then}
 use Rattle.replication_workers.proofs.dispatcher.inline_slot.InlineSlot.copy.Goals as goal
 
@@ -30,6 +34,7 @@ invariant_of-self g c =
           listed (ap (λ (number : ℕ). slot.sent + number) c.from.ensures) (ap (λ (number : ℕ). slot.unsent + number) c.from-2.ensures)
           so_far slot.limit copied.view.0 copied.view.1 copied.further copied.told copied.sends copied.few);
       idle = λ none. absurd (omega (arith, none));
+      terms = copied.view.0 ∙ slot.terms;
       publisher = copied.view.1 ∙ slot.publisher;
       limit = copied.limit ∙ slot.limit;
     }
@@ -38,4 +43,16 @@ pub returns-clause-jobs : goal.returns-clause-jobs
 returns-clause-jobs g c = c.then-handled.ensures
 
 pub returns-clause-copied : goal.returns-clause-copied
-returns-clause-copied g c = (c.replicate-copied.result.sent, c.replicate-copied.result.unsent, c.replicate-copied.ensures.sends)
+returns-clause-copied g c =
+    let now = c.args.self.now.replicator in
+    let done = c.replicate-copied in
+    let copied = done.ensures in record {
+      sent = done.result.sent;
+      unsent = done.result.unsent;
+      tries = copied.sends;
+      further = copied.further;
+      noted = All-head (BeginsWith (seen (view_of done.new.self))) (named c.args.job.note) (told (view_of now)) copied.told;
+      limit = copied.limit;
+      terms = copied.view.0;
+      publisher = copied.view.1;
+    }
