@@ -43,7 +43,11 @@ impl<O: OutLink + Drop, T> Dispatcher<O, T> {
 
     /// Ends the slots, in order, and gives what they leave: with threads each worker is stopped and waited
     /// for. It takes no memory.
-    pub fn finish<R: Wait, P: Spawner<Worker<O>, Started = T>>(self, rt: &R, spawner: &mut P) -> Finished<O>
+    pub fn finish<R: Wait, P: Spawner<Worker<O>, Started = T>>(
+        self,
+        rt: &R,
+        spawner: &mut P,
+    ) -> Finished<O>
         requires run { AllRun P.task_of self }
         ensures left { HaveLeft (slots_of self) result.outs (views_of result.views) result.sent result.unsent }
         ensures inline { is_threaded self ≡ false → result.inline ≡ jobs_in_all (slots_of self) }

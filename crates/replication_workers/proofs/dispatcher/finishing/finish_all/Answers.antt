@@ -5,9 +5,12 @@ use Rattle.replication_workers.proofs.Ending.{Ending, ending_first, ending_more,
 use Rattle.replication_workers.proofs.dispatcher.finishing.finish_all.Goals as goal
 
 pub loop-one-init : goal.loop-one-init
-loop-one-init g c =
-    (subst (λ rest. Ending g.P.Spawner.task_of c.args.kept.items rest c.args.gathered c.args.gathered) (sym c.into_iter-rest.ensures.rest)
-    (ending_first g.P.Spawner.task_of c.args.kept.items c.args.gathered c.requires.room c.requires.run), refl, refl)
+loop-one-init g c = (
+  subst (λ rest. Ending g.P.Spawner.task_of c.args.kept.items rest c.args.gathered c.args.gathered) (sym c.into_iter-rest.ensures.rest)
+      (ending_first g.P.Spawner.task_of c.args.kept.items c.args.gathered c.requires.room c.requires.run),
+  refl,
+  refl,
+)
 
 pub finish_kept-requires : goal.finish_kept-requires
 finish_kept-requires g c =

@@ -18,10 +18,12 @@ pub ready_one-requires : goal.ready_one-requires
 ready_one-requires g c =
     let at = MatchOption-at_some _ _ _ c.in-Some.is c.pop.ensures.cases in
     let slots = c.loop-replicator.slots.ok in
-    record { room = (
-      omega (arith, at, c.pop.ensures.capacity, c.pop.new.self.ok.0, slots.1),
-      omega (arith, at, c.loop-replicator.ready.ok.0, c.loop-replicator.invariant.1, c.loop-replicator.invariant.3, c.requires.room, c.args.slots.now.ok.0),
-    ) }
+    record {
+      room = (
+        omega (arith, at, c.pop.ensures.capacity, c.pop.new.self.ok.0, slots.1),
+        omega (arith, at, c.loop-replicator.ready.ok.0, c.loop-replicator.invariant.1, c.loop-replicator.invariant.3, c.requires.room, c.args.slots.now.ok.0),
+      );
+    }
 
 pub loop-replicator-smaller : goal.loop-replicator-smaller
 loop-replicator-smaller g c =
