@@ -9,7 +9,7 @@ use Rattle.replication_workers.specs.Dispatchers.{slots_of}
 use Rattle.relay_serving.specs.Courses.{events_so_far}
 use Rattle.relay_serving.specs.GivenOut.{starts_in}
 use Rattle.relay_serving.proofs.Counting.{IsCounted-then}
-use Rattle.relay_serving.proofs.GivenOut.{few-given, for_slots, given_out-packet, of_publisher-put, starts_in-put}
+use Rattle.relay_serving.proofs.GivenOut.{few-given, given_out-packet, of_publisher-put, starts_in-put}
 use Rattle.relay_serving.proofs.Packets.{RelayAt-packet, counted-packet, outcome-plain, published_log-packet}
 use Rattle.relay_serving.proofs.server.Server.feed_packet.Goals as goal
 
@@ -21,7 +21,7 @@ send-requires-clause-few g c =
 pub send-requires-clause-publisher : goal.send-requires-clause-publisher
 send-requires-clause-publisher g c =
     let server = c.args.self.now in
-    for_slots (book_of server.publisher) _ (slots_of server.dispatcher) c.tell.ensures.publisher server.publishers
+    λ number default within. c.tell.ensures.publisher ∙ sym (server.publishers number default within)
 
 pub invariant_of-self : goal.invariant_of-self
 invariant_of-self g c =
@@ -30,7 +30,7 @@ invariant_of-self g c =
     let first = server.first.value in
     let events = events_so_far server.course in
     let later = events_so_far c.fed.result in
-    let bytes = c.in_ok-copied.field-0 in
+    let bytes = c.in_ok-packet.packet in
     let next = c.fed.ensures in
     let outcome = outcome_of settings first events (Packet bytes) in
     let shown : published server.publisher ≡ published_log settings first events =
@@ -57,5 +57,5 @@ returns-clause-events g c =
         same_mode = c.send.ensures.mode;
         same_tasks = c.send.ensures.run;
       };
-      events = c.fed.ensures ∙ ap (λ (bytes : List ℕ). events_so_far server.course ++ Packet bytes ∷ []) c.in_ok-copied.ensures;
+      events = c.fed.ensures ∙ ap (λ (bytes : List ℕ). events_so_far server.course ++ Packet bytes ∷ []) c.in_ok-packet.ensures;
     }
