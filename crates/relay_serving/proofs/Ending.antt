@@ -1,11 +1,11 @@
 -- Views that are asked one after the other.
-use Rattle.std.proofs.Common.{◌≡◌, ◌<◌, ◌≤◌, ℕ, ◌+◌, Bool, true, false, cond, List, [], ◌∷◌, ◌++◌, count_by, length, reverse, Result, Ok, Err, IsOk, OnOk, refl, sym, ap, subst, ◌∙◌, append_assoc, append-nil, true≢false, if◌then◌else◌}
+use Rattle.std.proofs.Common.{◌≡◌, ◌<◌, ◌≤◌, ℕ, ◌+◌, Bool, true, false, cond, List, [], ◌∷◌, ◌++◌, count_by, length, reverse, Result, Ok, Err, IsOk, OnOk, refl, sym, ap, subst, ◌∙◌, append_assoc, append-nil, arith, true≢false, if◌then◌else◌}
 use Rattle.std.specs.List.{All, AllZip}
 use Rattle.std.proofs.lemmas.List.{length_push}
-use Rattle.std.proofs.lemmas.List.Elements.{AllZip-push, All-nil, All-push}
+use Rattle.std.proofs.lemmas.List.Elements.{AllZip-push, All-head, All-nil, All-push}
 use Rattle.std.proofs.lemmas.List.Sums.{count_by-le-length, sum_by_push}
 use Rattle.endpoint_membership.specs.declared.change.Change.{Change}
-use Rattle.published_table.specs.Lists.{BeginsWith}
+use Rattle.published_table.specs.Lists.{BeginsWith, BeginsWithEach}
 use Rattle.published_table.specs.Views.{seen}
 use Rattle.published_table.specs.declared.view.View.{View}
 use Rattle.relay_serving.specs.Ending.{AreAsked}
@@ -58,3 +58,13 @@ counted_more test list longer one passes is same =
 pub inline_by : (inline jobs : ℕ) (threaded : Bool) → (threaded ≡ false → inline ≡ jobs) → (threaded ≡ true → inline ≡ 0) → inline ≡ (if threaded then 0 else jobs)
 inline_by inline jobs true all none = none refl
 inline_by inline jobs false all none = all refl
+
+-- one at most
+pub at_most_one : (passes : Bool) → cond passes 1 0 ≤ 1
+at_most_one true = omega arith
+at_most_one false = omega arith
+
+-- what was told last is reached
+pub reached_by : (log named published : List Change) (told others : List (List Change)) → told ≡ named ∷ others → named ≡ published → BeginsWithEach log told → BeginsWith log published
+reached_by log named published told others is same each =
+    subst (BeginsWith log) same (All-head (BeginsWith log) named others (subst (BeginsWithEach log) is each))

@@ -10,6 +10,7 @@ use Rattle.std.proofs.lemmas.List.Elements.{All-cons, All-head, All-tail, filter
 use Rattle.logbook.specs.Pages.{Book}
 use Rattle.std.proofs.lemmas.List.Sums.{sum_by-cons}
 use Rattle.amt_ports.specs.declared.out_link.OutLink.{Ghosts}
+use Rattle.published_table.specs.declared.view.Note.{Note}
 use Rattle.published_table.specs.Views.{named, note_publisher, publisher_of}
 use Rattle.response_mac.specs.declared.secret.Secret.{Secret}
 use Rattle.relay_machine.specs.Events.{now_of}
@@ -17,7 +18,7 @@ use Rattle.relay_machine.specs.Published.{published_log}
 use Rattle.relay_machine.specs.declared.event.Event.{Event}
 use Rattle.relay_machine.specs.declared.event.Event.TheVariants.{Moment, Datagram, Packet, Rotate}
 use Rattle.relay_machine.specs.declared.settings.Settings.{Settings}
-use Rattle.replication_workers.specs.Dispatchers.{IsForSlot, slot_for}
+use Rattle.replication_workers.specs.Dispatchers.{slot_for}
 use Rattle.replication_workers.specs.Replicators.{view_of}
 use Rattle.replication_workers.specs.SlotStates.{SlotState, jobs_in_all, with_job}
 use Rattle.replication_workers.specs.declared.job.Job.{Job}
@@ -173,9 +174,10 @@ module _ {O : Type 0} {g : Ghosts O} where
       subst (λ (all : List Event). ∥ AreGivenOut settings first all slots' ∥₁) (sym next)
       (∥∥₁_map given (given_more settings first events slots slots' job bytes place slot put packet at log))
 
-  -- the job's note is of the slots' publisher
-  pub for_slots : (publisher : Book) (job : Job) (slots : List (SlotState O g)) → note_publisher job.note ≡ publisher → AreOfPublisher publisher slots → All (IsForSlot job) slots
-  for_slots publisher job slots is of = λ number default within. is ∙ sym (of number default within)
+  -- a job's note is of the slots' publisher
+  pub for_slots : (publisher : Book) (note : Note) (slots : List (SlotState O g)) → note_publisher note ≡ publisher → AreOfPublisher publisher slots
+      → All (λ (slot : SlotState O g). note_publisher note ≡ publisher_of (view_of slot.first)) slots
+  for_slots publisher note slots is of = λ number default within. is ∙ sym (of number default within)
 
   -- which stays so
   of_publisher-with : (publisher : Book) (place : ℕ) (job : Job) (slots : List (SlotState O g)) → AreOfPublisher publisher slots → AreOfPublisher publisher (with_job place job slots)

@@ -1,6 +1,7 @@
 -- Replicators that are made and taken apart from the end of a list, and slots without jobs.
-use Rattle.std.proofs.Common.{◌≡◌, ℕ, ◌+◌, ◌≤◌, List, [], ◌∷◌, ◌++◌, length, map, reverse, refl, sym, ap, subst, ◌∙◌, append_assoc, append-nil, arith, length-append}
-use Rattle.std.specs.Prelude.{Some}
+use Rattle.std.proofs.Common.{◌≡◌, ℕ, ◌+◌, ◌≤◌, List, [], ◌∷◌, ◌++◌, length, map, reverse, refl, sym, ap, subst, ◌∙◌, append_assoc, append-nil, arith, length-append, false, true≢false}
+use Rattle.std.specs.Prelude.{Result, Ok, Err, IfOk, OnOk, Some}
+use Rattle.core.specs.Result.{is_err}
 use Rattle.std.specs.List.{All, enumerate_from}
 use Rattle.std.proofs.lemmas.List.{length-map, length-reverse, map-append, reverse-append}
 use Rattle.std.proofs.lemmas.List.Elements.{All-cons, All-head, All-nil, All-pop, All-push, All-tail}
@@ -60,6 +61,16 @@ as_many f outs all made is = omega (arith, ap length is, length-append outs (map
 -- of all but the last one, and of that
 pub all_but_last : {A : Type 0} (P : A → Type 0) (list shorter : List A) (one : A) → list ≡ shorter ++ one ∷ [] → All P list → All P shorter × P one
 all_but_last P list shorter one is all = All-pop P list shorter (Some one) is all
+
+-- what holds where nothing was refused
+pub of_no_err : {T E P : Type 0} (result : Result T E) → false ≡ is_err result → OnOk result P → P
+of_no_err (Ok value) same holds = holds
+of_no_err (Err fault) same holds = absurd (true≢false (sym same))
+
+-- one fact of what was made gives another
+pub if_ok_then : {T E : Type 0} (result : Result T E) (P Q : T → Type 0) → IfOk result P → ((made : T) → P made → Q made) → IfOk result Q
+if_ok_then (Ok made) P Q holds then = then made holds
+if_ok_then (Err fault) P Q holds then = holds
 
 -- a view reads by the settings' limits
 pub few_endpoints : (settings : Settings) (view : View) → terms_of view ≡ terms_by settings → (terms_of view).limits.endpoints ≤ settings.limits.endpoints

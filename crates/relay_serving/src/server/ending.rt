@@ -1,7 +1,8 @@
 //! How a running relay is ended. It must not know turns.
-ghost use Rattle.std.specs.Prelude.{◌≡◌, ◌≤◌, ◌+◌, ◌^◌, [], All, count_by, length, reverse};
+ghost use Rattle.std.specs.Prelude.{◌≡◌, ◌≤◌, ◌<◌, ◌+◌, ◌^◌, [], ◌∷◌, ◌++◌, All, cond, count_by, length, reverse};
+ghost use Rattle.published_table.specs.Lists.{BeginsWith};
 ghost use Rattle.published_table.specs.Publishers.{book_of, published};
-ghost use Rattle.published_table.specs.Views.{publisher_of, room_of, views_of};
+ghost use Rattle.published_table.specs.Views.{publisher_of, room_of, seen, views_of};
 ghost use Rattle.replication_workers.specs.Dispatchers.{AllRun};
 ghost use Rattle.relay_serving.specs.Ending.{AreAsked, Finishes};
 ghost use Rattle.relay_serving.specs.Servers.{slots_in};
@@ -10,7 +11,7 @@ ghost use Rattle.relay_serving.specs.Views.{is_apart};
 use super::Server;
 use crate::counts::Counts;
 use amt_ports::{OutLink, Spawner};
-use published_table::{Publisher, Views};
+use published_table::{Publisher, View, Views};
 use replication_workers::{Finished, Outs, Worker, read_length};
 use std::sync::Wait;
 
@@ -40,8 +41,31 @@ fn turn_round(from: &mut Views, to: &mut Views)
     }
 }
 
-// Tells each view, the last one first, what is published, and asks it until it answers. Those whose log isn't
-// the published one are counted.
+// Puts the view after the others.
+fn put(views: &mut Views, view: View)
+    requires room { length (views_of views.old) < room_of views.old }
+    ensures put { views_of views.new ≡ views_of views.old ++ view ∷ [] }
+    ensures room { room_of views.old ≤ room_of views.new }
+{
+    let _ = views.push(view);
+}
+
+// Tells the view what is published, and asks it until it answers: 1 where its log isn't the published one.
+fn ask<R: Wait>(rt: &R, publisher: &Publisher, view: &mut View) -> u64
+    requires { publisher_of view.old ≡ book_of publisher.now }
+    ensures further { BeginsWith (seen view.new) (seen view.old) }
+    ensures reached { BeginsWith (seen view.new) (published publisher.now) }
+    ensures apart { result ≡ cond (is_apart (length (published publisher.now)) view.new) 1 0 }
+{
+    view.learn(publisher.tell());
+    if read_length(rt, view) == publisher.published() {
+        0
+    } else {
+        1
+    }
+}
+
+// Asks each view, the last one first. Those whose log isn't the published one are counted.
 fn ask_each<R: Wait>(rt: &R, publisher: &Publisher, from: &mut Views, to: &mut Views) -> u64
     requires none { views_of to.old ≡ [] }
     requires room { length (views_of from.old) ≤ room_of to.old }
@@ -51,11 +75,8 @@ fn ask_each<R: Wait>(rt: &R, publisher: &Publisher, from: &mut Views, to: &mut V
 {
     let mut apart = 0;
     while let Some(mut view) = from.pop() {
-        view.learn(publisher.tell());
-        if read_length(rt, &mut view) != publisher.published() {
-            apart += 1;
-        }
-        let _ = to.push(view);
+        apart += ask(rt, publisher, &mut view);
+        put(to, view);
     }
     apart
 }

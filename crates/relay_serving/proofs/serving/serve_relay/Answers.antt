@@ -31,7 +31,7 @@ pub returns-in-Err : goal.returns-in-Err
 returns-in-Err g c =
     let drawn = c.draw_secret.ensures.drawn in
     let seen = outs_seen g.O.OutLink.tried g.O.OutLink.faults in record {
-      serves = ∣ reported _ _ _ _ _ _ _ _ _ _ _ (ap seen (c.unused-in-Err.ensures.outs ∙ c.in-Err.outs-is)) c.unused-in-Err.ensures.views (c.unused-in-Err.ensures.report ∙ ap unused_report c.in-Err.end-is)
+      serves = ∣ reported _ _ _ _ _ _ _ _ _ _ _ (ap seen c.unused-in-Err.ensures.outs) c.unused-in-Err.ensures.views c.unused-in-Err.ensures.report
           (serves_unstarted _ _ c.in-Err.field-0.end drawn.words _ _ _ _ _ _ _ _ (seen c.in-Err.field-0.outs) drawn.given (four_words _ _ _ _ drawn c.in-Ok.is).1 (is_quiet _ _ _ _ c.draw_secret.ensures.cause c.in-Ok.is)
             (c.in-Err.ensures.left)) ∣₁;
     }
