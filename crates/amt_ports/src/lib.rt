@@ -1,24 +1,51 @@
-//! The outside as traits: sources and sinks of bytes, with devices in memory and over std's.
+//! The outside as traits: bytes, datagrams, packets, moments, random words, files and threads, with
+//! devices in memory, adapters over std's readers, writers, sockets, clock, random source and files, and
+//! spawners over std's threads.
 //!
-//! Contract: a call fails where its device's count of faults rose, and only there; where a device
-//! tells its bytes, they are what was read or written.
-//! It knows no message, endpoint or moment.
+//! Contract: a call answers that its device failed where the device's count of faults rose, and only there;
+//! where a device tells what it gave, took or tried, that is what its calls answered.
+//! It knows no message and no endpoint, and of time the moments alone.
 //! No standard.
 #![tactic(auto)]
 
 mod adapters;
+mod clock;
 mod fault;
+mod feed;
+mod files;
+mod link;
 mod memory;
+mod out_link;
 mod reading;
+mod script;
 mod sink;
 mod source;
+mod spawners;
 mod tally;
+mod task;
+mod tried;
+mod words;
 mod writing;
 
-pub use adapters::{Adapted, ReaderSource, WriterSink};
+pub use adapters::{
+    Adapted, HostClock, HostFiles, HostWords, ReaderSource, UdpFeed, UdpLink, UdpOut, WriterSink,
+    open_sockets,
+};
+pub use clock::Clock;
 pub use fault::Failed;
-pub use memory::{FaultlessSource, MemSink, MemSource};
+pub use feed::{Feed, FeedAnswer, FeedGot};
+pub use files::{FileFault, Files};
+pub use link::{Got, Link, LinkAnswer};
+pub use memory::{
+    FaultlessFeed, FaultlessSource, FaultlessWords, MemClock, MemFeed, MemFile, MemFiles, MemLink,
+    MemOut, MemSink, MemSource, MemWords,
+};
+pub use out_link::OutLink;
 pub use reading::{READ_SIZE, ReadAllFault, read_all};
 pub use sink::Sink;
 pub use source::Source;
+pub use spawners::{GivenBy, ListedSpawner, Starts, ThreadSpawner, start_promised};
+pub use task::{Spawner, Task};
+pub use tried::Tried;
+pub use words::Words;
 pub use writing::{WriteFault, write_all_own};

@@ -1,5 +1,9 @@
+mod Digits
 mod Naming
 mod Numbers
 mod OddLines
+mod Optional
 mod PlainLines
+mod PlainRelay
 mod Reading
+mod Walks

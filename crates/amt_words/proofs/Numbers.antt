@@ -20,7 +20,7 @@ use Rattle.clap.proofs.CallerReads.{required_reads, signed_reads}
 use Rattle.amt_words.specs.Given.{HasNumber}
 use Rattle.amt_words.specs.Line.{number_of}
 
-same_value : (a x : Arg) → SameRules a x → TakesValue a → TakesValue x
+pub same_value : (a x : Arg) → SameRules a x → TakesValue a → TakesValue x
 same_value a x r t = (r.required ∙ t.0, r.action Set t.1, r.val_delim ∙ t.2, r.least t.1 t.3)
 
 -- the required argument at place k has a number
@@ -60,7 +60,7 @@ count_alone x y is zero e lt eq =
 count_alone x y is (suc zero) e lt eq = refl
 count_alone x y is (suc (suc j)) e lt eq = absurd (omega arith)
 
-text_differs : (a b : Text) (x y : ℕ) → a ≡ b → length a ≡ x → length b ≡ y → (x ≡ y → ⊥) → ⊥
+pub text_differs : (a b : Text) (x y : ℕ) → a ≡ b → length a ≡ x → length b ≡ y → (x ≡ y → ⊥) → ⊥
 text_differs a b x y e f g differ = differ (sym f ∙ ap (λ (t : Text). length t) e ∙ g)
 
 -- a command of the two arguments SEED and N has a number of each

@@ -1,14 +1,20 @@
 -- The rows of a parse, as the words give them.
-use Rattle.std.proofs.Common.{◌≡◌, ◌∙◌, ℕ, List, Some, sym, ap}
+use Rattle.std.proofs.Common.{◌≡◌, ◌∙◌, ℕ, List, Option, sym, ap}
 use Rattle.std.specs.Prelude.{option_map}
-use Rattle.clap.specs.Words.{App, Row, Text, matches_of, one_of, one_text, rows_of}
+use Rattle.clap.specs.Words.{App, Row, Text, first_of, first_value, matches_of, one_of, one_text, rows_of}
 use Rattle.clap.specs.declared.parser.matches.Found.{Found}
-use Rattle.clap.proofs.WalkLemmas.{one_text-rows}
-use Rattle.amt_words.specs.Line.{load_number, number_of}
-use Rattle.amt_words.specs.Usage.{load_usage}
+use Rattle.clap.proofs.WalkLemmas.{first_value-rows, one_text-rows}
+use Rattle.amt_words.specs.Line.{number_in, number_of, word_in}
 
-pub given_number : (found : Found) (id : Text) (usage : App) (words : List Text) (n : ℕ) → rows_of found ≡ matches_of usage words
-    → usage ≡ load_usage → option_map number_of (one_text found id) ≡ Some n → load_number id words ≡ Some n
-given_number found id usage words n rows is number =
-    ap (λ (r : List Row). option_map number_of (one_of id r)) (sym (rows ∙ ap (λ (a : App). matches_of a words) is))
-    ∙ (ap (option_map number_of) (sym (one_text-rows found id)) ∙ number)
+module _ (found : Found) (usage known : App) (words : List Text) (rows : rows_of found ≡ matches_of usage words) (is : usage ≡ known) where
+  known_rows : rows_of found ≡ matches_of known words
+  known_rows = rows ∙ ap (λ (a : App). matches_of a words) is
+
+  pub given_number : (id : Text) (n : Option ℕ) → option_map number_of (one_text found id) ≡ n → number_in known id words ≡ n
+  given_number id n number =
+      ap (λ (r : List Row). option_map number_of (one_of id r)) (sym known_rows)
+      ∙ (ap (option_map number_of) (sym (one_text-rows found id)) ∙ number)
+
+  pub given_word : (id : Text) (word : Option Text) → first_value found id ≡ word → word_in known id words ≡ word
+  given_word id word is_word =
+      ap (λ (r : List Row). first_of id r) (sym known_rows) ∙ (sym (first_value-rows found id) ∙ is_word)

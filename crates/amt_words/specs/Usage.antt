@@ -24,6 +24,18 @@ number_rule id least most = record (new_rule id) {
   parser = Some (parsers.Signed (pos least) (pos most));
 }
 
+-- a required argument without a name, any word
+abbrev pub word_rule : Text → Rule
+word_rule id = record (new_rule id) { action = Some Set; required = true }
+
+-- `--id NUMBER`, which may be left out: a number from least to most
+abbrev pub option_rule : Text → ℕ → ℕ → Rule
+option_rule id least most = record (new_rule id) {
+  long = Some id;
+  action = Some Set;
+  parser = Some (parsers.Signed (pos least) (pos most));
+}
+
 -- replay relay|gateway|pair
 abbrev pub replayable_name : Replayable → Text
 replayable_name Relay = codes "relay"
@@ -57,9 +69,15 @@ abbrev pub load_usage : App
 load_usage = with_rule (with_rule (bare_usage (codes "load"))
     (number_rule (codes "SEED") 0 4294967295)) (number_rule (codes "N") 1 65536)
 
+-- relay FILE [--turns T] [--workers W]
+abbrev pub relay_usage : App
+relay_usage = with_rule (with_rule (with_rule (bare_usage (codes "relay"))
+    (word_rule (codes "FILE"))) (option_rule (codes "turns") 1 1099511627776))
+    (option_rule (codes "workers") 0 64)
+
 -- the written definitions, one a command
 abbrev pub usages : List App
-usages = replay_usage ∷ dump_usage ∷ vectors_usage ∷ load_usage ∷ []
+usages = replay_usage ∷ dump_usage ∷ vectors_usage ∷ load_usage ∷ relay_usage ∷ []
 
 -- the words after a command's name are among those that its written definition takes
 abbrev pub Takes : App → List Text → Type 0

@@ -1,5 +1,7 @@
 //! The commands, by what they are asked to do. It reads no word.
 
+use crate::file_name::FileName;
+
 /// What can be replayed from a script.
 #[derive(Clone, Copy, Debug, PartialEq, Eq)]
 pub enum Replayable {
@@ -10,8 +12,8 @@ pub enum Replayable {
 }
 
 /// What `amt` is asked to do.
-#[derive(Clone, Copy, Debug, PartialEq, Eq)]
-pub enum Command {
+#[derive(Debug, Drop, PartialEq, Eq)]
+pub enum Command<'a> {
     /// Read a script, run it, and write the text of its steps.
     Replay(Replayable),
     /// Write the text of each message.
@@ -19,7 +21,17 @@ pub enum Command {
     /// Compare known answers.
     Vectors,
     /// Run a relay under `count` endpoints that `seed` makes.
-    Load { seed: u32, count: u32 },
+    Load {
+        seed: u32,
+        count: u32,
+    },
+    /// Serve as the relay that the settings of `file` say, for so many turns at most. `workers`
+    /// outweighs the settings.
+    Relay {
+        file: FileName<'a>,
+        turns: u64,
+        workers: Option<u32>,
+    },
 }
 
 /// Why arguments are no command.

@@ -6,9 +6,10 @@ ghost use Rattle.clap.specs.Built.{TakesValue};
 ghost use Rattle.clap.specs.declared.builder.command.Command.TheViews.{out-Command as fields_of};
 ghost use Rattle.clap.specs.declared.builder.value_parser.ValueParser.TheVariants.{Signed};
 ghost use Rattle.clap.specs.declared.parser.matches.ArgMatches.{ArgMatches as MatchesValue};
-ghost use Rattle.amt_words.specs.Given.{HasNumber};
-ghost use Rattle.amt_words.specs.Usage.{bare_usage, load_usage, number_rule, replay_head, replay_usage};
+ghost use Rattle.amt_words.specs.Given.{HasNumber, HasNumberIfAny, HasWord};
+ghost use Rattle.amt_words.specs.Usage.{bare_usage, load_usage, number_rule, option_rule, relay_usage, replay_head, replay_usage, word_rule};
 
+use clap::builder::ValueParser;
 use clap::{Arg, ArgAction};
 use std::alloc::{AllocError, Global};
 
@@ -68,4 +69,48 @@ pub fn load_definition<'a>(alloc: Global) -> Result<clap::Command<'a>, AllocErro
 {
     let definition = bare_definition(alloc, "load").arg(seed_argument(alloc))?;
     definition.arg(count_argument(alloc))
+}
+
+fn file_argument<'a>(alloc: Global) -> Arg<'a>
+    ensures rule { rule_of result ≡ word_rule (codes "FILE") }
+    ensures plain { IsPlainArg result × (result.global ≡ false) }
+    ensures value { TakesValue result }
+{
+    Arg::new(alloc, "FILE")
+        .required(true)
+        .action(ArgAction::Set)
+}
+
+fn turns_argument<'a>(alloc: Global) -> Arg<'a>
+    ensures rule { rule_of result ≡ option_rule (codes "turns") 1 1099511627776 }
+    ensures plain { IsPlainArg result × (result.global ≡ false) }
+{
+    Arg::new(alloc, "turns")
+        .long("turns")
+        .action(ArgAction::Set)
+        .value_parser(ValueParser::signed(1, 1_099_511_627_776))
+}
+
+fn workers_argument<'a>(alloc: Global) -> Arg<'a>
+    ensures rule { rule_of result ≡ option_rule (codes "workers") 0 64 }
+    ensures plain { IsPlainArg result × (result.global ≡ false) }
+{
+    Arg::new(alloc, "workers")
+        .long("workers")
+        .action(ArgAction::Set)
+        .value_parser(clap::value_parser!(u32).range(0..=64))
+}
+
+/// `relay FILE [--turns T] [--workers W]`.
+pub fn relay_definition<'a>(alloc: Global) -> Result<clap::Command<'a>, AllocError>
+    ensures usage { IfOk result (λ definition. app_of definition ≡ relay_usage) }
+    ensures given { IfOk result (λ definition. (found : MatchesValue)
+        → IsParsedFrom definition found → HasWord (found_of found) (codes "FILE")
+        × HasNumberIfAny (found_of found) (codes "turns") 1 1099511627776
+        × HasNumberIfAny (found_of found) (codes "workers") 0 64) }
+{
+    let definition = bare_definition(alloc, "relay").arg(file_argument(alloc))?;
+    definition
+        .arg(turns_argument(alloc))?
+        .arg(workers_argument(alloc))
 }

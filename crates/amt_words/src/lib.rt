@@ -8,12 +8,15 @@
 
 mod command;
 mod definition;
+mod file_name;
 mod load;
 mod parsing;
+mod relay;
 mod replay;
 #[cfg(test)]
 mod tests;
 mod words;
 
 pub use command::{Command, Replayable, WordsFault};
+pub use file_name::FileName;
 pub use words::read_words;

@@ -3,7 +3,7 @@
 ghost use Rattle.std.specs.Prelude.{◌≡◌, ◌≤◌, ◌<◌, ◌^◌, ℕ, Some, codes, map, string_bytes, option_map, IfOk, IsErrOf};
 ghost use Rattle.clap.specs.Words.{found_of, one_text};
 ghost use Rattle.amt_words.specs.Given.{HasNumber, HasSomeNumber};
-ghost use Rattle.amt_words.specs.Line.{load_number, number_of};
+ghost use Rattle.amt_words.specs.Line.{GivesLoad, IsLoadCount, number_of};
 ghost use Rattle.amt_words.specs.Usage.{Takes, load_usage};
 
 use crate::command::WordsFault;
@@ -26,9 +26,8 @@ fn number(found: &ArgMatches, id: &str) -> u32
 pub fn read_load(alloc: Global, words: &[String]) -> Result<(u32, u32), WordsFault>
     ensures taken { IfOk result (λ numbers. Takes load_usage (map string_bytes words.now)) }
     ensures numbers { IfOk result (λ numbers.
-        (load_number (codes "SEED") (map string_bytes words.now) ≡ Some numbers.0)
-        × (load_number (codes "N") (map string_bytes words.now) ≡ Some numbers.1)) }
-    ensures range { IfOk result (λ numbers. (1 ≤ numbers.1) × (numbers.1 ≤ 65536)) }
+        GivesLoad numbers.0 numbers.1 (map string_bytes words.now)) }
+    ensures range { IfOk result (λ numbers. IsLoadCount numbers.1) }
     ensures usage { IsErrOf result WordsFault.Usage
         → Takes load_usage (map string_bytes words.now) → ⊥ }
 {

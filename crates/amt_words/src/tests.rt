@@ -5,13 +5,31 @@ use std::alloc::{AllocError, Global};
 use std::process::Abort;
 
 // Words, and the command that they are; None: no written definition takes them.
-type Row = (&'static [&'static str], Option<Command>);
+type Row = (&'static [&'static str], Option<Plain>);
 
-const RELAY: Option<Command> = Some(Command::Replay(Replayable::Relay));
+// A command that holds no word of its line.
+#[derive(Clone, Copy, Debug)]
+enum Plain {
+    Replay(Replayable),
+    Dump,
+    Vectors,
+}
 
-const GATEWAY: Option<Command> = Some(Command::Replay(Replayable::Gateway));
+impl Plain {
+    fn command(self) -> Command<'static> {
+        match self {
+            Plain::Replay(kind) => Command::Replay(kind),
+            Plain::Dump => Command::Dump,
+            Plain::Vectors => Command::Vectors,
+        }
+    }
+}
 
-const PAIR: Option<Command> = Some(Command::Replay(Replayable::Pair));
+const RELAY: Option<Plain> = Some(Plain::Replay(Replayable::Relay));
+
+const GATEWAY: Option<Plain> = Some(Plain::Replay(Replayable::Gateway));
+
+const PAIR: Option<Plain> = Some(Plain::Replay(Replayable::Pair));
 
 const NAMES: [Row; 36] = [
     (&[], None),
@@ -36,16 +54,16 @@ const NAMES: [Row; 36] = [
     (&["Replay", "relay"], None),
     (&["replay relay"], None),
     (&["replay", "relay "], None),
-    (&["dump"], Some(Command::Dump)),
+    (&["dump"], Some(Plain::Dump)),
     (&["dump", "x"], None),
     (&["dump", ""], None),
-    (&["dump", "--"], Some(Command::Dump)),
+    (&["dump", "--"], Some(Plain::Dump)),
     (&["dump", "--", "x"], None),
     (&["dump", "dump"], None),
     (&["dump", "--help"], None),
     (&["dump "], None),
-    (&["vectors"], Some(Command::Vectors)),
-    (&["vectors", "--"], Some(Command::Vectors)),
+    (&["vectors"], Some(Plain::Vectors)),
+    (&["vectors", "--"], Some(Plain::Vectors)),
     (&["vectors", "-h"], None),
     (&["--help"], None),
     (&["-h"], None),
@@ -87,10 +105,95 @@ const LOADS: [LoadRow; 29] = [
     (&["load", "load", "1"], None),
 ];
 
-// Commands that serve are not read yet.
-const SERVING: [Row; 4] = [
+// Words, and the file, the turns and the workers that they give `relay`.
+type RelayRow = (
+    &'static [&'static str],
+    Option<(&'static str, u64, Option<u32>)>,
+);
+
+const MOST: u64 = 1_099_511_627_776;
+
+const FILES: [RelayRow; 17] = [
     (&["relay"], None),
-    (&["relay", "f"], None),
+    (&["relay", "f"], Some(("f", MOST, None))),
+    (&["relay", ""], Some(("", MOST, None))),
+    (&["relay", "a b.toml"], Some(("a b.toml", MOST, None))),
+    (&["relay", "relay"], Some(("relay", MOST, None))),
+    (&["relay", "-"], Some(("-", MOST, None))),
+    (&["relay", "-f"], None),
+    (&["relay", "--f"], None),
+    (&["relay", "--"], None),
+    (&["relay", "--", "-f"], Some(("-f", MOST, None))),
+    (&["relay", "--", "--turns"], Some(("--turns", MOST, None))),
+    (&["relay", "f", "--"], Some(("f", MOST, None))),
+    (&["relay", "f", "g"], None),
+    (&["relay", "--help"], None),
+    (&["relay", "f", "--help"], None),
+    (&["relay", "f", "-h"], None),
+    (&["Relay", "f"], None),
+];
+
+const TURNS: [RelayRow; 21] = [
+    (&["relay", "f", "--turns", "1"], Some(("f", 1, None))),
+    (&["relay", "f", "--turns", "0"], None),
+    (
+        &["relay", "f", "--turns", "1099511627776"],
+        Some(("f", MOST, None)),
+    ),
+    (&["relay", "f", "--turns", "1099511627777"], None),
+    (&["relay", "f", "--turns", "18446744073709551616"], None),
+    (&["relay", "--turns", "3", "f"], Some(("f", 3, None))),
+    (&["relay", "f", "--turns=3"], Some(("f", 3, None))),
+    (&["relay", "--turns=3", "--", "f"], Some(("f", 3, None))),
+    (&["relay", "f", "--turns", "+3"], Some(("f", 3, None))),
+    (&["relay", "f", "--turns", "003"], Some(("f", 3, None))),
+    (&["relay", "f", "--turns", "-3"], None),
+    (&["relay", "f", "--turns=-3"], None),
+    (&["relay", "f", "--turns=-0"], None),
+    (&["relay", "f", "--turns="], None),
+    (&["relay", "f", "--turns"], None),
+    (&["relay", "--turns", "f"], None),
+    (&["relay", "f", "--turns", "3", "--turns", "3"], None),
+    (&["relay", "f", "--", "--turns", "3"], None),
+    (&["relay", "f", "--turn", "3"], None),
+    (&["relay", "f", "-t", "3"], None),
+    (&["relay", "--turns", "3"], None),
+];
+
+const WORKERS: [RelayRow; 13] = [
+    (
+        &["relay", "f", "--workers", "0"],
+        Some(("f", MOST, Some(0))),
+    ),
+    (
+        &["relay", "f", "--workers", "64"],
+        Some(("f", MOST, Some(64))),
+    ),
+    (&["relay", "f", "--workers", "65"], None),
+    (&["relay", "f", "--workers=-0"], Some(("f", MOST, Some(0)))),
+    (&["relay", "f", "--workers=-1"], None),
+    (&["relay", "f", "--workers"], None),
+    (&["relay", "--workers=2", "f"], Some(("f", MOST, Some(2)))),
+    (&["relay", "f", "--workers", "2", "--workers", "2"], None),
+    (
+        &["relay", "f", "--turns", "3", "--workers", "2"],
+        Some(("f", 3, Some(2))),
+    ),
+    (
+        &["relay", "f", "--workers", "2", "--turns", "3"],
+        Some(("f", 3, Some(2))),
+    ),
+    (
+        &["relay", "--workers", "2", "f", "--turns=3"],
+        Some(("f", 3, Some(2))),
+    ),
+    (&["relay", "--turns", "--workers", "2", "f"], None),
+    (&["relay", "f", "3", "2"], None),
+];
+
+// Commands that serve and are not read yet.
+const SERVING: [Row; 3] = [
+    (&["gateway"], None),
     (&["gateway", "f"], None),
     (&["pair"], None),
 ];
@@ -103,19 +206,23 @@ fn copied(alloc: Global, words: &[&str]) -> Result<Vec<String>, AllocError> {
     Ok(copies)
 }
 
-fn read(alloc: Global, words: &[&str]) -> Result<Command, WordsFault> {
+fn is_read(rt: &impl Abort, alloc: Global, words: &[&str], command: Option<Command>) {
     match copied(alloc, words) {
-        Ok(words) => read_words(alloc, &words),
-        Err(_) => Err(WordsFault::Memory),
+        Ok(copies) => assert_eq!(rt;
+            read_words(alloc, &copies),
+            command.ok_or(WordsFault::Usage),
+            "{words:?}"
+        ),
+        Err(_) => assert!(rt; false, "out of memory"),
     }
 }
 
-fn is_read(rt: &impl Abort, alloc: Global, words: &[&str], command: Option<Command>) {
-    assert_eq!(rt;
-        read(alloc, words),
-        command.ok_or(WordsFault::Usage),
-        "{words:?}"
-    );
+fn is_plain(rt: &impl Abort, alloc: Global, words: &[&str], plain: Option<Plain>) {
+    let command = match plain {
+        Some(plain) => Some(plain.command()),
+        None => None,
+    };
+    is_read(rt, alloc, words, command);
 }
 
 fn is_load(rt: &impl Abort, alloc: Global, words: &[&str], numbers: Option<(u32, u32)>) {
@@ -126,15 +233,38 @@ fn is_load(rt: &impl Abort, alloc: Global, words: &[&str], numbers: Option<(u32,
     is_read(rt, alloc, words, command);
 }
 
+fn is_relay(
+    rt: &impl Abort,
+    alloc: Global,
+    words: &[&str],
+    given: Option<(&str, u64, Option<u32>)>,
+) {
+    let command = match given {
+        Some((word, turns, workers)) => Some(Command::Relay {
+            file: FileName::of(word),
+            turns,
+            workers,
+        }),
+        None => None,
+    };
+    is_read(rt, alloc, words, command);
+}
+
 fn are_read(rt: &impl Abort, alloc: Global, rows: &[Row]) {
-    for (words, command) in rows {
-        is_read(rt, alloc, words, *command);
+    for (words, plain) in rows {
+        is_plain(rt, alloc, words, *plain);
     }
 }
 
 fn are_loads(rt: &impl Abort, alloc: Global, rows: &[LoadRow]) {
     for (words, numbers) in rows {
         is_load(rt, alloc, words, *numbers);
+    }
+}
+
+fn are_relays(rt: &impl Abort, alloc: Global, rows: &[RelayRow]) {
+    for (words, given) in rows {
+        is_relay(rt, alloc, words, *given);
     }
 }
 
@@ -149,6 +279,21 @@ fn a_load_has_a_seed_and_a_count_in_their_ranges(rt: HostRuntime) {
 }
 
 #[test]
-fn commands_that_serve_are_not_taken(rt: HostRuntime) {
+fn a_relay_has_one_file(rt: HostRuntime) {
+    are_relays(&rt, rt.alloc(), &FILES);
+}
+
+#[test]
+fn turns_are_in_their_range_or_the_most(rt: HostRuntime) {
+    are_relays(&rt, rt.alloc(), &TURNS);
+}
+
+#[test]
+fn workers_are_64_at_most_or_none_given(rt: HostRuntime) {
+    are_relays(&rt, rt.alloc(), &WORKERS);
+}
+
+#[test]
+fn a_gateway_is_not_taken(rt: HostRuntime) {
     are_read(&rt, rt.alloc(), &SERVING);
 }

@@ -8,20 +8,22 @@ ghost use Rattle.amt_words.specs.Line.{IsAccepted, IsCommandLine, IsWithinLimits
 use crate::command::{Command, WordsFault};
 use crate::load::read_load;
 use crate::parsing::read_bare;
+use crate::relay::read_relay;
 use crate::replay::read_replay;
 use std::alloc::Global;
 
 /// The command that the arguments name, those after the program's name.
 ///
-/// No line asks for help: `--help`, `-h` and `help` are usage faults.
+/// No line asks for help: `--help`, `-h` and `help` are usage faults. Only as the FILE of `relay` they
+/// may stand, the first two after `--`.
 #[tactic(auto, using(crate::proofs::PlainLines::plain_lines))]
-pub fn read_words(alloc: Global, words: &[String]) -> Result<Command, WordsFault>
-    ensures found { IfOk result (λ command. IsCommandLine command (map string_bytes words.now)) }
+pub fn read_words<'a>(alloc: Global, words: &'a [String]) -> Result<Command<'a>, WordsFault>
+    ensures found { IfOk result (λ command. IsCommandLine command (map string_bytes words.entry.now)) }
     ensures range { IfOk result IsWithinLimits }
 
     ensures usage { IsErrOf result WordsFault.Usage
-        → (command : CommandValue) → IsCommandLine command (map string_bytes words.now) → ⊥ }
-    ensures refused { IsErrOf result WordsFault.Usage → IsAccepted (map string_bytes words.now) → ⊥ }
+        → (command : CommandValue) → IsCommandLine command (map string_bytes words.entry.now) → ⊥ }
+    ensures refused { IsErrOf result WordsFault.Usage → IsAccepted (map string_bytes words.entry.now) → ⊥ }
 
     // Arguments are a line of at most one command.
     ensures one_command { (words : List Text) (one other : CommandValue)
@@ -46,6 +48,14 @@ pub fn read_words(alloc: Global, words: &[String]) -> Result<Command, WordsFault
         },
         "load" => match read_load(alloc, rest) {
             Ok((seed, count)) => Ok(Command::Load { seed, count }),
+            Err(fault) => Err(fault),
+        },
+        "relay" => match read_relay(alloc, rest) {
+            Ok((file, turns, workers)) => Ok(Command::Relay {
+                file,
+                turns,
+                workers,
+            }),
             Err(fault) => Err(fault),
         },
         _ => Err(WordsFault::Usage),

@@ -1,4 +1,4 @@
-//! Devices in memory and over std, and the two loops. It knows public calls alone.
+//! Sources and sinks in memory and over std, and the two loops. It knows public calls alone.
 
 ghost use Rattle.std.specs.Prelude.{◌≤◌, IfOk};
 

@@ -9,7 +9,8 @@ use Rattle.relay_machine.specs.Answers.{RelayAt}
 use Rattle.amt_script.specs.declared.script.RelayItem.{RelayItem}
 use Rattle.amt_script.specs.Texts.{events_in}
 use Rattle.relay_load.specs.declared.run.Counts.{Counts}
-use Rattle.relay_load.specs.Counts.{copies_in, is_updated, outcomes_of}
+use Rattle.relay_load.specs.Counts.{copies_in}
+use Rattle.relay_machine.specs.Courses.{is_updated, outcomes_of}
 
 -- the counts after one outcome more
 abbrev pub with_outcome : Counts → Outcome → Counts

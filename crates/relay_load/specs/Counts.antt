@@ -1,32 +1,18 @@
 -- What a relay's run over a script comes to, in numbers.
-use Rattle.std.specs.Prelude.{ℕ, Bool, true, false, List, [], ◌∷◌, ◌++◌, length, sum_by, count_by}
+use Rattle.std.specs.Prelude.{ℕ, List, length, sum_by, count_by}
 use Rattle.endpoint_membership.specs.Limits.{live_count}
 use Rattle.endpoint_membership.specs.Table.{memberships_now}
 use Rattle.response_mac.specs.declared.secret.Secret.{Secret}
 use Rattle.relay_machine.specs.declared.event.Event.{Event}
 use Rattle.relay_machine.specs.declared.outcome.Outcome.{Outcome}
-use Rattle.relay_machine.specs.declared.outcome.Outcome.TheVariants.{Updated, Copied}
+use Rattle.relay_machine.specs.declared.outcome.Outcome.TheVariants.{Copied}
 use Rattle.relay_machine.specs.declared.settings.Settings.{Settings}
 use Rattle.relay_machine.specs.Accepted.{accepted_log}
-use Rattle.relay_machine.specs.Answers.{outcome_of}
+use Rattle.relay_machine.specs.Courses.{is_updated, outcomes_of}
 use Rattle.relay_machine.specs.Settings.{table_settings_of}
 use Rattle.amt_script.specs.declared.script.RelayScript.{RelayScript}
 use Rattle.amt_script.specs.Texts.{events_in}
 use Rattle.relay_load.specs.declared.summary.LoadSummary.{LoadSummary}
-
--- what is answered to each event, after these before all of them and those before it
-abbrev pub each_after : {E A : Type 0} → (List E → E → A) → List E → List E → List A
-each_after answer before [] = []
-each_after answer before (event ∷ rest) = answer before event ∷ each_after answer (before ++ event ∷ []) rest
-
--- what each event of a run comes to
-abbrev pub outcomes_of : Settings → Secret → List Event → List Outcome
-outcomes_of settings first events = each_after (outcome_of settings first) [] events
-
--- an Update was accepted
-abbrev pub is_updated : Outcome → Bool
-is_updated Updated = true
-is_updated other = false
 
 -- the endpoints to which a packet went, none for any other event
 abbrev pub copies_in : Outcome → ℕ

@@ -1,6 +1,7 @@
 pub mod Acceptance
 pub mod Answering
 pub mod Copies
+pub mod Courses
 pub mod Goodness
 pub mod Lawful
 pub mod Limits

@@ -1,6 +1,7 @@
 pub mod Acceptance
 pub mod Accepted
 pub mod Answers
+pub mod Courses
 pub mod EventSize
 pub mod EventAnswer
 pub mod Events

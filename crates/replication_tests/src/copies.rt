@@ -4,38 +4,30 @@ ghost use Rattle.published_table.specs.Publishers.{book_of};
 ghost use Rattle.published_table.specs.Views.{publisher_of};
 ghost use Rattle.replication_workers.specs.Replicators.{view_of};
 
-use crate::fixtures::{ENDPOINTS, GROUP, endpoint, moment};
+use crate::fixtures::{ENDPOINTS, GROUP, endpoint};
+use crate::packets::{
+    CUT_PACKET, HostSend, LOCAL_GROUP, LOCAL_PACKET, MESSAGE, PACKET, assert_tried, job_of,
+};
 use crate::relay::Relay;
-use amt_values::{Bytes, Ip, Peer};
-use replication_workers::{Copied, Job, MemOut, Replicator};
+use amt_ports::MemOut;
+use amt_values::Ip;
+use replication_workers::Replicator;
 use std::alloc::Global;
 use std::process::Abort;
 use std::sync::Wait;
 
-// UDP of no octets from 198.51.100.9 to 239.1.1.1.
-const PACKET: [u8; 28] = [
-    0x45, 0, 0, 0x1c, 0, 0, 0, 0, 4, 0x11, 0x9c, 0x92, 0xc6, 0x33, 0x64, 9, 0xef, 1, 1, 1, 4, 0, 4,
-    0, 0, 8, 0, 0,
-];
-
-// The Multicast Data message that carries it.
-const MESSAGE: [u8; 30] = [
-    6, 0, 0x45, 0, 0, 0x1c, 0, 0, 0, 0, 4, 0x11, 0x9c, 0x92, 0xc6, 0x33, 0x64, 9, 0xef, 1, 1, 1, 4,
-    0, 4, 0, 0, 8, 0, 0,
-];
-
-// The same to 224.0.0.5, which no router forwards.
-const LOCAL_PACKET: [u8; 28] = [
-    0x45, 0, 0, 0x1c, 0, 0, 0, 0, 4, 0x11, 0xac, 0x8f, 0xc6, 0x33, 0x64, 9, 0xe0, 0, 0, 5, 4, 0, 4,
-    0, 0, 8, 0, 0,
-];
-
-const LOCAL_GROUP: Ip = Ip::V4(0xe000_0005);
-
-// Its first octets, one fewer than a header has.
-const CUT_PACKET: [u8; 19] = [
-    0x45, 0, 0, 0x1c, 0, 0, 0, 0, 4, 0x11, 0x9c, 0x92, 0xc6, 0x33, 0x64, 9, 0xef, 1, 1,
-];
+// What is done with a relay and its replicator, and what comes of it.
+enum Step<'a> {
+    // The endpoint of this host wants all sources of the group from 0 on.
+    Report(u8, Ip),
+    // Time passes to the moment.
+    Mark(u64),
+    Publish,
+    // The packet of this moment comes to this: the length of the log, how many were sent, and how many not.
+    Copies(&'a [u8], u64, (u64, u32, u32)),
+    // The link has tried these sends.
+    Tried(&'a [HostSend<'a>]),
+}
 
 // A relay with one replicator of what it publishes. It isn't `Drop`: end it by `end`.
 struct RelayWithReplicator {
@@ -65,46 +57,23 @@ impl RelayWithReplicator {
         }
     }
 
-    // The endpoint of this host wants all sources of the group.
-    fn report(&mut self, rt: &impl Abort, host: u8, group: Ip) {
-        self.relay.report(rt, endpoint(host), group, 0);
+    // What a job with a note of the published log comes to.
+    fn copied<R: Wait + Abort>(&mut self, rt: &R, packet: &[u8], ms: u64) -> (u64, u32, u32) {
+        let job = job_of(rt, self.alloc, packet, ms, self.relay.tell());
+        let copied = self.replicator.replicate(rt, job);
+        (copied.prefix, copied.sent, copied.unsent)
     }
 
-    fn mark_and_publish<R: Wait + Abort>(&mut self, rt: &R, ms: u64) {
-        self.relay.mark(rt, ms);
-        self.relay.publish(rt);
-    }
-
-    // Copies the packet by a job with the moment and a note of the published log.
-    fn assert_copied<R: Wait + Abort>(&mut self, rt: &R, packet: &[u8], ms: u64, wanted: Copied) {
-        assert!(rt; packet.len() <= 65_535);
-        let Ok(packet) = Bytes::copied(self.alloc, packet) else {
-            panic!(rt; "out of memory");
-        };
-        let job = Job {
-            packet,
-            at: moment(rt, ms),
-            note: self.relay.tell(),
-        };
-        assert_eq!(rt; self.replicator.replicate(rt, job), wanted);
-    }
-
-    // The send of this number, from 0, was of the message to the endpoint of this host.
-    fn assert_tried(&self, rt: &impl Abort, number: usize, host: u8, sent: bool) {
-        let tried = self.replicator.out().tried();
-        assert!(rt; number < tried.len());
-        let to = Peer {
-            ip: Ip::V4(0xc633_6400 | u32::from(host)),
-            port: 5000,
-        };
-        assert_eq!(rt; tried[number].to, to);
-        assert_eq!(rt; tried[number].bytes.as_slice(), MESSAGE.as_slice());
-        assert_eq!(rt; tried[number].sent, sent);
-    }
-
-    fn assert_tried_count(&self, rt: &impl Abort, count: usize, faults: u64) {
-        assert_eq!(rt; self.replicator.out().tried().len(), count);
-        assert_eq!(rt; self.replicator.out().faults(), faults);
+    fn take<R: Wait + Abort>(&mut self, rt: &R, step: &Step) {
+        match step {
+            Step::Report(host, group) => self.relay.report(rt, endpoint(*host), *group, 0),
+            Step::Mark(ms) => self.relay.mark(rt, *ms),
+            Step::Publish => self.relay.publish(rt),
+            Step::Copies(packet, ms, wanted) => {
+                assert_eq!(rt; self.copied(rt, packet, *ms), *wanted, "at {ms}");
+            }
+            Step::Tried(wanted) => assert_tried(rt, self.replicator.out(), wanted),
+        }
     }
 
     fn end<R: Wait>(self, rt: &R) {
@@ -117,79 +86,96 @@ impl RelayWithReplicator {
     }
 }
 
-fn counts(prefix: u64, sent: u32, unsent: u32) -> Copied {
-    Copied {
-        prefix,
-        sent,
-        unsent,
+// Takes the steps in their order, with a link of which the sends of these numbers fail.
+fn take_all<R: Wait + Abort>(
+    rt: &R,
+    alloc: Global,
+    failing: &[u64],
+    packet_limit: u32,
+    steps: &[Step],
+)
+    requires { packet_limit ≤ 65000 }
+{
+    let Ok(failing) = Vec::from_slice(alloc, failing) else {
+        panic!(rt; "out of memory");
+    };
+    let out = MemOut::failing(alloc, failing);
+    let mut one = RelayWithReplicator::new(rt, alloc, out, packet_limit);
+    for step in steps {
+        one.take(rt, step);
     }
+    one.end(rt);
 }
+
+const FOR_ONE_LIFETIME: [Step<'static>; 5] = [
+    Step::Report(7, GROUP),
+    Step::Publish,
+    Step::Copies(&PACKET, 259_999, (1, 1, 0)),
+    Step::Copies(&PACKET, 260_000, (1, 0, 0)),
+    Step::Tried(&[(7, &MESSAGE, true)]),
+];
 
 #[test]
 fn a_packet_is_copied_to_an_endpoint_for_one_lifetime(rt: HostRuntime) {
-    let out = MemOut::new(rt.alloc());
-    let mut one = RelayWithReplicator::new(&rt, rt.alloc(), out, 1450);
-    one.report(&rt, 7, GROUP);
-    one.relay.publish(&rt);
-    one.assert_copied(&rt, PACKET.as_slice(), 259_999, counts(1, 1, 0));
-    one.assert_copied(&rt, PACKET.as_slice(), 260_000, counts(1, 0, 0));
-    one.assert_tried_count(&rt, 1, 0);
-    one.assert_tried(&rt, 0, 7, true);
-    one.end(&rt);
+    take_all(&rt, rt.alloc(), &[], 1450, &FOR_ONE_LIFETIME);
 }
+
+const AT_THE_MARK: [Step<'static>; 5] = [
+    Step::Report(7, GROUP),
+    Step::Mark(260_000),
+    Step::Publish,
+    Step::Copies(&PACKET, 259_999, (2, 0, 0)),
+    Step::Tried(&[]),
+];
 
 #[test]
 fn a_packet_is_copied_at_no_moment_before_that_of_the_log(rt: HostRuntime) {
-    let out = MemOut::new(rt.alloc());
-    let mut one = RelayWithReplicator::new(&rt, rt.alloc(), out, 1450);
-    one.report(&rt, 7, GROUP);
-    one.mark_and_publish(&rt, 260_000);
-    one.assert_copied(&rt, PACKET.as_slice(), 259_999, counts(2, 0, 0));
-    one.assert_tried_count(&rt, 0, 0);
-    one.end(&rt);
+    take_all(&rt, rt.alloc(), &[], 1450, &AT_THE_MARK);
 }
+
+const THREE_SENDS: [Step<'static>; 6] = [
+    Step::Report(7, GROUP),
+    Step::Report(8, GROUP),
+    Step::Report(9, GROUP),
+    Step::Publish,
+    Step::Copies(&PACKET, 0, (3, 2, 1)),
+    Step::Tried(&[
+        (7, &MESSAGE, true),
+        (8, &MESSAGE, false),
+        (9, &MESSAGE, true),
+    ]),
+];
 
 #[test]
 fn a_failed_send_keeps_no_other_back(rt: HostRuntime) {
-    let mut failing = Vec::new(rt.alloc());
-    assert!(rt; failing.push(2).is_ok());
-    let out = MemOut::failing(rt.alloc(), failing);
-    let mut one = RelayWithReplicator::new(&rt, rt.alloc(), out, 1450);
-    for host in 7..10 {
-        one.report(&rt, host, GROUP);
-    }
-    one.relay.publish(&rt);
-    one.assert_copied(&rt, PACKET.as_slice(), 0, counts(3, 2, 1));
-    one.assert_tried_count(&rt, 3, 1);
-    one.assert_tried(&rt, 0, 7, true);
-    one.assert_tried(&rt, 1, 8, false);
-    one.assert_tried(&rt, 2, 9, true);
-    one.end(&rt);
+    take_all(&rt, rt.alloc(), &[2], 1450, &THREE_SENDS);
 }
+
+const TOO_LONG: [Step<'static>; 4] = [
+    Step::Report(7, GROUP),
+    Step::Publish,
+    Step::Copies(&PACKET, 0, (1, 0, 0)),
+    Step::Tried(&[]),
+];
 
 #[test]
 fn a_packet_that_is_too_long_is_copied_to_none(rt: HostRuntime) {
-    let out = MemOut::new(rt.alloc());
-    let mut one = RelayWithReplicator::new(&rt, rt.alloc(), out, 27);
-    one.report(&rt, 7, GROUP);
-    one.relay.publish(&rt);
-    one.assert_copied(&rt, PACKET.as_slice(), 0, counts(1, 0, 0));
-    one.assert_tried_count(&rt, 0, 0);
-    one.end(&rt);
+    take_all(&rt, rt.alloc(), &[], 27, &TOO_LONG);
 }
+
+const NOT_FORWARDED: [Step<'static>; 9] = [
+    Step::Report(7, GROUP),
+    Step::Report(7, LOCAL_GROUP),
+    Step::Publish,
+    Step::Copies(&[], 0, (2, 0, 0)),
+    Step::Copies(&CUT_PACKET, 0, (2, 0, 0)),
+    Step::Copies(&LOCAL_PACKET, 0, (2, 0, 0)),
+    Step::Tried(&[]),
+    Step::Copies(&PACKET, 0, (2, 1, 0)),
+    Step::Tried(&[(7, &MESSAGE, true)]),
+];
 
 #[test]
 fn a_packet_that_is_not_forwarded_is_copied_to_none(rt: HostRuntime) {
-    let out = MemOut::new(rt.alloc());
-    let mut one = RelayWithReplicator::new(&rt, rt.alloc(), out, 28);
-    one.report(&rt, 7, GROUP);
-    one.report(&rt, 7, LOCAL_GROUP);
-    one.relay.publish(&rt);
-    one.assert_copied(&rt, &PACKET[..0], 0, counts(2, 0, 0));
-    one.assert_copied(&rt, CUT_PACKET.as_slice(), 0, counts(2, 0, 0));
-    one.assert_copied(&rt, LOCAL_PACKET.as_slice(), 0, counts(2, 0, 0));
-    one.assert_tried_count(&rt, 0, 0);
-    one.assert_copied(&rt, PACKET.as_slice(), 0, counts(2, 1, 0));
-    one.assert_tried_count(&rt, 1, 0);
-    one.end(&rt);
+    take_all(&rt, rt.alloc(), &[], 28, &NOT_FORWARDED);
 }

@@ -10,14 +10,20 @@ mod beside;
 #[cfg(test)]
 mod copies;
 #[cfg(test)]
+mod dispatching;
+#[cfg(test)]
 mod doors;
 #[cfg(test)]
 mod fixtures;
 #[cfg(test)]
 mod notes;
 #[cfg(test)]
+mod packets;
+#[cfg(test)]
 mod refused;
 #[cfg(test)]
 mod relay;
+#[cfg(test)]
+mod starters;
 #[cfg(test)]
 mod views;

@@ -4,7 +4,7 @@ ghost use Rattle.std.specs.Prelude.{◌≡◌, ◌≤◌, ◌<◌, ◌+◌, ◌^
 ghost use Rattle.std.proofs.Props.{props};
 ghost use Rattle.std.proofs.lemmas.Map.Keys.{IsStrictlySortedBy-prop};
 ghost use Rattle.published_table.specs.Publishers.{IsSamePublisher, book_of, owing, published};
-ghost use Rattle.published_table.specs.Views.{IsNew, note_publisher};
+ghost use Rattle.published_table.specs.Views.{IsNew, note_publisher, views_of};
 ghost use Rattle.replication_tests.specs.Following.{Follows, whole_log};
 
 use crate::fixtures::{TERMS, moment, show, take_mark, take_report_on};
@@ -61,7 +61,7 @@ impl Relay {
     /// A relay that has accepted nothing, and so many views of what it publishes.
     pub fn with_views<R: Wait + Abort>(rt: &R, alloc: Global, count: u32) -> (Relay, Views)
         requires { (1 ≤ count) × (count ≤ 64) }
-        ensures { All (IsNew (book_of result.0.publisher) TERMS) result.1.views.items }
+        ensures { All (IsNew (book_of result.0.publisher) TERMS) (views_of result.1) }
     {
         let Ok(table) = Table::new(alloc, TERMS.limits, TERMS.lifetime_ms) else {
             panic!(rt; "out of memory");

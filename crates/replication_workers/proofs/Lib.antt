@@ -1,3 +1,13 @@
+pub mod Backs
 pub mod Copies
+pub mod Copying
+pub mod Crossing
+pub mod Ending
+pub mod Filling
+pub mod Giving
+pub mod Handling
+pub mod Queues
+pub mod Ready
 pub mod Sending
+pub mod Steps
 pub mod Trying

@@ -1,14 +1,15 @@
 -- What was tried so far, and one send more.
-use Rattle.std.proofs.Common.{◌≡◌, ℕ, ◌+◌, ◌≤◌, true, false, cond, not, List, [], ◌∷◌, ◌++◌, refl, sym, ap, subst, ◌∙◌, arith}
+use Rattle.std.proofs.Common.{◌≡◌, ℕ, zero, suc, ◌+◌, ◌≤◌, ◌<◌, true, false, cond, not, List, [], ◌∷◌, ◌++◌, refl, sym, ap, subst, ◌∙◌, arith}
 use Rattle.std.specs.Prelude.{IsSome, Option, Some, None, Result, is_ok}
 use Rattle.std.specs.List.{sum_by}
-use Rattle.std.proofs.lemmas.List.{append_assoc, map-append}
+use Rattle.std.proofs.lemmas.List.{append-nil, append_assoc, map-append}
 use Rattle.std.proofs.lemmas.List.Sums.{sum_by-append}
 use Rattle.amt_ports.specs.Causes.{Rose}
 use Rattle.amt_ports.specs.declared.fault.Failed.{Failed}
 use Rattle.amt_values.specs.declared.peer.Peer.{Peer}
 use Rattle.replication_workers.specs.Replication.{HasRisen, HasTried}
-use Rattle.replication_workers.specs.Sends.{Appends, AppendsAll, TriedSend, datagram_of, tried_send}
+use Rattle.amt_ports.specs.Sends.{TriedSend, datagram_of, tried_send}
+use Rattle.amt_ports.specs.Told.{Appends, AppendsAll}
 
 AppendsAll-then : (before now after : Option (List TriedSend)) (sends more : List TriedSend) → AppendsAll before now sends → AppendsAll now after more → AppendsAll before after (sends ++ more)
 AppendsAll-then before now None sends more first second = tt
@@ -60,3 +61,47 @@ HasTried-failed before now after first middle last wanted sent unsent to bytes r
       quiet = λ zero_unsent. absurd (omega (arith, zero_unsent));
       tells = λ zero_unsent. absurd (omega (arith, zero_unsent));
     }
+
+-- two lots in a row
+rises : (first middle last unsent more : ℕ) → first ≤ middle → middle ≤ last → (0 < unsent → HasRisen first middle) → (0 < more → HasRisen middle last) → (more ≡ 0 → last ≡ middle) → 0 < unsent + more → HasRisen first last
+rises first middle last unsent zero below later cause again quiet some =
+    subst (λ (count : ℕ). HasRisen first count) (sym (quiet refl)) (cause (omega (arith, some)))
+rises first middle last unsent (suc more) below later cause again quiet some = λ small.
+    let rose = again (omega arith) small in omega (arith, rose, below)
+
+pub HasTried-then : (before now after : Option (List TriedSend)) (first middle last : ℕ) (wanted others : List (Peer × List ℕ)) (sent unsent sent_then unsent_then : ℕ)
+    → HasTried before now first middle wanted sent unsent → HasTried now after middle last others sent_then unsent_then
+    → HasTried before after first last (wanted ++ others) (sent + sent_then) (unsent + unsent_then)
+HasTried-then before now after first middle last wanted others sent unsent sent_then unsent_then tried more =
+    let taken = sum_by-append (λ (one : TriedSend). cond one.sent 1 0) tried.sends more.sends in
+    let missed = sum_by-append (λ (one : TriedSend). cond (not one.sent) 1 0) tried.sends more.sends in
+    let below = tried.later in
+    let later = more.later in record {
+      sends = tried.sends ++ more.sends;
+      exactly = map-append datagram_of tried.sends more.sends ∙ (λ i. tried.exactly i ++ more.exactly i);
+      appended = AppendsAll-then before now after tried.sends more.sends tried.appended more.appended;
+      sent_is = omega (arith, taken, tried.sent_is, more.sent_is);
+      unsent_is = omega (arith, missed, tried.unsent_is, more.unsent_is);
+      later = omega (arith, below, later);
+      cause = rises first middle last unsent unsent_then below later tried.cause more.cause more.quiet;
+      quiet = λ none. more.quiet (omega (arith, none)) ∙ tried.quiet (omega (arith, none));
+      tells = λ none told. more.tells (omega (arith, none)) (tried.tells (omega (arith, none)) told);
+    }
+
+-- nothing was tried
+AppendsAll-none : (told : Option (List TriedSend)) → AppendsAll told told []
+AppendsAll-none None = tt
+AppendsAll-none (Some sends) = (sends, refl, sym (append-nil sends))
+
+pub HasTried-none : (told : Option (List TriedSend)) (faults : ℕ) → HasTried told told faults faults [] 0 0
+HasTried-none told faults = record {
+  sends = [];
+  exactly = refl;
+  appended = AppendsAll-none told;
+  sent_is = refl;
+  unsent_is = refl;
+  later = omega arith;
+  cause = λ some. absurd (omega (arith, some));
+  quiet = λ _. refl;
+  tells = λ _ known. known;
+}

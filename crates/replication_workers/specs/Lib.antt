@@ -1,4 +1,14 @@
-pub mod MemOut
+pub mod Backs
+pub mod Dispatchers
+pub mod Gathering
+pub mod InlineSlots
+pub mod Jobs
+pub mod JobsSoFar
+pub mod KeptSlots
+pub mod Queue
 pub mod Replication
 pub mod Replicators
-pub mod Sends
+pub mod SlotStates
+pub mod Slots
+pub mod Starting
+pub mod Workers

@@ -8,7 +8,8 @@ use Rattle.endpoint_membership.specs.declared.change.Change.{Change}
 use Rattle.relay_machine.specs.EventAnswer.{packet_answer}
 use Rattle.relay_machine.specs.Packets.{head_to_copy, targets_at}
 use Rattle.relay_machine.specs.declared.sends.OneSend.{OneSend}
-use Rattle.replication_workers.specs.Sends.{AppendsAll, TriedSend, datagram_of, sent_count, unsent_count}
+use Rattle.amt_ports.specs.Sends.{TriedSend, datagram_of, sent_count, unsent_count}
+use Rattle.amt_ports.specs.Told.{AppendsAll}
 
 -- what a relay of this log sends for the packet at the moment, or at the log's latest one if that is later
 abbrev pub copies_by : TableSettings → ℕ → List Change → ℕ → List ℕ → List OneSend

@@ -1,12 +1,14 @@
 -- What is read of a replicator, and what it does.
-use Rattle.std.specs.Prelude.{ℕ, List, map}
+use Rattle.std.specs.Prelude.{◌≡◌, ℕ, List, map}
 use Rattle.amt_values.specs.declared.peer.Peer.{Peer}
 use Rattle.endpoint_membership.specs.declared.change.Change.{Change}
+use Rattle.published_table.specs.Lists.{BeginsWith}
 use Rattle.published_table.specs.Terms.{settings_by}
-use Rattle.published_table.specs.Views.{terms_of}
+use Rattle.published_table.specs.Views.{named, publisher_of, seen, terms_of}
 use Rattle.published_table.specs.declared.view.View.{View}
 use Rattle.replication_workers.specs.Replication.{HasTried, copies_by, to_peer}
-use Rattle.replication_workers.specs.declared.out_link.OutLink.{Ghosts}
+use Rattle.amt_ports.specs.declared.out_link.OutLink.{Ghosts}
+use Rattle.replication_workers.specs.declared.job.Job.{Job}
 use Rattle.replication_workers.specs.declared.replicator.Replicator.{Replicator}
 
 module _ {O : Type 0} {g : Ghosts O} where
@@ -31,3 +33,15 @@ module _ {O : Type 0} {g : Ghosts O} where
   abbrev pub Tries : Replicator O g → Replicator O g → List (Peer × List ℕ) → ℕ → ℕ → Type 0
   Tries before after wanted sent unsent =
       HasTried (g.tried (out_of before)) (g.tried (out_of after)) (g.faults (out_of before)) (g.faults (out_of after)) wanted sent unsent
+
+  -- It has handled the job: exactly its datagrams were tried, by the log that the view has seen then. That
+  -- log begins with the one that was seen before, and with the one that the job's note names.
+  pub record HasCopied (before : Replicator O g) (job : Job) (after : Replicator O g) : Type 0 where
+    pub sent : ℕ
+    pub unsent : ℕ
+    pub tries : Tries before after (copies_due before (seen (view_of after)) job.at job.packet) sent unsent
+    pub further : BeginsWith (seen (view_of after)) (seen (view_of before))
+    pub noted : BeginsWith (seen (view_of after)) (named job.note)
+    pub limit : limit_of after ≡ limit_of before
+    pub terms : terms_of (view_of after) ≡ terms_of (view_of before)
+    pub publisher : publisher_of (view_of after) ≡ publisher_of (view_of before)

@@ -1,14 +1,17 @@
 //! A packet on its way to a replicator, and what became of it. It must not know what sends it.
+ghost use Rattle.std.specs.Prelude.{◌≤◌, length};
 
 use amt_values::{Bytes, Moment};
 use published_table::Note;
 
-/// A packet to copy, with the moment at which it came and the note by which its receivers are found.
+/// A packet to copy, with the moment at which it came and the note by which its receivers are found. It
+/// has at most as many octets as a datagram.
 #[derive(Drop)]
 pub struct Job {
     pub packet: Bytes,
     pub at: Moment,
     pub note: Note,
+    ghost short: { length packet ≤ 65535 },
 }
 
 /// What became of a packet.

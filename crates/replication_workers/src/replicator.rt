@@ -2,13 +2,15 @@
 ghost use Rattle.std.specs.Prelude.{◌≤◌, ◌+◌, vec_capacity};
 ghost use Rattle.published_table.specs.Views.{terms_of};
 
-use crate::out_link::OutLink;
+use amt_ports::OutLink;
 use endpoint_membership::Targets;
 use published_table::View;
 
 mod making;
 mod replicating;
 mod sending;
+
+pub use replicating::read_length;
 
 /// Copies packets, one at a time, to the endpoints that want them. All its memory is taken when it is
 /// made, so that no packet waits for memory or is lost without it.
@@ -21,7 +23,7 @@ pub struct Replicator<O: OutLink> {
     message: Vec<u8>,
     packet_limit: u32,
     ghost receivers: { (terms_of view).limits.endpoints ≤ targets.room },
-    ghost few: { targets.room ≤ 4294967295 },
+    ghost few: { targets.room ≤ 65536 },
     ghost room: { packet_limit + 2 ≤ vec_capacity message },
 }
 

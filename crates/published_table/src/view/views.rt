@@ -14,6 +14,15 @@ pub struct Views {
 }
 
 impl Views {
+    /// No views. It takes no memory.
+    pub fn new(alloc: Global) -> Views
+        ensures { views_of result ≡ [] }
+    {
+        Views {
+            views: Vec::new(alloc),
+        }
+    }
+
     /// No views, and room for so many.
     pub fn with_room(alloc: Global, views: u32) -> Result<Views, AllocError>
         ensures none { IfOk result (λ made. views_of made ≡ []) }

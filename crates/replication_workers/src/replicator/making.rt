@@ -4,7 +4,7 @@ ghost use Rattle.published_table.specs.Views.{terms_of};
 ghost use Rattle.replication_workers.specs.Replicators.{limit_of, out_of, view_of};
 
 use super::{NewFault, Replicator};
-use crate::out_link::OutLink;
+use amt_ports::OutLink;
 use endpoint_membership::Targets;
 use published_table::View;
 use std::alloc::{AllocError, Global};
@@ -34,6 +34,7 @@ impl<O: OutLink> Replicator<O> {
         packet_limit: u32,
     ) -> Result<Replicator<O>, NewFault<O>>
         requires endpoints { (terms_of view).limits.endpoints ≤ endpoints }
+        requires few { endpoints ≤ 65536 }
         requires limit { packet_limit ≤ 65000 }
         ensures made { IfOk result (λ made. (view_of made ≡ view) × (out_of made ≡ out)
             × (limit_of made ≡ packet_limit)) }
@@ -56,6 +57,13 @@ impl<O: OutLink> Replicator<O> {
         ensures { result.now ≡ out_of self.now }
     {
         &self.out
+    }
+
+    /// The view by which it finds who wants a packet.
+    pub fn view(&self) -> &View
+        ensures { result.now ≡ view_of self.now }
+    {
+        &self.view
     }
 
     /// Its view and its link, once nothing more is to be sent.

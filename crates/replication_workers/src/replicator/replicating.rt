@@ -1,5 +1,5 @@
 //! How a packet is copied. It must not know how a datagram is sent.
-ghost use Rattle.std.specs.Prelude.{◌≡◌, ◌≤◌, [], ◌∷◌, Ok, length, MatchOption, IsErr, IfSome, map};
+ghost use Rattle.std.specs.Prelude.{◌≡◌, ◌≤◌, ◌+◌, [], ◌∷◌, Ok, length, MatchOption, IsErr, IfSome, map};
 ghost use Rattle.amt_messages.specs.Layout.{spelling_of};
 ghost use Rattle.amt_messages.specs.declared.message.Message.TheVariants.{Multicast};
 ghost use Rattle.endpoint_membership.specs.Targets.{targets_of};
@@ -13,7 +13,7 @@ ghost use Rattle.replication_workers.specs.Replicators.{Tries, copies_due, limit
 use super::Replicator;
 use super::sending::{SendCounts, send_all, write_message};
 use crate::job::{Copied, Job};
-use crate::out_link::OutLink;
+use amt_ports::OutLink;
 use amt_values::{Moment, forwardable};
 use endpoint_membership::Targets;
 use inner_datagrams::{Head, packet_head};
@@ -43,8 +43,8 @@ fn head_of_copied(limit: u32, packet: &[u8]) -> Option<Head>
     }
 }
 
-// Asks the view until it answers: how many entries its log has.
-fn read_length<R: Wait>(rt: &R, view: &mut View) -> u64
+/// Asks the view until it answers: how many entries its log has.
+pub fn read_length<R: Wait>(rt: &R, view: &mut View) -> u64
     ensures view { IsSameView view.old view.new }
     ensures further { BeginsWith (seen view.new) (seen view.old) }
     ensures told { BeginsWithEach (seen view.new) (told view.old) }
@@ -91,6 +91,7 @@ impl<O: OutLink> Replicator<O> {
         ensures view { view_of self.new ≡ view_of self.old }
         ensures sends { Tries self.old self.new
             (map (with_message (spelling_of (Multicast packet.now))) self.old.targets.endpoints) result.sent result.unsent }
+        ensures few { result.sent + result.unsent ≤ 65536 }
         ensures limit { limit_of self.new ≡ limit_of self.old }
     {
         if self.targets.len() == 0 {
@@ -121,6 +122,7 @@ impl<O: OutLink> Replicator<O> {
         ensures sends { Tries self.old self.new
             (copies_due self.old (seen (view_of self.new)) at.now packet.now)
             result.sent result.unsent }
+        ensures few { result.sent + result.unsent ≤ 65536 }
         ensures limit { limit_of self.new ≡ limit_of self.old }
     {
         let prefix = find_targets(rt, &mut self.view, head, at, &mut self.targets);
@@ -139,6 +141,7 @@ impl<O: OutLink> Replicator<O> {
         ensures told { BeginsWithEach (seen (view_of self.new)) (told (view_of self.old)) }
         ensures prefix { result.prefix ≡ length (seen (view_of self.new)) }
         ensures sends { Tries self.old self.new [] result.sent result.unsent }
+        ensures few { result.sent + result.unsent ≤ 65536 }
         ensures limit { limit_of self.new ≡ limit_of self.old }
     {
         Copied {
@@ -158,6 +161,7 @@ impl<O: OutLink> Replicator<O> {
         ensures sends { Tries self.old self.new
             (copies_due self.old (seen (view_of self.new)) at.now packet.now)
             result.sent result.unsent }
+        ensures few { result.sent + result.unsent ≤ 65536 }
         ensures limit { limit_of self.new ≡ limit_of self.old }
     {
         let Some(head) = head_of_copied(self.packet_limit, packet) else {
@@ -184,7 +188,6 @@ impl<O: OutLink> Replicator<O> {
     /// which the send fails is not tried again; the others are tried all the same.
     pub fn replicate<R: Wait>(&mut self, rt: &R, job: Job) -> Copied
         requires publisher { note_publisher job.note ≡ publisher_of (view_of self.old) }
-        requires size { length job.packet ≤ 65535 }
         ensures view { (terms_of (view_of self.new) ≡ terms_of (view_of self.old))
             × (publisher_of (view_of self.new) ≡ publisher_of (view_of self.old))
             × (told (view_of self.new) ≡ named job.note ∷ told (view_of self.old)) }
@@ -195,6 +198,7 @@ impl<O: OutLink> Replicator<O> {
         ensures sends { Tries self.old self.new
             (copies_due self.old (seen (view_of self.new)) job.at job.packet)
             result.sent result.unsent }
+        ensures few { result.sent + result.unsent ≤ 65536 }
         ensures limit { limit_of self.new ≡ limit_of self.old }
     {
         let Job { packet, at, note } = job;

@@ -4,7 +4,7 @@ ghost use Rattle.amt_messages.specs.Layout.{spelling_of};
 ghost use Rattle.amt_messages.specs.declared.message.Message.TheVariants.{Multicast};
 ghost use Rattle.replication_workers.specs.Replication.{HasTried, with_message};
 
-use crate::out_link::OutLink;
+use amt_ports::OutLink;
 use amt_values::Endpoint;
 
 // The first octet of a Multicast Data message: version 0, and its type (RFC 7450, section 5.1.6).
@@ -35,9 +35,10 @@ pub fn write_message(packet: &[u8], message: &mut Vec<u8>)
 
 /// Tries to send the message to each endpoint, in order: those after a failed send too.
 pub fn send_all<O: OutLink>(out: &mut O, targets: &[Endpoint], message: &[u8]) -> SendCounts
-    requires { length targets.now ≤ 4294967295 }
-    ensures { HasTried (O.tried out.old) (O.tried out.new) (O.faults out.old) (O.faults out.new)
+    requires { length targets.now ≤ 65536 }
+    ensures sends { HasTried (O.tried out.old) (O.tried out.new) (O.faults out.old) (O.faults out.new)
         (map (with_message message.now) targets.now) result.sent result.unsent }
+    ensures counted { result.sent + result.unsent ≡ length targets.now }
 {
     let mut counts = SendCounts { sent: 0, unsent: 0 };
     for to in targets {

@@ -1,8 +1,6 @@
 -- A read that failed took nothing more.
-use Rattle.std.proofs.Common.{◌+◌, arith}
+use Rattle.std.proofs.Common.{arith}
 use Rattle.std.proofs.KnownBytes.{Consumes-kept}
-use Rattle.amt_values.specs.declared.bytes.TheConstants.{INPUT_LIMIT}
-use Rattle.amt_ports.specs.declared.reading.TheConstants.{READ_SIZE}
 use Rattle.amt_ports.proofs.reading.read_all.Goals as goal
 
 pub returns-in-Err-clause-within : goal.returns-in-Err-clause-within

@@ -1,4 +1,4 @@
-use Rattle.std.proofs.Common.{◌≡◌, ◌+◌, ◌-◌, ◌≤◌, ◌++◌, length, take, replicate, arith, rules, sym, ◌∙◌}
+use Rattle.std.proofs.Common.{◌≡◌, ◌+◌, ◌≤◌, length, take, replicate, arith, rules, ◌∙◌}
 use Rattle.std.proofs.lemmas.List.{length-take}
 use Rattle.amt_ports.specs.declared.reading.TheConstants.{READ_SIZE}
 use Rattle.amt_ports.proofs.Taken.{read_into}

@@ -17,8 +17,8 @@ pub returns-in-Ok-parse-clause-numbers : goal.returns-in-Ok-parse-clause-numbers
 returns-in-Ok-parse-clause-numbers c =
     let words = map string_bytes c.args.words.now in
     let rows = c.in-Ok-parse.ensures.rows in (
-      given_number (found_of c.in-Ok-parse.found) (codes "SEED") _ words _ rows c.in-Ok.ensures.usage c.number-seed.ensures.value,
-      given_number (found_of c.in-Ok-parse.found) (codes "N") _ words _ rows c.in-Ok.ensures.usage c.number-count.ensures.value,
+      given_number (found_of c.in-Ok-parse.found) _ _ words rows c.in-Ok.ensures.usage (codes "SEED") _ c.number-seed.ensures.value,
+      given_number (found_of c.in-Ok-parse.found) _ _ words rows c.in-Ok.ensures.usage (codes "N") _ c.number-count.ensures.value,
     )
 
 pub returns-in-Ok-parse-clause-range : goal.returns-in-Ok-parse-clause-range

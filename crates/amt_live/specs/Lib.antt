@@ -1,0 +1,2 @@
+pub mod MemLive
+pub mod Sets

@@ -1,0 +1,29 @@
+-- Sets of devices: those to come, and the room for those that come back.
+use Rattle.std.specs.Prelude.{◌≡◌, ◌<◌, ℕ, ◌+◌, ◌-◌, ◌==◌, Bool, false, List, [], ◌∷◌, length, Option, Some, None}
+use Rattle.amt_live.specs.declared.devices.RelayDevices.{RelayDevices}
+
+-- where the sets to come are still told, this one was the first of them, and the others stay
+abbrev pub TakesFirst : {X : Type 0} → Option (List X) → Option (List X) → X → Type 0
+TakesFirst before None first = Unit {0}
+TakesFirst before (Some after) first = before ≡ Some (first ∷ after)
+
+-- a set can be given back: there is room for it, or it needs none
+abbrev pub HasRoom : Option ℕ → Type 0
+HasRoom None = Unit {0}
+HasRoom (Some sets) = 0 < sets
+
+-- room for one set more
+abbrev pub more_room : Option ℕ → Option ℕ
+more_room None = None
+more_room (Some sets) = Some (sets + 1)
+
+-- room for one set less
+abbrev pub less_room : Option ℕ → Option ℕ
+less_room None = None
+less_room (Some sets) = Some (sets - 1)
+
+module _ {L F C W O P : Type 0} where
+  -- the first set to come has so many links out
+  abbrev pub fits : ℕ → List (RelayDevices L F C W O P) → Bool
+  fits slots [] = false
+  fits slots (devices ∷ later) = length devices.outs == slots

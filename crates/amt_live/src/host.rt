@@ -1,0 +1,159 @@
+//! The devices of the machine. It must not know what runs on them.
+ghost use Rattle.std.specs.Prelude.{◌≡◌, IfOk, None, length};
+
+use crate::devices::RelayDevices;
+use crate::live::{Live, OpenFault};
+use amt_ports::{
+    Failed, GivenBy, HostClock, HostWords, Starts, ThreadSpawner, UdpFeed, UdpLink, UdpOut,
+    open_sockets,
+};
+use amt_values::Peer;
+use contract_words::Items;
+use replication_workers::{Worker, WorkerDone, start_worker};
+use std::alloc::Global;
+use std::net::Net;
+use std::random::RandomSource;
+use std::sync::Wait;
+use std::thread::{PromisedHandle, Threads};
+use std::time::Clock;
+
+/// What starts workers that send through UDP sockets, each in a thread of its own.
+#[derive(Debug, Drop)]
+pub struct WorkerThreads<R> {
+    rt: R,
+}
+
+impl<R: Threads + Wait + 'static> Starts<Worker<UdpOut>> for WorkerThreads<R> {
+    fn start_thread(
+        &self,
+        work: Worker<UdpOut>,
+    ) -> Result<PromisedHandle<WorkerDone<UdpOut>, GivenBy<Worker<UdpOut>>>, Failed> {
+        start_worker(&self.rt, work)
+    }
+}
+
+type HostDevices<R> = RelayDevices<
+    UdpLink,
+    UdpFeed,
+    HostClock<R>,
+    HostWords<R>,
+    UdpOut,
+    ThreadSpawner<R, WorkerThreads<R>>,
+>;
+
+/// The sockets, clock, random words and threads of the machine.
+#[derive(Debug, Drop)]
+pub struct HostLive<R> {
+    rt: R,
+    alloc: Global,
+    faults: u64,
+}
+
+impl<R: Copy> HostLive<R> {
+    pub fn new(rt: R, alloc: Global) -> Self
+        ensures { result.faults ≡ 0 }
+    {
+        HostLive {
+            rt,
+            alloc,
+            faults: 0,
+        }
+    }
+
+    /// How many openings failed.
+    pub fn faults(&self) -> u64
+        ensures { result ≡ self.now.faults }
+    {
+        self.faults
+    }
+}
+
+// An end of the link's socket for each slot.
+fn open_outs(alloc: Global, link: &UdpLink, slots: u32) -> Result<Items<UdpOut>, OpenFault>
+    ensures { IfOk result (λ outs. length outs ≡ slots) }
+{
+    let Ok(mut outs) = Items::with_room(alloc, slots as usize) else {
+        return Err(OpenFault::Memory);
+    };
+    for slot in 0..slots {
+        let Ok(out) = link.worker_end() else {
+            return Err(OpenFault::Failed);
+        };
+        if outs.push(out).is_err() {
+            return Err(OpenFault::Memory);
+        }
+    }
+    Ok(outs)
+}
+
+impl<R> Live for HostLive<R>
+where
+    R: Net + Threads + Wait + Clock + RandomSource + Copy + Drop + 'static,
+{
+    type L = UdpLink;
+
+    type F = UdpFeed;
+
+    type C = HostClock<R>;
+
+    type W = HostWords<R>;
+
+    type O = UdpOut;
+
+    type P = ThreadSpawner<R, WorkerThreads<R>>;
+
+    ghost relays = { λ _. None };
+
+    ghost asked = { λ _. None };
+
+    ghost returned = { λ _. None };
+
+    ghost room = { λ _. None };
+
+    ghost faults = { λ live. live.faults };
+
+    fn open_relay(
+        &mut self,
+        listen: &Peer,
+        feed: &Peer,
+        slots: u32,
+    ) -> Result<HostDevices<R>, OpenFault> {
+        let opened = open_devices(self.rt, self.alloc, listen, feed, slots);
+        if matches!(&opened, Err(OpenFault::Failed)) {
+            self.faults = self.faults.saturating_add(1);
+        }
+        opened
+    }
+
+    fn return_relay(&mut self, devices: HostDevices<R>)
+        ensures faults { self.new.faults ≡ self.old.faults }
+    {
+        // The sockets are closed here.
+        drop(devices);
+    }
+}
+
+fn open_devices<R>(
+    rt: R,
+    alloc: Global,
+    listen: &Peer,
+    feed: &Peer,
+    slots: u32,
+) -> Result<HostDevices<R>, OpenFault>
+where
+    R: Net + Threads + Wait + Clock + RandomSource + Copy + Drop + 'static,
+    ensures { IfOk result (λ devices. length devices.outs ≡ slots) }
+{
+    let Ok((link, feed)) = open_sockets(&rt, listen, feed) else {
+        return Err(OpenFault::Failed);
+    };
+    let outs = open_outs(alloc, &link, slots)?;
+    Ok(RelayDevices {
+        link,
+        feed,
+        clock: HostClock::new(rt),
+        words: HostWords::new(rt),
+        outs,
+        spawner: ThreadSpawner::new(rt, WorkerThreads { rt }),
+    })
+}

@@ -1,0 +1,35 @@
+-- How often the real devices have failed.
+use Rattle.std.specs.Prelude.{ℕ}
+use Rattle.amt_ports.specs.declared.adapters.host_clock.HostClock.{HostClock}
+use Rattle.amt_ports.specs.declared.adapters.host_files.HostFiles.{HostFiles}
+use Rattle.amt_ports.specs.declared.adapters.host_words.HostWords.{HostWords}
+use Rattle.amt_ports.specs.declared.adapters.udp.feed.UdpFeed.{UdpFeed}
+use Rattle.amt_ports.specs.declared.adapters.udp.link.UdpLink.{UdpLink}
+use Rattle.amt_ports.specs.declared.adapters.udp.out.UdpOut.{UdpOut}
+
+-- receivings and sends of a link
+abbrev pub receivings_failed : UdpLink → ℕ
+receivings_failed link = link.receive_faults
+
+abbrev pub sends_failed : UdpLink → ℕ
+sends_failed link = link.send_faults
+
+-- receivings of a feed
+abbrev pub feed_failed : UdpFeed → ℕ
+feed_failed feed = feed.faults
+
+-- sends of a worker's end
+abbrev pub out_failed : UdpOut → ℕ
+out_failed out = out.faults
+
+-- readings of a clock
+abbrev pub readings_failed : {C : Type 0} → HostClock C → ℕ
+readings_failed clock = clock.faults
+
+-- drawings of words
+abbrev pub drawings_failed : {R : Type 0} → HostWords R → ℕ
+drawings_failed words = words.faults
+
+-- files that were not read
+abbrev pub files_failed : {F : Type 0} → HostFiles F → ℕ
+files_failed files = files.faults

@@ -1,0 +1,97 @@
+//! A UDP socket as a link. It must not know what datagrams say.
+
+ghost use Rattle.std.specs.Prelude.{◌≡◌, ◌≢◌, ◌≤◌, None, length, IfOk};
+ghost use Rattle.amt_ports.specs.Arrivals.{IsShortGot};
+ghost use Rattle.amt_ports.specs.Causes.{HasCause};
+ghost use Rattle.amt_ports.specs.RealDevices.{out_failed, receivings_failed, sends_failed};
+
+use super::out::UdpOut;
+use super::room::send_whole;
+use super::sources::source_peer;
+use super::watch::WatchedSocket;
+use crate::fault::count_fault;
+use crate::{Failed, Got, Link};
+use amt_values::Peer;
+use std::io;
+use std::net::UdpSocket;
+
+/// The listening socket. A source that is an IPv4-mapped address is handed on as the IPv4 address. It is
+/// never closed.
+#[derive(Debug, Drop)]
+pub struct UdpLink {
+    socket: WatchedSocket,
+    receive_faults: u64,
+    send_faults: u64,
+}
+
+impl UdpLink {
+    pub(crate) fn new(own: UdpSocket, other: UdpSocket) -> Self
+        ensures { (receivings_failed result ≡ 0) × (sends_failed result ≡ 0) }
+    {
+        UdpLink {
+            socket: WatchedSocket::new(own, other),
+            receive_faults: 0,
+            send_faults: 0,
+        }
+    }
+
+    /// An end for a worker, which sends through the same socket.
+    pub fn worker_end(&self) -> io::Result<UdpOut>
+        ensures { IfOk result (λ out. out_failed out ≡ 0) }
+    {
+        Ok(UdpOut::new(self.socket.own.try_clone()?))
+    }
+
+    /// The address and port that it listens at.
+    pub fn local_peer(&self) -> io::Result<Peer> {
+        Ok(source_peer(self.socket.own.local_addr()?))
+    }
+
+    /// How often a receiving has failed.
+    pub fn receive_faults(&self) -> u64
+        ensures { result ≡ receivings_failed self.now }
+    {
+        self.receive_faults
+    }
+
+    /// How often a send has failed.
+    pub fn send_faults(&self) -> u64
+        ensures { result ≡ sends_failed self.now }
+    {
+        self.send_faults
+    }
+}
+
+impl Link for UdpLink {
+    ghost coming = { λ _. None };
+
+    ghost tried = { λ _. None };
+
+    ghost receive_faults = { receivings_failed };
+
+    ghost send_faults = { sends_failed };
+
+    fn recv(&mut self, buf: &mut [u8], wait_ms: u32) -> Result<Got, Failed>
+        requires room { 65536 ≤ length buf.old }
+        requires wait { 1 ≤ wait_ms }
+        ensures short { IfOk result IsShortGot }
+        ensures buffer { length buf.new ≡ length buf.old }
+        ensures cause { HasCause (receivings_failed self.old) (receivings_failed self.new) result }
+        ensures apart { sends_failed self.new ≡ sends_failed self.old }
+
+        ensures open { IfOk result (λ got. got ≢ Got.Closed) }
+    {
+        match self.socket.recv(buf, wait_ms) {
+            Ok(Some((count, source))) => Ok(Got::Datagram(source_peer(source), count)),
+            Ok(None) => Ok(Got::Nothing),
+            Err(_) => Err(count_fault(&mut self.receive_faults)),
+        }
+    }
+
+    fn send(&mut self, to: &Peer, bytes: &[u8]) -> Result<(), Failed> {
+        match send_whole(&self.socket.own, to, bytes) {
+            Ok(()) => Ok(()),
+            Err(_) => Err(count_fault(&mut self.send_faults)),
+        }
+    }
+}

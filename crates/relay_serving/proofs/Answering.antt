@@ -1,0 +1,66 @@
+-- The answers to events, and to more of them.
+use Rattle.std.proofs.Common.{◌≡◌, ℕ, ◌+◌, List, [], ◌∷◌, ◌++◌, length, refl, sym, ap, subst, ◌∙◌, append_assoc, append-nil, arith, length-append}
+use Rattle.std.specs.Prelude.{Option}
+use Rattle.std.specs.List.{flat_map}
+use Rattle.std.proofs.lemmas.List.Concat.{flat_map-append}
+use Rattle.amt_ports.specs.Sends.{TriedSend}
+use Rattle.amt_values.specs.declared.peer.Peer.{Peer}
+use Rattle.response_mac.specs.declared.secret.Secret.{Secret}
+use Rattle.relay_machine.specs.Courses.{each_after}
+use Rattle.relay_machine.specs.declared.event.Event.{Event}
+use Rattle.relay_machine.specs.declared.settings.Settings.{Settings}
+use Rattle.replication_workers.specs.Replication.{HasTried}
+use Rattle.replication_workers.proofs.Trying.{HasTried-none, HasTried-then}
+use Rattle.relay_serving.specs.Counting.{HasAnswered}
+use Rattle.relay_serving.specs.Devices.{LinkSeen}
+use Rattle.relay_serving.specs.Sending.{answers_after, answers_to}
+use Rattle.relay_serving.specs.declared.counts.Counts.{Counts}
+
+-- later events are answered after all the earlier ones
+pub each_append : {E A : Type 0} (answer : List E → E → A) (before events more : List E)
+    → each_after answer before (events ++ more) ≡ each_after answer before events ++ each_after answer (before ++ events) more
+each_append {E} answer before [] more = ap (λ (past : List E). each_after answer past more) (sym (append-nil before))
+each_append {E} {A} answer before (one ∷ events) more =
+    ap (λ (rest : List A). answer before one ∷ rest)
+    (each_append answer (before ++ one ∷ []) events more
+    ∙ ap (λ (past : List E). each_after answer (before ++ one ∷ []) events ++ each_after answer past more) (append_assoc before (one ∷ []) events))
+
+pub answers_after-append : (settings : Settings) (first : Secret) (earlier events more : List Event)
+    → answers_after settings first earlier (events ++ more) ≡ answers_after settings first earlier events ++ answers_after settings first (earlier ++ events) more
+answers_after-append settings first earlier events more =
+    ap (flat_map (λ (sends : List (Peer × List ℕ)). sends)) (each_append (answers_to settings first) earlier events more)
+    ∙ flat_map-append (λ (sends : List (Peer × List ℕ)). sends) (each_after (answers_to settings first) earlier events) (each_after (answers_to settings first) (earlier ++ events) more)
+
+sum_then : (before now after first second : ℕ) → now ≡ before + first → after ≡ now + second → after ≡ before + (first + second)
+sum_then before now after first second is then = omega (arith, is, then)
+
+as_many_then : (more missed then_more then_missed first second all : ℕ) → more + missed ≡ first → then_more + then_missed ≡ second → all ≡ first + second
+    → (more + then_more) + (missed + then_missed) ≡ all
+as_many_then more missed then_more then_missed first second all is then both = omega (arith, is, then, both)
+
+no_more : (number : ℕ) → number ≡ number + 0
+no_more number = omega arith
+
+-- answers, and then others
+pub HasAnswered-then : (link now later : LinkSeen) (counts counts_now counts_later : Counts) (wanted others : List (Peer × List ℕ))
+    → HasAnswered link now counts counts_now wanted → HasAnswered now later counts_now counts_later others → HasAnswered link later counts counts_later (wanted ++ others)
+HasAnswered-then link now later counts counts_now counts_later wanted others first second = record {
+  more = first.more + second.more;
+  missed = first.missed + second.missed;
+  sent_are = sum_then counts.sent counts_now.sent counts_later.sent first.more second.more first.sent_are second.sent_are;
+  unsent_are = sum_then counts.unsent counts_now.unsent counts_later.unsent first.missed second.missed first.unsent_are second.unsent_are;
+  as_many = as_many_then first.more first.missed second.more second.missed (length wanted) (length others) (length (wanted ++ others)) first.as_many second.as_many (length-append wanted others);
+  tried = HasTried-then link.tried now.tried later.tried link.send_faults now.send_faults later.send_faults wanted others first.more first.missed second.more second.missed first.tried second.tried;
+}
+
+-- nothing was sent
+pub HasAnswered-none : (link now : LinkSeen) (counts : Counts) → now.tried ≡ link.tried → now.send_faults ≡ link.send_faults → HasAnswered link now counts counts []
+HasAnswered-none link now counts same_tried same_faults = record {
+  more = 0;
+  missed = 0;
+  sent_are = no_more counts.sent;
+  unsent_are = no_more counts.unsent;
+  as_many = refl;
+  tried = subst (λ (tried : Option (List TriedSend)). HasTried link.tried tried link.send_faults now.send_faults [] 0 0) (sym same_tried)
+      (subst (λ (faults : ℕ). HasTried link.tried link.tried link.send_faults faults [] 0 0) (sym same_faults) (HasTried-none link.tried link.send_faults));
+}

@@ -1,0 +1,111 @@
+-- Where one event more, which is no packet, leaves a running relay.
+use Rattle.std.proofs.Common.{◌≡◌, ◌≤◌, ◌+◌, true, false, List, [], ◌∷◌, ◌++◌, length, reverse, refl, sym, ap, subst, ◌∙◌, arith}
+use Rattle.std.specs.Prelude.{Option, Some, None}
+use Rattle.std.specs.List.{flat_map}
+use Rattle.std.proofs.Math.Logic.{∥∥₁_elim, ∥∥₁_map}
+use Rattle.std.proofs.Props.{props}
+use Rattle.std.proofs.lemmas.List.{append-nil, flat_map_more, length_push, reverse-append, reverse-reverse}
+use Rattle.amt_ports.specs.declared.out_link.OutLink.{Ghosts}
+use Rattle.endpoint_membership.specs.Limits.{IsWithin}
+use Rattle.endpoint_membership.specs.Table.{memberships_now}
+use Rattle.endpoint_membership.specs.declared.change.Change.{Change}
+use Rattle.published_table.specs.Terms.{Fits}
+use Rattle.published_table.specs.declared.terms.Terms.{Terms}
+use Rattle.response_mac.specs.declared.secret.Secret.{Secret}
+use Rattle.relay_machine.specs.Accepted.{change_of, with_change}
+use Rattle.relay_machine.specs.Answers.{RelayAt, settings_of}
+use Rattle.relay_machine.specs.Courses.{each_after}
+use Rattle.relay_machine.specs.Published.{published_log}
+use Rattle.relay_machine.specs.Settings.{AreLawfulSettings, table_settings_of}
+use Rattle.relay_machine.specs.declared.event.Event.{Event}
+use Rattle.relay_machine.specs.declared.event.Event.TheVariants.{Moment, Datagram, Packet, Rotate}
+use Rattle.relay_machine.specs.declared.relay.Relay.{Relay}
+use Rattle.relay_machine.specs.declared.settings.Settings.{Settings}
+use Rattle.relay_machine.proofs.Courses.{each_more}
+use Rattle.relay_machine.proofs.PublishedLog.{published_log-next, published_log-none, published_log-within}
+use Rattle.replication_workers.specs.SlotStates.{SlotState}
+use Rattle.relay_serving.specs.Counting.{is_packet}
+use Rattle.relay_serving.specs.GivenOut.{AreGivenOut, terms_by}
+use Rattle.relay_serving.specs.Sending.{Due, due_to, dues_after}
+
+-- each event adds at most one entry
+few_more : (log : List Change) (entry : Option Change) → length (with_change log entry) ≤ length log + 1
+few_more log None = omega arith
+few_more log (Some change) = let pushed = length_push log change in omega (arith, pushed)
+
+few_back : (settings : Settings) (first : Secret) (back : List Event) → length (published_log settings first (reverse back)) ≤ length back
+few_back settings first [] = let none = ap length (published_log-none settings first) in omega (arith, none)
+few_back settings first (event ∷ earlier) =
+    let before = few_back settings first earlier in
+    let events = reverse earlier in
+    let turned = ap (λ (all : List Event). length (published_log settings first all)) (reverse-append (event ∷ []) earlier) in
+    let next = ap length (published_log-next settings first events event) in
+    let more = few_more (published_log settings first events) (change_of settings first events event) in
+    omega (arith, before, turned, next, more)
+
+length-reversed : {X : Type 0} (xs : List X) → length (reverse xs) ≡ length xs
+length-reversed [] = refl
+length-reversed {X} (x ∷ xs) =
+    let turned = ap length (reverse-append (x ∷ []) xs) in
+    let pushed = length_push (reverse xs) x in
+    let before = length-reversed xs in omega (arith, turned, pushed, before)
+
+pub published_log-few : (settings : Settings) (first : Secret) (events : List Event) → length (published_log settings first events) ≤ length events
+published_log-few settings first events =
+    let back = few_back settings first (reverse events) in
+    let turned = ap (λ (all : List Event). length (published_log settings first all)) (reverse-reverse events) in
+    let same = length-reversed events in omega (arith, back, turned, same)
+
+-- the log with what was handed out is the published log after the event
+pub log-next : (settings after : Settings) (first : Secret) (events later : List Event) (event : Event) (log log' : List Change) (entry : Option Change)
+    → after ≡ settings → later ≡ events ++ event ∷ [] → entry ≡ change_of settings first events event → log' ≡ with_change log entry → log ≡ published_log settings first events
+    → log' ≡ published_log after first later
+log-next settings after first events later event log log' entry same next is grown before =
+    grown
+    ∙ (λ i. with_change (before i) (is i))
+    ∙ sym (published_log-next settings first events event)
+    ∙ (λ i. published_log (sym same i) first (sym next i))
+
+-- the entry that an event hands out fits
+pub entry-fits : (settings : Settings) (first : Secret) (events : List Event) (event : Event) (log : List Change) (terms : Terms) (change : Change)
+    → ∥ AreLawfulSettings settings ∥₁ → terms ≡ terms_by settings → log ≡ published_log settings first events → Some change ≡ change_of settings first events event
+    → Fits terms (log ++ change ∷ [])
+entry-fits settings first events event log terms change lawful by before is =
+    subst (λ (one : Terms). Fits one (log ++ change ∷ [])) (sym by)
+    (subst (λ (all : List Change). IsWithin settings.limits (memberships_now (table_settings_of settings) all))
+    (published_log-next settings first events event ∙ (λ i. with_change (sym before i) (sym is i)))
+    (∥∥₁_elim lawful (hlevel props) (λ known. published_log-within settings first (events ++ event ∷ []) known)))
+
+-- a packet alone is due
+none_due : (settings : Settings) (first : Secret) (events : List Event) (event : Event) → is_packet event ≡ false → due_to settings first events event ≡ []
+none_due settings first events (Moment moment) other = refl
+none_due settings first events (Datagram bytes from) other = refl
+none_due settings first events (Rotate secret) other = refl
+none_due settings first events (Packet bytes) other = absurd (no other)
+  where
+    no : true ≡ false → ⊥
+    no same = cc
+
+pub dues-next : (settings : Settings) (first : Secret) (events : List Event) (event : Event)
+    → dues_after settings first [] (events ++ event ∷ []) ≡ dues_after settings first [] events ++ due_to settings first events event
+dues-next settings first events event =
+    ap (flat_map (λ (dues : List Due). dues)) (each_more (due_to settings first) [] events event)
+    ∙ sym (flat_map_more (λ (dues : List Due). dues) [] (each_after (due_to settings first) [] events) (due_to settings first events event))
+
+pub given_out-other : {O : Type 0} {g : Ghosts O} (settings after : Settings) (first : Secret) (events later : List Event) (event : Event) (slots : List (SlotState O g))
+    → after ≡ settings → later ≡ events ++ event ∷ [] → is_packet event ≡ false → ∥ AreGivenOut settings first events slots ∥₁ → ∥ AreGivenOut after first later slots ∥₁
+given_out-other settings after first events later event slots same next other given =
+    subst (λ (known : Settings). ∥ AreGivenOut known first later slots ∥₁) (sym same)
+    (subst (λ (all : List Event). ∥ AreGivenOut settings first all slots ∥₁) (sym next)
+    (∥∥₁_map given (λ before. record {
+      jobs = before.jobs;
+      are_due = before.are_due
+          ∙ sym (dues-next settings first events event
+          ∙ (ap (λ (more : List Due). dues_after settings first [] events ++ more) (none_due settings first events event other) ∙ append-nil _));
+      at_slots = before.at_slots;
+    })))
+
+pub at-next : (relay : Relay) (settings : Settings) (first : Secret) (events later : List Event) (event : Event)
+    → settings_of relay ≡ settings → later ≡ events ++ event ∷ [] → RelayAt relay settings first (events ++ event ∷ []) → RelayAt relay (settings_of relay) first later
+at-next relay settings first events later event same next at =
+    subst (λ (known : Settings). RelayAt relay known first later) (sym same) (subst (λ (all : List Event). RelayAt relay settings first all) (sym next) at)

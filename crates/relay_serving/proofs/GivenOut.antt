@@ -1,0 +1,193 @@
+-- One job more, given to the slot of its packet.
+use Rattle.std.proofs.Common.{◌≡◌, ◌≢◌, ◌≤◌, ◌<◌, ◌+◌, ◌^◌, ℕ, zero, suc, Bool, true, false, cond, List, [], ◌∷◌, ◌++◌, length, map, reverse, ⊎_elim, refl, sym, ap, subst, ◌∙◌, append-nil, arith, length-append}
+use Rattle.std.specs.Prelude.{nat_eq, count_by}
+use Rattle.std.specs.List.{All, enumerate_from}
+use Rattle.std.proofs.Math.Logic.{∥∥₁_elim, ∥∥₁_map}
+use Rattle.std.proofs.Props.{props}
+use Rattle.std.proofs.lemmas.Bool.Decides.{eqb_tells}
+use Rattle.std.proofs.lemmas.List.{length-map, length_push, map-append, reverse-append, reverse-reverse}
+use Rattle.std.proofs.lemmas.List.Elements.{All-cons, All-head, All-tail, filter-append}
+use Rattle.logbook.specs.Pages.{Book}
+use Rattle.std.proofs.lemmas.List.Sums.{sum_by-cons}
+use Rattle.amt_ports.specs.declared.out_link.OutLink.{Ghosts}
+use Rattle.published_table.specs.declared.view.Note.{Note}
+use Rattle.published_table.specs.Views.{named, note_publisher, publisher_of}
+use Rattle.response_mac.specs.declared.secret.Secret.{Secret}
+use Rattle.relay_machine.specs.Events.{now_of}
+use Rattle.relay_machine.specs.Published.{published_log}
+use Rattle.relay_machine.specs.declared.event.Event.{Event}
+use Rattle.relay_machine.specs.declared.event.Event.TheVariants.{Moment, Datagram, Packet, Rotate}
+use Rattle.relay_machine.specs.declared.settings.Settings.{Settings}
+use Rattle.replication_workers.specs.Dispatchers.{slot_for}
+use Rattle.replication_workers.specs.Replicators.{view_of}
+use Rattle.replication_workers.specs.SlotStates.{SlotState, jobs_in_all, with_job}
+use Rattle.replication_workers.specs.declared.job.Job.{Job}
+use Rattle.replication_workers.specs.declared.replicator.Replicator.{Replicator}
+use Rattle.relay_serving.specs.Counting.{is_packet}
+use Rattle.relay_serving.specs.GivenOut.{AreGivenOut, AreOfPublisher, jobs_at, slots_after, starts_in}
+use Rattle.relay_serving.specs.Sending.{due_of, due_to, dues_after}
+use Rattle.relay_serving.proofs.Entering.{dues-next}
+
+same_number : (a b : ℕ) → a ≡ b → nat_eq a b ≡ true
+same_number a b is = ⊎_elim (λ (yes : (nat_eq a b ≡ true) × (a ≡ b)). yes.0) (λ (no : (nat_eq a b ≡ false) × (a ≢ b)). absurd (no.1 is)) (eqb_tells a b)
+
+other_number : (a b : ℕ) → a ≢ b → nat_eq a b ≡ false
+other_number a b isnt = ⊎_elim (λ (yes : (nat_eq a b ≡ true) × (a ≡ b)). absurd (isnt yes.1)) (λ (no : (nat_eq a b ≡ false) × (a ≢ b)). no.0) (eqb_tells a b)
+
+-- of jobs and one more
+jobs_more : (slots number : ℕ) (jobs : List Job) (job : Job) → jobs_at slots number (jobs ++ job ∷ []) ≡ jobs_at slots number jobs ++ cond (nat_eq (slot_for slots job.packet) number) (job ∷ []) []
+jobs_more slots number jobs job = filter-append (λ (one : Job). nat_eq (slot_for slots one.packet) number) jobs (job ∷ [])
+
+jobs_here : (slots number : ℕ) (jobs : List Job) (job : Job) → slot_for slots job.packet ≡ number → jobs_at slots number (jobs ++ job ∷ []) ≡ jobs_at slots number jobs ++ job ∷ []
+jobs_here slots number jobs job is =
+    jobs_more slots number jobs job ∙ ap (λ (known : Bool). jobs_at slots number jobs ++ cond known (job ∷ []) []) (same_number (slot_for slots job.packet) number is)
+
+jobs_elsewhere : (slots number : ℕ) (jobs : List Job) (job : Job) → slot_for slots job.packet ≢ number → jobs_at slots number (jobs ++ job ∷ []) ≡ jobs_at slots number jobs
+jobs_elsewhere slots number jobs job isnt =
+    jobs_more slots number jobs job
+    ∙ (ap (λ (known : Bool). jobs_at slots number jobs ++ cond known (job ∷ []) []) (other_number (slot_for slots job.packet) number isnt) ∙ append-nil (jobs_at slots number jobs))
+
+length-turned : {X : Type 0} (xs : List X) → length (reverse xs) ≡ length xs
+length-turned [] = refl
+length-turned {X} (x ∷ xs) =
+    let turned = ap length (reverse-append (x ∷ []) xs) in
+    let pushed = length_push (reverse xs) x in
+    let before = length-turned xs in omega (arith, turned, pushed, before)
+
+module _ {O : Type 0} {g : Ghosts O} where
+  -- the slots from this number on, of so many
+  abbrev slots_from : ℕ → ℕ → List (Replicator O g) → List Job → List (SlotState O g)
+  slots_from slots from firsts jobs = map (λ numbered. record { first = numbered.1; jobs = jobs_at slots numbered.0 jobs }) (enumerate_from from firsts)
+
+  slots_later : (slots from : ℕ) (firsts : List (Replicator O g)) (jobs : List Job) (job : Job) → slot_for slots job.packet < from → slots_from slots from firsts (jobs ++ job ∷ []) ≡ slots_from slots from firsts jobs
+  slots_later slots from [] jobs job earlier = refl
+  slots_later slots from (replicator ∷ firsts) jobs job earlier =
+      let here = jobs_elsewhere slots from jobs job (λ same. omega (arith, same, earlier)) in
+      let later = slots_later slots (from + 1) firsts jobs job (omega (arith, earlier)) in
+      λ i. record { first = replicator; jobs = here i } ∷ later i
+
+  slots_put : (slots from place : ℕ) (firsts : List (Replicator O g)) (jobs : List Job) (job : Job) → slot_for slots job.packet ≡ from + place
+      → slots_from slots from firsts (jobs ++ job ∷ []) ≡ with_job place job (slots_from slots from firsts jobs)
+  slots_put slots from place [] jobs job is = refl
+  slots_put slots from zero (replicator ∷ firsts) jobs job is =
+      let here = jobs_here slots from jobs job (omega (arith, is)) in
+      let later = slots_later slots (from + 1) firsts jobs job (omega (arith, is)) in
+      λ i. record { first = replicator; jobs = here i } ∷ later i
+  slots_put slots from (suc place) (replicator ∷ firsts) jobs job is =
+      let here = jobs_elsewhere slots from jobs job (λ same. omega (arith, same, is)) in
+      let later = slots_put slots (from + 1) place firsts jobs job (omega (arith, is)) in
+      λ i. record { first = replicator; jobs = here i } ∷ later i
+
+  pub slots_after-put : (firsts : List (Replicator O g)) (jobs : List Job) (job : Job)
+      → slots_after firsts (jobs ++ job ∷ []) ≡ with_job (slot_for (length firsts) job.packet) job (slots_after firsts jobs)
+  slots_after-put firsts jobs job = slots_put (length firsts) 0 (slot_for (length firsts) job.packet) firsts jobs job (omega arith)
+
+  pub starts_in-put : (place : ℕ) (job : Job) (slots : List (SlotState O g)) → starts_in (with_job place job slots) ≡ starts_in slots
+  starts_in-put place job [] = refl
+  starts_in-put zero job (slot ∷ slots) = refl
+  starts_in-put (suc place) job (slot ∷ slots) = ap (λ (later : List (Replicator O g)). slot.first ∷ later) (starts_in-put place job slots)
+
+
+  few_put : (place : ℕ) (job : Job) (slots : List (SlotState O g)) → jobs_in_all (with_job place job slots) ≤ jobs_in_all slots + 1
+  few_put place job [] = omega arith
+  few_put zero job (slot ∷ slots) =
+      let after = sum_by-cons (λ (one : SlotState O g). length one.jobs) (record { first = slot.first; jobs = slot.jobs ++ job ∷ [] }) slots in
+      let before = sum_by-cons (λ (one : SlotState O g). length one.jobs) slot slots in
+      let longer = length_push slot.jobs job in omega (arith, after, before, longer)
+  few_put (suc place) job (slot ∷ slots) =
+      let after = sum_by-cons (λ (one : SlotState O g). length one.jobs) slot (with_job place job slots) in
+      let before = sum_by-cons (λ (one : SlotState O g). length one.jobs) slot slots in
+      let later = few_put place job slots in omega (arith, after, before, later)
+
+  no_jobs : (slots from : ℕ) (firsts : List (Replicator O g)) → jobs_in_all (slots_from slots from firsts []) ≡ 0
+  no_jobs slots from [] = refl
+  no_jobs slots from (replicator ∷ firsts) =
+      let sum = sum_by-cons (λ (one : SlotState O g). length one.jobs) (record { first = replicator; jobs = [] }) (slots_from slots (from + 1) firsts []) in
+      let later = no_jobs slots (from + 1) firsts in omega (arith, sum, later)
+
+  few_back : (firsts : List (Replicator O g)) (back : List Job) → jobs_in_all (slots_after firsts (reverse back)) ≤ length back
+  few_back firsts [] = let none = no_jobs (length firsts) 0 firsts in omega (arith, none)
+  few_back firsts (job ∷ earlier) =
+      let before = few_back firsts earlier in
+      let turned = ap (λ (all : List Job). jobs_in_all (slots_after firsts all)) (reverse-append (job ∷ []) earlier) in
+      let put = ap jobs_in_all (slots_after-put firsts (reverse earlier) job) in
+      let more = few_put (slot_for (length firsts) job.packet) job (slots_after firsts (reverse earlier)) in
+      omega (arith, before, turned, put, more)
+
+  few_jobs : (firsts : List (Replicator O g)) (jobs : List Job) → jobs_in_all (slots_after firsts jobs) ≤ length jobs
+  few_jobs firsts jobs =
+      let back = few_back firsts (reverse jobs) in
+      let turned = ap (λ (all : List Job). jobs_in_all (slots_after firsts all)) (reverse-reverse jobs) in
+      let same = length-turned jobs in omega (arith, back, turned, same)
+
+-- each packet is due once
+one_due : (settings : Settings) (first : Secret) (earlier : List Event) (event : Event) → length (due_to settings first earlier event) ≡ cond (is_packet event) 1 0
+one_due settings first earlier (Moment moment) = refl
+one_due settings first earlier (Datagram bytes from) = refl
+one_due settings first earlier (Rotate secret) = refl
+one_due settings first earlier (Packet bytes) = refl
+
+dues-counted : (settings : Settings) (first : Secret) (earlier later : List Event) → length (dues_after settings first earlier later) ≡ count_by is_packet later
+dues-counted settings first earlier [] = refl
+dues-counted settings first earlier (event ∷ later) =
+    let all = length-append (due_to settings first earlier event) (dues_after settings first (earlier ++ event ∷ []) later) in
+    let one = one_due settings first earlier event in
+    let more = dues-counted settings first (earlier ++ event ∷ []) later in
+    let sum = sum_by-cons (λ (known : Event). cond (is_packet known) 1 0) event later in omega (arith, all, one, more, sum)
+
+due_is : (settings : Settings) (first : Secret) (events : List Event) (job : Job) (bytes : List ℕ) → job.packet ≡ bytes → job.at ≡ now_of events → named job.note ≡ published_log settings first events
+    → due_of job ∷ [] ≡ due_to settings first events (Packet bytes)
+due_is settings first events job bytes packet at log = λ i. record { packet = packet i; at = at i; log = log i } ∷ []
+
+module _ {O : Type 0} {g : Ghosts O} where
+  -- all jobs are packets that were counted
+  pub few-given : (settings : Settings) (first : Secret) (events : List Event) (slots : List (SlotState O g)) (packets : ℕ) → ∥ AreGivenOut settings first events slots ∥₁
+      → packets ≡ count_by is_packet events → packets < 2 ^ 46 → jobs_in_all slots < 2 ^ 46
+  few-given settings first events slots packets given counted few =
+      ∥∥₁_elim given (hlevel props) (λ known.
+      let at = ap jobs_in_all known.at_slots in
+      let all = few_jobs (starts_in slots) known.jobs in
+      let due = ap length known.are_due in
+      let long = length-map known.jobs due_of in
+      let dues = dues-counted settings first [] events in omega (arith, at, all, due, long, dues, counted, few))
+
+  given_more : (settings : Settings) (first : Secret) (events : List Event) (slots slots' : List (SlotState O g)) (job : Job) (bytes : List ℕ) (place : ℕ) → place ≡ slot_for (length slots) job.packet
+      → slots' ≡ with_job place job slots → job.packet ≡ bytes → job.at ≡ now_of events → named job.note ≡ published_log settings first events
+      → AreGivenOut settings first events slots → AreGivenOut settings first (events ++ Packet bytes ∷ []) slots'
+  given_more settings first events slots slots' job bytes place slot put packet at log given =
+      let firsts = starts_in slots in
+      let same_firsts = ap starts_in put ∙ starts_in-put place job slots in
+      let same_place : place ≡ slot_for (length firsts) job.packet = slot ∙ ap (λ (number : ℕ). slot_for number job.packet) (sym (length-map slots (λ (one : SlotState O g). one.first))) in record {
+        jobs = given.jobs ++ job ∷ [];
+        are_due = map-append due_of given.jobs (job ∷ [])
+            ∙ ((λ i. given.are_due i ++ due_is settings first events job bytes packet at log i) ∙ sym (dues-next settings first events (Packet bytes)));
+        at_slots = put
+            ∙ ((λ i. with_job (same_place i) job (given.at_slots i))
+            ∙ (sym (slots_after-put firsts given.jobs job)
+            ∙ ap (λ (known : List (Replicator O g)). slots_after known (given.jobs ++ job ∷ [])) (sym same_firsts)));
+      }
+
+  pub given_out-packet : (settings : Settings) (first : Secret) (events later : List Event) (slots slots' : List (SlotState O g)) (job : Job) (bytes : List ℕ) (place : ℕ) → place ≡ slot_for (length slots) job.packet
+      → slots' ≡ with_job place job slots → later ≡ events ++ Packet bytes ∷ [] → job.packet ≡ bytes → job.at ≡ now_of events → named job.note ≡ published_log settings first events
+      → ∥ AreGivenOut settings first events slots ∥₁ → ∥ AreGivenOut settings first later slots' ∥₁
+  given_out-packet settings first events later slots slots' job bytes place slot put next packet at log given =
+      subst (λ (all : List Event). ∥ AreGivenOut settings first all slots' ∥₁) (sym next)
+      (∥∥₁_map given (given_more settings first events slots slots' job bytes place slot put packet at log))
+
+  -- a job's note is of the slots' publisher
+  pub for_slots : (publisher : Book) (note : Note) (slots : List (SlotState O g)) → note_publisher note ≡ publisher → AreOfPublisher publisher slots
+      → All (λ (slot : SlotState O g). note_publisher note ≡ publisher_of (view_of slot.first)) slots
+  for_slots publisher note slots is of = λ number default within. is ∙ sym (of number default within)
+
+  -- which stays so
+  of_publisher-with : (publisher : Book) (place : ℕ) (job : Job) (slots : List (SlotState O g)) → AreOfPublisher publisher slots → AreOfPublisher publisher (with_job place job slots)
+  of_publisher-with publisher place job [] of = of
+  of_publisher-with publisher zero job (slot ∷ later) of =
+      let Of : SlotState O g → Type 0 = λ one. publisher_of (view_of one.first) ≡ publisher in
+      All-cons Of (record { first = slot.first; jobs = slot.jobs ++ job ∷ [] }) later (All-head Of slot later of) (All-tail Of slot later of)
+  of_publisher-with publisher (suc place) job (slot ∷ later) of =
+      let Of : SlotState O g → Type 0 = λ one. publisher_of (view_of one.first) ≡ publisher in
+      All-cons Of slot (with_job place job later) (All-head Of slot later of) (of_publisher-with publisher place job later (All-tail Of slot later of))
+
+  pub of_publisher-put : (publisher : Book) (place : ℕ) (job : Job) (slots slots' : List (SlotState O g)) → slots' ≡ with_job place job slots → AreOfPublisher publisher slots → AreOfPublisher publisher slots'
+  of_publisher-put publisher place job slots slots' put of = subst (AreOfPublisher publisher) (sym put) (of_publisher-with publisher place job slots of)

@@ -1,0 +1,143 @@
+-- One asking of a link or a feed, and several in a row.
+use Rattle.std.proofs.Common.{◌≡◌, ◌+◌, ℕ, List, [], ◌∷◌, ◌++◌, map, sym, ap, subst, ◌∙◌, append-nil}
+use Rattle.std.specs.Prelude.{Option}
+use Rattle.amt_ports.specs.Sends.{TriedSend}
+use Rattle.amt_ports.specs.Told.{Answers}
+use Rattle.amt_ports.specs.declared.feed.FeedAnswer.{FeedAnswer}
+use Rattle.amt_ports.specs.declared.feed.FeedAnswer.TheVariants.{Packet as PacketFed, Closed as FeedClosed}
+use Rattle.amt_ports.specs.declared.link.LinkAnswer.{LinkAnswer}
+use Rattle.amt_ports.specs.declared.link.LinkAnswer.TheVariants.{Datagram as DatagramCame, Closed as LinkClosed}
+use Rattle.amt_ports.specs.declared.out_link.OutLink.{Ghosts}
+use Rattle.amt_values.specs.declared.peer.Peer.{Peer}
+use Rattle.relay_machine.specs.Answers.{sends_of}
+use Rattle.relay_machine.specs.declared.event.Event.{Event}
+use Rattle.relay_machine.specs.declared.event.Event.TheVariants.{Datagram, Packet}
+use Rattle.replication_workers.specs.Replication.{HasTried, to_peer}
+use Rattle.relay_serving.specs.Counting.{HasAnswered}
+use Rattle.relay_serving.specs.Devices.{AnswersAll, FeedSeen, LinkSeen}
+use Rattle.relay_serving.specs.Events.{datagrams_in, packets_in}
+use Rattle.relay_serving.specs.Sending.{answers_after}
+use Rattle.relay_serving.specs.Servers.{Feeds, HasEvents, Hears, IsAsBefore, counts_in, events_in, first_in, published_in, settings_in}
+use Rattle.relay_serving.specs.Turns.{Taken, taken}
+use Rattle.relay_serving.specs.declared.counts.Counts.{Counts}
+use Rattle.relay_serving.specs.declared.server.Server.{Server}
+use Rattle.relay_serving.proofs.Answering.{HasAnswered-none, HasAnswered-then, answers_after-append}
+use Rattle.relay_serving.proofs.Events.{AnswersAll-taken, HasEvents-none, HasEvents-then, datagrams_in-append, packets_in-append}
+
+-- a link of which the same was seen
+HasAnswered-from : (link now later : LinkSeen) (counts counts' : Counts) (wanted : List (Peer × List ℕ)) → now.tried ≡ link.tried → now.send_faults ≡ link.send_faults
+    → HasAnswered now later counts counts' wanted → HasAnswered link later counts counts' wanted
+HasAnswered-from link now later counts counts' wanted same_tried same_faults answered = record {
+  more = answered.more;
+  missed = answered.missed;
+  sent_are = answered.sent_are;
+  unsent_are = answered.unsent_are;
+  as_many = answered.as_many;
+  tried = subst (λ (tried : Option (List TriedSend)). HasTried tried later.tried link.send_faults later.send_faults wanted answered.more answered.missed) same_tried
+      (subst (λ (faults : ℕ). HasTried now.tried later.tried faults later.send_faults wanted answered.more answered.missed) same_faults answered.tried);
+}
+
+one_answer : {X : Type 0} (closed : X) (before now after : Option (List X)) (answer : X) → Answers closed before now answer → after ≡ now → AnswersAll closed before after (answer ∷ [])
+one_answer closed before now after answer is same = (now, is, same)
+
+module _ {O : Type 0} {g : Ghosts O} {T : Type 0} where
+  pub Hears-then : (before now after : Server O T g) (link link_now link_after : LinkSeen) (heard more : List (Taken LinkAnswer))
+      → Hears before now link link_now heard → Hears now after link_now link_after more → Hears before after link link_after (heard ++ more)
+  Hears-then before now after link link_now link_after heard more first second =
+      let wanted : List Event → List (Peer × List ℕ) = answers_after (settings_in before) (first_in before) (events_in before) in
+      let others = answers_after (settings_in now) (first_in now) (events_in now) (datagrams_in more) in
+      let same = first.events.same in
+      let all : wanted (datagrams_in heard) ++ others ≡ wanted (datagrams_in (heard ++ more)) =
+      (λ i. wanted (datagrams_in heard) ++ answers_after (same.same_settings i) (same.same_first i) (first.events.events i) (datagrams_in more))
+      ∙ (sym (answers_after-append (settings_in before) (first_in before) (events_in before) (datagrams_in heard) (datagrams_in more))
+      ∙ ap wanted (sym (datagrams_in-append heard more))) in record {
+        events = subst (HasEvents before after) (sym (datagrams_in-append heard more)) (HasEvents-then before now after (datagrams_in heard) (datagrams_in more) first.events second.events);
+        same_published = second.same_published ∙ first.same_published;
+        came = AnswersAll-taken LinkClosed link.coming link_now.coming link_after.coming heard more first.came second.came;
+        answered = subst (HasAnswered link link_after (counts_in before) (counts_in after)) all
+            (HasAnswered-then link link_now link_after (counts_in before) (counts_in now) (counts_in after) (wanted (datagrams_in heard)) others first.answered second.answered);
+      }
+
+  quiet_answered : (before after : Server O T g) (link link' : LinkSeen) → IsAsBefore before after → link'.tried ≡ link.tried → link'.send_faults ≡ link.send_faults
+      → HasAnswered link link' (counts_in before) (counts_in after) []
+  quiet_answered before after link link' as_before same_tried same_faults =
+      subst (λ (counts : Counts). HasAnswered link link' (counts_in before) counts []) (sym as_before.same_counts) (HasAnswered-none link link' (counts_in before) same_tried same_faults)
+
+  -- the link wasn't asked, or it failed
+  pub Hears-none : (before after : Server O T g) (link link' : LinkSeen) → IsAsBefore before after → link'.coming ≡ link.coming → link'.tried ≡ link.tried → link'.send_faults ≡ link.send_faults
+      → Hears before after link link' []
+  Hears-none before after link link' as_before same_coming same_tried same_faults = record {
+    events = HasEvents-none before after as_before;
+    same_published = as_before.same_published;
+    came = same_coming;
+    answered = quiet_answered before after link link' as_before same_tried same_faults;
+  }
+
+  -- an answer that makes no event
+  pub Hears-quiet : (before after : Server O T g) (link now link' : LinkSeen) (one : Taken LinkAnswer) → datagrams_in (one ∷ []) ≡ [] → IsAsBefore before after
+      → Answers LinkClosed link.coming now.coming one.answer → link'.coming ≡ now.coming → link'.tried ≡ link.tried → link'.send_faults ≡ link.send_faults
+      → Hears before after link link' (one ∷ [])
+  Hears-quiet before after link now link' one none as_before is same_coming same_tried same_faults = record {
+    events = subst (HasEvents before after) (sym none) (HasEvents-none before after as_before);
+    same_published = as_before.same_published;
+    came = one_answer LinkClosed link.coming now.coming link'.coming one.answer is same_coming;
+    answered = subst (λ (events : List Event). HasAnswered link link' (counts_in before) (counts_in after) (answers_after (settings_in before) (first_in before) (events_in before) events))
+        (sym none) (quiet_answered before after link link' as_before same_tried same_faults);
+  }
+
+  -- a datagram that was taken
+  pub Hears-datagram : (before after : Server O T g) (link now link' : LinkSeen) (from : Peer) (bytes : List ℕ) → HasEvents before after (Datagram bytes from ∷ []) → published_in after ≡ published_in before
+      → Answers LinkClosed link.coming now.coming (DatagramCame from bytes) → now.tried ≡ link.tried → now.send_faults ≡ link.send_faults → link'.coming ≡ now.coming
+      → HasAnswered now link' (counts_in before) (counts_in after) (map to_peer (sends_of (settings_in before) (first_in before) (events_in before) (Datagram bytes from)))
+      → Hears before after link link' (taken (DatagramCame from bytes) ∷ [])
+  Hears-datagram before after link now link' from bytes events same_published is same_tried same_faults same_coming answered =
+      let wanted = map to_peer (sends_of (settings_in before) (first_in before) (events_in before) (Datagram bytes from)) in record {
+        events = events;
+        same_published = same_published;
+        came = one_answer LinkClosed link.coming now.coming link'.coming (DatagramCame from bytes) is same_coming;
+        answered = subst (HasAnswered link link' (counts_in before) (counts_in after)) (sym (append-nil wanted))
+            (HasAnswered-from link now link' (counts_in before) (counts_in after) wanted same_tried same_faults answered);
+      }
+
+  pub Feeds-then : (before now after : Server O T g) (feed feed_now feed_after : FeedSeen) (fed more : List (Taken FeedAnswer))
+      → Feeds before now feed feed_now fed → Feeds now after feed_now feed_after more → Feeds before after feed feed_after (fed ++ more)
+  Feeds-then before now after feed feed_now feed_after fed more first second = record {
+    events = subst (HasEvents before after) (sym (packets_in-append fed more)) (HasEvents-then before now after (packets_in fed) (packets_in more) first.events second.events);
+    same_published = second.same_published ∙ first.same_published;
+    same_sent = second.same_sent ∙ first.same_sent;
+    same_unsent = second.same_unsent ∙ first.same_unsent;
+    came = AnswersAll-taken FeedClosed feed.coming feed_now.coming feed_after.coming fed more first.came second.came;
+  }
+
+  -- the feed wasn't asked, or it failed
+  pub Feeds-none : (before after : Server O T g) (feed feed' : FeedSeen) → IsAsBefore before after → feed'.coming ≡ feed.coming → Feeds before after feed feed' []
+  Feeds-none before after feed feed' as_before same_coming = record {
+    events = HasEvents-none before after as_before;
+    same_published = as_before.same_published;
+    same_sent = ap (λ (counts : Counts). counts.sent) as_before.same_counts;
+    same_unsent = ap (λ (counts : Counts). counts.unsent) as_before.same_counts;
+    came = same_coming;
+  }
+
+  -- an answer that makes no event
+  pub Feeds-quiet : (before after : Server O T g) (feed now feed' : FeedSeen) (one : Taken FeedAnswer) → packets_in (one ∷ []) ≡ [] → IsAsBefore before after
+      → Answers FeedClosed feed.coming now.coming one.answer → feed'.coming ≡ now.coming → Feeds before after feed feed' (one ∷ [])
+  Feeds-quiet before after feed now feed' one none as_before is same_coming = record {
+    events = subst (HasEvents before after) (sym none) (HasEvents-none before after as_before);
+    same_published = as_before.same_published;
+    same_sent = ap (λ (counts : Counts). counts.sent) as_before.same_counts;
+    same_unsent = ap (λ (counts : Counts). counts.unsent) as_before.same_counts;
+    came = one_answer FeedClosed feed.coming now.coming feed'.coming one.answer is same_coming;
+  }
+
+  -- a packet that was taken
+  pub Feeds-packet : (before after : Server O T g) (feed now feed' : FeedSeen) (bytes : List ℕ) → HasEvents before after (Packet bytes ∷ []) → published_in after ≡ published_in before
+      → (counts_in after).sent ≡ (counts_in before).sent → (counts_in after).unsent ≡ (counts_in before).unsent
+      → Answers FeedClosed feed.coming now.coming (PacketFed bytes) → feed'.coming ≡ now.coming → Feeds before after feed feed' (taken (PacketFed bytes) ∷ [])
+  Feeds-packet before after feed now feed' bytes events same_published same_sent same_unsent is same_coming = record {
+    events = events;
+    same_published = same_published;
+    same_sent = same_sent;
+    same_unsent = same_unsent;
+    came = one_answer FeedClosed feed.coming now.coming feed'.coming (PacketFed bytes) is same_coming;
+  }

@@ -1,0 +1,309 @@
+-- A whole run, put together.
+use Rattle.std.proofs.Common.{◌≡◌, ◌≢◌, ◌⊎◌, ℕ, zero, suc, ◌+◌, ◌==◌, ◌<◌, ◌≤◌, ◌^◌, max, not, nat_eq, Bool, true, false, List, [], ◌∷◌, ◌++◌, length, map, take, refl, sym, ap, subst, ◌∙◌, append_assoc, append-nil, arith, length-append, true≢false, inl, inr, if◌then◌else◌}
+use Rattle.std.specs.Prelude.{Option, None, Some, Result, Ok, Err}
+use Rattle.std.specs.List.{All, AllZip}
+use Rattle.std.proofs.Math.Logic.{∥∥₁_elim, ∥∥₁_map, ∥∥₁_prop}
+use Rattle.std.proofs.lemmas.List.{length-map}
+use Rattle.std.proofs.lemmas.Bool.{eqb-true}
+use Rattle.std.proofs.lemmas.List.Sums.{count_by-le-length}
+use Rattle.amt_ports.specs.Causes.{HasCause, Rose}
+use Rattle.amt_ports.specs.declared.fault.Failed.{Failed}
+use Rattle.amt_ports.specs.Told.{AppendsAll}
+use Rattle.amt_ports.specs.declared.out_link.OutLink.{Ghosts}
+use Rattle.amt_values.specs.declared.peer.Peer.{Peer}
+use Rattle.endpoint_membership.specs.declared.change.Change.{Change}
+use Rattle.published_table.specs.Lists.{BeginsWith}
+use Rattle.published_table.specs.Publishers.{book_of}
+use Rattle.published_table.specs.Views.{seen, views_of}
+use Rattle.published_table.specs.declared.view.View.{View}
+use Rattle.response_mac.specs.declared.secret.Secret.{Secret}
+use Rattle.relay_machine.specs.Events.{now_of}
+use Rattle.relay_machine.specs.Published.{published_log}
+use Rattle.relay_machine.specs.declared.event.Event.{Event}
+use Rattle.relay_machine.specs.declared.settings.Settings.{Settings}
+use Rattle.replication_workers.specs.Dispatchers.{is_threaded}
+use Rattle.replication_workers.specs.Replication.{HasTried}
+use Rattle.replication_workers.specs.Replicators.{out_of}
+use Rattle.replication_workers.specs.SlotStates.{SlotState, jobs_in_all}
+use Rattle.replication_workers.proofs.Trying.{HasTried-none}
+use Rattle.relay_serving.specs.Bursts.{IsCauseOf}
+use Rattle.relay_serving.specs.Counting.{AreCounted, is_datagram}
+use Rattle.relay_serving.specs.Devices.{Devices, FeedSeen, LinkSeen, OutSeen, WordsSeen, devices_seen, outs_seen}
+use Rattle.relay_serving.specs.Drawing.{DrawsSecret, IsDrawn}
+use Rattle.relay_serving.specs.Ending.{Finishes}
+use Rattle.relay_serving.specs.Events.{events_from, events_of, first_of, secret_by}
+use Rattle.relay_serving.specs.GivenOut.{AreGivenOut, starts_in}
+use Rattle.relay_serving.specs.Reports.{report_of, unused_report}
+use Rattle.relay_serving.specs.Runs.{HasEnded, IsCut, MayGo, Run, served, turns_of, unsown, unstarted, with_cut, words_drawn}
+use Rattle.relay_serving.specs.Sending.{answers_after, due_of, dues_after}
+use Rattle.relay_serving.specs.Serving.{ArePublished, IsOwedBy, OutsServed, Serves, one_lost, unused, used}
+use Rattle.relay_serving.specs.Servers.{counts_in, events_in, first_in, now_in, owing_in, published_in, settings_in, slots_in}
+use Rattle.relay_serving.specs.Starting.{AreLeftBy, AreStarts, IsAtStart}
+use Rattle.relay_serving.specs.Turning.{EndsIn, RunsSo}
+use Rattle.relay_serving.specs.Turns.{Progress, Turn}
+use Rattle.relay_serving.specs.declared.counts.Counts.{Counts}
+use Rattle.relay_serving.specs.declared.plan.End.{End}
+use Rattle.relay_serving.specs.declared.plan.End.TheVariants.{Turns, Closed, LinkFault, FeedFault, WordsFault, SpawnFault, Memory}
+use Rattle.relay_serving.specs.declared.plan.ServePlan.{ServePlan}
+use Rattle.relay_serving.specs.declared.plan.ServeReport.{ServeReport}
+use Rattle.relay_serving.specs.declared.server.Server.{Server}
+use Rattle.relay_serving.specs.declared.server.ending.Ending.{Ending}
+use Rattle.relay_serving.proofs.SlotsServed.{Slotted, all_inline, are_served, jobs_count, slotted}
+
+-- which end it is
+abbrev number_of : End → ℕ
+number_of Turns = 0
+number_of Closed = 1
+number_of LinkFault = 2
+number_of FeedFault = 3
+number_of WordsFault = 4
+number_of SpawnFault = 5
+number_of Memory = 6
+
+-- what is told, in a row
+pub told_then : {X : Type 0} (before now after : Option (List X)) (one more : List X) → AppendsAll before now one → AppendsAll now after more → AppendsAll before after (one ++ more)
+told_then before now None one more first second = tt
+told_then before now (Some all) one more first second =
+    let known = subst (λ (told : Option _). AppendsAll before told one) second.1 first in
+    (known.0, known.1, second.2 ∙ ap (λ (list : List _). list ++ more) known.2 ∙ append_assoc known.0 one more)
+
+told_none : {X : Type 0} (told : Option (List X)) → AppendsAll told told []
+told_none None = tt
+told_none (Some list) = (list, refl, sym (append-nil list))
+
+-- of a run without any turn
+abbrev unrun : List ℕ → Run
+unrun first = record { first = first; whole = []; cut = None }
+
+not_run : (settings : Settings) (plan : ServePlan) (end : End) (first : List ℕ) (clock : Option (List ℕ)) (words words' : WordsSeen) (link : LinkSeen) (feed : FeedSeen) (starts starts' : ℕ) (outs outs' : List OutSeen)
+    → AppendsAll words.given words'.given first → MayGo plan end (unrun first) → OutsServed settings plan (unrun first) (unused_report end) outs outs' [] 0 0
+    → end ≢ LinkFault → end ≢ FeedFault → IsCauseOf end WordsFault words.faults words'.faults → IsCauseOf end SpawnFault starts starts'
+    → Serves settings plan (devices_seen clock words link feed starts) (devices_seen clock words' link feed starts') outs outs' [] (unused_report end)
+not_run settings plan end first clock words words' link feed starts starts' outs outs' drawn goes outs_are no_link no_feed words_are starts_are = record {
+  run = unrun first;
+  goes = goes;
+  clock = told_none clock;
+  words = subst (AppendsAll words.given words'.given) (sym (append-nil first)) drawn;
+  link = refl;
+  feed = refl;
+  link_sent = 0;
+  link_unsent = 0;
+  link_tried = HasTried-none link.tried link.send_faults;
+  outs_sent = 0;
+  outs_unsent = 0;
+  outs_served = outs_are;
+  turns_are = refl;
+  counted = record { datagrams_are = refl; packets_are = refl; updated_are = refl; torn_are = refl };
+  sent_are = refl;
+  unsent_are = refl;
+  none_starved = refl;
+  none_late = refl;
+  link_cause = ((λ is. absurd (no_link is)), (λ other. refl));
+  feed_cause = ((λ is. absurd (no_feed is)), (λ other. refl));
+  words_cause = words_are;
+  start_cause = starts_are;
+}
+
+-- words were lacking
+pub serves_unsown : (settings : Settings) (plan : ServePlan) (first : List ℕ) (clock : Option (List ℕ)) (words words' : WordsSeen) (link : LinkSeen) (feed : FeedSeen) (starts : ℕ) (outs : List OutSeen)
+    → AppendsAll words.given words'.given first → length first < 4 → Rose words.faults words'.faults
+    → Serves settings plan (devices_seen clock words link feed starts) (devices_seen clock words' link feed starts) outs outs [] (unused_report WordsFault)
+serves_unsown settings plan first clock words words' link feed starts outs drawn few rose =
+    let not_spawn : WordsFault ≢ SpawnFault = λ is. (let same : 4 ≡ 5 = ap number_of is in omega (arith, same)) in
+    not_run settings plan WordsFault first clock words words' link feed starts starts outs outs drawn (unsown few refl refl refl)
+        (unused not_spawn refl refl refl (record { no_inline = refl; none_owed = refl; none_published = refl; none_apart = refl }) refl refl)
+        (λ is. (let same : 4 ≡ 2 = ap number_of is in omega (arith, same))) (λ is. (let same : 4 ≡ 3 = ap number_of is in omega (arith, same))) ((λ is. rose), (λ other. absurd (other refl))) ((λ is. absurd (not_spawn is)), (λ other. refl))
+
+-- no relay was started
+pub serves_unstarted : (settings : Settings) (plan : ServePlan) (end : End) (first : List ℕ) (clock : Option (List ℕ)) (words words' : WordsSeen) (link : LinkSeen) (feed : FeedSeen) (starts starts' : ℕ) (outs outs' : List OutSeen)
+    → AppendsAll words.given words'.given first → length first ≡ 4 → words'.faults ≡ words.faults → AreLeftBy end outs outs' starts starts'
+    → Serves settings plan (devices_seen clock words link feed starts) (devices_seen clock words' link feed starts') outs outs' [] (unused_report end)
+serves_unstarted settings plan Memory first clock words words' link feed starts starts' outs outs' drawn four quiet left =
+    let not_spawn : Memory ≢ SpawnFault = λ is. (let same : 6 ≡ 5 = ap number_of is in omega (arith, same)) in
+    not_run settings plan Memory first clock words words' link feed starts starts' outs outs' drawn (unstarted four (inl refl) refl refl)
+        (unused not_spawn refl left.0 refl (record { no_inline = refl; none_owed = refl; none_published = refl; none_apart = refl }) refl refl)
+        (λ is. (let same : 6 ≡ 2 = ap number_of is in omega (arith, same))) (λ is. (let same : 6 ≡ 3 = ap number_of is in omega (arith, same))) ((λ is. (let same : 6 ≡ 4 = ap number_of is in omega (arith, same))), (λ other. quiet)) ((λ is. absurd (not_spawn is)), (λ other. left.1))
+serves_unstarted settings plan SpawnFault first clock words words' link feed starts starts' outs outs' drawn four quiet left =
+    not_run settings plan SpawnFault first clock words words' link feed starts starts' outs outs' drawn (unstarted four (inr refl) refl refl)
+        (one_lost refl refl left.0 refl (record { no_inline = refl; none_owed = refl; none_published = refl; none_apart = refl }) refl refl)
+        (λ is. (let same : 5 ≡ 2 = ap number_of is in omega (arith, same))) (λ is. (let same : 5 ≡ 3 = ap number_of is in omega (arith, same))) ((λ is. (let same : 5 ≡ 4 = ap number_of is in omega (arith, same))), (λ other. quiet)) ((λ is. left.1), (λ other. absurd (other refl)))
+serves_unstarted settings plan Turns first clock words words' link feed starts starts' outs outs' drawn four quiet left = absurd left
+serves_unstarted settings plan Closed first clock words words' link feed starts starts' outs outs' drawn four quiet left = absurd left
+serves_unstarted settings plan LinkFault first clock words words' link feed starts starts' outs outs' drawn four quiet left = absurd left
+serves_unstarted settings plan FeedFault first clock words words' link feed starts starts' outs outs' drawn four quiet left = absurd left
+serves_unstarted settings plan WordsFault first clock words words' link feed starts starts' outs outs' drawn four quiet left = absurd left
+
+-- the same of what a call gave
+pub reported : (settings : Settings) (plan : ServePlan) (before after : Devices) (outs left left' : List OutSeen) (views views' : List View) (report report' : ServeReport)
+    → left' ≡ left → views' ≡ views → report' ≡ report → Serves settings plan before after outs left views report → Serves settings plan before after outs left' views' report'
+reported settings plan before after outs left left' views views' report report' one two three serves =
+    subst (Serves settings plan before after outs left' views') (sym three)
+    (subst (λ (list : List View). Serves settings plan before after outs left' list report) (sym two)
+    (subst (λ (list : List OutSeen). Serves settings plan before after outs list views report) (sym one) serves))
+
+-- the first secret is of four words
+pub four_words : (before after : Option (List ℕ)) (result : Result Secret Failed) (secret : Secret) (drawn : DrawsSecret before after result) → result ≡ Ok secret
+    → (secret ≡ secret_by drawn.words) × (length drawn.words ≡ 4)
+four_words before after result secret drawn is = subst (λ (one : Result Secret Failed). IsDrawn one drawn.words) is drawn.are
+
+pub few_words : (before after : Option (List ℕ)) (result : Result Secret Failed) (failed : Failed) (drawn : DrawsSecret before after result) → result ≡ Err failed → length drawn.words < 4
+few_words before after result failed drawn is = subst (λ (one : Result Secret Failed). IsDrawn one drawn.words) is drawn.are
+
+pub is_quiet : (before after : ℕ) (result : Result Secret Failed) (secret : Secret) → HasCause before after result → result ≡ Ok secret → after ≡ before
+is_quiet before after result secret cause is = (subst (λ (one : Result Secret Failed). HasCause before after one) is cause).quiet
+
+pub has_risen : (before after : ℕ) (result : Result Secret Failed) (failed : Failed) → HasCause before after result → result ≡ Err failed → Rose before after
+has_risen before after result failed cause is = (subst (λ (one : Result Secret Failed). HasCause before after one) is cause).failed
+
+-- no start is refused in turns
+no_spawn : (plan : ServePlan) (end : End) (done : ℕ) (last : Progress) (cut : Option Turn) → HasEnded plan end done last cut → end ≢ SpawnFault
+no_spawn plan end done last None ended is = (let same : 0 ≡ 5 = ap number_of (sym ended.0 ∙ is) in omega (arith, same))
+no_spawn plan end done last (Some turn) ended is = subst (λ (one : End). IsCut one plan.rotate_ms last turn) is ended.1
+
+sum_is : (now start more outs : ℕ) → now ≡ start + more → start ≡ 0 → now + outs ≡ more + outs
+sum_is now start more outs is none = omega (arith, is, none)
+
+zero_of : (number : ℕ) → (number == 0) ≡ true → number ≡ 0
+zero_of number is = eqb-true number 0 is
+
+-- all packets are copied inline without workers, and else none
+inline_of : (inline packets jobs : ℕ) (threaded none : Bool) → inline ≡ (if threaded then 0 else jobs) → threaded ≡ not none → (none ≡ true → jobs ≡ packets)
+    → inline ≡ (if none then packets else 0)
+inline_of inline packets jobs threaded true is mode same = is ∙ ap (λ (mode : Bool). if mode then 0 else jobs) mode ∙ same refl
+inline_of inline packets jobs threaded false is mode same = is ∙ ap (λ (mode : Bool). if mode then 0 else jobs) mode
+
+prefix_of : {X : Type 0} (list more : List X) → take (length list) (list ++ more) ≡ list
+prefix_of [] more = refl
+prefix_of (one ∷ list) more = ap (λ (rest : List _). one ∷ rest) (prefix_of list more)
+
+published_all : (published owing log views_log : List Change) (published_is owed : ℕ) → published ++ owing ≡ log → published_is ≡ length published → owed ≡ length owing
+    → (published_is + owed ≡ length log) × (published ≡ take published_is log)
+published_all published owing log views_log number owed is counted owed_is =
+    let whole = length-append published owing in
+    let all = ap length is in
+    (omega (arith, whole, all, counted, owed_is), sym (prefix_of published owing) ∙ (λ i. take (sym counted i) (is i)))
+
+moved : (F : Settings → Secret → List Event → Type 0) {settings settings' : Settings} {first first' : Secret} {events events' : List Event}
+    → settings ≡ settings' → first ≡ first' → events ≡ events' → F settings first events → F settings' first' events'
+moved F {settings' = settings'} {first = first} {first' = first'} {events = events} one two three holds =
+    subst (F settings' first') three (subst (λ (secret : Secret). F settings' secret events) two (subst (λ (all : Settings). F all first events) one holds))
+
+module _ {O : Type 0} {g : Ghosts O} {T : Type 0} where
+  -- before all events it is moment 0
+  now_none : (server : Server O T g) → events_in server ≡ [] → now_in server ≡ 0
+  unfolding now_of
+  now_none server none = server.at.moment ∙ ap now_of none
+
+  -- what link and outs tried can be counted
+  pub few_in_all : (server : Server O T g) (ending : Ending O) → Finishes server ending → length (events_in server) < 2 ^ 50 → ending.outs_sent + ending.outs_unsent ≤ 2 ^ 62
+      → (ending.counts.sent + ending.outs_sent < 2 ^ 64) × (ending.counts.unsent + ending.outs_unsent < 2 ^ 64)
+  few_in_all server ending finishes few outs_few =
+      let sent = ap (λ (counts : Counts). counts.sent) finishes.same_counts in
+      let unsent = ap (λ (counts : Counts). counts.unsent) finishes.same_counts in
+      let within = count_by-le-length is_datagram (events_in server) in
+      (omega (arith, sent, within, few, outs_few, server.counted.few_sends, server.counted.events_are.datagrams_are),
+       omega (arith, unsent, within, few, outs_few, server.counted.few_sends, server.counted.events_are.datagrams_are))
+
+  module _ (settings : Settings) (plan : ServePlan) (secret : Secret) (outs : List O) (threads : Bool) (drawn : List ℕ) (start server : Server O T g) (ending : Ending O) (end : End) (turns : ℕ)
+      (clock clock' : Option (List ℕ)) (words words' words'' : WordsSeen) (link link' : LinkSeen) (feed feed' : FeedSeen)
+      (secret_is : secret ≡ secret_by drawn) (four : length drawn ≡ 4) (gave : AppendsAll words.given words'.given drawn) (quiet : words'.faults ≡ words.faults)
+      (at : IsAtStart settings secret outs threads start)
+      (runs : RunsSo plan start server (devices_seen clock words' link feed 0) (devices_seen clock' words'' link' feed' 0) end turns)
+      (ends : EndsIn end (devices_seen clock words' link feed 0) (devices_seen clock' words'' link' feed' 0))
+      (finishes : Finishes server ending) (number : length outs ≡ max plan.workers 1) (mode : threads ≡ not (plan.workers == 0)) where
+
+    abbrev run_of : Run
+    run_of = record { first = drawn; whole = runs.whole; cut = runs.cut }
+
+    settings_are : settings_in server ≡ settings
+    settings_are = runs.goes.events.same.same_settings ∙ at.settings_are
+
+    first_is : first_in server ≡ first_of run_of
+    first_is = runs.goes.events.same.same_first ∙ at.first_is ∙ secret_is
+
+    events_are : events_in server ≡ events_of run_of
+    events_are = runs.goes.events.events ∙ (λ i. at.no_events i ++ events_from (now_none start at.no_events i) (turns_of run_of))
+
+    outs_were : map out_of (starts_in (slots_in server)) ≡ outs
+    outs_were = ap (map out_of) runs.goes.events.same.same_starts ∙ at.outs_are
+
+    counted : AreCounted settings (first_of run_of) (events_of run_of) ending.counts.datagrams ending.counts.packets ending.counts.updated ending.counts.torn
+    counted =
+        subst (λ (counts : Counts). AreCounted settings (first_of run_of) (events_of run_of) counts.datagrams counts.packets counts.updated counts.torn) (sym finishes.same_counts)
+        (moved (λ settings first events. AreCounted settings first events server.counts.datagrams server.counts.packets server.counts.updated server.counts.torn)
+            settings_are first_is events_are server.counted.events_are)
+
+    tried : HasTried link.tried link'.tried link.send_faults link'.send_faults (answers_after settings (first_of run_of) [] (events_of run_of)) runs.goes.answered.more runs.goes.answered.missed
+    tried =
+        subst (λ (wanted : List (Peer × List ℕ)). HasTried link.tried link'.tried link.send_faults link'.send_faults wanted runs.goes.answered.more runs.goes.answered.missed)
+            (λ i. answers_after (at.settings_are i) ((at.first_is ∙ secret_is) i) (at.no_events i) (events_from (now_none start at.no_events i) (turns_of run_of)))
+            runs.goes.answered.tried
+
+    published_so : (ending.published + ending.owed ≡ length (published_log settings (first_of run_of) (events_of run_of)))
+        × (published_in server ≡ take ending.published (published_log settings (first_of run_of) (events_of run_of)))
+    published_so = published_all (published_in server) (owing_in server) (published_log settings (first_of run_of) (events_of run_of)) [] ending.published ending.owed
+        (server.log ∙ (λ i. published_log (settings_are i) (first_is i) (events_are i))) finishes.published_is finishes.owed_is
+
+    are_published : ArePublished (published_log settings (first_of run_of) (events_of run_of)) (views_of ending.views) ending.published ending.owed ending.apart
+    are_published = record {
+      all = published_so.0;
+      each = subst (λ (log : List Change). All (λ view. BeginsWith (seen view) log) (views_of ending.views)) published_so.1 finishes.asked.each;
+      apart_is = finishes.apart_is;
+    }
+
+    is_owed : IsOwedBy (turns_of run_of) ending.owed
+    is_owed some = runs.owed (λ none. some (finishes.owed_is ∙ ap length none))
+
+    module _ (given : AreGivenOut (settings_in server) (first_in server) (events_in server) (slots_in server)) where
+      due : map due_of given.jobs ≡ dues_after settings (first_of run_of) [] (events_of run_of)
+      due = given.are_due ∙ (λ i. dues_after (settings_are i) (first_is i) [] (events_are i))
+
+      inline : ending.inline ≡ (if plan.workers == 0 then ending.counts.packets else 0)
+      inline = inline_of ending.inline ending.counts.packets (jobs_in_all (slots_in server)) (is_threaded server.dispatcher) (plan.workers == 0)
+          finishes.inline_is (runs.goes.events.same.same_mode ∙ at.mode ∙ mode)
+          (λ none.
+            let zero_workers = zero_of plan.workers none in
+            let outs_number = ap length outs_were in
+            let firsts_number = length-map (starts_in (slots_in server)) out_of in
+            let one : length (starts_in (slots_in server)) ≡ 1 = sym firsts_number ∙ outs_number ∙ number ∙ ap (λ (workers : ℕ). max workers 1) zero_workers in
+            all_inline (slots_in server) given.jobs one given.at_slots ∙ jobs_count settings (first_of run_of) (events_of run_of) given.jobs due ∙ sym counted.packets_are)
+
+      serves_by : (starts starts' : ℕ) → starts' ≡ starts → Slotted settings finishes.left.lefts (views_of ending.views)
+          → Serves settings plan (devices_seen clock words link feed starts) (devices_seen clock' words'' link' feed' starts') (outs_seen g.tried g.faults outs) (outs_seen g.tried g.faults ending.outs) (views_of ending.views) (report_of end turns ending)
+      serves_by starts starts' same slots = record {
+        run = run_of;
+        goes = served runs.last four runs.are_whole runs.ended;
+        clock = runs.goes.clock;
+        words = told_then words.given words'.given words''.given drawn (words_drawn (turns_of run_of)) gave runs.goes.words;
+        link = runs.goes.link;
+        feed = runs.goes.feed;
+        link_sent = runs.goes.answered.more;
+        link_unsent = runs.goes.answered.missed;
+        link_tried = tried;
+        outs_sent = ending.outs_sent;
+        outs_unsent = ending.outs_unsent;
+        outs_served = used given.jobs due
+            (are_served settings outs ending.outs given.jobs (slots_in server) finishes.left_views (views_of ending.views) ending.outs_sent ending.outs_unsent finishes.left given.at_slots outs_were slots)
+            are_published is_owed inline;
+        turns_are = runs.done_is;
+        counted = counted;
+        sent_are = ap (λ (counts : Counts). counts.sent + ending.outs_sent) finishes.same_counts ∙ sum_is server.counts.sent start.counts.sent runs.goes.answered.more ending.outs_sent runs.goes.answered.sent_are (ap (λ (counts : Counts). counts.sent) at.none_counted);
+        unsent_are = ap (λ (counts : Counts). counts.unsent + ending.outs_unsent) finishes.same_counts ∙ sum_is server.counts.unsent start.counts.unsent runs.goes.answered.missed ending.outs_unsent runs.goes.answered.unsent_are (ap (λ (counts : Counts). counts.unsent) at.none_counted);
+        none_starved = refl;
+        none_late = refl;
+        link_cause = ends.link;
+        feed_cause = ends.feed;
+        words_cause = subst (λ (count : ℕ). IsCauseOf end WordsFault count words''.faults) quiet ends.words;
+        start_cause = ((λ is. absurd (no_spawn plan end (length runs.whole) runs.last runs.cut runs.ended is)), (λ other. same));
+      }
+
+    -- a run that was ended
+    pub serves_run : (starts starts' : ℕ) → starts' ≡ starts
+        → ∥ Serves settings plan (devices_seen clock words link feed starts) (devices_seen clock' words'' link' feed' starts') (outs_seen g.tried g.faults outs) (outs_seen g.tried g.faults ending.outs) (views_of ending.views) (report_of end turns ending) ∥₁
+    serves_run starts starts' same =
+        let left = finishes.left in
+        let firsts = subst (AreStarts settings (book_of start.publisher)) (sym (ap starts_in left.slots_are ∙ runs.goes.events.same.same_starts)) at.starts in
+        let further = subst (λ (list : List View). AllZip (λ one other. BeginsWith (seen other) (seen one)) list (views_of ending.views)) (sym left.views_are) finishes.asked.further in
+        ∥∥₁_elim server.given_out ∥∥₁_prop (λ given.
+          ∥∥₁_map (slotted settings (book_of start.publisher) left.lefts (views_of ending.views) left.each firsts further)
+              (λ slots. serves_by given starts starts' same slots))

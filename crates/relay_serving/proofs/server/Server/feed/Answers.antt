@@ -1,0 +1,156 @@
+use Rattle.std.proofs.Common.{refl, ◌∙◌, arith}
+use Rattle.std.specs.Prelude.{Ok, Err}
+use Rattle.std.proofs.lemmas.Result.{err_from_is_err_and}
+use Rattle.relay_serving.specs.Devices.{feed_seen}
+use Rattle.relay_serving.specs.declared.plan.End.TheVariants.{FeedFault, LinkFault}
+use Rattle.relay_serving.proofs.Bursts.{not_cause, other_end, same_cause}
+use Rattle.relay_serving.proofs.SoFar.{feeds_end, feeds_first, feeds_full, feeds_more, feeds_nothing}
+use Rattle.relay_serving.proofs.server.Server.feed.Goals as goal
+
+pub loop-init : goal.loop-init
+loop-init g c =
+    let L = g.F.Feed in
+    record {
+      fed = feeds_first c.args.self.now (feed_seen (L.coming c.args.feed.now) (L.faults c.args.feed.now));
+      faults = refl;
+      counted = omega arith;
+      few = omega arith;
+      owing = c.requires.published;
+      buffer = refl;
+    }
+
+pub feed_next-requires-clause-room : goal.feed_next-requires-clause-room
+feed_next-requires-clause-room g c =
+    let same = c.loop.invariant.buffer in
+    let room = c.requires.room in omega (arith, same, room)
+
+pub feed_next-requires-clause-few : goal.feed_next-requires-clause-few
+feed_next-requires-clause-few g c =
+    let sofar = c.loop.invariant.counted in
+    let few = c.requires.few in
+    let short = c.loop-test.true in omega (arith, sofar, few, short)
+
+pub feed_next-requires-clause-published : goal.feed_next-requires-clause-published
+feed_next-requires-clause-published g c =
+    c.loop.invariant.owing
+
+pub returns-in_err-feed_next-clause-feeds : goal.returns-in_err-feed_next-clause-feeds
+returns-in_err-feed_next-clause-feeds g c =
+    let L = g.F.Feed in
+    let p = err_from_is_err_and c.from_residual.result c.from_residual.ensures.1 in
+    rw (p.1, p.2) (feeds_end c.args.self.now c.loop.self c.feed_next.new.self (feed_seen (L.coming c.args.feed.now) (L.faults c.args.feed.now)) (feed_seen (L.coming c.loop.feed) (L.faults c.loop.feed)) (feed_seen (L.coming c.feed_next.new.feed) (L.faults c.feed_next.new.feed)) c.loop.counter (Err c.in_err-feed_next.field-0.0) c.in_err-feed_next.field-0.0 refl c.loop-test.true c.loop.invariant.fed c.in_err-feed_next.ensures.feeds)
+
+pub returns-in_err-feed_next-clause-counted : goal.returns-in_err-feed_next-clause-counted
+returns-in_err-feed_next-clause-counted g c =
+    let sofar = c.loop.invariant.counted in
+    let next = c.feed_next.ensures.counted in
+    let short = c.loop-test.true in omega (arith, sofar, next, short)
+
+pub returns-in_err-feed_next-clause-few : goal.returns-in_err-feed_next-clause-few
+returns-in_err-feed_next-clause-few g c =
+    let sofar = c.loop.invariant.few in
+    let next = c.feed_next.ensures.few in
+    let short = c.loop-test.true in omega (arith, sofar, next, short)
+
+pub returns-in_err-feed_next-clause-owing : goal.returns-in_err-feed_next-clause-owing
+returns-in_err-feed_next-clause-owing g c =
+    c.feed_next.ensures.owing
+
+pub returns-in_err-feed_next-clause-of_feed : goal.returns-in_err-feed_next-clause-of_feed
+returns-in_err-feed_next-clause-of_feed g c =
+    let p = err_from_is_err_and c.from_residual.result c.from_residual.ensures.1 in
+    rw (p.1, p.2) (other_end c.in_err-feed_next.field-0.0 LinkFault c.in_err-feed_next.ensures.of_feed)
+
+pub returns-in_err-feed_next-clause-cause : goal.returns-in_err-feed_next-clause-cause
+returns-in_err-feed_next-clause-cause g c =
+    let L = g.F.Feed in
+    let p = err_from_is_err_and c.from_residual.result c.from_residual.ensures.1 in
+    rw (p.1, p.2) (same_cause c.in_err-feed_next.field-0.0 FeedFault (L.faults c.args.feed.now) (L.faults c.loop.feed) (L.faults c.feed_next.new.feed) c.loop.invariant.faults c.in_err-feed_next.ensures.cause)
+
+pub returns-in_err-feed_next-clause-buffer : goal.returns-in_err-feed_next-clause-buffer
+returns-in_err-feed_next-clause-buffer g c =
+    c.feed_next.ensures.buffer ∙ c.loop.invariant.buffer
+
+pub returns-in-Nothing-clause-feeds : goal.returns-in-Nothing-clause-feeds
+returns-in-Nothing-clause-feeds g c =
+    let L = g.F.Feed in
+    feeds_nothing c.args.self.now c.loop.self c.feed_next.new.self (feed_seen (L.coming c.args.feed.now) (L.faults c.args.feed.now)) (feed_seen (L.coming c.loop.feed) (L.faults c.loop.feed)) (feed_seen (L.coming c.feed_next.new.feed) (L.faults c.feed_next.new.feed)) c.loop.counter (Ok c.in_ok-feed_next.field-0) c.in_ok-feed_next.field-0 tt refl c.in-Nothing.is c.loop-test.true c.loop.invariant.fed c.in_ok-feed_next.ensures.feeds
+
+pub returns-in-Nothing-clause-counted : goal.returns-in-Nothing-clause-counted
+returns-in-Nothing-clause-counted g c =
+    let sofar = c.loop.invariant.counted in
+    let next = c.feed_next.ensures.counted in
+    let short = c.loop-test.true in omega (arith, sofar, next, short)
+
+pub returns-in-Nothing-clause-few : goal.returns-in-Nothing-clause-few
+returns-in-Nothing-clause-few g c =
+    let sofar = c.loop.invariant.few in
+    let next = c.feed_next.ensures.few in
+    let short = c.loop-test.true in omega (arith, sofar, next, short)
+
+pub returns-in-Nothing-clause-owing : goal.returns-in-Nothing-clause-owing
+returns-in-Nothing-clause-owing g c =
+    c.feed_next.ensures.owing
+
+pub returns-in-Nothing-clause-of_feed : goal.returns-in-Nothing-clause-of_feed
+returns-in-Nothing-clause-of_feed g c =
+    λ is. cc
+
+pub returns-in-Nothing-clause-cause : goal.returns-in-Nothing-clause-cause
+returns-in-Nothing-clause-cause g c =
+    not_cause _ _ _ _ (λ is. cc) (c.in_ok-feed_next.ensures.cause.calm (λ is. cc) ∙ c.loop.invariant.faults)
+
+pub returns-in-Nothing-clause-buffer : goal.returns-in-Nothing-clause-buffer
+returns-in-Nothing-clause-buffer g c =
+    c.feed_next.ensures.buffer ∙ c.loop.invariant.buffer
+
+pub loop-preserved : goal.loop-preserved
+loop-preserved g c =
+    let L = g.F.Feed in
+    let sofar_counted = c.loop.invariant.counted in
+    let next_counted = c.feed_next.ensures.counted in
+    let sofar_few = c.loop.invariant.few in
+    let next_few = c.feed_next.ensures.few in
+    record {
+      fed = feeds_more c.args.self.now c.loop.self c.feed_next.new.self (feed_seen (L.coming c.args.feed.now) (L.faults c.args.feed.now)) (feed_seen (L.coming c.loop.feed) (L.faults c.loop.feed)) (feed_seen (L.coming c.feed_next.new.feed) (L.faults c.feed_next.new.feed)) c.loop.counter (Ok c.in_ok-feed_next.field-0) c.in_ok-feed_next.field-0 refl c.in-Something.is c.loop.invariant.fed c.in_ok-feed_next.ensures.feeds;
+      faults = c.in_ok-feed_next.ensures.cause.calm (λ is. cc) ∙ c.loop.invariant.faults;
+      counted = omega (arith, sofar_counted, next_counted);
+      few = omega (arith, sofar_few, next_few);
+      owing = c.feed_next.ensures.owing;
+      buffer = c.feed_next.ensures.buffer ∙ c.loop.invariant.buffer;
+    }
+
+pub returns-clause-feeds : goal.returns-clause-feeds
+returns-clause-feeds g c =
+    let L = g.F.Feed in
+    let over = c.loop-test.false in
+    let within = c.loop.auto.counter-end in
+    feeds_full c.args.self.now c.loop.self (feed_seen (L.coming c.args.feed.now) (L.faults c.args.feed.now)) (feed_seen (L.coming c.loop.feed) (L.faults c.loop.feed)) c.loop.counter tt (omega (arith, over, within)) c.loop.invariant.fed
+
+pub returns-clause-counted : goal.returns-clause-counted
+returns-clause-counted g c =
+    let over = c.loop-test.false in
+    let within = c.loop.auto.counter-end in
+    let sofar = c.loop.invariant.counted in omega (arith, over, within, sofar)
+
+pub returns-clause-few : goal.returns-clause-few
+returns-clause-few g c =
+    let over = c.loop-test.false in
+    let within = c.loop.auto.counter-end in
+    let sofar = c.loop.invariant.few in omega (arith, over, within, sofar)
+
+pub returns-clause-owing : goal.returns-clause-owing
+returns-clause-owing g c =
+    c.loop.invariant.owing
+
+pub returns-clause-of_feed : goal.returns-clause-of_feed
+returns-clause-of_feed g c =
+    λ is. cc
+
+pub returns-clause-cause : goal.returns-clause-cause
+returns-clause-cause g c =
+    not_cause _ _ _ _ (λ is. cc) c.loop.invariant.faults
+
+pub returns-clause-buffer : goal.returns-clause-buffer
+returns-clause-buffer g c =
+    c.loop.invariant.buffer

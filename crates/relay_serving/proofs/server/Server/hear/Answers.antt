@@ -1,0 +1,116 @@
+use Rattle.std.proofs.Common.{refl, ◌∙◌, arith}
+use Rattle.std.specs.Prelude.{Ok, Err}
+use Rattle.std.proofs.lemmas.Result.{err_from_is_err_and}
+use Rattle.relay_serving.specs.Devices.{link_seen}
+use Rattle.relay_serving.specs.declared.plan.End.TheVariants.{FeedFault, LinkFault}
+use Rattle.relay_serving.proofs.Bursts.{not_cause, other_end, same_cause}
+use Rattle.relay_serving.proofs.SoFar.{hears_end, hears_first, hears_full, hears_more, hears_nothing}
+use Rattle.relay_serving.proofs.server.Server.hear.Goals as goal
+
+pub loop-init : goal.loop-init
+loop-init g c =
+    let L = g.L.Link in
+    record {
+      heard = hears_first c.args.self.now (link_seen (L.coming c.args.link.now) (L.tried c.args.link.now) (L.receive_faults c.args.link.now) (L.send_faults c.args.link.now));
+      faults = refl;
+      few = omega arith;
+      buffer = refl;
+    }
+
+pub hear_next-requires-clause-room : goal.hear_next-requires-clause-room
+hear_next-requires-clause-room g c =
+    let same = c.loop.invariant.buffer in
+    let room = c.requires.room in omega (arith, same, room)
+
+pub hear_next-requires-clause-few : goal.hear_next-requires-clause-few
+hear_next-requires-clause-few g c =
+    let sofar = c.loop.invariant.few in
+    let few = c.requires.few in
+    let short = c.loop-test.true in omega (arith, sofar, few, short)
+
+pub returns-in_err-hear_next-clause-hears : goal.returns-in_err-hear_next-clause-hears
+returns-in_err-hear_next-clause-hears g c =
+    let L = g.L.Link in
+    let p = err_from_is_err_and c.from_residual.result c.from_residual.ensures.1 in
+    rw (p.1, p.2) (hears_end c.args.self.now c.loop.self c.hear_next.new.self (link_seen (L.coming c.args.link.now) (L.tried c.args.link.now) (L.receive_faults c.args.link.now) (L.send_faults c.args.link.now)) (link_seen (L.coming c.loop.link) (L.tried c.loop.link) (L.receive_faults c.loop.link) (L.send_faults c.loop.link)) (link_seen (L.coming c.hear_next.new.link) (L.tried c.hear_next.new.link) (L.receive_faults c.hear_next.new.link) (L.send_faults c.hear_next.new.link)) c.loop.counter (Err c.in_err-hear_next.field-0.0) c.in_err-hear_next.field-0.0 refl c.loop-test.true c.loop.invariant.heard c.in_err-hear_next.ensures.hears)
+
+pub returns-in_err-hear_next-clause-few : goal.returns-in_err-hear_next-clause-few
+returns-in_err-hear_next-clause-few g c =
+    let sofar = c.loop.invariant.few in
+    let next = c.hear_next.ensures.few in
+    let short = c.loop-test.true in omega (arith, sofar, next, short)
+
+pub returns-in_err-hear_next-clause-of_link : goal.returns-in_err-hear_next-clause-of_link
+returns-in_err-hear_next-clause-of_link g c =
+    let p = err_from_is_err_and c.from_residual.result c.from_residual.ensures.1 in
+    rw (p.1, p.2) (other_end c.in_err-hear_next.field-0.0 FeedFault c.in_err-hear_next.ensures.of_link)
+
+pub returns-in_err-hear_next-clause-cause : goal.returns-in_err-hear_next-clause-cause
+returns-in_err-hear_next-clause-cause g c =
+    let L = g.L.Link in
+    let p = err_from_is_err_and c.from_residual.result c.from_residual.ensures.1 in
+    rw (p.1, p.2) (same_cause c.in_err-hear_next.field-0.0 LinkFault (L.receive_faults c.args.link.now) (L.receive_faults c.loop.link) (L.receive_faults c.hear_next.new.link) c.loop.invariant.faults c.in_err-hear_next.ensures.cause)
+
+pub returns-in_err-hear_next-clause-buffer : goal.returns-in_err-hear_next-clause-buffer
+returns-in_err-hear_next-clause-buffer g c =
+    c.hear_next.ensures.buffer ∙ c.loop.invariant.buffer
+
+pub returns-in-Nothing-clause-hears : goal.returns-in-Nothing-clause-hears
+returns-in-Nothing-clause-hears g c =
+    let L = g.L.Link in
+    hears_nothing c.args.self.now c.loop.self c.hear_next.new.self (link_seen (L.coming c.args.link.now) (L.tried c.args.link.now) (L.receive_faults c.args.link.now) (L.send_faults c.args.link.now)) (link_seen (L.coming c.loop.link) (L.tried c.loop.link) (L.receive_faults c.loop.link) (L.send_faults c.loop.link)) (link_seen (L.coming c.hear_next.new.link) (L.tried c.hear_next.new.link) (L.receive_faults c.hear_next.new.link) (L.send_faults c.hear_next.new.link)) c.loop.counter (Ok c.in_ok-hear_next.field-0) c.in_ok-hear_next.field-0 tt refl c.in-Nothing.is c.loop-test.true c.loop.invariant.heard c.in_ok-hear_next.ensures.hears
+
+pub returns-in-Nothing-clause-few : goal.returns-in-Nothing-clause-few
+returns-in-Nothing-clause-few g c =
+    let sofar = c.loop.invariant.few in
+    let next = c.hear_next.ensures.few in
+    let short = c.loop-test.true in omega (arith, sofar, next, short)
+
+pub returns-in-Nothing-clause-of_link : goal.returns-in-Nothing-clause-of_link
+returns-in-Nothing-clause-of_link g c =
+    λ is. cc
+
+pub returns-in-Nothing-clause-cause : goal.returns-in-Nothing-clause-cause
+returns-in-Nothing-clause-cause g c =
+    not_cause _ _ _ _ (λ is. cc) (c.in_ok-hear_next.ensures.cause.calm (λ is. cc) ∙ c.loop.invariant.faults)
+
+pub returns-in-Nothing-clause-buffer : goal.returns-in-Nothing-clause-buffer
+returns-in-Nothing-clause-buffer g c =
+    c.hear_next.ensures.buffer ∙ c.loop.invariant.buffer
+
+pub loop-preserved : goal.loop-preserved
+loop-preserved g c =
+    let L = g.L.Link in
+    let sofar_few = c.loop.invariant.few in
+    let next_few = c.hear_next.ensures.few in
+    record {
+      heard = hears_more c.args.self.now c.loop.self c.hear_next.new.self (link_seen (L.coming c.args.link.now) (L.tried c.args.link.now) (L.receive_faults c.args.link.now) (L.send_faults c.args.link.now)) (link_seen (L.coming c.loop.link) (L.tried c.loop.link) (L.receive_faults c.loop.link) (L.send_faults c.loop.link)) (link_seen (L.coming c.hear_next.new.link) (L.tried c.hear_next.new.link) (L.receive_faults c.hear_next.new.link) (L.send_faults c.hear_next.new.link)) c.loop.counter (Ok c.in_ok-hear_next.field-0) c.in_ok-hear_next.field-0 refl c.in-Something.is c.loop.invariant.heard c.in_ok-hear_next.ensures.hears;
+      faults = c.in_ok-hear_next.ensures.cause.calm (λ is. cc) ∙ c.loop.invariant.faults;
+      few = omega (arith, sofar_few, next_few);
+      buffer = c.hear_next.ensures.buffer ∙ c.loop.invariant.buffer;
+    }
+
+pub returns-clause-hears : goal.returns-clause-hears
+returns-clause-hears g c =
+    let L = g.L.Link in
+    let over = c.loop-test.false in
+    let within = c.loop.auto.counter-end in
+    hears_full c.args.self.now c.loop.self (link_seen (L.coming c.args.link.now) (L.tried c.args.link.now) (L.receive_faults c.args.link.now) (L.send_faults c.args.link.now)) (link_seen (L.coming c.loop.link) (L.tried c.loop.link) (L.receive_faults c.loop.link) (L.send_faults c.loop.link)) c.loop.counter tt (omega (arith, over, within)) c.loop.invariant.heard
+
+pub returns-clause-few : goal.returns-clause-few
+returns-clause-few g c =
+    let over = c.loop-test.false in
+    let within = c.loop.auto.counter-end in
+    let sofar = c.loop.invariant.few in omega (arith, over, within, sofar)
+
+pub returns-clause-of_link : goal.returns-clause-of_link
+returns-clause-of_link g c =
+    λ is. cc
+
+pub returns-clause-cause : goal.returns-clause-cause
+returns-clause-cause g c =
+    not_cause _ _ _ _ (λ is. cc) c.loop.invariant.faults
+
+pub returns-clause-buffer : goal.returns-clause-buffer
+returns-clause-buffer g c =
+    c.loop.invariant.buffer

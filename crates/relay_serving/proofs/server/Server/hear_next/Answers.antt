@@ -1,0 +1,123 @@
+use Rattle.std.proofs.Common.{[], ◌∷◌, length, take, refl, ap, subst, ◌∙◌, arith}
+use Rattle.std.proofs.lemmas.List.{length-take, length_push}
+use Rattle.amt_ports.specs.Arrivals.{IsShortGot, link_answer}
+use Rattle.amt_ports.specs.Told.{Answers}
+use Rattle.amt_ports.specs.declared.link.Got.{Got}
+use Rattle.amt_ports.specs.declared.link.LinkAnswer.TheVariants.{Datagram as DatagramCame, Nothing as NothingCame, Closed as LinkClosed}
+use Rattle.relay_machine.specs.declared.event.Event.TheVariants.{Datagram}
+use Rattle.relay_serving.specs.Devices.{link_seen}
+use Rattle.relay_serving.specs.Servers.{events_in}
+use Rattle.relay_serving.specs.Turns.{refused, taken}
+use Rattle.relay_serving.proofs.Bursts.{not_cause}
+use Rattle.relay_serving.proofs.Events.{IsAsBefore-same}
+use Rattle.relay_serving.proofs.Hearing.{Hears-datagram, Hears-none, Hears-quiet}
+use Rattle.relay_serving.proofs.server.Server.hear_next.Goals as goal
+
+pub returns-in-Ok-clause-hears : goal.returns-in-Ok-clause-hears
+returns-in-Ok-clause-hears g c =
+    let L = g.L.Link in
+    let link = c.args.link.now in
+    let now = c.recv.new.self in
+    let last = c.hear_datagram.new.link in
+    let got = c.in-Ok-Datagram in
+    let bytes = take got.octets c.recv.new.buf in
+    let is = subst (Answers LinkClosed (L.coming link) (L.coming now)) (ap (λ (one : Got). link_answer one c.recv.new.buf) got.field-0-is) got.ensures.answer in
+    let octets = subst IsShortGot got.field-0-is got.ensures.short in
+    let taken_length = length-take got.octets c.recv.new.buf in record {
+      heard = taken (DatagramCame got.from bytes) ∷ [];
+      hears = Hears-datagram c.args.self.now c.hear_datagram.new.self
+          (link_seen (L.coming link) (L.tried link) (L.receive_faults link) (L.send_faults link))
+          (link_seen (L.coming now) (L.tried now) (L.receive_faults now) (L.send_faults now))
+          (link_seen (L.coming last) (L.tried last) (L.receive_faults last) (L.send_faults last))
+          got.from bytes c.in-Ok.ensures.events c.hear_datagram.ensures.published is got.ensures.sends got.ensures.apart c.hear_datagram.ensures.coming c.in-Ok.ensures.answered;
+      ends = (DatagramCame got.from bytes, omega (arith, octets, taken_length), refl);
+    }
+
+pub returns-in-Ok-clause-few : goal.returns-in-Ok-clause-few
+returns-in-Ok-clause-few g c =
+    let grown = ap length c.in-Ok.ensures.events.events in
+    let pushed = length_push (events_in c.args.self.now) (Datagram (take c.in-Ok-Datagram.octets c.recv.new.buf) c.in-Ok-Datagram.from) in omega (arith, grown, pushed)
+
+pub returns-in-Ok-clause-cause : goal.returns-in-Ok-clause-cause
+returns-in-Ok-clause-cause g c = not_cause _ _ _ _ (λ is. cc) (c.hear_datagram.ensures.faults ∙ c.in-Ok-Datagram.ensures.cause.quiet)
+
+pub returns-in-Err-hear_datagram-clause-hears : goal.returns-in-Err-hear_datagram-clause-hears
+returns-in-Err-hear_datagram-clause-hears g c =
+    let L = g.L.Link in
+    let link = c.args.link.now in
+    let now = c.recv.new.self in
+    let last = c.hear_datagram.new.link in
+    let got = c.in-Ok-Datagram in
+    let bytes = take got.octets c.recv.new.buf in
+    let is = subst (Answers LinkClosed (L.coming link) (L.coming now)) (ap (λ (one : Got). link_answer one c.recv.new.buf) got.field-0-is) got.ensures.answer in
+    let octets = subst IsShortGot got.field-0-is got.ensures.short in
+    let taken_length = length-take got.octets c.recv.new.buf in
+    let same = c.in-Err-hear_datagram.ensures.unsent in record {
+      heard = refused (DatagramCame got.from bytes) ∷ [];
+      hears = Hears-quiet c.args.self.now c.hear_datagram.new.self
+          (link_seen (L.coming link) (L.tried link) (L.receive_faults link) (L.send_faults link))
+          (link_seen (L.coming now) (L.tried now) (L.receive_faults now) (L.send_faults now))
+          (link_seen (L.coming last) (L.tried last) (L.receive_faults last) (L.send_faults last))
+          (refused (DatagramCame got.from bytes)) refl c.in-Err-hear_datagram.ensures.err is (ap L.coming same) (ap L.tried same ∙ got.ensures.sends) (ap L.send_faults same ∙ got.ensures.apart);
+      ends = (DatagramCame got.from bytes, omega (arith, octets, taken_length), refl);
+    }
+
+pub returns-in-Err-hear_datagram-clause-few : goal.returns-in-Err-hear_datagram-clause-few
+returns-in-Err-hear_datagram-clause-few g c = let same = ap length c.in-Err-hear_datagram.ensures.err.same_events in omega (arith, same)
+
+pub returns-in-Err-hear_datagram-clause-cause : goal.returns-in-Err-hear_datagram-clause-cause
+returns-in-Err-hear_datagram-clause-cause g c = not_cause _ _ _ _ (λ is. cc) (c.hear_datagram.ensures.faults ∙ c.in-Ok-Datagram.ensures.cause.quiet)
+
+pub returns-in-Ok-Nothing-clause-hears : goal.returns-in-Ok-Nothing-clause-hears
+returns-in-Ok-Nothing-clause-hears g c =
+    let L = g.L.Link in
+    let link = c.args.link.now in
+    let now = c.recv.new.self in
+    let got = c.in-Ok-Nothing in
+    let is = subst (Answers LinkClosed (L.coming link) (L.coming now)) (ap (λ (one : Got). link_answer one c.recv.new.buf) got.field-0-is) got.ensures.answer in record {
+      heard = taken NothingCame ∷ [];
+      hears = Hears-quiet c.args.self.now c.args.self.now
+          (link_seen (L.coming link) (L.tried link) (L.receive_faults link) (L.send_faults link))
+          (link_seen (L.coming now) (L.tried now) (L.receive_faults now) (L.send_faults now))
+          (link_seen (L.coming now) (L.tried now) (L.receive_faults now) (L.send_faults now))
+          (taken NothingCame) refl (IsAsBefore-same c.args.self.now) is refl got.ensures.sends got.ensures.apart;
+      ends = refl;
+    }
+
+pub returns-in-Ok-Nothing-clause-cause : goal.returns-in-Ok-Nothing-clause-cause
+returns-in-Ok-Nothing-clause-cause g c = not_cause _ _ _ _ (λ is. cc) (c.in-Ok-Nothing.ensures.cause.quiet)
+
+pub returns-in-Ok-Closed-clause-hears : goal.returns-in-Ok-Closed-clause-hears
+returns-in-Ok-Closed-clause-hears g c =
+    let L = g.L.Link in
+    let link = c.args.link.now in
+    let now = c.recv.new.self in
+    let got = c.in-Ok-Closed in
+    let is = subst (Answers LinkClosed (L.coming link) (L.coming now)) (ap (λ (one : Got). link_answer one c.recv.new.buf) got.field-0-is) got.ensures.answer in record {
+      heard = taken LinkClosed ∷ [];
+      hears = Hears-quiet c.args.self.now c.args.self.now
+          (link_seen (L.coming link) (L.tried link) (L.receive_faults link) (L.send_faults link))
+          (link_seen (L.coming now) (L.tried now) (L.receive_faults now) (L.send_faults now))
+          (link_seen (L.coming now) (L.tried now) (L.receive_faults now) (L.send_faults now))
+          (taken LinkClosed) refl (IsAsBefore-same c.args.self.now) is refl got.ensures.sends got.ensures.apart;
+      ends = refl;
+    }
+
+pub returns-in-Ok-Closed-clause-cause : goal.returns-in-Ok-Closed-clause-cause
+returns-in-Ok-Closed-clause-cause g c = not_cause _ _ _ _ (λ is. cc) (c.in-Ok-Closed.ensures.cause.quiet)
+
+pub returns-in-Err-clause-hears : goal.returns-in-Err-clause-hears
+returns-in-Err-clause-hears g c =
+    let L = g.L.Link in
+    let link = c.args.link.now in
+    let now = c.recv.new.self in record {
+      heard = [];
+      hears = Hears-none c.args.self.now c.args.self.now
+          (link_seen (L.coming link) (L.tried link) (L.receive_faults link) (L.send_faults link))
+          (link_seen (L.coming now) (L.tried now) (L.receive_faults now) (L.send_faults now))
+          (IsAsBefore-same c.args.self.now) c.in-Err.ensures.kept c.in-Err.ensures.sends c.in-Err.ensures.apart;
+      ends = refl;
+    }
+
+pub returns-in-Err-clause-cause : goal.returns-in-Err-clause-cause
+returns-in-Err-clause-cause g c = record { rose = λ _. c.in-Err.ensures.cause.failed; calm = λ isnt. absurd (isnt refl) }

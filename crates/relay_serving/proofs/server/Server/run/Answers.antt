@@ -1,0 +1,29 @@
+use Rattle.std.proofs.Common.{refl, ◌∙◌, arith}
+use Rattle.relay_serving.proofs.Running.{EndsIn-cut, IsRunning-none, IsRunning-then, RunsSo-cut}
+use Rattle.relay_serving.proofs.server.Server.run.Goals as goal
+
+pub loop-done-init : goal.loop-done-init
+loop-done-init g c = record {
+  running = IsRunning-none _ _ c.args.self.now _ c.requires.fresh c.new-renewal.ensures;
+  buffer = refl;
+}
+
+pub returns-in-Err-clause-runs : goal.returns-in-Err-clause-runs
+returns-in-Err-clause-runs g c =
+    RunsSo-cut _ _ _ _ _ _ _ _ _ _ _ c.loop-done.invariant.running c.in-Err.ensures.turns c.loop-done-test.true
+
+pub returns-in-Err-clause-causes : goal.returns-in-Err-clause-causes
+returns-in-Err-clause-causes g c = EndsIn-cut _ _ _ _ c.loop-done.invariant.running.calm c.in-Err.ensures.causes
+
+pub loop-done-preserved : goal.loop-done-preserved
+loop-done-preserved g c = record {
+  running = IsRunning-then _ _ _ _ _ _ _ _ _ _ c.loop-done.invariant.running c.in-Ok.ensures.turns c.in-Ok.ensures.causes c.turn.ensures.few c.turn.ensures.few_packets;
+  buffer = c.turn.ensures.buffer ∙ c.loop-done.invariant.buffer;
+}
+
+pub returns-in-Err-clause-few : goal.returns-in-Err-clause-few
+returns-in-Err-clause-few g c =
+    omega (arith, c.loop-done.invariant.running.few_events, c.loop-done-test.true, c.turn.ensures.few, c.requires.plan.few_turns)
+
+pub returns-clause-few : goal.returns-clause-few
+returns-clause-few g c = omega (arith, c.loop-done.invariant.running.few_events, c.loop-done.auto.done-end, c.requires.plan.few_turns)

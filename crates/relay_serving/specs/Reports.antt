@@ -1,0 +1,43 @@
+-- What a report says of what a running relay left.
+use Rattle.std.specs.Prelude.{◌≡◌, ℕ, ◌+◌}
+use Rattle.relay_serving.specs.declared.plan.End.{End}
+use Rattle.relay_serving.specs.declared.plan.ServeReport.{ServeReport}
+use Rattle.relay_serving.specs.declared.server.ending.Ending.{Ending}
+
+-- of a run that had no turn
+abbrev pub unused_report : End → ServeReport
+unused_report end = record {
+  end = end;
+  turns = 0;
+  datagrams = 0;
+  packets = 0;
+  updated = 0;
+  torn = 0;
+  sent = 0;
+  unsent = 0;
+  inline = 0;
+  starved = 0;
+  late = 0;
+  owed = 0;
+  published = 0;
+  apart = 0;
+}
+
+-- of a run of so many whole turns
+abbrev pub report_of : {O : Type 0} → End → ℕ → Ending O → ServeReport
+report_of end turns ending = record {
+  end = end;
+  turns = turns;
+  datagrams = ending.counts.datagrams;
+  packets = ending.counts.packets;
+  updated = ending.counts.updated;
+  torn = ending.counts.torn;
+  sent = ending.counts.sent + ending.outs_sent;
+  unsent = ending.counts.unsent + ending.outs_unsent;
+  inline = ending.inline;
+  starved = 0;
+  late = 0;
+  owed = ending.owed;
+  published = ending.published;
+  apart = ending.apart;
+}

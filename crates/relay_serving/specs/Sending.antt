@@ -1,0 +1,47 @@
+-- What a serving relay sends: answers by its link, and copies by its outs.
+use Rattle.std.specs.Prelude.{◌≡◌, ◌==◌, ℕ, List, [], ◌∷◌, length, map}
+use Rattle.std.specs.List.{filter, flat_map}
+use Rattle.amt_values.specs.declared.peer.Peer.{Peer}
+use Rattle.endpoint_membership.specs.declared.change.Change.{Change}
+use Rattle.published_table.specs.Views.{named}
+use Rattle.response_mac.specs.declared.secret.Secret.{Secret}
+use Rattle.relay_machine.specs.declared.event.Event.{Event}
+use Rattle.relay_machine.specs.declared.event.Event.TheVariants.{Moment, Datagram, Packet, Rotate}
+use Rattle.relay_machine.specs.declared.settings.Settings.{Settings}
+use Rattle.relay_machine.specs.Answers.{sends_of}
+use Rattle.relay_machine.specs.Courses.{each_after}
+use Rattle.relay_machine.specs.Events.{now_of}
+use Rattle.relay_machine.specs.Published.{published_log}
+use Rattle.replication_workers.specs.Replication.{to_peer}
+use Rattle.replication_workers.specs.declared.job.Job.{Job}
+
+-- the answers to a datagram after these events: a packet is no step of the relay here
+abbrev pub answers_to : Settings → Secret → List Event → Event → List (Peer × List ℕ)
+answers_to settings first earlier (Datagram bytes from) = map to_peer (sends_of settings first earlier (Datagram bytes from))
+answers_to settings first earlier (Packet bytes) = []
+answers_to settings first earlier (Moment moment) = []
+answers_to settings first earlier (Rotate secret) = []
+
+-- those to later events, in order
+abbrev pub answers_after : Settings → Secret → List Event → List Event → List (Peer × List ℕ)
+answers_after settings first earlier later = flat_map (λ sends. sends) (each_after (answers_to settings first) earlier later)
+
+-- a packet to copy: its moment, and the log by which its receivers are found, or a longer one
+pub record Due : Type 0 where
+  pub packet : List ℕ
+  pub at : ℕ
+  pub log : List Change
+
+-- by the relay's moment, and the log that is published of all events before it
+abbrev pub due_to : Settings → Secret → List Event → Event → List Due
+due_to settings first earlier (Packet bytes) = record { packet = bytes; at = now_of earlier; log = published_log settings first earlier } ∷ []
+due_to settings first earlier (Datagram bytes from) = []
+due_to settings first earlier (Moment moment) = []
+due_to settings first earlier (Rotate secret) = []
+
+abbrev pub dues_after : Settings → Secret → List Event → List Event → List Due
+dues_after settings first earlier later = flat_map (λ dues. dues) (each_after (due_to settings first) earlier later)
+
+-- what a job asks for
+abbrev pub due_of : Job → Due
+due_of job = record { packet = job.packet; at = job.at; log = named job.note }

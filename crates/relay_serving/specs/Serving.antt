@@ -1,0 +1,124 @@
+-- What a run of a serving relay comes to.
+use Rattle.std.specs.Prelude.{◌≡◌, ◌≢◌, ◌==◌, ℕ, ◌+◌, List, [], ◌∷◌, ◌++◌, length, map, take, count_by, sum_by, if◌then◌else◌}
+use Rattle.std.specs.List.{All, enumerate_from}
+use Rattle.amt_ports.specs.Told.{AppendsAll}
+use Rattle.amt_ports.specs.declared.feed.FeedAnswer.TheVariants.{Closed as FeedClosed}
+use Rattle.amt_ports.specs.declared.link.LinkAnswer.TheVariants.{Closed as LinkClosed}
+use Rattle.amt_values.specs.declared.peer.Peer.{Peer}
+use Rattle.endpoint_membership.specs.declared.change.Change.{Change}
+use Rattle.published_table.specs.Lists.{BeginsWith}
+use Rattle.published_table.specs.Views.{seen}
+use Rattle.published_table.specs.declared.view.View.{View}
+use Rattle.relay_machine.specs.Published.{published_log}
+use Rattle.relay_machine.specs.Settings.{table_settings_of}
+use Rattle.relay_machine.specs.declared.settings.Settings.{Settings}
+use Rattle.replication_workers.specs.Jobs.{Handled}
+use Rattle.replication_workers.specs.Replication.{HasTried}
+use Rattle.replication_workers.specs.declared.job.Job.{Job}
+use Rattle.relay_serving.specs.Bursts.{IsCauseOf}
+use Rattle.relay_serving.specs.Counting.{AreCounted}
+use Rattle.relay_serving.specs.Devices.{AnswersAll, Devices, OutSeen}
+use Rattle.relay_serving.specs.Events.{events_of, first_of}
+use Rattle.relay_serving.specs.Runs.{MayGo, Run, feed_answers, link_answers, moments_given, turns_of, words_drawn}
+use Rattle.relay_serving.specs.Sending.{answers_after, due_of, dues_after}
+use Rattle.relay_serving.specs.GivenOut.{jobs_at}
+use Rattle.relay_serving.specs.Starting.{LosesOne}
+use Rattle.relay_serving.specs.Turns.{Done, Turn}
+use Rattle.relay_serving.specs.Views.{is_apart}
+use Rattle.relay_serving.specs.declared.plan.End.{End}
+use Rattle.relay_serving.specs.declared.plan.End.TheVariants.{LinkFault, FeedFault, WordsFault, SpawnFault}
+use Rattle.relay_serving.specs.declared.plan.ServePlan.{ServePlan}
+use Rattle.relay_serving.specs.declared.plan.ServeReport.{ServeReport}
+
+-- One slot: its out before and after, the jobs that it was given, its view at the end, and how many of its
+-- datagrams were sent and how many not.
+pub record SlotServed : Type 0 where
+  pub before : OutSeen
+  pub jobs : List Job
+  pub after : OutSeen
+  pub view : View
+  pub sent : ℕ
+  pub unsent : ℕ
+
+-- the slot's out tried exactly the copies of its jobs, each job once and in order, by logs of which each
+-- begins with the one before it and with the job's, and the view's with the last
+pub record IsServed (settings : Settings) (slot : SlotServed) : Type 0 where
+  pub wanted : List (Peer × List ℕ)
+  pub last : List Change
+  pub handled : Handled (table_settings_of settings) settings.packet_limit [] slot.jobs wanted last
+  pub tried : HasTried slot.before.tried slot.after.tried slot.before.faults slot.after.faults wanted slot.sent slot.unsent
+  pub further : BeginsWith (seen slot.view) last
+
+-- all slots, in order: these were their outs, and these jobs were given out
+pub record AreServed (settings : Settings) (outs : List OutSeen) (jobs : List Job) (after : List OutSeen) (views : List View) (sent unsent : ℕ) : Type 0 where
+  pub slots : List SlotServed
+  pub outs_are : map (λ slot. slot.before) slots ≡ outs
+  pub jobs_are : map (λ slot. slot.jobs) slots ≡ map (λ numbered. jobs_at (length outs) numbered.0 jobs) (enumerate_from 0 outs)
+  pub after_are : map (λ slot. slot.after) slots ≡ after
+  pub views_are : map (λ slot. slot.view) slots ≡ views
+  pub each : All (IsServed settings) slots
+  pub sent_is : sent ≡ sum_by (λ slot. slot.sent) slots
+  pub unsent_is : unsent ≡ sum_by (λ slot. slot.unsent) slots
+
+-- each view's log begins with the published one, which is so many of the entries of all events; the others
+-- are owed, and so many views have a longer one
+pub record ArePublished (log : List Change) (views : List View) (published owed apart : ℕ) : Type 0 where
+  pub all : published + owed ≡ length log
+  pub each : All (λ view. BeginsWith (seen view) (take published log)) views
+  pub apart_is : apart ≡ count_by (is_apart published) views
+
+-- something is owed only where the run ended before its last turn's publishing, or in it
+abbrev pub IsOwedBy : List Turn → ℕ → Type 0
+IsOwedBy turns owed = owed ≢ 0 → (earlier : List Turn) × (last : Turn) × (turns ≡ earlier ++ last ∷ []) × (last.publishing ≢ Done)
+
+-- nothing was copied or published
+pub record IsIdle (report : ServeReport) : Type 0 where
+  pub no_inline : report.inline ≡ 0
+  pub none_owed : report.owed ≡ 0
+  pub none_published : report.published ≡ 0
+  pub none_apart : report.apart ≡ 0
+
+-- What became of the outs: they weren't used; one went with the worker whose start was refused, and the
+-- others are as they were; or packets were copied by them.
+pub data OutsServed (settings : Settings) (plan : ServePlan) (run : Run) (report : ServeReport) (outs after : List OutSeen) (views : List View) (sent unsent : ℕ) : Type 0 where
+  unused : report.end ≢ SpawnFault → turns_of run ≡ [] → after ≡ outs → views ≡ [] → IsIdle report → sent ≡ 0 → unsent ≡ 0
+      → OutsServed settings plan run report outs after views sent unsent
+  one_lost : report.end ≡ SpawnFault → turns_of run ≡ [] → LosesOne outs after
+      → views ≡ [] → IsIdle report → sent ≡ 0 → unsent ≡ 0 → OutsServed settings plan run report outs after views sent unsent
+  used : (jobs : List Job) → map due_of jobs ≡ dues_after settings (first_of run) [] (events_of run)
+      → AreServed settings outs jobs after views sent unsent
+      → ArePublished (published_log settings (first_of run) (events_of run)) views report.published report.owed report.apart
+      → IsOwedBy (turns_of run) report.owed
+      → report.inline ≡ (if plan.workers == 0 then report.packets else 0)
+      → OutsServed settings plan run report outs after views sent unsent
+
+-- A whole run: the devices gave exactly the answers of its turns; the link tried exactly the answers to its
+-- events, in order; and so on.
+pub record Serves (settings : Settings) (plan : ServePlan) (before after : Devices) (outs outs' : List OutSeen) (views : List View) (report : ServeReport) : Type 0 where
+  pub run : Run
+  pub goes : MayGo plan report.end run
+  -- the devices' answers
+  pub clock : AppendsAll before.clock after.clock (moments_given (turns_of run))
+  pub words : AppendsAll before.words.given after.words.given (run.first ++ words_drawn (turns_of run))
+  pub link : AnswersAll LinkClosed before.link.coming after.link.coming (link_answers (turns_of run))
+  pub feed : AnswersAll FeedClosed before.feed.coming after.feed.coming (feed_answers (turns_of run))
+  -- what was sent
+  pub link_sent : ℕ
+  pub link_unsent : ℕ
+  pub link_tried : HasTried before.link.tried after.link.tried before.link.send_faults after.link.send_faults
+      (answers_after settings (first_of run) [] (events_of run)) link_sent link_unsent
+  pub outs_sent : ℕ
+  pub outs_unsent : ℕ
+  pub outs_served : OutsServed settings plan run report outs outs' views outs_sent outs_unsent
+  -- the report
+  pub turns_are : report.turns ≡ length run.whole
+  pub counted : AreCounted settings (first_of run) (events_of run) report.datagrams report.packets report.updated report.torn
+  pub sent_are : report.sent ≡ link_sent + outs_sent
+  pub unsent_are : report.unsent ≡ link_unsent + outs_unsent
+  pub none_starved : report.starved ≡ 0
+  pub none_late : report.late ≡ 0
+  -- the causes
+  pub link_cause : IsCauseOf report.end LinkFault before.link.receive_faults after.link.receive_faults
+  pub feed_cause : IsCauseOf report.end FeedFault before.feed.faults after.feed.faults
+  pub words_cause : IsCauseOf report.end WordsFault before.words.faults after.words.faults
+  pub start_cause : IsCauseOf report.end SpawnFault before.start_faults after.start_faults

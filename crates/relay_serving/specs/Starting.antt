@@ -1,0 +1,75 @@
+-- How a running relay begins, and what is left where it doesn't.
+use Rattle.std.specs.Prelude.{◌≡◌, ℕ, ◌≤◌, Bool, List, [], ◌∷◌, ◌++◌, map, vec_capacity}
+use Rattle.std.specs.List.{All}
+use Rattle.logbook.specs.Pages.{Book}
+use Rattle.amt_ports.specs.Causes.{Rose}
+use Rattle.amt_ports.specs.Sends.{TriedSend}
+use Rattle.amt_ports.specs.declared.out_link.OutLink.{Ghosts}
+use Rattle.published_table.specs.Publishers.{book_of, owing, published}
+use Rattle.published_table.specs.Views.{IsNew, terms_of}
+use Rattle.published_table.specs.declared.terms.Terms.{Terms}
+use Rattle.published_table.specs.declared.view.View.{View}
+use Rattle.response_mac.specs.declared.secret.Secret.{Secret}
+use Rattle.relay_machine.specs.declared.settings.Settings.{Settings}
+use Rattle.replication_workers.specs.Dispatchers.{is_threaded}
+use Rattle.replication_workers.specs.Replicators.{limit_of, out_of, view_of}
+use Rattle.replication_workers.specs.declared.replicator.Replicator.{Replicator}
+use Rattle.relay_serving.specs.Counting.{no_counts}
+use Rattle.relay_serving.specs.Devices.{OutSeen}
+use Rattle.relay_serving.specs.GivenOut.{starts_in, terms_by}
+use Rattle.relay_serving.specs.Servers.{counts_in, events_in, first_in, owing_in, published_in, settings_in, slots_in}
+use Rattle.relay_serving.specs.declared.plan.End.{End}
+use Rattle.relay_serving.specs.declared.plan.End.TheVariants.{Turns, Closed, LinkFault, FeedFault, WordsFault, SpawnFault, Memory}
+use Rattle.relay_serving.specs.declared.server.Server.{Server}
+use Rattle.relay_serving.specs.declared.server.starting.Made.{Made}
+use Rattle.relay_serving.specs.declared.server.starting.NotStarted.{NotStarted}
+
+-- one of the outs is gone, and the others are as they were
+pub record LosesOne (outs left : List OutSeen) : Type 0 where
+  pub earlier : List OutSeen
+  pub lost : OutSeen
+  pub later : List OutSeen
+  pub outs_are : outs ≡ earlier ++ lost ∷ later
+  pub left_are : left ≡ earlier ++ later
+
+-- by why no relay was started: out of memory all outs are as they were; where a start was refused one is gone
+abbrev pub AreLeftBy : End → List OutSeen → List OutSeen → ℕ → ℕ → Type 0
+AreLeftBy Memory outs left faults faults' = (left ≡ outs) × (faults' ≡ faults)
+AreLeftBy SpawnFault outs left faults faults' = LosesOne outs left × Rose faults faults'
+AreLeftBy Turns outs left faults faults' = ⊥
+AreLeftBy Closed outs left faults faults' = ⊥
+AreLeftBy LinkFault outs left faults faults' = ⊥
+AreLeftBy FeedFault outs left faults faults' = ⊥
+AreLeftBy WordsFault outs left faults faults' = ⊥
+
+-- views that read by these terms
+abbrev pub AreReadBy : Terms → List View → Type 0
+AreReadBy terms views = All (λ view. terms_of view ≡ terms) views
+
+module _ {O : Type 0} {g : Ghosts O} where
+  -- a replicator over a new view, for packets of the relay's limit
+  pub record IsStart (settings : Settings) (book : Book) (replicator : Replicator O g) : Type 0 where
+    pub new : IsNew book (terms_by settings) (view_of replicator)
+    pub limit : limit_of replicator ≡ settings.packet_limit
+
+  abbrev pub AreStarts : Settings → Book → List (Replicator O g) → Type 0
+  AreStarts settings book replicators = All (IsStart settings book) replicators
+
+  -- there is room for so many replicators that come back, and for their outs
+  pub record HasRoomBack (number : ℕ) (made : Made O g) : Type 0 where
+    pub no_turned : made.turned.items ≡ []
+    pub no_outs : made.outs.items ≡ []
+    pub room_turned : number ≤ vec_capacity made.turned
+    pub room_outs : number ≤ vec_capacity made.outs
+
+  -- nothing has happened yet
+  pub record IsAtStart {T : Type 0} (settings : Settings) (first : Secret) (outs : List O) (threads : Bool) (server : Server O T g) : Type 0 where
+    pub settings_are : settings_in server ≡ settings
+    pub first_is : first_in server ≡ first
+    pub no_events : events_in server ≡ []
+    pub none_counted : counts_in server ≡ no_counts
+    pub none_published : published_in server ≡ []
+    pub none_owing : owing_in server ≡ []
+    pub mode : is_threaded server.dispatcher ≡ threads
+    pub outs_are : map out_of (starts_in (slots_in server)) ≡ outs
+    pub starts : AreStarts settings (book_of server.publisher) (starts_in (slots_in server))

@@ -1,0 +1,120 @@
+-- What the devices of a serving relay answer, turn by turn.
+use Rattle.std.specs.Prelude.{◌≡◌, ◌⊎◌, ℕ, ◌+◌, ◌<◌, ◌≤◌, max, nat_le, Bool, true, false, List, [], ◌∷◌, ◌++◌, length, Option, None, Some, if◌then◌else◌}
+use Rattle.std.specs.List.{AllByRecursion}
+use Rattle.amt_ports.specs.declared.feed.FeedAnswer.{FeedAnswer}
+use Rattle.amt_ports.specs.declared.feed.FeedAnswer.TheVariants.{Packet, Nothing as NothingFed, Closed as FeedClosed}
+use Rattle.amt_ports.specs.declared.link.LinkAnswer.{LinkAnswer}
+use Rattle.amt_ports.specs.declared.link.LinkAnswer.TheVariants.{Datagram, Nothing as NothingCame, Closed as LinkClosed}
+
+-- a device's answer, and whether memory refused the event that it makes
+pub record Taken (X : Type 0) : Type 0 where
+  pub answer : X
+  pub starved : Bool
+
+abbrev pub taken : {X : Type 0} → X → Taken X
+taken answer = record { answer = answer; starved = false }
+
+abbrev pub refused : {X : Type 0} → X → Taken X
+refused answer = record { answer = answer; starved = true }
+
+-- how far a turn's publishing went; it is done too where nothing was owed
+pub data Publishing : Type 0 where
+  Ahead : Publishing
+  Refused : Publishing
+  Done : Publishing
+
+-- The answers of one turn, in order: the clock's, the words of a new secret, the link's, and, after the
+-- publishing, the feed's.
+pub record Turn : Type 0 where
+  pub clock : Taken ℕ
+  pub drawn : List ℕ
+  pub heard : List (Taken LinkAnswer)
+  pub publishing : Publishing
+  pub fed : List (Taken FeedAnswer)
+
+-- where the turns so far led: to this latest moment; the current secret counts as drawn at this one, which
+-- is the first turn's for the first secret
+pub record Progress : Type 0 where
+  pub latest : ℕ
+  pub renewed : Option ℕ
+
+abbrev pub no_progress : Progress
+no_progress = record { latest = 0; renewed = None }
+
+-- the turn's moment: the latest that the clock has given so far
+abbrev pub moment_of_turn : ℕ → Turn → ℕ
+moment_of_turn latest turn = max latest turn.clock.answer
+
+-- whether so many milliseconds have passed since the current secret was drawn
+abbrev pub is_due : ℕ → Option ℕ → ℕ → Bool
+is_due rotate None now = false
+is_due rotate (Some renewed) now = nat_le (renewed + rotate) now
+
+abbrev pub renewed_after : ℕ → Option ℕ → ℕ → ℕ
+renewed_after rotate None now = now
+renewed_after rotate (Some renewed) now = if is_due rotate (Some renewed) now then now else renewed
+
+abbrev pub after_turn : ℕ → Progress → Turn → Progress
+after_turn rotate progress turn =
+    let now = moment_of_turn progress.latest turn in
+    record { latest = now; renewed = Some (renewed_after rotate progress.renewed now) }
+
+-- a secret is four words
+abbrev pub words_due : Bool → ℕ
+words_due false = 0
+words_due true = 4
+
+-- something came: a link and a feed hand on at most 65,535 octets at a time
+abbrev pub IsDatagram : LinkAnswer → Type 0
+IsDatagram (Datagram from bytes) = length bytes ≤ 65535
+IsDatagram NothingCame = ⊥
+IsDatagram LinkClosed = ⊥
+
+abbrev pub IsPacket : FeedAnswer → Type 0
+IsPacket (Packet bytes) = length bytes ≤ 65535
+IsPacket NothingFed = ⊥
+IsPacket FeedClosed = ⊥
+
+-- each time something came, and memory took it
+abbrev pub CameAll : {X : Type 0} → (X → Type 0) → List (Taken X) → Type 0
+CameAll Came answers = AllByRecursion (λ one. Came one.answer × (one.starved ≡ false)) answers
+
+-- a device is asked until it answers that there is nothing, and at most 64 times
+abbrev pub IsBurst : {X : Type 0} → (X → Type 0) → X → List (Taken X) → Type 0
+IsBurst {X} Came nothing answers =
+    (came : List (Taken X)) × CameAll Came came
+    × (((answers ≡ came) × (length came ≡ 64)) ⊎ ((answers ≡ came ++ taken nothing ∷ []) × (length came < 64)))
+
+-- it was asked fewer times, and each time something came
+abbrev pub IsBegun : {X : Type 0} → (X → Type 0) → List (Taken X) → Type 0
+IsBegun Came answers = CameAll Came answers × (length answers < 64)
+
+-- after such answers, the last is that it is closed
+abbrev pub IsClosed : {X : Type 0} → (X → Type 0) → X → List (Taken X) → Type 0
+IsClosed {X} Came closed answers = (came : List (Taken X)) × IsBegun Came came × (answers ≡ came ++ taken closed ∷ [])
+
+-- after such answers, the last is one that memory refused
+abbrev pub IsStarved : {X : Type 0} → (X → Type 0) → List (Taken X) → Type 0
+IsStarved {X} Came answers =
+    (came : List (Taken X)) × (last : X) × IsBegun Came came × Came last × (answers ≡ came ++ refused last ∷ [])
+
+-- the moment was taken, and as many words were drawn as were due
+pub record HasBegun (rotate : ℕ) (progress : Progress) (turn : Turn) : Type 0 where
+  pub moment : turn.clock.starved ≡ false
+  pub secret : length turn.drawn ≡ words_due (is_due rotate progress.renewed (moment_of_turn progress.latest turn))
+
+-- the link was asked, and what was owed is published
+pub record HasHeard (rotate : ℕ) (progress : Progress) (turn : Turn) : Type 0 where
+  pub begun : HasBegun rotate progress turn
+  pub link : IsBurst IsDatagram NothingCame turn.heard
+  pub published : turn.publishing ≡ Done
+
+-- the turn is whole
+pub record IsWhole (rotate : ℕ) (progress : Progress) (turn : Turn) : Type 0 where
+  pub heard : HasHeard rotate progress turn
+  pub feed : IsBurst IsPacket NothingFed turn.fed
+
+-- whole turns, one after the other, which lead so far
+abbrev pub AreWhole : ℕ → Progress → List Turn → Progress → Type 0
+AreWhole rotate progress [] last = last ≡ progress
+AreWhole rotate progress (turn ∷ later) last = IsWhole rotate progress turn × AreWhole rotate (after_turn rotate progress turn) later last

@@ -1,0 +1,53 @@
+//! What a running relay counts. It must not know where an event comes from.
+ghost use Rattle.std.specs.Prelude.{◌≡◌, ◌<◌, ◌^◌};
+ghost use Rattle.relay_serving.specs.Counting.{no_counts, with_outcome};
+
+use relay_machine::{Event, Outcome};
+
+/// Counts since the run began.
+#[derive(Clone, Copy, Debug, PartialEq, Eq)]
+pub struct Counts {
+    /// Datagrams from the link, and packets from the feed.
+    pub datagrams: u64,
+    pub packets: u64,
+    /// Updates, and Teardowns of live endpoints, that were accepted.
+    pub updated: u64,
+    pub torn: u64,
+    /// Answers that the link sent, and that it didn't take.
+    pub sent: u64,
+    pub unsent: u64,
+}
+
+impl Counts {
+    /// Nothing is counted.
+    pub(crate) fn new() -> Counts
+        ensures { result ≡ no_counts }
+    {
+        Counts {
+            datagrams: 0,
+            packets: 0,
+            updated: 0,
+            torn: 0,
+            sent: 0,
+            unsent: 0,
+        }
+    }
+
+    /// Counts an event by what it came to.
+    pub(crate) fn count(&mut self, event: &Event, outcome: &Outcome)
+        requires events { (self.old.datagrams < 2 ^ 62) × (self.old.packets < 2 ^ 62) }
+        requires outcomes { (self.old.updated < 2 ^ 62) × (self.old.torn < 2 ^ 62) }
+        ensures { self.new ≡ with_outcome self.old event.now outcome.now }
+    {
+        match event {
+            Event::Datagram { .. } => self.datagrams += 1,
+            Event::Packet { .. } => self.packets += 1,
+            Event::Moment(_) | Event::Rotate(_) => {}
+        }
+        match outcome {
+            Outcome::Updated => self.updated += 1,
+            Outcome::TornDown => self.torn += 1,
+            _ => {}
+        }
+    }
+}

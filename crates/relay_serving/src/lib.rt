@@ -1,0 +1,20 @@
+//! The loop of a running relay: its clock, its link and its feed are asked in turns, its answers go out by
+//! the link, and its workers copy packets by the table that is published in each turn.
+//!
+//! Contract: the events of a run are those that the devices' answers make, in the order of a turn; the link's
+//! tried sends are the answers to them, and each slot's are the copies of its packets, by prefixes of the
+//! published log.
+//! It knows no file, no script and no real device.
+//! Standard: RFC 7450, sections 4.1.3 and 5.3.
+#![tactic(auto)]
+
+mod counts;
+mod course;
+mod plan;
+mod renewal;
+mod secret;
+mod server;
+mod serving;
+
+pub use plan::{End, ServePlan, ServeReport, Served};
+pub use serving::serve_relay;

@@ -1,0 +1,75 @@
+//! What a run of a serving relay is told, and what it comes to. It must not know how it is run.
+
+use published_table::Views;
+use replication_workers::Outs;
+
+/// How a relay is to be run.
+#[derive(Clone, Copy, Debug, PartialEq, Eq)]
+pub struct ServePlan {
+    /// How many turns there are, from 1 to 1,099,511,627,776.
+    pub turns: u64,
+    /// How many workers copy packets, at most 64. With none the turns' own thread does.
+    pub workers: u32,
+    /// After how many milliseconds a new secret is drawn, at least 1.
+    pub rotate_ms: u64,
+}
+
+/// Why a run ended.
+#[derive(Clone, Copy, Debug, PartialEq, Eq)]
+pub enum End {
+    /// All turns of the plan were done.
+    Turns,
+    /// The link or the feed answered that it is closed.
+    Closed,
+    /// A receiving from the link failed.
+    LinkFault,
+    /// A receiving from the feed failed.
+    FeedFault,
+    /// A random word couldn't be drawn.
+    WordsFault,
+    /// A worker couldn't be started. No turn was begun.
+    SpawnFault,
+    Memory,
+}
+
+/// What a run came to, in numbers.
+#[derive(Clone, Copy, Debug, PartialEq, Eq)]
+pub struct ServeReport {
+    pub end: End,
+    /// The turns that were done whole.
+    pub turns: u64,
+    /// The datagrams that were taken from the link.
+    pub datagrams: u64,
+    /// The packets that were taken from the feed.
+    pub packets: u64,
+    /// The Updates that were accepted (RFC 7450, section 5.1.5).
+    pub updated: u64,
+    /// The Teardowns of live endpoints that were accepted (RFC 7450, section 5.1.7).
+    pub torn: u64,
+    /// The datagrams that link and outs sent.
+    pub sent: u64,
+    /// The datagrams that link and outs didn't take.
+    pub unsent: u64,
+    /// The packets that the turns' own thread copied: all of them where there are no workers, and else none.
+    pub inline: u64,
+    /// The events that memory refused.
+    pub starved: u64,
+    /// The publishings that memory refused.
+    pub late: u64,
+    /// The entries that weren't published at the end.
+    pub owed: u64,
+    /// The entries that were published.
+    pub published: u64,
+    /// The views whose log at the end isn't the published one.
+    pub apart: u64,
+}
+
+/// What is left of a run.
+#[derive(Drop)]
+pub struct Served<O> {
+    pub report: ServeReport,
+    /// The outs that were given, in order, but for that of a worker whose start was refused.
+    pub outs: Outs<O>,
+    /// The views of the outs, in order; none where no worker or replicator was made.
+    pub views: Views,
+}

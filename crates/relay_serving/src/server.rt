@@ -1,0 +1,63 @@
+//! A running relay: its machine, the published table, and what copies packets by that. It must not know
+//! where datagrams, packets and moments come from.
+ghost use Rattle.std.specs.Prelude.{◌≡◌, ◌++◌};
+ghost use Rattle.std.proofs.Props.{props};
+ghost use Rattle.published_table.specs.Publishers.{book_of, owing, published, reading_terms};
+ghost use Rattle.relay_machine.specs.Answers.{RelayAt, settings_of};
+ghost use Rattle.relay_machine.specs.Published.{published_log};
+ghost use Rattle.relay_machine.specs.Settings.{AreLawfulSettings};
+ghost use Rattle.relay_serving.specs.Counting.{IsCounted};
+ghost use Rattle.relay_serving.specs.Courses.{events_so_far};
+ghost use Rattle.relay_serving.specs.GivenOut.{AreGivenOut, AreOfPublisher, terms_by};
+ghost use Rattle.replication_workers.specs.Dispatchers.{slots_of};
+
+use crate::counts::Counts;
+use crate::course::Course;
+use amt_ports::OutLink;
+use published_table::Publisher;
+use relay_machine::Relay;
+use replication_workers::Dispatcher;
+use response_mac::Secret;
+use std::snapshot::Snapshot;
+
+mod ending;
+mod entering;
+mod feeding;
+mod hearing;
+mod starting;
+mod turning;
+
+pub(crate) use ending::Ending;
+pub(crate) use starting::NotStarted;
+
+// A device is asked so often in a turn.
+const BURST: u32 = 64;
+
+// So long a receiving waits.
+const WAIT_MS: u32 = 1;
+
+/// Whether an asking of a device found something.
+#[derive(Drop)]
+pub(crate) enum Asked {
+    Something,
+    Nothing,
+}
+
+/// A running relay. It isn't `Drop`: end it by `finish`.
+pub(crate) struct Server<O: OutLink, T> {
+    relay: Relay,
+    publisher: Publisher,
+    dispatcher: Dispatcher<O, T>,
+    counts: Counts,
+    first: Snapshot<Secret>,
+    course: Course,
+    ghost at: { RelayAt relay (settings_of relay) first.value (events_so_far course) } by { Prim.hlevel props },
+    ghost lawful: { ∥ AreLawfulSettings (settings_of relay) ∥₁ },
+    ghost log: { published publisher ++ owing publisher
+        ≡ published_log (settings_of relay) first.value (events_so_far course) },
+    ghost terms: { reading_terms publisher ≡ terms_by (settings_of relay) },
+    ghost given_out: { ∥ AreGivenOut (settings_of relay) first.value (events_so_far course)
+        (slots_of dispatcher) ∥₁ },
+    ghost publishers: { AreOfPublisher (book_of publisher) (slots_of dispatcher) },
+    ghost counted: { IsCounted (settings_of relay) first.value (events_so_far course) counts },
+}

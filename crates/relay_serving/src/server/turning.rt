@@ -1,0 +1,142 @@
+//! One turn of a running relay, and all of a run. It must not know how a relay is started or ended.
+ghost use Rattle.std.specs.Prelude.{◌≡◌, ◌≤◌, ◌<◌, ◌+◌, ◌*◌, ◌^◌, [], length};
+ghost use Rattle.relay_serving.specs.Bursts.{IsCausedBy};
+ghost use Rattle.relay_serving.specs.Devices.{devices_seen, feed_seen, link_seen, words_seen};
+ghost use Rattle.relay_serving.specs.Plans.{IsLawfulPlan};
+ghost use Rattle.relay_serving.specs.Servers.{IsAsBefore, counts_in, events_in, now_in, owing_in};
+ghost use Rattle.relay_serving.specs.Stages.{BeginsSo};
+ghost use Rattle.relay_serving.specs.Turning.{AreCausesOf, EndsIn, RunsSo, TurnsSo};
+
+use super::Server;
+use crate::plan::{End, ServePlan};
+use crate::renewal::Renewal;
+use crate::secret::draw_secret;
+use amt_ports::{Clock, Feed, Link, OutLink, Words};
+use std::alloc::Global;
+use std::sync::Wait;
+
+impl<O: OutLink + Drop, T> Server<O, T> {
+    // The first stage of a turn: its moment, and a new secret where one is due.
+    fn begin_turn<C: Clock, W: Words>(
+        &mut self,
+        alloc: Global,
+        rotate_ms: u64,
+        renewal: &mut Renewal,
+        clock: &mut C,
+        words: &mut W,
+    ) -> Result<(), End>
+        requires few { length (events_in self.old) + 2 < 2 ^ 50 }
+        ensures begins { BeginsSo rotate_ms renewal.old.renewed renewal.new.renewed self.old self.new
+            (C.given clock.old) (C.given clock.new) (W.given words.old) (W.given words.new) result }
+        ensures cause { IsCausedBy result End.WordsFault (W.faults words.old) (W.faults words.new) }
+        ensures few { length (events_in self.new) ≤ length (events_in self.old) + 2 }
+        ensures counts { counts_in self.new ≡ counts_in self.old }
+    {
+        let now = self.now().later(&clock.now());
+        if self.pass_moment(alloc, now).is_err() {
+            return Err(End::Memory);
+        }
+        if renewal.pass(rotate_ms, now) {
+            match draw_secret(words) {
+                Ok(secret) => self.rotate(alloc, secret),
+                Err(_) => return Err(End::WordsFault),
+            }
+        }
+        Ok(())
+    }
+
+    // One turn: its moment, a new secret where one is due, what the link has, the publishing, and what the
+    // feed has.
+    fn turn<C: Clock, W: Words, L: Link, F: Feed, R: Wait>(
+        &mut self,
+        rt: &R,
+        alloc: Global,
+        rotate_ms: u64,
+        renewal: &mut Renewal,
+        clock: &mut C,
+        words: &mut W,
+        link: &mut L,
+        feed: &mut F,
+        buf: &mut [u8],
+    ) -> Result<(), End>
+        requires room { 65536 ≤ length buf.old }
+        requires few { length (events_in self.old) + 130 < 2 ^ 50 }
+        requires few_packets { (counts_in self.old).packets + 64 ≤ 2 ^ 46 }
+        ensures turns { TurnsSo rotate_ms renewal.old.renewed renewal.new.renewed self.old self.new
+            (devices_seen (C.given clock.old) (words_seen (W.given words.old) (W.faults words.old))
+            (link_seen (L.coming link.old) (L.tried link.old) (L.receive_faults link.old) (L.send_faults link.old))
+            (feed_seen (F.coming feed.old) (F.faults feed.old)) 0)
+            (devices_seen (C.given clock.new) (words_seen (W.given words.new) (W.faults words.new))
+            (link_seen (L.coming link.new) (L.tried link.new) (L.receive_faults link.new) (L.send_faults link.new))
+            (feed_seen (F.coming feed.new) (F.faults feed.new)) 0) result }
+        ensures causes { AreCausesOf result
+            (devices_seen (C.given clock.old) (words_seen (W.given words.old) (W.faults words.old))
+            (link_seen (L.coming link.old) (L.tried link.old) (L.receive_faults link.old) (L.send_faults link.old))
+            (feed_seen (F.coming feed.old) (F.faults feed.old)) 0)
+            (devices_seen (C.given clock.new) (words_seen (W.given words.new) (W.faults words.new))
+            (link_seen (L.coming link.new) (L.tried link.new) (L.receive_faults link.new) (L.send_faults link.new))
+            (feed_seen (F.coming feed.new) (F.faults feed.new)) 0) }
+        ensures buffer { length buf.new ≡ length buf.old }
+        ensures few { length (events_in self.new) ≤ length (events_in self.old) + 130 }
+        ensures few_packets { (counts_in self.new).packets ≤ (counts_in self.old).packets + 64 }
+    {
+        self.begin_turn(alloc, rotate_ms, renewal, clock, words)?;
+        self.hear(alloc, link, buf)?;
+        if self.publish(rt).is_err() {
+            return Err(End::Memory); // What is owed is owed still.
+        }
+        self.feed(rt, alloc, feed, buf)
+    }
+
+    /// All turns of the plan, or those up to the one in which the run ended: why it ended, and how many turns
+    /// were whole.
+    pub(crate) fn run<C: Clock, W: Words, L: Link, F: Feed, R: Wait>(
+        &mut self,
+        rt: &R,
+        alloc: Global,
+        plan: &ServePlan,
+        clock: &mut C,
+        words: &mut W,
+        link: &mut L,
+        feed: &mut F,
+        buf: &mut [u8],
+    ) -> (End, u64)
+        requires plan { IsLawfulPlan plan.now }
+        requires room { 65536 ≤ length buf.old }
+        requires fresh { events_in self.old ≡ [] }
+        ensures few { length (events_in self.new) < 2 ^ 50 }
+        ensures runs { RunsSo plan.now self.old self.new
+            (devices_seen (C.given clock.old) (words_seen (W.given words.old) (W.faults words.old))
+            (link_seen (L.coming link.old) (L.tried link.old) (L.receive_faults link.old) (L.send_faults link.old))
+            (feed_seen (F.coming feed.old) (F.faults feed.old)) 0)
+            (devices_seen (C.given clock.new) (words_seen (W.given words.new) (W.faults words.new))
+            (link_seen (L.coming link.new) (L.tried link.new) (L.receive_faults link.new) (L.send_faults link.new))
+            (feed_seen (F.coming feed.new) (F.faults feed.new)) 0) result.0 result.1 }
+        ensures causes { EndsIn result.0
+            (devices_seen (C.given clock.old) (words_seen (W.given words.old) (W.faults words.old))
+            (link_seen (L.coming link.old) (L.tried link.old) (L.receive_faults link.old) (L.send_faults link.old))
+            (feed_seen (F.coming feed.old) (F.faults feed.old)) 0)
+            (devices_seen (C.given clock.new) (words_seen (W.given words.new) (W.faults words.new))
+            (link_seen (L.coming link.new) (L.tried link.new) (L.receive_faults link.new) (L.send_faults link.new))
+            (feed_seen (F.coming feed.new) (F.faults feed.new)) 0) }
+    {
+        let mut renewal = Renewal::new();
+        for done in 0..plan.turns {
+            match self.turn(
+                rt,
+                alloc,
+                plan.rotate_ms,
+                &mut renewal,
+                clock,
+                words,
+                link,
+                feed,
+                buf,
+            ) {
+                Ok(()) => {}
+                Err(end) => return (end, done),
+            }
+        }
+        (End::Turns, plan.turns)
+    }
+}

@@ -1,0 +1,156 @@
+//! A whole run of a relay. It must not know which devices it is over.
+
+ghost use Rattle.std.specs.Prelude.{◌≡◌, ◌≤◌, ◌<◌, ◌+◌, ◌^◌, [], IfOk, length, max};
+ghost use Rattle.published_table.specs.Views.{room_of, views_of};
+ghost use Rattle.relay_machine.specs.Settings.{AreLawfulSettings};
+ghost use Rattle.relay_serving.specs.Devices.{devices_seen, feed_seen, link_seen, outs_seen, words_seen};
+ghost use Rattle.relay_serving.specs.Plans.{IsLawfulPlan};
+ghost use Rattle.relay_serving.specs.Reports.{report_of, unused_report};
+ghost use Rattle.relay_serving.specs.Serving.{Serves};
+
+use crate::plan::{End, ServePlan, ServeReport, Served};
+use crate::secret::draw_secret;
+use crate::server::{Ending, NotStarted, Server};
+use amt_ports::{Clock, Feed, Link, OutLink, Spawner, Words};
+use published_table::Views;
+use relay_machine::Settings;
+use replication_workers::{Outs, Worker};
+use std::alloc::{AllocError, Global};
+use std::sync::Wait;
+
+// What a receiving needs room for, in octets.
+const BUFFER: usize = 65_536;
+
+// The room that a run takes before its first turn, besides that of its relay.
+#[derive(Drop)]
+struct Room {
+    buf: Vec<u8>,
+    turned: Views,
+    asked: Views,
+}
+
+impl Room {
+    // For so many views.
+    fn new(alloc: Global, views: u32) -> Result<Room, AllocError>
+        ensures buffer { IfOk result (λ room. length room.buf.items ≡ 65536) }
+        ensures turned { IfOk result (λ room. (views_of room.turned ≡ []) × (views ≤ room_of room.turned)) }
+        ensures asked { IfOk result (λ room. (views_of room.asked ≡ []) × (views ≤ room_of room.asked)) }
+    {
+        Ok(Room {
+            buf: Vec::from_elem(alloc, 0, BUFFER)?,
+            turned: Views::with_room(alloc, views)?,
+            asked: Views::with_room(alloc, views)?,
+        })
+    }
+}
+
+impl<O> Served<O> {
+    // A run that had no turn, and used no out.
+    fn unused(alloc: Global, end: End, outs: Outs<O>) -> Served<O>
+        ensures report { result.report ≡ unused_report end }
+        ensures outs { result.outs ≡ outs }
+        ensures views { views_of result.views ≡ [] }
+    {
+        let report = ServeReport {
+            end,
+            turns: 0,
+            datagrams: 0,
+            packets: 0,
+            updated: 0,
+            torn: 0,
+            sent: 0,
+            unsent: 0,
+            inline: 0,
+            starved: 0,
+            late: 0,
+            owed: 0,
+            published: 0,
+            apart: 0,
+        };
+        Served {
+            report,
+            outs,
+            views: Views::new(alloc),
+        }
+    }
+
+    // A run of so many whole turns, after which its relay left this.
+    fn of(end: End, turns: u64, ending: Ending<O>) -> Served<O>
+        requires few { (ending.counts.sent + ending.outs_sent < 2 ^ 64) × (ending.counts.unsent + ending.outs_unsent < 2 ^ 64) }
+        ensures report { result.report ≡ report_of end turns ending }
+        ensures outs { result.outs ≡ ending.outs }
+        ensures views { views_of result.views ≡ views_of ending.views }
+    {
+        let counts = ending.counts;
+        let report = ServeReport {
+            end,
+            turns,
+            datagrams: counts.datagrams,
+            packets: counts.packets,
+            updated: counts.updated,
+            torn: counts.torn,
+            sent: counts.sent + ending.outs_sent,
+            unsent: counts.unsent + ending.outs_unsent,
+            inline: ending.inline,
+            starved: 0,
+            late: 0,
+            owed: ending.owed,
+            published: ending.published,
+            apart: ending.apart,
+        };
+        Served {
+            report,
+            outs: ending.outs,
+            views: ending.views,
+        }
+    }
+}
+
+/// Runs a relay over these devices (RFC 7450, section 4.1.3).
+///
+/// It draws four words as the first secret. Each turn then takes one moment of the clock; a new secret of four
+/// words, where `rotate_ms` has passed since the last one; what the link has, until it has nothing and at
+/// most 64 times; publishes what is owed; and takes what the feed has in the same way, giving each packet to
+/// the slot of its source and group. With no workers in the plan one slot copies in the turns' own thread.
+///
+/// Out of memory the run ends. At its end the workers are stopped and waited for, and the outs come back.
+pub fn serve_relay<L: Link, F: Feed, C: Clock, W: Words, O: OutLink + Drop, R: Wait, P: Spawner<Worker<O>>>(
+    rt: &R,
+    alloc: Global,
+    settings: Settings,
+    plan: &ServePlan,
+    link: &mut L,
+    feed: &mut F,
+    clock: &mut C,
+    words: &mut W,
+    outs: Outs<O>,
+    spawner: &mut P,
+) -> Served<O>
+    requires settings { AreLawfulSettings settings }
+    requires plan { IsLawfulPlan plan.now }
+    requires outs { length outs ≡ max plan.now.workers 1 }
+    ensures serves { ∥ Serves settings plan.now
+        (devices_seen (C.given clock.old) (words_seen (W.given words.old) (W.faults words.old))
+        (link_seen (L.coming link.old) (L.tried link.old) (L.receive_faults link.old) (L.send_faults link.old))
+        (feed_seen (F.coming feed.old) (F.faults feed.old)) (P.faults spawner.old))
+        (devices_seen (C.given clock.new) (words_seen (W.given words.new) (W.faults words.new))
+        (link_seen (L.coming link.new) (L.tried link.new) (L.receive_faults link.new) (L.send_faults link.new))
+        (feed_seen (F.coming feed.new) (F.faults feed.new)) (P.faults spawner.new))
+        (outs_seen O.tried O.faults outs) (outs_seen O.tried O.faults result.outs)
+        (views_of result.views) result.report ∥₁ }
+{
+    let Ok(first) = draw_secret(words) else {
+        return Served::unused(alloc, End::WordsFault, outs);
+    };
+    let Ok(mut room) = Room::new(alloc, outs.len() as u32) else {
+        return Served::unused(alloc, End::Memory, outs);
+    };
+    let threads = plan.workers != 0;
+    let mut server = match Server::start(rt, alloc, settings, first, outs, threads, spawner) {
+        Ok(server) => server,
+        Err(NotStarted { end, outs }) => return Served::unused(alloc, end, outs),
+    };
+    let (end, turns) = server.run(rt, alloc, plan, clock, words, link, feed, room.buf.as_mut_slice());
+    let ending = server.finish(rt, spawner, room.turned, room.asked);
+    Served::of(end, turns, ending)
+}

@@ -1,0 +1,9 @@
+-- An item that was handed back changed nothing.
+use Rattle.std.proofs.Common.{◌≡◌}
+use Rattle.crossbeam_channel.specs.Claims.{IsSeatAt, view}
+use Rattle.crossbeam_channel.specs.Ends.{sends_on}
+use Rattle.replication_workers.proofs.queue.putting.offer.Given as goal
+
+abbrev pub invariant-loop : goal.invariant-loop
+invariant-loop g l =
+    IsSeatAt (sends_on l.sender) l.pass × (l.pass.id ≡ l.initial.pass.id) × (view l.pass ≡ view l.initial.pass) × (l.item ≡ l.initial.item)

@@ -1,0 +1,13 @@
+use Rattle.std.proofs.Common.{sym, subst}
+use Rattle.crossbeam_channel.specs.Claims.{view}
+use Rattle.replication_workers.specs.Queue.{MayPut}
+use Rattle.replication_workers.specs.declared.queue.End.{End}
+use Rattle.replication_workers.specs.declared.queue.Item.{Item}
+use Rattle.replication_workers.proofs.Steps.{puts}
+use Rattle.replication_workers.proofs.queue.putting.wait_and_put.Goals as goal
+
+pub send_as-requires-clause-rule : goal.send_as-requires-clause-rule
+send_as-requires-clause-rule g c =
+    let same = c.loop.invariant in
+    let may : MayPut (view c.loop.pass) c.loop.item = subst (λ (pair : End × Item). MayPut pair.0 pair.1) (λ i. (sym same.2 i, sym same.3 i)) c.requires.may in
+    (puts _ _ (view c.loop.pass) c.loop.item may, λ items views holds at. tt)

@@ -1,0 +1,11 @@
+use denote.Exit.{no}
+use denote.Param.{param}
+use denote.Param.Send.{IsSend, arg_send, param_send, sendable}
+use Rattle.replication_workers.proofs.Crossing.{Worker-send}
+use Rattle.replication_workers.proofs.Copying.{Replicator-send}
+use Rattle.replication_workers.proofs.worker.thread.start_worker.Goals as goal
+
+pub start_promised-requires-send-T : goal.start_promised-requires-send-T
+start_promised-requires-send-T g c κs within =
+    let out : IsSend (param 1 g.row.O) = search (sendable, c.type_bounds.send-O) in
+    param_send 1 _ (arg_send _ no _ (Worker-send (param 1 g.row.O) g.O.OutLink (Replicator-send (param 1 g.row.O) g.O.OutLink out)))

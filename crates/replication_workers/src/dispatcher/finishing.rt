@@ -1,0 +1,40 @@
+//! How all slots are ended. It must not know why.
+ghost use Rattle.std.specs.Prelude.{◌≡◌, ◌≤◌, ◌^◌, false, length, map};
+ghost use Rattle.std.specs.List.{All};
+ghost use Rattle.published_table.specs.Views.{views_of};
+ghost use Rattle.replication_workers.specs.Gathering.{HasRoom, IsFresh};
+ghost use Rattle.replication_workers.specs.KeptSlots.{AreThreaded, IsRunBy, now_of, state_of};
+ghost use Rattle.replication_workers.specs.Replicators.{out_of, view_of};
+ghost use Rattle.replication_workers.specs.SlotStates.{HaveLeft, jobs_in_all};
+
+use super::gathered::Gathered;
+use super::kept::{Kept, finish_kept};
+use crate::worker::Worker;
+use amt_ports::{OutLink, Spawner};
+use std::sync::Wait;
+
+/// Ends the slots in order, and gathers what they leave.
+pub fn finish_all<O: OutLink + Drop, R: Wait, P: Spawner<Worker<O>>>(
+    rt: &R,
+    kept: Vec<Kept<O, P::Started>>,
+    mut gathered: Gathered<O>,
+    spawner: &mut P,
+) -> Gathered<O>
+    requires fresh { IsFresh gathered }
+    requires room { HasRoom (length kept.items) gathered }
+    requires few { jobs_in_all (map state_of kept.items) ≤ 2 ^ 46 }
+    requires run { All (IsRunBy P.task_of) kept.items }
+    ensures left { HaveLeft (map state_of kept.items) result.outs.items (views_of result.views) result.sent result.unsent }
+    ensures jobs { result.jobs ≡ jobs_in_all (map state_of kept.items) }
+    ensures outs { AreThreaded false kept.items → result.outs.items ≡ map out_of (map now_of kept.items) }
+    ensures views { AreThreaded false kept.items → views_of result.views ≡ map view_of (map now_of kept.items) }
+    ensures starts { P.starts spawner.new ≡ P.starts spawner.old }
+    ensures faults { P.faults spawner.new ≡ P.faults spawner.old }
+{
+    let mut rest = kept.into_iter();
+    while let Some(one) = rest.next() {
+        gathered.add(finish_kept(rt, one, spawner));
+    }
+    rest.destroy_empty();
+    gathered
+}

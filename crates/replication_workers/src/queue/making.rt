@@ -1,0 +1,54 @@
+//! How a queue is made. It must not know jobs.
+ghost use Rattle.std.specs.Prelude.{◌≡◌, [], ◌∷◌, IfOk};
+ghost use Rattle.crossbeam_channel.specs.Claims.{IsSeatAt, view};
+ghost use Rattle.crossbeam_channel.specs.Ends.{receives_on, sends_on};
+ghost use Rattle.replication_workers.specs.Queue.{IsPutting, IsTaking, jobs_of, settled, whole_end};
+ghost use Rattle.replication_workers.specs.declared.queue.Item.TheVariants.{Home};
+
+use super::{End, Ends, InOrder, Item, QueuePass, Receiver, Sender, Settles};
+use crossbeam_channel::bounded_with;
+use published_table::View;
+use std::alloc::{AllocError, Global};
+use std::snapshot::Snapshot;
+use std::sync::Wait;
+
+// The first item, which says whose jobs they are, and 256 jobs. Once it is taken there is room for one job
+// more.
+const PLACES: usize = 257;
+
+// Puts whose jobs the queue is for. There is room for it, but no clause of the queue says so: where it is
+// handed back, it is put again.
+fn settle<R: Wait>(rt: &R, sender: &Sender, pass: &mut QueuePass, home: Snapshot<View>)
+    requires seat { IsSeatAt (sends_on sender.now) pass.old }
+    requires new { view pass.old ≡ whole_end }
+    ensures seat { IsSeatAt (sends_on sender.now) pass.new × (pass.new.id ≡ pass.old.id) }
+    ensures settled { view pass.new ≡ settled whole_end (Home home) }
+{
+    let mut item = Item::Home(home);
+    for _ in rt.forever() {
+        match sender.send_as::<Settles, R>(rt, pass, item) {
+            Ok(()) => return,
+            Err(refused) => item = refused.into_inner(),
+        }
+    }
+    unreachable!()
+}
+
+/// A queue for jobs of this view's publisher: what puts with its pass, and what takes with its own.
+pub fn make_queue<R: Wait>(
+    rt: &R,
+    alloc: Global,
+    home: &View,
+) -> Result<(Sender, QueuePass, Receiver, QueuePass), AllocError>
+    ensures seats { IfOk result (λ made. IsSeatAt (sends_on made.0) made.1
+        × IsSeatAt (receives_on made.2) made.3 × (receives_on made.2 ≡ sends_on made.0)) }
+    ensures putting { IfOk result (λ made. IsPutting (view made.1)
+        × (jobs_of (view made.1).put ≡ []) × ((view made.1).home ≡ home.now ∷ [])) }
+    ensures taking { IfOk result (λ made. IsTaking (view made.3)
+        × ((view made.3).taken ≡ []) × ((view made.3).home ≡ home.now ∷ [])) }
+{
+    let (sender, receiver, mut pass) = bounded_with::<Item, End, InOrder, Global>(alloc, PLACES)?;
+    settle(rt, &sender, &mut pass, Snapshot::of(home));
+    let taking = sender.another::<Ends>(&mut pass);
+    Ok((sender, pass, receiver, taking))
+}
