@@ -45,6 +45,7 @@ pub use reading::{READ_SIZE, ReadAllFault, read_all};
 pub use sink::Sink;
 pub use source::Source;
 pub use spawners::{GivenBy, ListedSpawner, Starts, ThreadSpawner, start_promised};
+pub use tally::CallTally;
 pub use task::{Spawner, Task};
 pub use tried::Tried;
 pub use words::Words;

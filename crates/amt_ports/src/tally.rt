@@ -10,7 +10,7 @@ use std::marker::Model;
 
 /// The calls of a device in memory: how many there were, which of them fail, and how many failed.
 #[derive(Debug, Drop)]
-pub(crate) struct CallTally {
+pub struct CallTally {
     made: u64,
     failing: Vec<u64>,
     faults: u64,
@@ -26,7 +26,7 @@ impl Model for CallTally {
 
 impl CallTally {
     /// Calls are counted from 1, so a 0 in the list names none.
-    pub(crate) fn new(failing: Vec<u64>) -> Self
+    pub fn new(failing: Vec<u64>) -> Self
         ensures { result ≡ fresh_tally failing.items }
     {
         CallTally {
@@ -36,14 +36,15 @@ impl CallTally {
         }
     }
 
-    pub(crate) fn faults(&self) -> u64
+    /// How many of the calls failed. A count at 2^64 - 1 stays there.
+    pub fn faults(&self) -> u64
         ensures { result ≡ self.now.faults }
     {
         self.faults
     }
 
     /// Counts a call, which fails where its number is listed.
-    pub(crate) fn call(&mut self) -> Result<(), Failed>
+    pub fn call(&mut self) -> Result<(), Failed>
         ensures listed { IsErr result ↔ Contains self.old.failing (next_count self.old.made) }
         ensures ok { OnOk result (self.new ≡ with_call self.old) }
         ensures err { OnErr result (self.new ≡ with_fault (with_call self.old)) }
@@ -57,7 +58,7 @@ impl CallTally {
     }
 
     /// Counts a fault of a call that is not listed, as one where memory ran out.
-    pub(crate) fn fail(&mut self) -> Failed
+    pub fn fail(&mut self) -> Failed
         ensures fault { self.new ≡ with_fault self.old }
         ensures later { self.old.faults ≤ self.new.faults }
     {
