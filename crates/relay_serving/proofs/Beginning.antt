@@ -16,7 +16,8 @@ use Rattle.relay_serving.specs.Stages.{BeginsSo, IsBegunBy}
 use Rattle.relay_serving.specs.Turns.{is_due, renewed_after}
 use Rattle.relay_serving.specs.declared.plan.End.{End}
 use Rattle.relay_serving.specs.declared.server.Server.{Server}
-use Rattle.relay_serving.proofs.Turning.{IsSameRun-then, now_in-kept}
+use Rattle.relay_serving.proofs.Events.{IsSameRun-then}
+use Rattle.relay_serving.proofs.Turning.{now_in-kept}
 
 pub rotation-few : (drawn : List ℕ) → length drawn < 4 → rotation drawn ≡ []
 rotation-few [] few = refl

@@ -38,7 +38,7 @@ asked_more published all rest fewer asked more one other so_far is long further 
 pub asked_all : (published : List Change) (all rest asked : List View) → AskedSoFar published all rest asked → rest ≡ [] → AreAsked published (reverse all) asked
 asked_all published all rest asked so_far none =
     subst (λ (list : List View). AreAsked published list asked)
-        (sym (so_far.all_are ∙ ap (λ (list : List View). so_far.done ++ reverse list) none ∙ append-nil so_far.done)) so_far.asked_are
+    (sym (so_far.all_are ∙ ap (λ (list : List View). so_far.done ++ reverse list) none ∙ append-nil so_far.done)) so_far.asked_are
 
 -- the list without the last one that was taken out
 pub one_fewer : {A : Type 0} (before after : List A) (one : A) → before ≡ after ++ one ∷ [] → length before ≡ length after + 1

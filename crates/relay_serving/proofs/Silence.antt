@@ -18,22 +18,9 @@ use Rattle.relay_machine.specs.declared.settings.Settings.{Settings}
 use Rattle.relay_serving.specs.Events.{datagram_of, datagrams_in, moment_event, packet_of, packets_in, rotation, unless_starved}
 use Rattle.relay_serving.specs.Sending.{answers_after, answers_to}
 use Rattle.relay_serving.specs.Turns.{Taken}
-
-pub each_after-append : {E A : Type 0} (answer : List E → E → A) (before one two : List E)
-    → each_after answer before (one ++ two) ≡ each_after answer before one ++ each_after answer (before ++ one) two
-each_after-append {E} {A} answer before [] two = ap (λ (past : List E). each_after answer past two) (sym (append-nil before))
-each_after-append {E} {A} answer before (event ∷ one) two =
-    ap (λ (rest : List A). answer before event ∷ rest)
-    (each_after-append answer (before ++ event ∷ []) one two
-    ∙ ap (λ (past : List E). each_after answer (before ++ event ∷ []) one ++ each_after answer past two) (append_assoc before (event ∷ []) one))
+use Rattle.relay_serving.proofs.Answering.{answers_after-append}
 
 module _ (settings : Settings) (first : Secret) where
-  pub answers-append : (before one two : List Event)
-      → answers_after settings first before (one ++ two) ≡ answers_after settings first before one ++ answers_after settings first (before ++ one) two
-  answers-append before one two =
-      ap (flat_map (λ sends. sends)) (each_after-append (answers_to settings first) before one two)
-      ∙ flat_map-append (λ sends. sends) (each_after (answers_to settings first) before one) (each_after (answers_to settings first) (before ++ one) two)
-
   -- a moment and a new secret
   none-moment : (before : List Event) (starved : Bool) (moment : ℕ) → answers_after settings first before (moment_event starved moment) ≡ []
   none-moment before true moment = refl
@@ -50,7 +37,7 @@ module _ (settings : Settings) (first : Secret) where
   pub none-begun : (before : List Event) (starved : Bool) (moment : ℕ) (drawn : List ℕ)
       → answers_after settings first before (moment_event starved moment ++ rotation drawn) ≡ []
   none-begun before starved moment drawn =
-      answers-append before (moment_event starved moment) (rotation drawn)
+      answers_after-append settings first before (moment_event starved moment) (rotation drawn)
       ∙ (λ i. none-moment before starved moment i ++ none-rotation (before ++ moment_event starved moment) drawn i)
 
   -- packets

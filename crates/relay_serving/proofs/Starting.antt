@@ -131,4 +131,4 @@ module _ {O : Type 0} {g : Ghosts O} where
   of_publisher settings book [] starts = All-nil (λ (slot : SlotState O g). publisher_of (view_of slot.first) ≡ book)
   of_publisher settings book (slot ∷ slots) starts =
       All-cons (λ (slot : SlotState O g). publisher_of (view_of slot.first) ≡ book) slot slots (All-head (IsStart settings book) slot.first (starts_in slots) starts).new.of
-          (of_publisher settings book slots (All-tail (IsStart settings book) slot.first (starts_in slots) starts))
+      (of_publisher settings book slots (All-tail (IsStart settings book) slot.first (starts_in slots) starts))

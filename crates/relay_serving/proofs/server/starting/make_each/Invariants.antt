@@ -16,7 +16,7 @@ invariant-loop-out g l =
     × (vec_capacity l.made ≡ vec_capacity l.initial.made)
     × AreReadBy (terms_by l.fn.settings) (views_of l.views)
     × ((book : Book) → All (IsNew book (terms_by l.fn.settings)) (views_of l.initial.views)
-        → All (IsNew book (terms_by l.fn.settings)) (views_of l.views) × AreStarts l.fn.settings book l.made.items)
+    → All (IsNew book (terms_by l.fn.settings)) (views_of l.views) × AreStarts l.fn.settings book l.made.items)
 
 abbrev pub decreases-loop-out : goal.decreases-loop-out
 decreases-loop-out g l = vec_len l.outs
