@@ -1,5 +1,5 @@
 -- One answer more that a link tried.
-use Rattle.std.proofs.Common.{◌≡◌, ℕ, ◌+◌, ◌<◌, List, [], ◌∷◌, ◌++◌, length, get_or, map, take, refl, sym, ap, subst, ◌∙◌, arith}
+use Rattle.std.proofs.Common.{◌≡◌, ℕ, ◌+◌, ◌<◌, List, [], ◌∷◌, ◌++◌, length, get_or, map, take, sym, ap, subst, ◌∙◌, arith}
 use Rattle.std.specs.Prelude.{IsSome, OnOk, Result, Ok, Err, is_ok}
 use Rattle.std.proofs.lemmas.List.{length_push, take_more, map-append}
 use Rattle.amt_ports.specs.Causes.{HasCause}

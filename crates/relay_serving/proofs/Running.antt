@@ -13,9 +13,7 @@ use Rattle.amt_ports.specs.declared.out_link.OutLink.{Ghosts}
 use Rattle.amt_values.specs.declared.peer.Peer.{Peer}
 use Rattle.relay_machine.specs.Events.{now_of}
 use Rattle.relay_machine.specs.declared.event.Event.{Event}
-use Rattle.response_mac.specs.declared.secret.Secret.{Secret}
 use Rattle.relay_machine.specs.Published.{published_log}
-use Rattle.relay_machine.specs.declared.settings.Settings.{Settings}
 use Rattle.relay_machine.proofs.PublishedLog.{published_log-none}
 use Rattle.relay_serving.specs.Bursts.{IsCauseOf, IsCausedBy}
 use Rattle.relay_serving.specs.Counting.{HasAnswered, is_packet}

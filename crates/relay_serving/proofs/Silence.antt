@@ -1,7 +1,6 @@
 -- Events to which a link sends nothing, and that report no moment.
-use Rattle.std.proofs.Common.{◌≡◌, ℕ, max, Bool, true, false, List, [], ◌∷◌, ◌++◌, flat_map, refl, sym, ap, ◌∙◌}
-use Rattle.std.proofs.lemmas.Grind.{flat_map-append}
-use Rattle.std.proofs.lemmas.List.{append-nil, append_assoc}
+use Rattle.std.proofs.Common.{◌≡◌, ℕ, max, Bool, true, false, List, [], ◌∷◌, ◌++◌, refl, ap, ◌∙◌}
+use Rattle.std.proofs.lemmas.List.{append-nil}
 use Rattle.std.proofs.lemmas.List.Elements.{filter_map-append}
 use Rattle.std.specs.List.{filter_map, fold}
 use Rattle.core.specs.List.{cons_option}
@@ -10,13 +9,12 @@ use Rattle.amt_ports.specs.declared.feed.FeedAnswer.TheVariants.{Packet as Packe
 use Rattle.amt_ports.specs.declared.link.LinkAnswer.{LinkAnswer}
 use Rattle.amt_ports.specs.declared.link.LinkAnswer.TheVariants.{Datagram as DatagramCame, Nothing as NothingCame, Closed as LinkClosed}
 use Rattle.response_mac.specs.declared.secret.Secret.{Secret}
-use Rattle.relay_machine.specs.Courses.{each_after}
 use Rattle.relay_machine.specs.Events.{moment_in, now_of}
 use Rattle.relay_machine.specs.declared.event.Event.{Event}
 use Rattle.relay_machine.specs.declared.event.Event.TheVariants.{Packet}
 use Rattle.relay_machine.specs.declared.settings.Settings.{Settings}
 use Rattle.relay_serving.specs.Events.{datagram_of, datagrams_in, moment_event, packet_of, packets_in, rotation, unless_starved}
-use Rattle.relay_serving.specs.Sending.{answers_after, answers_to}
+use Rattle.relay_serving.specs.Sending.{answers_after}
 use Rattle.relay_serving.specs.Turns.{Taken}
 use Rattle.relay_serving.proofs.Answering.{answers_after-append}
 

@@ -1,5 +1,5 @@
 -- What slots left, as it is seen of a whole run.
-use Rattle.std.proofs.Common.{◌≡◌, ℕ, zero, suc, ◌+◌, ◌*◌, ◌%◌, ◌≤◌, ◌==◌, Bool, true, false, cond, List, [], ◌∷◌, ◌++◌, length, map, count_by, refl, sym, ap, subst, ◌∙◌, arith, length-append}
+use Rattle.std.proofs.Common.{◌≡◌, ℕ, suc, ◌+◌, ◌*◌, ◌≤◌, ◌==◌, Bool, true, cond, List, [], ◌∷◌, ◌++◌, length, map, count_by, refl, sym, ap, subst, ◌∙◌, arith}
 use Rattle.std.specs.Prelude.{Result, Ok, Err}
 use Rattle.std.specs.List.{All, AllZip, enumerate_from, filter, sum_by}
 use Rattle.std.proofs.Props.{props}
@@ -32,8 +32,8 @@ use Rattle.replication_workers.specs.declared.job.Job.{Job}
 use Rattle.replication_workers.specs.declared.replicator.Replicator.{Replicator}
 use Rattle.relay_serving.specs.Counting.{is_packet}
 use Rattle.relay_serving.specs.Devices.{OutSeen, out_seen, outs_seen}
-use Rattle.relay_serving.specs.GivenOut.{AreOfPublisher, jobs_at, slots_after, starts_in, terms_by}
-use Rattle.relay_serving.specs.Sending.{due_of, due_to, dues_after}
+use Rattle.relay_serving.specs.GivenOut.{AreOfPublisher, jobs_at, slots_after, starts_in}
+use Rattle.relay_serving.specs.Sending.{due_of, dues_after}
 use Rattle.relay_serving.specs.Serving.{AreServed, IsServed, SlotServed, logs_in}
 use Rattle.relay_serving.specs.Starting.{AreStarts, IsStart}
 

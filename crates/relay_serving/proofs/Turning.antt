@@ -1,5 +1,5 @@
 -- What the stages of a turn come to together.
-use Rattle.std.proofs.Common.{◌≡◌, ℕ, ◌+◌, Bool, List, [], ◌∷◌, ◌++◌, map, refl, sym, ap, subst, ◌∙◌}
+use Rattle.std.proofs.Common.{◌≡◌, ℕ, Bool, List, [], ◌∷◌, ◌++◌, map, refl, sym, ap, subst, ◌∙◌}
 use Rattle.std.proofs.lemmas.List.{append-nil, append_assoc}
 use Rattle.std.specs.List.{filter_map}
 use Rattle.amt_ports.specs.Told.{Appends, AppendsAll}
@@ -13,7 +13,7 @@ use Rattle.response_mac.specs.declared.secret.Secret.{Secret}
 use Rattle.relay_machine.specs.Events.{moment_in, now_of}
 use Rattle.relay_machine.specs.declared.event.Event.{Event}
 use Rattle.relay_machine.specs.declared.settings.Settings.{Settings}
-use Rattle.relay_serving.specs.Devices.{AnswersAll, Devices, FeedSeen, LinkSeen}
+use Rattle.relay_serving.specs.Devices.{AnswersAll, Devices}
 use Rattle.relay_serving.specs.Events.{datagrams_in, moment_event, packets_in, rotation}
 use Rattle.relay_serving.specs.Sending.{answers_after}
 use Rattle.relay_serving.specs.Servers.{Feeds, HasEvents, Hears, IsSameRun, counts_in, events_in, first_in, now_in, settings_in}

@@ -1,5 +1,5 @@
 -- A whole run, put together.
-use Rattle.std.proofs.Common.{◌≡◌, ◌≢◌, ◌⊎◌, ℕ, zero, suc, ◌+◌, ◌==◌, ◌<◌, ◌≤◌, ◌^◌, max, not, nat_eq, Bool, true, false, List, [], ◌∷◌, ◌++◌, length, map, take, refl, sym, ap, subst, ◌∙◌, append_assoc, append-nil, arith, length-append, true≢false, inl, inr, if◌then◌else◌}
+use Rattle.std.proofs.Common.{◌≡◌, ◌≢◌, ℕ, ◌+◌, ◌==◌, ◌<◌, ◌≤◌, ◌^◌, max, not, Bool, true, false, List, [], ◌∷◌, ◌++◌, length, map, take, refl, sym, ap, subst, ◌∙◌, append-nil, arith, length-append, inl, inr, if◌then◌else◌}
 use Rattle.std.specs.Prelude.{Option, None, Some, Result, Ok, Err}
 use Rattle.std.specs.List.{All, AllZip}
 use Rattle.std.proofs.Math.Logic.{∥∥₁_elim, ∥∥₁_map, ∥∥₁_prop}
@@ -24,7 +24,7 @@ use Rattle.relay_machine.specs.declared.settings.Settings.{Settings}
 use Rattle.replication_workers.specs.Dispatchers.{is_threaded}
 use Rattle.replication_workers.specs.Replication.{HasTried}
 use Rattle.replication_workers.specs.Replicators.{out_of}
-use Rattle.replication_workers.specs.SlotStates.{SlotState, jobs_in_all}
+use Rattle.replication_workers.specs.SlotStates.{jobs_in_all}
 use Rattle.replication_workers.specs.Starting.{HaveStarted}
 use Rattle.replication_workers.proofs.Trying.{HasTried-none}
 use Rattle.relay_serving.specs.Bursts.{IsCauseOf}
@@ -35,10 +35,10 @@ use Rattle.relay_serving.specs.Ending.{Finishes}
 use Rattle.relay_serving.specs.Events.{events_from, events_of, first_of, secret_by}
 use Rattle.relay_serving.specs.GivenOut.{AreGivenOut, starts_in}
 use Rattle.relay_serving.specs.Reports.{report_of, unused_report}
-use Rattle.relay_serving.specs.Runs.{HasEnded, IsCut, MayGo, Run, served, turns_of, unsown, unstarted, with_cut, words_drawn}
+use Rattle.relay_serving.specs.Runs.{HasEnded, IsCut, MayGo, Run, served, turns_of, unsown, unstarted, words_drawn}
 use Rattle.relay_serving.specs.Sending.{answers_after, due_of, dues_after}
 use Rattle.relay_serving.specs.Serving.{ArePublished, IsOwedBy, OutsServed, Serves, StartsWorkers, one_lost, unused, used}
-use Rattle.relay_serving.specs.Servers.{counts_in, events_in, first_in, now_in, owing_in, published_in, settings_in, slots_in}
+use Rattle.relay_serving.specs.Servers.{events_in, first_in, now_in, owing_in, published_in, settings_in, slots_in}
 use Rattle.relay_serving.specs.Starting.{AreLeftBy, AreStarts, IsAtStart}
 use Rattle.relay_serving.specs.Turning.{EndsIn, RunsSo}
 use Rattle.relay_serving.specs.Turns.{Progress, Turn}

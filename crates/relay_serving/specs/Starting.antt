@@ -3,9 +3,8 @@ use Rattle.std.specs.Prelude.{◌≡◌, ℕ, ◌≤◌, Bool, List, [], ◌∷�
 use Rattle.std.specs.List.{All}
 use Rattle.logbook.specs.Pages.{Book}
 use Rattle.amt_ports.specs.Causes.{Rose}
-use Rattle.amt_ports.specs.Sends.{TriedSend}
 use Rattle.amt_ports.specs.declared.out_link.OutLink.{Ghosts}
-use Rattle.published_table.specs.Publishers.{book_of, owing, published}
+use Rattle.published_table.specs.Publishers.{book_of}
 use Rattle.published_table.specs.Views.{IsNew, terms_of}
 use Rattle.published_table.specs.declared.terms.Terms.{Terms}
 use Rattle.published_table.specs.declared.view.View.{View}
@@ -22,7 +21,6 @@ use Rattle.relay_serving.specs.declared.plan.End.{End}
 use Rattle.relay_serving.specs.declared.plan.End.TheVariants.{Turns, Closed, LinkFault, FeedFault, WordsFault, SpawnFault, Memory}
 use Rattle.relay_serving.specs.declared.server.Server.{Server}
 use Rattle.relay_serving.specs.declared.server.starting.Made.{Made}
-use Rattle.relay_serving.specs.declared.server.starting.NotStarted.{NotStarted}
 
 -- one of the outs is gone, and the others are as they were
 pub record LosesOne (outs left : List OutSeen) : Type 0 where

@@ -1,14 +1,11 @@
-use Rattle.std.proofs.Common.{◌≡◌, ◌∙◌, ◌==◌, length, map, max, not, refl, sym, ap, subst, arith}
+use Rattle.std.proofs.Common.{◌∙◌, length, refl, sym, ap, subst, arith}
 use Rattle.std.proofs.Math.Logic.{∥∥₁_map}
 use Rattle.std.proofs.lemmas.List.{length-map}
-use Rattle.std.proofs.lemmas.Result.{IfErr-at_err, IfOk-at_ok}
 use Rattle.replication_workers.specs.Replicators.{out_of}
 use Rattle.replication_workers.specs.Starting.{HaveStarted}
 use Rattle.relay_serving.specs.Devices.{outs_seen}
 use Rattle.relay_serving.specs.GivenOut.{starts_in}
-use Rattle.relay_serving.specs.Reports.{unused_report}
 use Rattle.relay_serving.specs.Servers.{slots_in}
-use Rattle.relay_serving.specs.Starting.{AreLeftBy}
 use Rattle.relay_serving.proofs.WholeRuns.{few_in_all, few_words, four_words, has_risen, is_quiet, reported, serves_run, serves_unsown, serves_unstarted}
 use Rattle.relay_serving.proofs.serving.serve_relay.Goals as goal
 

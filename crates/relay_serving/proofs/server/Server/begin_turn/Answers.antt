@@ -1,4 +1,4 @@
-use Rattle.std.proofs.Common.{[], false, true, max, length, length-append, arith, ap, sym, ◌∙◌, refl, subst}
+use Rattle.std.proofs.Common.{[], max, length, length-append, arith, ap, sym, ◌∙◌, refl, subst}
 use Rattle.relay_serving.specs.Servers.{HasEvents, events_in}
 use Rattle.relay_serving.specs.Turns.{words_due}
 use Rattle.relay_serving.proofs.Beginning.{begins, ok_gives, rotation-few, rotation-four}

@@ -1,5 +1,5 @@
 -- The outs and views to come, and the replicators so far.
-use Rattle.std.proofs.Common.{◌≡◌, ◌≤◌, ◌+◌, ◌++◌, All, length, map, reverse, vec_capacity, vec_len}
+use Rattle.std.proofs.Common.{◌≡◌, ◌+◌, ◌++◌, All, length, map, reverse, vec_capacity, vec_len}
 use Rattle.logbook.specs.Pages.{Book}
 use Rattle.published_table.specs.Views.{IsNew, views_of}
 use Rattle.replication_workers.specs.Replicators.{out_of}
