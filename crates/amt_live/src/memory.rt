@@ -1,6 +1,6 @@
 //! Sets of devices in memory, for tests and callers. They must not know what the devices are.
 ghost use Rattle.std.specs.Prelude.{◌≡◌, ◌≤◌, ◌<◌, ◌⊎◌, [], ◌∷◌, Contains, IfOk, IsErr, IsErrOf, IsSome, OnErr, OnOk, Some, false, length};
-ghost use Rattle.amt_ports.specs.Causes.{Rose, next_count};
+ghost use Rattle.amt_ports.specs.Causes.{HasCause, Rose, next_count};
 ghost use Rattle.amt_ports.specs.Tally.{fresh_tally, with_call, with_fault};
 ghost use Rattle.amt_ports.specs.Told.{Appends};
 ghost use Rattle.amt_live.specs.MemLive.{with_room, with_set};
@@ -8,11 +8,10 @@ ghost use Rattle.amt_live.specs.Sets.{HasRoom, TakesFirst, fits, less_room, more
 ghost use Rattle.amt_live.specs.declared.asked.Opening.TheVariants.{Relay as AskedRelay};
 
 use crate::asked::{AskedLog, Opening};
-use crate::calls::OpenTally;
 use crate::devices::RelayDevices;
 use crate::live::{Live, OpenFault};
 use crate::returns::Returns;
-use amt_ports::{Clock, Feed, Link, OutLink, Spawner, Words};
+use amt_ports::{CallTally, Clock, Failed, Feed, Link, OutLink, Spawner, Words};
 use amt_values::Peer;
 use replication_workers::Worker;
 use std::alloc::Global;
@@ -28,7 +27,7 @@ pub struct MemLive<L, F, C, W, O, P> {
     relays: Vec<RelayDevices<L, F, C, W, O, P>>,
     asked: AskedLog,
     returned: Returns<RelayDevices<L, F, C, W, O, P>>,
-    calls: OpenTally,
+    calls: CallTally,
 }
 
 impl<L, F, C, W, O, P> Model for MemLive<L, F, C, W, O, P> {
@@ -68,7 +67,7 @@ impl<L: Drop, F: Drop, C: Drop, W: Drop, O: Drop, P: Drop> MemLive<L, F, C, W, O
             relays,
             asked: AskedLog::new(alloc),
             returned: Returns::new(alloc),
-            calls: OpenTally::new(calls),
+            calls: CallTally::new(calls),
         }
     }
 
@@ -102,6 +101,36 @@ fn fits<L, F, C, W, O: Drop, P>(slots: u32, sets: &[RelayDevices<L, F, C, W, O, 
         Some(devices) => devices.outs.len() == slots as usize,
         None => false,
     }
+}
+
+// Counts an opening, and a fault where its number is listed or the first set to come doesn't fit it.
+fn count_opening<L, F, C, W, O: Drop, P>(
+    calls: &mut CallTally,
+    slots: u32,
+    sets: &[RelayDevices<L, F, C, W, O, P>],
+) -> Result<(), Failed>
+    ensures listed { Contains calls.old.failing (next_count calls.old.made) → IsErr result }
+    ensures unfit { fits slots sets.now ≡ false → IsErr result }
+    ensures only { OnErr result (Contains calls.old.failing (next_count calls.old.made)
+        ⊎ (fits slots sets.now ≡ false)) }
+    ensures ok { OnOk result (calls.new ≡ with_call calls.old) }
+    ensures err { OnErr result (calls.new ≡ with_fault (with_call calls.old)) }
+    ensures cause { HasCause calls.old.faults calls.new.faults result }
+{
+    calls.call()?;
+    if fits(slots, sets) {
+        Ok(())
+    } else {
+        Err(calls.fail())
+    }
+}
+
+// Takes the first set out.
+fn take_first<T>(sets: &mut Vec<T>) -> T
+    requires { 1 ≤ length sets.old.items }
+    ensures { sets.old.items ≡ result ∷ sets.new.items }
+{
+    sets.remove(0)
 }
 
 impl<L, F, C, W, O, P> Live for MemLive<L, F, C, W, O, P>
@@ -162,8 +191,8 @@ where
             → self.new.calls.faults ≡ self.old.calls.faults }
 
         ensures listed { Contains self.old.calls.failing (next_count self.old.calls.made)
-            → IsErr result }
-        ensures unfit { fits slots self.old.relays ≡ false → IsErr result }
+            → IsErrOf result OpenFault.Failed }
+        ensures unfit { fits slots self.old.relays ≡ false → IsErrOf result OpenFault.Failed }
         ensures only { IsErrOf result OpenFault.Failed
             → Contains self.old.calls.failing (next_count self.old.calls.made)
             ⊎ (fits slots self.old.relays ≡ false) }
@@ -172,21 +201,20 @@ where
         ensures ok { ¬ IsErrOf result OpenFault.Failed
             → self.new.calls ≡ with_call self.old.calls }
     {
-        let is_listed = self.calls.call();
         let opening = Opening::Relay {
             listen: *listen,
             feed: *feed,
             slots,
         };
-        if self.asked.keep(opening).is_err() {
+        let kept = self.asked.keep(opening);
+        let Ok(()) = count_opening(&mut self.calls, slots, self.relays.as_slice()) else {
+            return Err(OpenFault::Failed);
+        };
+        if kept.is_err() {
             return Err(OpenFault::Memory);
         }
-        if is_listed || !fits(slots, self.relays.as_slice()) {
-            self.calls.fail();
-            return Err(OpenFault::Failed);
-        }
         match self.returned.make_room() {
-            Ok(()) => Ok(self.relays.remove(0)),
+            Ok(()) => Ok(take_first(&mut self.relays)),
             Err(_) => Err(OpenFault::Memory),
         }
     }
