@@ -42,6 +42,6 @@ pub has_room : (before after : Option ℕ) → after ≡ more_room before → Ha
 has_room None after more = subst (λ (room : Option ℕ). HasRoom room) (sym more) tt
 has_room (Some sets) after more = subst (λ (room : Option ℕ). HasRoom room) (sym more) (omega arith)
 
-pub same_room : (before open closed : Option ℕ) → open ≡ more_room before → closed ≡ less_room open → closed ≡ before
-same_room None open closed more less = less ∙ ap less_room more
-same_room (Some sets) open closed more less = less ∙ ap less_room more ∙ ap Some (omega arith)
+pub same_room : (before between after : Option ℕ) → between ≡ more_room before → after ≡ less_room between → after ≡ before
+same_room None between after more less = less ∙ ap less_room more
+same_room (Some sets) between after more less = less ∙ ap less_room more ∙ ap Some (omega arith)
