@@ -8,7 +8,7 @@ use Rattle.amt_ports.specs.Contents.{HasAtLeast, IsContent}
 use Rattle.amt_values.specs.declared.bytes.TheConstants.{INPUT_LIMIT}
 use Rattle.relay_command.specs.declared.fault.RelayFault.{RelayFault}
 use Rattle.relay_command.specs.declared.fault.RelayFault.TheVariants.{Memory, NotOpened, NotRead, Settings, TooLong}
-use Rattle.relay_command.specs.Reading.{BlamesNoFile, Decides, IsConfigured, IsFaultIn, IsFaultOfReading, IsMisconfigured, IsOverlong, TellsFault, fault_by}
+use Rattle.relay_command.specs.Reading.{BlamesNoFile, Decides, IsConfigured, IsFaultIn, IsFaultOfReading, IsMisconfigured, IsOverlong, IsUnread, TellsFault, fault_by}
 
 -- more octets than the limit were seen
 pub overlong_by : (content : Option (List ℕ)) (seen : ℕ) → 16777216 < seen → HasAtLeast content seen → IsOverlong content
@@ -176,5 +176,33 @@ decided_on octets config result before none = record {
     | inl same ↦ absurd (cc same)
     | inr (inl unread) ↦ absurd (cc unread)
     | inr (inr memory) ↦ absurd (cc memory)
+  ];
+}
+
+-- the same fault of another call
+pub of_other : {T U : Type 0} (fault other : RelayFault) → IsErrOf {T = T} (Err fault) other → IsErrOf {T = U} (Err fault) other
+of_other fault other is = let same : fault ≡ other = cc is in ap Err same
+
+blameless_too : (T U : Type 0) (fault : RelayFault) → BlamesNoFile {T = T} (Err fault) → BlamesNoFile {T = U} (Err fault)
+blameless_too T U NotRead none = tt
+blameless_too T U TooLong none = none
+blameless_too T U (Settings fault) none = none
+blameless_too T U NotOpened none = tt
+blameless_too T U Memory none = tt
+
+unread_too : {T U : Type 0} (fault : RelayFault) → IsUnread {T = T} (Err fault) → IsUnread {T = U} (Err fault)
+unread_too fault (inl unread) = inl (of_other fault NotRead unread)
+unread_too fault (inr memory) = inr (of_other fault Memory memory)
+
+pub decided_too : {T U : Type 0} (octets : List ℕ) (fault : RelayFault) → Decides {T = T} octets (Err fault) → Decides {T = U} octets (Err fault)
+decided_too {T} {U} octets fault before = record {
+  configured = λ config short file. blameless_too T U fault (before.configured config short file);
+  misconfigured = λ first short says. elim (before.misconfigured first short says) [
+    | inl same ↦ inl (of_other fault (Settings first) same)
+    | inr unread ↦ inr (unread_too fault unread)
+  ];
+  overlong = λ long. elim (before.overlong long) [
+    | inl same ↦ inl (of_other fault TooLong same)
+    | inr unread ↦ inr (unread_too fault unread)
   ];
 }

@@ -1,5 +1,5 @@
 -- The plan of a settings file and a command is lawful, and there is room for what comes back.
-use Rattle.std.proofs.Common.{◌≡◌, ◌⊎◌, ℕ, ◌<◌, ◌≤◌, ◌*◌, List, Option, None, Some, unwrap_or, inl, inr, refl, subst, sym, ap, arith, ◌∙◌}
+use Rattle.std.proofs.Common.{◌≡◌, ◌⊎◌, ℕ, ◌<◌, ◌≤◌, ◌*◌, List, codes, Option, None, Some, unwrap_or, inl, inr, refl, subst, sym, ap, arith, ◌∙◌}
 use Rattle.std.specs.Int.{IsInRange}
 use Rattle.toml.specs.Data.{Members}
 use Rattle.relay_machine.specs.Settings.{AreLawfulSettings}
@@ -29,8 +29,8 @@ pub lawful_plan : (content : Option (List ℕ)) (config : RelayConfig) (turns : 
     → IsLawfulPlan (plan_by config turns workers)
 lawful_plan content config turns workers configured some given =
     let values = configured.file.2.values in
-    let rotate = in_range _ rotate_range _ config.rotate_seconds values.rotate (omega arith) (omega arith) in
-    let few = in_range _ workers_range _ config.workers values.workers (omega arith) (omega arith) in record {
+    let rotate = in_range (codes "rotate_seconds") rotate_range configured.file.0 config.rotate_seconds values.rotate (omega arith) (omega arith) in
+    let few = in_range (codes "workers") workers_range configured.file.0 config.workers values.workers (omega arith) (omega arith) in record {
       some_turns = some.0;
       few_turns = some.1;
       few_workers = few_workers config workers few.1 given;
