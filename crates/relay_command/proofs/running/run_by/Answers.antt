@@ -1,6 +1,5 @@
 use Rattle.std.proofs.Math.Logic.{∥∥₁_map}
 use Rattle.published_table.specs.Views.{views_of}
-use Rattle.relay_command.specs.Lives.{tells}
 use Rattle.relay_command.proofs.Planning.{has_room}
 use Rattle.relay_command.proofs.Runs.{ran, refused}
 use Rattle.relay_command.proofs.running.run_by.Goals as goal
@@ -20,7 +19,7 @@ returns-clause-ran g c =
     let back = c.return_relay.ensures in
     let served = c.serve_relay-outs in
     ∥∥₁_map served.ensures.serves
-    (ran (tells g.V.Live g.V.L.Link g.V.F.Feed g.V.C.Clock g.V.W.Words g.V.O.OutLink g.V-P-Spawner.starts g.V-P-Spawner.faults)
+    (ran _
     c.args.config.now c.args.plan.now c.args.live.now c.open_relay.new.self c.return_relay.new.self c.in-Ok.devices
     (record {
       link = served.new.link;

@@ -3,7 +3,6 @@ use Rattle.std.proofs.Math.Logic.{∥∥₁_map}
 use Rattle.amt_live.specs.declared.live.OpenFault.{OpenFault}
 use Rattle.relay_serving.specs.Plans.{IsLawfulPlan}
 use Rattle.relay_serving.specs.declared.plan.ServePlan.{ServePlan}
-use Rattle.relay_command.specs.Lives.{tells}
 use Rattle.relay_command.proofs.Deciding.{decided_on, decided_too, of_other}
 use Rattle.relay_command.proofs.Planning.{lawful_plan, lawful_settings}
 use Rattle.relay_command.proofs.Runs.{ran_by, refused_by}
@@ -53,7 +52,7 @@ run_by-requires-clause-plan g c =
 pub returns-in-Ok-run_by-clause-ran : goal.returns-in-Ok-run_by-clause-ran
 returns-in-Ok-run_by-clause-ran g c =
     ∥∥₁_map c.in-Ok-run_by.ensures.ran
-    (ran_by (tells g.V.Live g.V.L.Link g.V.F.Feed g.V.C.Clock g.V.W.Words g.V.O.OutLink g.V-P-Spawner.starts g.V-P-Spawner.faults)
+    (ran_by _
     _ c.in-Ok.config c.args.turns c.args.workers _ _ c.plan_by-plan.result c.in-Ok-run_by.report c.in-Ok.ensures.found c.plan_by-plan.ensures)
 
 pub returns-in-Ok-run_by-clause-absent : goal.returns-in-Ok-run_by-clause-absent
