@@ -1,11 +1,13 @@
 //! A worker over the devices of the machine. It knows public calls alone.
+ghost use Rattle.std.specs.Prelude.{◌≡◌, length};
+ghost use Rattle.published_table.specs.Views.{terms_of};
 
-use amt_live::{HostLive, Live, RelayDevices};
+use amt_live::{HostLive, Live};
 use amt_ports::{OutLink, Spawner};
 use amt_values::{Ip, Peer};
 use endpoint_membership::Limits;
 use published_table::{Publisher, Terms, View};
-use replication_workers::{Dispatcher, Finished, Outs, Replicator, Replicators, Worker};
+use replication_workers::{Dispatcher, Finished, Replicator, Replicators, Worker};
 use std::alloc::Global;
 use std::process::Abort;
 use std::sync::Wait;
@@ -26,12 +28,7 @@ const TERMS: Terms = Terms {
 };
 
 // The one slot of a dispatcher.
-fn slot_of<O: OutLink + Drop>(
-    rt: &impl Abort,
-    alloc: Global,
-    view: View,
-    out: O,
-) -> Replicators<O>
+fn slot_of<O: OutLink + Drop>(rt: &impl Abort, alloc: Global, view: View, out: O) -> Replicators<O>
     requires limits { (terms_of view).limits.endpoints ≡ 16 }
     ensures { length result ≡ 1 }
 {
