@@ -38,7 +38,7 @@ TellsFault content fault = Unit {0}
 
 -- the file was not read, or memory ran out
 abbrev pub IsUnread : {T : Type 0} → Result T RelayFault → Type 0
-IsUnread {T} result = (result ≡ Err {T} NotRead) ⊎ (result ≡ Err {T} Memory)
+IsUnread result = (result ≡ Err NotRead) ⊎ (result ≡ Err Memory)
 
 -- the file is not why there was no run
 abbrev pub BlamesNoFile : {T : Type 0} → Result T RelayFault → Type 0
@@ -52,5 +52,5 @@ BlamesNoFile (Err fault) = Unit {0}
 pub record Decides {T : Type 0} (bytes : List ℕ) (result : Result T RelayFault) : Type 0 where
   pub configured : (config : RelayConfig) → length bytes ≤ INPUT_LIMIT → IsRelayFile config bytes → BlamesNoFile result
   pub misconfigured : (fault : ConfigFault) → length bytes ≤ INPUT_LIMIT → IsRelayFault fault bytes
-      → (result ≡ Err {T} (Settings fault)) ⊎ IsUnread result
-  pub overlong : INPUT_LIMIT < length bytes → (result ≡ Err {T} TooLong) ⊎ IsUnread result
+      → (result ≡ Err (Settings fault)) ⊎ IsUnread result
+  pub overlong : INPUT_LIMIT < length bytes → (result ≡ Err TooLong) ⊎ IsUnread result
