@@ -6,8 +6,7 @@ use Rattle.amt_command.proofs.relay.serve_file.Goals as goal
 
 pub returns-in-Err-clause-answered : goal.returns-in-Err-clause-answered
 returns-in-Err-clause-answered g c =
-    let run = c.in-Err.ensures in
-    (
+    let run = c.in-Err.ensures in (
       Err c.in-Err.fault,
       record {
         ran = tt;

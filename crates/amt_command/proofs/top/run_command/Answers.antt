@@ -13,6 +13,6 @@ returns-in-Relay-clause-relays g c = λ file turns workers same.
     for_relay
     (λ (file : List ℕ) (turns : ℕ) (workers : Option ℕ).
     Relays g.F.Files (tells g.V.Live g.V.L.Link g.V.F.Feed g.V.C.Clock g.V.W.Words g.V.O.OutLink g.V-P-Spawner.starts g.V-P-Spawner.faults) file turns workers
-        c.args.files.now c.serve_file.new.files c.args.live.now c.serve_file.new.live g.O.Sink.written c.args.out.now c.serve_file.new.out
-        (status_of c.serve_file.result) (line_of c.serve_file.result))
+    c.args.files.now c.serve_file.new.files c.args.live.now c.serve_file.new.live g.O.Sink.written c.args.out.now c.serve_file.new.out
+    (status_of c.serve_file.result) (line_of c.serve_file.result))
     _ file _ turns _ workers (named ∙ (sym c.in-Relay.is ∙ same)) (answered told.0 told.1 told.2)
