@@ -1,5 +1,4 @@
-use Rattle.std.proofs.Common.{◌≡◌, List, ℕ, Err, IsErrOf, Result, refl}
-use Rattle.amt_command.specs.declared.ending.Ending.{Ending}
+use Rattle.std.proofs.Common.{◌≡◌, Err}
 use Rattle.amt_command.specs.declared.ending.Ending.TheVariants.{Fault}
 use Rattle.amt_command.proofs.Shown.{settings_told, shown}
 use Rattle.amt_command.proofs.relay.serve_file.Goals as goal

@@ -1,4 +1,4 @@
-use Rattle.std.proofs.Common.{Err, List, map, string_bytes, ap, subst}
+use Rattle.std.proofs.Common.{Err, map, string_bytes, ap, subst}
 use Rattle.amt_words.specs.Line.{IsCommandLine}
 use Rattle.amt_words.specs.declared.command.Command.{Command}
 use Rattle.amt_words.specs.declared.command.Command.TheVariants.{Relay as RelayServing}
