@@ -90,7 +90,10 @@ fn the_devices_of_the_machine_are_opened_and_given_back(rt: HostRuntime) -> Resu
     let (far, peer) = far_end(&rt)?;
     let mut live = HostLive::new(rt, rt.alloc());
     for slots in [0, 1, 4] {
-        assert!(rt; all_send_from_one_port(&mut live, slots, &far, &peer), "{slots}");
+        assert!(rt;
+            all_send_from_one_port(&mut live, slots, &far, &peer),
+            "{slots}"
+        );
     }
     assert_eq!(rt; live.faults(), 0);
     Ok(())
@@ -125,7 +128,9 @@ fn is_opened_at<V: Live<L = UdpLink, F = UdpFeed>>(
         Ok(peer) => peer == *listen,
         Err(_) => false,
     };
-    let sent = far.send_to(b"packet", address_of_loopback(feed.port)).is_ok();
+    let sent = far
+        .send_to(b"packet", address_of_loopback(feed.port))
+        .is_ok();
     let taken = takes(alloc, &mut devices.feed, b"packet");
     live.return_relay(devices);
     is_at && sent && taken
