@@ -48,11 +48,11 @@ one_given place job [] = omega arith
 one_given {O} {g} zero job (slot ∷ later) =
     let count : SlotState O g → ℕ = λ one. length one.jobs in
     one_more (jobs_in_all (slot ∷ later)) (jobs_in_all (with_one_job job slot ∷ later)) (length slot.jobs) (length (slot.jobs ++ job ∷ [])) (jobs_in_all later)
-        (sum_by-cons count slot later) (sum_by-cons count (with_one_job job slot) later) (length-append slot.jobs (job ∷ []))
+    (sum_by-cons count slot later) (sum_by-cons count (with_one_job job slot) later) (length-append slot.jobs (job ∷ []))
 one_given {O} {g} (suc place) job (slot ∷ later) =
     let count : SlotState O g → ℕ = λ one. length one.jobs in
     still_one_more (jobs_in_all (slot ∷ later)) (jobs_in_all (slot ∷ with_job place job later)) (length slot.jobs) (jobs_in_all later) (jobs_in_all (with_job place job later))
-        (sum_by-cons count slot later) (sum_by-cons count slot (with_job place job later)) (one_given place job later)
+    (sum_by-cons count slot later) (sum_by-cons count slot (with_job place job later)) (one_given place job later)
 
 still_fewer : (all all' counted counted' : ℕ) → all ≤ counted → counted' ≡ counted + 1 → all' ≤ all + 1 → all' ≤ counted'
 still_fewer all all' counted counted' within more one = omega (arith, within, more, one)

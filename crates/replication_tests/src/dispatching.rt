@@ -47,12 +47,7 @@ fn replicator_of(rt: &impl Abort, alloc: Global, view: View) -> Replicator<MemOu
 }
 
 // A replicator that reads by the next of these views of what the relay publishes.
-fn next_slot(
-    rt: &impl Abort,
-    alloc: Global,
-    relay: &Relay,
-    views: &mut Views,
-) -> Replicator<MemOut>
+fn next_slot(rt: &impl Abort, alloc: Global, relay: &Relay, views: &mut Views) -> Replicator<MemOut>
     requires { All (IsNew (book_of relay.now.publisher) TERMS) (views_of views.old) }
     ensures views { All (IsNew (book_of relay.now.publisher) TERMS) (views_of views.new) }
     ensures publisher { book_of relay.now.publisher ≡ publisher_of (view_of result) }

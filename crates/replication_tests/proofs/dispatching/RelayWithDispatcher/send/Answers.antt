@@ -1,11 +1,9 @@
 use Rattle.std.proofs.Common.{◌≡◌, ◌∙◌, sym, ap, subst}
 use Rattle.std.specs.List.{All}
-use Rattle.amt_ports.specs.declared.memory.out.MemOut.{MemOut}
 use Rattle.published_table.specs.Publishers.{book_of}
 use Rattle.published_table.specs.Views.{note_publisher, publisher_of}
 use Rattle.replication_workers.specs.Dispatchers.{slots_of}
 use Rattle.replication_workers.specs.Replicators.{view_of}
-use Rattle.replication_workers.specs.SlotStates.{SlotState}
 use Rattle.replication_tests.proofs.Dispatched.{All-with_job, few_given, still_counted}
 use Rattle.replication_tests.proofs.dispatching.RelayWithDispatcher.send.Goals as goal
 
