@@ -1,5 +1,5 @@
 -- What octets are taken for.
-use Rattle.std.proofs.Common.{◌≡◌, ◌≢◌, ◌⊎◌, ℕ, ◌<◌, ◌≤◌, List, length, Option, None, Some, Result, Ok, Err, IfOk, IfErr, IsErrOf, inl, inr, refl, sym, subst, ap, arith, ◌∙◌}
+use Rattle.std.proofs.Common.{◌≡◌, ◌⊎◌, ℕ, ◌<◌, ◌≤◌, List, length, Option, None, Some, Result, Ok, Err, IfOk, IfErr, IsErrOf, inl, inr, refl, sym, subst, ap, arith, ◌∙◌}
 use Rattle.amt_config.specs.Relay.{IsRelayFault, IsRelayFile}
 use Rattle.amt_config.specs.declared.config.RelayConfig.{RelayConfig}
 use Rattle.amt_config.specs.declared.fault.ConfigFault.{ConfigFault}
@@ -8,7 +8,7 @@ use Rattle.amt_ports.specs.Contents.{HasAtLeast, IsContent}
 use Rattle.amt_values.specs.declared.bytes.TheConstants.{INPUT_LIMIT}
 use Rattle.relay_command.specs.declared.fault.RelayFault.{RelayFault}
 use Rattle.relay_command.specs.declared.fault.RelayFault.TheVariants.{Memory, NotOpened, NotRead, Settings, TooLong}
-use Rattle.relay_command.specs.Reading.{BlamesNoFile, Decides, IsConfigured, IsFaultIn, IsFaultOfReading, IsMisconfigured, IsOverlong, IsUnread, TellsFault, fault_by}
+use Rattle.relay_command.specs.Reading.{BlamesNoFile, Decides, IsConfigured, IsFaultIn, IsFaultOfReading, IsOverlong, IsUnread, TellsFault, fault_by}
 
 -- more octets than the limit were seen
 pub overlong_by : (content : Option (List ℕ)) (seen : ℕ) → 16777216 < seen → HasAtLeast content seen → IsOverlong content

@@ -1,12 +1,11 @@
 -- The plan of a settings file and a command is lawful, and there is room for what comes back.
-use Rattle.std.proofs.Common.{◌≡◌, ◌⊎◌, ℕ, ◌<◌, ◌≤◌, ◌*◌, List, codes, Option, None, Some, unwrap_or, inl, inr, refl, subst, sym, ap, arith, ◌∙◌}
-use Rattle.std.specs.Int.{IsInRange}
+use Rattle.std.proofs.Common.{◌≡◌, ℕ, ◌≤◌, List, codes, Option, None, Some, unwrap_or, inl, inr, subst, sym, ap, arith, ◌∙◌}
 use Rattle.toml.specs.Data.{Members}
 use Rattle.relay_machine.specs.Settings.{AreLawfulSettings}
 use Rattle.relay_machine.specs.declared.number_key.NumberRange.{NumberRange}
 use Rattle.relay_serving.specs.Plans.{IsLawfulPlan}
 use Rattle.amt_config.specs.Key.{HasWholeNumber}
-use Rattle.amt_config.specs.Relay.{IsRelayFile, rotate_range, settings_of, workers_range}
+use Rattle.amt_config.specs.Relay.{rotate_range, settings_of, workers_range}
 use Rattle.amt_config.specs.declared.config.RelayConfig.{RelayConfig}
 use Rattle.amt_live.specs.Sets.{HasRoom, less_room, more_room}
 use Rattle.relay_command.specs.Plans.{AreTurns, AreWorkers, plan_by}

@@ -1,5 +1,5 @@
 -- A run on devices that were opened and given back, put together.
-use Rattle.std.proofs.Common.{◌≡◌, ℕ, List, length, Option, IsSome, Some, sym, subst, ap, ◌∙◌}
+use Rattle.std.proofs.Common.{◌≡◌, ℕ, List, length, Option, IsSome, sym, subst, ◌∙◌}
 use Rattle.amt_config.specs.Relay.{settings_of}
 use Rattle.amt_config.specs.declared.config.RelayConfig.{RelayConfig}
 use Rattle.amt_live.specs.Sets.{TakesFirst, less_room, more_room}

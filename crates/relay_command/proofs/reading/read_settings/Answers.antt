@@ -1,4 +1,4 @@
-use Rattle.std.proofs.Common.{Ok, Err}
+use Rattle.std.proofs.Common.{Err}
 use Rattle.relay_command.specs.Reading.{IsFaultIn, IsFaultOfReading}
 use Rattle.relay_command.proofs.Deciding.{configured_by, decided, fault_is, fault_of_reading, fault_told_by, of_file, undecided}
 use Rattle.relay_command.proofs.reading.read_settings.Goals as goal

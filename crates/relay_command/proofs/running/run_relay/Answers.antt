@@ -1,4 +1,4 @@
-use Rattle.std.proofs.Common.{◌≡◌, Ok, Err, inl, inr, refl, sym, subst, ap}
+use Rattle.std.proofs.Common.{Ok, Err, inl, inr, refl, sym, subst, ap}
 use Rattle.std.proofs.Math.Logic.{∥∥₁_map}
 use Rattle.amt_live.specs.declared.live.OpenFault.{OpenFault}
 use Rattle.relay_serving.specs.Plans.{IsLawfulPlan}
