@@ -1,5 +1,5 @@
 -- What a status and a line show of the answer of a run over files and devices.
-use Rattle.std.proofs.Common.{◌≡◌, ◌≢◌, ◌⊎◌, ℕ, List, Option, Result, Err, IsErrOf, inl, inr, refl, sym, subst, ◌∙◌, arith}
+use Rattle.std.proofs.Common.{◌≡◌, ◌⊎◌, ℕ, List, Option, Result, Err, inl, inr, refl, sym, subst, ◌∙◌, arith}
 use Rattle.amt_config.specs.declared.fault.ConfigFault.{ConfigFault}
 use Rattle.relay_command.specs.Texts.{settings_line}
 use Rattle.relay_command.specs.declared.fault.RelayFault.{RelayFault}

@@ -4,7 +4,7 @@ use Rattle.amt_ports.specs.Reading.{TakesAll, TakesMore}
 use Rattle.amt_values.specs.declared.bytes.TheConstants.{INPUT_LIMIT}
 use Rattle.amt_ports.proofs.Taken.{TakesAll-told, TakesMore-told}
 use Rattle.amt_command.specs.declared.ending.Ending.{Ending}
-use Rattle.amt_command.specs.declared.ending.Ending.TheVariants.{Difference, Fault, LinkFault, RandomFault, ReadFault, TooLong, Usage, WriteFault}
+use Rattle.amt_command.specs.declared.ending.Ending.TheVariants.{Difference, Fault, LinkFault, RandomFault, ReadFault, Usage, WriteFault}
 use Rattle.amt_command.specs.Ending.{EndsReading, TellsWhy, status_of}
 use Rattle.amt_command.specs.Status.{Decides}
 use Rattle.amt_command.specs.Task.{HasOneValue, IsDifferenceText, IsFaultText, IsInput, Task, Writes, reading}
