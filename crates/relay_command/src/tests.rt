@@ -1,5 +1,8 @@
 //! The texts of reports and of the faults of settings files.
 
+ghost use Rattle.std.specs.Prelude.{◌≢◌};
+ghost use Rattle.relay_command.specs.Texts.{IsDone};
+
 use crate::{report_text, settings_line};
 use amt_config::ConfigFault;
 use amt_values::Bytes;
@@ -43,12 +46,9 @@ const NOTHING: ServeReport = ServeReport {
     apart: 0,
 };
 
-fn is_reported(
-    rt: &impl Abort,
-    alloc: Global,
-    report: &ServeReport,
-    text: &str,
-) -> Result<(), Fail> {
+fn is_reported(rt: &impl Abort, alloc: Global, report: &ServeReport, text: &str) -> Result<(), Fail>
+    requires { IsDone report.now.end }
+{
     let written = report_text(alloc, report)?;
     assert_eq!(rt; written.as_slice(), text.as_bytes());
     Ok(())
@@ -71,7 +71,9 @@ fn reports(rt: HostRuntime) -> Result<(), Fail> {
     )
 }
 
-fn is_told(rt: &impl Abort, alloc: Global, fault: &ConfigFault, line: &str) -> Result<(), Fail> {
+fn is_told(rt: &impl Abort, alloc: Global, fault: &ConfigFault, line: &str) -> Result<(), Fail>
+    requires { fault.now ≢ ConfigFault.Memory }
+{
     let written = settings_line(alloc, fault)?;
     assert_eq!(rt; written.as_slice(), line.as_bytes());
     Ok(())
