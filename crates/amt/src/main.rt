@@ -1,12 +1,15 @@
-//! The program `amt`: the command over standard input, output and error.
+//! The program `amt`: the command over standard input, output and error, the machine's files, and its
+//! sockets, clock, random words and threads.
 //!
-//! Contract: it ends with the status that `amt_command::amt_exit` answers for its words and streams.
+//! Contract: it ends with the status that `amt_command::amt_exit` answers for its words, streams
+//! and devices.
 //! It knows no format and no protocol.
 //! No standard.
 #![tactic(auto)]
 
 use amt_command::{Exit, amt_exit, exit_without_memory};
-use amt_ports::{ReaderSource, WriterSink};
+use amt_live::HostLive;
+use amt_ports::{HostFiles, ReaderSource, WriterSink};
 use std::io::ErrorKind;
 use std::rt::Env;
 use std::{env, io};
@@ -22,8 +25,10 @@ fn words(rt: &(impl Env + AllocGlobal)) -> io::Result<Vec<String>> {
 
 fn main(rt: HostRuntime) -> Exit {
     let mut input = ReaderSource::new(rt.stdin());
+    let mut files = HostFiles::new(rt);
     let mut out = WriterSink::new(rt.stdout());
     let mut err = WriterSink::new(rt.stderr());
+    let mut live = HostLive::new(rt, rt.alloc());
     let words = match words(&rt) {
         Ok(words) => words,
         Err(error) if error.kind() == ErrorKind::OutOfMemory => {
@@ -32,5 +37,14 @@ fn main(rt: HostRuntime) -> Exit {
         // Words that can't be read, as those that aren't UTF-8, are no line of the command.
         Err(_) => Vec::new(rt.alloc()),
     };
-    amt_exit(rt.alloc(), &words, &mut input, &mut out, &mut err)
+    amt_exit(
+        &rt,
+        rt.alloc(),
+        &words,
+        &mut input,
+        &mut files,
+        &mut out,
+        &mut err,
+        &mut live,
+    )
 }

@@ -16,10 +16,10 @@ use Rattle.gateway_script.specs.Script.{gateway_kind}
 use Rattle.pair_script.proofs.Lawful.{pair_kind_lawful}
 use Rattle.pair_script.specs.Script.{pair_kind}
 use Rattle.amt_words.specs.declared.command.Command.{Command}
-use Rattle.amt_words.specs.declared.command.Command.TheVariants.{Dump, Load, Replay, Vectors}
+use Rattle.amt_words.specs.declared.command.Command.TheVariants.{Dump, Load, Replay, Vectors, Relay as RelayServing}
 use Rattle.amt_words.specs.declared.command.Replayable.TheVariants.{Gateway, Pair, Relay}
 use Rattle.amt_words.specs.Line.{IsAccepted, IsCommandLine}
-use Rattle.amt_words.specs.Usage.{dump_usage, load_usage, replay_usage, vectors_usage}
+use Rattle.amt_words.specs.Usage.{dump_usage, load_usage, relay_usage, replay_usage, vectors_usage}
 use Rattle.amt_command.specs.Command.{dump_task, vectors_task, work_of}
 use Rattle.amt_command.specs.Task.{HasOneFaultFor, HasOneValue, IsErrorBy}
 
@@ -30,6 +30,7 @@ one_value_of (Replay Pair) = one_script pair_kind pair_kind_lawful
 one_value_of Dump = one_dump (one_script dump_kind dump_kind_lawful)
 one_value_of Vectors = report_unique
 one_value_of (Load seed count) = tt
+one_value_of (RelayServing file turns workers) = tt
 
 pub one_fault_of : (command : Command) → HasOneFaultFor (work_of command)
 one_fault_of (Replay Relay) = one_fault relay_kind relay_kind_lawful
@@ -38,6 +39,7 @@ one_fault_of (Replay Pair) = one_fault pair_kind pair_kind_lawful
 one_fault_of Dump = one_fault dump_kind dump_kind_lawful
 one_fault_of Vectors = one_fault vector_kind vector_kind_lawful
 one_fault_of (Load seed count) = tt
+one_fault_of (RelayServing file turns workers) = tt
 
 -- the line of a command is taken by its written definition
 pub accepted : (command : Command) (line : List (List ℕ)) → IsCommandLine command line → IsAccepted line
@@ -46,6 +48,7 @@ accepted (Replay kind) (name ∷ words) is = (0, replay_usage, omega arith, refl
 accepted Dump (name ∷ words) is = (1, dump_usage, omega arith, refl, (is.0, is.1))
 accepted Vectors (name ∷ words) is = (2, vectors_usage, omega arith, refl, (is.0, is.1))
 accepted (Load seed count) (name ∷ words) is = (3, load_usage, omega arith, refl, (is.0, is.1))
+accepted (RelayServing file turns workers) (name ∷ words) is = (4, relay_usage, omega arith, refl, (is.0, is.1))
 
 -- what is said of an error in two clauses
 both : {T : Type 0} (P Q R : ScriptError → Type 0) (r : Result T ScriptError) → ((error : ScriptError) → P error → Q error → R error)

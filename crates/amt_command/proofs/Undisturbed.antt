@@ -4,7 +4,7 @@ use Rattle.amt_ports.specs.Reading.{TakesAll, TakesMore}
 use Rattle.amt_values.specs.declared.bytes.TheConstants.{INPUT_LIMIT}
 use Rattle.amt_ports.proofs.Taken.{TakesAll-told, TakesMore-told}
 use Rattle.amt_command.specs.declared.ending.Ending.{Ending}
-use Rattle.amt_command.specs.declared.ending.Ending.TheVariants.{Difference, Fault, ReadFault, TooLong, Usage, WriteFault}
+use Rattle.amt_command.specs.declared.ending.Ending.TheVariants.{Difference, Fault, LinkFault, RandomFault, ReadFault, TooLong, Usage, WriteFault}
 use Rattle.amt_command.specs.Ending.{EndsReading, TellsWhy, status_of}
 use Rattle.amt_command.specs.Status.{Decides}
 use Rattle.amt_command.specs.Task.{HasOneValue, IsDifferenceText, IsFaultText, IsInput, Task, Writes, reading}
@@ -18,10 +18,9 @@ more_told : (left left' : Option (List ℕ)) (bytes : List ℕ) → left ≡ Som
 more_told left left' bytes told short more =
     let long = TakesMore-told INPUT_LIMIT bytes left' (subst (λ (l : Option (List ℕ)). TakesMore INPUT_LIMIT l left') told more) in absurd (omega (arith, long, short))
 
-module _ {X : Type 0} (task : Task X) (one : HasOneValue (reading X task)) (left left' written written' : Option (List ℕ)) (Same : Type 0)
-    (r : Result (Unit {0}) Ending) (ends : EndsReading task left left' written written' Same r)
+module _ {X : Type 0} (task : Task X) (one : HasOneValue (reading X task)) (left left' : Option (List ℕ)) (reads reads' : ℕ) (written written' : Option (List ℕ)) (Same : Type 0)
+    (r : Result (Unit {0}) Ending) (ends : EndsReading task left left' reads reads' written written' Same r)
     (usage : IsErrOf r Usage → ⊥) (read : IsErrOf r ReadFault → ⊥) (write : IsErrOf r WriteFault → ⊥)
-    (long : IsErrOf r TooLong → TakesMore INPUT_LIMIT left left')
     (bytes : List ℕ) (told : left ≡ Some bytes) where
   -- what was read is what the octets are read as, within the limit
   meant : (value : X) → IsInput task left left' value → task.Reads value bytes
@@ -49,6 +48,12 @@ module _ {X : Type 0} (task : Task X) (one : HasOneValue (reading X task)) (left
   why_difference : (line : List ℕ) → IsErrOf r (Difference line) → IsDifferenceText task left left' line
   why_difference line is = on_error (TellsWhy task left left') r (Difference line) ends.why is
 
+  no_link : IsErrOf r LinkFault → ⊥
+  no_link is = on_error (TellsWhy task left left') r LinkFault ends.why is
+
+  no_random : IsErrOf r RandomFault → ⊥
+  no_random is = on_error (TellsWhy task left left') r RandomFault ends.why is
+
   writes : IsOk r → Writes task left left' written written'
   writes ok = on_done r ends.done ok
 
@@ -61,10 +66,12 @@ module _ {X : Type 0} (task : Task X) (one : HasOneValue (reading X task)) (left
         (λ line is. absurd (nothing line (why_fault line is) value reads))
         (λ is. absurd (read is))
         (λ is. absurd (write is))
+        (λ is. absurd (no_link is))
         (λ is. inr (ap status_of is))
-        (λ is. absurd (more_told left left' bytes told few (long is)))
+        (λ is. absurd (more_told left left' bytes told few (ends.too_long is)))
         (λ line is. let told_difference = why_difference line is in
-        absurd (agrees_or_differs value told_difference.value told_difference.difference reads (meant told_difference.value told_difference.input) agrees told_difference.differs));
+        absurd (agrees_or_differs value told_difference.value told_difference.difference reads (meant told_difference.value told_difference.input) agrees told_difference.differs))
+        (λ is. absurd (no_random is));
     differing = λ value difference few reads differs.
         by_ending r
         (λ ok. let done = writes ok in absurd (agrees_or_differs done.value value difference (meant done.value done.input) reads done.agrees differs))
@@ -72,9 +79,11 @@ module _ {X : Type 0} (task : Task X) (one : HasOneValue (reading X task)) (left
         (λ line is. absurd (nothing line (why_fault line is) value reads))
         (λ is. absurd (read is))
         (λ is. absurd (write is))
+        (λ is. absurd (no_link is))
         (λ is. inr (ap status_of is))
-        (λ is. absurd (more_told left left' bytes told few (long is)))
-        (λ line is. inl (ap status_of is));
+        (λ is. absurd (more_told left left' bytes told few (ends.too_long is)))
+        (λ line is. inl (ap status_of is))
+        (λ is. absurd (no_random is));
     unreadable = λ few none.
         by_ending r
         (λ ok. let done = writes ok in absurd (none done.value (meant done.value done.input)))
@@ -82,9 +91,11 @@ module _ {X : Type 0} (task : Task X) (one : HasOneValue (reading X task)) (left
         (λ line is. inl (ap status_of is))
         (λ is. absurd (read is))
         (λ is. absurd (write is))
+        (λ is. absurd (no_link is))
         (λ is. inr (ap status_of is))
-        (λ is. absurd (more_told left left' bytes told few (long is)))
-        (λ line is. let told_difference = why_difference line is in absurd (none told_difference.value (meant told_difference.value told_difference.input)));
+        (λ is. absurd (more_told left left' bytes told few (ends.too_long is)))
+        (λ line is. let told_difference = why_difference line is in absurd (none told_difference.value (meant told_difference.value told_difference.input)))
+        (λ is. absurd (no_random is));
     overlong = λ many.
         by_ending r
         (λ ok. let done = writes ok in let few = short done.value done.input in absurd (omega (arith, many, few)))
@@ -92,8 +103,10 @@ module _ {X : Type 0} (task : Task X) (one : HasOneValue (reading X task)) (left
         (λ line is. let few = short_fault line (why_fault line is) in absurd (omega (arith, many, few)))
         (λ is. absurd (read is))
         (λ is. absurd (write is))
+        (λ is. absurd (no_link is))
         (λ is. inr (ap status_of is))
         (λ is. inl (ap status_of is))
         (λ line is. let told_difference = why_difference line is in
-        let few = short told_difference.value told_difference.input in absurd (omega (arith, many, few)));
+        let few = short told_difference.value told_difference.input in absurd (omega (arith, many, few)))
+        (λ is. absurd (no_random is));
   }

@@ -12,7 +12,7 @@ use Rattle.amt_vectors.specs.Report.{IsVectorsReport}
 use Rattle.amt_vectors.specs.Texts.{difference_of, suite_text}
 use Rattle.amt_vectors.specs.declared.report.SuiteReport.{SuiteReport}
 use Rattle.amt_words.specs.declared.command.Command.{Command}
-use Rattle.amt_words.specs.declared.command.Command.TheVariants.{Dump, Load, Replay, Vectors}
+use Rattle.amt_words.specs.declared.command.Command.TheVariants.{Dump, Load, Replay, Vectors, Relay as RelayServing}
 use Rattle.amt_words.specs.declared.command.Replayable.TheVariants.{Gateway, Pair, Relay}
 use Rattle.gateway_script.specs.Script.{gateway_kind}
 use Rattle.gateway_script.specs.Texts.{gateway_script_text}
@@ -24,7 +24,7 @@ use Rattle.relay_load.specs.Counts.{summary_of}
 use Rattle.relay_load.specs.Script.{load_script_of}
 use Rattle.relay_load.specs.Texts.{load_text}
 use Rattle.script_lines.specs.Script.{IsFaultAt}
-use Rattle.amt_command.specs.Task.{Task, Work, making, reading, replay_task}
+use Rattle.amt_command.specs.Task.{Task, Work, making, reading, replay_task, serving}
 
 -- relay, gateway and pair scripts, each with the text of its run
 abbrev pub relay_task : Task RelayScript
@@ -52,14 +52,20 @@ work_of (Replay Pair) = reading PairScript pair_task
 work_of Dump = reading (List ℕ) dump_task
 work_of Vectors = reading SuiteReport vectors_task
 work_of (Load seed count) = making (load_text (summary_of (load_script_of seed count)))
+work_of (RelayServing file turns workers) = serving
 
--- done; usage; script; read; write; memory; too long; difference
+-- done; usage; script or settings; read; write; link; memory; too long; difference; random source
 abbrev pub IsStatus : ℕ → Type 0
-IsStatus status = IsTrue (list_any (λ known. known == status) (0 ∷ 2 ∷ 3 ∷ 4 ∷ 5 ∷ 7 ∷ 8 ∷ 9 ∷ []))
+IsStatus status = IsTrue (list_any (λ known. known == status) (0 ∷ 2 ∷ 3 ∷ 4 ∷ 5 ∷ 6 ∷ 7 ∷ 8 ∷ 9 ∷ 10 ∷ []))
 
--- the statuses under which nothing is written: usage; script; read; too long; difference
+-- those of a run that reads its input: done; script; read; write; memory; too long; difference
+abbrev pub IsReadingStatus : ℕ → Type 0
+IsReadingStatus status = IsTrue (list_any (λ known. known == status) (0 ∷ 3 ∷ 4 ∷ 5 ∷ 7 ∷ 8 ∷ 9 ∷ []))
+
+-- the statuses under which nothing is written: usage; script or settings; read; link; too long; difference;
+-- random source
 abbrev pub IsQuiet : ℕ → Type 0
-IsQuiet status = IsTrue (list_any (λ known. known == status) (2 ∷ 3 ∷ 4 ∷ 8 ∷ 9 ∷ []))
+IsQuiet status = IsTrue (list_any (λ known. known == status) (2 ∷ 3 ∷ 4 ∷ 6 ∷ 8 ∷ 9 ∷ 10 ∷ []))
 
 -- what is written to standard error under the other statuses than those of a fault and of a difference;
 -- nothing for status 0
@@ -68,8 +74,10 @@ status_line status =
     if status == 2 then codes "amt: usage: replay relay|gateway|pair, dump, vectors, load SEED N, relay FILE, gateway FILE" ++ (10 ∷ [])
     else (if status == 4 then codes "amt: read fault" ++ (10 ∷ [])
     else (if status == 5 then codes "amt: write fault" ++ (10 ∷ [])
+    else (if status == 6 then codes "amt: link fault" ++ (10 ∷ [])
     else (if status == 7 then codes "amt: out of memory" ++ (10 ∷ [])
-    else (if status == 8 then codes "amt: input too long" ++ (10 ∷ []) else []))))
+    else (if status == 8 then codes "amt: input too long" ++ (10 ∷ [])
+    else (if status == 10 then codes "amt: random source fault" ++ (10 ∷ []) else []))))))
 
 -- neither the input nor the output failed, by their counts before and after
 pub record IsUndisturbed (reads reads' writes writes' : ℕ) : Type 0 where

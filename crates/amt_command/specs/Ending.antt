@@ -4,11 +4,13 @@ use Rattle.std.specs.Io.KnownBytes.{Appends}
 use Rattle.amt_ports.specs.Causes.{Rose}
 use Rattle.amt_ports.specs.Reading.{TakesAtMost, TakesMore}
 use Rattle.amt_values.specs.declared.bytes.TheConstants.{INPUT_LIMIT}
+use Rattle.amt_config.specs.declared.fault.ConfigFault.{ConfigFault}
+use Rattle.relay_command.specs.Texts.{settings_line}
 use Rattle.script_lines.specs.Writing.{WritesPrefix}
 use Rattle.amt_command.specs.declared.ending.Ending.{Ending}
-use Rattle.amt_command.specs.declared.ending.Ending.TheVariants.{Difference, Fault, Memory, ReadFault, TooLong, Usage, WriteFault}
+use Rattle.amt_command.specs.declared.ending.Ending.TheVariants.{Difference, Fault, LinkFault, Memory, RandomFault, ReadFault, TooLong, Usage, WriteFault}
 use Rattle.amt_command.specs.Command.{status_line}
-use Rattle.amt_command.specs.Task.{BeginsToWrite, IsDifferenceText, IsFaultText, Task, Work, Writes, making, reading}
+use Rattle.amt_command.specs.Task.{BeginsToWrite, IsDifferenceText, IsFaultText, Task, Work, Writes, making, reading, serving}
 
 -- the status of an ending that isn't well
 abbrev pub status_of_ending : Ending → ℕ
@@ -16,9 +18,11 @@ status_of_ending Usage = 2
 status_of_ending (Fault line) = 3
 status_of_ending ReadFault = 4
 status_of_ending WriteFault = 5
+status_of_ending LinkFault = 6
 status_of_ending Memory = 7
 status_of_ending TooLong = 8
 status_of_ending (Difference line) = 9
+status_of_ending RandomFault = 10
 
 -- its line on standard error
 abbrev pub line_of_ending : Ending → List ℕ
@@ -36,16 +40,20 @@ abbrev pub line_of : {T : Type 0} → Result T Ending → List ℕ
 line_of (Ok done) = []
 line_of (Err ending) = line_of_ending ending
 
--- where the input has a fault or a difference, the line is that one's
+-- where the input has a fault or a difference, the line is that one's; no link or random source is used
 abbrev pub TellsWhy : {X : Type 0} → Task X → Option (List ℕ) → Option (List ℕ) → Ending → Type 0
 TellsWhy task left left' (Fault line) = IsFaultText task left left' line
 TellsWhy task left left' (Difference line) = IsDifferenceText task left left' line
+TellsWhy task left left' LinkFault = ⊥
+TellsWhy task left left' RandomFault = ⊥
 TellsWhy task left left' ending = Unit {0}
 
 -- How a run that reads its input ends, and what it leaves.
-pub record EndsReading {X : Type 0} (task : Task X) (left left' written written' : Option (List ℕ)) (OutIsSame : Type 0) (result : Result (Unit {0}) Ending) : Type 0 where
+pub record EndsReading {X : Type 0} (task : Task X) (left left' : Option (List ℕ)) (reads reads' : ℕ) (written written' : Option (List ℕ)) (OutIsSame : Type 0) (result : Result (Unit {0}) Ending) : Type 0 where
   pub done : OnOk result (Writes task left left' written written')
   pub why : IfErr result (TellsWhy task left left')
+  pub read : IsErrOf result ReadFault → Rose reads reads'
+  pub too_long : IsErrOf result TooLong → TakesMore INPUT_LIMIT left left'
   pub begun : IsErrOf result WriteFault → BeginsToWrite task left left' written written'
   pub memory : IsErrOf result Memory → OutIsSame ⊎ BeginsToWrite task left left' written written'
 
@@ -57,18 +65,24 @@ pub record EndsMaking (text : List ℕ) (written written' : Option (List ℕ)) (
   pub untouched : InputIsSame
   pub only : IfErr result (λ ending. (ending ≡ WriteFault) ⊎ (ending ≡ Memory))
 
--- how a run of the work ends
-abbrev pub EndsFor : Work → Option (List ℕ) → Option (List ℕ) → Option (List ℕ) → Option (List ℕ) → Type 0 → Type 0 → Result (Unit {0}) Ending → Type 0
-EndsFor (reading X task) left left' written written' OutIsSame InputIsSame result = EndsReading task left left' written written' OutIsSame result
-EndsFor (making text) left left' written written' OutIsSame InputIsSame result = EndsMaking text written written' OutIsSame InputIsSame result
+-- how a run over files and devices ends, and that it leaves its input alone
+pub record EndsServing (InputIsSame : Type 0) (result : Result (Unit {0}) Ending) : Type 0 where
+  pub untouched : InputIsSame
+  pub fault : (line : List ℕ) → IsErrOf result (Fault line) → (fault : ConfigFault) × (line ≡ settings_line fault)
+  pub no_difference : (line : List ℕ) → IsErrOf result (Difference line) → ⊥
 
--- How the devices of such a run fare: a device failed once exactly where the ending says so, by its count of
--- failures, and the input was taken past its limit exactly where the ending says that.
+-- how a run of the work ends
+abbrev pub EndsFor : Work → Option (List ℕ) → Option (List ℕ) → ℕ → ℕ → Option (List ℕ) → Option (List ℕ) → Type 0 → Type 0 → Result (Unit {0}) Ending → Type 0
+EndsFor (reading X task) left left' reads reads' written written' OutIsSame InputIsSame result =
+    EndsReading task left left' reads reads' written written' OutIsSame result
+EndsFor (making text) left left' reads reads' written written' OutIsSame InputIsSame result = EndsMaking text written written' OutIsSame InputIsSame result
+EndsFor serving left left' reads reads' written written' OutIsSame InputIsSame result = EndsServing InputIsSame result
+
+-- How the input and the output of a run fare: the output failed once exactly where the ending says so, by its
+-- count of failures, and the input failed, or was taken past its limit, only where it says that.
 pub record LeavesDevices {S O : Type 0} (left : S → Option (List ℕ)) (reads : S → ℕ) (writes : O → ℕ) (input input' : S) (out out' : O) (result : Result (Unit {0}) Ending) : Type 0 where
-  pub read : IsErrOf result ReadFault → Rose (reads input) (reads input')
   pub write : IsErrOf result WriteFault → Rose (writes out) (writes out')
   pub calm_input : (IsErrOf result ReadFault → ⊥) → reads input' ≡ reads input
   pub calm_output : (IsErrOf result WriteFault → ⊥) → writes out' ≡ writes out
-  pub too_long : IsErrOf result TooLong → TakesMore INPUT_LIMIT (left input) (left input')
   pub within : (IsErrOf result TooLong → ⊥) → TakesAtMost INPUT_LIMIT (left input) (left input')
   pub quiet : IfErr result (λ ending. ending ≢ WriteFault → ending ≢ Memory → out' ≡ out)

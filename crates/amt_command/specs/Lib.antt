@@ -1,5 +1,6 @@
 pub mod Command
 pub mod Ending
 pub mod Exit
+pub mod Running
 pub mod Status
 pub mod Task

@@ -4,11 +4,13 @@ use Rattle.std.specs.Io.KnownBytes.{Appends}
 use Rattle.amt_ports.specs.Causes.{Rose}
 use Rattle.amt_ports.specs.Reading.{TakesAtMost, TakesMore}
 use Rattle.amt_values.specs.declared.bytes.TheConstants.{INPUT_LIMIT}
+use Rattle.amt_config.specs.declared.fault.ConfigFault.{ConfigFault}
+use Rattle.relay_command.specs.Texts.{settings_line}
 use Rattle.amt_words.specs.Line.{IsAccepted, IsCommandLine}
 use Rattle.amt_words.specs.declared.command.Command.{Command}
 use Rattle.script_lines.specs.Writing.{WritesPrefix}
-use Rattle.amt_command.specs.Command.{IsQuiet, IsStatus, IsUndisturbed, status_line, work_of}
-use Rattle.amt_command.specs.Task.{BeginsToWrite, IsDifferenceText, IsFaultText, Task, Work, Writes, making, reading}
+use Rattle.amt_command.specs.Command.{IsQuiet, IsReadingStatus, IsStatus, IsUndisturbed, status_line, work_of}
+use Rattle.amt_command.specs.Task.{BeginsToWrite, IsDifferenceText, IsFaultText, Task, Work, Writes, making, reading, serving}
 
 -- where nothing disturbs a run that reads its input, the octets of the input alone decide how it ends, unless
 -- memory runs out: these octets, which the input tells
@@ -23,11 +25,14 @@ pub record Decides {X : Type 0} (task : Task X) (bytes : List ℕ) (status : ℕ
 pub record AnswersReading {X : Type 0} (task : Task X) {S O : Type 0} (left : S → Option (List ℕ)) (reads : S → ℕ) (written : O → Option (List ℕ)) (writes : O → ℕ) (input input' : S) (out out' : O) (status : ℕ) : Type 0 where
   pub done : status ≡ 0 → Writes task (left input) (left input') (written out) (written out')
   pub fault : status ≡ 3 → (text : List ℕ) × IsFaultText task (left input) (left input') text
+  pub read : status ≡ 4 → Rose (reads input) (reads input')
+  pub too_long : status ≡ 8 → TakesMore INPUT_LIMIT (left input) (left input')
   pub difference : status ≡ 9 → (text : List ℕ) × IsDifferenceText task (left input) (left input') text
   pub begun : status ≡ 5 → BeginsToWrite task (left input) (left input') (written out) (written out')
   pub memory : status ≡ 7 → (out' ≡ out) ⊎ BeginsToWrite task (left input) (left input') (written out) (written out')
   pub decides : (bytes : List ℕ) → left input ≡ Some bytes → IsUndisturbed (reads input) (reads input') (writes out) (writes out')
       → Decides task bytes status
+  pub only : IsReadingStatus status
 
 -- what the status says of a run that writes a text of its words alone
 pub record AnswersMaking (text : List ℕ) {S O : Type 0} (reads : S → ℕ) (written : O → Option (List ℕ)) (writes : O → ℕ) (input input' : S) (out out' : O) (status : ℕ) : Type 0 where
@@ -38,12 +43,14 @@ pub record AnswersMaking (text : List ℕ) {S O : Type 0} (reads : S → ℕ) (w
   pub only : (status ≡ 0) ⊎ ((status ≡ 5) ⊎ (status ≡ 7))
   pub complete : IsUndisturbed (reads input) (reads input') (writes out) (writes out') → (status ≡ 0) ⊎ (status ≡ 7)
 
--- what the status says of a run of the work
+-- What the status says of a run of the work. Of a run over files and devices the clause `relays` of `amt` says
+-- the rest.
 abbrev pub AnswersFor : Work → {S O : Type 0} → (S → Option (List ℕ)) → (S → ℕ) → (O → Option (List ℕ)) → (O → ℕ) → S → S → O → O → ℕ → Type 0
 AnswersFor (reading X task) left reads written writes input input' out out' status =
     AnswersReading task left reads written writes input input' out out' status
 AnswersFor (making text) left reads written writes input input' out out' status =
     AnswersMaking text reads written writes input input' out out' status
+AnswersFor serving left reads written writes input input' out out' status = input' ≡ input
 
 -- The status of a run over these arguments, with its input and output before and after. The functions are
 -- the octets that are left and were written, where a device tells them, and how often it failed.
@@ -54,26 +61,26 @@ pub record Answers {S O : Type 0} (left : S → Option (List ℕ)) (reads : S �
   pub refused : (IsAccepted line → ⊥) → (status ≡ 2) ⊎ (status ≡ 7)
   pub of_command : (command : Command) → IsCommandLine command line
       → AnswersFor (work_of command) left reads written writes input input' out out' status
-  pub read : status ≡ 4 → Rose (reads input) (reads input')
   pub write : status ≡ 5 → Rose (writes out) (writes out')
   pub calm_input : status ≢ 4 → reads input' ≡ reads input
   pub calm_output : status ≢ 5 → writes out' ≡ writes out
-  pub too_long : status ≡ 8 → TakesMore INPUT_LIMIT (left input) (left input')
   pub within : (status ≡ 8 → ⊥) → TakesAtMost INPUT_LIMIT (left input) (left input')
   pub statuses : IsStatus status
   -- what is left alone
   pub untouched : ((command : Command) → IsCommandLine command line → ⊥) → (input' ≡ input) × (out' ≡ out)
   pub quiet : IsQuiet status → out' ≡ out
 
--- the line that tells a fault of the input; no run without input has one
+-- the line that tells a fault of the input or of the settings; no run that makes its text has one
 abbrev pub IsFaultOf : Work → Option (List ℕ) → Option (List ℕ) → List ℕ → Type 0
 IsFaultOf (reading X task) left left' text = IsFaultText task left left' text
 IsFaultOf (making made) left left' text = ⊥
+IsFaultOf serving left left' text = (fault : ConfigFault) × (text ≡ settings_line fault)
 
 -- the line that tells a difference
 abbrev pub IsDifferenceOf : Work → Option (List ℕ) → Option (List ℕ) → List ℕ → Type 0
 IsDifferenceOf (reading X task) left left' text = IsDifferenceText task left left' text
 IsDifferenceOf (making made) left left' text = ⊥
+IsDifferenceOf serving left left' text = ⊥
 
 -- the line of a run of the work with this status
 pub record IsLineOfStatus (work : Work) (left left' : Option (List ℕ)) (status : ℕ) (text : List ℕ) : Type 0 where

@@ -27,10 +27,11 @@ abbrev pub replay_task : {S W : Type 0} → Kind S W → (W → List ℕ) → Ta
 replay_task kind text = record { Reads = Spells kind; HasFault = IsFaultAt kind; text = text; difference = λ script. None }
 
 -- What a command does: it reads its input as something and writes a text of it, or it writes a text that its
--- words alone make.
+-- words alone make, or it serves over files and devices and leaves its input alone.
 pub data Work : Type 1 where
   reading : (X : Type 0) → Task X → Work
   making : List ℕ → Work
+  serving : Work
 
 -- the error is the fault of the octets, which can't be read; out of memory says nothing
 abbrev pub IsErrorBy : {X : Type 0} → Task X → List ℕ → ScriptError → Type 0
@@ -91,9 +92,11 @@ pub record IsDifferenceText {X : Type 0} (task : Task X) (left left' : Option (L
 abbrev pub HasOneValue : Work → Type 0
 HasOneValue (reading X task) = (bytes : List ℕ) (one other : X) → task.Reads one bytes → task.Reads other bytes → one ≡ other
 HasOneValue (making text) = Unit {0}
+HasOneValue serving = Unit {0}
 
 abbrev pub HasOneFaultFor : Work → Type 0
 HasOneFaultFor (reading X task) =
     (bytes : List ℕ) (line line' : ℕ) (reason reason' : Reason) → task.HasFault line reason bytes → task.HasFault line' reason' bytes
     → (line ≡ line') × (reason ≡ reason')
 HasOneFaultFor (making text) = Unit {0}
+HasOneFaultFor serving = Unit {0}

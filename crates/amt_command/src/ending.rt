@@ -9,18 +9,22 @@ use amt_values::Bytes;
 pub enum Ending {
     /// The words are no command.
     Usage,
-    /// The input can't be read; with the line that tells its first bad line and the reason.
+    /// The input or the settings can't be read; with the line that tells what is bad in it.
     Fault(Bytes),
-    /// A read of the input failed.
+    /// A read of the input or of a file failed.
     ReadFault,
     /// A write of the output failed.
     WriteFault,
+    /// Devices weren't opened, a receiving from the link or the feed failed, or the start of a worker did.
+    LinkFault,
     /// Out of memory, wherever it came.
     Memory,
-    /// The input has more octets than are taken.
+    /// The input or a file has more octets than are taken.
     TooLong,
     /// The input was read and isn't as it should be; with the line that tells the difference.
     Difference(Bytes),
+    /// A random word couldn't be drawn.
+    RandomFault,
 }
 
 impl Ending {
@@ -34,9 +38,11 @@ impl Ending {
             Ending::Fault(_) => 3,
             Ending::ReadFault => 4,
             Ending::WriteFault => 5,
+            Ending::LinkFault => 6,
             Ending::Memory => 7,
             Ending::TooLong => 8,
             Ending::Difference(_) => 9,
+            Ending::RandomFault => 10,
         }
     }
 
@@ -50,9 +56,11 @@ impl Ending {
             Ending::Fault(line) => line.as_slice(),
             Ending::ReadFault => b"amt: read fault\n",
             Ending::WriteFault => b"amt: write fault\n",
+            Ending::LinkFault => b"amt: link fault\n",
             Ending::Memory => b"amt: out of memory\n",
             Ending::TooLong => b"amt: input too long\n",
             Ending::Difference(line) => line.as_slice(),
+            Ending::RandomFault => b"amt: random source fault\n",
         }
     }
 }

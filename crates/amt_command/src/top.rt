@@ -1,25 +1,30 @@
 //! The command: arguments in, status out. It knows devices by their traits alone.
 
-ghost use Rattle.std.specs.Prelude.{◌≡◌, ◌⊎◌, map, string_bytes, IsOk, IsErrOf};
+ghost use Rattle.std.specs.Prelude.{◌≡◌, ◌⊎◌, ℕ, List, Option, map, string_bytes, IsOk, IsErrOf};
 ghost use Rattle.std.specs.Io.KnownBytes.{Appends};
 ghost use Rattle.amt_ports.specs.Causes.{Rose};
 ghost use Rattle.amt_words.specs.Line.{IsAccepted, IsCommandLine, IsWithinLimits};
 ghost use Rattle.amt_words.specs.declared.command.Command.{Command as CommandValue};
+ghost use Rattle.relay_command.specs.Lives.{tells};
 ghost use Rattle.script_lines.specs.Writing.{WritesPrefix};
 ghost use Rattle.amt_command.specs.Command.{work_of};
 ghost use Rattle.amt_command.specs.Ending.{EndsFor, LeavesDevices, status_of, line_of};
 ghost use Rattle.amt_command.specs.Exit.{status_in};
+ghost use Rattle.amt_command.specs.Running.{IsRelayLine, Relays, RelaysAndTells};
 ghost use Rattle.amt_command.specs.Status.{Answers, Reports, ReportsMemory};
 ghost use Rattle.amt_command.specs.Task.{HasOneFaultFor, HasOneValue};
 
 use crate::ending::Ending;
 use crate::exit::Exit;
+use crate::relay::serve_file;
 use crate::running::{run_task, write_load};
 use crate::scripts::{GatewayReplay, PairReplay, RelayReplay};
 use crate::texts::{Dump, Vectors};
-use amt_ports::{Sink, Source, write_all_own};
+use amt_live::Live;
+use amt_ports::{Files, Sink, Source, write_all_own};
 use amt_words::{Command, Replayable, WordsFault, read_words};
 use std::alloc::Global;
+use std::sync::Wait;
 
 fn replay<S: Source, O: Sink>(
     alloc: Global,
@@ -29,7 +34,8 @@ fn replay<S: Source, O: Sink>(
 ) -> Result<(), Ending>
     ensures no_usage { IsErrOf result Ending.Usage → ⊥ }
     ensures ends { EndsFor (work_of (CommandValue.Replay kind)) (S.left input.old) (S.left input.new)
-        (O.written out.old) (O.written out.new) (out.new ≡ out.old) (input.new ≡ input.old) result }
+        (S.faults input.old) (S.faults input.new) (O.written out.old) (O.written out.new)
+        (out.new ≡ out.old) (input.new ≡ input.old) result }
     ensures devices { LeavesDevices S.left S.faults O.faults input.old input.new out.old out.new
         result }
 {
@@ -40,16 +46,26 @@ fn replay<S: Source, O: Sink>(
     }
 }
 
-fn run_command<S: Source, O: Sink>(
+fn run_command<S: Source, F: Files, O: Sink, V: Live>(
+    rt: &impl Wait,
     alloc: Global,
     command: Command,
     input: &mut S,
+    files: &mut F,
     out: &mut O,
+    live: &mut V,
 ) -> Result<(), Ending>
     requires { IsWithinLimits command }
     ensures no_usage { IsErrOf result Ending.Usage → ⊥ }
+    ensures relays { (file : List ℕ) (turns : ℕ) (workers : Option ℕ) → command ≡ CommandValue.Relay file turns workers
+        → Relays F.Files (tells V.Live V.L.Link V.F.Feed V.C.Clock V.W.Words V.O.OutLink V.P.starts V.P.faults)
+        file turns workers files.old files.new live.old live.new O.written out.old out.new
+        (status_of result) (line_of result) }
+    ensures unused { ((file : List ℕ) (turns : ℕ) (workers : Option ℕ) → command ≡ CommandValue.Relay file turns workers → ⊥)
+        → (files.new ≡ files.old) × (live.new ≡ live.old) }
     ensures ends { EndsFor (work_of command) (S.left input.old) (S.left input.new)
-        (O.written out.old) (O.written out.new) (out.new ≡ out.old) (input.new ≡ input.old) result }
+        (S.faults input.old) (S.faults input.new) (O.written out.old) (O.written out.new)
+        (out.new ≡ out.old) (input.new ≡ input.old) result }
     ensures devices { LeavesDevices S.left S.faults O.faults input.old input.new out.old out.new
         result }
 {
@@ -58,23 +74,39 @@ fn run_command<S: Source, O: Sink>(
         Command::Dump => run_task::<Dump, S, O>(alloc, input, out),
         Command::Vectors => run_task::<Vectors, S, O>(alloc, input, out),
         Command::Load { seed, count } => write_load(alloc, seed, count, input, out),
+        Command::Relay {
+            file,
+            turns,
+            workers,
+        } => serve_file(rt, alloc, file.as_str(), turns, workers, files, out, live),
     }
 }
 
-fn run<S: Source, O: Sink>(
+fn run<S: Source, F: Files, O: Sink, V: Live>(
+    rt: &impl Wait,
     alloc: Global,
     words: &[String],
     input: &mut S,
+    files: &mut F,
     out: &mut O,
+    live: &mut V,
 ) -> Result<(), Ending>
     ensures usage { IsErrOf result Ending.Usage → IsAccepted (map string_bytes words.now) → ⊥ }
     ensures words { (IsErrOf result Ending.Usage ⊎ IsErrOf result Ending.Memory) ⊎ ((command : CommandValue) × IsCommandLine command (map string_bytes words.now)) }
     ensures untouched { ((command : CommandValue) → IsCommandLine command (map string_bytes words.now) → ⊥)
         → (input.new ≡ input.old) × (out.new ≡ out.old) }
 
+    ensures relays { (file : List ℕ) (turns : ℕ) (workers : Option ℕ)
+        → IsCommandLine (CommandValue.Relay file turns workers) (map string_bytes words.now)
+        → Relays F.Files (tells V.Live V.L.Link V.F.Feed V.C.Clock V.W.Words V.O.OutLink V.P.starts V.P.faults)
+        file turns workers files.old files.new live.old live.new O.written out.old out.new
+        (status_of result) (line_of result) }
+    ensures unused { ¬ IsRelayLine (map string_bytes words.now)
+        → (files.new ≡ files.old) × (live.new ≡ live.old) }
     ensures of_command { (command : CommandValue) → IsCommandLine command (map string_bytes words.now)
-        → EndsFor (work_of command) (S.left input.old) (S.left input.new) (O.written out.old)
-        (O.written out.new) (out.new ≡ out.old) (input.new ≡ input.old) result }
+        → EndsFor (work_of command) (S.left input.old) (S.left input.new)
+        (S.faults input.old) (S.faults input.new) (O.written out.old) (O.written out.new)
+        (out.new ≡ out.old) (input.new ≡ input.old) result }
     ensures devices { LeavesDevices S.left S.faults O.faults input.old input.new out.old out.new
         result }
 {
@@ -83,7 +115,7 @@ fn run<S: Source, O: Sink>(
         Err(WordsFault::Usage) => return Err(Ending::Usage),
         Err(WordsFault::Memory) => return Err(Ending::Memory),
     };
-    match run_command(alloc, command, input, out) {
+    match run_command(rt, alloc, command, input, files, out, live) {
         Ok(()) => Ok(()),
         Err(ending) => Err(ending),
     }
@@ -113,44 +145,65 @@ fn report<E: Sink>(ending: &Result<(), Ending>, err: &mut E)
 /// The command `amt`: takes the words after the program's name, and answers the exit status.
 ///
 /// The words are judged first, then the input is read whole, then it is read as what the command reads; only
-/// then is a step taken and something written to `out`. `load` leaves the input alone.
-pub fn amt<S: Source, O: Sink, E: Sink>(
+/// then is a step taken and something written to `out`. `load` and `relay` leave the input alone; `relay`
+/// alone uses the files and the devices of `live`, and writes after its run.
+pub fn amt<S: Source, F: Files, O: Sink, E: Sink, V: Live>(
+    rt: &impl Wait,
     alloc: Global,
     words: &[String],
     input: &mut S,
+    files: &mut F,
     out: &mut O,
     err: &mut E,
+    live: &mut V,
 ) -> u8
     ensures answers { Answers S.left S.faults O.written O.faults
         (map string_bytes words.now) input.old input.new out.old out.new result }
     ensures reports { Reports S.left E.written E.faults (map string_bytes words.now)
         input.old input.new err.old err.new result }
+    ensures relays { (file : List ℕ) (turns : ℕ) (workers : Option ℕ)
+        → IsCommandLine (CommandValue.Relay file turns workers) (map string_bytes words.now)
+        → RelaysAndTells (Relays F.Files (tells V.Live V.L.Link V.F.Feed V.C.Clock V.W.Words V.O.OutLink V.P.starts V.P.faults)
+        file turns workers files.old files.new live.old live.new O.written out.old out.new result)
+        E.written E.faults err.old err.new }
+    ensures unused { ¬ IsRelayLine (map string_bytes words.now)
+        → (files.new ≡ files.old) × (live.new ≡ live.old) }
 
     // The octets of an input are read as one value at most, and have one fault at most.
     ensures one_value { (command : CommandValue) → HasOneValue (work_of command) }
     ensures one_fault { (command : CommandValue) → HasOneFaultFor (work_of command) }
 {
-    let ending = run(alloc, words, input, out);
+    let ending = run(rt, alloc, words, input, files, out, live);
     report(&ending, err);
     status_of(&ending)
 }
 
 /// `amt`, with the status as the one that the process ends with.
-pub fn amt_exit<S: Source, O: Sink, E: Sink>(
+pub fn amt_exit<S: Source, F: Files, O: Sink, E: Sink, V: Live>(
+    rt: &impl Wait,
     alloc: Global,
     words: &[String],
     input: &mut S,
+    files: &mut F,
     out: &mut O,
     err: &mut E,
+    live: &mut V,
 ) -> Exit
     ensures answers { Answers S.left S.faults O.written O.faults
         (map string_bytes words.now) input.old input.new out.old out.new (status_in result) }
     ensures reports { Reports S.left E.written E.faults (map string_bytes words.now)
         input.old input.new err.old err.new (status_in result) }
+    ensures relays { (file : List ℕ) (turns : ℕ) (workers : Option ℕ)
+        → IsCommandLine (CommandValue.Relay file turns workers) (map string_bytes words.now)
+        → RelaysAndTells (Relays F.Files (tells V.Live V.L.Link V.F.Feed V.C.Clock V.W.Words V.O.OutLink V.P.starts V.P.faults)
+        file turns workers files.old files.new live.old live.new O.written out.old out.new
+        (status_in result)) E.written E.faults err.old err.new }
+    ensures unused { ¬ IsRelayLine (map string_bytes words.now)
+        → (files.new ≡ files.old) × (live.new ≡ live.old) }
     ensures one_value { (command : CommandValue) → HasOneValue (work_of command) }
     ensures one_fault { (command : CommandValue) → HasOneFaultFor (work_of command) }
 {
-    Exit::of(amt(alloc, words, input, out, err))
+    Exit::of(amt(rt, alloc, words, input, files, out, err, live))
 }
 
 /// What `amt` answers where memory runs out before there are words.

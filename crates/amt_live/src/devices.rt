@@ -1,6 +1,6 @@
 //! The devices of a run, as one value. It must not know who opens or uses them.
 
-use contract_words::Items;
+use replication_workers::Outs;
 
 /// What a relay runs on: its link, its feed of packets, its clock and random words, one link out for each
 /// slot, and what starts its workers.
@@ -11,6 +11,6 @@ pub struct RelayDevices<L, F, C, W, O, P> {
     pub clock: C,
     pub words: W,
     /// In slot order.
-    pub outs: Items<O>,
+    pub outs: Outs<O>,
     pub spawner: P,
 }

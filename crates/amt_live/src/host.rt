@@ -8,8 +8,7 @@ use amt_ports::{
     open_sockets,
 };
 use amt_values::Peer;
-use contract_words::Items;
-use replication_workers::{Worker, WorkerDone, start_worker};
+use replication_workers::{Outs, Worker, WorkerDone, start_worker};
 use std::alloc::Global;
 use std::net::Net;
 use std::random::RandomSource;
@@ -69,12 +68,10 @@ impl<R: Copy> HostLive<R> {
 }
 
 // An end of the link's socket for each slot.
-fn open_outs(alloc: Global, link: &UdpLink, slots: u32) -> Result<Items<UdpOut>, OpenFault>
+fn open_outs(alloc: Global, link: &UdpLink, slots: u32) -> Result<Outs<UdpOut>, OpenFault>
     ensures { IfOk result (λ outs. length outs ≡ slots) }
 {
-    let Ok(mut outs) = Items::with_room(alloc, slots as usize) else {
-        return Err(OpenFault::Memory);
-    };
+    let mut outs = Outs::new(alloc);
     for slot in 0..slots {
         let Ok(out) = link.worker_end() else {
             return Err(OpenFault::Failed);

@@ -7,7 +7,6 @@
 #![tactic(auto)]
 
 mod asked;
-mod calls;
 mod devices;
 mod host;
 mod live;

@@ -8,11 +8,10 @@ ghost use Rattle.amt_live.specs.Sets.{HasRoom, TakesFirst, fits, less_room, more
 ghost use Rattle.amt_live.specs.declared.asked.Opening.TheVariants.{Relay as AskedRelay};
 
 use crate::asked::{AskedLog, Opening};
-use crate::calls::OpenTally;
 use crate::devices::RelayDevices;
 use crate::live::{Live, OpenFault};
 use crate::returns::Returns;
-use amt_ports::{Clock, Feed, Link, OutLink, Spawner, Words};
+use amt_ports::{CallTally, Clock, Feed, Link, OutLink, Spawner, Words};
 use amt_values::Peer;
 use replication_workers::Worker;
 use std::alloc::Global;
@@ -28,7 +27,7 @@ pub struct MemLive<L, F, C, W, O, P> {
     relays: Vec<RelayDevices<L, F, C, W, O, P>>,
     asked: AskedLog,
     returned: Returns<RelayDevices<L, F, C, W, O, P>>,
-    calls: OpenTally,
+    calls: CallTally,
 }
 
 impl<L, F, C, W, O, P> Model for MemLive<L, F, C, W, O, P> {
@@ -68,7 +67,7 @@ impl<L: Drop, F: Drop, C: Drop, W: Drop, O: Drop, P: Drop> MemLive<L, F, C, W, O
             relays,
             asked: AskedLog::new(alloc),
             returned: Returns::new(alloc),
-            calls: OpenTally::new(calls),
+            calls: CallTally::new(calls),
         }
     }
 
@@ -162,7 +161,7 @@ where
             → self.new.calls.faults ≡ self.old.calls.faults }
 
         ensures listed { Contains self.old.calls.failing (next_count self.old.calls.made)
-            → IsErr result }
+            → IsErrOf result OpenFault.Failed }
         ensures unfit { fits slots self.old.relays ≡ false → IsErr result }
         ensures only { IsErrOf result OpenFault.Failed
             → Contains self.old.calls.failing (next_count self.old.calls.made)
@@ -172,16 +171,19 @@ where
         ensures ok { ¬ IsErrOf result OpenFault.Failed
             → self.new.calls ≡ with_call self.old.calls }
     {
-        let is_listed = self.calls.call();
         let opening = Opening::Relay {
             listen: *listen,
             feed: *feed,
             slots,
         };
-        if self.asked.keep(opening).is_err() {
+        let kept = self.asked.keep(opening);
+        if self.calls.call().is_err() {
+            return Err(OpenFault::Failed);
+        }
+        if kept.is_err() {
             return Err(OpenFault::Memory);
         }
-        if is_listed || !fits(slots, self.relays.as_slice()) {
+        if !fits(slots, self.relays.as_slice()) {
             self.calls.fail();
             return Err(OpenFault::Failed);
         }

@@ -5,8 +5,7 @@ ghost use Rattle.std.specs.Prelude.{None};
 use amt_live::{Live, MemLive, OpenFault, Opening, RelayDevices};
 use amt_ports::{Failed, MemClock, MemFeed, MemLink, MemOut, MemWords, Spawner, Task};
 use amt_values::{Ip, Peer};
-use contract_words::Items;
-use replication_workers::{Worker, WorkerDone};
+use replication_workers::{Outs, Worker, WorkerDone};
 use std::alloc::{AllocError, Global};
 use std::collections::VecDeque;
 use std::sync::Wait;
@@ -49,12 +48,12 @@ type MemSet<R> = RelayDevices<MemLink, MemFeed, MemClock, MemWords, MemOut, AtJo
 
 type MemSets<R> = MemLive<MemLink, MemFeed, MemClock, MemWords, MemOut, AtJoin<R>>;
 
-fn outs_of(alloc: Global, count: usize) -> Result<Items<MemOut>, AllocError> {
-    let mut outs = Items::with_room(alloc, count)?;
+fn outs_of(alloc: Global, count: usize) -> Result<Outs<MemOut>, AllocError> {
+    let mut outs = Vec::with_capacity(alloc, count)?;
     for _ in 0..count {
         outs.push(MemOut::new(alloc))?;
     }
-    Ok(outs)
+    Ok(Outs::from(outs))
 }
 
 fn set_of<R: Drop>(rt: R, alloc: Global, outs: usize) -> Result<MemSet<R>, AllocError> {

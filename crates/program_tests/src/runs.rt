@@ -1,10 +1,15 @@
 //! Runs of the command `amt` in memory, and what they are compared with. It knows no script.
 
+mod untouched;
+
+pub use untouched::{Unopened, no_files, unopened};
+
 use amt_command::*;
 use amt_ports::{MemSink, MemSource};
 use amt_values::Bytes;
 use std::alloc::{AllocError, Global};
 use std::process::Abort;
+use std::sync::Wait;
 
 // The numbers of the calls of input, output and standard error that fail, counted from 1; 0 for none.
 pub type Failing = (u64, u64, u64);
@@ -40,7 +45,22 @@ fn sink(alloc: Global, failing: u64) -> Result<MemSink, AllocError> {
     Ok(MemSink::failing(alloc, vec![in alloc; failing]?))
 }
 
+// The command over words and an input, beside which there is no file and no device.
+pub fn status_of(
+    rt: &impl Wait,
+    alloc: Global,
+    words: &[String],
+    input: &mut MemSource,
+    out: &mut MemSink,
+    err: &mut MemSink,
+) -> u8 {
+    let mut files = no_files(alloc);
+    let mut live = unopened(rt, alloc);
+    amt(rt, alloc, words, input, &mut files, out, err, &mut live)
+}
+
 pub fn run(
+    rt: &impl Wait,
     alloc: Global,
     line: &str,
     script: Bytes,
@@ -50,16 +70,21 @@ pub fn run(
     let mut input = MemSource::failing(script, vec![in alloc; failing.0]?);
     let mut out = sink(alloc, failing.1)?;
     let mut err = sink(alloc, failing.2)?;
-    let status = amt(alloc, &words, &mut input, &mut out, &mut err);
+    let status = status_of(rt, alloc, &words, &mut input, &mut out, &mut err);
     Ok(Ended { status, out, err })
 }
 
 // The end of a replay of a script of these lines.
-pub fn replay(alloc: Global, start: Start, lines: &str) -> Result<Ended, AllocError> {
+pub fn replay(
+    rt: &impl Wait,
+    alloc: Global,
+    start: Start,
+    lines: &str,
+) -> Result<Ended, AllocError> {
     let (words, first) = start;
     let script = format!(in alloc; "{first}{lines}")?;
     let script = Bytes::copied(alloc, script.as_bytes())?;
-    run(alloc, words, script, NONE_FAILS)
+    run(rt, alloc, words, script, NONE_FAILS)
 }
 
 // A run ended with this status, this output and this line on standard error. It is handed over
@@ -85,17 +110,17 @@ pub fn is_out_of_memory(rt: &impl Abort, what: &str) {
 }
 
 // Each row: what it shows, the lines after the first ones, and the text.
-pub fn are_texts(rt: &impl Abort, alloc: Global, start: Start, rows: &[(&str, &str, &str)]) {
+pub fn are_texts(rt: &(impl Abort + Wait), alloc: Global, start: Start, rows: &[(&str, &str, &str)]) {
     for (what, lines, text) in rows {
-        is_ended(rt, what, replay(alloc, start, lines), 0, text, "");
+        is_ended(rt, what, replay(rt, alloc, start, lines), 0, text, "");
     }
 }
 
 // Each row: the lines after the first ones, with which these are no script, and the line on standard
 // error.
-pub fn are_faults(rt: &impl Abort, alloc: Global, start: Start, rows: &[(&str, &str)]) {
+pub fn are_faults(rt: &(impl Abort + Wait), alloc: Global, start: Start, rows: &[(&str, &str)]) {
     for (lines, line) in rows {
-        is_ended(rt, lines, replay(alloc, start, lines), 3, "", line);
+        is_ended(rt, lines, replay(rt, alloc, start, lines), 3, "", line);
     }
 }
 
@@ -117,9 +142,9 @@ fn framed(alloc: Global, frame: Frame, given: &str) -> Result<String, AllocError
 }
 
 // Each row: what it shows, the end of a script, and what the text has between the frame's parts.
-pub fn are_framed(rt: &impl Abort, alloc: Global, frame: Frame, rows: &[(&str, &str, &str)]) {
+pub fn are_framed(rt: &(impl Abort + Wait), alloc: Global, frame: Frame, rows: &[(&str, &str, &str)]) {
     for (what, end, given) in rows {
-        let ended = replay(alloc, frame.0, end);
+        let ended = replay(rt, alloc, frame.0, end);
         is_framed(rt, what, ended, framed(alloc, frame, given));
     }
 }

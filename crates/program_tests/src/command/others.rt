@@ -2,11 +2,11 @@
 //! of a command. It must not know what a relay keeps.
 
 use crate::runs::*;
-use amt_command::*;
 use amt_ports::{MemSink, MemSource};
 use amt_values::Bytes;
 use std::alloc::{AllocError, Global};
 use std::process::Abort;
+use std::sync::Wait;
 
 // Arguments and input; the status, the output, and the line on standard error.
 pub type Row = (&'static str, &'static str, u8, &'static str, &'static str);
@@ -98,8 +98,9 @@ pub const LOADS: [Row; 9] = [
     ("load 1 1 1", "", 2, "", USAGE),
 ];
 
-fn ended(alloc: Global, words: &str, input: &str) -> Result<Ended, AllocError> {
+fn ended(rt: &impl Wait, alloc: Global, words: &str, input: &str) -> Result<Ended, AllocError> {
     run(
+        rt,
         alloc,
         words,
         Bytes::copied(alloc, input.as_bytes())?,
@@ -107,9 +108,9 @@ fn ended(alloc: Global, words: &str, input: &str) -> Result<Ended, AllocError> {
     )
 }
 
-pub fn are_ended(rt: &impl Abort, alloc: Global, rows: &[Row]) {
+pub fn are_ended(rt: &(impl Abort + Wait), alloc: Global, rows: &[Row]) {
     for (words, input, status, out, err) in rows {
-        is_ended(rt, words, ended(alloc, words, input), *status, out, err);
+        is_ended(rt, words, ended(rt, alloc, words, input), *status, out, err);
     }
 }
 
@@ -125,7 +126,7 @@ pub const WORDS: [(&[&str], u8); 8] = [
     (&["vectors"], 0),
 ];
 
-fn status_of(alloc: Global, given: &[&str]) -> Result<u8, AllocError> {
+fn status_over(rt: &impl Wait, alloc: Global, given: &[&str]) -> Result<u8, AllocError> {
     let mut words = Vec::new(alloc);
     for word in given {
         words.push(String::from_str(alloc, word)?)?;
@@ -133,7 +134,7 @@ fn status_of(alloc: Global, given: &[&str]) -> Result<u8, AllocError> {
     let mut input = MemSource::new(alloc, Bytes::new(alloc));
     let mut out = MemSink::new(alloc);
     let mut err = MemSink::new(alloc);
-    Ok(amt(alloc, &words, &mut input, &mut out, &mut err))
+    Ok(status_of(rt, alloc, &words, &mut input, &mut out, &mut err))
 }
 
 fn has_status(rt: &impl Abort, given: &[&str], status: Result<u8, AllocError>, wanted: u8) {
@@ -143,8 +144,8 @@ fn has_status(rt: &impl Abort, given: &[&str], status: Result<u8, AllocError>, w
     }
 }
 
-pub fn have_statuses(rt: &impl Abort, alloc: Global, rows: &[(&[&str], u8)]) {
+pub fn have_statuses(rt: &(impl Abort + Wait), alloc: Global, rows: &[(&[&str], u8)]) {
     for (given, status) in rows {
-        has_status(rt, given, status_of(alloc, given), *status);
+        has_status(rt, given, status_over(rt, alloc, given), *status);
     }
 }

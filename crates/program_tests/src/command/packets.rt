@@ -3,6 +3,7 @@
 use super::*;
 use std::alloc::{AllocError, Global};
 use std::process::Abort;
+use std::sync::Wait;
 
 // Each row: what it shows, the lines after the relay's settings, and the text. The texts were worked out
 // from the definitions, and the response MACs by another implementation, Python's hmac module.
@@ -84,23 +85,23 @@ fn packet_of(alloc: Global, octets: usize) -> Result<String, AllocError> {
 }
 
 // A packet of so many octets comes after the membership of 198.51.100.7:5000 for 239.1.1.1.
-fn forward(alloc: Global, packet: &str) -> Result<Ended, AllocError> {
+fn forward(rt: &impl Wait, alloc: Global, packet: &str) -> Result<Ended, AllocError> {
     let lines = format!(in alloc;
         "dg 198.51.100.7:5000 05004db758a175550a0b0c0d46c0002800000000010239f80a000002e0000016940400002200ebfb0000000102000000ef010101\nmc {packet}\n"
     )?;
-    replay(alloc, RELAY, lines.as_str())
+    replay(rt, alloc, RELAY, lines.as_str())
 }
 
 fn text_of_copy(alloc: Global, packet: &str) -> Result<String, AllocError> {
     format!(in alloc; "= 1 updated\n= 2 copied 1\n> 198.51.100.7:5000 0600{packet}\n. 2\n")
 }
 
-fn is_copied(rt: &impl Abort, alloc: Global, packet: &str) {
+fn is_copied(rt: &(impl Abort + Wait), alloc: Global, packet: &str) {
     match text_of_copy(alloc, packet) {
         Ok(text) => is_ended(
             rt,
             "1450 octets",
-            forward(alloc, packet),
+            forward(rt, alloc, packet),
             0,
             text.as_str(),
             "",
@@ -117,9 +118,9 @@ fn a_packet_of_1450_octets_is_copied(rt: HostRuntime) {
     }
 }
 
-fn is_too_big(rt: &impl Abort, alloc: Global, packet: &str) {
+fn is_too_big(rt: &(impl Abort + Wait), alloc: Global, packet: &str) {
     let text = "= 1 updated\n= 2 toobig 1451\n. 2\n";
-    is_ended(rt, "1451 octets", forward(alloc, packet), 0, text, "");
+    is_ended(rt, "1451 octets", forward(rt, alloc, packet), 0, text, "");
 }
 
 #[test]

@@ -3,6 +3,7 @@
 use super::*;
 use std::alloc::{AllocError, Global};
 use std::process::Abort;
+use std::sync::Wait;
 
 const TEXT: &str = "= 1 advertised\n> 198.51.100.7:5000 0200000001020304c0000201\n. 1\n";
 
@@ -59,6 +60,7 @@ pub const ROWS: [(&str, &str, &str); 10] = [
 
 // A replay of a comment, and a line of one setting, filled up with so many octets.
 fn replay_filled(
+    rt: &impl Wait,
     alloc: Global,
     filling: usize,
     spaces: usize,
@@ -67,16 +69,16 @@ fn replay_filled(
     let filling = "x".repeat(alloc, filling)?;
     let spaces = " ".repeat(alloc, spaces)?;
     let script = format!(in alloc; "#{filling}{end}set relay 192.0.2.1{spaces}{end}")?;
-    replay(alloc, WHOLE, script.as_str())
+    replay(rt, alloc, WHOLE, script.as_str())
 }
 
-fn is_taken(rt: &impl Abort, alloc: Global, end: &str) {
-    let ended = replay_filled(alloc, 139_999, 139_981, end);
+fn is_taken(rt: &(impl Abort + Wait), alloc: Global, end: &str) {
+    let ended = replay_filled(rt, alloc, 139_999, 139_981, end);
     is_ended(rt, "two lines of 140,000 octets", ended, 0, ". 0\n", "");
 }
 
-fn is_too_long(rt: &impl Abort, alloc: Global, filling: usize, spaces: usize, line: &str) {
-    let ended = replay_filled(alloc, filling, spaces, "\r\n");
+fn is_too_long(rt: &(impl Abort + Wait), alloc: Global, filling: usize, spaces: usize, line: &str) {
+    let ended = replay_filled(rt, alloc, filling, spaces, "\r\n");
     is_ended(rt, line, ended, 3, "", line);
 }
 

@@ -7,6 +7,7 @@ use amt_values::Bytes;
 use std::alloc::{AllocError, Global};
 use std::io::Eprint;
 use std::process::{Abort, ExitCode, Termination};
+use std::sync::Wait;
 
 const SCRIPT: &str = "set relay 192.0.2.1\ndg 198.51.100.7:5000 0100000001020304\n";
 
@@ -33,7 +34,7 @@ enum Input {
 // Words, input and the calls that fail; the status, the output, and the line on standard error.
 type Case = (&'static str, Input, Failing, u8, &'static str, &'static str);
 
-const CASES: [Case; 34] = [
+const CASES: [Case; 35] = [
     ("", Input::Text(""), NONE_FAILS, 2, "", USAGE),
     ("jump", Input::Text(""), NONE_FAILS, 2, "", USAGE),
     ("replay", Input::Text(SCRIPT), NONE_FAILS, 2, "", USAGE),
@@ -61,7 +62,16 @@ const CASES: [Case; 34] = [
         "",
         USAGE,
     ),
-    ("relay replay", Input::Text(""), NONE_FAILS, 2, "", USAGE),
+    ("relay", Input::Text(""), NONE_FAILS, 2, "", USAGE),
+    // There is no such file.
+    (
+        "relay replay",
+        Input::Text(SCRIPT),
+        NONE_FAILS,
+        4,
+        "",
+        "amt: read fault\n",
+    ),
     ("replay relay", Input::Text(SCRIPT), NONE_FAILS, 0, TEXT, ""),
     (
         "replay relay",
@@ -288,13 +298,19 @@ fn octets_of(alloc: Global, input: Input) -> Result<Bytes, AllocError> {
     }
 }
 
-fn end_of(alloc: Global, words: &str, input: Input, failing: Failing) -> Result<Ended, AllocError> {
-    run(alloc, words, octets_of(alloc, input)?, failing)
+fn end_of(
+    rt: &impl Wait,
+    alloc: Global,
+    words: &str,
+    input: Input,
+    failing: Failing,
+) -> Result<Ended, AllocError> {
+    run(rt, alloc, words, octets_of(alloc, input)?, failing)
 }
 
-fn are_cases(rt: &impl Abort, alloc: Global, cases: &[Case]) {
+fn are_cases(rt: &(impl Abort + Wait), alloc: Global, cases: &[Case]) {
     for (words, input, failing, status, out, err) in cases {
-        let ended = end_of(alloc, words, *input, *failing);
+        let ended = end_of(rt, alloc, words, *input, *failing);
         is_ended(rt, words, ended, *status, out, err);
     }
 }
@@ -318,9 +334,9 @@ fn answers(alloc: Global, count: u32) -> Result<String, AllocError> {
 
 // Of the text of 1,500 Discoveries, which has 93,393 octets and a last line, so many answers are
 // written where this write fails.
-fn is_cut(rt: &impl Abort, alloc: Global, failing: u64, count: u32) {
+fn is_cut(rt: &(impl Abort + Wait), alloc: Global, failing: u64, count: u32) {
     let words = "replay relay";
-    let ended = end_of(alloc, words, Input::Discoveries(1500), (0, failing, 0));
+    let ended = end_of(rt, alloc, words, Input::Discoveries(1500), (0, failing, 0));
     match answers(alloc, count) {
         Ok(text) => is_ended(rt, words, ended, 5, text.as_str(), "amt: write fault\n"),
         Err(_) => is_out_of_memory(rt, words),
@@ -340,12 +356,16 @@ fn an_input_of_one_octet_too_many_is_too_long(rt: HostRuntime) {
 }
 
 // The same run with the status as that of a process.
-fn exit(alloc: Global, line: &str, script: &str) -> Result<Exit, AllocError> {
+fn exit(rt: &impl Wait, alloc: Global, line: &str, script: &str) -> Result<Exit, AllocError> {
     let words = words_of(alloc, line)?;
     let mut input = MemSource::new(alloc, Bytes::copied(alloc, script.as_bytes())?);
     let mut out = MemSink::new(alloc);
+    let mut files = no_files(alloc);
     let mut err = MemSink::new(alloc);
-    Ok(amt_exit(alloc, &words, &mut input, &mut out, &mut err))
+    let mut live = unopened(rt, alloc);
+    Ok(amt_exit(
+        rt, alloc, &words, &mut input, &mut files, &mut out, &mut err, &mut live,
+    ))
 }
 
 fn is_exit(rt: &(impl Abort + Eprint), line: &str, exit: Result<Exit, AllocError>, status: u8) {
@@ -364,7 +384,7 @@ fn a_process_ends_with_the_status(rt: HostRuntime) {
         ("replay pair", PAIR, 0),
         ("jump", "", 2),
     ] {
-        is_exit(&rt, line, exit(rt.alloc(), line, script), status);
+        is_exit(&rt, line, exit(&rt, rt.alloc(), line, script), status);
     }
 }
 

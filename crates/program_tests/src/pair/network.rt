@@ -20,6 +20,7 @@ use response_mac::Secret;
 use source_filter::{Filter, Mode};
 use std::alloc::{AllocError, Global};
 use std::process::Abort;
+use std::sync::Wait;
 
 // 192.0.2.1, 198.51.100.7:5000, and 10.0.0.2.
 const RELAY: Ip = Ip::V4(0xc000_0201);
@@ -536,15 +537,15 @@ fn shown_by(alloc: Global, ended: &Ended) -> Result<String, AllocError> {
 }
 
 // The script of the trial ends well, with these rows.
-fn shows(rt: &impl Abort, alloc: Global, script: &str, rows: &str) -> Result<(), AllocError> {
-    let ended = replay(alloc, ROW, script)?;
+fn shows(rt: &(impl Abort + Wait), alloc: Global, script: &str, rows: &str) -> Result<(), AllocError> {
+    let ended = replay(rt, alloc, ROW, script)?;
     let shown = shown_by(alloc, &ended)?;
     assert!(rt; ended.status == 0 && shown.as_str() == rows, "{script}");
     Ok(())
 }
 
 fn try_one(
-    rt: &impl Abort,
+    rt: &(impl Abort + Wait),
     alloc: Global,
     chosen: Datagram,
     treatment: Treatment,
@@ -554,13 +555,13 @@ fn try_one(
     shows(rt, alloc, trial.script.as_str(), trial.shown.as_str())
 }
 
-fn is_tried(rt: &impl Abort, alloc: Global, chosen: Datagram, treatment: Treatment) {
+fn is_tried(rt: &(impl Abort + Wait), alloc: Global, chosen: Datagram, treatment: Treatment) {
     if try_one(rt, alloc, chosen, treatment).is_err() {
         is_out_of_memory(rt, "a trial");
     }
 }
 
-fn is_tried_each_way(rt: &impl Abort, alloc: Global, chosen: Datagram) {
+fn is_tried_each_way(rt: &(impl Abort + Wait), alloc: Global, chosen: Datagram) {
     for treatment in TREATMENTS {
         is_tried(rt, alloc, chosen, treatment);
     }

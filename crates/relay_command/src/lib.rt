@@ -1,0 +1,22 @@
+//! A relay that runs by a settings file: what `amt relay` does between its words and its status.
+//!
+//! Contract: the devices are opened once, as the file and the words say, a relay runs on them, and what it
+//! leaves of them is given back whatever the end; a file that isn't read, or has a fault, opens none.
+//! It knows no status, and of devices and files no more than their traits.
+//! Standard: none of its own; the texts stand in docs/FORMATS.md.
+#![tactic(auto)]
+
+mod fault;
+mod plan;
+mod reading;
+mod report;
+mod running;
+mod settings;
+
+pub use fault::RelayFault;
+pub use report::report_text;
+pub use running::run_relay;
+pub use settings::settings_line;
+
+#[cfg(test)]
+mod tests;
