@@ -1,6 +1,6 @@
 //! Sets of devices in memory, for tests and callers. They must not know what the devices are.
 ghost use Rattle.std.specs.Prelude.{◌≡◌, ◌≤◌, ◌<◌, ◌⊎◌, [], ◌∷◌, Contains, IfOk, IsErr, IsErrOf, IsSome, OnErr, OnOk, Some, false, length};
-ghost use Rattle.amt_ports.specs.Causes.{Rose, next_count};
+ghost use Rattle.amt_ports.specs.Causes.{HasCause, Rose, next_count};
 ghost use Rattle.amt_ports.specs.Tally.{fresh_tally, with_call, with_fault};
 ghost use Rattle.amt_ports.specs.Told.{Appends};
 ghost use Rattle.amt_live.specs.MemLive.{with_room, with_set};
@@ -11,7 +11,7 @@ use crate::asked::{AskedLog, Opening};
 use crate::devices::RelayDevices;
 use crate::live::{Live, OpenFault};
 use crate::returns::Returns;
-use amt_ports::{CallTally, Clock, Feed, Link, OutLink, Spawner, Words};
+use amt_ports::{CallTally, Clock, Failed, Feed, Link, OutLink, Spawner, Words};
 use amt_values::Peer;
 use replication_workers::Worker;
 use std::alloc::Global;
@@ -103,6 +103,36 @@ fn fits<L, F, C, W, O: Drop, P>(slots: u32, sets: &[RelayDevices<L, F, C, W, O, 
     }
 }
 
+// Counts an opening, and a fault where its number is listed or the first set to come doesn't fit it.
+fn count_opening<L, F, C, W, O: Drop, P>(
+    calls: &mut CallTally,
+    slots: u32,
+    sets: &[RelayDevices<L, F, C, W, O, P>],
+) -> Result<(), Failed>
+    ensures listed { Contains calls.old.failing (next_count calls.old.made) → IsErr result }
+    ensures unfit { fits slots sets.now ≡ false → IsErr result }
+    ensures only { OnErr result (Contains calls.old.failing (next_count calls.old.made)
+        ⊎ (fits slots sets.now ≡ false)) }
+    ensures ok { OnOk result (calls.new ≡ with_call calls.old) }
+    ensures err { OnErr result (calls.new ≡ with_fault (with_call calls.old)) }
+    ensures cause { HasCause calls.old.faults calls.new.faults result }
+{
+    calls.call()?;
+    if fits(slots, sets) {
+        Ok(())
+    } else {
+        Err(calls.fail())
+    }
+}
+
+// Takes the first set out.
+fn take_first<T>(sets: &mut Vec<T>) -> T
+    requires { 1 ≤ length sets.old.items }
+    ensures { sets.old.items ≡ result ∷ sets.new.items }
+{
+    sets.remove(0)
+}
+
 impl<L, F, C, W, O, P> Live for MemLive<L, F, C, W, O, P>
 where
     L: Link + Drop,
@@ -162,7 +192,7 @@ where
 
         ensures listed { Contains self.old.calls.failing (next_count self.old.calls.made)
             → IsErrOf result OpenFault.Failed }
-        ensures unfit { fits slots self.old.relays ≡ false → IsErr result }
+        ensures unfit { fits slots self.old.relays ≡ false → IsErrOf result OpenFault.Failed }
         ensures only { IsErrOf result OpenFault.Failed
             → Contains self.old.calls.failing (next_count self.old.calls.made)
             ⊎ (fits slots self.old.relays ≡ false) }
@@ -177,18 +207,14 @@ where
             slots,
         };
         let kept = self.asked.keep(opening);
-        if self.calls.call().is_err() {
+        let Ok(()) = count_opening(&mut self.calls, slots, self.relays.as_slice()) else {
             return Err(OpenFault::Failed);
-        }
+        };
         if kept.is_err() {
             return Err(OpenFault::Memory);
         }
-        if !fits(slots, self.relays.as_slice()) {
-            self.calls.fail();
-            return Err(OpenFault::Failed);
-        }
         match self.returned.make_room() {
-            Ok(()) => Ok(self.relays.remove(0)),
+            Ok(()) => Ok(take_first(&mut self.relays)),
             Err(_) => Err(OpenFault::Memory),
         }
     }

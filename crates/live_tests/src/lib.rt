@@ -10,3 +10,5 @@
 mod machine;
 #[cfg(test)]
 mod memory;
+#[cfg(test)]
+mod workers;

@@ -1,8 +1,12 @@
 //! The devices of the machine, over the loopback. It knows public calls alone.
 
+ghost use Rattle.std.specs.Prelude.{◌≡◌, IfOk, vec_len};
+
 use amt_live::{HostLive, Live, OpenFault};
-use amt_ports::{Link, UdpLink};
+use amt_ports::{Feed, FeedGot, Link, OutLink, UdpFeed, UdpLink};
 use amt_values::{Ip, Peer};
+use replication_workers::Outs;
+use std::alloc::{AllocError, Global};
 use std::io;
 use std::net::{IpAddr, Ipv4Addr, Net, SocketAddr, UdpSocket};
 use std::test::Fail;
@@ -16,10 +20,16 @@ const ANY: Peer = Peer {
     port: 0,
 };
 
+// A loopback takes no time; so long a wait is for a machine that is busy.
+const WAIT_MS: u32 = 5_000;
+
+fn address_of_loopback(port: u16) -> SocketAddr {
+    SocketAddr::new(IpAddr::V4(Ipv4Addr::from_bits(LOOPBACK)), port)
+}
+
 // A socket beside ours, and the peer that it is.
 fn far_end<N: Net>(net: &N) -> io::Result<(UdpSocket, Peer)> {
-    let at = SocketAddr::new(IpAddr::V4(Ipv4Addr::from_bits(LOOPBACK)), 0);
-    let far = UdpSocket::bind(net, at)?;
+    let far = UdpSocket::bind(net, address_of_loopback(0))?;
     far.set_read_timeout(Some(Duration::from_secs(5)))?;
     let port = far.local_addr()?.port();
     Ok((far, Peer { port, ..ANY }))
@@ -36,8 +46,27 @@ fn comes_from(far: &UdpSocket, port: u16, octets: &[u8]) -> bool {
     }
 }
 
-// Whether a datagram of the link comes to the far end from the link's port, with so many links out.
-fn sends_and_returns<V: Live<L = UdpLink>>(
+// Whether there are so many links out, and a datagram of each comes to the far end from this port.
+fn all_send_from<O: OutLink + Drop>(
+    outs: &mut Outs<O>,
+    slots: u32,
+    port: u16,
+    far: &UdpSocket,
+    to: &Peer,
+) -> bool {
+    for _ in 0..slots {
+        let Some(mut out) = outs.pop() else {
+            return false;
+        };
+        if out.send(to, b"multicast data").is_err() || !comes_from(far, port, b"multicast data") {
+            return false;
+        }
+    }
+    outs.len() == 0
+}
+
+// Whether what the link and the links out send comes to the far end from the link's port.
+fn all_send_from_one_port<V: Live<L = UdpLink>>(
     live: &mut V,
     slots: u32,
     far: &UdpSocket,
@@ -51,18 +80,71 @@ fn sends_and_returns<V: Live<L = UdpLink>>(
         Err(_) => 0,
     };
     let sent = devices.link.send(to, b"query").is_ok() && comes_from(far, port, b"query");
-    let outs = devices.outs.len();
+    let all = all_send_from(&mut devices.outs, slots, port, far, to);
     live.return_relay(devices);
-    sent && outs == slots as usize
+    sent && all
 }
 
 #[test]
 fn the_devices_of_the_machine_are_opened_and_given_back(rt: HostRuntime) -> Result<(), Fail> {
     let (far, peer) = far_end(&rt)?;
     let mut live = HostLive::new(rt, rt.alloc());
-    assert!(rt; sends_and_returns(&mut live, 1, &far, &peer));
-    assert!(rt; sends_and_returns(&mut live, 4, &far, &peer));
+    for slots in [0, 1, 4] {
+        assert!(rt;
+            all_send_from_one_port(&mut live, slots, &far, &peer),
+            "{slots}"
+        );
+    }
     assert_eq!(rt; live.faults(), 0);
+    Ok(())
+}
+
+fn buffer(alloc: Global, size: usize) -> Result<Vec<u8>, AllocError>
+    ensures { IfOk result (λ octets. vec_len octets ≡ size) }
+{
+    vec![in alloc; 0u8; size]
+}
+
+fn takes<F: Feed>(alloc: Global, feed: &mut F, octets: &[u8]) -> bool {
+    let Ok(mut buffer) = buffer(alloc, 65_536) else {
+        return false;
+    };
+    let buf = buffer.as_mut_slice();
+    feed.recv(buf, WAIT_MS) == Ok(FeedGot::Packet(octets.len())) && buf.starts_with(octets)
+}
+
+// Whether the link is at the first peer, and the feed takes what comes to the second.
+fn is_opened_at<V: Live<L = UdpLink, F = UdpFeed>>(
+    alloc: Global,
+    live: &mut V,
+    listen: &Peer,
+    feed: &Peer,
+    far: &UdpSocket,
+) -> bool {
+    let Ok(mut devices) = live.open_relay(listen, feed, 1) else {
+        return false;
+    };
+    let is_at = match devices.link.local_peer() {
+        Ok(peer) => peer == *listen,
+        Err(_) => false,
+    };
+    let sent = far
+        .send_to(b"packet", address_of_loopback(feed.port))
+        .is_ok();
+    let taken = takes(alloc, &mut devices.feed, b"packet");
+    live.return_relay(devices);
+    is_at && sent && taken
+}
+
+#[test]
+fn the_link_and_the_feed_are_opened_where_it_is_asked(rt: HostRuntime) -> Result<(), Fail> {
+    let (far, _) = far_end(&rt)?;
+    let (one, listen) = far_end(&rt)?;
+    let (two, feed) = far_end(&rt)?;
+    // Their ports are free from here on.
+    drop((one, two));
+    let mut live = HostLive::new(rt, rt.alloc());
+    assert!(rt; is_opened_at(rt.alloc(), &mut live, &listen, &feed, &far));
     Ok(())
 }
 

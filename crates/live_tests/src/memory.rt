@@ -77,6 +77,9 @@ fn sets_of<R: Copy + Drop>(
     let mut sets = Vec::with_capacity(alloc, 2)?;
     sets.push(set_of(rt, alloc, 2)?)?;
     sets.push(set_of(rt, alloc, 1)?)?;
+    if failing.is_empty() {
+        return Ok(MemLive::new(alloc, sets));
+    }
     Ok(MemLive::failing(alloc, sets, Vec::from_slice(alloc, failing)?))
 }
 

@@ -1,5 +1,5 @@
 -- One answer more that a link tried.
-use Rattle.std.proofs.Common.{◌≡◌, ℕ, ◌+◌, ◌<◌, List, [], ◌∷◌, ◌++◌, length, get_or, map, take, refl, sym, ap, subst, ◌∙◌, arith}
+use Rattle.std.proofs.Common.{◌≡◌, ℕ, ◌+◌, ◌<◌, List, [], ◌∷◌, ◌++◌, length, get_or, map, take, sym, ap, subst, ◌∙◌, arith}
 use Rattle.std.specs.Prelude.{IsSome, OnOk, Result, Ok, Err, is_ok}
 use Rattle.std.proofs.lemmas.List.{length_push, take_more, map-append}
 use Rattle.amt_ports.specs.Causes.{HasCause}
@@ -10,7 +10,7 @@ use Rattle.amt_values.specs.Endpoint.{peer_of}
 use Rattle.amt_values.specs.declared.peer.Peer.{Peer}
 use Rattle.relay_machine.specs.declared.sends.OneSend.{OneSend}
 use Rattle.replication_workers.specs.Replication.{to_peer}
-use Rattle.replication_workers.proofs.Trying.{HasTried-failed, HasTried-none, HasTried-sent}
+use Rattle.replication_workers.proofs.Trying.{HasTried-failed, HasTried-sent}
 use Rattle.relay_serving.specs.Counting.{HasAnswered}
 use Rattle.relay_serving.specs.Devices.{LinkSeen}
 use Rattle.relay_serving.specs.declared.counts.Counts.{Counts}
@@ -19,16 +19,6 @@ use Rattle.relay_serving.specs.declared.counts.Counts.{Counts}
 abbrev pub CountsAlike : Counts → Counts → Type 0
 CountsAlike before after =
     (after.datagrams ≡ before.datagrams) × (after.packets ≡ before.packets) × (after.updated ≡ before.updated) × (after.torn ≡ before.torn)
-
-pub answered-none : (link : LinkSeen) (counts : Counts) → HasAnswered link link counts counts []
-answered-none link counts = record {
-  more = 0;
-  missed = 0;
-  sent_are = omega arith;
-  unsent_are = omega arith;
-  as_many = refl;
-  tried = HasTried-none link.tried link.send_faults;
-}
 
 pub answers_more : (sends : List OneSend) (place : ℕ) (send : OneSend) (peer : Peer) (bytes : List ℕ) → place < length sends → send ≡ get_or sends place send → peer ≡ peer_of send.to → bytes ≡ send.bytes
     → map to_peer (take place sends) ++ (peer, bytes) ∷ [] ≡ map to_peer (take (place + 1) sends)

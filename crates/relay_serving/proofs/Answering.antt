@@ -64,3 +64,16 @@ HasAnswered-none link now counts same_tried same_faults = record {
   tried = subst (λ (tried : Option (List TriedSend)). HasTried link.tried tried link.send_faults now.send_faults [] 0 0) (sym same_tried)
       (subst (λ (faults : ℕ). HasTried link.tried link.tried link.send_faults faults [] 0 0) (sym same_faults) (HasTried-none link.tried link.send_faults));
 }
+
+-- whatever else is counted
+pub HasAnswered-alike : (link link' : LinkSeen) (counts counts' other other' : Counts) (wanted wanted' : List (Peer × List ℕ))
+    → counts.sent ≡ other.sent → counts.unsent ≡ other.unsent → other'.sent ≡ counts'.sent → other'.unsent ≡ counts'.unsent → wanted ≡ wanted'
+    → HasAnswered link link' counts counts' wanted → HasAnswered link link' other other' wanted'
+HasAnswered-alike link link' counts counts' other other' wanted wanted' sent unsent sent' unsent' same answered = record {
+  more = answered.more;
+  missed = answered.missed;
+  sent_are = sent' ∙ answered.sent_are ∙ ap (λ (n : ℕ). n + answered.more) sent;
+  unsent_are = unsent' ∙ answered.unsent_are ∙ ap (λ (n : ℕ). n + answered.missed) unsent;
+  as_many = answered.as_many ∙ ap length same;
+  tried = subst (λ (list : List (Peer × List ℕ)). HasTried link.tried link'.tried link.send_faults link'.send_faults list answered.more answered.missed) same answered.tried;
+}

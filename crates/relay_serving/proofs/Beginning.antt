@@ -1,5 +1,5 @@
 -- What the first stage of a turn comes to.
-use Rattle.std.proofs.Common.{◌≡◌, ℕ, max, ◌<◌, ◌+◌, true, false, true≢false, List, [], ◌∷◌, ◌++◌, length, Option, Some, Result, Ok, Err, refl, sym, ap, subst, ◌∙◌, arith}
+use Rattle.std.proofs.Common.{◌≡◌, ℕ, max, ◌<◌, false, true≢false, List, [], ◌∷◌, ◌++◌, length, Option, Some, Result, Ok, Err, refl, sym, ap, subst, ◌∙◌, arith}
 use Rattle.std.proofs.lemmas.List.{append_assoc}
 use Rattle.std.specs.Prelude.{OnOk, is_err}
 use Rattle.std.specs.List.{filter_map}
@@ -16,7 +16,8 @@ use Rattle.relay_serving.specs.Stages.{BeginsSo, IsBegunBy}
 use Rattle.relay_serving.specs.Turns.{is_due, renewed_after}
 use Rattle.relay_serving.specs.declared.plan.End.{End}
 use Rattle.relay_serving.specs.declared.server.Server.{Server}
-use Rattle.relay_serving.proofs.Turning.{IsSameRun-then, now_in-kept}
+use Rattle.relay_serving.proofs.Events.{IsSameRun-then}
+use Rattle.relay_serving.proofs.Turning.{now_in-kept}
 
 pub rotation-few : (drawn : List ℕ) → length drawn < 4 → rotation drawn ≡ []
 rotation-few [] few = refl

@@ -36,9 +36,10 @@ module _ {X : Type 0} (Came : X → Type 0) where
       where
         nothing_isnt : Nothing ≡ Something → ⊥
         nothing_isnt same = cc same
-    came_more came last Something all is next =
-        (subst (λ (list : List (Taken X)). CameAll Came (came ++ list)) (sym next.2) (CameAll-push came next.0 all next.1),
-        length-append came last ∙ ap (λ (list : List (Taken X)). length came + length list) next.2)
+    came_more came last Something all is next = (
+      subst (λ (list : List (Taken X)). CameAll Came (came ++ list)) (sym next.2) (CameAll-push came next.0 all next.1),
+      length-append came last ∙ ap (λ (list : List (Taken X)). length came + length list) next.2,
+    )
 
     -- there was nothing more
     pub nothing_more : (came last : List (Taken X)) (asked : Asked) → CameAll Came came → length came < 64 → asked ≡ Nothing → IsNext Came nothing closed (Ok asked) last → IsBurst Came nothing (came ++ last)

@@ -1,9 +1,8 @@
 -- Views that are asked one after the other.
-use Rattle.std.proofs.Common.{◌≡◌, ◌<◌, ◌≤◌, ℕ, ◌+◌, Bool, true, false, cond, List, [], ◌∷◌, ◌++◌, count_by, length, reverse, Result, Ok, Err, IsOk, OnOk, refl, sym, ap, subst, ◌∙◌, append_assoc, append-nil, arith, true≢false, if◌then◌else◌}
-use Rattle.std.specs.List.{All, AllZip}
+use Rattle.std.proofs.Common.{◌≡◌, ◌≤◌, ℕ, ◌+◌, Bool, true, false, cond, List, [], ◌∷◌, ◌++◌, count_by, length, reverse, Result, Ok, Err, IsOk, OnOk, refl, sym, ap, subst, ◌∙◌, append_assoc, append-nil, arith, true≢false, if◌then◌else◌}
 use Rattle.std.proofs.lemmas.List.{length_push}
 use Rattle.std.proofs.lemmas.List.Elements.{AllZip-push, All-head, All-nil, All-push}
-use Rattle.std.proofs.lemmas.List.Sums.{count_by-le-length, sum_by_push}
+use Rattle.std.proofs.lemmas.List.Sums.{sum_by_push}
 use Rattle.endpoint_membership.specs.declared.change.Change.{Change}
 use Rattle.published_table.specs.Lists.{BeginsWith, BeginsWithEach}
 use Rattle.published_table.specs.Views.{seen}
@@ -38,7 +37,7 @@ asked_more published all rest fewer asked more one other so_far is long further 
 pub asked_all : (published : List Change) (all rest asked : List View) → AskedSoFar published all rest asked → rest ≡ [] → AreAsked published (reverse all) asked
 asked_all published all rest asked so_far none =
     subst (λ (list : List View). AreAsked published list asked)
-        (sym (so_far.all_are ∙ ap (λ (list : List View). so_far.done ++ reverse list) none ∙ append-nil so_far.done)) so_far.asked_are
+    (sym (so_far.all_are ∙ ap (λ (list : List View). so_far.done ++ reverse list) none ∙ append-nil so_far.done)) so_far.asked_are
 
 -- the list without the last one that was taken out
 pub one_fewer : {A : Type 0} (before after : List A) (one : A) → before ≡ after ++ one ∷ [] → length before ≡ length after + 1

@@ -4,7 +4,7 @@ use Rattle.std.specs.Prelude.{Option, Some, None}
 use Rattle.std.specs.List.{flat_map}
 use Rattle.std.proofs.Math.Logic.{∥∥₁_elim, ∥∥₁_map}
 use Rattle.std.proofs.Props.{props}
-use Rattle.std.proofs.lemmas.List.{append-nil, flat_map_more, length_push, reverse-append, reverse-reverse}
+use Rattle.std.proofs.lemmas.List.{append-nil, flat_map_more, length-reverse, length_push, reverse-append, reverse-reverse}
 use Rattle.amt_ports.specs.declared.out_link.OutLink.{Ghosts}
 use Rattle.endpoint_membership.specs.Limits.{IsWithin}
 use Rattle.endpoint_membership.specs.Table.{memberships_now}
@@ -43,18 +43,11 @@ few_back settings first (event ∷ earlier) =
     let more = few_more (published_log settings first events) (change_of settings first events event) in
     omega (arith, before, turned, next, more)
 
-length-reversed : {X : Type 0} (xs : List X) → length (reverse xs) ≡ length xs
-length-reversed [] = refl
-length-reversed {X} (x ∷ xs) =
-    let turned = ap length (reverse-append (x ∷ []) xs) in
-    let pushed = length_push (reverse xs) x in
-    let before = length-reversed xs in omega (arith, turned, pushed, before)
-
 pub published_log-few : (settings : Settings) (first : Secret) (events : List Event) → length (published_log settings first events) ≤ length events
 published_log-few settings first events =
     let back = few_back settings first (reverse events) in
     let turned = ap (λ (all : List Event). length (published_log settings first all)) (reverse-reverse events) in
-    let same = length-reversed events in omega (arith, back, turned, same)
+    let same = length-reverse events in omega (arith, back, turned, same)
 
 -- the log with what was handed out is the published log after the event
 pub log-next : (settings after : Settings) (first : Secret) (events later : List Event) (event : Event) (log log' : List Change) (entry : Option Change)

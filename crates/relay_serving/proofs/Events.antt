@@ -53,20 +53,23 @@ module _ {O : Type 0} {g : Ghosts O} {T : Type 0} where
     events = list_then (events_in before) (events_in now) (events_in after) events more first.events second.events;
   }
 
+  pub IsSameRun-none : (server : Server O T g) → IsSameRun server server
+  IsSameRun-none server = record {
+    same_settings = refl;
+    same_first = refl;
+    same_starts = refl;
+    same_book = refl;
+    same_mode = refl;
+    same_tasks = λ task_of run. run;
+  }
+
   -- nothing happened
   pub HasEvents-none : (before after : Server O T g) → IsAsBefore before after → HasEvents before after []
   HasEvents-none before after as_before = record { same = as_before.same; events = as_before.same_events ∙ sym (append-nil (events_in before)) }
 
   pub IsAsBefore-same : (server : Server O T g) → IsAsBefore server server
   IsAsBefore-same server = record {
-    same = record {
-      same_settings = refl;
-      same_first = refl;
-      same_starts = refl;
-      same_book = refl;
-      same_mode = refl;
-      same_tasks = λ task_of run. run;
-    };
+    same = IsSameRun-none server;
     same_events = refl;
     same_published = refl;
     same_counts = refl;

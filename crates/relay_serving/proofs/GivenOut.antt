@@ -5,7 +5,7 @@ use Rattle.std.specs.List.{All, enumerate_from}
 use Rattle.std.proofs.Math.Logic.{∥∥₁_elim, ∥∥₁_map}
 use Rattle.std.proofs.Props.{props}
 use Rattle.std.proofs.lemmas.Bool.Decides.{eqb_tells}
-use Rattle.std.proofs.lemmas.List.{length-map, length_push, map-append, reverse-append, reverse-reverse}
+use Rattle.std.proofs.lemmas.List.{length-map, length-reverse, length_push, map-append, reverse-append, reverse-reverse}
 use Rattle.std.proofs.lemmas.List.Elements.{All-cons, All-head, All-tail, filter-append}
 use Rattle.logbook.specs.Pages.{Book}
 use Rattle.std.proofs.lemmas.List.Sums.{sum_by-cons}
@@ -31,7 +31,7 @@ use Rattle.relay_serving.proofs.Entering.{dues-next}
 same_number : (a b : ℕ) → a ≡ b → nat_eq a b ≡ true
 same_number a b is = ⊎_elim (λ (yes : (nat_eq a b ≡ true) × (a ≡ b)). yes.0) (λ (no : (nat_eq a b ≡ false) × (a ≢ b)). absurd (no.1 is)) (eqb_tells a b)
 
-other_number : (a b : ℕ) → a ≢ b → nat_eq a b ≡ false
+pub other_number : (a b : ℕ) → a ≢ b → nat_eq a b ≡ false
 other_number a b isnt = ⊎_elim (λ (yes : (nat_eq a b ≡ true) × (a ≡ b)). absurd (isnt yes.1)) (λ (no : (nat_eq a b ≡ false) × (a ≢ b)). no.0) (eqb_tells a b)
 
 -- of jobs and one more
@@ -46,13 +46,6 @@ jobs_elsewhere : (slots number : ℕ) (jobs : List Job) (job : Job) → slot_for
 jobs_elsewhere slots number jobs job isnt =
     jobs_more slots number jobs job
     ∙ (ap (λ (known : Bool). jobs_at slots number jobs ++ cond known (job ∷ []) []) (other_number (slot_for slots job.packet) number isnt) ∙ append-nil (jobs_at slots number jobs))
-
-length-turned : {X : Type 0} (xs : List X) → length (reverse xs) ≡ length xs
-length-turned [] = refl
-length-turned {X} (x ∷ xs) =
-    let turned = ap length (reverse-append (x ∷ []) xs) in
-    let pushed = length_push (reverse xs) x in
-    let before = length-turned xs in omega (arith, turned, pushed, before)
 
 module _ {O : Type 0} {g : Ghosts O} where
   -- the slots from this number on, of so many
@@ -87,7 +80,6 @@ module _ {O : Type 0} {g : Ghosts O} where
   starts_in-put zero job (slot ∷ slots) = refl
   starts_in-put (suc place) job (slot ∷ slots) = ap (λ (later : List (Replicator O g)). slot.first ∷ later) (starts_in-put place job slots)
 
-
   few_put : (place : ℕ) (job : Job) (slots : List (SlotState O g)) → jobs_in_all (with_job place job slots) ≤ jobs_in_all slots + 1
   few_put place job [] = omega arith
   few_put zero job (slot ∷ slots) =
@@ -118,7 +110,7 @@ module _ {O : Type 0} {g : Ghosts O} where
   few_jobs firsts jobs =
       let back = few_back firsts (reverse jobs) in
       let turned = ap (λ (all : List Job). jobs_in_all (slots_after firsts all)) (reverse-reverse jobs) in
-      let same = length-turned jobs in omega (arith, back, turned, same)
+      let same = length-reverse jobs in omega (arith, back, turned, same)
 
 -- each packet is due once
 one_due : (settings : Settings) (first : Secret) (earlier : List Event) (event : Event) → length (due_to settings first earlier event) ≡ cond (is_packet event) 1 0

@@ -1,5 +1,5 @@
 -- One asking of a link or a feed, and several in a row.
-use Rattle.std.proofs.Common.{◌≡◌, ◌+◌, ℕ, List, [], ◌∷◌, ◌++◌, map, sym, ap, subst, ◌∙◌, append-nil}
+use Rattle.std.proofs.Common.{◌≡◌, ℕ, List, [], ◌∷◌, ◌++◌, map, sym, ap, subst, ◌∙◌, append-nil}
 use Rattle.std.specs.Prelude.{Option}
 use Rattle.amt_ports.specs.Sends.{TriedSend}
 use Rattle.amt_ports.specs.Told.{Answers}

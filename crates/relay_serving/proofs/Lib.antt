@@ -1,5 +1,4 @@
 pub mod AnswerSends
-pub mod Answered
 pub mod Answering
 pub mod Beginning
 pub mod Bursts
@@ -16,7 +15,9 @@ pub mod Running
 pub mod Silence
 pub mod SlotsServed
 pub mod SoFar
+pub mod Started
 pub mod Starting
+pub mod Together
 pub mod Turning
 pub mod Ways
 pub mod WholeRuns

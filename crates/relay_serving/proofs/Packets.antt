@@ -25,7 +25,7 @@ use Rattle.relay_machine.specs.declared.relay.Relay.{Relay}
 use Rattle.relay_machine.specs.declared.settings.Settings.{Settings}
 use Rattle.relay_machine.proofs.Onward.{RelayAt-payload}
 use Rattle.relay_machine.proofs.PublishedLog.{published_log-next}
-use Rattle.relay_serving.specs.Counting.{with_outcome}
+use Rattle.relay_serving.specs.Counting.{with_outcome, with_packet}
 use Rattle.relay_serving.specs.declared.counts.Counts.{Counts}
 
 enters_none : (targets : Head → List EndpointValue) (packet : List ℕ) (reading : Result Head Outcome) → (packet_answer targets packet reading).entry ≡ None
@@ -71,8 +71,7 @@ outcome-plain settings first events bytes =
 
 -- one packet more is counted, and nothing else
 pub counted-packet : (counts : Counts) (bytes : List ℕ) (outcome : Outcome) → IsPlain outcome
-    → record { datagrams = counts.datagrams; packets = counts.packets + 1; updated = counts.updated; torn = counts.torn; sent = counts.sent; unsent = counts.unsent }
-    ≡ with_outcome counts (Packet bytes) outcome
+    → with_packet counts ≡ with_outcome counts (Packet bytes) outcome
 counted-packet counts bytes outcome plain =
     let none : (number : ℕ) → number ≡ number + 0 = λ number. omega arith in
     let updated = none counts.updated ∙ ap (λ (known : Bool). counts.updated + (if known then 1 else 0)) (sym plain.0) in

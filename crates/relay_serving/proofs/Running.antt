@@ -13,11 +13,8 @@ use Rattle.amt_ports.specs.declared.out_link.OutLink.{Ghosts}
 use Rattle.amt_values.specs.declared.peer.Peer.{Peer}
 use Rattle.relay_machine.specs.Events.{now_of}
 use Rattle.relay_machine.specs.declared.event.Event.{Event}
-use Rattle.endpoint_membership.specs.Published.{published_back}
-use Rattle.response_mac.specs.declared.secret.Secret.{Secret}
-use Rattle.relay_machine.specs.Accepted.{accepted_back}
 use Rattle.relay_machine.specs.Published.{published_log}
-use Rattle.relay_machine.specs.declared.settings.Settings.{Settings}
+use Rattle.relay_machine.proofs.PublishedLog.{published_log-none}
 use Rattle.relay_serving.specs.Bursts.{IsCauseOf, IsCausedBy}
 use Rattle.relay_serving.specs.Counting.{HasAnswered, is_packet}
 use Rattle.relay_serving.specs.Devices.{AnswersAll, Devices}
@@ -31,11 +28,11 @@ use Rattle.relay_serving.specs.declared.plan.End.{End}
 use Rattle.relay_serving.specs.declared.plan.End.TheVariants.{LinkFault, FeedFault, WordsFault}
 use Rattle.relay_serving.specs.declared.plan.ServePlan.{ServePlan}
 use Rattle.relay_serving.specs.declared.server.Server.{Server}
-use Rattle.relay_serving.proofs.Answered.{AnswersAll-then, HasAnswered-none, HasAnswered-then}
+use Rattle.relay_serving.proofs.Answering.{HasAnswered-none, HasAnswered-then, answers_after-append}
 use Rattle.relay_serving.proofs.Cuts.{no_error}
 use Rattle.relay_serving.proofs.Drawing.{AppendsAll-none, AppendsAll-then}
-use Rattle.relay_serving.proofs.Silence.{answers-append, now_of-none}
-use Rattle.relay_serving.proofs.Turning.{HasEvents-none, IsSameRun-then}
+use Rattle.relay_serving.proofs.Events.{AnswersAll-then, HasEvents-none, IsAsBefore-same, IsSameRun-then}
+use Rattle.relay_serving.proofs.Silence.{now_of-none}
 
 -- one whole turn more
 pub AreWhole-more : (rotate : ℕ) (progress last : Progress) (turns : List Turn) (turn : Turn) → AreWhole rotate progress turns last → IsWhole rotate last turn
@@ -57,10 +54,6 @@ events_from-more rotate progress last (one ∷ turns) turn whole =
 later_none : {X : Type 0} (one two : List X) → one ++ two ≡ [] → two ≡ []
 later_none [] two none = none
 later_none (x ∷ one) two none = absurd (cc none)
-
-published_log-none : (settings : Settings) (first : Secret) → published_log settings first [] ≡ []
-unfolding accepted_back published_back
-published_log-none settings first = refl
 
 -- where a count stood still, and then rose for a cause or didn't
 cause_then : (end cause : End) (first middle last : ℕ) → middle ≡ first → IsCausedBy {A = Unit {0}} (Err end) cause middle last → IsCauseOf end cause first last
@@ -86,8 +79,8 @@ EndsIn-cut devices devices' devices'' end calm causes = record {
 module _ {O : Type 0} {g : Ghosts O} {T : Type 0} where
   pub Goes-none : (server : Server O T g) (devices : Devices) → Goes [] server server devices devices
   Goes-none server devices = record {
-    events = HasEvents-none server;
-    answered = HasAnswered-none devices.link (counts_in server);
+    events = HasEvents-none server server (IsAsBefore-same server);
+    answered = HasAnswered-none devices.link devices.link (counts_in server) refl refl;
     clock = AppendsAll-none devices.clock;
     words = AppendsAll-none devices.words.given;
     link = refl;
@@ -107,7 +100,7 @@ module _ {O : Type 0} {g : Ghosts O} {T : Type 0} where
       let wanted : answers_after (settings_in before) (first_in before) (events_in before) earlier ++ answers_after (settings_in now) (first_in now) (events_in now) later
       ≡ answers_after (settings_in before) (first_in before) (events_in before) (events_from (now_in before) (turns ++ turn ∷ [])) =
       (λ i. answers_after (settings_in before) (first_in before) (events_in before) earlier ++ answers_after (same.same_settings i) (same.same_first i) (first.events.events i) later)
-      ∙ sym (answers-append (settings_in before) (first_in before) (events_in before) earlier later)
+      ∙ sym (answers_after-append (settings_in before) (first_in before) (events_in before) earlier later)
       ∙ ap (answers_after (settings_in before) (first_in before) (events_in before)) (sym events) in
       record {
         events = record {

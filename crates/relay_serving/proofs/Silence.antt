@@ -1,7 +1,6 @@
 -- Events to which a link sends nothing, and that report no moment.
-use Rattle.std.proofs.Common.{◌≡◌, ℕ, max, Bool, true, false, List, [], ◌∷◌, ◌++◌, flat_map, refl, sym, ap, ◌∙◌}
-use Rattle.std.proofs.lemmas.Grind.{flat_map-append}
-use Rattle.std.proofs.lemmas.List.{append-nil, append_assoc}
+use Rattle.std.proofs.Common.{◌≡◌, ℕ, max, Bool, true, false, List, [], ◌∷◌, ◌++◌, refl, ap, ◌∙◌}
+use Rattle.std.proofs.lemmas.List.{append-nil}
 use Rattle.std.proofs.lemmas.List.Elements.{filter_map-append}
 use Rattle.std.specs.List.{filter_map, fold}
 use Rattle.core.specs.List.{cons_option}
@@ -10,30 +9,16 @@ use Rattle.amt_ports.specs.declared.feed.FeedAnswer.TheVariants.{Packet as Packe
 use Rattle.amt_ports.specs.declared.link.LinkAnswer.{LinkAnswer}
 use Rattle.amt_ports.specs.declared.link.LinkAnswer.TheVariants.{Datagram as DatagramCame, Nothing as NothingCame, Closed as LinkClosed}
 use Rattle.response_mac.specs.declared.secret.Secret.{Secret}
-use Rattle.relay_machine.specs.Courses.{each_after}
 use Rattle.relay_machine.specs.Events.{moment_in, now_of}
 use Rattle.relay_machine.specs.declared.event.Event.{Event}
 use Rattle.relay_machine.specs.declared.event.Event.TheVariants.{Packet}
 use Rattle.relay_machine.specs.declared.settings.Settings.{Settings}
 use Rattle.relay_serving.specs.Events.{datagram_of, datagrams_in, moment_event, packet_of, packets_in, rotation, unless_starved}
-use Rattle.relay_serving.specs.Sending.{answers_after, answers_to}
+use Rattle.relay_serving.specs.Sending.{answers_after}
 use Rattle.relay_serving.specs.Turns.{Taken}
-
-pub each_after-append : {E A : Type 0} (answer : List E → E → A) (before one two : List E)
-    → each_after answer before (one ++ two) ≡ each_after answer before one ++ each_after answer (before ++ one) two
-each_after-append {E} {A} answer before [] two = ap (λ (past : List E). each_after answer past two) (sym (append-nil before))
-each_after-append {E} {A} answer before (event ∷ one) two =
-    ap (λ (rest : List A). answer before event ∷ rest)
-    (each_after-append answer (before ++ event ∷ []) one two
-    ∙ ap (λ (past : List E). each_after answer (before ++ event ∷ []) one ++ each_after answer past two) (append_assoc before (event ∷ []) one))
+use Rattle.relay_serving.proofs.Answering.{answers_after-append}
 
 module _ (settings : Settings) (first : Secret) where
-  pub answers-append : (before one two : List Event)
-      → answers_after settings first before (one ++ two) ≡ answers_after settings first before one ++ answers_after settings first (before ++ one) two
-  answers-append before one two =
-      ap (flat_map (λ sends. sends)) (each_after-append (answers_to settings first) before one two)
-      ∙ flat_map-append (λ sends. sends) (each_after (answers_to settings first) before one) (each_after (answers_to settings first) (before ++ one) two)
-
   -- a moment and a new secret
   none-moment : (before : List Event) (starved : Bool) (moment : ℕ) → answers_after settings first before (moment_event starved moment) ≡ []
   none-moment before true moment = refl
@@ -50,7 +35,7 @@ module _ (settings : Settings) (first : Secret) where
   pub none-begun : (before : List Event) (starved : Bool) (moment : ℕ) (drawn : List ℕ)
       → answers_after settings first before (moment_event starved moment ++ rotation drawn) ≡ []
   none-begun before starved moment drawn =
-      answers-append before (moment_event starved moment) (rotation drawn)
+      answers_after-append settings first before (moment_event starved moment) (rotation drawn)
       ∙ (λ i. none-moment before starved moment i ++ none-rotation (before ++ moment_event starved moment) drawn i)
 
   -- packets

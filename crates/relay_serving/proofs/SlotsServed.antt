@@ -1,5 +1,5 @@
 -- What slots left, as it is seen of a whole run.
-use Rattle.std.proofs.Common.{◌≡◌, ℕ, zero, suc, ◌+◌, ◌*◌, ◌%◌, ◌≤◌, ◌==◌, Bool, true, false, cond, List, [], ◌∷◌, ◌++◌, length, map, count_by, refl, sym, ap, subst, ◌∙◌, arith, length-append}
+use Rattle.std.proofs.Common.{◌≡◌, ℕ, suc, ◌+◌, ◌*◌, ◌≤◌, ◌==◌, Bool, true, cond, List, [], ◌∷◌, ◌++◌, length, map, count_by, refl, sym, ap, subst, ◌∙◌, arith}
 use Rattle.std.specs.Prelude.{Result, Ok, Err}
 use Rattle.std.specs.List.{All, AllZip, enumerate_from, filter, sum_by}
 use Rattle.std.proofs.Props.{props}
@@ -21,6 +21,7 @@ use Rattle.published_table.specs.declared.view.View.{View}
 use Rattle.response_mac.specs.declared.secret.Secret.{Secret}
 use Rattle.relay_machine.specs.declared.event.Event.{Event}
 use Rattle.relay_machine.specs.declared.event.Event.TheVariants.{Moment, Datagram, Packet, Rotate}
+use Rattle.relay_machine.specs.Settings.{table_settings_of}
 use Rattle.relay_machine.specs.declared.settings.Settings.{Settings}
 use Rattle.replication_workers.specs.Dispatchers.{slot_by, slot_for}
 use Rattle.replication_workers.specs.Jobs.{Handled}
@@ -31,9 +32,9 @@ use Rattle.replication_workers.specs.declared.job.Job.{Job}
 use Rattle.replication_workers.specs.declared.replicator.Replicator.{Replicator}
 use Rattle.relay_serving.specs.Counting.{is_packet}
 use Rattle.relay_serving.specs.Devices.{OutSeen, out_seen, outs_seen}
-use Rattle.relay_serving.specs.GivenOut.{AreOfPublisher, jobs_at, slots_after, starts_in, terms_by}
-use Rattle.relay_serving.specs.Sending.{due_of, due_to, dues_after}
-use Rattle.relay_serving.specs.Serving.{AreServed, IsServed, SlotServed}
+use Rattle.relay_serving.specs.GivenOut.{AreOfPublisher, jobs_at, slots_after, starts_in}
+use Rattle.relay_serving.specs.Sending.{due_of, dues_after}
+use Rattle.relay_serving.specs.Serving.{AreServed, IsServed, SlotServed, logs_in}
 use Rattle.relay_serving.specs.Starting.{AreStarts, IsStart}
 
 sum_of_two : (sent unsent more less jobs rest : ℕ) → sent + unsent ≤ 65536 * jobs → more + less ≤ 65536 * rest → (sent + more) + (unsent + less) ≤ 65536 * (jobs + rest)
@@ -86,34 +87,47 @@ module _ {O : Type 0} {g : Ghosts O} where
     pub sent_is : sum_by (λ (slot : SlotServed). slot.sent) slots ≡ sum_by (λ (one : SlotLeft O g). one.left.sent) lefts
     pub unsent_is : sum_by (λ (slot : SlotServed). slot.unsent) slots ≡ sum_by (λ (one : SlotLeft O g). one.left.unsent) lefts
 
-  abbrev slot_served : SlotLeft O g → View → SlotServed
-  slot_served one view = record {
+  abbrev slot_served : SlotLeft O g → List (List Change) → View → SlotServed
+  slot_served one logs view = record {
     before = out_seen (g.tried (out_of one.slot.first)) (g.faults (out_of one.slot.first));
     jobs = one.slot.jobs;
+    logs = logs;
     after = out_seen (g.tried one.left.out) (g.faults one.left.out);
     view = view;
     sent = one.left.sent;
     unsent = one.left.unsent;
   }
 
-  one_served : (settings : Settings) (book : Book) (one : SlotLeft O g) (view : View) → IsStart settings book one.slot.first
-      → HasHandled one.slot.first one.slot.jobs one.left.out one.left.view one.left.sent one.left.unsent → BeginsWith (seen view) (seen one.left.view)
-      → IsServed settings (slot_served one view)
+  -- what the slot handled, by the settings
+  abbrev handled_by : (settings : Settings) (book : Book) (one : SlotLeft O g) → IsStart settings book one.slot.first
+      → (has : HasHandled one.slot.first one.slot.jobs one.left.out one.left.view one.left.sent one.left.unsent)
+      → Handled (table_settings_of settings) settings.packet_limit [] one.slot.jobs has.wanted (seen one.left.view)
+  handled_by settings book one start has =
+      subst (λ (terms : Terms). Handled (settings_by terms) settings.packet_limit [] one.slot.jobs has.wanted (seen one.left.view)) start.new.by
+      (subst (λ (limit : ℕ). Handled (settings_by (terms_of (view_of one.slot.first))) limit [] one.slot.jobs has.wanted (seen one.left.view)) start.limit
+      (subst (λ (log : List Change). Handled (settings_by (terms_of (view_of one.slot.first))) (limit_of one.slot.first) log one.slot.jobs has.wanted (seen one.left.view)) start.new.seen_none has.handled))
+
+  abbrev logs_of_slot : (settings : Settings) (book : Book) (one : SlotLeft O g) → IsStart settings book one.slot.first
+      → HasHandled one.slot.first one.slot.jobs one.left.out one.left.view one.left.sent one.left.unsent → List (List Change)
+  logs_of_slot settings book one start has =
+      logs_in (table_settings_of settings) settings.packet_limit [] one.slot.jobs has.wanted (seen one.left.view) (handled_by settings book one start has)
+
+  one_served : (settings : Settings) (book : Book) (one : SlotLeft O g) (view : View) (start : IsStart settings book one.slot.first)
+      (has : HasHandled one.slot.first one.slot.jobs one.left.out one.left.view one.left.sent one.left.unsent) → BeginsWith (seen view) (seen one.left.view)
+      → IsServed settings (slot_served one (logs_of_slot settings book one start has) view)
   one_served settings book one view start has further = record {
     wanted = has.wanted;
     last = seen one.left.view;
-    handled =
-      subst (λ (terms : Terms). Handled (settings_by terms) settings.packet_limit [] one.slot.jobs has.wanted (seen one.left.view)) start.new.by
-      (subst (λ (limit : ℕ). Handled (settings_by (terms_of (view_of one.slot.first))) limit [] one.slot.jobs has.wanted (seen one.left.view)) start.limit
-      (subst (λ (log : List Change). Handled (settings_by (terms_of (view_of one.slot.first))) (limit_of one.slot.first) log one.slot.jobs has.wanted (seen one.left.view)) start.new.seen_none has.handled));
+    handled = handled_by settings book one start has;
+    logs_are = refl;
     tried = has.tried;
     further = further;
   }
 
-  slotted_more : (settings : Settings) (one : SlotLeft O g) (lefts : List (SlotLeft O g)) (view : View) (views : List View) → IsServed settings (slot_served one view)
-      → Slotted settings lefts views → Slotted settings (one ∷ lefts) (view ∷ views)
-  slotted_more settings one lefts view views served rest =
-      let slot = slot_served one view in record {
+  slotted_more : (settings : Settings) (one : SlotLeft O g) (lefts : List (SlotLeft O g)) (logs : List (List Change)) (view : View) (views : List View)
+      → IsServed settings (slot_served one logs view) → Slotted settings lefts views → Slotted settings (one ∷ lefts) (view ∷ views)
+  slotted_more settings one lefts logs view views served rest =
+      let slot = slot_served one logs view in record {
         slots = slot ∷ rest.slots;
         before_are = ap (λ (list : List OutSeen). slot.before ∷ list) rest.before_are;
         jobs_are = ap (λ (list : List (List Job)). one.slot.jobs ∷ list) rest.jobs_are;
@@ -135,8 +149,8 @@ module _ {O : Type 0} {g : Ghosts O} where
       let left = All-head (λ (one : SlotLeft O g). IsLeft one.slot one.left) one lefts each in
       let start = All-head (IsStart settings book) one.slot.first (starts_in (map (λ (one : SlotLeft O g). one.slot) lefts)) starts in
       let rest = slotted settings book lefts views (All-tail (λ (one : SlotLeft O g). IsLeft one.slot one.left) one lefts each)
-          (All-tail (IsStart settings book) one.slot.first (starts_in (map (λ (one : SlotLeft O g). one.slot) lefts)) starts) further.1 in
-      ∥∥₁_elim left.has_handled ∥∥₁_prop (λ has. ∥∥₁_map rest (λ others. slotted_more settings one lefts view views (one_served settings book one view start has further.0) others))
+      (All-tail (IsStart settings book) one.slot.first (starts_in (map (λ (one : SlotLeft O g). one.slot) lefts)) starts) further.1 in
+      ∥∥₁_elim left.has_handled ∥∥₁_prop (λ has. ∥∥₁_map rest (λ others. slotted_more settings one lefts (logs_of_slot settings book one start has) view views (one_served settings book one view start has further.0) others))
 
   firsts_out : (lefts : List (SlotLeft O g)) → map (λ (one : SlotLeft O g). out_of one.slot.first) lefts ≡ map out_of (starts_in (map (λ (one : SlotLeft O g). one.slot) lefts))
   firsts_out [] = refl
@@ -219,7 +233,7 @@ module _ {O : Type 0} {g : Ghosts O} where
       let left = All-head (λ (one : SlotLeft O g). IsLeft one.slot one.left) one lefts each in
       let first = All-head (λ (slot : SlotState O g). publisher_of (view_of slot.first) ≡ book) one.slot slots of in
       let rest = each_publisher book lefts (All-tail (λ (one : SlotLeft O g). IsLeft one.slot one.left) one lefts each)
-          (All-tail (λ (slot : SlotState O g). publisher_of (view_of slot.first) ≡ book) one.slot slots of) in
+      (All-tail (λ (slot : SlotState O g). publisher_of (view_of slot.first) ≡ book) one.slot slots of) in
       let same : publisher_of one.left.view ≡ publisher_of (view_of one.slot.first) = ∥∥₁_elim left.has_handled (hlevel props) (λ has. has.publisher) in
       All-cons (λ view. publisher_of view ≡ book) one.left.view (map (λ (one : SlotLeft O g). one.left.view) lefts) (same ∙ first) rest
 

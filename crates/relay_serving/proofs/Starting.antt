@@ -1,9 +1,9 @@
 -- Replicators that are made and taken apart from the end of a list, and slots without jobs.
-use Rattle.std.proofs.Common.{◌≡◌, ℕ, ◌+◌, ◌≤◌, List, [], ◌∷◌, ◌++◌, length, map, reverse, refl, sym, ap, subst, ◌∙◌, append_assoc, append-nil, arith, length-append, false, true≢false}
+use Rattle.std.proofs.Common.{◌≡◌, ℕ, ◌+◌, ◌≤◌, List, [], ◌∷◌, ◌++◌, length, map, reverse, refl, sym, ap, subst, ◌∙◌, append_assoc, arith, length-append, false, true≢false}
 use Rattle.std.specs.Prelude.{Result, Ok, Err, IfOk, OnOk, Some}
 use Rattle.core.specs.Result.{is_err}
 use Rattle.std.specs.List.{All, enumerate_from}
-use Rattle.std.proofs.lemmas.List.{length-map, length-reverse, map-append, reverse-append}
+use Rattle.std.proofs.lemmas.List.{length-map, length-reverse, reverse-append}
 use Rattle.std.proofs.lemmas.List.Elements.{All-cons, All-head, All-nil, All-pop, All-push, All-tail}
 use Rattle.logbook.specs.Pages.{Book}
 use Rattle.amt_ports.specs.declared.out_link.OutLink.{Ghosts}
@@ -131,4 +131,4 @@ module _ {O : Type 0} {g : Ghosts O} where
   of_publisher settings book [] starts = All-nil (λ (slot : SlotState O g). publisher_of (view_of slot.first) ≡ book)
   of_publisher settings book (slot ∷ slots) starts =
       All-cons (λ (slot : SlotState O g). publisher_of (view_of slot.first) ≡ book) slot slots (All-head (IsStart settings book) slot.first (starts_in slots) starts).new.of
-          (of_publisher settings book slots (All-tail (IsStart settings book) slot.first (starts_in slots) starts))
+      (of_publisher settings book slots (All-tail (IsStart settings book) slot.first (starts_in slots) starts))

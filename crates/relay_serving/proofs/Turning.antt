@@ -1,5 +1,5 @@
 -- What the stages of a turn come to together.
-use Rattle.std.proofs.Common.{◌≡◌, ℕ, ◌+◌, Bool, List, [], ◌∷◌, ◌++◌, map, refl, sym, ap, subst, ◌∙◌}
+use Rattle.std.proofs.Common.{◌≡◌, ℕ, Bool, List, [], ◌∷◌, ◌++◌, map, refl, sym, ap, subst, ◌∙◌}
 use Rattle.std.proofs.lemmas.List.{append-nil, append_assoc}
 use Rattle.std.specs.List.{filter_map}
 use Rattle.amt_ports.specs.Told.{Appends, AppendsAll}
@@ -13,15 +13,16 @@ use Rattle.response_mac.specs.declared.secret.Secret.{Secret}
 use Rattle.relay_machine.specs.Events.{moment_in, now_of}
 use Rattle.relay_machine.specs.declared.event.Event.{Event}
 use Rattle.relay_machine.specs.declared.settings.Settings.{Settings}
-use Rattle.relay_serving.specs.Devices.{AnswersAll, Devices, FeedSeen, LinkSeen}
+use Rattle.relay_serving.specs.Devices.{AnswersAll, Devices}
 use Rattle.relay_serving.specs.Events.{datagrams_in, moment_event, packets_in, rotation}
 use Rattle.relay_serving.specs.Sending.{answers_after}
 use Rattle.relay_serving.specs.Servers.{Feeds, HasEvents, Hears, IsSameRun, counts_in, events_in, first_in, now_in, settings_in}
 use Rattle.relay_serving.specs.Turning.{Goes}
 use Rattle.relay_serving.specs.Turns.{Publishing, Taken, Turn, moment_of_turn}
 use Rattle.relay_serving.specs.declared.server.Server.{Server}
-use Rattle.relay_serving.proofs.Answered.{HasAnswered-alike, HasAnswered-none}
-use Rattle.relay_serving.proofs.Silence.{answers-append, none-begun, none-packets, now_of-silent, timeless-datagrams, timeless-packets}
+use Rattle.relay_serving.proofs.Answering.{HasAnswered-alike, answers_after-append}
+use Rattle.relay_serving.proofs.Events.{IsSameRun-none, IsSameRun-then}
+use Rattle.relay_serving.proofs.Silence.{none-begun, none-packets, now_of-silent, timeless-datagrams, timeless-packets}
 
 -- four lots of events in a row
 all_events : (before began heard published after moment secret datagrams packets : List Event) → began ≡ before ++ (moment ++ secret) → heard ≡ began ++ datagrams
@@ -43,9 +44,9 @@ all_answers settings first before starved moment drawn datagrams fed =
     ap (answers_after settings first before)
     (append-nil (moment_event starved moment ++ (rotation drawn ++ (datagrams ++ packets_in fed)))
     ∙ sym (append_assoc (moment_event starved moment) (rotation drawn) (datagrams ++ packets_in fed)))
-    ∙ answers-append settings first before begun (datagrams ++ packets_in fed)
+    ∙ answers_after-append settings first before begun (datagrams ++ packets_in fed)
     ∙ ap (λ (list : List (Peer × List ℕ)). list ++ answers_after settings first later (datagrams ++ packets_in fed)) (none-begun settings first before starved moment drawn)
-    ∙ answers-append settings first later datagrams (packets_in fed)
+    ∙ answers_after-append settings first later datagrams (packets_in fed)
     ∙ ap (λ (list : List (Peer × List ℕ)). answers_after settings first later datagrams ++ list) (none-packets settings first (later ++ datagrams) fed)
     ∙ append-nil (answers_after settings first later datagrams)
 
@@ -60,47 +61,6 @@ turn_of answer starved drawn heard publishing fed = record {
 }
 
 module _ {O : Type 0} {g : Ghosts O} {T : Type 0} where
-  pub IsSameRun-none : (server : Server O T g) → IsSameRun server server
-  IsSameRun-none server = record {
-    same_settings = refl;
-    same_first = refl;
-    same_starts = refl;
-    same_book = refl;
-    same_mode = refl;
-    same_tasks = λ task_of runs. runs;
-  }
-
-  pub IsSameRun-then : (before now after : Server O T g) → IsSameRun before now → IsSameRun now after → IsSameRun before after
-  IsSameRun-then before now after first second = record {
-    same_settings = second.same_settings ∙ first.same_settings;
-    same_first = second.same_first ∙ first.same_first;
-    same_starts = second.same_starts ∙ first.same_starts;
-    same_book = second.same_book ∙ first.same_book;
-    same_mode = second.same_mode ∙ first.same_mode;
-    same_tasks = λ task_of runs. second.same_tasks task_of (first.same_tasks task_of runs);
-  }
-
-  pub HasEvents-none : (server : Server O T g) → HasEvents server server []
-  HasEvents-none server = record { same = IsSameRun-none server; events = sym (append-nil (events_in server)) }
-
-  -- the link wasn't asked, and the feed wasn't
-  pub Hears-none : (server : Server O T g) (link : LinkSeen) → Hears server server link link []
-  Hears-none server link = record {
-    events = HasEvents-none server;
-    same_published = refl;
-    came = refl;
-    answered = HasAnswered-none link (counts_in server);
-  }
-
-  pub Feeds-none : (server : Server O T g) (feed : FeedSeen) → Feeds server server feed feed []
-  Feeds-none server feed = record {
-    events = HasEvents-none server;
-    same_published = refl;
-    same_sent = refl;
-    same_unsent = refl;
-    came = refl;
-  }
-
   -- events that report no moment leave it
   pub now_in-kept : (before after : Server O T g) (more : List Event) → events_in after ≡ events_in before ++ more → filter_map moment_in more ≡ [] → now_in after ≡ now_in before
   now_in-kept before after more events none = after.at.moment ∙ ap now_of events ∙ now_of-silent (events_in before) more none ∙ sym before.at.moment

@@ -1,5 +1,5 @@
 -- The ways out of a turn.
-use Rattle.std.proofs.Common.{◌≡◌, ◌≢◌, ℕ, ◌+◌, Bool, true, false, true≢false, cond, List, [], ◌∷◌, ◌++◌, Option, Result, Ok, Err, refl, sym, ap, ◌∙◌, arith}
+use Rattle.std.proofs.Common.{◌≡◌, ℕ, ◌+◌, Bool, true, false, true≢false, cond, List, [], ◌∷◌, ◌++◌, Option, None, Result, Ok, Err, refl, sym, ap, ◌∙◌, arith}
 use Rattle.std.proofs.lemmas.List.Sums.{sum_by-append}
 use Rattle.std.specs.Prelude.{IsErrOf}
 use Rattle.std.specs.List.{count_by}
@@ -22,7 +22,9 @@ use Rattle.relay_serving.specs.declared.plan.End.{End}
 use Rattle.relay_serving.specs.declared.plan.End.TheVariants.{FeedFault, LinkFault, Memory}
 use Rattle.relay_serving.specs.declared.server.Server.{Server}
 use Rattle.relay_serving.proofs.Cuts.{cut_begun, cut_heard, turn_fed}
-use Rattle.relay_serving.proofs.Turning.{Feeds-none, HasStages, Hears-none, Keeps, Keeps-none, goes_of, now_of_stages, turn_of}
+use Rattle.relay_serving.proofs.Events.{IsAsBefore-same}
+use Rattle.relay_serving.proofs.Hearing.{Feeds-none, Hears-none}
+use Rattle.relay_serving.proofs.Turning.{HasStages, Keeps, Keeps-none, goes_of, now_of_stages, turn_of}
 
 -- datagrams are no packets
 packets-datagram : (later : List Event) (starved : Bool) (answer : LinkAnswer)
@@ -51,7 +53,7 @@ module _ {O : Type 0} {g : Ghosts O} {T : Type 0} where
     -- in the first stage
     pub ends_begun : (before after : Server O T g) (link : LinkSeen) (feed : FeedSeen) (end : End)
         → BeginsSo rotate renewed renewed' before after clock clock' words words' (Err end) → counts_in after ≡ counts_in before
-        → TurnsSo rotate renewed renewed' before after (devices_seen clock (words_seen words faults) link feed 0) (devices_seen clock' (words_seen words' faults') link feed 0) (Err end)
+        → TurnsSo rotate renewed renewed' before after (devices_seen clock (words_seen words faults) link feed None 0) (devices_seen clock' (words_seen words' faults') link feed None 0) (Err end)
     ends_begun before after link feed end begins counts =
         let turn = turn_of begins.answer begins.starved begins.drawn [] Ahead [] in
         let stages : HasStages before after _ _ turn = record {
@@ -62,9 +64,9 @@ module _ {O : Type 0} {g : Ghosts O} {T : Type 0} where
           same_counts = counts;
           clock = begins.clock_gave;
           words = begins.words_gave;
-          hears = Hears-none after link;
+          hears = Hears-none after after link link (IsAsBefore-same after) refl refl refl;
           keeps = Keeps-none after;
-          feeds = Feeds-none after feed;
+          feeds = Feeds-none after after feed feed (IsAsBefore-same after) refl;
         } in
         record {
           turn = turn;
@@ -79,7 +81,7 @@ module _ {O : Type 0} {g : Ghosts O} {T : Type 0} where
     pub ends_heard : (before began after : Server O T g) (link link' : LinkSeen) (feed : FeedSeen) (end : End)
         → BeginsSo rotate renewed renewed' before began clock clock' words words' (Ok tt) → counts_in began ≡ counts_in before
         → HearsSo began after link link' (AreAsked IsDatagram NothingCame LinkClosed (Err end)) → (IsErrOf {T = Unit {0}} (Err end) FeedFault → ⊥)
-        → TurnsSo rotate renewed renewed' before after (devices_seen clock (words_seen words faults) link feed 0) (devices_seen clock' (words_seen words' faults') link' feed 0) (Err end)
+        → TurnsSo rotate renewed renewed' before after (devices_seen clock (words_seen words faults) link feed None 0) (devices_seen clock' (words_seen words' faults') link' feed None 0) (Err end)
     ends_heard before began after link link' feed end begins counts hears other =
         let turn = turn_of begins.answer begins.starved begins.drawn hears.heard Ahead [] in
         let stages : HasStages before after _ _ turn = record {
@@ -92,7 +94,7 @@ module _ {O : Type 0} {g : Ghosts O} {T : Type 0} where
           words = begins.words_gave;
           hears = hears.hears;
           keeps = Keeps-none after;
-          feeds = Feeds-none after feed;
+          feeds = Feeds-none after after feed feed (IsAsBefore-same after) refl;
         } in
         record {
           turn = turn;
@@ -107,7 +109,7 @@ module _ {O : Type 0} {g : Ghosts O} {T : Type 0} where
     pub ends_refused : (before began heard after : Server O T g) (link link' : LinkSeen) (feed : FeedSeen)
         → BeginsSo rotate renewed renewed' before began clock clock' words words' (Ok tt) → counts_in began ≡ counts_in before
         → HearsSo began heard link link' (AreAsked IsDatagram NothingCame LinkClosed (Ok tt)) → Keeps heard after
-        → TurnsSo rotate renewed renewed' before after (devices_seen clock (words_seen words faults) link feed 0) (devices_seen clock' (words_seen words' faults') link' feed 0) (Err Memory)
+        → TurnsSo rotate renewed renewed' before after (devices_seen clock (words_seen words faults) link feed None 0) (devices_seen clock' (words_seen words' faults') link' feed None 0) (Err Memory)
     ends_refused before began heard after link link' feed begins counts hears keeps =
         let turn = turn_of begins.answer begins.starved begins.drawn hears.heard Refused [] in
         let stages : HasStages before after _ _ turn = record {
@@ -120,7 +122,7 @@ module _ {O : Type 0} {g : Ghosts O} {T : Type 0} where
           words = begins.words_gave;
           hears = hears.hears;
           keeps = keeps;
-          feeds = Feeds-none after feed;
+          feeds = Feeds-none after after feed feed (IsAsBefore-same after) refl;
         } in
         record {
           turn = turn;
@@ -136,7 +138,7 @@ module _ {O : Type 0} {g : Ghosts O} {T : Type 0} where
         → BeginsSo rotate renewed renewed' before began clock clock' words words' (Ok tt) → counts_in began ≡ counts_in before
         → HearsSo began heard link link' (AreAsked IsDatagram NothingCame LinkClosed (Ok tt)) → Keeps heard published
         → FeedsSo published after feed feed' (AreAsked IsPacket NothingFed FeedClosed result) → (IsErrOf result LinkFault → ⊥) → owing_in after ≡ []
-        → TurnsSo rotate renewed renewed' before after (devices_seen clock (words_seen words faults) link feed 0) (devices_seen clock' (words_seen words' faults') link' feed' 0) result
+        → TurnsSo rotate renewed renewed' before after (devices_seen clock (words_seen words faults) link feed None 0) (devices_seen clock' (words_seen words' faults') link' feed' None 0) result
     ends_fed before began heard published after link link' feed feed' result begins counts hears keeps feeds other none =
         let turn = turn_of begins.answer begins.starved begins.drawn hears.heard Done feeds.fed in
         let stages : HasStages before after _ _ turn = record {

@@ -1,5 +1,5 @@
 -- A whole run, put together.
-use Rattle.std.proofs.Common.{◌≡◌, ◌≢◌, ◌⊎◌, ℕ, zero, suc, ◌+◌, ◌==◌, ◌<◌, ◌≤◌, ◌^◌, max, not, nat_eq, Bool, true, false, List, [], ◌∷◌, ◌++◌, length, map, take, refl, sym, ap, subst, ◌∙◌, append_assoc, append-nil, arith, length-append, true≢false, inl, inr, if◌then◌else◌}
+use Rattle.std.proofs.Common.{◌≡◌, ◌≢◌, ℕ, ◌+◌, ◌==◌, ◌<◌, ◌≤◌, ◌^◌, max, not, Bool, true, false, List, [], ◌∷◌, ◌++◌, length, map, take, refl, sym, ap, subst, ◌∙◌, append-nil, arith, length-append, inl, inr, if◌then◌else◌}
 use Rattle.std.specs.Prelude.{Option, None, Some, Result, Ok, Err}
 use Rattle.std.specs.List.{All, AllZip}
 use Rattle.std.proofs.Math.Logic.{∥∥₁_elim, ∥∥₁_map, ∥∥₁_prop}
@@ -24,7 +24,8 @@ use Rattle.relay_machine.specs.declared.settings.Settings.{Settings}
 use Rattle.replication_workers.specs.Dispatchers.{is_threaded}
 use Rattle.replication_workers.specs.Replication.{HasTried}
 use Rattle.replication_workers.specs.Replicators.{out_of}
-use Rattle.replication_workers.specs.SlotStates.{SlotState, jobs_in_all}
+use Rattle.replication_workers.specs.SlotStates.{jobs_in_all}
+use Rattle.replication_workers.specs.Starting.{HaveStarted}
 use Rattle.replication_workers.proofs.Trying.{HasTried-none}
 use Rattle.relay_serving.specs.Bursts.{IsCauseOf}
 use Rattle.relay_serving.specs.Counting.{AreCounted, is_datagram}
@@ -34,10 +35,10 @@ use Rattle.relay_serving.specs.Ending.{Finishes}
 use Rattle.relay_serving.specs.Events.{events_from, events_of, first_of, secret_by}
 use Rattle.relay_serving.specs.GivenOut.{AreGivenOut, starts_in}
 use Rattle.relay_serving.specs.Reports.{report_of, unused_report}
-use Rattle.relay_serving.specs.Runs.{HasEnded, IsCut, MayGo, Run, served, turns_of, unsown, unstarted, with_cut, words_drawn}
+use Rattle.relay_serving.specs.Runs.{HasEnded, IsCut, MayGo, Run, served, turns_of, unsown, unstarted, words_drawn}
 use Rattle.relay_serving.specs.Sending.{answers_after, due_of, dues_after}
-use Rattle.relay_serving.specs.Serving.{ArePublished, IsOwedBy, OutsServed, Serves, one_lost, unused, used}
-use Rattle.relay_serving.specs.Servers.{counts_in, events_in, first_in, now_in, owing_in, published_in, settings_in, slots_in}
+use Rattle.relay_serving.specs.Serving.{ArePublished, IsOwedBy, OutsServed, Serves, StartsWorkers, one_lost, unused, used}
+use Rattle.relay_serving.specs.Servers.{events_in, first_in, now_in, owing_in, published_in, settings_in, slots_in}
 use Rattle.relay_serving.specs.Starting.{AreLeftBy, AreStarts, IsAtStart}
 use Rattle.relay_serving.specs.Turning.{EndsIn, RunsSo}
 use Rattle.relay_serving.specs.Turns.{Progress, Turn}
@@ -48,7 +49,10 @@ use Rattle.relay_serving.specs.declared.plan.ServePlan.{ServePlan}
 use Rattle.relay_serving.specs.declared.plan.ServeReport.{ServeReport}
 use Rattle.relay_serving.specs.declared.server.Server.{Server}
 use Rattle.relay_serving.specs.declared.server.ending.Ending.{Ending}
+use Rattle.relay_serving.proofs.Drawing.{AppendsAll-none, AppendsAll-then}
 use Rattle.relay_serving.proofs.SlotsServed.{Slotted, all_inline, are_served, jobs_count, slotted}
+use Rattle.relay_serving.proofs.Started.{starts_all, starts_none, starts_refused}
+use Rattle.relay_serving.proofs.Together.{read_prefixes}
 
 -- which end it is
 abbrev number_of : End → ℕ
@@ -60,32 +64,23 @@ number_of WordsFault = 4
 number_of SpawnFault = 5
 number_of Memory = 6
 
--- what is told, in a row
-pub told_then : {X : Type 0} (before now after : Option (List X)) (one more : List X) → AppendsAll before now one → AppendsAll now after more → AppendsAll before after (one ++ more)
-told_then before now None one more first second = tt
-told_then before now (Some all) one more first second =
-    let known = subst (λ (told : Option _). AppendsAll before told one) second.1 first in
-    (known.0, known.1, second.2 ∙ ap (λ (list : List _). list ++ more) known.2 ∙ append_assoc known.0 one more)
-
-told_none : {X : Type 0} (told : Option (List X)) → AppendsAll told told []
-told_none None = tt
-told_none (Some list) = (list, refl, sym (append-nil list))
-
 -- of a run without any turn
 abbrev unrun : List ℕ → Run
 unrun first = record { first = first; whole = []; cut = None }
 
-not_run : (settings : Settings) (plan : ServePlan) (end : End) (first : List ℕ) (clock : Option (List ℕ)) (words words' : WordsSeen) (link : LinkSeen) (feed : FeedSeen) (starts starts' : ℕ) (outs outs' : List OutSeen)
+not_run : (settings : Settings) (plan : ServePlan) (end : End) (first : List ℕ) (clock : Option (List ℕ)) (words words' : WordsSeen) (link : LinkSeen) (feed : FeedSeen) (starts starts' : Option ℕ) (faults faults' : ℕ) (outs outs' : List OutSeen)
     → AppendsAll words.given words'.given first → MayGo plan end (unrun first) → OutsServed settings plan (unrun first) (unused_report end) outs outs' [] 0 0
-    → end ≢ LinkFault → end ≢ FeedFault → IsCauseOf end WordsFault words.faults words'.faults → IsCauseOf end SpawnFault starts starts'
-    → Serves settings plan (devices_seen clock words link feed starts) (devices_seen clock words' link feed starts') outs outs' [] (unused_report end)
-not_run settings plan end first clock words words' link feed starts starts' outs outs' drawn goes outs_are no_link no_feed words_are starts_are = record {
+    → StartsWorkers plan.workers [] end starts starts'
+    → end ≢ LinkFault → end ≢ FeedFault → IsCauseOf end WordsFault words.faults words'.faults → IsCauseOf end SpawnFault faults faults'
+    → Serves settings plan (devices_seen clock words link feed starts faults) (devices_seen clock words' link feed starts' faults') outs outs' [] (unused_report end)
+not_run settings plan end first clock words words' link feed starts starts' faults faults' outs outs' drawn goes outs_are started no_link no_feed words_are starts_are = record {
   run = unrun first;
   goes = goes;
-  clock = told_none clock;
+  clock = AppendsAll-none clock;
   words = subst (AppendsAll words.given words'.given) (sym (append-nil first)) drawn;
   link = refl;
   feed = refl;
+  started = started;
   link_sent = 0;
   link_unsent = 0;
   link_tried = HasTried-none link.tried link.send_faults;
@@ -105,33 +100,37 @@ not_run settings plan end first clock words words' link feed starts starts' outs
 }
 
 -- words were lacking
-pub serves_unsown : (settings : Settings) (plan : ServePlan) (first : List ℕ) (clock : Option (List ℕ)) (words words' : WordsSeen) (link : LinkSeen) (feed : FeedSeen) (starts : ℕ) (outs : List OutSeen)
+pub serves_unsown : (settings : Settings) (plan : ServePlan) (first : List ℕ) (clock : Option (List ℕ)) (words words' : WordsSeen) (link : LinkSeen) (feed : FeedSeen) (starts : Option ℕ) (faults : ℕ) (outs : List OutSeen)
     → AppendsAll words.given words'.given first → length first < 4 → Rose words.faults words'.faults
-    → Serves settings plan (devices_seen clock words link feed starts) (devices_seen clock words' link feed starts) outs outs [] (unused_report WordsFault)
-serves_unsown settings plan first clock words words' link feed starts outs drawn few rose =
+    → Serves settings plan (devices_seen clock words link feed starts faults) (devices_seen clock words' link feed starts faults) outs outs [] (unused_report WordsFault)
+serves_unsown settings plan first clock words words' link feed starts faults outs drawn few rose =
     let not_spawn : WordsFault ≢ SpawnFault = λ is. (let same : 4 ≡ 5 = ap number_of is in omega (arith, same)) in
-    not_run settings plan WordsFault first clock words words' link feed starts starts outs outs drawn (unsown few refl refl refl)
-        (unused not_spawn refl refl refl (record { no_inline = refl; none_owed = refl; none_published = refl; none_apart = refl }) refl refl)
-        (λ is. (let same : 4 ≡ 2 = ap number_of is in omega (arith, same))) (λ is. (let same : 4 ≡ 3 = ap number_of is in omega (arith, same))) ((λ is. rose), (λ other. absurd (other refl))) ((λ is. absurd (not_spawn is)), (λ other. refl))
+    not_run settings plan WordsFault first clock words words' link feed starts starts faults faults outs outs drawn (unsown few refl refl refl)
+    (unused not_spawn refl refl refl (record { no_inline = refl; none_owed = refl; none_published = refl; none_apart = refl }) refl refl)
+    (starts_none plan.workers WordsFault starts starts refl)
+    (λ is. (let same : 4 ≡ 2 = ap number_of is in omega (arith, same))) (λ is. (let same : 4 ≡ 3 = ap number_of is in omega (arith, same))) ((λ is. rose), (λ other. absurd (other refl))) ((λ is. absurd (not_spawn is)), (λ other. refl))
 
 -- no relay was started
-pub serves_unstarted : (settings : Settings) (plan : ServePlan) (end : End) (first : List ℕ) (clock : Option (List ℕ)) (words words' : WordsSeen) (link : LinkSeen) (feed : FeedSeen) (starts starts' : ℕ) (outs outs' : List OutSeen)
-    → AppendsAll words.given words'.given first → length first ≡ 4 → words'.faults ≡ words.faults → AreLeftBy end outs outs' starts starts'
-    → Serves settings plan (devices_seen clock words link feed starts) (devices_seen clock words' link feed starts') outs outs' [] (unused_report end)
-serves_unstarted settings plan Memory first clock words words' link feed starts starts' outs outs' drawn four quiet left =
+pub serves_unstarted : (settings : Settings) (plan : ServePlan) (end : End) (first : List ℕ) (clock : Option (List ℕ)) (words words' : WordsSeen) (link : LinkSeen) (feed : FeedSeen) (starts starts' : Option ℕ) (faults faults' : ℕ) (outs outs' : List OutSeen)
+    → AppendsAll words.given words'.given first → length first ≡ 4 → words'.faults ≡ words.faults → AreLeftBy end outs outs' starts starts' faults faults'
+    → (threads : Bool) → threads ≡ not (plan.workers == 0) → (threads ≡ false → starts' ≡ starts)
+    → Serves settings plan (devices_seen clock words link feed starts faults) (devices_seen clock words' link feed starts' faults') outs outs' [] (unused_report end)
+serves_unstarted settings plan Memory first clock words words' link feed starts starts' faults faults' outs outs' drawn four quiet left threads mode idle =
     let not_spawn : Memory ≢ SpawnFault = λ is. (let same : 6 ≡ 5 = ap number_of is in omega (arith, same)) in
-    not_run settings plan Memory first clock words words' link feed starts starts' outs outs' drawn (unstarted four (inl refl) refl refl)
-        (unused not_spawn refl left.0 refl (record { no_inline = refl; none_owed = refl; none_published = refl; none_apart = refl }) refl refl)
-        (λ is. (let same : 6 ≡ 2 = ap number_of is in omega (arith, same))) (λ is. (let same : 6 ≡ 3 = ap number_of is in omega (arith, same))) ((λ is. (let same : 6 ≡ 4 = ap number_of is in omega (arith, same))), (λ other. quiet)) ((λ is. absurd (not_spawn is)), (λ other. left.1))
-serves_unstarted settings plan SpawnFault first clock words words' link feed starts starts' outs outs' drawn four quiet left =
-    not_run settings plan SpawnFault first clock words words' link feed starts starts' outs outs' drawn (unstarted four (inr refl) refl refl)
-        (one_lost refl refl left.0 refl (record { no_inline = refl; none_owed = refl; none_published = refl; none_apart = refl }) refl refl)
-        (λ is. (let same : 5 ≡ 2 = ap number_of is in omega (arith, same))) (λ is. (let same : 5 ≡ 3 = ap number_of is in omega (arith, same))) ((λ is. (let same : 5 ≡ 4 = ap number_of is in omega (arith, same))), (λ other. quiet)) ((λ is. left.1), (λ other. absurd (other refl)))
-serves_unstarted settings plan Turns first clock words words' link feed starts starts' outs outs' drawn four quiet left = absurd left
-serves_unstarted settings plan Closed first clock words words' link feed starts starts' outs outs' drawn four quiet left = absurd left
-serves_unstarted settings plan LinkFault first clock words words' link feed starts starts' outs outs' drawn four quiet left = absurd left
-serves_unstarted settings plan FeedFault first clock words words' link feed starts starts' outs outs' drawn four quiet left = absurd left
-serves_unstarted settings plan WordsFault first clock words words' link feed starts starts' outs outs' drawn four quiet left = absurd left
+    not_run settings plan Memory first clock words words' link feed starts starts' faults faults' outs outs' drawn (unstarted four (inl refl) refl refl)
+    (unused not_spawn refl left.0 refl (record { no_inline = refl; none_owed = refl; none_published = refl; none_apart = refl }) refl refl)
+    (starts_none plan.workers Memory starts starts' left.1)
+    (λ is. (let same : 6 ≡ 2 = ap number_of is in omega (arith, same))) (λ is. (let same : 6 ≡ 3 = ap number_of is in omega (arith, same))) ((λ is. (let same : 6 ≡ 4 = ap number_of is in omega (arith, same))), (λ other. quiet)) ((λ is. absurd (not_spawn is)), (λ other. left.2))
+serves_unstarted settings plan SpawnFault first clock words words' link feed starts starts' faults faults' outs outs' drawn four quiet left threads mode idle =
+    not_run settings plan SpawnFault first clock words words' link feed starts starts' faults faults' outs outs' drawn (unstarted four (inr refl) refl refl)
+    (one_lost refl refl left.0 refl (record { no_inline = refl; none_owed = refl; none_published = refl; none_apart = refl }) refl refl)
+    (starts_refused plan.workers threads starts starts' mode idle)
+    (λ is. (let same : 5 ≡ 2 = ap number_of is in omega (arith, same))) (λ is. (let same : 5 ≡ 3 = ap number_of is in omega (arith, same))) ((λ is. (let same : 5 ≡ 4 = ap number_of is in omega (arith, same))), (λ other. quiet)) ((λ is. left.1), (λ other. absurd (other refl)))
+serves_unstarted settings plan Turns first clock words words' link feed starts starts' faults faults' outs outs' drawn four quiet left threads mode idle = absurd left
+serves_unstarted settings plan Closed first clock words words' link feed starts starts' faults faults' outs outs' drawn four quiet left threads mode idle = absurd left
+serves_unstarted settings plan LinkFault first clock words words' link feed starts starts' faults faults' outs outs' drawn four quiet left threads mode idle = absurd left
+serves_unstarted settings plan FeedFault first clock words words' link feed starts starts' faults faults' outs outs' drawn four quiet left threads mode idle = absurd left
+serves_unstarted settings plan WordsFault first clock words words' link feed starts starts' faults faults' outs outs' drawn four quiet left threads mode idle = absurd left
 
 -- the same of what a call gave
 pub reported : (settings : Settings) (plan : ServePlan) (before after : Devices) (outs left left' : List OutSeen) (views views' : List View) (report report' : ServeReport)
@@ -200,18 +199,19 @@ module _ {O : Type 0} {g : Ghosts O} {T : Type 0} where
   few_in_all server ending finishes few outs_few =
       let sent = ap (λ (counts : Counts). counts.sent) finishes.same_counts in
       let unsent = ap (λ (counts : Counts). counts.unsent) finishes.same_counts in
-      let within = count_by-le-length is_datagram (events_in server) in
-      (omega (arith, sent, within, few, outs_few, server.counted.few_sends, server.counted.events_are.datagrams_are),
-       omega (arith, unsent, within, few, outs_few, server.counted.few_sends, server.counted.events_are.datagrams_are))
+      let within = count_by-le-length is_datagram (events_in server) in (
+        omega (arith, sent, within, few, outs_few, server.counted.few_sends, server.counted.events_are.datagrams_are),
+        omega (arith, unsent, within, few, outs_few, server.counted.few_sends, server.counted.events_are.datagrams_are),
+      )
 
   module _ (settings : Settings) (plan : ServePlan) (secret : Secret) (outs : List O) (threads : Bool) (drawn : List ℕ) (start server : Server O T g) (ending : Ending O) (end : End) (turns : ℕ)
       (clock clock' : Option (List ℕ)) (words words' words'' : WordsSeen) (link link' : LinkSeen) (feed feed' : FeedSeen)
       (secret_is : secret ≡ secret_by drawn) (four : length drawn ≡ 4) (gave : AppendsAll words.given words'.given drawn) (quiet : words'.faults ≡ words.faults)
       (at : IsAtStart settings secret outs threads start)
-      (runs : RunsSo plan start server (devices_seen clock words' link feed 0) (devices_seen clock' words'' link' feed' 0) end turns)
-      (ends : EndsIn end (devices_seen clock words' link feed 0) (devices_seen clock' words'' link' feed' 0))
-      (finishes : Finishes server ending) (number : length outs ≡ max plan.workers 1) (mode : threads ≡ not (plan.workers == 0)) where
-
+      (runs : RunsSo plan start server (devices_seen clock words' link feed None 0) (devices_seen clock' words'' link' feed' None 0) end turns)
+      (ends : EndsIn end (devices_seen clock words' link feed None 0) (devices_seen clock' words'' link' feed' None 0))
+      (finishes : Finishes server ending) (some : 1 ≤ plan.turns) (number : length outs ≡ max plan.workers 1) (mode : threads ≡ not (plan.workers == 0))
+      (starts starts' : Option ℕ) (all_started : threads ≡ true → HaveStarted (length outs) starts starts') (idle : threads ≡ false → starts' ≡ starts) where
     abbrev run_of : Run
     run_of = record { first = drawn; whole = runs.whole; cut = runs.cut }
 
@@ -231,13 +231,13 @@ module _ {O : Type 0} {g : Ghosts O} {T : Type 0} where
     counted =
         subst (λ (counts : Counts). AreCounted settings (first_of run_of) (events_of run_of) counts.datagrams counts.packets counts.updated counts.torn) (sym finishes.same_counts)
         (moved (λ settings first events. AreCounted settings first events server.counts.datagrams server.counts.packets server.counts.updated server.counts.torn)
-            settings_are first_is events_are server.counted.events_are)
+        settings_are first_is events_are server.counted.events_are)
 
     tried : HasTried link.tried link'.tried link.send_faults link'.send_faults (answers_after settings (first_of run_of) [] (events_of run_of)) runs.goes.answered.more runs.goes.answered.missed
     tried =
         subst (λ (wanted : List (Peer × List ℕ)). HasTried link.tried link'.tried link.send_faults link'.send_faults wanted runs.goes.answered.more runs.goes.answered.missed)
-            (λ i. answers_after (at.settings_are i) ((at.first_is ∙ secret_is) i) (at.no_events i) (events_from (now_none start at.no_events i) (turns_of run_of)))
-            runs.goes.answered.tried
+        (λ i. answers_after (at.settings_are i) ((at.first_is ∙ secret_is) i) (at.no_events i) (events_from (now_none start at.no_events i) (turns_of run_of)))
+        runs.goes.answered.tried
 
     published_so : (ending.published + ending.owed ≡ length (published_log settings (first_of run_of) (events_of run_of)))
         × (published_in server ≡ take ending.published (published_log settings (first_of run_of) (events_of run_of)))
@@ -262,48 +262,50 @@ module _ {O : Type 0} {g : Ghosts O} {T : Type 0} where
       inline = inline_of ending.inline ending.counts.packets (jobs_in_all (slots_in server)) (is_threaded server.dispatcher) (plan.workers == 0)
           finishes.inline_is (runs.goes.events.same.same_mode ∙ at.mode ∙ mode)
           (λ none.
-            let zero_workers = zero_of plan.workers none in
-            let outs_number = ap length outs_were in
-            let firsts_number = length-map (starts_in (slots_in server)) out_of in
-            let one : length (starts_in (slots_in server)) ≡ 1 = sym firsts_number ∙ outs_number ∙ number ∙ ap (λ (workers : ℕ). max workers 1) zero_workers in
-            all_inline (slots_in server) given.jobs one given.at_slots ∙ jobs_count settings (first_of run_of) (events_of run_of) given.jobs due ∙ sym counted.packets_are)
+          let zero_workers = zero_of plan.workers none in
+          let outs_number = ap length outs_were in
+          let firsts_number = length-map (starts_in (slots_in server)) out_of in
+          let one : length (starts_in (slots_in server)) ≡ 1 = sym firsts_number ∙ outs_number ∙ number ∙ ap (λ (workers : ℕ). max workers 1) zero_workers in
+          all_inline (slots_in server) given.jobs one given.at_slots ∙ jobs_count settings (first_of run_of) (events_of run_of) given.jobs due ∙ sym counted.packets_are)
 
-      serves_by : (starts starts' : ℕ) → starts' ≡ starts → Slotted settings finishes.left.lefts (views_of ending.views)
-          → Serves settings plan (devices_seen clock words link feed starts) (devices_seen clock' words'' link' feed' starts') (outs_seen g.tried g.faults outs) (outs_seen g.tried g.faults ending.outs) (views_of ending.views) (report_of end turns ending)
-      serves_by starts starts' same slots = record {
-        run = run_of;
-        goes = served runs.last four runs.are_whole runs.ended;
-        clock = runs.goes.clock;
-        words = told_then words.given words'.given words''.given drawn (words_drawn (turns_of run_of)) gave runs.goes.words;
-        link = runs.goes.link;
-        feed = runs.goes.feed;
-        link_sent = runs.goes.answered.more;
-        link_unsent = runs.goes.answered.missed;
-        link_tried = tried;
-        outs_sent = ending.outs_sent;
-        outs_unsent = ending.outs_unsent;
-        outs_served = used given.jobs due
-            (are_served settings outs ending.outs given.jobs (slots_in server) finishes.left_views (views_of ending.views) ending.outs_sent ending.outs_unsent finishes.left given.at_slots outs_were slots)
-            are_published is_owed inline;
-        turns_are = runs.done_is;
-        counted = counted;
-        sent_are = ap (λ (counts : Counts). counts.sent + ending.outs_sent) finishes.same_counts ∙ sum_is server.counts.sent start.counts.sent runs.goes.answered.more ending.outs_sent runs.goes.answered.sent_are (ap (λ (counts : Counts). counts.sent) at.none_counted);
-        unsent_are = ap (λ (counts : Counts). counts.unsent + ending.outs_unsent) finishes.same_counts ∙ sum_is server.counts.unsent start.counts.unsent runs.goes.answered.missed ending.outs_unsent runs.goes.answered.unsent_are (ap (λ (counts : Counts). counts.unsent) at.none_counted);
-        none_starved = refl;
-        none_late = refl;
-        link_cause = ends.link;
-        feed_cause = ends.feed;
-        words_cause = subst (λ (count : ℕ). IsCauseOf end WordsFault count words''.faults) quiet ends.words;
-        start_cause = ((λ is. absurd (no_spawn plan end (length runs.whole) runs.last runs.cut runs.ended is)), (λ other. same));
-      }
+      serves_by : (faults faults' : ℕ) → faults' ≡ faults → Slotted settings finishes.left.lefts (views_of ending.views)
+          → Serves settings plan (devices_seen clock words link feed starts faults) (devices_seen clock' words'' link' feed' starts' faults') (outs_seen g.tried g.faults outs) (outs_seen g.tried g.faults ending.outs) (views_of ending.views) (report_of end turns ending)
+      serves_by faults faults' same slots =
+          let are = are_served settings outs ending.outs given.jobs (slots_in server) finishes.left_views (views_of ending.views) ending.outs_sent ending.outs_unsent finishes.left given.at_slots outs_were slots in record {
+            run = run_of;
+            goes = served runs.last four runs.are_whole runs.ended;
+            clock = runs.goes.clock;
+            words = AppendsAll-then words.given words'.given words''.given drawn (words_drawn (turns_of run_of)) gave runs.goes.words;
+            link = runs.goes.link;
+            feed = runs.goes.feed;
+            started = starts_all plan end runs.last runs.whole runs.cut (length outs) threads starts starts' some runs.ended mode number all_started idle;
+            link_sent = runs.goes.answered.more;
+            link_unsent = runs.goes.answered.missed;
+            link_tried = tried;
+            outs_sent = ending.outs_sent;
+            outs_unsent = ending.outs_unsent;
+            outs_served = used given.jobs due are are_published
+                (read_prefixes settings (published_log settings (first_of run_of) (events_of run_of)) are.slots (views_of ending.views) ending.published ending.owed ending.apart are.each are.views_are are_published)
+                is_owed inline;
+            turns_are = runs.done_is;
+            counted = counted;
+            sent_are = ap (λ (counts : Counts). counts.sent + ending.outs_sent) finishes.same_counts ∙ sum_is server.counts.sent start.counts.sent runs.goes.answered.more ending.outs_sent runs.goes.answered.sent_are (ap (λ (counts : Counts). counts.sent) at.none_counted);
+            unsent_are = ap (λ (counts : Counts). counts.unsent + ending.outs_unsent) finishes.same_counts ∙ sum_is server.counts.unsent start.counts.unsent runs.goes.answered.missed ending.outs_unsent runs.goes.answered.unsent_are (ap (λ (counts : Counts). counts.unsent) at.none_counted);
+            none_starved = refl;
+            none_late = refl;
+            link_cause = ends.link;
+            feed_cause = ends.feed;
+            words_cause = subst (λ (count : ℕ). IsCauseOf end WordsFault count words''.faults) quiet ends.words;
+            start_cause = ((λ is. absurd (no_spawn plan end (length runs.whole) runs.last runs.cut runs.ended is)), (λ other. same));
+          }
 
     -- a run that was ended
-    pub serves_run : (starts starts' : ℕ) → starts' ≡ starts
-        → ∥ Serves settings plan (devices_seen clock words link feed starts) (devices_seen clock' words'' link' feed' starts') (outs_seen g.tried g.faults outs) (outs_seen g.tried g.faults ending.outs) (views_of ending.views) (report_of end turns ending) ∥₁
-    serves_run starts starts' same =
+    pub serves_run : (faults faults' : ℕ) → faults' ≡ faults
+        → ∥ Serves settings plan (devices_seen clock words link feed starts faults) (devices_seen clock' words'' link' feed' starts' faults') (outs_seen g.tried g.faults outs) (outs_seen g.tried g.faults ending.outs) (views_of ending.views) (report_of end turns ending) ∥₁
+    serves_run faults faults' same =
         let left = finishes.left in
         let firsts = subst (AreStarts settings (book_of start.publisher)) (sym (ap starts_in left.slots_are ∙ runs.goes.events.same.same_starts)) at.starts in
         let further = subst (λ (list : List View). AllZip (λ one other. BeginsWith (seen other) (seen one)) list (views_of ending.views)) (sym left.views_are) finishes.asked.further in
         ∥∥₁_elim server.given_out ∥∥₁_prop (λ given.
-          ∥∥₁_map (slotted settings (book_of start.publisher) left.lefts (views_of ending.views) left.each firsts further)
-              (λ slots. serves_by given starts starts' same slots))
+        ∥∥₁_map (slotted settings (book_of start.publisher) left.lefts (views_of ending.views) left.each firsts further)
+        (λ slots. serves_by given faults faults' same slots))

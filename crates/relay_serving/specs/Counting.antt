@@ -52,6 +52,17 @@ with_outcome counts event outcome = record {
   unsent = counts.unsent;
 }
 
+-- the counts after one packet more
+abbrev pub with_packet : Counts → Counts
+with_packet counts = record {
+  datagrams = counts.datagrams;
+  packets = counts.packets + 1;
+  updated = counts.updated;
+  torn = counts.torn;
+  sent = counts.sent;
+  unsent = counts.unsent;
+}
+
 -- exactly these answers were tried by a link; so many more were sent, and so many more not
 pub record HasAnswered (link link' : LinkSeen) (counts counts' : Counts) (wanted : List (Peer × List ℕ)) : Type 0 where
   pub more : ℕ

@@ -50,14 +50,16 @@ AnswersAll closed before after [] = after ≡ before
 AnswersAll {X} closed before after (answer ∷ later) =
     (middle : Option (List X)) × Answers closed before middle answer × AnswersAll closed middle after later
 
--- of all devices of a run but its outs: the moments that the clock gave are told too, and how often a start failed
+-- of all devices of a run but its outs: the moments that the clock gave, and how many tasks were started, where
+-- they are told, and how often a start failed
 pub record Devices : Type 0 where
   pub clock : Option (List ℕ)
   pub words : WordsSeen
   pub link : LinkSeen
   pub feed : FeedSeen
+  pub starts : Option ℕ
   pub start_faults : ℕ
 
-abbrev pub devices_seen : Option (List ℕ) → WordsSeen → LinkSeen → FeedSeen → ℕ → Devices
-devices_seen clock words link feed start_faults =
-    record { clock = clock; words = words; link = link; feed = feed; start_faults = start_faults }
+abbrev pub devices_seen : Option (List ℕ) → WordsSeen → LinkSeen → FeedSeen → Option ℕ → ℕ → Devices
+devices_seen clock words link feed starts start_faults =
+    record { clock = clock; words = words; link = link; feed = feed; starts = starts; start_faults = start_faults }

@@ -1,5 +1,5 @@
 -- What a running relay leaves.
-use Rattle.std.specs.Prelude.{◌≡◌, ℕ, List, length, count_by, if◌then◌else◌, length}
+use Rattle.std.specs.Prelude.{◌≡◌, List, length, count_by, if◌then◌else◌, length}
 use Rattle.std.specs.List.{All, AllZip}
 use Rattle.amt_ports.specs.declared.out_link.OutLink.{Ghosts}
 use Rattle.endpoint_membership.specs.declared.change.Change.{Change}

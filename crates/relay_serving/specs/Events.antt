@@ -1,6 +1,6 @@
 -- The events that the answers of devices make, in the order of a turn: its moment, a new secret, each
 -- datagram, each packet.
-use Rattle.std.specs.Prelude.{ℕ, max, Bool, true, false, List, [], ◌∷◌, ◌++◌, Option, None, Some}
+use Rattle.std.specs.Prelude.{ℕ, Bool, true, false, List, [], ◌∷◌, ◌++◌, Option, None, Some}
 use Rattle.std.specs.List.{filter_map, flat_map}
 use Rattle.byteorder.specs.Endian.{big_bytes}
 use Rattle.amt_ports.specs.declared.feed.FeedAnswer.{FeedAnswer}

@@ -1,6 +1,5 @@
 -- What is read of a running relay, and what its calls do to it and its devices.
 use Rattle.std.specs.Prelude.{◌≡◌, ℕ, List, ◌++◌, map}
-use Rattle.logbook.specs.Pages.{Book}
 use Rattle.amt_ports.specs.declared.feed.FeedAnswer.{FeedAnswer}
 use Rattle.amt_ports.specs.declared.feed.FeedAnswer.TheVariants.{Closed as FeedClosed}
 use Rattle.amt_ports.specs.declared.link.LinkAnswer.{LinkAnswer}

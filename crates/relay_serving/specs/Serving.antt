@@ -1,12 +1,13 @@
 -- What a run of a serving relay comes to.
-use Rattle.std.specs.Prelude.{◌≡◌, ◌≢◌, ◌==◌, ℕ, ◌+◌, List, [], ◌∷◌, ◌++◌, length, map, take, count_by, sum_by, if◌then◌else◌}
+use Rattle.std.specs.Prelude.{◌≡◌, ◌≢◌, ◌==◌, ℕ, ◌+◌, List, [], ◌∷◌, ◌++◌, length, map, take, count_by, sum_by, Option, if◌then◌else◌}
 use Rattle.std.specs.List.{All, enumerate_from}
 use Rattle.amt_ports.specs.Told.{AppendsAll}
 use Rattle.amt_ports.specs.declared.feed.FeedAnswer.TheVariants.{Closed as FeedClosed}
 use Rattle.amt_ports.specs.declared.link.LinkAnswer.TheVariants.{Closed as LinkClosed}
 use Rattle.amt_values.specs.declared.peer.Peer.{Peer}
+use Rattle.endpoint_membership.specs.Table.{TableSettings}
 use Rattle.endpoint_membership.specs.declared.change.Change.{Change}
-use Rattle.published_table.specs.Lists.{BeginsWith}
+use Rattle.published_table.specs.Lists.{BeginsWith, BeginsWithEach}
 use Rattle.published_table.specs.Views.{seen}
 use Rattle.published_table.specs.declared.view.View.{View}
 use Rattle.relay_machine.specs.Published.{published_log}
@@ -14,6 +15,7 @@ use Rattle.relay_machine.specs.Settings.{table_settings_of}
 use Rattle.relay_machine.specs.declared.settings.Settings.{Settings}
 use Rattle.replication_workers.specs.Jobs.{Handled}
 use Rattle.replication_workers.specs.Replication.{HasTried}
+use Rattle.replication_workers.specs.Starting.{HaveStarted}
 use Rattle.replication_workers.specs.declared.job.Job.{Job}
 use Rattle.relay_serving.specs.Bursts.{IsCauseOf}
 use Rattle.relay_serving.specs.Counting.{AreCounted}
@@ -30,15 +32,22 @@ use Rattle.relay_serving.specs.declared.plan.End.TheVariants.{LinkFault, FeedFau
 use Rattle.relay_serving.specs.declared.plan.ServePlan.{ServePlan}
 use Rattle.relay_serving.specs.declared.plan.ServeReport.{ServeReport}
 
--- One slot: its out before and after, the jobs that it was given, its view at the end, and how many of its
--- datagrams were sent and how many not.
+-- One slot: its out before and after, the jobs that it was given, the logs by which it found their receivers,
+-- its view at the end, and how many of its datagrams were sent and how many not.
 pub record SlotServed : Type 0 where
   pub before : OutSeen
   pub jobs : List Job
+  pub logs : List (List Change)
   pub after : OutSeen
   pub view : View
   pub sent : ℕ
   pub unsent : ℕ
+
+-- the logs by which jobs were handled, in order
+abbrev pub logs_in : (settings : TableSettings) (limit : ℕ) (seen : List Change) (jobs : List Job) (wanted : List (Peer × List ℕ)) (last : List Change)
+    → Handled settings limit seen jobs wanted last → List (List Change)
+logs_in settings limit seen [] wanted last handled = []
+logs_in settings limit seen (job ∷ jobs) wanted last handled = handled.0 ∷ logs_in settings limit handled.0 jobs handled.1 last handled.5
 
 -- the slot's out tried exactly the copies of its jobs, each job once and in order, by logs of which each
 -- begins with the one before it and with the job's, and the view's with the last
@@ -46,6 +55,7 @@ pub record IsServed (settings : Settings) (slot : SlotServed) : Type 0 where
   pub wanted : List (Peer × List ℕ)
   pub last : List Change
   pub handled : Handled (table_settings_of settings) settings.packet_limit [] slot.jobs wanted last
+  pub logs_are : slot.logs ≡ logs_in (table_settings_of settings) settings.packet_limit [] slot.jobs wanted last handled
   pub tried : HasTried slot.before.tried slot.after.tried slot.before.faults slot.after.faults wanted slot.sent slot.unsent
   pub further : BeginsWith (seen slot.view) last
 
@@ -67,6 +77,10 @@ pub record ArePublished (log : List Change) (views : List View) (published owed 
   pub each : All (λ view. BeginsWith (seen view) (take published log)) views
   pub apart_is : apart ≡ count_by (is_apart published) views
 
+-- each log by which the slots found receivers is a prefix of this one
+abbrev pub ReadPrefixesOf : List Change → List SlotServed → Type 0
+ReadPrefixesOf log slots = All (λ slot. BeginsWithEach log slot.logs) slots
+
 -- something is owed only where the run ended before its last turn's publishing, or in it
 abbrev pub IsOwedBy : List Turn → ℕ → Type 0
 IsOwedBy turns owed = owed ≢ 0 → (earlier : List Turn) × (last : Turn) × (turns ≡ earlier ++ last ∷ []) × (last.publishing ≢ Done)
@@ -79,18 +93,27 @@ pub record IsIdle (report : ServeReport) : Type 0 where
   pub none_apart : report.apart ≡ 0
 
 -- What became of the outs: they weren't used; one went with the worker whose start was refused, and the
--- others are as they were; or packets were copied by them.
+-- others are as they were; or packets were copied by them, and where no view is apart by prefixes of the whole
+-- log alone.
 pub data OutsServed (settings : Settings) (plan : ServePlan) (run : Run) (report : ServeReport) (outs after : List OutSeen) (views : List View) (sent unsent : ℕ) : Type 0 where
   unused : report.end ≢ SpawnFault → turns_of run ≡ [] → after ≡ outs → views ≡ [] → IsIdle report → sent ≡ 0 → unsent ≡ 0
       → OutsServed settings plan run report outs after views sent unsent
   one_lost : report.end ≡ SpawnFault → turns_of run ≡ [] → LosesOne outs after
       → views ≡ [] → IsIdle report → sent ≡ 0 → unsent ≡ 0 → OutsServed settings plan run report outs after views sent unsent
   used : (jobs : List Job) → map due_of jobs ≡ dues_after settings (first_of run) [] (events_of run)
-      → AreServed settings outs jobs after views sent unsent
+      → (served : AreServed settings outs jobs after views sent unsent)
       → ArePublished (published_log settings (first_of run) (events_of run)) views report.published report.owed report.apart
+      → (report.apart ≡ 0 → ReadPrefixesOf (published_log settings (first_of run) (events_of run)) served.slots)
       → IsOwedBy (turns_of run) report.owed
       → report.inline ≡ (if plan.workers == 0 then report.packets else 0)
       → OutsServed settings plan run report outs after views sent unsent
+
+-- Where the turns began, every worker of the plan was started; none was where the plan has none, or where the
+-- run ended before a start was tried.
+pub record StartsWorkers (workers : ℕ) (turns : List Turn) (end : End) (before after : Option ℕ) : Type 0 where
+  pub all : turns ≢ [] → HaveStarted workers before after
+  pub none : workers ≡ 0 → after ≡ before
+  pub none_yet : turns ≡ [] → end ≢ SpawnFault → after ≡ before
 
 -- A whole run: the devices gave exactly the answers of its turns; the link tried exactly the answers to its
 -- events, in order; and so on.
@@ -102,6 +125,8 @@ pub record Serves (settings : Settings) (plan : ServePlan) (before after : Devic
   pub words : AppendsAll before.words.given after.words.given (run.first ++ words_drawn (turns_of run))
   pub link : AnswersAll LinkClosed before.link.coming after.link.coming (link_answers (turns_of run))
   pub feed : AnswersAll FeedClosed before.feed.coming after.feed.coming (feed_answers (turns_of run))
+  -- the workers
+  pub started : StartsWorkers plan.workers (turns_of run) report.end before.starts after.starts
   -- what was sent
   pub link_sent : ℕ
   pub link_unsent : ℕ

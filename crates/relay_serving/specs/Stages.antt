@@ -1,5 +1,5 @@
 -- What the first stage of a turn does.
-use Rattle.std.specs.Prelude.{◌≡◌, ℕ, ◌<◌, Bool, true, false, max, List, [], ◌∷◌, ◌++◌, length, Option, Some, Result, Ok, Err}
+use Rattle.std.specs.Prelude.{◌≡◌, ℕ, ◌<◌, Bool, true, false, max, List, [], ◌++◌, length, Option, Some, Result, Ok, Err}
 use Rattle.amt_ports.specs.Told.{Appends, AppendsAll}
 use Rattle.amt_ports.specs.declared.out_link.OutLink.{Ghosts}
 use Rattle.relay_serving.specs.Events.{moment_event, rotation}

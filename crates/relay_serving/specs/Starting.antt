@@ -1,11 +1,10 @@
 -- How a running relay begins, and what is left where it doesn't.
-use Rattle.std.specs.Prelude.{◌≡◌, ℕ, ◌≤◌, Bool, List, [], ◌∷◌, ◌++◌, map, vec_capacity}
+use Rattle.std.specs.Prelude.{◌≡◌, ℕ, ◌≤◌, Bool, List, [], ◌∷◌, ◌++◌, map, vec_capacity, Option}
 use Rattle.std.specs.List.{All}
 use Rattle.logbook.specs.Pages.{Book}
 use Rattle.amt_ports.specs.Causes.{Rose}
-use Rattle.amt_ports.specs.Sends.{TriedSend}
 use Rattle.amt_ports.specs.declared.out_link.OutLink.{Ghosts}
-use Rattle.published_table.specs.Publishers.{book_of, owing, published}
+use Rattle.published_table.specs.Publishers.{book_of}
 use Rattle.published_table.specs.Views.{IsNew, terms_of}
 use Rattle.published_table.specs.declared.terms.Terms.{Terms}
 use Rattle.published_table.specs.declared.view.View.{View}
@@ -22,7 +21,6 @@ use Rattle.relay_serving.specs.declared.plan.End.{End}
 use Rattle.relay_serving.specs.declared.plan.End.TheVariants.{Turns, Closed, LinkFault, FeedFault, WordsFault, SpawnFault, Memory}
 use Rattle.relay_serving.specs.declared.server.Server.{Server}
 use Rattle.relay_serving.specs.declared.server.starting.Made.{Made}
-use Rattle.relay_serving.specs.declared.server.starting.NotStarted.{NotStarted}
 
 -- one of the outs is gone, and the others are as they were
 pub record LosesOne (outs left : List OutSeen) : Type 0 where
@@ -32,15 +30,16 @@ pub record LosesOne (outs left : List OutSeen) : Type 0 where
   pub outs_are : outs ≡ earlier ++ lost ∷ later
   pub left_are : left ≡ earlier ++ later
 
--- by why no relay was started: out of memory all outs are as they were; where a start was refused one is gone
-abbrev pub AreLeftBy : End → List OutSeen → List OutSeen → ℕ → ℕ → Type 0
-AreLeftBy Memory outs left faults faults' = (left ≡ outs) × (faults' ≡ faults)
-AreLeftBy SpawnFault outs left faults faults' = LosesOne outs left × Rose faults faults'
-AreLeftBy Turns outs left faults faults' = ⊥
-AreLeftBy Closed outs left faults faults' = ⊥
-AreLeftBy LinkFault outs left faults faults' = ⊥
-AreLeftBy FeedFault outs left faults faults' = ⊥
-AreLeftBy WordsFault outs left faults faults' = ⊥
+-- by why no relay was started: out of memory all outs are as they were, and no worker was started; where a start
+-- was refused one out is gone
+abbrev pub AreLeftBy : End → List OutSeen → List OutSeen → Option ℕ → Option ℕ → ℕ → ℕ → Type 0
+AreLeftBy Memory outs left starts starts' faults faults' = (left ≡ outs) × (starts' ≡ starts) × (faults' ≡ faults)
+AreLeftBy SpawnFault outs left starts starts' faults faults' = LosesOne outs left × Rose faults faults'
+AreLeftBy Turns outs left starts starts' faults faults' = ⊥
+AreLeftBy Closed outs left starts starts' faults faults' = ⊥
+AreLeftBy LinkFault outs left starts starts' faults faults' = ⊥
+AreLeftBy FeedFault outs left starts starts' faults faults' = ⊥
+AreLeftBy WordsFault outs left starts starts' faults faults' = ⊥
 
 -- views that read by these terms
 abbrev pub AreReadBy : Terms → List View → Type 0

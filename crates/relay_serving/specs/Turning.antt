@@ -1,5 +1,5 @@
 -- What one turn does, and all turns of a run.
-use Rattle.std.specs.Prelude.{◌≡◌, ◌≢◌, ℕ, ◌+◌, List, [], ◌∷◌, ◌++◌, length, map, Option, None, Some, Result, Ok, Err, IsOk}
+use Rattle.std.specs.Prelude.{◌≡◌, ◌≢◌, ℕ, List, [], ◌∷◌, ◌++◌, length, Option, Some, Result, Ok, Err, IsOk}
 use Rattle.amt_ports.specs.Told.{AppendsAll}
 use Rattle.amt_ports.specs.declared.feed.FeedAnswer.TheVariants.{Closed as FeedClosed}
 use Rattle.amt_ports.specs.declared.link.LinkAnswer.TheVariants.{Closed as LinkClosed}
@@ -7,7 +7,7 @@ use Rattle.amt_ports.specs.declared.out_link.OutLink.{Ghosts}
 use Rattle.relay_serving.specs.Bursts.{IsCauseOf, IsCausedBy}
 use Rattle.relay_serving.specs.Counting.{HasAnswered}
 use Rattle.relay_serving.specs.Devices.{AnswersAll, Devices}
-use Rattle.relay_serving.specs.Events.{events_from, events_of_turn}
+use Rattle.relay_serving.specs.Events.{events_from}
 use Rattle.relay_serving.specs.Runs.{HasEnded, IsCut, feed_answers, link_answers, moments_given, with_cut, words_drawn}
 use Rattle.relay_serving.specs.Sending.{answers_after}
 use Rattle.relay_serving.specs.Servers.{HasEvents, counts_in, events_in, first_in, now_in, owing_in, settings_in}

@@ -1,6 +1,6 @@
 //! What a running relay counts. It must not know where an event comes from.
 ghost use Rattle.std.specs.Prelude.{◌≡◌, ◌<◌, ◌^◌};
-ghost use Rattle.relay_serving.specs.Counting.{no_counts, with_outcome};
+ghost use Rattle.relay_serving.specs.Counting.{no_counts, with_outcome, with_packet};
 
 use relay_machine::{Event, Outcome};
 
@@ -31,6 +31,14 @@ impl Counts {
             sent: 0,
             unsent: 0,
         }
+    }
+
+    /// Counts a packet that came from the feed.
+    pub(crate) fn count_packet(&mut self)
+        requires { self.old.packets < 2 ^ 62 }
+        ensures { self.new ≡ with_packet self.old }
+    {
+        self.packets += 1;
     }
 
     /// Counts an event by what it came to.

@@ -114,7 +114,15 @@ impl<O> Served<O> {
 /// the slot of its source and group. With no workers in the plan one slot copies in the turns' own thread.
 ///
 /// Out of memory the run ends. At its end the workers are stopped and waited for, and the outs come back.
-pub fn serve_relay<L: Link, F: Feed, C: Clock, W: Words, O: OutLink + Drop, R: Wait, P: Spawner<Worker<O>>>(
+pub fn serve_relay<
+    L: Link,
+    F: Feed,
+    C: Clock,
+    W: Words,
+    O: OutLink + Drop,
+    R: Wait,
+    P: Spawner<Worker<O>>,
+>(
     rt: &R,
     alloc: Global,
     settings: Settings,
@@ -132,10 +140,10 @@ pub fn serve_relay<L: Link, F: Feed, C: Clock, W: Words, O: OutLink + Drop, R: W
     ensures serves { ∥ Serves settings plan.now
         (devices_seen (C.given clock.old) (words_seen (W.given words.old) (W.faults words.old))
         (link_seen (L.coming link.old) (L.tried link.old) (L.receive_faults link.old) (L.send_faults link.old))
-        (feed_seen (F.coming feed.old) (F.faults feed.old)) (P.faults spawner.old))
+        (feed_seen (F.coming feed.old) (F.faults feed.old)) (P.starts spawner.old) (P.faults spawner.old))
         (devices_seen (C.given clock.new) (words_seen (W.given words.new) (W.faults words.new))
         (link_seen (L.coming link.new) (L.tried link.new) (L.receive_faults link.new) (L.send_faults link.new))
-        (feed_seen (F.coming feed.new) (F.faults feed.new)) (P.faults spawner.new))
+        (feed_seen (F.coming feed.new) (F.faults feed.new)) (P.starts spawner.new) (P.faults spawner.new))
         (outs_seen O.tried O.faults outs) (outs_seen O.tried O.faults result.outs)
         (views_of result.views) result.report ∥₁ }
 {
@@ -150,7 +158,16 @@ pub fn serve_relay<L: Link, F: Feed, C: Clock, W: Words, O: OutLink + Drop, R: W
         Ok(server) => server,
         Err(NotStarted { end, outs }) => return Served::unused(alloc, end, outs),
     };
-    let (end, turns) = server.run(rt, alloc, plan, clock, words, link, feed, room.buf.as_mut_slice());
+    let (end, turns) = server.run(
+        rt,
+        alloc,
+        plan,
+        clock,
+        words,
+        link,
+        feed,
+        room.buf.as_mut_slice(),
+    );
     let ending = server.finish(rt, spawner, room.turned, room.asked);
     Served::of(end, turns, ending)
 }

@@ -96,6 +96,7 @@ impl<O: OutLink + Drop, T> Server<O, T> {
         requires room { (length (slots_in self) ≤ room_of turned) × (length (slots_in self) ≤ room_of asked) }
         ensures finishes { Finishes self result }
         ensures few { result.outs_sent + result.outs_unsent ≤ 2 ^ 62 }
+        ensures starts { P.starts spawner.new ≡ P.starts spawner.old }
         ensures faults { P.faults spawner.new ≡ P.faults spawner.old }
     {
         let Server {

@@ -30,7 +30,12 @@ impl<O: OutLink + Drop, T> Server<O, T> {
     }
 
     // Gives the packet to the slot of its source and group. Where memory ran out nothing happened.
-    fn feed_packet<R: Wait>(&mut self, rt: &R, alloc: Global, packet: &[u8]) -> Result<(), AllocError>
+    fn feed_packet<R: Wait>(
+        &mut self,
+        rt: &R,
+        alloc: Global,
+        packet: &[u8],
+    ) -> Result<(), AllocError>
         requires short { length packet.now ≤ 65535 }
         requires few { (counts_in self.old).packets < 2 ^ 46 }
         requires published { owing_in self.old ≡ [] }
@@ -44,7 +49,7 @@ impl<O: OutLink + Drop, T> Server<O, T> {
     {
         let packet = Bytes::copied(alloc, packet)?;
         self.course = self.course.fed(&packet);
-        self.counts.packets += 1;
+        self.counts.count_packet();
         let job = Job {
             packet,
             at: self.relay.now(),

@@ -1,5 +1,5 @@
 //! How a running relay is started. It must not know turns.
-ghost use Rattle.std.specs.Prelude.{◌≡◌, ◌≤◌, ◌<◌, ◌+◌, ◌++◌, [], All, length, IfErr, IfOk, OnErr, OnOk, map, reverse, vec_capacity};
+ghost use Rattle.std.specs.Prelude.{◌≡◌, ◌≤◌, ◌<◌, ◌+◌, ◌++◌, [], All, length, IfErr, IfOk, OnErr, OnOk, map, reverse, true, false, vec_capacity};
 ghost use Rattle.logbook.specs.Pages.{Book};
 ghost use Rattle.amt_ports.specs.Causes.{Rose};
 ghost use Rattle.published_table.specs.Views.{IsNew, views_of};
@@ -7,6 +7,7 @@ ghost use Rattle.relay_machine.specs.Settings.{AreLawfulSettings};
 ghost use Rattle.replication_workers.specs.Replicators.{out_of};
 ghost use Rattle.replication_workers.specs.Dispatchers.{AllRun, is_threaded, slots_of};
 ghost use Rattle.replication_workers.specs.SlotStates.{new_slot};
+ghost use Rattle.replication_workers.specs.Starting.{HaveStarted};
 ghost use Rattle.relay_serving.specs.Devices.{outs_seen};
 ghost use Rattle.relay_serving.specs.GivenOut.{starts_in, terms_by};
 ghost use Rattle.relay_serving.specs.Starting.{AreLeftBy, AreReadBy, AreStarts, HasRoomBack, IsAtStart};
@@ -18,7 +19,9 @@ use crate::plan::End;
 use amt_ports::{OutLink, Spawner};
 use published_table::{Publisher, Terms, Views};
 use relay_machine::{Relay, Settings};
-use replication_workers::{Dispatcher, NewFault, Outs, Replicator, Replicators, StartFault, Worker};
+use replication_workers::{
+    Dispatcher, NewFault, Outs, Replicator, Replicators, StartFault, Worker,
+};
 use response_mac::Secret;
 use std::alloc::{AllocError, Global};
 use std::snapshot::Snapshot;
@@ -174,9 +177,12 @@ fn dispatch<O: OutLink + Drop, R: Wait, P: Spawner<Worker<O>>>(
     ensures slots { IfOk result (λ dispatcher. slots_of dispatcher ≡ map new_slot made.slots) }
     ensures mode { IfOk result (λ dispatcher. is_threaded dispatcher ≡ threads) }
     ensures run { IfOk result (AllRun P.task_of) }
+    ensures workers { threads ≡ true → OnOk result
+        (HaveStarted (length made.slots) (P.starts spawner.old) (P.starts spawner.new)) }
+    ensures none_started { threads ≡ false → P.starts spawner.new ≡ P.starts spawner.old }
     ensures quiet { OnOk result (P.faults spawner.new ≡ P.faults spawner.old) }
     ensures left { IfErr result (λ not. AreLeftBy not.end (outs_seen O.tried O.faults (map out_of made.slots))
-        (outs_seen O.tried O.faults not.outs) (P.faults spawner.old) (P.faults spawner.new)) }
+        (outs_seen O.tried O.faults not.outs) (P.starts spawner.old) (P.starts spawner.new) (P.faults spawner.old) (P.faults spawner.new)) }
 {
     let Made {
         slots,
@@ -189,7 +195,12 @@ fn dispatch<O: OutLink + Drop, R: Wait, P: Spawner<Worker<O>>>(
             end: End::Memory,
             outs: take_back(slots, turned, outs),
         }),
-        Err(StartFault::Failed { outs, views: _views }) => Err(NotStarted {
+        Err(
+            StartFault::Failed {
+                outs,
+                views: _views,
+            },
+        ) => Err(NotStarted {
             end: End::SpawnFault,
             outs,
         }),
@@ -217,9 +228,12 @@ fn start_slots<O: OutLink + Drop, R: Wait, P: Spawner<Worker<O>>>(
         → IfOk result (λ dispatcher. AreStarts settings.now book (starts_in (slots_of dispatcher))) }
     ensures mode { IfOk result (λ dispatcher. is_threaded dispatcher ≡ threads) }
     ensures run { IfOk result (AllRun P.task_of) }
+    ensures workers { threads ≡ true → OnOk result
+        (HaveStarted (length outs) (P.starts spawner.old) (P.starts spawner.new)) }
+    ensures none_started { threads ≡ false → P.starts spawner.new ≡ P.starts spawner.old }
     ensures quiet { OnOk result (P.faults spawner.new ≡ P.faults spawner.old) }
     ensures left { IfErr result (λ not. AreLeftBy not.end (outs_seen O.tried O.faults outs)
-        (outs_seen O.tried O.faults not.outs) (P.faults spawner.old) (P.faults spawner.new)) }
+        (outs_seen O.tried O.faults not.outs) (P.starts spawner.old) (P.starts spawner.new) (P.faults spawner.old) (P.faults spawner.new)) }
 {
     match make_replicators(alloc, settings, views, outs) {
         Ok(made) => dispatch(rt, alloc, made, threads, spawner),
@@ -244,9 +258,12 @@ impl<O: OutLink + Drop, T> Server<O, T> {
         requires few { length outs ≤ 64 }
         ensures started { IfOk result (IsAtStart settings first outs threads) }
         ensures run { IfOk result (λ server. AllRun P.task_of server.dispatcher) }
+        ensures workers { threads ≡ true → OnOk result
+            (HaveStarted (length outs) (P.starts spawner.old) (P.starts spawner.new)) }
+        ensures none_started { threads ≡ false → P.starts spawner.new ≡ P.starts spawner.old }
         ensures quiet { OnOk result (P.faults spawner.new ≡ P.faults spawner.old) }
         ensures left { IfErr result (λ not. AreLeftBy not.end (outs_seen O.tried O.faults outs)
-            (outs_seen O.tried O.faults not.outs) (P.faults spawner.old) (P.faults spawner.new)) }
+            (outs_seen O.tried O.faults not.outs) (P.starts spawner.old) (P.starts spawner.new) (P.faults spawner.old) (P.faults spawner.new)) }
     {
         let terms = Terms {
             limits: settings.limits,

@@ -1,5 +1,5 @@
 //! One turn of a running relay, and all of a run. It must not know how a relay is started or ended.
-ghost use Rattle.std.specs.Prelude.{◌≡◌, ◌≤◌, ◌<◌, ◌+◌, ◌*◌, ◌^◌, [], length};
+ghost use Rattle.std.specs.Prelude.{◌≡◌, ◌≤◌, ◌<◌, ◌+◌, ◌*◌, ◌^◌, [], length, None};
 ghost use Rattle.relay_serving.specs.Bursts.{IsCausedBy};
 ghost use Rattle.relay_serving.specs.Devices.{devices_seen, feed_seen, link_seen, words_seen};
 ghost use Rattle.relay_serving.specs.Plans.{IsLawfulPlan};
@@ -65,17 +65,17 @@ impl<O: OutLink + Drop, T> Server<O, T> {
         ensures turns { TurnsSo rotate_ms renewal.old.renewed renewal.new.renewed self.old self.new
             (devices_seen (C.given clock.old) (words_seen (W.given words.old) (W.faults words.old))
             (link_seen (L.coming link.old) (L.tried link.old) (L.receive_faults link.old) (L.send_faults link.old))
-            (feed_seen (F.coming feed.old) (F.faults feed.old)) 0)
+            (feed_seen (F.coming feed.old) (F.faults feed.old)) None 0)
             (devices_seen (C.given clock.new) (words_seen (W.given words.new) (W.faults words.new))
             (link_seen (L.coming link.new) (L.tried link.new) (L.receive_faults link.new) (L.send_faults link.new))
-            (feed_seen (F.coming feed.new) (F.faults feed.new)) 0) result }
+            (feed_seen (F.coming feed.new) (F.faults feed.new)) None 0) result }
         ensures causes { AreCausesOf result
             (devices_seen (C.given clock.old) (words_seen (W.given words.old) (W.faults words.old))
             (link_seen (L.coming link.old) (L.tried link.old) (L.receive_faults link.old) (L.send_faults link.old))
-            (feed_seen (F.coming feed.old) (F.faults feed.old)) 0)
+            (feed_seen (F.coming feed.old) (F.faults feed.old)) None 0)
             (devices_seen (C.given clock.new) (words_seen (W.given words.new) (W.faults words.new))
             (link_seen (L.coming link.new) (L.tried link.new) (L.receive_faults link.new) (L.send_faults link.new))
-            (feed_seen (F.coming feed.new) (F.faults feed.new)) 0) }
+            (feed_seen (F.coming feed.new) (F.faults feed.new)) None 0) }
         ensures buffer { length buf.new ≡ length buf.old }
         ensures few { length (events_in self.new) ≤ length (events_in self.old) + 130 }
         ensures few_packets { (counts_in self.new).packets ≤ (counts_in self.old).packets + 64 }
@@ -108,17 +108,17 @@ impl<O: OutLink + Drop, T> Server<O, T> {
         ensures runs { RunsSo plan.now self.old self.new
             (devices_seen (C.given clock.old) (words_seen (W.given words.old) (W.faults words.old))
             (link_seen (L.coming link.old) (L.tried link.old) (L.receive_faults link.old) (L.send_faults link.old))
-            (feed_seen (F.coming feed.old) (F.faults feed.old)) 0)
+            (feed_seen (F.coming feed.old) (F.faults feed.old)) None 0)
             (devices_seen (C.given clock.new) (words_seen (W.given words.new) (W.faults words.new))
             (link_seen (L.coming link.new) (L.tried link.new) (L.receive_faults link.new) (L.send_faults link.new))
-            (feed_seen (F.coming feed.new) (F.faults feed.new)) 0) result.0 result.1 }
+            (feed_seen (F.coming feed.new) (F.faults feed.new)) None 0) result.0 result.1 }
         ensures causes { EndsIn result.0
             (devices_seen (C.given clock.old) (words_seen (W.given words.old) (W.faults words.old))
             (link_seen (L.coming link.old) (L.tried link.old) (L.receive_faults link.old) (L.send_faults link.old))
-            (feed_seen (F.coming feed.old) (F.faults feed.old)) 0)
+            (feed_seen (F.coming feed.old) (F.faults feed.old)) None 0)
             (devices_seen (C.given clock.new) (words_seen (W.given words.new) (W.faults words.new))
             (link_seen (L.coming link.new) (L.tried link.new) (L.receive_faults link.new) (L.send_faults link.new))
-            (feed_seen (F.coming feed.new) (F.faults feed.new)) 0) }
+            (feed_seen (F.coming feed.new) (F.faults feed.new)) None 0) }
     {
         let mut renewal = Renewal::new();
         for done in 0..plan.turns {

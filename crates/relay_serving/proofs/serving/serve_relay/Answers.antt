@@ -1,13 +1,11 @@
-use Rattle.std.proofs.Common.{◌≡◌, ◌∙◌, ◌==◌, length, map, max, not, refl, sym, ap, subst, arith}
+use Rattle.std.proofs.Common.{◌∙◌, length, refl, sym, ap, subst, arith}
 use Rattle.std.proofs.Math.Logic.{∥∥₁_map}
 use Rattle.std.proofs.lemmas.List.{length-map}
-use Rattle.std.proofs.lemmas.Result.{IfErr-at_err, IfOk-at_ok}
 use Rattle.replication_workers.specs.Replicators.{out_of}
+use Rattle.replication_workers.specs.Starting.{HaveStarted}
 use Rattle.relay_serving.specs.Devices.{outs_seen}
 use Rattle.relay_serving.specs.GivenOut.{starts_in}
-use Rattle.relay_serving.specs.Reports.{unused_report}
 use Rattle.relay_serving.specs.Servers.{slots_in}
-use Rattle.relay_serving.specs.Starting.{AreLeftBy}
 use Rattle.relay_serving.proofs.WholeRuns.{few_in_all, few_words, four_words, has_risen, is_quiet, reported, serves_run, serves_unsown, serves_unstarted}
 use Rattle.relay_serving.proofs.serving.serve_relay.Goals as goal
 
@@ -16,7 +14,7 @@ returns-in_default g c =
     let drawn = c.draw_secret.ensures.drawn in
     let seen = outs_seen g.O.OutLink.tried g.O.OutLink.faults in record {
       serves = ∣ reported _ _ _ _ _ _ _ _ _ _ _ (ap seen c.unused.ensures.outs) c.unused.ensures.views c.unused.ensures.report
-          (serves_unsown _ _ drawn.words _ _ _ _ _ _ _ drawn.given (few_words _ _ _ _ drawn c.in_default.is) (has_risen _ _ _ _ c.draw_secret.ensures.cause c.in_default.is)) ∣₁;
+          (serves_unsown _ _ drawn.words _ _ _ _ _ _ _ _ drawn.given (few_words _ _ _ _ drawn c.in_default.is) (has_risen _ _ _ _ c.draw_secret.ensures.cause c.in_default.is)) ∣₁;
     }
 
 pub returns-in_default-new : goal.returns-in_default-new
@@ -24,7 +22,7 @@ returns-in_default-new g c =
     let drawn = c.draw_secret.ensures.drawn in
     let seen = outs_seen g.O.OutLink.tried g.O.OutLink.faults in record {
       serves = ∣ reported _ _ _ _ _ _ _ _ _ _ _ (ap seen c.unused-in_default-new.ensures.outs) c.unused-in_default-new.ensures.views c.unused-in_default-new.ensures.report
-          (serves_unstarted _ _ _ drawn.words _ _ _ _ _ _ _ _ _ drawn.given (four_words _ _ _ _ drawn c.in-Ok.is).1 (is_quiet _ _ _ _ c.draw_secret.ensures.cause c.in-Ok.is) (refl, refl)) ∣₁;
+          (serves_unstarted _ _ _ drawn.words _ _ _ _ _ _ _ _ _ _ _ drawn.given (four_words _ _ _ _ drawn c.in-Ok.is).1 (is_quiet _ _ _ _ c.draw_secret.ensures.cause c.in-Ok.is) (refl, refl, refl) _ refl (λ _. refl)) ∣₁;
     }
 
 pub returns-in-Err : goal.returns-in-Err
@@ -32,8 +30,8 @@ returns-in-Err g c =
     let drawn = c.draw_secret.ensures.drawn in
     let seen = outs_seen g.O.OutLink.tried g.O.OutLink.faults in record {
       serves = ∣ reported _ _ _ _ _ _ _ _ _ _ _ (ap seen c.unused-in-Err.ensures.outs) c.unused-in-Err.ensures.views c.unused-in-Err.ensures.report
-          (serves_unstarted _ _ c.in-Err.field-0.end drawn.words _ _ _ _ _ _ _ _ (seen c.in-Err.field-0.outs) drawn.given (four_words _ _ _ _ drawn c.in-Ok.is).1 (is_quiet _ _ _ _ c.draw_secret.ensures.cause c.in-Ok.is)
-            (c.in-Err.ensures.left)) ∣₁;
+          (serves_unstarted _ _ c.in-Err.field-0.end drawn.words _ _ _ _ _ _ _ _ _ _ (seen c.in-Err.field-0.outs) drawn.given (four_words _ _ _ _ drawn c.in-Ok.is).1 (is_quiet _ _ _ _ c.draw_secret.ensures.cause c.in-Ok.is)
+          c.in-Err.ensures.left _ refl c.in-Err.ensures.none_started) ∣₁;
     }
 
 pub finish-ending-requires-clause-run : goal.finish-ending-requires-clause-run
@@ -60,7 +58,9 @@ returns g c =
     let seen = outs_seen g.O.OutLink.tried g.O.OutLink.faults in record {
       serves = ∥∥₁_map
           (serves_run c.args.settings c.args.plan.now c.in-Ok.first c.args.outs _ drawn.words c.in-Ok-start.server c.run-end.new.self c.finish-ending.result c.run-end.result.0 c.run-end.result.1
-            _ _ _ _ _ _ _ _ _ four.0 four.1 drawn.given (is_quiet _ _ _ _ c.draw_secret.ensures.cause c.in-Ok.is) start.started c.run-end.ensures.runs c.run-end.ensures.causes
-            c.finish-ending.ensures.finishes c.requires.outs refl _ _ (c.finish-ending.ensures.faults ∙ start.quiet))
+          _ _ _ _ _ _ _ _ _ four.0 four.1 drawn.given (is_quiet _ _ _ _ c.draw_secret.ensures.cause c.in-Ok.is) start.started c.run-end.ensures.runs c.run-end.ensures.causes
+          c.finish-ending.ensures.finishes c.requires.plan.some_turns c.requires.outs refl _ _
+          (λ threads. subst (HaveStarted (length c.args.outs) (g.P.Spawner.starts c.args.spawner.now)) (sym c.finish-ending.ensures.starts) (start.workers threads))
+          (λ idle. c.finish-ending.ensures.starts ∙ start.none_started idle) _ _ (c.finish-ending.ensures.faults ∙ start.quiet))
           (λ serves. reported _ _ _ _ _ _ _ _ _ _ _ (ap seen c.of.ensures.outs) c.of.ensures.views c.of.ensures.report serves);
     }

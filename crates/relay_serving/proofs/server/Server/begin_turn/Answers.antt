@@ -1,9 +1,9 @@
-use Rattle.std.proofs.Common.{[], false, true, max, length, length-append, arith, ap, sym, ◌∙◌, refl, subst}
+use Rattle.std.proofs.Common.{[], max, length, length-append, arith, ap, sym, ◌∙◌, refl, subst}
 use Rattle.relay_serving.specs.Servers.{HasEvents, events_in}
 use Rattle.relay_serving.specs.Turns.{words_due}
 use Rattle.relay_serving.proofs.Beginning.{begins, ok_gives, rotation-few, rotation-four}
 use Rattle.relay_serving.proofs.Drawing.{AppendsAll-none}
-use Rattle.relay_serving.proofs.Turning.{HasEvents-none}
+use Rattle.relay_serving.proofs.Events.{HasEvents-none, IsAsBefore-same}
 use Rattle.relay_serving.proofs.server.Server.begin_turn.Goals as goal
 
 pub returns-in-Err-clause-begins : goal.returns-in-Err-clause-begins
@@ -19,7 +19,7 @@ returns-in-Err-clause-begins g c =
       is_begun = (refl, sym c.pass.ensures.due ∙ c.if-pass.true, drawn.are);
       moment = ok_gives c.pass_moment.result fine c.pass_moment.ensures.events;
       same_published = c.pass_moment.ensures.published;
-      secret = subst (λ more. HasEvents moved moved more) (sym (rotation-few drawn.words drawn.are)) (HasEvents-none moved);
+      secret = subst (λ more. HasEvents moved moved more) (sym (rotation-few drawn.words drawn.are)) (HasEvents-none moved moved (IsAsBefore-same moved));
       published_then = refl;
       renewed_is = c.pass.ensures.renewed;
     })
@@ -62,7 +62,7 @@ returns-else-pass-clause-begins g c =
       is_begun = (refl, ap words_due (sym (sym c.pass.ensures.due ∙ c.if-pass.false)));
       moment = ok_gives c.pass_moment.result fine c.pass_moment.ensures.events;
       same_published = c.pass_moment.ensures.published;
-      secret = HasEvents-none moved;
+      secret = HasEvents-none moved moved (IsAsBefore-same moved);
       published_then = refl;
       renewed_is = c.pass.ensures.renewed;
     })

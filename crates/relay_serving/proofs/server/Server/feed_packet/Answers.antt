@@ -43,7 +43,7 @@ invariant_of-self g c =
           (c.now.ensures.value ∙ server.at.moment) (c.tell.ensures.named ∙ shown) server.given_out;
       publishers = of_publisher-put (book_of server.publisher) c.send.result _ (slots_of server.dispatcher) (slots_of c.send.new.self) c.send.ensures.put server.publishers;
       counted = IsCounted-then settings settings first events later (Packet bytes) outcome server.counts _ refl next refl
-          (counted-packet server.counts bytes outcome (outcome-plain settings first events bytes)) server.counted;
+          (c.count_packet.ensures ∙ counted-packet server.counts bytes outcome (outcome-plain settings first events bytes)) server.counted;
     }
 
 pub returns-clause-events : goal.returns-clause-events

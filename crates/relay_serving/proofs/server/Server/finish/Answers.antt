@@ -27,8 +27,8 @@ pub ask_each-apart-requires-clause-publisher : goal.ask_each-apart-requires-clau
 ask_each-apart-requires-clause-publisher g c =
     let server = c.args.self in
     subst (All (λ view. publisher_of view ≡ book_of server.publisher)) (sym c.turn_round.ensures)
-        (All-reverse (λ view. publisher_of view ≡ book_of server.publisher) (views_of c.finish-outs.result.views)
-            (left_publisher (book_of server.publisher) _ _ _ _ _ c.finish-outs.ensures.left server.publishers))
+    (All-reverse (λ view. publisher_of view ≡ book_of server.publisher) (views_of c.finish-outs.result.views)
+    (left_publisher (book_of server.publisher) _ _ _ _ _ c.finish-outs.ensures.left server.publishers))
 
 pub returns-clause-finishes : goal.returns-clause-finishes
 returns-clause-finishes g c =

@@ -1,4 +1,4 @@
-use Rattle.std.proofs.Common.{◌≡◌, length}
+use Rattle.std.proofs.Common.{◌≡◌, length, None}
 use Rattle.relay_serving.specs.Devices.{devices_seen, feed_seen, link_seen, words_seen}
 use Rattle.relay_serving.proofs.Running.{IsRunning}
 use Rattle.relay_serving.proofs.server.Server.run.Given as goal
@@ -8,10 +8,10 @@ invariant-loop-done g l = record {
   running : IsRunning l.fn.plan.rotate_ms l.renewal.renewed l.initial.self l.self
       (devices_seen (g.C.Clock.given l.initial.clock) (words_seen (g.W.Words.given l.initial.words) (g.W.Words.faults l.initial.words))
       (link_seen (g.L.Link.coming l.initial.link) (g.L.Link.tried l.initial.link) (g.L.Link.receive_faults l.initial.link) (g.L.Link.send_faults l.initial.link))
-      (feed_seen (g.F.Feed.coming l.initial.feed) (g.F.Feed.faults l.initial.feed)) 0)
+      (feed_seen (g.F.Feed.coming l.initial.feed) (g.F.Feed.faults l.initial.feed)) None 0)
       (devices_seen (g.C.Clock.given l.clock) (words_seen (g.W.Words.given l.words) (g.W.Words.faults l.words))
       (link_seen (g.L.Link.coming l.link) (g.L.Link.tried l.link) (g.L.Link.receive_faults l.link) (g.L.Link.send_faults l.link))
-      (feed_seen (g.F.Feed.coming l.feed) (g.F.Feed.faults l.feed)) 0)
+      (feed_seen (g.F.Feed.coming l.feed) (g.F.Feed.faults l.feed)) None 0)
       l.done;
   buffer : length l.buf ≡ length l.initial.buf;
 }

@@ -1,5 +1,4 @@
-use Rattle.std.proofs.Common.{◌≡◌, ◌∙◌, ℕ, List, [], ◌++◌, sym, ap, subst, refl, map}
-use Rattle.endpoint_membership.specs.declared.change.Change.{Change}
+use Rattle.std.proofs.Common.{◌∙◌, ℕ, List, [], ◌++◌, sym, ap, subst, refl}
 use Rattle.response_mac.specs.declared.secret.Secret.{Secret}
 use Rattle.relay_machine.specs.declared.event.Event.{Event}
 use Rattle.relay_machine.specs.declared.settings.Settings.{Settings}
@@ -8,11 +7,10 @@ use Rattle.relay_machine.proofs.PublishedLog.{published_log-none}
 use Rattle.relay_machine.specs.Published.{published_log}
 use Rattle.replication_workers.specs.Dispatchers.{slots_of}
 use Rattle.std.specs.List.{All}
-use Rattle.published_table.specs.Publishers.{book_of, owing, published}
+use Rattle.published_table.specs.Publishers.{book_of}
 use Rattle.published_table.specs.Views.{IsNew, views_of}
 use Rattle.relay_serving.proofs.Starting.{none_given, of_publisher}
-use Rattle.relay_serving.specs.GivenOut.{AreGivenOut, starts_in, terms_by}
-use Rattle.relay_serving.specs.Sending.{due_of, dues_after}
+use Rattle.relay_serving.specs.GivenOut.{AreGivenOut, terms_by}
 use Rattle.relay_serving.proofs.server.Server.start.Goals as goal
 
 pub start_slots-requires-clause-terms : goal.start_slots-requires-clause-terms

@@ -10,9 +10,9 @@ learn-requires g c = c.tell.ensures.publisher ∙ sym c.requires
 pub returns-then-read_length-published-clause-reached : goal.returns-then-read_length-published-clause-reached
 returns-then-read_length-published-clause-reached g c =
     reached_by (seen c.read_length.new.view) (named c.tell.result) (published c.args.publisher.now) (told c.learn.new.self) (told c.args.view.now)
-        c.learn.ensures.told c.tell.ensures.named c.read_length.ensures.told
+    c.learn.ensures.told c.tell.ensures.named c.read_length.ensures.told
 
 pub returns-else-read_length-published-clause-reached : goal.returns-else-read_length-published-clause-reached
 returns-else-read_length-published-clause-reached g c =
     reached_by (seen c.read_length.new.view) (named c.tell.result) (published c.args.publisher.now) (told c.learn.new.self) (told c.args.view.now)
-        c.learn.ensures.told c.tell.ensures.named c.read_length.ensures.told
+    c.learn.ensures.told c.tell.ensures.named c.read_length.ensures.told

@@ -1,4 +1,4 @@
-use Rattle.std.proofs.Common.{◌≡◌, ◌∙◌, ◌+◌, All, count_by, length, refl, sym, ap, arith}
+use Rattle.std.proofs.Common.{◌≡◌, ◌∙◌, ◌+◌, count_by, length, refl, sym, ap, arith}
 use Rattle.std.proofs.lemmas.List.Sums.{count_by-le-length}
 use Rattle.std.proofs.lemmas.Option.{MatchOption-at_none, MatchOption-at_some}
 use Rattle.published_table.specs.Publishers.{book_of, published}
@@ -48,7 +48,7 @@ loop-view-preserved g c =
       omega (arith, one, more, c.put.ensures.room, c.loop-view.invariant.1),
       rest.0,
       (λ i. c.loop-view.invariant.3 i + c.ask-apart.ensures.apart i)
-      ∙ sym (counted_more (is_apart (length (published c.args.publisher.now))) _ _ _ _ c.put.ensures.put refl),
+          ∙ sym (counted_more (is_apart (length (published c.args.publisher.now))) _ _ _ _ c.put.ensures.put refl),
     )
 
 pub returns-clause-asked : goal.returns-clause-asked

@@ -1,5 +1,5 @@
 -- The views that were asked, and those to come.
-use Rattle.std.proofs.Common.{◌≡◌, ◌≤◌, ◌+◌, ◌++◌, All, count_by, length, reverse}
+use Rattle.std.proofs.Common.{◌≡◌, ◌≤◌, ◌+◌, All, count_by, length}
 use Rattle.published_table.specs.Publishers.{book_of, published}
 use Rattle.published_table.specs.Views.{publisher_of, room_of, views_of}
 use Rattle.relay_serving.specs.Views.{is_apart}

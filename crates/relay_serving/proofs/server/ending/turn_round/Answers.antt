@@ -1,4 +1,4 @@
-use Rattle.std.proofs.Common.{◌++◌, ◌∙◌, length, reverse, refl, sym, ap, append-nil, arith}
+use Rattle.std.proofs.Common.{◌++◌, ◌∙◌, length, reverse, sym, ap, append-nil, arith}
 use Rattle.std.proofs.lemmas.Option.{MatchOption-at_none, MatchOption-at_some}
 use Rattle.published_table.specs.Views.{views_of}
 use Rattle.relay_serving.proofs.Ending.{of_ok, one_fewer}

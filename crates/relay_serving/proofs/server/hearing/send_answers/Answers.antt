@@ -3,7 +3,8 @@ use Rattle.replication_workers.specs.Replication.{to_peer}
 use Rattle.relay_serving.specs.Counting.{HasAnswered}
 use Rattle.relay_serving.specs.Devices.{LinkSeen, link_seen}
 use Rattle.relay_serving.specs.declared.counts.Counts.{Counts}
-use Rattle.relay_serving.proofs.AnswerSends.{answered-failed, answered-none, answered-sent, answers_more}
+use Rattle.relay_serving.proofs.AnswerSends.{answered-failed, answered-sent, answers_more}
+use Rattle.relay_serving.proofs.Answering.{HasAnswered-none}
 use Rattle.relay_serving.proofs.server.hearing.send_answers.Goals.{in-Ok, in-Err}
 use Rattle.relay_serving.proofs.server.hearing.send_answers.Goals as goal
 
@@ -11,7 +12,7 @@ pub loop-send-init : goal.loop-send-init
 loop-send-init g c =
     let link = c.args.link.now in
     let seen = link_seen (g.L.Link.coming link) (g.L.Link.tried link) (g.L.Link.receive_faults link) (g.L.Link.send_faults link) in
-    ((refl, refl, refl, refl), answered-none seen c.args.counts.now, omega arith, refl, refl)
+    ((refl, refl, refl, refl), HasAnswered-none seen seen c.args.counts.now refl refl, omega arith, refl, refl)
 
 pub loop-send-preserved : goal.loop-send-preserved
 loop-send-preserved g c =

@@ -1,5 +1,4 @@
-use Rattle.std.proofs.Common.{◌≡◌, ◌++◌, ◌∷◌, [], ◌∙◌, All, length, map, reverse, vec_capacity, refl, sym, ap, subst, append-nil, arith}
-use Rattle.std.proofs.lemmas.List.{nil_from_length}
+use Rattle.std.proofs.Common.{◌≡◌, ◌++◌, ◌∷◌, [], ◌∙◌, length, map, reverse, refl, sym, ap, subst, append-nil, arith}
 use Rattle.std.proofs.lemmas.List.Elements.{All-nil, All-push}
 use Rattle.std.proofs.lemmas.Option.{MatchOption-at_none, MatchOption-at_some}
 use Rattle.relay_machine.specs.declared.number_key.NumberKey.TheVariants.{Endpoints, PacketLimit}
@@ -58,11 +57,13 @@ loop-out-preserved g c =
       put.capacity ∙ c.loop-out.invariant.4,
       (all_but_last (λ view. terms_of view ≡ terms_by c.args.settings.now) _ _ _ one c.loop-out.invariant.5).0,
       (λ book new.
-        let now = c.loop-out.invariant.6 book new in
-        let later = c.pop-in-Some.ensures.each book (terms_by c.args.settings.now) now.0 in
-        (later.0, subst (AreStarts c.args.settings.now book) (sym put.items)
-          (All-push (IsStart c.args.settings.now book) _ c.in-Ok.replicator now.1
-            (is_start c.args.settings.now book _ c.in-Ok.replicator made.0 made.2 (MatchOption-at_some _ _ _ c.in-Some-pop.is later.1))))),
+          let now = c.loop-out.invariant.6 book new in
+          let later = c.pop-in-Some.ensures.each book (terms_by c.args.settings.now) now.0 in (
+            later.0,
+            subst (AreStarts c.args.settings.now book) (sym put.items)
+                (All-push (IsStart c.args.settings.now book) _ c.in-Ok.replicator now.1
+                (is_start c.args.settings.now book _ c.in-Ok.replicator made.0 made.2 (MatchOption-at_some _ _ _ c.in-Some-pop.is later.1))),
+          )),
     )
 
 pub returns-in-Err-clause-outs : goal.returns-in-Err-clause-outs

@@ -1,5 +1,5 @@
 -- The outs and views to come, and the replicators so far.
-use Rattle.std.proofs.Common.{◌≡◌, ◌≤◌, ◌+◌, ◌++◌, All, length, map, reverse, vec_capacity, vec_len}
+use Rattle.std.proofs.Common.{◌≡◌, ◌+◌, ◌++◌, All, length, map, reverse, vec_capacity, vec_len}
 use Rattle.logbook.specs.Pages.{Book}
 use Rattle.published_table.specs.Views.{IsNew, views_of}
 use Rattle.replication_workers.specs.Replicators.{out_of}
@@ -16,7 +16,7 @@ invariant-loop-out g l =
     × (vec_capacity l.made ≡ vec_capacity l.initial.made)
     × AreReadBy (terms_by l.fn.settings) (views_of l.views)
     × ((book : Book) → All (IsNew book (terms_by l.fn.settings)) (views_of l.initial.views)
-        → All (IsNew book (terms_by l.fn.settings)) (views_of l.views) × AreStarts l.fn.settings book l.made.items)
+    → All (IsNew book (terms_by l.fn.settings)) (views_of l.views) × AreStarts l.fn.settings book l.made.items)
 
 abbrev pub decreases-loop-out : goal.decreases-loop-out
 decreases-loop-out g l = vec_len l.outs
