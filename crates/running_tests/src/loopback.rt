@@ -1,6 +1,6 @@
 //! A relay whose link, feed and links out are sockets of the loopback, and a client that talks to it. It must
 //! not know what a turn does.
-ghost use Rattle.std.specs.Prelude.{None};
+ghost use Rattle.std.specs.Prelude.{◌≡◌, IfOk, None, length};
 
 use crate::commands::{assert_served, is_written, replay};
 use crate::devices::{PACKET, octets_of};
@@ -54,7 +54,9 @@ fn begun_with(alloc: Global, start: &[u8], rest: &[u8], last: &[u8]) -> Result<B
 
 impl Client {
     // The Query that it heard after the Advertisement, if that has the length of one for IGMP.
-    fn query(&self) -> Result<&[u8], AllocError> {
+    fn query(&self) -> Result<&[u8], AllocError>
+        ensures { IfOk result (λ query. length query.now ≡ 66) }
+    {
         match self.heard.as_slice() {
             [_, query, ..] if query.len() == 66 => Ok(query.as_slice()),
             _ => Err(AllocError),
