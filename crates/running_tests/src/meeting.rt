@@ -24,16 +24,16 @@ const OTHER_UPDATE: &str = "05004db758a175550a0b0c0d\
 
 const OTHER_PACKET: &str = "4500001c0000000004119c91c6336409ef0101020400040000080000";
 
-// Which of the links out send.
+/// Which of the links out send.
 #[derive(Drop)]
-struct Signals {
+pub struct Signals {
     first: AtomicBool,
     second: AtomicBool,
 }
 
-// A link out whose sends succeed where the other one is sending too, or has been.
+/// A link out whose sends succeed where the other one is sending too, or has been.
 #[derive(Drop)]
-struct MeetingOut {
+pub struct MeetingOut {
     signals: Arc<Signals, Global>,
     is_first: bool,
     faults: u64,
