@@ -174,8 +174,7 @@ pub fn devices_of(rt: &impl Abort, alloc: Global, course: &Course) -> Devices {
 }
 
 /// So many links out.
-pub fn outs_of(rt: &impl Abort, alloc: Global, count: u32, copy: u64) -> Outs<MemOut>
-{
+pub fn outs_of(rt: &impl Abort, alloc: Global, count: u32, copy: u64) -> Outs<MemOut> {
     let mut outs = Outs::new(alloc);
     for _ in 0..count {
         let out = MemOut::failing(alloc, failing(rt, alloc, copy));

@@ -1,20 +1,9 @@
 //! Datagrams with every first octet, beside an endpoint that is live.
 
-use crate::course::{Course, Heard, HostSend, NONE_FAILS, NOTHING, PLAN, QUIET, Turn};
+use crate::course::{Course, Heard, NONE_FAILS, NOTHING, PLAN, QUIET, Turn};
 use crate::octets::{FIRST_MAC_OF_7, MESSAGE, PACKET, REPORT};
 use crate::running::assert_courses;
 use relay_serving::{ServePlan, ServeReport};
-use std::alloc::Global;
-use std::process::Abort;
-use std::slice;
-use std::sync::Wait;
-use std::thread::Threads;
-
-// The lengths of the datagrams: the shortest, those of messages of fixed length, and a long one.
-const LENGTHS: [usize; 5] = [1, 8, 12, 30, 100];
-
-// With each length 64 datagrams a turn, from each of these first octets on.
-const FIRSTS: [u8; 4] = [0, 64, 128, 192];
 
 const ADVERTISEMENT: &str = "0200000000000000c0000201";
 
@@ -27,11 +16,13 @@ const QUERY_TO_8: &str = "0401b14d4779b24700000000\
 46c000240000000001028211c0000201e0000001940400001164ec1e00000000027d0000\
 1388000000000000000000000000c6336408";
 
+// The Update of host 7.
 const BEFORE: Turn<'static> = Turn {
     heard: Some(&[Heard::Update(7, FIRST_MAC_OF_7, REPORT)]),
     ..QUIET
 };
 
+// A packet, and datagrams of no octet.
 const AFTER: Turn<'static> = Turn {
     at: 2,
     heard: Some(&[Heard::One(7, ""), Heard::One(8, "")]),
@@ -39,79 +30,215 @@ const AFTER: Turn<'static> = Turn {
     ..QUIET
 };
 
-// All datagrams from this host.
-fn hostile<'a>(rt: &impl Abort, alloc: Global, host: u8) -> Vec<Heard<'a>> {
-    let mut all = Vec::new(alloc);
-    for length in LENGTHS {
-        for first in FIRSTS {
-            let Ok(()) = all.push(Heard::Firsts(host, first, length)) else {
-                panic!(rt; "out of memory");
-            };
-        }
-    }
-    all
-}
+// From host 8, of 1, 8, 30 and 100 octets: the shortest, those of messages of fixed length, and long ones.
+const OF_A_STRANGER: [Turn<'static>; 18] = [
+    BEFORE,
+    Turn {
+        at: 1,
+        heard: Some(&[Heard::Firsts(8, 0, 1)]),
+        ..QUIET
+    },
+    Turn {
+        at: 1,
+        heard: Some(&[Heard::Firsts(8, 64, 1)]),
+        ..QUIET
+    },
+    Turn {
+        at: 1,
+        heard: Some(&[Heard::Firsts(8, 128, 1)]),
+        ..QUIET
+    },
+    Turn {
+        at: 1,
+        heard: Some(&[Heard::Firsts(8, 192, 1)]),
+        ..QUIET
+    },
+    Turn {
+        at: 1,
+        heard: Some(&[Heard::Firsts(8, 0, 8)]),
+        ..QUIET
+    },
+    Turn {
+        at: 1,
+        heard: Some(&[Heard::Firsts(8, 64, 8)]),
+        ..QUIET
+    },
+    Turn {
+        at: 1,
+        heard: Some(&[Heard::Firsts(8, 128, 8)]),
+        ..QUIET
+    },
+    Turn {
+        at: 1,
+        heard: Some(&[Heard::Firsts(8, 192, 8)]),
+        ..QUIET
+    },
+    Turn {
+        at: 1,
+        heard: Some(&[Heard::Firsts(8, 0, 30)]),
+        ..QUIET
+    },
+    Turn {
+        at: 1,
+        heard: Some(&[Heard::Firsts(8, 64, 30)]),
+        ..QUIET
+    },
+    Turn {
+        at: 1,
+        heard: Some(&[Heard::Firsts(8, 128, 30)]),
+        ..QUIET
+    },
+    Turn {
+        at: 1,
+        heard: Some(&[Heard::Firsts(8, 192, 30)]),
+        ..QUIET
+    },
+    Turn {
+        at: 1,
+        heard: Some(&[Heard::Firsts(8, 0, 100)]),
+        ..QUIET
+    },
+    Turn {
+        at: 1,
+        heard: Some(&[Heard::Firsts(8, 64, 100)]),
+        ..QUIET
+    },
+    Turn {
+        at: 1,
+        heard: Some(&[Heard::Firsts(8, 128, 100)]),
+        ..QUIET
+    },
+    Turn {
+        at: 1,
+        heard: Some(&[Heard::Firsts(8, 192, 100)]),
+        ..QUIET
+    },
+    AFTER,
+];
 
-fn add<'a>(rt: &impl Abort, turns: &mut Vec<Turn<'a>>, turn: Turn<'a>) {
-    let Ok(()) = turns.push(turn) else {
-        panic!(rt; "out of memory");
-    };
-}
+// The same from host 7.
+const OF_THE_ENDPOINT: [Turn<'static>; 18] = [
+    BEFORE,
+    Turn {
+        at: 1,
+        heard: Some(&[Heard::Firsts(7, 0, 1)]),
+        ..QUIET
+    },
+    Turn {
+        at: 1,
+        heard: Some(&[Heard::Firsts(7, 64, 1)]),
+        ..QUIET
+    },
+    Turn {
+        at: 1,
+        heard: Some(&[Heard::Firsts(7, 128, 1)]),
+        ..QUIET
+    },
+    Turn {
+        at: 1,
+        heard: Some(&[Heard::Firsts(7, 192, 1)]),
+        ..QUIET
+    },
+    Turn {
+        at: 1,
+        heard: Some(&[Heard::Firsts(7, 0, 8)]),
+        ..QUIET
+    },
+    Turn {
+        at: 1,
+        heard: Some(&[Heard::Firsts(7, 64, 8)]),
+        ..QUIET
+    },
+    Turn {
+        at: 1,
+        heard: Some(&[Heard::Firsts(7, 128, 8)]),
+        ..QUIET
+    },
+    Turn {
+        at: 1,
+        heard: Some(&[Heard::Firsts(7, 192, 8)]),
+        ..QUIET
+    },
+    Turn {
+        at: 1,
+        heard: Some(&[Heard::Firsts(7, 0, 30)]),
+        ..QUIET
+    },
+    Turn {
+        at: 1,
+        heard: Some(&[Heard::Firsts(7, 64, 30)]),
+        ..QUIET
+    },
+    Turn {
+        at: 1,
+        heard: Some(&[Heard::Firsts(7, 128, 30)]),
+        ..QUIET
+    },
+    Turn {
+        at: 1,
+        heard: Some(&[Heard::Firsts(7, 192, 30)]),
+        ..QUIET
+    },
+    Turn {
+        at: 1,
+        heard: Some(&[Heard::Firsts(7, 0, 100)]),
+        ..QUIET
+    },
+    Turn {
+        at: 1,
+        heard: Some(&[Heard::Firsts(7, 64, 100)]),
+        ..QUIET
+    },
+    Turn {
+        at: 1,
+        heard: Some(&[Heard::Firsts(7, 128, 100)]),
+        ..QUIET
+    },
+    Turn {
+        at: 1,
+        heard: Some(&[Heard::Firsts(7, 192, 100)]),
+        ..QUIET
+    },
+    AFTER,
+];
 
-// The Update, each of these in a turn of its own, and the packet.
-fn turns_with<'a>(rt: &impl Abort, alloc: Global, all: &'a [Heard<'a>]) -> Vec<Turn<'a>> {
-    let mut turns = Vec::new(alloc);
-    add(rt, &mut turns, BEFORE);
-    for heard in all {
-        let turn = Turn {
-            at: 1,
-            heard: Some(slice::from_ref(heard)),
-            ..QUIET
-        };
-        add(rt, &mut turns, turn);
-    }
-    add(rt, &mut turns, AFTER);
-    turns
-}
+// A Discovery and a Request are among them, which are lawful.
+const UNMOVED: ServeReport = ServeReport {
+    turns: 18,
+    datagrams: 1027,
+    packets: 1,
+    updated: 1,
+    sent: 3,
+    published: 19,
+    ..NOTHING
+};
 
-// A Discovery and a Request are among them, which are lawful: these are the link's answers.
-fn assert_unmoved<R: Threads + Wait + Abort + 'static>(
-    rt: &R,
-    alloc: Global,
-    host: u8,
-    answers: &[HostSend],
-) {
-    let all = hostile(rt, alloc, host);
-    let turns = turns_with(rt, alloc, all.as_slice());
-    let course = Course {
-        what: "hostile datagrams",
-        plan: ServePlan { turns: 22, ..PLAN },
+const EIGHTEEN: ServePlan = ServePlan { turns: 18, ..PLAN };
+
+const HOSTILE: [Course<'static>; 2] = [
+    Course {
+        what: "datagrams of a stranger",
+        plan: EIGHTEEN,
         failing: NONE_FAILS,
         begins: true,
-        turns: turns.as_slice(),
-        answers,
+        turns: &OF_A_STRANGER,
+        answers: &[(8, ADVERTISEMENT, true), (8, QUERY_TO_8, true)],
         copies: &[&[(7, MESSAGE, true)], &[]],
-        report: ServeReport {
-            turns: 22,
-            datagrams: 1283,
-            packets: 1,
-            updated: 1,
-            sent: 3,
-            published: 23,
-            ..NOTHING
-        },
-    };
-    assert_courses(rt, alloc, slice::from_ref(&course));
-}
+        report: UNMOVED,
+    },
+    Course {
+        what: "datagrams from the endpoint's own address and port",
+        plan: EIGHTEEN,
+        failing: NONE_FAILS,
+        begins: true,
+        turns: &OF_THE_ENDPOINT,
+        answers: &[(7, ADVERTISEMENT, true), (7, QUERY_TO_7, true)],
+        copies: &[&[(7, MESSAGE, true)], &[]],
+        report: UNMOVED,
+    },
+];
 
 #[test]
-fn datagrams_of_a_stranger_get_lawful_answers_alone(rt: HostRuntime) {
-    let answers = [(8, ADVERTISEMENT, true), (8, QUERY_TO_8, true)];
-    assert_unmoved(&rt, rt.alloc(), 8, &answers);
-}
-
-#[test]
-fn datagrams_of_the_endpoint_itself_do_not_end_its_tunnel(rt: HostRuntime) {
-    let answers = [(7, ADVERTISEMENT, true), (7, QUERY_TO_7, true)];
-    assert_unmoved(&rt, rt.alloc(), 7, &answers);
+fn hostile_datagrams_get_lawful_answers_alone(rt: HostRuntime) {
+    assert_courses(&rt, rt.alloc(), &HOSTILE);
 }
