@@ -1,5 +1,5 @@
 -- The commands, by cases: what each reads, it reads in one way at most, and with one fault at most.
-use Rattle.std.proofs.Common.{◌⊎◌, ℕ, List, [], ◌∷◌, Result, Ok, Err, IfErr, inl, inr, refl, arith}
+use Rattle.std.proofs.Common.{◌≡◌, ◌⊎◌, ℕ, List, [], ◌∷◌, Option, Result, Ok, Err, IfErr, inl, inr, refl, subst, arith}
 use Rattle.script_lines.specs.Script.{IsErrorOf, RulesOutScripts}
 use Rattle.script_lines.specs.declared.fault.ScriptError.{ScriptError}
 use Rattle.script_lines.specs.declared.fault.ScriptError.TheVariants as errors
@@ -78,3 +78,16 @@ pub refused_by : {U : Type 0} (line : List (List ℕ)) → U ⊎ ((command : Com
     → ((command : Command) → IsCommandLine command line → ⊥) → U
 refused_by line (inl refused) none = refused
 refused_by line (inr named) none = absurd (none named.0 named.1)
+
+-- what is said of the file, the turns and the workers of `relay`, and nothing of another command
+abbrev OfRelay : (List ℕ → ℕ → Option ℕ → Type 0) → Command → Type 0
+OfRelay P (Replay kind) = Unit {0}
+OfRelay P Dump = Unit {0}
+OfRelay P Vectors = Unit {0}
+OfRelay P (Load seed count) = Unit {0}
+OfRelay P (RelayServing file turns workers) = P file turns workers
+
+-- it is said of one `relay` if of the other
+pub for_relay : (P : List ℕ → ℕ → Option ℕ → Type 0) (file file' : List ℕ) (turns turns' : ℕ) (workers workers' : Option ℕ)
+    → RelayServing file turns workers ≡ RelayServing file' turns' workers' → P file turns workers → P file' turns' workers'
+for_relay P file file' turns turns' workers workers' same said = subst (OfRelay P) same said

@@ -2,4 +2,5 @@ pub mod Answering
 pub mod Commands
 pub mod Endings
 pub mod Lines
+pub mod Shown
 pub mod Undisturbed

@@ -17,16 +17,15 @@ use Rattle.relay_serving.specs.declared.plan.End.TheVariants as ends
 use Rattle.relay_serving.specs.declared.plan.ServeReport.{ServeReport}
 use Rattle.amt_words.specs.Line.{IsCommandLine}
 use Rattle.amt_words.specs.declared.command.Command.TheVariants.{Relay as RelayServing}
-use Rattle.clap.specs.Words.{Text}
 use Rattle.script_lines.specs.Writing.{WritesPrefix}
 use Rattle.amt_command.specs.Ending.{line_of, status_of}
 use Rattle.amt_command.specs.declared.ending.Ending.{Ending}
 use Rattle.amt_command.specs.declared.ending.Ending.TheVariants.{Fault, LinkFault, Memory, RandomFault, ReadFault, TooLong}
 
 -- the arguments are those of `relay`
-abbrev pub IsRelayLine : List Text → Type 0
+abbrev pub IsRelayLine : List (List ℕ) → Type 0
 IsRelayLine words =
-    (file : Text) × (turns : ℕ) × (workers : Option ℕ) × IsCommandLine (RelayServing file turns workers) words
+    (file : List ℕ) × (turns : ℕ) × (workers : Option ℕ) × IsCommandLine (RelayServing file turns workers) words
 
 -- how `relay` ends where its run has this end
 abbrev pub ending_of_end : End → Result (Unit {0}) Ending
@@ -77,7 +76,7 @@ pub record Shows {T : Type 0} (answer : Result ServeReport RelayFault) (written 
   pub quiet : status ≢ 0 → status ≢ 5 → out' ≡ out
   pub fault : status ≡ 3 → line ≡ line_of (ending_of_answer answer)
 
-module _ {G V L F C W O P : Type 0} (kept : FilesTell G) (told : Tells V L F C W O P) (file : List ℕ) (turns : ℕ) (workers : Option ℕ) (files files' : G) (live live' : V) where
+module _ {G V L F C W O P T : Type 0} (kept : FilesTell G) (told : Tells V L F C W O P T) (file : List ℕ) (turns : ℕ) (workers : Option ℕ) (files files' : G) (live live' : V) where
   -- What is known of the answer of a run by the settings of this file: the run behind a report, or why there was
   -- none, and what was asked of files and devices.
   pub record ComesTo (answer : Result ServeReport RelayFault) : Type 0 where
@@ -98,7 +97,7 @@ module _ {G V L F C W O P : Type 0} (kept : FilesTell G) (told : Tells V L F C W
 
   -- What `relay` does with its arguments, as its status and its line show: nothing was touched, since memory ran
   -- out for the arguments; or they show this answer.
-  pub data Relays {T : Type 0} (written : T → Option (List ℕ)) (out out' : T) (status : ℕ) (line : List ℕ) : Type 0 where
+  pub data Relays {S : Type 0} (written : S → Option (List ℕ)) (out out' : S) (status : ℕ) (line : List ℕ) : Type 0 where
     untouched : status ≡ 7 → files' ≡ files → live' ≡ live → out' ≡ out → Relays written out out' status line
     answered : (answer : Result ServeReport RelayFault) → ComesTo answer → Shows answer written out out' status line → Relays written out out' status line
 

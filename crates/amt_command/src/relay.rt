@@ -11,7 +11,7 @@ ghost use Rattle.relay_command.specs.declared.fault.RelayFault.{RelayFault as An
 ghost use Rattle.relay_serving.specs.declared.plan.ServeReport.{ServeReport as Report};
 ghost use Rattle.std.specs.Io.KnownBytes.{Appends};
 ghost use Rattle.script_lines.specs.Writing.{WritesPrefix};
-ghost use Rattle.amt_command.specs.Ending.{line_of, status_of};
+ghost use Rattle.amt_command.specs.Ending.{line_of, status_of, status_of_ending};
 ghost use Rattle.amt_command.specs.Running.{ComesTo, HasLine, Shows, ending_of_end, ending_of_fault};
 
 use crate::ending::Ending;

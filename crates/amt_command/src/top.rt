@@ -57,13 +57,13 @@ fn run_command<S: Source, F: Files, O: Sink, V: Live>(
 ) -> Result<(), Ending>
     requires { IsWithinLimits command }
     ensures no_usage { IsErrOf result Ending.Usage → ⊥ }
-    ensures relays { (file : List ℕ) (turns : ℕ) (workers : Option ℕ) → command ≡ CommandValue.Relay file turns workers
+    ensures relays { (file : List ℕ) (turns : ℕ) (workers : Option ℕ) → command.entry ≡ CommandValue.Relay file turns workers
         → Relays F.Files (tells V.Live V.L.Link V.F.Feed V.C.Clock V.W.Words V.O.OutLink V.P.starts V.P.faults)
         file turns workers files.old files.new live.old live.new O.written out.old out.new
         (status_of result) (line_of result) }
-    ensures unused { ((file : List ℕ) (turns : ℕ) (workers : Option ℕ) → command ≡ CommandValue.Relay file turns workers → ⊥)
+    ensures unused { ((file : List ℕ) (turns : ℕ) (workers : Option ℕ) → command.entry ≡ CommandValue.Relay file turns workers → ⊥)
         → (files.new ≡ files.old) × (live.new ≡ live.old) }
-    ensures ends { EndsFor (work_of command) (S.left input.old) (S.left input.new)
+    ensures ends { EndsFor (work_of command.entry) (S.left input.old) (S.left input.new)
         (S.faults input.old) (S.faults input.new) (O.written out.old) (O.written out.new)
         (out.new ≡ out.old) (input.new ≡ input.old) result }
     ensures devices { LeavesDevices S.left S.faults O.faults input.old input.new out.old out.new

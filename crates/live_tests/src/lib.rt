@@ -10,5 +10,3 @@
 mod machine;
 #[cfg(test)]
 mod memory;
-#[cfg(test)]
-mod workers;

@@ -2,14 +2,13 @@
 
 mod untouched;
 
-pub use untouched::{Unopened, no_files, unopened};
-
 use amt_command::*;
 use amt_ports::{MemSink, MemSource};
 use amt_values::Bytes;
 use std::alloc::{AllocError, Global};
 use std::process::Abort;
 use std::sync::Wait;
+pub use untouched::{Unopened, no_files, unopened};
 
 // The numbers of the calls of input, output and standard error that fail, counted from 1; 0 for none.
 pub type Failing = (u64, u64, u64);
@@ -110,7 +109,12 @@ pub fn is_out_of_memory(rt: &impl Abort, what: &str) {
 }
 
 // Each row: what it shows, the lines after the first ones, and the text.
-pub fn are_texts(rt: &(impl Abort + Wait), alloc: Global, start: Start, rows: &[(&str, &str, &str)]) {
+pub fn are_texts(
+    rt: &(impl Abort + Wait),
+    alloc: Global,
+    start: Start,
+    rows: &[(&str, &str, &str)],
+) {
     for (what, lines, text) in rows {
         is_ended(rt, what, replay(rt, alloc, start, lines), 0, text, "");
     }
@@ -142,7 +146,12 @@ fn framed(alloc: Global, frame: Frame, given: &str) -> Result<String, AllocError
 }
 
 // Each row: what it shows, the end of a script, and what the text has between the frame's parts.
-pub fn are_framed(rt: &(impl Abort + Wait), alloc: Global, frame: Frame, rows: &[(&str, &str, &str)]) {
+pub fn are_framed(
+    rt: &(impl Abort + Wait),
+    alloc: Global,
+    frame: Frame,
+    rows: &[(&str, &str, &str)],
+) {
     for (what, end, given) in rows {
         let ended = replay(rt, alloc, frame.0, end);
         is_framed(rt, what, ended, framed(alloc, frame, given));

@@ -19,7 +19,7 @@ slots_of plan = max plan.workers 1
 abbrev pub opening_by : RelayConfig → ServePlan → Opening
 opening_by config plan = AskedRelay config.listen config.feed (slots_of plan)
 
-module _ {V L F C W O P : Type 0} (live : LiveTells V L F C W O P) where
+module _ {V L F C W O P T : Type 0} (live : LiveTells V L F C W O P T) where
   -- the devices were asked for once; none were handed out or given back
   pub record IsRefused (opening : Opening) (before after : V) : Type 0 where
     pub asked : Appends (live.asked before) (live.asked after) opening

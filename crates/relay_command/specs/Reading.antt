@@ -7,22 +7,21 @@ use Rattle.amt_config.specs.declared.fault.ConfigFault.TheVariants.{Memory as Co
 use Rattle.amt_ports.specs.Contents.{IsContent}
 use Rattle.amt_values.specs.declared.bytes.TheConstants.{INPUT_LIMIT}
 use Rattle.relay_command.specs.declared.fault.RelayFault.{RelayFault}
-use Rattle.relay_command.specs.declared.fault.RelayFault.TheVariants.{Memory, NotRead, Settings, TooLong}
+use Rattle.relay_command.specs.declared.fault.RelayFault.TheVariants.{Memory, NotOpened, NotRead, Settings, TooLong}
 
--- octets that may be those of the file, as far as its content is told, are the file of a relay with this
--- configuration
+-- Octets that are those of the file, where its content is told, are the file of a relay with this configuration.
 pub record IsConfigured (content : Option (List ℕ)) (config : RelayConfig) : Type 0 where
-  pub bytes : List ℕ
-  pub are : IsContent content bytes
-  pub short : length bytes ≤ INPUT_LIMIT
-  pub file : IsRelayFile config bytes
+  pub octets : List ℕ
+  pub are : IsContent content octets
+  pub short : length octets ≤ INPUT_LIMIT
+  pub file : IsRelayFile config octets
 
--- this is the first fault of octets that may be those of the file
+-- This is the first fault of such octets; it is never want of memory.
 pub record IsMisconfigured (content : Option (List ℕ)) (fault : ConfigFault) : Type 0 where
-  pub bytes : List ℕ
-  pub are : IsContent content bytes
-  pub short : length bytes ≤ INPUT_LIMIT
-  pub first : IsRelayFault fault bytes
+  pub octets : List ℕ
+  pub are : IsContent content octets
+  pub short : length octets ≤ INPUT_LIMIT
+  pub first : IsRelayFault fault octets
   pub is_fault : fault ≢ ConfigMemory
 
 -- where the content is told, it has more octets than an input may have
@@ -36,21 +35,44 @@ TellsFault content TooLong = IsOverlong content
 TellsFault content (Settings fault) = IsMisconfigured content fault
 TellsFault content fault = Unit {0}
 
+-- why a file's octets were not read
+abbrev pub IsFaultOfReading : Option (List ℕ) → RelayFault → Type 0
+IsFaultOfReading content NotRead = Unit {0}
+IsFaultOfReading content TooLong = IsOverlong content
+IsFaultOfReading content (Settings fault) = ⊥
+IsFaultOfReading content NotOpened = ⊥
+IsFaultOfReading content Memory = Unit {0}
+
+-- how a fault of a file's reader is told
+abbrev pub fault_by : ConfigFault → RelayFault
+fault_by ConfigMemory = Memory
+fault_by fault = Settings fault
+
+-- why octets that were read are not taken
+abbrev pub IsFaultIn : List ℕ → RelayFault → Type 0
+IsFaultIn octets NotRead = ⊥
+IsFaultIn octets TooLong = ⊥
+IsFaultIn octets (Settings fault) = IsRelayFault fault octets × (fault ≢ ConfigMemory)
+IsFaultIn octets NotOpened = ⊥
+IsFaultIn octets Memory = Unit {0}
+
 -- the file was not read, or memory ran out
 abbrev pub IsUnread : {T : Type 0} → Result T RelayFault → Type 0
-IsUnread {T} result = (result ≡ Err {T} NotRead) ⊎ (result ≡ Err {T} Memory)
+IsUnread result = (result ≡ Err NotRead) ⊎ (result ≡ Err Memory)
 
 -- the file is not why there was no run
 abbrev pub BlamesNoFile : {T : Type 0} → Result T RelayFault → Type 0
 BlamesNoFile (Ok report) = Unit {0}
+BlamesNoFile (Err NotRead) = Unit {0}
 BlamesNoFile (Err TooLong) = ⊥
 BlamesNoFile (Err (Settings fault)) = ⊥
-BlamesNoFile (Err fault) = Unit {0}
+BlamesNoFile (Err NotOpened) = Unit {0}
+BlamesNoFile (Err Memory) = Unit {0}
 
 -- The octets of the file, where they are told, decide what its settings are taken for, unless it isn't read or
 -- memory runs out.
-pub record Decides {T : Type 0} (bytes : List ℕ) (result : Result T RelayFault) : Type 0 where
-  pub configured : (config : RelayConfig) → length bytes ≤ INPUT_LIMIT → IsRelayFile config bytes → BlamesNoFile result
-  pub misconfigured : (fault : ConfigFault) → length bytes ≤ INPUT_LIMIT → IsRelayFault fault bytes
-      → (result ≡ Err {T} (Settings fault)) ⊎ IsUnread result
-  pub overlong : INPUT_LIMIT < length bytes → (result ≡ Err {T} TooLong) ⊎ IsUnread result
+pub record Decides {T : Type 0} (octets : List ℕ) (result : Result T RelayFault) : Type 0 where
+  pub configured : (config : RelayConfig) → length octets ≤ INPUT_LIMIT → IsRelayFile config octets → BlamesNoFile result
+  pub misconfigured : (fault : ConfigFault) → length octets ≤ INPUT_LIMIT → IsRelayFault fault octets
+      → (result ≡ Err (Settings fault)) ⊎ IsUnread result
+  pub overlong : INPUT_LIMIT < length octets → (result ≡ Err TooLong) ⊎ IsUnread result

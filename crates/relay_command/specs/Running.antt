@@ -14,7 +14,7 @@ use Rattle.relay_command.specs.Openings.{opening_by, slots_of}
 use Rattle.relay_command.specs.Plans.{plan_by}
 use Rattle.relay_command.specs.Reading.{IsConfigured}
 
-module _ {V L F C W O P : Type 0} (told : Tells V L F C W O P) where
+module _ {V L F C W O P T : Type 0} (told : Tells V L F C W O P T) where
   -- The relay of these settings ran by the plan on one set of devices, which was then given back.
   pub record RunsBy (config : RelayConfig) (plan : ServePlan) (before after : V) (report : ServeReport) : Type 0 where
     -- the set was asked for once, and was the first to come

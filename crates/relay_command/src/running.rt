@@ -27,7 +27,7 @@ fn run_by<R: Wait, V: Live>(
     config: &RelayConfig,
     plan: &ServePlan,
     live: &mut V,
-) -> Result<ServeReport, RelayFault>
+) -> Result<ServeReport, OpenFault>
     requires settings { AreLawfulSettings (settings_of config.now) }
     requires plan { IsLawfulPlan plan.now }
     ensures ran { IfOk result (λ report. ∥ RunsBy
@@ -35,17 +35,15 @@ fn run_by<R: Wait, V: Live>(
         config.now plan.now live.old live.new report ∥₁) }
     ensures refused { OnErr result
         (IsRefused V.Live (opening_by config.now plan.now) live.old live.new) }
-    ensures only { IfErr result (λ fault. (fault ≡ RelayFault.NotOpened) ⊎ (fault ≡ RelayFault.Memory)) }
-    ensures failed { IsErrOf result RelayFault.NotOpened
+    ensures failed { IsErrOf result OpenFault.Failed
         → Rose (V.faults live.old) (V.faults live.new) }
-    ensures quiet { ¬ IsErrOf result RelayFault.NotOpened
+    ensures quiet { ¬ IsErrOf result OpenFault.Failed
         → V.faults live.new ≡ V.faults live.old }
 {
     let slots = plan.workers.max(1);
     let devices = match live.open_relay(&config.listen, &config.feed, slots) {
         Ok(devices) => devices,
-        Err(OpenFault::Failed) => return Err(RelayFault::NotOpened),
-        Err(OpenFault::Memory) => return Err(RelayFault::Memory),
+        Err(fault) => return Err(fault),
     };
     let RelayDevices {
         mut link,
@@ -106,8 +104,8 @@ pub fn run_relay<R: Wait, F: Files, V: Live>(
         → Rose (F.faults files.old) (F.faults files.new) }
     ensures absent { F.lacks files.old file.now → IsErrOf result RelayFault.NotRead }
     ensures fault { IfErr result (TellsFault (F.contents files.old file.now)) }
-    ensures decided { (bytes : List ℕ) → F.contents files.old file.now ≡ Some bytes
-        → Decides bytes result }
+    ensures decided { (octets : List ℕ) → F.contents files.old file.now ≡ Some octets
+        → Decides octets result }
     ensures unopened { IsErrOf result RelayFault.NotOpened
         → Rose (V.faults live.old) (V.faults live.new) }
     ensures refused { IsErrOf result RelayFault.NotOpened
@@ -128,5 +126,9 @@ pub fn run_relay<R: Wait, F: Files, V: Live>(
         Err(fault) => return Err(fault),
     };
     let plan = plan_by(&config, turns, workers);
-    run_by(rt, alloc, &config, &plan, live)
+    match run_by(rt, alloc, &config, &plan, live) {
+        Ok(report) => Ok(report),
+        Err(OpenFault::Failed) => Err(RelayFault::NotOpened),
+        Err(OpenFault::Memory) => Err(RelayFault::Memory),
+    }
 }

@@ -1,7 +1,7 @@
 //! What the slots of a dispatcher send, with threads and without. It must not know what a slot is.
-ghost use Rattle.std.specs.Prelude.{◌≡◌, ◌≤◌, All};
+ghost use Rattle.std.specs.Prelude.{◌≡◌, ◌≤◌, ◌<◌, ◌+◌, All};
 ghost use Rattle.published_table.specs.Publishers.{book_of};
-ghost use Rattle.published_table.specs.Views.{IsNew, publisher_of, terms_of};
+ghost use Rattle.published_table.specs.Views.{IsNew, publisher_of, terms_of, views_of};
 ghost use Rattle.replication_workers.specs.Dispatchers.{AllRun, KeepsAllRun, slots_of};
 ghost use Rattle.replication_workers.specs.Replicators.{view_of};
 ghost use Rattle.replication_workers.specs.SlotStates.{jobs_in_all};
@@ -13,7 +13,7 @@ use crate::packets::{
 use crate::relay::Relay;
 use crate::starters::Starter;
 use amt_ports::{ListedSpawner, MemOut, Spawner, ThreadSpawner};
-use published_table::View;
+use published_table::{View, Views};
 use replication_workers::{Dispatcher, Finished, Replicator, Replicators, StartFault, Worker};
 use std::alloc::Global;
 use std::process::Abort;
@@ -46,6 +46,35 @@ fn replicator_of(rt: &impl Abort, alloc: Global, view: View) -> Replicator<MemOu
     replicator
 }
 
+// A replicator that reads by the next of these views of what the relay publishes.
+fn next_slot(rt: &impl Abort, alloc: Global, relay: &Relay, views: &mut Views) -> Replicator<MemOut>
+    requires { All (IsNew (book_of relay.now.publisher) TERMS) (views_of views.old) }
+    ensures views { All (IsNew (book_of relay.now.publisher) TERMS) (views_of views.new) }
+    ensures publisher { book_of relay.now.publisher ≡ publisher_of (view_of result) }
+{
+    let Some(view) = views.pop() else {
+        panic!(rt; "there are as many views");
+    };
+    replicator_of(rt, alloc, view)
+}
+
+fn add_slot(
+    rt: &impl Abort,
+    alloc: Global,
+    relay: &Relay,
+    views: &mut Views,
+    slots: &mut Replicators<MemOut>,
+)
+    requires views { All (IsNew (book_of relay.now.publisher) TERMS) (views_of views.old) }
+    requires slots { All (λ one. book_of relay.now.publisher ≡ publisher_of (view_of one)) slots.old }
+    ensures views { All (IsNew (book_of relay.now.publisher) TERMS) (views_of views.new) }
+    ensures slots { All (λ one. book_of relay.now.publisher ≡ publisher_of (view_of one)) slots.new }
+{
+    let Ok(()) = slots.push(next_slot(rt, alloc, relay, views)) else {
+        panic!(rt; "out of memory");
+    };
+}
+
 // A relay, and for each of so many slots a replicator of what it publishes.
 fn relay_with_slots<R: Wait + Abort>(
     rt: &R,
@@ -58,12 +87,17 @@ fn relay_with_slots<R: Wait + Abort>(
     let (relay, mut views) = Relay::with_views(rt, alloc, count);
     let mut slots = Replicators::new(alloc);
     for _ in 0..count {
-        let view = views.pop().expect(rt, "there are as many views");
-        let Ok(()) = slots.push(replicator_of(rt, alloc, view)) else {
-            panic!(rt; "out of memory");
-        };
+        add_slot(rt, alloc, &relay, &mut views, &mut slots);
     }
     (relay, slots)
+}
+
+fn count_job(rt: &impl Abort, jobs: &mut u64)
+    ensures few { jobs.old < MOST }
+    ensures counted { jobs.new ≡ jobs.old + 1 }
+{
+    assert!(rt; *jobs < MOST);
+    *jobs += 1;
 }
 
 impl<T> RelayWithDispatcher<T> {
@@ -103,8 +137,7 @@ impl<T> RelayWithDispatcher<T> {
     fn send<R: Wait + Abort>(&mut self, rt: &R, packet: &[u8]) -> u32
         ensures { KeepsAllRun self.old.dispatcher self.new.dispatcher }
     {
-        assert!(rt; self.jobs < MOST);
-        self.jobs += 1;
+        count_job(rt, &mut self.jobs);
         let job = job_of(rt, self.alloc, packet, 0, self.relay.tell());
         self.dispatcher.send(rt, job)
     }

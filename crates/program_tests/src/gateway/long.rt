@@ -40,7 +40,12 @@ fn tries_are_counted_up_to_255(rt: HostRuntime) {
 }
 
 // A comment and a moment with so many octets filled up, and a line end.
-fn replay_filled(rt: &impl Wait, alloc: Global, filling: usize, spaces: usize) -> Result<Ended, AllocError> {
+fn replay_filled(
+    rt: &impl Wait,
+    alloc: Global,
+    filling: usize,
+    spaces: usize,
+) -> Result<Ended, AllocError> {
     let filling = "#".repeat(alloc, filling)?;
     let spaces = " ".repeat(alloc, spaces)?;
     let lines = format!(in alloc; "{filling}\n{spaces}at 0\r\n")?;

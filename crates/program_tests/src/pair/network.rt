@@ -537,7 +537,12 @@ fn shown_by(alloc: Global, ended: &Ended) -> Result<String, AllocError> {
 }
 
 // The script of the trial ends well, with these rows.
-fn shows(rt: &(impl Abort + Wait), alloc: Global, script: &str, rows: &str) -> Result<(), AllocError> {
+fn shows(
+    rt: &(impl Abort + Wait),
+    alloc: Global,
+    script: &str,
+    rows: &str,
+) -> Result<(), AllocError> {
     let ended = replay(rt, alloc, ROW, script)?;
     let shown = shown_by(alloc, &ended)?;
     assert!(rt; ended.status == 0 && shown.as_str() == rows, "{script}");

@@ -24,11 +24,9 @@ returns-clause-answers g c =
           subst (λ (status : ℕ). AnswersFor (work_of command) g.S.Source.left g.S.Source.faults g.O.Sink.written g.O.Sink.faults c.args.input.now c.run-ending.new.input c.args.out.now c.run-ending.new.out status) is
           (answered g.S.Source.left g.S.Source.faults g.O.Sink.written g.O.Sink.faults c.args.input.now c.run-ending.new.input c.args.out.now c.run-ending.new.out
           result run.devices (λ usage. run.usage usage (accepted command (map string_bytes c.args.words.now) line)) (work_of command) (one_value_of command) (run.of_command command line));
-      read = search rules;
       write = search rules;
       calm_input = search rules;
       calm_output = search rules;
-      too_long = search rules;
       within = λ other. run.devices.within (λ long. other (c.status_of.ensures ∙ ap status_of long));
       statuses = search rules;
       untouched = run.untouched;
@@ -45,13 +43,13 @@ returns-clause-reports g c =
       line = λ command line calm. (
         line_of result,
         subst (λ (status : ℕ). IsLineOfStatus (work_of command) (g.S.Source.left c.args.input.now) (g.S.Source.left c.run-ending.new.input) status (line_of result)) is
-            (line_told _ _ _ _ _ _ result (work_of command) (run.of_command command line)),
+            (line_told _ _ _ _ _ _ _ _ result (work_of command) (run.of_command command line)),
         told.line calm,
       );
       prefix = λ command line. (
         line_of result,
         subst (λ (status : ℕ). IsLineOfStatus (work_of command) (g.S.Source.left c.args.input.now) (g.S.Source.left c.run-ending.new.input) status (line_of result)) is
-            (line_told _ _ _ _ _ _ result (work_of command) (run.of_command command line)),
+            (line_told _ _ _ _ _ _ _ _ result (work_of command) (run.of_command command line)),
         told.prefix,
       );
       usage_line = λ none calm.
@@ -61,6 +59,17 @@ returns-clause-reports g c =
           subst (λ (text : List ℕ). WritesPrefix (g.E.Sink.written c.args.err.now) (g.E.Sink.written c.report.new.err) text)
           (usage_line result (refused_by (map string_bytes c.args.words.now) run.words none) ∙ ap status_line is) told.prefix;
       silent = λ status. told.silent (done_of result (is ∙ status));
+    }
+
+pub returns-clause-relays : goal.returns-clause-relays
+returns-clause-relays g c = λ file turns workers line.
+    let result = c.run-ending.result in
+    let run = c.run-ending.ensures in
+    record {
+      text = line_of result;
+      shown = rw c.status_of.ensures (run.relays file turns workers line);
+      line = c.report.ensures.line;
+      prefix = c.report.ensures.prefix;
     }
 
 pub returns-clause-one_value : goal.returns-clause-one_value

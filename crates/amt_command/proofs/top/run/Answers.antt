@@ -1,4 +1,7 @@
-use Rattle.std.proofs.Common.{Err, ap}
+use Rattle.std.proofs.Common.{Err, map, string_bytes, ap, subst}
+use Rattle.amt_words.specs.Line.{IsCommandLine}
+use Rattle.amt_words.specs.declared.command.Command.{Command}
+use Rattle.amt_words.specs.declared.command.Command.TheVariants.{Relay as RelayServing}
 use Rattle.amt_words.specs.declared.command.WordsFault.{WordsFault}
 use Rattle.amt_command.proofs.top.run.Goals as goal
 
@@ -11,3 +14,27 @@ returns-in-Ok-run_command-clause-untouched g c = λ none. absurd (none c.in-Ok.c
 
 pub returns-in-Err-clause-untouched : goal.returns-in-Err-clause-untouched
 returns-in-Err-clause-untouched g c = λ none. absurd (none c.in-Ok.command c.in-Ok.ensures.found)
+
+pub returns-in-Err-Usage-clause-relays : goal.returns-in-Err-Usage-clause-relays
+returns-in-Err-Usage-clause-relays g c = λ file turns workers line.
+    absurd (c.in-Err-Usage.ensures.usage (ap (λ (fault : WordsFault). Err fault) c.in-Err-Usage.field-0-is) (RelayServing file turns workers) line)
+
+pub returns-in-Ok-run_command-clause-relays : goal.returns-in-Ok-run_command-clause-relays
+returns-in-Ok-run_command-clause-relays g c = λ file turns workers line.
+    c.in-Ok-run_command.ensures.relays file turns workers
+    (c.in-Ok.ensures.one_command (map string_bytes c.args.words.now) c.in-Ok.command (RelayServing file turns workers) c.in-Ok.ensures.found line)
+
+pub returns-in-Err-clause-relays : goal.returns-in-Err-clause-relays
+returns-in-Err-clause-relays g c = λ file turns workers line.
+    c.in-Err.ensures.relays file turns workers
+    (c.in-Ok.ensures.one_command (map string_bytes c.args.words.now) c.in-Ok.command (RelayServing file turns workers) c.in-Ok.ensures.found line)
+
+pub returns-in-Ok-run_command-clause-unused : goal.returns-in-Ok-run_command-clause-unused
+returns-in-Ok-run_command-clause-unused g c = λ none.
+    c.in-Ok-run_command.ensures.unused (λ file turns workers same.
+    none (file, turns, workers, subst (λ (command : Command). IsCommandLine command (map string_bytes c.args.words.now)) same c.in-Ok.ensures.found))
+
+pub returns-in-Err-clause-unused : goal.returns-in-Err-clause-unused
+returns-in-Err-clause-unused g c = λ none.
+    c.in-Err.ensures.unused (λ file turns workers same.
+    none (file, turns, workers, subst (λ (command : Command). IsCommandLine command (map string_bytes c.args.words.now)) same c.in-Ok.ensures.found))

@@ -1,5 +1,5 @@
 use Rattle.replication_workers.specs.Dispatchers.{KeepsAllRun}
 use Rattle.replication_tests.proofs.dispatching.send_all.Given as goal
 
-abbrev pub invariant-loop : goal.invariant-loop
-invariant-loop g l = KeepsAllRun l.fn.one.dispatcher l.one.dispatcher
+abbrev pub invariant-loop-packet : goal.invariant-loop-packet
+invariant-loop-packet g l = KeepsAllRun l.fn.one.dispatcher l.one.dispatcher

@@ -8,6 +8,7 @@ use Rattle.relay_machine.specs.declared.event.Event.TheVariants.{Packet}
 use Rattle.replication_workers.specs.Dispatchers.{slots_of}
 use Rattle.relay_serving.specs.Courses.{events_so_far}
 use Rattle.relay_serving.specs.GivenOut.{starts_in}
+use Rattle.relay_serving.specs.declared.counts.Counts.{Counts}
 use Rattle.relay_serving.proofs.Counting.{IsCounted-then}
 use Rattle.relay_serving.proofs.GivenOut.{few-given, given_out-packet, of_publisher-put, starts_in-put}
 use Rattle.relay_serving.proofs.Packets.{RelayAt-packet, counted-packet, outcome-plain, published_log-packet}
@@ -59,3 +60,9 @@ returns-clause-events g c =
       };
       events = c.fed.ensures ∙ ap (λ (bytes : List ℕ). events_so_far server.course ++ Packet bytes ∷ []) c.in_ok-packet.ensures;
     }
+
+pub returns-clause-counted : goal.returns-clause-counted
+returns-clause-counted g c = ap (λ (counts : Counts). counts.packets) c.count_packet.ensures
+
+pub returns-clause-sent : goal.returns-clause-sent
+returns-clause-sent g c = (ap (λ (counts : Counts). counts.sent) c.count_packet.ensures, ap (λ (counts : Counts). counts.unsent) c.count_packet.ensures)
