@@ -1,0 +1,130 @@
+//! Runs of the command `amt` with a settings file in memory, and what they are compared with. It must not
+//! know any device.
+
+use amt_command::amt;
+use amt_live::Live;
+use amt_ports::{MemFile, MemFiles, MemSink, MemSource};
+use amt_values::Bytes;
+use std::alloc::{AllocError, Global};
+use std::process::Abort;
+use std::sync::Wait;
+
+/// The settings of a relay at 192.0.2.1, whose devices in memory answer at any address.
+pub const SETTINGS: &str =
+    "relay = \"192.0.2.1\"\nlisten = \"127.0.0.1:2268\"\nfeed = \"127.0.0.1:9000\"\n";
+
+/// What a run of the command comes to.
+#[derive(Drop)]
+pub struct Ended {
+    pub status: u8,
+    pub out: MemSink,
+    pub err: MemSink,
+}
+
+fn words_of(alloc: Global, line: &str) -> Result<Vec<String>, AllocError> {
+    let mut words = Vec::new(alloc);
+    for word in line.split_whitespace() {
+        words.push(String::from_str(alloc, word)?)?;
+    }
+    Ok(words)
+}
+
+/// A file `F` with these octets; a reading of it fails where its number is this, counted from 1.
+pub fn files_of(alloc: Global, octets: Bytes, failing: u64) -> Result<MemFiles, AllocError> {
+    let mut files = Vec::with_capacity(alloc, 1)?;
+    files.push(MemFile {
+        name: String::from_str(alloc, "F")?,
+        bytes: octets,
+    })?;
+    Ok(MemFiles::failing(files, vec![in alloc; failing]?))
+}
+
+// A run with these words; the write of this number to the output fails, counted from 1.
+fn run_over<V: Live>(
+    rt: &impl Wait,
+    alloc: Global,
+    line: &str,
+    mut input: MemSource,
+    files: &mut MemFiles,
+    failing: u64,
+    live: &mut V,
+) -> Result<Ended, AllocError> {
+    let words = words_of(alloc, line)?;
+    let mut out = MemSink::failing(alloc, vec![in alloc; failing]?);
+    let mut err = MemSink::new(alloc);
+    let status = amt(
+        rt, alloc, &words, &mut input, files, &mut out, &mut err, live,
+    );
+    Ok(Ended { status, out, err })
+}
+
+/// A run of `amt relay` with these words: its input fails where it is read. The write of this number to the
+/// output fails, counted from 1.
+pub fn run<V: Live>(
+    rt: &impl Wait,
+    alloc: Global,
+    line: &str,
+    files: &mut MemFiles,
+    failing: u64,
+    live: &mut V,
+) -> Result<Ended, AllocError> {
+    let input = MemSource::failing(Bytes::new(alloc), vec![in alloc; 1]?);
+    run_over(rt, alloc, line, input, files, failing, live)
+}
+
+/// A run of `amt replay relay` over this script.
+pub fn replay<V: Live>(
+    rt: &impl Wait,
+    alloc: Global,
+    script: Bytes,
+    live: &mut V,
+) -> Result<Ended, AllocError> {
+    let input = MemSource::failing(script, Vec::new(alloc));
+    let mut files = MemFiles::new(alloc, Vec::new(alloc));
+    run_over(rt, alloc, "replay relay", input, &mut files, 0, live)
+}
+
+/// The run ended with this status, this output and this line on standard error.
+pub fn is_ended(
+    rt: &impl Abort,
+    what: &str,
+    ended: &Result<Ended, AllocError>,
+    status: u8,
+    out: &str,
+    err: &str,
+) {
+    let Ok(ended) = ended else {
+        panic!(rt; "out of memory: {what}");
+    };
+    assert_eq!(rt; ended.status, status, "{what}");
+    assert_eq!(rt; ended.out.as_slice(), out.as_bytes(), "{what}");
+    assert_eq!(rt; ended.err.as_slice(), err.as_bytes(), "{what}");
+}
+
+/// The run ended with status 0 and this output.
+pub fn is_written(rt: &impl Abort, what: &str, ended: &Result<Ended, AllocError>, out: &[u8]) {
+    let Ok(ended) = ended else {
+        panic!(rt; "out of memory: {what}");
+    };
+    assert_eq!(rt; ended.status, 0, "{what}");
+    assert_eq!(rt; ended.out.as_slice(), out, "{what}");
+    assert!(rt; ended.err.as_slice().is_empty(), "{what}");
+}
+
+/// A run by `SETTINGS` ends with status 0 and this output.
+pub fn assert_served<R: Wait + Abort, V: Live>(
+    rt: &R,
+    alloc: Global,
+    line: &str,
+    live: &mut V,
+    out: &str,
+) {
+    let Ok(settings) = Bytes::copied(alloc, SETTINGS.as_bytes()) else {
+        panic!(rt; "out of memory");
+    };
+    let Ok(mut files) = files_of(alloc, settings, 0) else {
+        panic!(rt; "out of memory");
+    };
+    let ended = run(rt, alloc, line, &mut files, 0, live);
+    is_ended(rt, line, &ended, 0, out, "");
+}
