@@ -1,6 +1,6 @@
 //! A set of devices in memory, in which datagrams come in the first turn and packets in the second. It must
 //! not know who opens it.
-ghost use Rattle.std.specs.Prelude.{◌≡◌, ◌≤◌, All, IfOk, length};
+ghost use Rattle.std.specs.Prelude.{◌≤◌, All, IfOk, OnOk, length};
 ghost use Rattle.amt_ports.specs.Arrivals.{IsShortAnswer, IsShortFeedAnswer};
 
 use amt_live::{MemLive, RelayDevices};
@@ -54,6 +54,15 @@ pub fn octets_of(alloc: Global, digits: &str) -> Result<Bytes, AllocError>
     }
 }
 
+fn hear(answers: &mut VecDeque<LinkAnswer>, answer: LinkAnswer) -> Result<(), AllocError>
+    requires answer { IsShortAnswer answer }
+    requires old { All IsShortAnswer answers.old.items }
+    ensures { OnOk result (All IsShortAnswer answers.new.items) }
+{
+    answers.push_back(answer)?;
+    Ok(())
+}
+
 // The datagrams from `ENDPOINT`, and then nothing in three turns.
 fn link_answers(alloc: Global, datagrams: &[&str]) -> Result<VecDeque<LinkAnswer>, AllocError>
     ensures { IfOk result (λ answers. All IsShortAnswer answers.items) }
@@ -61,11 +70,11 @@ fn link_answers(alloc: Global, datagrams: &[&str]) -> Result<VecDeque<LinkAnswer
     let mut answers = VecDeque::new(alloc);
     for digits in datagrams {
         let octets = octets_of(alloc, digits)?;
-        answers.push_back(LinkAnswer::Datagram(ENDPOINT, octets))?;
+        hear(&mut answers, LinkAnswer::Datagram(ENDPOINT, octets))?;
     }
-    answers.push_back(LinkAnswer::Nothing)?;
-    answers.push_back(LinkAnswer::Nothing)?;
-    answers.push_back(LinkAnswer::Nothing)?;
+    hear(&mut answers, LinkAnswer::Nothing)?;
+    hear(&mut answers, LinkAnswer::Nothing)?;
+    hear(&mut answers, LinkAnswer::Nothing)?;
     Ok(answers)
 }
 
