@@ -13,7 +13,7 @@ use Rattle.relay_serving.specs.Bursts.{AreAsked}
 use Rattle.relay_serving.specs.Counting.{is_packet}
 use Rattle.relay_serving.specs.Devices.{FeedSeen, LinkSeen, devices_seen, words_seen}
 use Rattle.relay_serving.specs.Events.{datagram_of, datagrams_in, unless_starved}
-use Rattle.relay_serving.specs.Servers.{FeedsSo, HearsSo, counts_in, events_in, owing_in}
+use Rattle.relay_serving.specs.Servers.{FeedsSo, HearsSo, counts_in, events_in, owing_in, published_in}
 use Rattle.relay_serving.specs.Runs.{at_publishing}
 use Rattle.relay_serving.specs.Stages.{BeginsSo}
 use Rattle.relay_serving.specs.Turning.{TurnsSo, progress_in}
@@ -75,6 +75,7 @@ module _ {O : Type 0} {g : Ghosts O} {T : Type 0} where
           latest = λ fine. absurd (true≢false (sym fine));
           renewed_is = λ fine. absurd (true≢false (sym fine));
           owed = λ some same. cc same;
+          unpublished = λ _. begins.same_published;
         }
 
     -- when the link is asked
@@ -103,14 +104,15 @@ module _ {O : Type 0} {g : Ghosts O} {T : Type 0} where
           latest = λ fine. absurd (true≢false (sym fine));
           renewed_is = λ fine. absurd (true≢false (sym fine));
           owed = λ some same. cc same;
+          unpublished = λ _. hears.hears.same_published ∙ begins.same_published;
         }
 
     -- when what is owed is published
     pub ends_refused : (before began heard after : Server O T g) (link link' : LinkSeen) (feed : FeedSeen)
         → BeginsSo rotate renewed renewed' before began clock clock' words words' (Ok tt) → counts_in began ≡ counts_in before
-        → HearsSo began heard link link' (AreAsked IsDatagram NothingCame LinkClosed (Ok tt)) → Keeps heard after
+        → HearsSo began heard link link' (AreAsked IsDatagram NothingCame LinkClosed (Ok tt)) → Keeps heard after → published_in after ≡ published_in heard
         → TurnsSo rotate renewed renewed' before after (devices_seen clock (words_seen words faults) link feed None 0) (devices_seen clock' (words_seen words' faults') link' feed None 0) (Err Memory)
-    ends_refused before began heard after link link' feed begins counts hears keeps =
+    ends_refused before began heard after link link' feed begins counts hears keeps same =
         let turn = turn_of begins.answer begins.starved begins.drawn hears.heard Refused [] in
         let stages : HasStages before after _ _ turn = record {
           began = began;
@@ -131,6 +133,7 @@ module _ {O : Type 0} {g : Ghosts O} {T : Type 0} where
           latest = λ fine. absurd (true≢false (sym fine));
           renewed_is = λ fine. absurd (true≢false (sym fine));
           owed = λ some same. cc same;
+          unpublished = λ _. same ∙ hears.hears.same_published ∙ begins.same_published;
         }
 
     -- when the feed is asked, or not at all
@@ -161,4 +164,5 @@ module _ {O : Type 0} {g : Ghosts O} {T : Type 0} where
           latest = λ _. now_of_stages before after _ _ turn stages ∙ begins.latest begins.is_begun.0;
           renewed_is = λ _. begins.renewed_is begins.is_begun.0;
           owed = λ some. absurd (some none);
+          unpublished = λ not. absurd (not refl);
         }

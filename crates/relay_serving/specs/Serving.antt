@@ -1,5 +1,5 @@
 -- What a run of a serving relay comes to.
-use Rattle.std.specs.Prelude.{◌≡◌, ◌≢◌, ◌==◌, ℕ, ◌+◌, List, [], ◌∷◌, ◌++◌, length, map, take, count_by, sum_by, Option, if◌then◌else◌}
+use Rattle.std.specs.Prelude.{◌≡◌, ◌≢◌, ◌==◌, ℕ, ◌+◌, List, [], ◌∷◌, ◌++◌, length, map, count_by, sum_by, Option, if◌then◌else◌}
 use Rattle.std.specs.List.{All, enumerate_from}
 use Rattle.amt_ports.specs.Told.{AppendsAll}
 use Rattle.amt_ports.specs.declared.feed.FeedAnswer.TheVariants.{Closed as FeedClosed}
@@ -20,7 +20,7 @@ use Rattle.replication_workers.specs.declared.job.Job.{Job}
 use Rattle.relay_serving.specs.Bursts.{IsCauseOf}
 use Rattle.relay_serving.specs.Counting.{AreCounted}
 use Rattle.relay_serving.specs.Devices.{AnswersAll, Devices, OutSeen}
-use Rattle.relay_serving.specs.Events.{events_of, first_of}
+use Rattle.relay_serving.specs.Events.{events_of, first_of, published_events}
 use Rattle.relay_serving.specs.Runs.{MayGo, Run, feed_answers, link_answers, moments_given, turns_of, words_drawn}
 use Rattle.relay_serving.specs.Sending.{answers_after, due_of, dues_after}
 use Rattle.relay_serving.specs.GivenOut.{jobs_at}
@@ -70,11 +70,13 @@ pub record AreServed (settings : Settings) (outs : List OutSeen) (jobs : List Jo
   pub sent_is : sent ≡ sum_by (λ slot. slot.sent) slots
   pub unsent_is : unsent ≡ sum_by (λ slot. slot.unsent) slots
 
--- each view's log begins with the published one, which is so many of the entries of all events; the others
--- are owed, and so many views have a longer one
-pub record ArePublished (log : List Change) (views : List View) (published owed apart : ℕ) : Type 0 where
+-- Of the log of all events this prefix is published, and the other entries are owed. Each view's log begins with
+-- that prefix, and so many of them are longer.
+pub record ArePublished (log prefix : List Change) (views : List View) (published owed apart : ℕ) : Type 0 where
+  pub published_is : published ≡ length prefix
+  pub begins : BeginsWith log prefix
   pub all : published + owed ≡ length log
-  pub each : All (λ view. BeginsWith (seen view) (take published log)) views
+  pub each : All (λ view. BeginsWith (seen view) prefix) views
   pub apart_is : apart ≡ count_by (is_apart published) views
 
 -- each log by which the slots found receivers is a prefix of this one
@@ -102,7 +104,8 @@ pub data OutsServed (settings : Settings) (plan : ServePlan) (run : Run) (report
       → views ≡ [] → IsIdle report → sent ≡ 0 → unsent ≡ 0 → OutsServed settings plan run report outs after views sent unsent
   used : (jobs : List Job) → map due_of jobs ≡ dues_after settings (first_of run) [] (events_of run)
       → (served : AreServed settings outs jobs after views sent unsent)
-      → ArePublished (published_log settings (first_of run) (events_of run)) views report.published report.owed report.apart
+      → ArePublished (published_log settings (first_of run) (events_of run)) (published_log settings (first_of run) (published_events run)) views
+      report.published report.owed report.apart
       → (report.apart ≡ 0 → ReadPrefixesOf (published_log settings (first_of run) (events_of run)) served.slots)
       → IsOwedBy (turns_of run) report.owed
       → report.inline ≡ (if plan.workers == 0 then report.packets else 0)

@@ -23,6 +23,11 @@ pub data Publishing : Type 0 where
   Refused : Publishing
   Done : Publishing
 
+abbrev pub is_done : Publishing → Bool
+is_done Ahead = false
+is_done Refused = false
+is_done Done = true
+
 -- The answers of one turn, in order: the clock's, the words of a new secret, the link's, and, after the
 -- publishing, the feed's.
 pub record Turn : Type 0 where

@@ -29,6 +29,7 @@ pub enum End {
     WordsFault,
     /// A worker couldn't be started. No turn was begun.
     SpawnFault,
+    /// Out of memory: before the first turn, at an event, or at a publishing.
     Memory,
 }
 

@@ -1,7 +1,8 @@
-use Rattle.std.proofs.Common.{ap, refl, arith}
+use Rattle.std.proofs.Common.{◌∙◌, ap, refl, sym, arith}
 use Rattle.std.proofs.lemmas.Result.{err_from_is_err_and}
 use Rattle.relay_serving.specs.declared.counts.Counts.{Counts}
 use Rattle.relay_serving.specs.declared.plan.End.TheVariants.{FeedFault, LinkFault, WordsFault}
+use Rattle.relay_serving.proofs.Beginning.{err_gives}
 use Rattle.relay_serving.proofs.Cuts.{no_error, no_words_fed, not_caused}
 use Rattle.relay_serving.proofs.Turning.{Keeps}
 use Rattle.relay_serving.proofs.Ways.{ends_begun, ends_fed, ends_heard, ends_refused, packets-kept}
@@ -23,6 +24,7 @@ pub returns-then-is_err-clause-turns : goal.returns-then-is_err-clause-turns
 returns-then-is_err-clause-turns g c =
     let keeps : Keeps c.hear.new.self c.publish.new.self = record { same = c.publish.ensures.same; events = c.publish.ensures.events; counts = c.publish.ensures.counts } in
     ends_refused _ _ _ _ _ _ _ _ _ _ _ _ _ _ _ _ c.in_ok-begin_turn.ensures.begins c.begin_turn.ensures.counts c.in_ok-hear.ensures.hears keeps
+    (err_gives _ _ c.publish.result (sym c.is_err.ensures.value ∙ c.if-is_err.true) c.publish.ensures.owing).0
 
 pub returns-then-is_err-clause-causes : goal.returns-then-is_err-clause-causes
 returns-then-is_err-clause-causes g c = record {
