@@ -36,7 +36,7 @@ use Rattle.relay_serving.specs.Ending.{Finishes}
 use Rattle.relay_serving.specs.Events.{events_from, events_of, first_of, published_events, published_turns, secret_by}
 use Rattle.relay_serving.specs.GivenOut.{AreGivenOut, starts_in}
 use Rattle.relay_serving.specs.Reports.{report_of, unused_report}
-use Rattle.relay_serving.specs.Runs.{HasEnded, IsCut, MayGo, Run, served, turns_of, unsown, unstarted, words_drawn}
+use Rattle.relay_serving.specs.Runs.{HasEnded, IsCut, MayGo, Run, served, turns_of, unstarted, without_secret, words_drawn}
 use Rattle.relay_serving.specs.Sending.{answers_after, due_of, dues_after}
 use Rattle.relay_serving.specs.Serving.{ArePublished, IsOwedBy, OutsServed, Serves, StartsWorkers, one_lost, unused, used}
 use Rattle.relay_serving.specs.Servers.{events_in, first_in, now_in, owing_in, published_in, settings_in, slots_in}
@@ -101,12 +101,12 @@ not_run settings plan end first clock words words' link feed starts starts' faul
 }
 
 -- words were lacking
-pub serves_unsown : (settings : Settings) (plan : ServePlan) (first : List ℕ) (clock : Option (List ℕ)) (words words' : WordsSeen) (link : LinkSeen) (feed : FeedSeen) (starts : Option ℕ) (faults : ℕ) (outs : List OutSeen)
+pub serves_without_secret : (settings : Settings) (plan : ServePlan) (first : List ℕ) (clock : Option (List ℕ)) (words words' : WordsSeen) (link : LinkSeen) (feed : FeedSeen) (starts : Option ℕ) (faults : ℕ) (outs : List OutSeen)
     → AppendsAll words.given words'.given first → length first < 4 → Rose words.faults words'.faults
     → Serves settings plan (devices_seen clock words link feed starts faults) (devices_seen clock words' link feed starts faults) outs outs [] (unused_report WordsFault)
-serves_unsown settings plan first clock words words' link feed starts faults outs drawn few rose =
+serves_without_secret settings plan first clock words words' link feed starts faults outs drawn few rose =
     let not_spawn : WordsFault ≢ SpawnFault = λ is. (let same : 4 ≡ 5 = ap number_of is in omega (arith, same)) in
-    not_run settings plan WordsFault first clock words words' link feed starts starts faults faults outs outs drawn (unsown few refl refl refl)
+    not_run settings plan WordsFault first clock words words' link feed starts starts faults faults outs outs drawn (without_secret few refl refl refl)
     (unused not_spawn refl refl refl (record { no_inline = refl; none_owed = refl; none_published = refl; none_apart = refl }) refl refl)
     (starts_none plan.workers WordsFault starts starts refl)
     (λ is. (let same : 4 ≡ 2 = ap number_of is in omega (arith, same))) (λ is. (let same : 4 ≡ 3 = ap number_of is in omega (arith, same))) ((λ is. rose), (λ other. absurd (other refl))) ((λ is. absurd (not_spawn is)), (λ other. refl))

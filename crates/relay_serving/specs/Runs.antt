@@ -67,7 +67,7 @@ HasEnded plan end done last (Some turn) = (done < plan.turns) × IsCut end plan.
 
 -- how a run may go: the first secret lacks words; it has them and nothing was started; or the turns began
 pub data MayGo (plan : ServePlan) (end : End) (run : Run) : Type 0 where
-  unsown : length run.first < 4 → end ≡ WordsFault → run.whole ≡ [] → run.cut ≡ None → MayGo plan end run
+  without_secret : length run.first < 4 → end ≡ WordsFault → run.whole ≡ [] → run.cut ≡ None → MayGo plan end run
   unstarted : length run.first ≡ 4 → (end ≡ Memory) ⊎ (end ≡ SpawnFault) → run.whole ≡ [] → run.cut ≡ None → MayGo plan end run
   served : (last : Progress) → length run.first ≡ 4 → AreWhole plan.rotate_ms no_progress run.whole last
       → HasEnded plan end (length run.whole) last run.cut → MayGo plan end run

@@ -29,19 +29,20 @@ pub enum End {
     WordsFault,
     /// A worker couldn't be started. No turn was begun.
     SpawnFault,
-    /// Out of memory: before the first turn, at an event, or at a publishing.
+    /// Out of memory. A datagram or packet whose event was refused was taken from its device, and isn't counted.
     Memory,
 }
 
 /// What a run came to, in numbers.
 #[derive(Clone, Copy, Debug, PartialEq, Eq)]
 pub struct ServeReport {
+    /// Why the run ended.
     pub end: End,
     /// The turns that were done whole.
     pub turns: u64,
-    /// The datagrams that were taken from the link.
+    /// The datagrams that were taken from the link, without one whose event memory refused.
     pub datagrams: u64,
-    /// The packets that were taken from the feed.
+    /// The packets that were taken from the feed, without one whose event memory refused.
     pub packets: u64,
     /// The Updates that were accepted (RFC 7450, section 5.1.5).
     pub updated: u64,
@@ -53,9 +54,9 @@ pub struct ServeReport {
     pub unsent: u64,
     /// The packets that the turns' own thread copied: all of them where there are no workers, and else none.
     pub inline: u64,
-    /// The events that memory refused.
+    /// The events that memory refused in a run that went on. None does, so that this is 0.
     pub starved: u64,
-    /// The publishings that memory refused.
+    /// The publishings that memory refused in a run that went on. None does, so that this is 0.
     pub late: u64,
     /// The entries that weren't published at the end.
     pub owed: u64,
