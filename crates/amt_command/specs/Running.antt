@@ -45,7 +45,7 @@ ending_of_fault (faults.Settings fault) = Fault (settings_line fault)
 ending_of_fault faults.NotOpened = LinkFault
 ending_of_fault faults.Memory = Memory
 
--- a fault that has a line, if it is one of the settings: want of memory has none
+-- a fault that has a line, if it is one of the settings: out of memory there is none
 abbrev pub HasLine : RelayFault → Type 0
 HasLine (faults.Settings fault) = fault ≢ ConfigMemory
 HasLine fault = Unit {0}

@@ -24,7 +24,7 @@ use relay_serving::{End, ServeReport};
 use std::alloc::Global;
 use std::sync::Wait;
 
-// The line of the settings' fault, which isn't want of memory.
+// The line of the settings' fault, which isn't that memory ran out.
 fn ending_of_settings(alloc: Global, fault: &ConfigFault) -> Ending
     requires fault { fault.now ≢ ConfigFault.Memory }
     ensures { (result ≡ Ending.Fault (settings_line fault.now)) ⊎ (result ≡ Ending.Memory) }

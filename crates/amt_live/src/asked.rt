@@ -9,9 +9,13 @@ use std::marker::Model;
 /// An opening, with what was asked of it.
 #[derive(Clone, Copy, Debug, PartialEq, Eq)]
 pub enum Opening {
+    /// The devices of a relay.
     Relay {
+        /// Where the link listens for datagrams.
         listen: Peer,
+        /// Where the feed takes packets.
         feed: Peer,
+        /// So many links out.
         slots: u32,
     },
 }

@@ -6,11 +6,16 @@ use replication_workers::Outs;
 /// slot, and what starts its workers.
 #[derive(Drop)]
 pub struct RelayDevices<L, F, C, W, O, P> {
+    /// By which datagrams of endpoints come, and the relay's answers go out.
     pub link: L,
+    /// Where the packets to copy come from.
     pub feed: F,
+    /// What tells the relay's moments.
     pub clock: C,
+    /// Where secrets are drawn from.
     pub words: W,
-    /// In slot order.
+    /// By which copies go out, in slot order.
     pub outs: Outs<O>,
+    /// What starts the workers.
     pub spawner: P,
 }

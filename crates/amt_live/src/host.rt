@@ -49,6 +49,7 @@ pub struct HostLive<R> {
 }
 
 impl<R: Copy> HostLive<R> {
+    /// The devices of the machine that `rt` runs on, none of which is open yet.
     pub fn new(rt: R, alloc: Global) -> Self
         ensures { result.faults ≡ 0 }
     {

@@ -75,7 +75,7 @@ fault_in_by octets (Address key) (inr memory) = absurd (cc memory)
 fault_in_by octets (Range key) (inl is) = (is, λ memory. cc memory)
 fault_in_by octets (Range key) (inr memory) = absurd (cc memory)
 
--- a fault that is told is a fault of the octets, but for want of memory
+-- a fault that is told is a fault of the octets, unless memory ran out
 pub told_is : (octets : List ℕ) (told : ConfigFault) (fault : RelayFault) → fault ≡ fault_by told → IsRelayFault told octets ⊎ (told ≡ ConfigMemory) → IsFaultIn octets fault
 told_is octets told fault by is = subst (λ (one : RelayFault). IsFaultIn octets one) (sym by) (fault_in_by octets told is)
 

@@ -16,7 +16,7 @@ pub record IsConfigured (content : Option (List ℕ)) (config : RelayConfig) : T
   pub short : length octets ≤ INPUT_LIMIT
   pub file : IsRelayFile config octets
 
--- This is the first fault of such octets; it is never want of memory.
+-- This is the first fault of such octets; it is never `Memory`.
 pub record IsMisconfigured (content : Option (List ℕ)) (fault : ConfigFault) : Type 0 where
   pub octets : List ℕ
   pub are : IsContent content octets

@@ -55,7 +55,7 @@ report_text report =
 abbrev pub key_line : List ℕ → List ℕ → List ℕ
 key_line word key = codes "amt: settings: " ++ (word ++ (codes " " ++ (key ++ (10 ∷ []))))
 
--- the line of a settings file's fault; octets that are no table have no key, and want of memory has no line
+-- the line of a settings file's fault; octets that are no table have no key, and out of memory there is no line
 unfoldable pub settings_line : ConfigFault → List ℕ
 settings_line faults.NotToml = codes "amt: settings: toml" ++ (10 ∷ [])
 settings_line (faults.Unknown key) = key_line (codes "unknown") key

@@ -9,7 +9,7 @@ pub enum RelayFault {
     NotRead,
     /// The settings file has more octets than an input may have.
     TooLong,
-    /// The first fault of the settings file; never its want of memory.
+    /// The first fault of the settings file; never that reading it ran out of memory.
     Settings(ConfigFault),
     /// The devices can't be had.
     NotOpened,

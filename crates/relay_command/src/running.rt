@@ -81,10 +81,10 @@ fn run_by<R: Wait, V: Live>(
 }
 
 /// Runs a relay by the settings file of this name, for so many turns at most; a number of workers that is
-/// given outweighs the file's.
+/// given wins over the file's.
 ///
 /// It reads the file, opens the devices that the settings want, runs the relay on them, and gives back what it
-/// leaves of them whatever the end: a run that was ended by a device or by want of memory has a report too.
+/// leaves of them whatever the end: a run that was ended by a device or out of memory has a report too.
 pub fn run_relay<R: Wait, F: Files, V: Live>(
     rt: &R,
     alloc: Global,
