@@ -1,0 +1,79 @@
+-- What the stages of a run do: its beginning, the beginning of a turn, a turn, and all turns.
+use Rattle.std.specs.Prelude.{◌≡◌, ℕ, ◌+◌, List, [], ◌∷◌, ◌++◌, All, length, max, Option, Result, Ok, Err}
+use Rattle.amt_ports.specs.Told.{Appends, AppendsAll}
+use Rattle.amt_ports.specs.declared.feed.FeedAnswer.TheVariants.{Closed as FeedClosed}
+use Rattle.amt_ports.specs.declared.link.LinkAnswer.TheVariants.{Closed as LinkClosed}
+use Rattle.gateway_machine.specs.declared.event.GatewayEvent.{GatewayEvent}
+use Rattle.serving_turns.specs.Causes.{IsCauseOf, IsCausedBy}
+use Rattle.serving_turns.specs.Devices.{AnswersAll, LinkSeen, OutSeen}
+use Rattle.serving_turns.specs.declared.end.End.{End}
+use Rattle.serving_turns.specs.declared.end.End.TheVariants.{LinkFault, FeedFault, WordsFault}
+use Rattle.std.specs.List.{flat_map}
+use Rattle.std.specs.Prelude.{map}
+use Rattle.group_records.specs.declared.family.Family.{Family}
+use Rattle.gateway_serving.specs.Counting.{AreCounted}
+use Rattle.gateway_serving.specs.Devices.{Devices}
+use Rattle.gateway_serving.specs.Events.{events_from, events_of_turn, moments_in, nonces_in}
+use Rattle.gateway_serving.specs.Runs.{HasEnded, IsCut, with_cut}
+use Rattle.gateway_serving.specs.Servers.{Takes, Tallies, counts_in, events_in, family_in, latest_in}
+use Rattle.gateway_serving.specs.Turns.{IsWhole, Turn, latest_of}
+use Rattle.gateway_serving.specs.declared.server.Server.{Server}
+
+-- all of the events happened, or memory refused one, and those before it did
+abbrev pub IsBegunBy : {E : Type 0} → Result (Unit {0}) E → List GatewayEvent → List GatewayEvent → Type 0
+IsBegunBy (Ok unit) events begun = begun ≡ events
+IsBegunBy (Err error) events begun = (refused : GatewayEvent) × (rest : List GatewayEvent) × (events ≡ begun ++ refused ∷ rest)
+
+-- of these events to come, some or all happened
+pub record BeginsWith {E : Type 0} (events : List GatewayEvent) (before after : Server) (link link' : LinkSeen) (out out' : OutSeen) (result : Result (Unit {0}) E) : Type 0 where
+  pub begun : List GatewayEvent
+  pub takes : Takes before after link link' out out' begun
+  pub tallies : Tallies (counts_in before) (counts_in after) 0 0 0 0
+  pub is : IsBegunBy result events begun
+
+-- the turn is whole, or the run ended in it
+abbrev pub IsTurnBy : Result (Unit {0}) End → Family → Turn → Type 0
+IsTurnBy (Ok unit) family turn = IsWhole family turn
+IsTurnBy (Err end) family turn = IsCut end family turn
+
+-- the devices gave the answers of these turns, and the gateway took the events that they make
+pub record Goes (turns : List Turn) (before after : Server) (devices devices' : Devices) : Type 0 where
+  pub takes : Takes before after devices.link devices'.link devices.out devices'.out (events_from (latest_in before) turns)
+  pub words : AppendsAll devices.words.given devices'.words.given (flat_map (λ turn. turn.drawn) turns)
+  pub clock : AppendsAll devices.clock devices'.clock (flat_map (λ turn. map (λ one. one.answer) turn.clock) turns)
+  pub link : AnswersAll LinkClosed devices.link.coming devices'.link.coming (flat_map (λ turn. map (λ one. one.answer) turn.heard) turns)
+  pub control : AnswersAll FeedClosed devices.control.coming devices'.control.coming (flat_map (λ turn. map (λ one. one.answer) turn.told) turns)
+  pub datagrams : ℕ
+  pub controls : ℕ
+  pub bad_controls : ℕ
+  pub starved : ℕ
+  pub counted : AreCounted turns datagrams controls bad_controls starved
+  pub tallies : Tallies (counts_in before) (counts_in after) datagrams controls bad_controls starved
+
+-- one turn, which was whole or ended the run
+pub record TurnsSo (before after : Server) (devices devices' : Devices) (result : Result (Unit {0}) End) : Type 0 where
+  pub turn : Turn
+  pub goes : Goes (turn ∷ []) before after devices devices'
+  pub latest : latest_in after ≡ latest_of (latest_in before) turn.clock
+  pub is_turn : IsTurnBy result (family_in before) turn
+
+-- each device's count rose where its fault ended the run, and only there
+pub record AreCausesOf {A : Type 0} (result : Result A End) (before after : Devices) : Type 0 where
+  pub link : IsCausedBy result LinkFault before.link.receive_faults after.link.receive_faults
+  pub control : IsCausedBy result FeedFault before.control.faults after.control.faults
+  pub words : IsCausedBy result WordsFault before.words.faults after.words.faults
+
+-- the same of a run that ended so
+pub record EndsIn (end : End) (before after : Devices) : Type 0 where
+  pub link : IsCauseOf end LinkFault before.link.receive_faults after.link.receive_faults
+  pub control : IsCauseOf end FeedFault before.control.faults after.control.faults
+  pub words : IsCauseOf end WordsFault before.words.faults after.words.faults
+
+-- all turns of a run
+pub record RunsSo (turns : ℕ) (before after : Server) (devices devices' : Devices) (end : End) (done : ℕ) : Type 0 where
+  pub whole : List Turn
+  pub cut : Option Turn
+  pub goes : Goes (with_cut whole cut) before after devices devices'
+  pub are_whole : All (IsWhole (family_in before)) whole
+  pub ended : HasEnded (family_in before) turns end (length whole) cut
+  pub done_is : done ≡ length whole

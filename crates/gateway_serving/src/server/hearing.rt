@@ -1,0 +1,124 @@
+//! How a running gateway hears its link. It must not know turns.
+ghost use Rattle.std.specs.Prelude.{◌≡◌, ◌≤◌, ◌<◌, ◌+◌, ◌^◌, [], ◌∷◌, length, IsErrOf};
+ghost use Rattle.amt_ports.specs.declared.link.LinkAnswer.TheVariants.{Datagram as DatagramCame};
+ghost use Rattle.serving_turns.specs.Bursts.{AreAsked, IsNext};
+ghost use Rattle.serving_turns.specs.Causes.{IsCausedBy};
+ghost use Rattle.serving_turns.specs.Devices.{link_seen, out_seen};
+ghost use Rattle.gateway_serving.specs.Hearing.{IsHeardNext, AreHeard, HearsOne};
+ghost use Rattle.gateway_serving.specs.Servers.{HearsSo, counts_in, events_in, latest_in, settings_in};
+
+use super::Server;
+use amt_ports::{Got, Link, OutLink};
+use amt_values::{Bytes, Peer};
+use gateway_machine::GatewayEvent;
+use serving_turns::{Asked, BURST, End, WAIT_MS};
+use std::alloc::{AllocError, Global};
+
+impl Server {
+    // Takes a datagram. Where memory ran out nothing happened.
+    fn take_datagram<L: Link, O: OutLink>(
+        &mut self,
+        alloc: Global,
+        link: &mut L,
+        out: &mut O,
+        from: Peer,
+        bytes: &[u8],
+    ) -> Result<(), AllocError> {
+        let event = GatewayEvent::Datagram {
+            from,
+            bytes: Bytes::copied(alloc, bytes)?,
+        };
+        self.take(alloc, &event, link, out)
+    }
+
+    // Takes a datagram, and counts it; one that memory refused is counted, and isn't an event.
+    fn hear_datagram<L: Link, O: OutLink>(
+        &mut self,
+        alloc: Global,
+        link: &mut L,
+        out: &mut O,
+        from: Peer,
+        bytes: &[u8],
+    )
+        requires short { length bytes.now ≤ 65535 }
+        requires few { length (events_in self.old) < 2 ^ 50 }
+        requires few_datagrams { (counts_in self.old).datagrams + 1 < 2 ^ 64 }
+        requires few_starved { (counts_in self.old).starved + 1 < 2 ^ 64 }
+        ensures hears { HearsOne from bytes.now self.old self.new
+            (link_seen (L.coming link.old) (L.tried link.old) (L.receive_faults link.old) (L.send_faults link.old))
+            (link_seen (L.coming link.new) (L.tried link.new) (L.receive_faults link.new) (L.send_faults link.new))
+            (out_seen (O.tried out.old) (O.faults out.old)) (out_seen (O.tried out.new) (O.faults out.new)) }
+        ensures latest { latest_in self.new ≡ latest_in self.old }
+        ensures coming { L.coming link.new ≡ L.coming link.old }
+        ensures faults { L.receive_faults link.new ≡ L.receive_faults link.old }
+    {
+        self.counts.datagrams += 1;
+        if self.take_datagram(alloc, link, out, from, bytes).is_err() {
+            self.count_starved();
+        }
+    }
+
+    // Asks the link once.
+    fn hear_next<L: Link, O: OutLink>(
+        &mut self,
+        alloc: Global,
+        link: &mut L,
+        out: &mut O,
+        buf: &mut [u8],
+    ) -> Result<Asked, End>
+        requires room { 65536 ≤ length buf.old }
+        requires few { length (events_in self.old) < 2 ^ 50 }
+        requires few_datagrams { (counts_in self.old).datagrams < 2 ^ 50 }
+        requires few_starved { (counts_in self.old).starved < 2 ^ 50 }
+        ensures hears { HearsSo self.old self.new
+            (link_seen (L.coming link.old) (L.tried link.old) (L.receive_faults link.old) (L.send_faults link.old))
+            (link_seen (L.coming link.new) (L.tried link.new) (L.receive_faults link.new) (L.send_faults link.new))
+            (out_seen (O.tried out.old) (O.faults out.old)) (out_seen (O.tried out.new) (O.faults out.new))
+            (IsHeardNext result) }
+        ensures latest { latest_in self.new ≡ latest_in self.old }
+        ensures of_link { IsErrOf result End.FeedFault → ⊥ }
+        ensures cause { IsCausedBy result End.LinkFault (L.receive_faults link.old) (L.receive_faults link.new) }
+        ensures buffer { length buf.new ≡ length buf.old }
+    {
+        match link.recv(buf, WAIT_MS) {
+            Ok(Got::Datagram(from, octets)) => {
+                self.hear_datagram(alloc, link, out, from, &buf[..octets]);
+                Ok(Asked::Something)
+            }
+            Ok(Got::Nothing) => Ok(Asked::Nothing),
+            Ok(Got::Closed) => Err(End::Closed),
+            Err(_) => Err(End::LinkFault),
+        }
+    }
+
+    /// Asks the link until nothing is there, and at most 64 times.
+    pub(super) fn hear<L: Link, O: OutLink>(
+        &mut self,
+        alloc: Global,
+        link: &mut L,
+        out: &mut O,
+        buf: &mut [u8],
+    ) -> Result<(), End>
+        requires room { 65536 ≤ length buf.old }
+        requires few { length (events_in self.old) + 64 < 2 ^ 50 }
+        requires few_datagrams { (counts_in self.old).datagrams + 64 < 2 ^ 50 }
+        requires few_starved { (counts_in self.old).starved + 64 < 2 ^ 50 }
+        ensures hears { HearsSo self.old self.new
+            (link_seen (L.coming link.old) (L.tried link.old) (L.receive_faults link.old) (L.send_faults link.old))
+            (link_seen (L.coming link.new) (L.tried link.new) (L.receive_faults link.new) (L.send_faults link.new))
+            (out_seen (O.tried out.old) (O.faults out.old)) (out_seen (O.tried out.new) (O.faults out.new))
+            (AreHeard result) }
+        ensures latest { latest_in self.new ≡ latest_in self.old }
+        ensures of_link { IsErrOf result End.FeedFault → ⊥ }
+        ensures cause { IsCausedBy result End.LinkFault (L.receive_faults link.old) (L.receive_faults link.new) }
+        ensures buffer { length buf.new ≡ length buf.old }
+    {
+        for _ in 0..BURST {
+            match self.hear_next(alloc, link, out, buf)? {
+                Asked::Something => {}
+                Asked::Nothing => return Ok(()),
+            }
+        }
+        Ok(())
+    }
+}

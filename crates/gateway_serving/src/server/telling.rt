@@ -1,0 +1,118 @@
+//! How a running gateway is told socket calls by its control feed. It must not know turns.
+ghost use Rattle.std.specs.Prelude.{◌≡◌, ◌≤◌, ◌<◌, ◌+◌, ◌^◌, [], ◌∷◌, length, IsErrOf};
+ghost use Rattle.serving_turns.specs.Causes.{IsCausedBy};
+ghost use Rattle.serving_turns.specs.Devices.{feed_seen, link_seen, out_seen};
+ghost use Rattle.gateway_serving.specs.Hearing.{AreTold, IsToldNext, IsToldOne};
+ghost use Rattle.gateway_serving.specs.Servers.{IsToldSo, counts_in, events_in, family_in, latest_in};
+
+use super::Server;
+use amt_ports::{Feed, FeedGot, Link, OutLink};
+use gateway_script::{ScriptError, read_socket_line};
+use serving_turns::{Asked, BURST, End, WAIT_MS};
+use std::alloc::Global;
+
+impl Server {
+    // Takes a line, and counts it: the socket call that it makes, if it makes one. A line that makes none changes
+    // nothing.
+    fn take_line<L: Link, O: OutLink>(
+        &mut self,
+        alloc: Global,
+        link: &mut L,
+        out: &mut O,
+        line: &[u8],
+    )
+        requires few { length (events_in self.old) < 2 ^ 50 }
+        requires few_controls { ((counts_in self.old).controls < 2 ^ 50) × ((counts_in self.old).bad_controls < 2 ^ 50) }
+        requires few_starved { (counts_in self.old).starved < 2 ^ 50 }
+        ensures told { IsToldOne line.now self.old self.new
+            (link_seen (L.coming link.old) (L.tried link.old) (L.receive_faults link.old) (L.send_faults link.old))
+            (link_seen (L.coming link.new) (L.tried link.new) (L.receive_faults link.new) (L.send_faults link.new))
+            (out_seen (O.tried out.old) (O.faults out.old)) (out_seen (O.tried out.new) (O.faults out.new)) }
+        ensures latest { latest_in self.new ≡ latest_in self.old }
+        ensures coming { L.coming link.new ≡ L.coming link.old }
+        ensures faults { L.receive_faults link.new ≡ L.receive_faults link.old }
+    {
+        self.counts.controls += 1;
+        match read_socket_line(alloc, self.v6, line) {
+            Ok(event) => {
+                if self.take(alloc, &event, link, out).is_err() {
+                    self.count_starved();
+                }
+            }
+            Err(ScriptError::Memory) => self.count_starved(),
+            Err(ScriptError::Fault { .. }) => self.counts.bad_controls += 1,
+        }
+    }
+
+    // Asks the control feed once.
+    fn tell_next<L: Link, F: Feed, O: OutLink>(
+        &mut self,
+        alloc: Global,
+        link: &mut L,
+        control: &mut F,
+        out: &mut O,
+        buf: &mut [u8],
+    ) -> Result<Asked, End>
+        requires room { 65536 ≤ length buf.old }
+        requires few { length (events_in self.old) < 2 ^ 50 }
+        requires few_controls { ((counts_in self.old).controls < 2 ^ 50) × ((counts_in self.old).bad_controls < 2 ^ 50) }
+        requires few_starved { (counts_in self.old).starved < 2 ^ 50 }
+        ensures told { IsToldSo self.old self.new
+            (link_seen (L.coming link.old) (L.tried link.old) (L.receive_faults link.old) (L.send_faults link.old))
+            (link_seen (L.coming link.new) (L.tried link.new) (L.receive_faults link.new) (L.send_faults link.new))
+            (out_seen (O.tried out.old) (O.faults out.old)) (out_seen (O.tried out.new) (O.faults out.new))
+            (feed_seen (F.coming control.old) (F.faults control.old)) (feed_seen (F.coming control.new) (F.faults control.new))
+            (IsToldNext (family_in self.old) result) }
+        ensures latest { latest_in self.new ≡ latest_in self.old }
+        ensures coming { L.coming link.new ≡ L.coming link.old }
+        ensures faults { L.receive_faults link.new ≡ L.receive_faults link.old }
+        ensures of_control { IsErrOf result End.LinkFault → ⊥ }
+        ensures cause { IsCausedBy result End.FeedFault (F.faults control.old) (F.faults control.new) }
+        ensures buffer { length buf.new ≡ length buf.old }
+    {
+        match control.recv(buf, WAIT_MS) {
+            Ok(FeedGot::Packet(octets)) => {
+                self.take_line(alloc, link, out, &buf[..octets]);
+                Ok(Asked::Something)
+            }
+            Ok(FeedGot::Nothing) => Ok(Asked::Nothing),
+            Ok(FeedGot::Closed) => Err(End::Closed),
+            Err(_) => Err(End::FeedFault),
+        }
+    }
+
+    /// Asks the control feed until nothing is there, and at most 64 times.
+    pub(super) fn tell<L: Link, F: Feed, O: OutLink>(
+        &mut self,
+        alloc: Global,
+        link: &mut L,
+        control: &mut F,
+        out: &mut O,
+        buf: &mut [u8],
+    ) -> Result<(), End>
+        requires room { 65536 ≤ length buf.old }
+        requires few { length (events_in self.old) + 64 < 2 ^ 50 }
+        requires few_controls { ((counts_in self.old).controls + 64 < 2 ^ 50) × ((counts_in self.old).bad_controls + 64 < 2 ^ 50) }
+        requires few_starved { (counts_in self.old).starved + 64 < 2 ^ 50 }
+        ensures told { IsToldSo self.old self.new
+            (link_seen (L.coming link.old) (L.tried link.old) (L.receive_faults link.old) (L.send_faults link.old))
+            (link_seen (L.coming link.new) (L.tried link.new) (L.receive_faults link.new) (L.send_faults link.new))
+            (out_seen (O.tried out.old) (O.faults out.old)) (out_seen (O.tried out.new) (O.faults out.new))
+            (feed_seen (F.coming control.old) (F.faults control.old)) (feed_seen (F.coming control.new) (F.faults control.new))
+            (AreTold (family_in self.old) result) }
+        ensures latest { latest_in self.new ≡ latest_in self.old }
+        ensures coming { L.coming link.new ≡ L.coming link.old }
+        ensures faults { L.receive_faults link.new ≡ L.receive_faults link.old }
+        ensures of_control { IsErrOf result End.LinkFault → ⊥ }
+        ensures cause { IsCausedBy result End.FeedFault (F.faults control.old) (F.faults control.new) }
+        ensures buffer { length buf.new ≡ length buf.old }
+    {
+        for _ in 0..BURST {
+            match self.tell_next(alloc, link, control, out, buf)? {
+                Asked::Something => {}
+                Asked::Nothing => return Ok(()),
+            }
+        }
+        Ok(())
+    }
+}

@@ -1,0 +1,120 @@
+//! One turn of a running gateway, and all of a run. It must not know how a gateway begins.
+ghost use Rattle.std.specs.Prelude.{◌≡◌, ◌≤◌, ◌<◌, ◌+◌, ◌^◌, length};
+ghost use Rattle.serving_turns.specs.Causes.{IsCausedBy};
+ghost use Rattle.serving_turns.specs.Devices.{feed_seen, link_seen, out_seen, words_seen};
+ghost use Rattle.gateway_serving.specs.Devices.{devices_seen};
+ghost use Rattle.gateway_serving.specs.Servers.{counts_in, events_in};
+ghost use Rattle.gateway_serving.specs.Settings.{AreTurns};
+ghost use Rattle.gateway_serving.specs.Stages.{AreCausesOf, EndsIn, RunsSo, TurnsSo};
+
+use super::Server;
+use amt_ports::{Clock, Feed, Link, OutLink, Words};
+use gateway_machine::GatewayEvent;
+use serving_turns::End;
+use std::alloc::Global;
+
+impl Server {
+    // The next nonce is that of this word. It takes no memory.
+    fn draw<L: Link, O: OutLink>(&mut self, alloc: Global, word: u64, link: &mut L, out: &mut O) {
+        let event = GatewayEvent::Nonce((word & 0xffff_ffff) as u32);
+        match self.take(alloc, &event, link, out) {
+            Ok(()) => {}
+            // A nonce takes no memory.
+            Err(_) => unreachable!(),
+        }
+    }
+
+    // The first stage of a turn: a nonce, and its moment.
+    fn begin_turn<C: Clock, W: Words, L: Link, O: OutLink>(
+        &mut self,
+        alloc: Global,
+        clock: &mut C,
+        words: &mut W,
+        link: &mut L,
+        out: &mut O,
+    ) -> Result<(), End> {
+        let Ok(word) = words.word() else {
+            return Err(End::WordsFault);
+        };
+        self.draw(alloc, word, link, out);
+        self.latest = self.latest.later(&clock.now());
+        let event = GatewayEvent::Moment(self.latest);
+        if self.take(alloc, &event, link, out).is_err() {
+            self.count_starved();
+        }
+        Ok(())
+    }
+
+    // One turn: a nonce, its moment, what the link has, and what the control feed has.
+    fn turn<C: Clock, W: Words, L: Link, F: Feed, O: OutLink>(
+        &mut self,
+        alloc: Global,
+        clock: &mut C,
+        words: &mut W,
+        link: &mut L,
+        control: &mut F,
+        out: &mut O,
+        buf: &mut [u8],
+    ) -> Result<(), End>
+        requires room { 65536 ≤ length buf.old }
+        requires few { length (events_in self.old) + 130 < 2 ^ 50 }
+        ensures turns { TurnsSo self.old self.new
+            (devices_seen (C.given clock.old) (words_seen (W.given words.old) (W.faults words.old))
+            (link_seen (L.coming link.old) (L.tried link.old) (L.receive_faults link.old) (L.send_faults link.old))
+            (feed_seen (F.coming control.old) (F.faults control.old)) (out_seen (O.tried out.old) (O.faults out.old)))
+            (devices_seen (C.given clock.new) (words_seen (W.given words.new) (W.faults words.new))
+            (link_seen (L.coming link.new) (L.tried link.new) (L.receive_faults link.new) (L.send_faults link.new))
+            (feed_seen (F.coming control.new) (F.faults control.new)) (out_seen (O.tried out.new) (O.faults out.new))) result }
+        ensures causes { AreCausesOf result
+            (devices_seen (C.given clock.old) (words_seen (W.given words.old) (W.faults words.old))
+            (link_seen (L.coming link.old) (L.tried link.old) (L.receive_faults link.old) (L.send_faults link.old))
+            (feed_seen (F.coming control.old) (F.faults control.old)) (out_seen (O.tried out.old) (O.faults out.old)))
+            (devices_seen (C.given clock.new) (words_seen (W.given words.new) (W.faults words.new))
+            (link_seen (L.coming link.new) (L.tried link.new) (L.receive_faults link.new) (L.send_faults link.new))
+            (feed_seen (F.coming control.new) (F.faults control.new)) (out_seen (O.tried out.new) (O.faults out.new))) }
+        ensures buffer { length buf.new ≡ length buf.old }
+    {
+        self.begin_turn(alloc, clock, words, link, out)?;
+        self.hear(alloc, link, out, buf)?;
+        self.tell(alloc, link, control, out, buf)
+    }
+
+    /// So many turns, or those up to the one in which the run ended: why it ended, and how many turns were whole.
+    pub(crate) fn run<C: Clock, W: Words, L: Link, F: Feed, O: OutLink>(
+        &mut self,
+        alloc: Global,
+        turns: u64,
+        clock: &mut C,
+        words: &mut W,
+        link: &mut L,
+        control: &mut F,
+        out: &mut O,
+        buf: &mut [u8],
+    ) -> (End, u64)
+        requires turns { AreTurns turns }
+        requires room { 65536 ≤ length buf.old }
+        requires few { length (events_in self.old) < 2 ^ 49 }
+        ensures runs { RunsSo turns self.old self.new
+            (devices_seen (C.given clock.old) (words_seen (W.given words.old) (W.faults words.old))
+            (link_seen (L.coming link.old) (L.tried link.old) (L.receive_faults link.old) (L.send_faults link.old))
+            (feed_seen (F.coming control.old) (F.faults control.old)) (out_seen (O.tried out.old) (O.faults out.old)))
+            (devices_seen (C.given clock.new) (words_seen (W.given words.new) (W.faults words.new))
+            (link_seen (L.coming link.new) (L.tried link.new) (L.receive_faults link.new) (L.send_faults link.new))
+            (feed_seen (F.coming control.new) (F.faults control.new)) (out_seen (O.tried out.new) (O.faults out.new))) result.0 result.1 }
+        ensures causes { EndsIn result.0
+            (devices_seen (C.given clock.old) (words_seen (W.given words.old) (W.faults words.old))
+            (link_seen (L.coming link.old) (L.tried link.old) (L.receive_faults link.old) (L.send_faults link.old))
+            (feed_seen (F.coming control.old) (F.faults control.old)) (out_seen (O.tried out.old) (O.faults out.old)))
+            (devices_seen (C.given clock.new) (words_seen (W.given words.new) (W.faults words.new))
+            (link_seen (L.coming link.new) (L.tried link.new) (L.receive_faults link.new) (L.send_faults link.new))
+            (feed_seen (F.coming control.new) (F.faults control.new)) (out_seen (O.tried out.new) (O.faults out.new))) }
+    {
+        for done in 0..turns {
+            match self.turn(alloc, clock, words, link, control, out, buf) {
+                Ok(()) => {}
+                Err(end) => return (end, done),
+            }
+        }
+        (End::Turns, turns)
+    }
+}
