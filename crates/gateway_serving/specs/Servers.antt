@@ -1,5 +1,5 @@
 -- What is read of a running gateway, and what its calls do to it and its devices.
-use Rattle.std.specs.Prelude.{◌≡◌, ℕ, ◌+◌, List, ◌++◌, count_by, map}
+use Rattle.std.specs.Prelude.{◌≡◌, ℕ, ◌+◌, ◌≤◌, List, ◌++◌, count_by, length, map}
 use Rattle.amt_ports.specs.declared.feed.FeedAnswer.TheVariants.{Closed as FeedClosed}
 use Rattle.amt_ports.specs.declared.link.LinkAnswer.{LinkAnswer}
 use Rattle.amt_ports.specs.declared.link.LinkAnswer.TheVariants.{Closed as LinkClosed}
@@ -44,6 +44,14 @@ latest_in server = server.latest
 
 abbrev pub counts_in : Server → Counts
 counts_in server = server.counts
+
+-- so many events and answers at most are counted
+pub record AreFew (most : ℕ) (server : Server) : Type 0 where
+  pub few_events : length (events_in server) ≤ most
+  pub few_datagrams : (counts_in server).datagrams ≤ most
+  pub few_controls : (counts_in server).controls ≤ most
+  pub few_bad : (counts_in server).bad_controls ≤ most
+  pub few_starved : (counts_in server).starved ≤ most
 
 -- it was set up alike
 pub record IsSameRun (before after : Server) : Type 0 where

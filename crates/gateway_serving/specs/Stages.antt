@@ -1,5 +1,5 @@
 -- What the stages of a run do: its beginning, the beginning of a turn, a turn, and all turns.
-use Rattle.std.specs.Prelude.{◌≡◌, ℕ, ◌+◌, List, [], ◌∷◌, ◌++◌, All, length, max, Option, Result, Ok, Err}
+use Rattle.std.specs.Prelude.{◌≡◌, ℕ, ◌+◌, List, [], ◌∷◌, ◌++◌, All, count_by, length, max, Option, Result, Ok, Err}
 use Rattle.amt_ports.specs.Told.{Appends, AppendsAll}
 use Rattle.amt_ports.specs.declared.feed.FeedAnswer.TheVariants.{Closed as FeedClosed}
 use Rattle.amt_ports.specs.declared.link.LinkAnswer.TheVariants.{Closed as LinkClosed}
@@ -7,7 +7,8 @@ use Rattle.gateway_machine.specs.declared.event.GatewayEvent.{GatewayEvent}
 use Rattle.serving_turns.specs.Causes.{IsCauseOf, IsCausedBy}
 use Rattle.serving_turns.specs.Devices.{AnswersAll, LinkSeen, OutSeen}
 use Rattle.serving_turns.specs.declared.end.End.{End}
-use Rattle.serving_turns.specs.declared.end.End.TheVariants.{LinkFault, FeedFault, WordsFault}
+use Rattle.serving_turns.specs.declared.end.End.TheVariants.{Turns, Closed, LinkFault, FeedFault, WordsFault, SpawnFault, Memory}
+use Rattle.serving_turns.specs.Answers.{Taken}
 use Rattle.std.specs.List.{flat_map}
 use Rattle.std.specs.Prelude.{map}
 use Rattle.group_records.specs.declared.family.Family.{Family}
@@ -30,6 +31,28 @@ pub record BeginsWith {E : Type 0} (events : List GatewayEvent) (before after : 
   pub takes : Takes before after link link' out out' begun
   pub tallies : Tallies (counts_in before) (counts_in after) 0 0 0 0
   pub is : IsBegunBy result events begun
+
+-- a word was drawn and a moment given, or the word was lacking and the clock wasn't asked
+abbrev pub IsTurnBegun : Result (Unit {0}) End → List ℕ → List (Taken ℕ) → Type 0
+IsTurnBegun (Ok unit) drawn clock = (length drawn ≡ 1) × (length clock ≡ 1)
+IsTurnBegun (Err WordsFault) drawn clock = (drawn ≡ []) × (clock ≡ [])
+IsTurnBegun (Err Turns) drawn clock = ⊥
+IsTurnBegun (Err Closed) drawn clock = ⊥
+IsTurnBegun (Err LinkFault) drawn clock = ⊥
+IsTurnBegun (Err FeedFault) drawn clock = ⊥
+IsTurnBegun (Err SpawnFault) drawn clock = ⊥
+IsTurnBegun (Err Memory) drawn clock = ⊥
+
+-- the first stage of a turn: its nonce, and its moment
+pub record BeginsTurn (before after : Server) (clock clock' words words' : Option (List ℕ)) (link link' : LinkSeen) (out out' : OutSeen) (result : Result (Unit {0}) End) : Type 0 where
+  pub drawn : List ℕ
+  pub given : List (Taken ℕ)
+  pub words_gave : AppendsAll words words' drawn
+  pub clock_gave : AppendsAll clock clock' (map (λ one. one.answer) given)
+  pub takes : Takes before after link link' out out' (nonces_in drawn ++ moments_in (latest_in before) given)
+  pub tallies : Tallies (counts_in before) (counts_in after) 0 0 0 (count_by (λ one. one.starved) given)
+  pub latest : latest_in after ≡ latest_of (latest_in before) given
+  pub is : IsTurnBegun result drawn given
 
 -- the turn is whole, or the run ended in it
 abbrev pub IsTurnBy : Result (Unit {0}) End → Family → Turn → Type 0

@@ -1,11 +1,11 @@
 //! How a running gateway hears its link. It must not know turns.
-ghost use Rattle.std.specs.Prelude.{◌≡◌, ◌≤◌, ◌<◌, ◌+◌, ◌^◌, [], ◌∷◌, length, IsErrOf};
-ghost use Rattle.amt_ports.specs.declared.link.LinkAnswer.TheVariants.{Datagram as DatagramCame};
+ghost use Rattle.std.specs.Prelude.{◌≡◌, ◌≤◌, ◌<◌, ◌+◌, ◌^◌, [], ◌∷◌, length, IsErrOf, OnErr, OnOk};
+ghost use Rattle.gateway_machine.specs.declared.event.GatewayEvent.TheVariants.{Datagram as DatagramEvent};
 ghost use Rattle.serving_turns.specs.Bursts.{AreAsked, IsNext};
 ghost use Rattle.serving_turns.specs.Causes.{IsCausedBy};
 ghost use Rattle.serving_turns.specs.Devices.{link_seen, out_seen};
 ghost use Rattle.gateway_serving.specs.Hearing.{IsHeardNext, AreHeard, HearsOne};
-ghost use Rattle.gateway_serving.specs.Servers.{HearsSo, counts_in, events_in, latest_in, settings_in};
+ghost use Rattle.gateway_serving.specs.Servers.{AreFew, HearsSo, Takes, Tallies, counts_in, events_in, latest_in, settings_in};
 
 use super::Server;
 use amt_ports::{Got, Link, OutLink};
@@ -23,7 +23,21 @@ impl Server {
         out: &mut O,
         from: Peer,
         bytes: &[u8],
-    ) -> Result<(), AllocError> {
+    ) -> Result<(), AllocError>
+        requires few { AreFew (2 ^ 50) self.old }
+        requires short { length bytes.now ≤ 65535 }
+        ensures takes { OnOk result (Takes self.old self.new
+            (link_seen (L.coming link.old) (L.tried link.old) (L.receive_faults link.old) (L.send_faults link.old))
+            (link_seen (L.coming link.new) (L.tried link.new) (L.receive_faults link.new) (L.send_faults link.new))
+            (out_seen (O.tried out.old) (O.faults out.old)) (out_seen (O.tried out.new) (O.faults out.new))
+            (DatagramEvent from bytes.now ∷ [])) }
+        ensures tallies { Tallies (counts_in self.old) (counts_in self.new) 0 0 0 0 }
+        ensures latest { latest_in self.new ≡ latest_in self.old }
+        ensures coming { L.coming link.new ≡ L.coming link.old }
+        ensures faults { L.receive_faults link.new ≡ L.receive_faults link.old }
+        ensures err { OnErr result (self.new ≡ self.old) }
+        ensures unsent { OnErr result ((link.new ≡ link.old) × (out.new ≡ out.old)) }
+    {
         let event = GatewayEvent::Datagram {
             from,
             bytes: Bytes::copied(alloc, bytes)?,
@@ -41,9 +55,7 @@ impl Server {
         bytes: &[u8],
     )
         requires short { length bytes.now ≤ 65535 }
-        requires few { length (events_in self.old) < 2 ^ 50 }
-        requires few_datagrams { (counts_in self.old).datagrams + 1 < 2 ^ 64 }
-        requires few_starved { (counts_in self.old).starved + 1 < 2 ^ 64 }
+        requires few { AreFew (2 ^ 49) self.old }
         ensures hears { HearsOne from bytes.now self.old self.new
             (link_seen (L.coming link.old) (L.tried link.old) (L.receive_faults link.old) (L.send_faults link.old))
             (link_seen (L.coming link.new) (L.tried link.new) (L.receive_faults link.new) (L.send_faults link.new))
@@ -67,9 +79,7 @@ impl Server {
         buf: &mut [u8],
     ) -> Result<Asked, End>
         requires room { 65536 ≤ length buf.old }
-        requires few { length (events_in self.old) < 2 ^ 50 }
-        requires few_datagrams { (counts_in self.old).datagrams < 2 ^ 50 }
-        requires few_starved { (counts_in self.old).starved < 2 ^ 50 }
+        requires few { AreFew (2 ^ 49) self.old }
         ensures hears { HearsSo self.old self.new
             (link_seen (L.coming link.old) (L.tried link.old) (L.receive_faults link.old) (L.send_faults link.old))
             (link_seen (L.coming link.new) (L.tried link.new) (L.receive_faults link.new) (L.send_faults link.new))
@@ -100,9 +110,7 @@ impl Server {
         buf: &mut [u8],
     ) -> Result<(), End>
         requires room { 65536 ≤ length buf.old }
-        requires few { length (events_in self.old) + 64 < 2 ^ 50 }
-        requires few_datagrams { (counts_in self.old).datagrams + 64 < 2 ^ 50 }
-        requires few_starved { (counts_in self.old).starved + 64 < 2 ^ 50 }
+        requires few { AreFew (2 ^ 48) self.old }
         ensures hears { HearsSo self.old self.new
             (link_seen (L.coming link.old) (L.tried link.old) (L.receive_faults link.old) (L.send_faults link.old))
             (link_seen (L.coming link.new) (L.tried link.new) (L.receive_faults link.new) (L.send_faults link.new))

@@ -7,7 +7,7 @@ ghost use Rattle.serving_turns.specs.Devices.{link_seen, out_seen};
 ghost use Rattle.gateway_serving.specs.Counting.{no_counts};
 ghost use Rattle.gateway_serving.specs.Events.{nonce_of};
 ghost use Rattle.gateway_serving.specs.Openings.{OpensSo};
-ghost use Rattle.gateway_serving.specs.Servers.{counts_in, deliver_in, events_in, first_in, latest_in, settings_in};
+ghost use Rattle.gateway_serving.specs.Servers.{AreFew, Takes, Tallies, counts_in, deliver_in, events_in, first_in, latest_in, settings_in};
 ghost use Rattle.gateway_serving.specs.Settings.{IsLawfulConfig, opening_of, settings_of};
 ghost use Rattle.gateway_serving.specs.Stages.{BeginsWith};
 
@@ -68,7 +68,21 @@ impl Server {
         join: &Join,
         link: &mut L,
         out: &mut O,
-    ) -> Result<(), AllocError> {
+    ) -> Result<(), AllocError>
+        requires few { AreFew (2 ^ 50) self.old }
+        requires join { IsEventOf (settings_in self.old) (opening_of join.now) }
+        ensures takes { OnOk result (Takes self.old self.new
+            (link_seen (L.coming link.old) (L.tried link.old) (L.receive_faults link.old) (L.send_faults link.old))
+            (link_seen (L.coming link.new) (L.tried link.new) (L.receive_faults link.new) (L.send_faults link.new))
+            (out_seen (O.tried out.old) (O.faults out.old)) (out_seen (O.tried out.new) (O.faults out.new))
+            (opening_of join.now ∷ [])) }
+        ensures tallies { Tallies (counts_in self.old) (counts_in self.new) 0 0 0 0 }
+        ensures latest { latest_in self.new ≡ latest_in self.old }
+        ensures coming { L.coming link.new ≡ L.coming link.old }
+        ensures faults { L.receive_faults link.new ≡ L.receive_faults link.old }
+        ensures err { OnErr result (self.new ≡ self.old) }
+        ensures unsent { OnErr result ((link.new ≡ link.old) × (out.new ≡ out.old)) }
+    {
         let event = opening(alloc, join)?;
         self.take(alloc, &event, link, out)
     }
@@ -82,7 +96,8 @@ impl Server {
         out: &mut O,
     ) -> Result<(), AllocError>
         requires joins { All (λ join. IsEventOf (settings_in self.old) (opening_of join)) joins.now }
-        requires few { length (events_in self.old) + length joins.now < 2 ^ 50 }
+        requires few { AreFew (2 ^ 49) self.old }
+        requires few_joins { length joins.now < 2 ^ 48 }
         ensures begins { BeginsWith (map opening_of joins.now) self.old self.new
             (link_seen (L.coming link.old) (L.tried link.old) (L.receive_faults link.old) (L.send_faults link.old))
             (link_seen (L.coming link.new) (L.tried link.new) (L.receive_faults link.new) (L.send_faults link.new))
@@ -107,7 +122,8 @@ impl Server {
         out: &mut O,
     ) -> Result<(), AllocError>
         requires joins { All (λ join. IsEventOf (settings_in self.old) (opening_of join)) joins.now }
-        requires few { length (events_in self.old) + length joins.now + 1 < 2 ^ 50 }
+        requires few { AreFew (2 ^ 48) self.old }
+        requires few_joins { length joins.now < 2 ^ 48 }
         ensures opens { OpensSo joins.now self.old self.new (C.given clock.old) (C.given clock.new)
             (link_seen (L.coming link.old) (L.tried link.old) (L.receive_faults link.old) (L.send_faults link.old))
             (link_seen (L.coming link.new) (L.tried link.new) (L.receive_faults link.new) (L.send_faults link.new))

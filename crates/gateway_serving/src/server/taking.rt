@@ -4,7 +4,7 @@ ghost use Rattle.std.specs.Prelude.{◌≡◌, ◌≤◌, ◌<◌, ◌+◌, ◌^
 ghost use Rattle.gateway_machine.specs.Events.{IsEventOf};
 ghost use Rattle.serving_turns.specs.Devices.{link_seen, out_seen};
 ghost use Rattle.gateway_serving.specs.Sending.{delivery_to, to_peer};
-ghost use Rattle.gateway_serving.specs.Servers.{Takes, Tallies, counts_in, events_in, latest_in, settings_in};
+ghost use Rattle.gateway_serving.specs.Servers.{AreFew, Takes, Tallies, counts_in, events_in, latest_in, settings_in};
 ghost use Rattle.gateway_serving.specs.Taking.{HasHandedOn, HasSent};
 
 use super::Server;
@@ -62,7 +62,7 @@ impl Server {
         out: &mut O,
     ) -> Result<(), AllocError>
         requires event { IsEventOf (settings_in self.old) event.now }
-        requires few { length (events_in self.old) < 2 ^ 50 }
+        requires few { AreFew (2 ^ 50) self.old }
         ensures takes { OnOk result (Takes self.old self.new
             (link_seen (L.coming link.old) (L.tried link.old) (L.receive_faults link.old) (L.send_faults link.old))
             (link_seen (L.coming link.new) (L.tried link.new) (L.receive_faults link.new) (L.send_faults link.new))
@@ -88,7 +88,7 @@ impl Server {
 
     /// Counts an event or a line that memory refused.
     pub(super) fn count_starved(&mut self)
-        requires { (counts_in self.old).starved + 1 < 2 ^ 64 }
+        requires few { AreFew (2 ^ 50) self.old }
         ensures tallies { Tallies (counts_in self.old) (counts_in self.new) 0 0 0 1 }
     {
         self.counts.starved += 1;

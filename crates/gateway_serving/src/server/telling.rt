@@ -3,7 +3,7 @@ ghost use Rattle.std.specs.Prelude.{◌≡◌, ◌≤◌, ◌<◌, ◌+◌, ◌^
 ghost use Rattle.serving_turns.specs.Causes.{IsCausedBy};
 ghost use Rattle.serving_turns.specs.Devices.{feed_seen, link_seen, out_seen};
 ghost use Rattle.gateway_serving.specs.Hearing.{AreTold, IsToldNext, IsToldOne};
-ghost use Rattle.gateway_serving.specs.Servers.{IsToldSo, counts_in, events_in, family_in, latest_in};
+ghost use Rattle.gateway_serving.specs.Servers.{AreFew, IsToldSo, counts_in, events_in, family_in, latest_in};
 
 use super::Server;
 use amt_ports::{Feed, FeedGot, Link, OutLink};
@@ -21,9 +21,7 @@ impl Server {
         out: &mut O,
         line: &[u8],
     )
-        requires few { length (events_in self.old) < 2 ^ 50 }
-        requires few_controls { ((counts_in self.old).controls < 2 ^ 50) × ((counts_in self.old).bad_controls < 2 ^ 50) }
-        requires few_starved { (counts_in self.old).starved < 2 ^ 50 }
+        requires few { AreFew (2 ^ 49) self.old }
         ensures told { IsToldOne line.now self.old self.new
             (link_seen (L.coming link.old) (L.tried link.old) (L.receive_faults link.old) (L.send_faults link.old))
             (link_seen (L.coming link.new) (L.tried link.new) (L.receive_faults link.new) (L.send_faults link.new))
@@ -54,9 +52,7 @@ impl Server {
         buf: &mut [u8],
     ) -> Result<Asked, End>
         requires room { 65536 ≤ length buf.old }
-        requires few { length (events_in self.old) < 2 ^ 50 }
-        requires few_controls { ((counts_in self.old).controls < 2 ^ 50) × ((counts_in self.old).bad_controls < 2 ^ 50) }
-        requires few_starved { (counts_in self.old).starved < 2 ^ 50 }
+        requires few { AreFew (2 ^ 49) self.old }
         ensures told { IsToldSo self.old self.new
             (link_seen (L.coming link.old) (L.tried link.old) (L.receive_faults link.old) (L.send_faults link.old))
             (link_seen (L.coming link.new) (L.tried link.new) (L.receive_faults link.new) (L.send_faults link.new))
@@ -91,9 +87,7 @@ impl Server {
         buf: &mut [u8],
     ) -> Result<(), End>
         requires room { 65536 ≤ length buf.old }
-        requires few { length (events_in self.old) + 64 < 2 ^ 50 }
-        requires few_controls { ((counts_in self.old).controls + 64 < 2 ^ 50) × ((counts_in self.old).bad_controls + 64 < 2 ^ 50) }
-        requires few_starved { (counts_in self.old).starved + 64 < 2 ^ 50 }
+        requires few { AreFew (2 ^ 48) self.old }
         ensures told { IsToldSo self.old self.new
             (link_seen (L.coming link.old) (L.tried link.old) (L.receive_faults link.old) (L.send_faults link.old))
             (link_seen (L.coming link.new) (L.tried link.new) (L.receive_faults link.new) (L.send_faults link.new))

@@ -1,11 +1,13 @@
 //! One turn of a running gateway, and all of a run. It must not know how a gateway begins.
-ghost use Rattle.std.specs.Prelude.{◌≡◌, ◌≤◌, ◌<◌, ◌+◌, ◌^◌, length};
+ghost use Rattle.std.specs.Prelude.{◌≡◌, ◌≤◌, ◌<◌, ◌+◌, ◌-◌, ◌^◌, [], ◌∷◌, length};
 ghost use Rattle.serving_turns.specs.Causes.{IsCausedBy};
 ghost use Rattle.serving_turns.specs.Devices.{feed_seen, link_seen, out_seen, words_seen};
 ghost use Rattle.gateway_serving.specs.Devices.{devices_seen};
-ghost use Rattle.gateway_serving.specs.Servers.{counts_in, events_in};
+ghost use Rattle.gateway_machine.specs.declared.event.GatewayEvent.TheVariants.{Nonce as NonceEvent};
+ghost use Rattle.gateway_serving.specs.Events.{nonce_of};
+ghost use Rattle.gateway_serving.specs.Servers.{AreFew, Takes, Tallies, counts_in, latest_in};
 ghost use Rattle.gateway_serving.specs.Settings.{AreTurns};
-ghost use Rattle.gateway_serving.specs.Stages.{AreCausesOf, EndsIn, RunsSo, TurnsSo};
+ghost use Rattle.gateway_serving.specs.Stages.{AreCausesOf, BeginsTurn, EndsIn, RunsSo, TurnsSo};
 
 use super::Server;
 use amt_ports::{Clock, Feed, Link, OutLink, Words};
@@ -15,7 +17,18 @@ use std::alloc::Global;
 
 impl Server {
     // The next nonce is that of this word. It takes no memory.
-    fn draw<L: Link, O: OutLink>(&mut self, alloc: Global, word: u64, link: &mut L, out: &mut O) {
+    fn draw<L: Link, O: OutLink>(&mut self, alloc: Global, word: u64, link: &mut L, out: &mut O)
+        requires few { AreFew (2 ^ 50) self.old }
+        ensures takes { Takes self.old self.new
+            (link_seen (L.coming link.old) (L.tried link.old) (L.receive_faults link.old) (L.send_faults link.old))
+            (link_seen (L.coming link.new) (L.tried link.new) (L.receive_faults link.new) (L.send_faults link.new))
+            (out_seen (O.tried out.old) (O.faults out.old)) (out_seen (O.tried out.new) (O.faults out.new))
+            (NonceEvent (nonce_of word) ∷ []) }
+        ensures tallies { Tallies (counts_in self.old) (counts_in self.new) 0 0 0 0 }
+        ensures latest { latest_in self.new ≡ latest_in self.old }
+        ensures coming { L.coming link.new ≡ L.coming link.old }
+        ensures faults { L.receive_faults link.new ≡ L.receive_faults link.old }
+    {
         let event = GatewayEvent::Nonce((word & 0xffff_ffff) as u32);
         match self.take(alloc, &event, link, out) {
             Ok(()) => {}
@@ -32,7 +45,16 @@ impl Server {
         words: &mut W,
         link: &mut L,
         out: &mut O,
-    ) -> Result<(), End> {
+    ) -> Result<(), End>
+        requires few { AreFew (2 ^ 49) self.old }
+        ensures begins { BeginsTurn self.old self.new (C.given clock.old) (C.given clock.new) (W.given words.old) (W.given words.new)
+            (link_seen (L.coming link.old) (L.tried link.old) (L.receive_faults link.old) (L.send_faults link.old))
+            (link_seen (L.coming link.new) (L.tried link.new) (L.receive_faults link.new) (L.send_faults link.new))
+            (out_seen (O.tried out.old) (O.faults out.old)) (out_seen (O.tried out.new) (O.faults out.new)) result }
+        ensures cause { IsCausedBy result End.WordsFault (W.faults words.old) (W.faults words.new) }
+        ensures coming { L.coming link.new ≡ L.coming link.old }
+        ensures faults { L.receive_faults link.new ≡ L.receive_faults link.old }
+    {
         let Ok(word) = words.word() else {
             return Err(End::WordsFault);
         };
@@ -57,7 +79,7 @@ impl Server {
         buf: &mut [u8],
     ) -> Result<(), End>
         requires room { 65536 ≤ length buf.old }
-        requires few { length (events_in self.old) + 130 < 2 ^ 50 }
+        requires few { AreFew (2 ^ 48 - 130) self.old }
         ensures turns { TurnsSo self.old self.new
             (devices_seen (C.given clock.old) (words_seen (W.given words.old) (W.faults words.old))
             (link_seen (L.coming link.old) (L.tried link.old) (L.receive_faults link.old) (L.send_faults link.old))
@@ -93,7 +115,7 @@ impl Server {
     ) -> (End, u64)
         requires turns { AreTurns turns }
         requires room { 65536 ≤ length buf.old }
-        requires few { length (events_in self.old) < 2 ^ 49 }
+        requires few { AreFew (2 ^ 47 - 1) self.old }
         ensures runs { RunsSo turns self.old self.new
             (devices_seen (C.given clock.old) (words_seen (W.given words.old) (W.faults words.old))
             (link_seen (L.coming link.old) (L.tried link.old) (L.receive_faults link.old) (L.send_faults link.old))
