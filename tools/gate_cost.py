@@ -1,6 +1,6 @@
 """What a run of the gate costs, in processor seconds by crate.
 
-usage: tools/gate-cost.sh [--anew | CRATE ..]
+usage: tools/gate-cost.sh
 
 The gate runs one checker process a task. This reads the processor time of each from /proc, five times a
 second, so the last fifth of a second of each process is missed; the sum of all that the gate waited for,
@@ -39,7 +39,10 @@ def task_of(words):
     crate, over = after(words, "--crate-name"), after(words, "--incremental")
     if words[1] == "check" and "rt-edits-" in over:
         end = os.path.basename(over)
-        return (crate, "seed", None) if end == "seed" else (crate, "edits", int(end))
+        if end == "seed":
+            return crate, "seed", None
+        # (a kit that tries a crate's edits one after another has one folder for them all: they count as one)
+        return crate, "edits", int(end) if end.isdigit() else None
     if "--test" in words or after(words, "-o").endswith("_tests.o"):
         return crate, "tests", None
     return crate, ("proof" if crate else "other"), None
@@ -119,7 +122,7 @@ def table(watch):
         print(f"{crate or 'other':<22}{parts[0]:>8.0f}{parts[1]:>8.0f}{parts[2]:>8.0f}{parts[3]:>8.0f}{mean:>16}{sum(parts):>8.0f}")
     parts = [sum(seconds.get((crate, kind), 0) for crate in crates) for kind in KINDS]
     print(f"{'all':<22}{parts[0]:>8.0f}{parts[1]:>8.0f}{parts[2]:>8.0f}{parts[3]:>8.0f}{f'({len(edits)})':>16}{sum(parts):>8.0f}")
-    name = lambda crate, number: edits_of(crate)[number][:-5] if number < len(edits_of(crate)) else f"edit {number}"
+    name = lambda crate, number: f"edit {number}" if number is None or number >= len(edits_of(crate)) else edits_of(crate)[number][:-5]
     tasks = [(used, f"{crate}: {kind}") for (crate, kind), used in seconds.items() if kind in ("proof", "tests", "seed")]
     tasks += [(used, f"{crate}: {name(crate, number)}") for (crate, number), used in edits.items()]
     print("\nthe dearest ten")

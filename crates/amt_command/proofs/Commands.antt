@@ -16,10 +16,10 @@ use Rattle.gateway_script.specs.Script.{gateway_kind}
 use Rattle.pair_script.proofs.Lawful.{pair_kind_lawful}
 use Rattle.pair_script.specs.Script.{pair_kind}
 use Rattle.amt_words.specs.declared.command.Command.{Command}
-use Rattle.amt_words.specs.declared.command.Command.TheVariants.{Dump, Load, Replay, Vectors, Relay as RelayServing}
+use Rattle.amt_words.specs.declared.command.Command.TheVariants.{Dump, Load, Replay, Vectors, Gateway as GatewayServing, Relay as RelayServing}
 use Rattle.amt_words.specs.declared.command.Replayable.TheVariants.{Gateway, Pair, Relay}
 use Rattle.amt_words.specs.Line.{IsAccepted, IsCommandLine}
-use Rattle.amt_words.specs.Usage.{dump_usage, load_usage, relay_usage, replay_usage, vectors_usage}
+use Rattle.amt_words.specs.Usage.{dump_usage, gateway_usage, load_usage, relay_usage, replay_usage, vectors_usage}
 use Rattle.amt_command.specs.Command.{dump_task, vectors_task, work_of}
 use Rattle.amt_command.specs.Task.{HasOneFaultFor, HasOneValue, IsErrorBy}
 
@@ -31,6 +31,7 @@ one_value_of Dump = one_dump (one_script dump_kind dump_kind_lawful)
 one_value_of Vectors = report_unique
 one_value_of (Load seed count) = tt
 one_value_of (RelayServing file turns workers) = tt
+one_value_of (GatewayServing file turns) = tt
 
 pub one_fault_of : (command : Command) → HasOneFaultFor (work_of command)
 one_fault_of (Replay Relay) = one_fault relay_kind relay_kind_lawful
@@ -40,6 +41,7 @@ one_fault_of Dump = one_fault dump_kind dump_kind_lawful
 one_fault_of Vectors = one_fault vector_kind vector_kind_lawful
 one_fault_of (Load seed count) = tt
 one_fault_of (RelayServing file turns workers) = tt
+one_fault_of (GatewayServing file turns) = tt
 
 -- the line of a command is taken by its written definition
 pub accepted : (command : Command) (line : List (List ℕ)) → IsCommandLine command line → IsAccepted line
@@ -49,6 +51,7 @@ accepted Dump (name ∷ words) is = (1, dump_usage, omega arith, refl, (is.0, is
 accepted Vectors (name ∷ words) is = (2, vectors_usage, omega arith, refl, (is.0, is.1))
 accepted (Load seed count) (name ∷ words) is = (3, load_usage, omega arith, refl, (is.0, is.1))
 accepted (RelayServing file turns workers) (name ∷ words) is = (4, relay_usage, omega arith, refl, (is.0, is.1))
+accepted (GatewayServing file turns) (name ∷ words) is = (5, gateway_usage, omega arith, refl, (is.0, is.1))
 
 -- what is said of an error in two clauses
 both : {T : Type 0} (P Q R : ScriptError → Type 0) (r : Result T ScriptError) → ((error : ScriptError) → P error → Q error → R error)
@@ -86,8 +89,22 @@ OfRelay P Dump = Unit {0}
 OfRelay P Vectors = Unit {0}
 OfRelay P (Load seed count) = Unit {0}
 OfRelay P (RelayServing file turns workers) = P file turns workers
+OfRelay P (GatewayServing file turns) = Unit {0}
 
 -- it is said of one `relay` if of the other
 pub for_relay : (P : List ℕ → ℕ → Option ℕ → Type 0) (file file' : List ℕ) (turns turns' : ℕ) (workers workers' : Option ℕ)
     → RelayServing file turns workers ≡ RelayServing file' turns' workers' → P file turns workers → P file' turns' workers'
 for_relay P file file' turns turns' workers workers' same said = subst (OfRelay P) same said
+
+-- what is said of the file and the turns of `gateway`, and nothing of another command
+abbrev OfGateway : (List ℕ → ℕ → Type 0) → Command → Type 0
+OfGateway P (Replay kind) = Unit {0}
+OfGateway P Dump = Unit {0}
+OfGateway P Vectors = Unit {0}
+OfGateway P (Load seed count) = Unit {0}
+OfGateway P (RelayServing file turns workers) = Unit {0}
+OfGateway P (GatewayServing file turns) = P file turns
+
+-- it is said of one `gateway` if of the other
+pub for_gateway : (P : List ℕ → ℕ → Type 0) (file file' : List ℕ) (turns turns' : ℕ) → GatewayServing file turns ≡ GatewayServing file' turns' → P file turns → P file' turns'
+for_gateway P file file' turns turns' same said = subst (OfGateway P) same said

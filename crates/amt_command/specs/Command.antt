@@ -12,7 +12,7 @@ use Rattle.amt_vectors.specs.Report.{IsVectorsReport}
 use Rattle.amt_vectors.specs.Texts.{difference_of, suite_text}
 use Rattle.amt_vectors.specs.declared.report.SuiteReport.{SuiteReport}
 use Rattle.amt_words.specs.declared.command.Command.{Command}
-use Rattle.amt_words.specs.declared.command.Command.TheVariants.{Dump, Load, Replay, Vectors, Relay as RelayServing}
+use Rattle.amt_words.specs.declared.command.Command.TheVariants.{Dump, Load, Replay, Vectors, Gateway as GatewayServing, Relay as RelayServing}
 use Rattle.amt_words.specs.declared.command.Replayable.TheVariants.{Gateway, Pair, Relay}
 use Rattle.gateway_script.specs.Script.{gateway_kind}
 use Rattle.gateway_script.specs.Texts.{gateway_script_text}
@@ -53,6 +53,7 @@ work_of Dump = reading (List ℕ) dump_task
 work_of Vectors = reading SuiteReport vectors_task
 work_of (Load seed count) = making (load_text (summary_of (load_script_of seed count)))
 work_of (RelayServing file turns workers) = serving
+work_of (GatewayServing file turns) = serving
 
 -- done; usage; script or settings; read; write; link; memory; too long; difference; random source
 abbrev pub IsStatus : ℕ → Type 0

@@ -5,7 +5,7 @@ use Rattle.amt_ports.specs.Causes.{Rose}
 use Rattle.amt_ports.specs.Reading.{TakesAtMost, TakesMore}
 use Rattle.amt_values.specs.declared.bytes.TheConstants.{INPUT_LIMIT}
 use Rattle.amt_config.specs.declared.fault.ConfigFault.{ConfigFault}
-use Rattle.relay_command.specs.Texts.{settings_line}
+use Rattle.serving_commands.specs.Texts.{settings_line}
 use Rattle.script_lines.specs.Writing.{WritesPrefix}
 use Rattle.amt_command.specs.declared.ending.Ending.{Ending}
 use Rattle.amt_command.specs.declared.ending.Ending.TheVariants.{Difference, Fault, LinkFault, Memory, RandomFault, ReadFault, TooLong, Usage, WriteFault}
@@ -78,8 +78,8 @@ EndsFor (reading X task) left left' reads reads' written written' OutIsSame Inpu
 EndsFor (making text) left left' reads reads' written written' OutIsSame InputIsSame result = EndsMaking text written written' OutIsSame InputIsSame result
 EndsFor serving left left' reads reads' written written' OutIsSame InputIsSame result = EndsServing InputIsSame result
 
--- How the input and the output of a run fare: the output failed once exactly where the ending says so, by its
--- count of failures, and the input failed, or was taken past its limit, only where it says that.
+-- What became of the input and the output of a run: the output failed once exactly where the ending says so, by
+-- its count of failures, and the input failed, or was taken past its limit, only where it says that.
 pub record LeavesDevices {S O : Type 0} (left : S → Option (List ℕ)) (reads : S → ℕ) (writes : O → ℕ) (input input' : S) (out out' : O) (result : Result (Unit {0}) Ending) : Type 0 where
   pub write : IsErrOf result WriteFault → Rose (writes out) (writes out')
   pub calm_input : (IsErrOf result ReadFault → ⊥) → reads input' ≡ reads input

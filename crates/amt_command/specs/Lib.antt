@@ -2,5 +2,6 @@ pub mod Command
 pub mod Ending
 pub mod Exit
 pub mod Running
+pub mod Serving
 pub mod Status
 pub mod Task

@@ -1,109 +1,66 @@
--- What is said of a run over files and devices: what `relay` comes to, and how that is told.
-use Rattle.std.specs.Prelude.{◌≡◌, ◌≢◌, ◌⊎◌, ◌==◌, ℕ, List, [], ◌∷◌, Option, Some, Result, Ok, Err, IfErr, IfOk, IsErrOf, IsTrue}
-use Rattle.std.specs.Io.KnownBytes.{Appends}
-use Rattle.std.specs.List.{list_any}
-use Rattle.amt_config.specs.declared.fault.ConfigFault.TheVariants.{Memory as ConfigMemory}
-use Rattle.amt_ports.specs.Causes.{Rose}
+-- What is said of the commands `relay` and `gateway`, which serve by a settings file.
+use Rattle.std.specs.Prelude.{ℕ, List, Option}
+use Rattle.amt_config.specs.declared.config.GatewayConfig.{GatewayConfig}
+use Rattle.amt_config.specs.declared.config.RelayConfig.{RelayConfig}
 use Rattle.amt_ports.specs.declared.files.Files.{Ghosts as FilesTell}
-use Rattle.relay_command.specs.Lives.{Tells}
-use Rattle.relay_command.specs.Openings.{ComesFirst, IsRefusedBy}
-use Rattle.relay_command.specs.Reading.{Decides, TellsFault}
-use Rattle.relay_command.specs.Running.{Runs}
-use Rattle.relay_command.specs.Texts.{report_text, settings_line}
-use Rattle.relay_command.specs.declared.fault.RelayFault.{RelayFault}
-use Rattle.relay_command.specs.declared.fault.RelayFault.TheVariants as faults
-use Rattle.relay_serving.specs.declared.plan.End.{End}
-use Rattle.relay_serving.specs.declared.plan.End.TheVariants as ends
-use Rattle.relay_serving.specs.declared.plan.ServeReport.{ServeReport}
 use Rattle.amt_words.specs.Line.{IsCommandLine}
-use Rattle.amt_words.specs.declared.command.Command.TheVariants.{Relay as RelayServing}
-use Rattle.script_lines.specs.Writing.{WritesPrefix}
-use Rattle.amt_command.specs.Ending.{line_of, status_of}
-use Rattle.amt_command.specs.declared.ending.Ending.{Ending}
-use Rattle.amt_command.specs.declared.ending.Ending.TheVariants.{Fault, LinkFault, Memory, RandomFault, ReadFault, TooLong}
+use Rattle.amt_words.specs.declared.command.Command.TheVariants.{Gateway as GatewayServing, Relay as RelayServing}
+use Rattle.gateway_command.specs.Openings as gateway_openings
+use Rattle.gateway_command.specs.Running as gateways
+use Rattle.gateway_command.specs.Texts as gateway_texts
+use Rattle.gateway_serving.specs.declared.served.GatewayServed.{GatewayServed}
+use Rattle.relay_command.specs.Openings as relay_openings
+use Rattle.relay_command.specs.Plans.{plan_by}
+use Rattle.relay_command.specs.Running as relays
+use Rattle.relay_command.specs.Texts as relay_texts
+use Rattle.relay_serving.specs.declared.plan.ServeReport.{ServeReport}
+use Rattle.serving_commands.specs.Kinds.{gateway_file, relay_file}
+use Rattle.serving_commands.specs.Lives.{Tells}
+use Rattle.amt_command.specs.Serving.{Reporting, Serves, Service}
 
 -- the arguments are those of `relay`
 abbrev pub IsRelayLine : List (List ℕ) → Type 0
 IsRelayLine words =
     (file : List ℕ) × (turns : ℕ) × (workers : Option ℕ) × IsCommandLine (RelayServing file turns workers) words
 
--- how `relay` ends where its run has this end
-abbrev pub ending_of_end : End → Result (Unit {0}) Ending
-ending_of_end ends.Turns = Ok tt
-ending_of_end ends.Closed = Ok tt
-ending_of_end ends.LinkFault = Err LinkFault
-ending_of_end ends.FeedFault = Err LinkFault
-ending_of_end ends.SpawnFault = Err LinkFault
-ending_of_end ends.WordsFault = Err RandomFault
-ending_of_end ends.Memory = Err Memory
+-- the arguments are those of `gateway`
+abbrev pub IsGatewayLine : List (List ℕ) → Type 0
+IsGatewayLine words = (file : List ℕ) × (turns : ℕ) × IsCommandLine (GatewayServing file turns) words
 
--- and where there was no run
-abbrev pub ending_of_fault : RelayFault → Ending
-ending_of_fault faults.NotRead = ReadFault
-ending_of_fault faults.TooLong = TooLong
-ending_of_fault (faults.Settings fault) = Fault (settings_line fault)
-ending_of_fault faults.NotOpened = LinkFault
-ending_of_fault faults.Memory = Memory
+-- what the report of a relay's run tells
+abbrev pub relay_reporting : Reporting ServeReport
+relay_reporting = record { end_of = λ report. report.end; text_of = relay_texts.report_text }
 
--- a fault that has a line, if it is one of the settings: want of memory has none
-abbrev pub HasLine : RelayFault → Type 0
-HasLine (faults.Settings fault) = fault ≢ ConfigMemory
-HasLine fault = Unit {0}
+-- what the report of a gateway's run tells
+abbrev pub gateway_reporting : Reporting GatewayServed
+gateway_reporting = record { end_of = λ report. report.end; text_of = gateway_texts.report_text }
 
--- how `relay` ends after this answer, where nothing fails after it
-abbrev pub ending_of_answer : Result ServeReport RelayFault → Result (Unit {0}) Ending
-ending_of_answer (Ok report) = ending_of_end report.end
-ending_of_answer (Err fault) = Err (ending_of_fault fault)
+module _ {V L F C W O P T : Type 0} (told : Tells V L F C W O P T) where
+  -- `relay` with so many turns at most, and with these workers, where some are given
+  abbrev pub relay_service : ℕ → Option ℕ → Service V RelayConfig ServeReport
+  relay_service turns workers = record {
+    kind = relay_file;
+    opening_by = λ config. relay_openings.opening_by config (plan_by config turns workers);
+    Runs = λ content before after report. relays.Runs told content turns workers before after report;
+    reporting = relay_reporting;
+  }
 
--- the counts of its run
-abbrev pub text_of_answer : Result ServeReport RelayFault → List ℕ
-text_of_answer (Ok report) = report_text report
-text_of_answer (Err fault) = []
+  -- `gateway` with so many turns at most
+  abbrev pub gateway_service : ℕ → Service V GatewayConfig GatewayServed
+  gateway_service turns = record {
+    kind = gateway_file;
+    opening_by = gateway_openings.opening_by;
+    Runs = λ content before after report. gateways.Runs told content turns before after report;
+    reporting = gateway_reporting;
+  }
 
--- memory can still run out after an answer with this status: for the text of its counts, for the line of a
--- fault of the settings; or it ran out before
-abbrev pub TakesMemory : ℕ → Type 0
-TakesMemory status = IsTrue (list_any (λ known. known == status) (0 ∷ 3 ∷ 7 ∷ []))
+module _ {G V L F C W O P T : Type 0} (kept : FilesTell G) (told : Tells V L F C W O P T) (file : List ℕ) (turns : ℕ) where
+  -- What `relay` does with its arguments, as its status and its line show.
+  abbrev pub Relays : Option ℕ → G → G → V → V → {A : Type 0} → (A → Option (List ℕ)) → A → A → ℕ → List ℕ → Type 0
+  Relays workers files files' live live' written out out' status line =
+      Serves kept told.live (relay_service told turns workers) file files files' live live' written out out' status line
 
--- What a status and a line show of an answer, and what is written: the counts under status 0, a prefix of them
--- under 5, nothing under every other status.
-pub record Shows {T : Type 0} (answer : Result ServeReport RelayFault) (written : T → Option (List ℕ)) (out out' : T) (status : ℕ) (line : List ℕ) : Type 0 where
-  pub same : status ≢ 5 → status ≢ 7 → status ≡ status_of (ending_of_answer answer)
-  pub write : status ≡ 5 → status_of (ending_of_answer answer) ≡ 0
-  pub memory : status ≡ 7 → TakesMemory (status_of (ending_of_answer answer))
-  pub done : status ≡ 0 → Appends (written out) (written out') (text_of_answer answer)
-  pub begun : status ≡ 5 → WritesPrefix (written out) (written out') (text_of_answer answer)
-  pub quiet : status ≢ 0 → status ≢ 5 → out' ≡ out
-  pub fault : status ≡ 3 → line ≡ line_of (ending_of_answer answer)
-
-module _ {G V L F C W O P T : Type 0} (kept : FilesTell G) (told : Tells V L F C W O P T) (file : List ℕ) (turns : ℕ) (workers : Option ℕ) (files files' : G) (live live' : V) where
-  -- What is known of the answer of a run by the settings of this file: the run behind a report, or why there was
-  -- none, and what was asked of files and devices.
-  pub record ComesTo (answer : Result ServeReport RelayFault) : Type 0 where
-    pub ran : IfOk answer (λ report. ∥ Runs told (kept.contents files file) turns workers live live' report ∥₁)
-    -- of the file
-    pub unread : IsErrOf answer faults.NotRead → Rose (kept.faults files) (kept.faults files')
-    pub absent : kept.lacks files file → IsErrOf answer faults.NotRead
-    pub fault : IfErr answer (TellsFault (kept.contents files file))
-    pub decided : (bytes : List ℕ) → kept.contents files file ≡ Some bytes → Decides bytes answer
-    pub calm_files : (IsErrOf answer faults.NotRead → ⊥) → kept.faults files' ≡ kept.faults files
-    pub same_files : (other : List ℕ) → kept.contents files' other ≡ kept.contents files other
-    -- of the devices
-    pub unopened : IsErrOf answer faults.NotOpened → Rose (told.live.faults live) (told.live.faults live')
-    pub refused : IsErrOf answer faults.NotOpened → IsRefusedBy told.live (kept.contents files file) turns workers live live'
-    pub memory : IsErrOf answer faults.Memory → (live' ≡ live) ⊎ IsRefusedBy told.live (kept.contents files file) turns workers live live'
-    pub unasked : IfErr answer (λ fault. ComesFirst fault → live' ≡ live)
-    pub calm_live : (IsErrOf answer faults.NotOpened → ⊥) → told.live.faults live' ≡ told.live.faults live
-
-  -- What `relay` does with its arguments, as its status and its line show: nothing was touched, since memory ran
-  -- out for the arguments; or they show this answer.
-  pub data Relays {S : Type 0} (written : S → Option (List ℕ)) (out out' : S) (status : ℕ) (line : List ℕ) : Type 0 where
-    untouched : status ≡ 7 → files' ≡ files → live' ≡ live → out' ≡ out → Relays written out out' status line
-    answered : (answer : Result ServeReport RelayFault) → ComesTo answer → Shows answer written out out' status line → Relays written out out' status line
-
--- What `relay` writes to standard error beside that.
-pub record RelaysAndTells {E : Type 0} (Shown : List ℕ → Type 0) (told : E → Option (List ℕ)) (failures : E → ℕ) (err err' : E) : Type 0 where
-  pub text : List ℕ
-  pub shown : Shown text
-  pub line : (Rose (failures err) (failures err') → ⊥) → Appends (told err) (told err') text
-  pub prefix : WritesPrefix (told err) (told err') text
+  -- What `gateway` does with its arguments, as its status and its line show.
+  abbrev pub Gateways : G → G → V → V → {A : Type 0} → (A → Option (List ℕ)) → A → A → ℕ → List ℕ → Type 0
+  Gateways files files' live live' written out out' status line =
+      Serves kept told.live (gateway_service told turns) file files files' live live' written out out' status line

@@ -5,7 +5,7 @@ use Rattle.amt_ports.specs.Causes.{Rose}
 use Rattle.amt_ports.specs.Reading.{TakesAtMost, TakesMore}
 use Rattle.amt_values.specs.declared.bytes.TheConstants.{INPUT_LIMIT}
 use Rattle.amt_config.specs.declared.fault.ConfigFault.{ConfigFault}
-use Rattle.relay_command.specs.Texts.{settings_line}
+use Rattle.serving_commands.specs.Texts.{settings_line}
 use Rattle.amt_words.specs.Line.{IsAccepted, IsCommandLine}
 use Rattle.amt_words.specs.declared.command.Command.{Command}
 use Rattle.script_lines.specs.Writing.{WritesPrefix}
@@ -43,8 +43,8 @@ pub record AnswersMaking (text : List ℕ) {S O : Type 0} (reads : S → ℕ) (w
   pub only : (status ≡ 0) ⊎ ((status ≡ 5) ⊎ (status ≡ 7))
   pub complete : IsUndisturbed (reads input) (reads input') (writes out) (writes out') → (status ≡ 0) ⊎ (status ≡ 7)
 
--- What the status says of a run of the work. Of a run over files and devices the clause `relays` of `amt` says
--- the rest.
+-- What the status says of a run of the work. Of a run over files and devices the clauses `relays` and `gateways`
+-- of `amt` say the rest.
 abbrev pub AnswersFor : Work → {S O : Type 0} → (S → Option (List ℕ)) → (S → ℕ) → (O → Option (List ℕ)) → (O → ℕ) → S → S → O → O → ℕ → Type 0
 AnswersFor (reading X task) left reads written writes input input' out out' status =
     AnswersReading task left reads written writes input input' out out' status

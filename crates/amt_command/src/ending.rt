@@ -30,6 +30,7 @@ pub enum Ending {
 impl Ending {
     ghost use Rattle.amt_command.specs.Ending.{status_of_ending, line_of_ending};
 
+    /// The exit status, from 2 to 10. A run that ended well has no `Ending`, and exits with 0.
     pub fn status(&self) -> u8
         ensures { result ≡ status_of_ending self.now }
     {

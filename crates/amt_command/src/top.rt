@@ -5,18 +5,20 @@ ghost use Rattle.std.specs.Io.KnownBytes.{Appends};
 ghost use Rattle.amt_ports.specs.Causes.{Rose};
 ghost use Rattle.amt_words.specs.Line.{IsAccepted, IsCommandLine, IsWithinLimits};
 ghost use Rattle.amt_words.specs.declared.command.Command.{Command as CommandValue};
-ghost use Rattle.relay_command.specs.Lives.{tells};
 ghost use Rattle.script_lines.specs.Writing.{WritesPrefix};
+ghost use Rattle.serving_commands.specs.Lives.{tells};
 ghost use Rattle.amt_command.specs.Command.{work_of};
 ghost use Rattle.amt_command.specs.Ending.{EndsFor, LeavesDevices, status_of, line_of};
 ghost use Rattle.amt_command.specs.Exit.{status_in};
-ghost use Rattle.amt_command.specs.Running.{IsRelayLine, Relays, RelaysAndTells};
+ghost use Rattle.amt_command.specs.Running.{Gateways, IsGatewayLine, IsRelayLine, Relays};
+ghost use Rattle.amt_command.specs.Serving.{ServesAndTells};
 ghost use Rattle.amt_command.specs.Status.{Answers, Reports, ReportsMemory};
 ghost use Rattle.amt_command.specs.Task.{HasOneFaultFor, HasOneValue};
 
 use crate::ending::Ending;
 use crate::exit::Exit;
-use crate::relay::serve_file;
+use crate::gateway::serve_gateway_file;
+use crate::relay::serve_relay_file;
 use crate::running::{run_task, write_load};
 use crate::scripts::{GatewayReplay, PairReplay, RelayReplay};
 use crate::texts::{Dump, Vectors};
@@ -61,7 +63,12 @@ fn run_command<S: Source, F: Files, O: Sink, V: Live>(
         → Relays F.Files (tells V.Live V.L.Link V.F.Feed V.C.Clock V.W.Words V.O.OutLink V.P.starts V.P.faults)
         file turns workers files.old files.new live.old live.new O.written out.old out.new
         (status_of result) (line_of result) }
+    ensures gateways { (file : List ℕ) (turns : ℕ) → command.entry ≡ CommandValue.Gateway file turns
+        → Gateways F.Files (tells V.Live V.L.Link V.F.Feed V.C.Clock V.W.Words V.O.OutLink V.P.starts V.P.faults)
+        file turns files.old files.new live.old live.new O.written out.old out.new
+        (status_of result) (line_of result) }
     ensures unused { ((file : List ℕ) (turns : ℕ) (workers : Option ℕ) → command.entry ≡ CommandValue.Relay file turns workers → ⊥)
+        → ((file : List ℕ) (turns : ℕ) → command.entry ≡ CommandValue.Gateway file turns → ⊥)
         → (files.new ≡ files.old) × (live.new ≡ live.old) }
     ensures ends { EndsFor (work_of command.entry) (S.left input.old) (S.left input.new)
         (S.faults input.old) (S.faults input.new) (O.written out.old) (O.written out.new)
@@ -78,7 +85,10 @@ fn run_command<S: Source, F: Files, O: Sink, V: Live>(
             file,
             turns,
             workers,
-        } => serve_file(rt, alloc, file.as_str(), turns, workers, files, out, live),
+        } => serve_relay_file(rt, alloc, file.as_str(), turns, workers, files, out, live),
+        Command::Gateway { file, turns } => {
+            serve_gateway_file(alloc, file.as_str(), turns, files, out, live)
+        }
     }
 }
 
@@ -101,7 +111,12 @@ fn run<S: Source, F: Files, O: Sink, V: Live>(
         → Relays F.Files (tells V.Live V.L.Link V.F.Feed V.C.Clock V.W.Words V.O.OutLink V.P.starts V.P.faults)
         file turns workers files.old files.new live.old live.new O.written out.old out.new
         (status_of result) (line_of result) }
-    ensures unused { ¬ IsRelayLine (map string_bytes words.now)
+    ensures gateways { (file : List ℕ) (turns : ℕ)
+        → IsCommandLine (CommandValue.Gateway file turns) (map string_bytes words.now)
+        → Gateways F.Files (tells V.Live V.L.Link V.F.Feed V.C.Clock V.W.Words V.O.OutLink V.P.starts V.P.faults)
+        file turns files.old files.new live.old live.new O.written out.old out.new
+        (status_of result) (line_of result) }
+    ensures unused { ¬ IsRelayLine (map string_bytes words.now) → ¬ IsGatewayLine (map string_bytes words.now)
         → (files.new ≡ files.old) × (live.new ≡ live.old) }
     ensures of_command { (command : CommandValue) → IsCommandLine command (map string_bytes words.now)
         → EndsFor (work_of command) (S.left input.old) (S.left input.new)
@@ -145,8 +160,8 @@ fn report<E: Sink>(ending: &Result<(), Ending>, err: &mut E)
 /// The command `amt`: takes the words after the program's name, and answers the exit status.
 ///
 /// The words are judged first, then the input is read whole, then it is read as what the command reads; only
-/// then is a step taken and something written to `out`. `load` and `relay` leave the input alone; `relay`
-/// alone uses the files and the devices of `live`, and writes after its run.
+/// then is a step taken and something written to `out`. `load`, `relay` and `gateway` leave the input alone;
+/// `relay` and `gateway` alone use the files and the devices of `live`, and write after their run.
 pub fn amt<S: Source, F: Files, O: Sink, E: Sink, V: Live>(
     rt: &impl Wait,
     alloc: Global,
@@ -163,10 +178,15 @@ pub fn amt<S: Source, F: Files, O: Sink, E: Sink, V: Live>(
         input.old input.new err.old err.new result }
     ensures relays { (file : List ℕ) (turns : ℕ) (workers : Option ℕ)
         → IsCommandLine (CommandValue.Relay file turns workers) (map string_bytes words.now)
-        → RelaysAndTells (Relays F.Files (tells V.Live V.L.Link V.F.Feed V.C.Clock V.W.Words V.O.OutLink V.P.starts V.P.faults)
+        → ServesAndTells (Relays F.Files (tells V.Live V.L.Link V.F.Feed V.C.Clock V.W.Words V.O.OutLink V.P.starts V.P.faults)
         file turns workers files.old files.new live.old live.new O.written out.old out.new result)
         E.written E.faults err.old err.new }
-    ensures unused { ¬ IsRelayLine (map string_bytes words.now)
+    ensures gateways { (file : List ℕ) (turns : ℕ)
+        → IsCommandLine (CommandValue.Gateway file turns) (map string_bytes words.now)
+        → ServesAndTells (Gateways F.Files (tells V.Live V.L.Link V.F.Feed V.C.Clock V.W.Words V.O.OutLink V.P.starts V.P.faults)
+        file turns files.old files.new live.old live.new O.written out.old out.new result)
+        E.written E.faults err.old err.new }
+    ensures unused { ¬ IsRelayLine (map string_bytes words.now) → ¬ IsGatewayLine (map string_bytes words.now)
         → (files.new ≡ files.old) × (live.new ≡ live.old) }
 
     // The octets of an input are read as one value at most, and have one fault at most.
@@ -195,10 +215,15 @@ pub fn amt_exit<S: Source, F: Files, O: Sink, E: Sink, V: Live>(
         input.old input.new err.old err.new (status_in result) }
     ensures relays { (file : List ℕ) (turns : ℕ) (workers : Option ℕ)
         → IsCommandLine (CommandValue.Relay file turns workers) (map string_bytes words.now)
-        → RelaysAndTells (Relays F.Files (tells V.Live V.L.Link V.F.Feed V.C.Clock V.W.Words V.O.OutLink V.P.starts V.P.faults)
+        → ServesAndTells (Relays F.Files (tells V.Live V.L.Link V.F.Feed V.C.Clock V.W.Words V.O.OutLink V.P.starts V.P.faults)
         file turns workers files.old files.new live.old live.new O.written out.old out.new
         (status_in result)) E.written E.faults err.old err.new }
-    ensures unused { ¬ IsRelayLine (map string_bytes words.now)
+    ensures gateways { (file : List ℕ) (turns : ℕ)
+        → IsCommandLine (CommandValue.Gateway file turns) (map string_bytes words.now)
+        → ServesAndTells (Gateways F.Files (tells V.Live V.L.Link V.F.Feed V.C.Clock V.W.Words V.O.OutLink V.P.starts V.P.faults)
+        file turns files.old files.new live.old live.new O.written out.old out.new
+        (status_in result)) E.written E.faults err.old err.new }
+    ensures unused { ¬ IsRelayLine (map string_bytes words.now) → ¬ IsGatewayLine (map string_bytes words.now)
         → (files.new ≡ files.old) × (live.new ≡ live.old) }
     ensures one_value { (command : CommandValue) → HasOneValue (work_of command) }
     ensures one_fault { (command : CommandValue) → HasOneFaultFor (work_of command) }

@@ -7,7 +7,7 @@ mod ItemParts
 mod JoinLaws
 mod JoinParts
 mod KeyFaults
-mod OpenedJoins
+pub mod OpenedJoins
 mod ReadTexts
 mod RelayLaws
 mod RelayParts

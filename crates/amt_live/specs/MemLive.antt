@@ -23,7 +23,7 @@ with_set returned set = record returned { sets = returned.sets ++ set ∷ []; ro
 -- the sets to come, the openings that were asked for, if none is missing, the sets that were given back,
 -- and the calls so far
 pub record OpenCalls (X : Type 0) : Type 0 where
-  pub relays : List X
+  pub sets : List X
   pub asked : Option (List Opening)
   pub returned : Returned X
   pub calls : Tally

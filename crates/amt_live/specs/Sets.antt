@@ -1,6 +1,7 @@
 -- Sets of devices: those to come, and the room for those that come back.
-use Rattle.std.specs.Prelude.{◌≡◌, ◌<◌, ℕ, ◌+◌, ◌-◌, ◌==◌, Bool, false, List, [], ◌∷◌, length, Option, Some, None}
-use Rattle.amt_live.specs.declared.devices.RelayDevices.{RelayDevices}
+use Rattle.std.specs.Prelude.{◌≡◌, ◌<◌, ℕ, ◌+◌, ◌-◌, ◌==◌, Bool, true, false, List, [], ◌∷◌, length, Option, Some, None}
+use Rattle.amt_live.specs.declared.devices.DeviceSet.{DeviceSet}
+use Rattle.amt_live.specs.declared.devices.DeviceSet.TheVariants.{Relay, Gateway}
 
 -- where the sets to come are still told, this one was the first of them, and the others stay
 abbrev pub TakesFirst : {X : Type 0} → Option (List X) → Option (List X) → X → Type 0
@@ -23,7 +24,14 @@ less_room None = None
 less_room (Some sets) = Some (sets - 1)
 
 module _ {L F C W O P : Type 0} where
-  -- the first set to come has so many links out
-  abbrev pub fits : ℕ → List (RelayDevices L F C W O P) → Bool
-  fits slots [] = false
-  fits slots (devices ∷ later) = length devices.outs == slots
+  -- the first set to come is a relay's, with so many links out
+  abbrev pub fits_relay : ℕ → List (DeviceSet L F C W O P) → Bool
+  fits_relay slots [] = false
+  fits_relay slots (Relay devices ∷ later) = length devices.outs == slots
+  fits_relay slots (Gateway devices ∷ later) = false
+
+  -- the first set to come is a gateway's
+  abbrev pub fits_gateway : List (DeviceSet L F C W O P) → Bool
+  fits_gateway [] = false
+  fits_gateway (Relay devices ∷ later) = false
+  fits_gateway (Gateway devices ∷ later) = true

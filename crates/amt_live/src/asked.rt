@@ -9,10 +9,21 @@ use std::marker::Model;
 /// An opening, with what was asked of it.
 #[derive(Clone, Copy, Debug, PartialEq, Eq)]
 pub enum Opening {
+    /// The devices of a relay.
     Relay {
+        /// Where the link listens for datagrams.
         listen: Peer,
+        /// Where the feed takes packets.
         feed: Peer,
+        /// So many links out.
         slots: u32,
+    },
+    /// The devices of a gateway.
+    Gateway {
+        /// Where the link listens for datagrams.
+        listen: Peer,
+        /// Where the feed takes control lines.
+        control: Peer,
     },
 }
 

@@ -6,11 +6,41 @@ use replication_workers::Outs;
 /// slot, and what starts its workers.
 #[derive(Drop)]
 pub struct RelayDevices<L, F, C, W, O, P> {
+    /// By which datagrams of endpoints come, and the relay's answers go out.
     pub link: L,
+    /// Where the packets to copy come from.
     pub feed: F,
+    /// What tells the relay's moments.
     pub clock: C,
+    /// Where secrets are drawn from.
     pub words: W,
-    /// In slot order.
+    /// By which copies go out, in slot order.
     pub outs: Outs<O>,
+    /// What starts the workers.
     pub spawner: P,
+}
+
+/// What a gateway runs on: its link, the feed of its control lines, the link out for packets that it hands on,
+/// its clock and random words.
+#[derive(Drop)]
+pub struct GatewayDevices<L, F, O, C, W> {
+    /// By which datagrams of relays come, and the gateway's messages go out.
+    pub link: L,
+    /// Where the lines of its sockets' calls come from.
+    pub control: F,
+    /// By which packets that relays sent are handed on.
+    pub out: O,
+    /// What tells the gateway's moments.
+    pub clock: C,
+    /// Where nonces are drawn from.
+    pub words: W,
+}
+
+/// A set of devices: what one run is opened on, and gives back.
+#[derive(Drop)]
+pub enum DeviceSet<L, F, C, W, O, P> {
+    /// What a relay runs on.
+    Relay(RelayDevices<L, F, C, W, O, P>),
+    /// What a gateway runs on.
+    Gateway(GatewayDevices<L, F, O, C, W>),
 }

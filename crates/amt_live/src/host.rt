@@ -1,7 +1,8 @@
 //! The devices of the machine. It must not know what runs on them.
-ghost use Rattle.std.specs.Prelude.{◌≡◌, IfOk, None, length};
+ghost use Rattle.std.specs.Prelude.{◌≡◌, ◌≤◌, IfOk, IsErrOf, None, length};
+ghost use Rattle.amt_ports.specs.Causes.{Rose};
 
-use crate::devices::RelayDevices;
+use crate::devices::{GatewayDevices, RelayDevices};
 use crate::live::{Live, OpenFault};
 use amt_ports::{
     Failed, GivenBy, HostClock, HostWords, Starts, ThreadSpawner, UdpFeed, UdpLink, UdpOut,
@@ -40,6 +41,8 @@ type HostDevices<R> = RelayDevices<
     ThreadSpawner<R, WorkerThreads<R>>,
 >;
 
+type HostGateway<R> = GatewayDevices<UdpLink, UdpFeed, UdpOut, HostClock<R>, HostWords<R>>;
+
 /// The sockets, clock, random words and threads of the machine.
 #[derive(Debug, Drop)]
 pub struct HostLive<R> {
@@ -49,6 +52,7 @@ pub struct HostLive<R> {
 }
 
 impl<R: Copy> HostLive<R> {
+    /// The devices of the machine that `rt` runs on, none of which is open yet.
     pub fn new(rt: R, alloc: Global) -> Self
         ensures { result.faults ≡ 0 }
     {
@@ -64,6 +68,17 @@ impl<R: Copy> HostLive<R> {
         ensures { result ≡ self.now.faults }
     {
         self.faults
+    }
+
+    // Counts an opening that failed.
+    fn count<T>(&mut self, opened: &Result<T, OpenFault>)
+        ensures later { self.old.faults ≤ self.new.faults }
+        ensures failed { IsErrOf opened.now OpenFault.Failed → Rose self.old.faults self.new.faults }
+        ensures quiet { ¬ IsErrOf opened.now OpenFault.Failed → self.new.faults ≡ self.old.faults }
+    {
+        if matches!(opened, Err(OpenFault::Failed)) {
+            self.faults = self.faults.saturating_add(1);
+        }
     }
 }
 
@@ -99,7 +114,7 @@ where
 
     type P = ThreadSpawner<R, WorkerThreads<R>>;
 
-    ghost relays = { λ _. None };
+    ghost sets = { λ _. None };
 
     ghost asked = { λ _. None };
 
@@ -115,10 +130,8 @@ where
         feed: &Peer,
         slots: u32,
     ) -> Result<HostDevices<R>, OpenFault> {
-        let opened = open_devices(self.rt, self.alloc, listen, feed, slots);
-        if matches!(&opened, Err(OpenFault::Failed)) {
-            self.faults = self.faults.saturating_add(1);
-        }
+        let opened = open_relay_devices(self.rt, self.alloc, listen, feed, slots);
+        self.count(&opened);
         opened
     }
 
@@ -128,9 +141,22 @@ where
         // The sockets are closed here.
         drop(devices);
     }
+
+    fn open_gateway(&mut self, listen: &Peer, control: &Peer) -> Result<HostGateway<R>, OpenFault> {
+        let opened = open_gateway_devices(self.rt, listen, control);
+        self.count(&opened);
+        opened
+    }
+
+    fn return_gateway(&mut self, devices: HostGateway<R>)
+        ensures faults { self.new.faults ≡ self.old.faults }
+    {
+        // The sockets are closed here.
+        drop(devices);
+    }
 }
 
-fn open_devices<R>(
+fn open_relay_devices<R>(
     rt: R,
     alloc: Global,
     listen: &Peer,
@@ -152,5 +178,29 @@ where
         words: HostWords::new(rt),
         outs,
         spawner: ThreadSpawner::new(rt, WorkerThreads { rt }),
+    })
+}
+
+// What is handed on goes out through the link's socket, so it comes from the peer that the link listens at.
+fn open_gateway_devices<R>(
+    rt: R,
+    listen: &Peer,
+    control: &Peer,
+) -> Result<HostGateway<R>, OpenFault>
+where
+    R: Net + Clock + RandomSource + Copy,
+{
+    let Ok((link, control)) = open_sockets(&rt, listen, control) else {
+        return Err(OpenFault::Failed);
+    };
+    let Ok(out) = link.worker_end() else {
+        return Err(OpenFault::Failed);
+    };
+    Ok(GatewayDevices {
+        link,
+        control,
+        out,
+        clock: HostClock::new(rt),
+        words: HostWords::new(rt),
     })
 }

@@ -14,7 +14,7 @@ mod memory;
 mod returns;
 
 pub use asked::Opening;
-pub use devices::RelayDevices;
+pub use devices::{DeviceSet, GatewayDevices, RelayDevices};
 pub use host::{HostLive, WorkerThreads};
 pub use live::{Live, OpenFault};
 pub use memory::MemLive;

@@ -4,11 +4,12 @@ ghost use Rattle.amt_ports.specs.Causes.{Rose};
 ghost use Rattle.amt_ports.specs.Told.{Appends};
 ghost use Rattle.amt_live.specs.Sets.{HasRoom, TakesFirst, less_room, more_room};
 ghost use Rattle.amt_live.specs.declared.asked.Opening.{Opening as Asked};
-ghost use Rattle.amt_live.specs.declared.asked.Opening.TheVariants.{Relay as AskedRelay};
-ghost use Rattle.amt_live.specs.declared.devices.RelayDevices.{RelayDevices as RelaySet};
+ghost use Rattle.amt_live.specs.declared.asked.Opening.TheVariants.{Relay as AskedRelay, Gateway as AskedGateway};
+ghost use Rattle.amt_live.specs.declared.devices.DeviceSet.{DeviceSet as Set};
+ghost use Rattle.amt_live.specs.declared.devices.DeviceSet.TheVariants.{Relay as RelaySet, Gateway as GatewaySet};
 
 use crate::asked::Opening;
-use crate::devices::RelayDevices;
+use crate::devices::{GatewayDevices, RelayDevices};
 use amt_ports::{Clock, Feed, Link, OutLink, Spawner, Words};
 use amt_values::Peer;
 use replication_workers::Worker;
@@ -36,14 +37,14 @@ pub trait Live {
 
     type P: Spawner<Worker<Self::O>>;
 
-    /// The sets of a relay's devices that openings will give from here on, where it tells them.
-    ghost relays: { Self → Option (List (RelaySet Self.L Self.F Self.C Self.W Self.O Self.P)) };
+    /// The sets of devices that openings will give from here on, where it tells them.
+    ghost sets: { Self → Option (List (Set Self.L Self.F Self.C Self.W Self.O Self.P)) };
 
     /// The openings that were asked for so far, in order, where it tells them.
     ghost asked: { Self → Option (List Asked) };
 
-    /// The relays' devices that were given back so far, in order, where it tells them.
-    ghost returned: { Self → Option (List (RelaySet Self.L Self.F Self.C Self.W Self.O Self.P)) };
+    /// The sets that were given back so far, in order, where it tells them.
+    ghost returned: { Self → Option (List (Set Self.L Self.F Self.C Self.W Self.O Self.P)) };
 
     /// For how many sets it has kept room, so that they can be given back without memory. None is that it
     /// needs no room.
@@ -61,10 +62,10 @@ pub trait Live {
         slots: u32,
     ) -> Result<RelayDevices<Self::L, Self::F, Self::C, Self::W, Self::O, Self::P>, OpenFault>
         ensures outs { IfOk result (λ devices. length devices.outs ≡ slots) }
-        ensures first { IfOk result (TakesFirst (relays self.old) (relays self.new)) }
+        ensures first { IfOk result (λ devices. TakesFirst (sets self.old) (sets self.new) (RelaySet devices)) }
         ensures room { OnOk result (room self.new ≡ more_room (room self.old)) }
 
-        ensures kept { OnErr result (relays self.new ≡ relays self.old) }
+        ensures kept { OnErr result (sets self.new ≡ sets self.old) }
         ensures same_room { OnErr result (room self.new ≡ room self.old) }
 
         ensures asked { Appends (asked self.old) (asked self.new) (AskedRelay listen.now feed.now slots) }
@@ -81,11 +82,46 @@ pub trait Live {
         devices: RelayDevices<Self::L, Self::F, Self::C, Self::W, Self::O, Self::P>,
     )
         requires { HasRoom (room self.old) }
-        ensures returned { Appends (returned self.old) (returned self.new) devices }
+        ensures returned { Appends (returned self.old) (returned self.new) (RelaySet devices) }
         ensures tells { IsSome (returned self.old) → IsSome (returned self.new) }
         ensures room { room self.new ≡ less_room (room self.old) }
 
-        ensures kept { relays self.new ≡ relays self.old }
+        ensures kept { sets self.new ≡ sets self.old }
+        ensures asked { asked self.new ≡ asked self.old }
+        ensures faults { faults self.new ≡ faults self.old };
+
+    /// Opens what a gateway runs on: the link at the first peer, and the feed of its control lines at the
+    /// second, with one link out.
+    fn open_gateway(
+        &mut self,
+        listen: &Peer,
+        control: &Peer,
+    ) -> Result<GatewayDevices<Self::L, Self::F, Self::O, Self::C, Self::W>, OpenFault>
+        ensures first { IfOk result (λ devices. TakesFirst (sets self.old) (sets self.new) (GatewaySet devices)) }
+        ensures room { OnOk result (room self.new ≡ more_room (room self.old)) }
+
+        ensures kept { OnErr result (sets self.new ≡ sets self.old) }
+        ensures same_room { OnErr result (room self.new ≡ room self.old) }
+
+        ensures asked { Appends (asked self.old) (asked self.new) (AskedGateway listen.now control.now) }
+        ensures tells { OnOk result (IsSome (asked self.old) → IsSome (asked self.new)) }
+        ensures returned { returned self.new ≡ returned self.old }
+
+        ensures later { faults self.old ≤ faults self.new }
+        ensures failed { IsErrOf result OpenFault.Failed → Rose (faults self.old) (faults self.new) }
+        ensures quiet { ¬ IsErrOf result OpenFault.Failed → faults self.new ≡ faults self.old };
+
+    /// Takes back what a gateway ran on. It takes no memory: the room was made at the opening.
+    fn return_gateway(
+        &mut self,
+        devices: GatewayDevices<Self::L, Self::F, Self::O, Self::C, Self::W>,
+    )
+        requires { HasRoom (room self.old) }
+        ensures returned { Appends (returned self.old) (returned self.new) (GatewaySet devices) }
+        ensures tells { IsSome (returned self.old) → IsSome (returned self.new) }
+        ensures room { room self.new ≡ less_room (room self.old) }
+
+        ensures kept { sets self.new ≡ sets self.old }
         ensures asked { asked self.new ≡ asked self.old }
         ensures faults { faults self.new ≡ faults self.old };
 }

@@ -3,7 +3,9 @@ mod Naming
 mod Numbers
 mod OddLines
 mod Optional
+mod PlainGateway
 mod PlainLines
 mod PlainRelay
 mod Reading
+mod Steps
 mod Walks

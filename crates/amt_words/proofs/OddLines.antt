@@ -4,7 +4,7 @@ use Rattle.std.specs.List.{list_all}
 use Rattle.clap.specs.Words.{App, Text, fault_of}
 use Rattle.clap.specs.Walk.{is_empty}
 use Rattle.clap.proofs.OnLiterals.{clap_on_literals}
-use Rattle.amt_words.specs.Usage.{dump_usage, load_usage, relay_usage, replay_usage}
+use Rattle.amt_words.specs.Usage.{dump_usage, gateway_usage, load_usage, relay_usage, replay_usage}
 
 abbrev AreTaken : App → List (List Text) → Type 0
 AreTaken usage lines = list_all (λ words. is_empty (fault_of usage words)) lines ≡ true
@@ -60,3 +60,16 @@ no_relays : AreRefused relay_usage
     ∷ (codes "f" ∷ codes "--workers" ∷ codes "65" ∷ []) ∷ (codes "--turns" ∷ codes "--workers" ∷ codes "2" ∷ codes "f" ∷ []) ∷ [])
 unfolding clap_on_literals
 no_relays = refl
+
+gateways : AreTaken gateway_usage
+    ((codes "f" ∷ []) ∷ ([] ∷ []) ∷ (codes "-" ∷ []) ∷ (codes "--" ∷ codes "-f" ∷ []) ∷ (codes "f" ∷ codes "--" ∷ [])
+    ∷ (codes "--turns" ∷ codes "1" ∷ codes "f" ∷ []) ∷ (codes "f" ∷ codes "--turns=1099511627776" ∷ []) ∷ (codes "f" ∷ codes "--turns" ∷ codes "+7" ∷ []) ∷ [])
+unfolding clap_on_literals
+gateways = refl
+
+no_gateways : AreRefused gateway_usage
+    ([] ∷ (codes "--" ∷ []) ∷ (codes "-f" ∷ []) ∷ (codes "f" ∷ codes "g" ∷ []) ∷ (codes "f" ∷ codes "--help" ∷ []) ∷ (codes "f" ∷ codes "-h" ∷ [])
+    ∷ (codes "f" ∷ codes "--turns" ∷ []) ∷ (codes "f" ∷ codes "--turns=0" ∷ []) ∷ (codes "f" ∷ codes "--turns=1099511627777" ∷ [])
+    ∷ (codes "f" ∷ codes "--turns=1" ∷ codes "--turns=1" ∷ []) ∷ (codes "f" ∷ codes "--workers" ∷ codes "2" ∷ []) ∷ (codes "f" ∷ codes "--workers=0" ∷ []) ∷ [])
+unfolding clap_on_literals
+no_gateways = refl

@@ -1,4 +1,4 @@
--- What a parse found, in a command of a required word and two options.
+-- What a parse found, in a command of a required word and options.
 use Rattle.std.proofs.Common.{◌≡◌, ◌∙◌, ◌<◌, ◌≤◌, ◌++◌, ◌||◌, ℕ, zero, suc, true, false, List, [], ◌∷◌, length, Option, Some, None, codes, refl, sym, subst, ap, inl, inr, arith}
 use Rattle.std.specs.Prelude.{pos}
 use Rattle.std.specs.Borrow.{Bor}
@@ -104,42 +104,45 @@ optional_number_at cmd m p plain globals k a id least most lt at parser is uniqu
         let got = entry_by_id (EntryPasses p.built) (found_of m).entries.items id x parsed.values found in
         entry x got.0 x.vals.items found got.1 ((bytes_eq-Decides got.0.0.now id).0 got.2) got.3 refl
 
--- the ids of the three arguments of `relay` differ
-abbrev AreNamed : Arg → Arg → Arg → Type 0
-AreNamed x y z = (x.id.now ≡ codes "FILE") × (y.id.now ≡ codes "turns") × (z.id.now ≡ codes "workers")
+-- no argument of the list has this id
+abbrev LacksId : Text → List Arg → Type 0
+LacksId id args = (j : ℕ) (e : Arg) → j < length args → bytes_eq (slice_index_or args j e).id.now id ≡ true → ⊥
 
-file_alone : (x y z : Arg) → AreNamed x y z → (j : ℕ) (e : Arg) → j < length (x ∷ y ∷ z ∷ [])
-    → bytes_eq (slice_index_or (x ∷ y ∷ z ∷ []) j e).id.now (codes "FILE") ≡ true → j ≡ 0
-file_alone x y z is zero e lt eq = refl
-file_alone x y z is (suc zero) e lt eq =
-    let no : false ≡ true = rw is.1 at eq in
-    cc
-file_alone x y z is (suc (suc zero)) e lt eq =
-    let no : false ≡ true = rw is.2 at eq in
-    cc
-file_alone x y z is (suc (suc (suc j))) e lt eq = absurd (omega arith)
+none_lacks : (id : Text) → LacksId id []
+none_lacks id j e lt eq = absurd (omega arith)
 
-turns_alone : (x y z : Arg) → AreNamed x y z → (j : ℕ) (e : Arg) → j < length (x ∷ y ∷ z ∷ [])
-    → bytes_eq (slice_index_or (x ∷ y ∷ z ∷ []) j e).id.now (codes "turns") ≡ true → j ≡ 1
-turns_alone x y z is zero e lt eq =
-    let no : false ≡ true = rw is.0 at eq in
+one_lacks : (id : Text) (z : Arg) → bytes_eq z.id.now id ≡ false → LacksId id (z ∷ [])
+one_lacks id z is zero e lt eq =
+    let no : false ≡ true = sym is ∙ eq in
     cc
-turns_alone x y z is (suc zero) e lt eq = refl
-turns_alone x y z is (suc (suc zero)) e lt eq =
-    let no : false ≡ true = rw is.2 at eq in
-    cc
-turns_alone x y z is (suc (suc (suc j))) e lt eq = absurd (omega arith)
+one_lacks id z is (suc j) e lt eq = absurd (omega arith)
 
-workers_alone : (x y z : Arg) → AreNamed x y z → (j : ℕ) (e : Arg) → j < length (x ∷ y ∷ z ∷ [])
+file_alone : (x y : Arg) (rest : List Arg) → y.id.now ≡ codes "turns" → LacksId (codes "FILE") rest → (j : ℕ) (e : Arg) → j < length (x ∷ y ∷ rest)
+    → bytes_eq (slice_index_or (x ∷ y ∷ rest) j e).id.now (codes "FILE") ≡ true → j ≡ 0
+file_alone x y rest is lacks zero e lt eq = refl
+file_alone x y rest is lacks (suc zero) e lt eq =
+    let no : false ≡ true = rw is at eq in
+    cc
+file_alone x y rest is lacks (suc (suc j)) e lt eq = absurd (lacks j e (omega arith) eq)
+
+turns_alone : (x y : Arg) (rest : List Arg) → x.id.now ≡ codes "FILE" → LacksId (codes "turns") rest → (j : ℕ) (e : Arg) → j < length (x ∷ y ∷ rest)
+    → bytes_eq (slice_index_or (x ∷ y ∷ rest) j e).id.now (codes "turns") ≡ true → j ≡ 1
+turns_alone x y rest is lacks zero e lt eq =
+    let no : false ≡ true = rw is at eq in
+    cc
+turns_alone x y rest is lacks (suc zero) e lt eq = refl
+turns_alone x y rest is lacks (suc (suc j)) e lt eq = absurd (lacks j e (omega arith) eq)
+
+workers_alone : (x y z : Arg) → x.id.now ≡ codes "FILE" → y.id.now ≡ codes "turns" → (j : ℕ) (e : Arg) → j < length (x ∷ y ∷ z ∷ [])
     → bytes_eq (slice_index_or (x ∷ y ∷ z ∷ []) j e).id.now (codes "workers") ≡ true → j ≡ 2
-workers_alone x y z is zero e lt eq =
-    let no : false ≡ true = rw is.0 at eq in
+workers_alone x y z file turns zero e lt eq =
+    let no : false ≡ true = rw file at eq in
     cc
-workers_alone x y z is (suc zero) e lt eq =
-    let no : false ≡ true = rw is.1 at eq in
+workers_alone x y z file turns (suc zero) e lt eq =
+    let no : false ≡ true = rw turns at eq in
     cc
-workers_alone x y z is (suc (suc zero)) e lt eq = refl
-workers_alone x y z is (suc (suc (suc j))) e lt eq = absurd (omega arith)
+workers_alone x y z file turns (suc (suc zero)) e lt eq = refl
+workers_alone x y z file turns (suc (suc (suc j))) e lt eq = absurd (omega arith)
 
 -- the required argument at place k has a word
 word_at : (cmd : Command) (m : ArgMatches) → IsParsedFrom cmd m → IsPlain cmd
@@ -165,45 +168,89 @@ IsOwn a = IsPlainArg a × (a.global ≡ false)
 own_globals : (old new : Command) (a : Arg) → AddsArg old a new → (out-Command old).has_globals ≡ false → a.global ≡ false → (out-Command new).has_globals ≡ false
 own_globals old new a added globals local = added.globals ∙ (ap (λ g. g || a.global) globals ∙ ap (λ g. false || g) local)
 
--- a command of the arguments FILE, `--turns` and `--workers` has a word of the first, and numbers of the others if any
-pub relay_given : (start one two cmd : Command) (a b c : Arg) (m : ArgMatches) → AddsArg start a one → AddsArg one b two → AddsArg two c cmd
-    → args_of start ≡ [] → groups_of start ≡ []
-    → (out-Command start).has_globals ≡ false → (out-Command start).subcommand_negates_reqs ≡ false
-    → IsOwn a → IsOwn b → IsOwn c → TakesValue a → AreNamed a b c
-    → b.value_parser ≡ Some (Signed (pos 1) (pos 1099511627776)) → c.value_parser ≡ Some (Signed (pos 0) (pos 64))
-    → IsParsedFrom cmd m
-    → HasWord (found_of m) (codes "FILE") × HasNumberIfAny (found_of m) (codes "turns") 1 1099511627776 × HasNumberIfAny (found_of m) (codes "workers") 0 64
-relay_given start one two cmd a b c m first second third args groups globals negates own_a own_b own_c takes is parser_b parser_c p =
-    let x = first.arg in
-    let y = second.arg in
-    let z = third.arg in
-    let list : args_of cmd ≡ x ∷ y ∷ z ∷ [] =
-    third.args ∙ ap (λ (l : List Arg). l ++ z ∷ []) (second.args ∙ ap (λ (l : List Arg). l ++ y ∷ []) (first.args ∙ ap (λ (l : List Arg). l ++ x ∷ []) args)) in
-    let plain_start : IsPlain start = (subst (All IsPlainArg) (sym args) (All-nil IsPlainArg), groups) in
-    let plain : IsPlain cmd = added_plain two cmd c third (added_plain one two b second (added_plain start one a first plain_start own_a.0) own_b.0) own_c.0 in
-    let globals_cmd = own_globals two cmd c third (own_globals one two b second (own_globals start one a first globals own_a.1) own_b.1) own_c.1 in
-    let negates_cmd = third.negates ∙ (second.negates ∙ (first.negates ∙ negates)) in
-    let named : AreNamed x y z = (ap (λ i. i.now) first.rules.id ∙ is.0, ap (λ i. i.now) second.rules.id ∙ is.1, ap (λ i. i.now) third.rules.id ∙ is.2) in
-    let three : length (args_of cmd) ≡ 3 = ap (λ (l : List Arg). length l) list in (
-      word_at cmd m p plain globals_cmd negates_cmd 0 x (codes "FILE") (omega arith)
-          (ap (λ (l : List Arg). slice_index_or l 0 x) list) (same_value a x first.rules takes) named.0
+-- what is found of FILE and of `--turns`
+abbrev HasServing : Found → Type 0
+HasServing found = HasWord found (codes "FILE") × HasNumberIfAny found (codes "turns") 1 1099511627776
+
+-- a command whose first arguments are FILE and `--turns`, with no flag but its own
+record Serves (cmd : Command) (x y : Arg) (rest : List Arg) : Type 0 where
+  args : args_of cmd ≡ x ∷ y ∷ rest
+  plain : IsPlain cmd
+  globals : (out-Command cmd).has_globals ≡ false
+  negates : (out-Command cmd).subcommand_negates_reqs ≡ false
+  takes : TakesValue x
+  file : x.id.now ≡ codes "FILE"
+  turns : y.id.now ≡ codes "turns"
+  parser : y.value_parser ≡ Some (Signed (pos 1) (pos 1099511627776))
+
+found_serving : (cmd : Command) (x y : Arg) (rest : List Arg) (m : ArgMatches) → Serves cmd x y rest
+    → LacksId (codes "FILE") rest → LacksId (codes "turns") rest → IsParsedFrom cmd m → HasServing (found_of m)
+found_serving cmd x y rest m s no_file no_turns p =
+    let count : length (args_of cmd) ≡ suc (suc (length rest)) = ap (λ (l : List Arg). length l) s.args in (
+      word_at cmd m p s.plain s.globals s.negates 0 x (codes "FILE") (omega arith)
+          (ap (λ (l : List Arg). slice_index_or l 0 x) s.args) s.takes s.file
           (subst (λ (l : List Arg). (j : ℕ) (e : Arg) → j < length l → bytes_eq (slice_index_or l j e).id.now (codes "FILE") ≡ true → j ≡ 0)
-          (sym list) (file_alone x y z named))
+          (sym s.args) (file_alone x y rest s.turns no_file))
           (λ e. text_differs _ _ 4 0 e refl refl (λ n. absurd (omega arith)))
           (λ e. let no : 70 ≡ 104 = ap (λ (t : Text). slice_index_or t 0 0) e in absurd (omega arith))
           (λ e. text_differs _ _ 4 7 e refl refl (λ n. absurd (omega arith))),
-      optional_number_at cmd m p plain globals_cmd 1 y (codes "turns") 1 1099511627776 (omega arith)
-          (ap (λ (l : List Arg). slice_index_or l 1 y) list) (second.rules.parser _ parser_b) named.1
+      optional_number_at cmd m p s.plain s.globals 1 y (codes "turns") 1 1099511627776 (omega arith)
+          (ap (λ (l : List Arg). slice_index_or l 1 y) s.args) s.parser s.turns
           (subst (λ (l : List Arg). (j : ℕ) (e : Arg) → j < length l → bytes_eq (slice_index_or l j e).id.now (codes "turns") ≡ true → j ≡ 1)
-          (sym list) (turns_alone x y z named))
+          (sym s.args) (turns_alone x y rest s.file no_turns))
           (λ e. text_differs _ _ 5 0 e refl refl (λ n. absurd (omega arith)))
           (λ e. text_differs _ _ 5 4 e refl refl (λ n. absurd (omega arith)))
           (λ e. text_differs _ _ 5 7 e refl refl (λ n. absurd (omega arith))),
-      optional_number_at cmd m p plain globals_cmd 2 z (codes "workers") 0 64 (omega arith)
-          (ap (λ (l : List Arg). slice_index_or l 2 z) list) (third.rules.parser _ parser_c) named.2
-          (subst (λ (l : List Arg). (j : ℕ) (e : Arg) → j < length l → bytes_eq (slice_index_or l j e).id.now (codes "workers") ≡ true → j ≡ 2)
-          (sym list) (workers_alone x y z named))
-          (λ e. text_differs _ _ 7 0 e refl refl (λ n. absurd (omega arith)))
-          (λ e. text_differs _ _ 7 4 e refl refl (λ n. absurd (omega arith)))
-          (λ e. let no : 119 ≡ 118 = ap (λ (t : Text). slice_index_or t 0 0) e in absurd (omega arith)),
     )
+
+module _ (start one two : Command) (a b : Arg) (first : AddsArg start a one) (second : AddsArg one b two) (empty : args_of start ≡ []) (groups : groups_of start ≡ [])
+    (globals : (out-Command start).has_globals ≡ false) (negates : (out-Command start).subcommand_negates_reqs ≡ false)
+    (own_a : IsOwn a) (own_b : IsOwn b) (takes : TakesValue a) (file : a.id.now ≡ codes "FILE") (turns : b.id.now ≡ codes "turns")
+    (parser : b.value_parser ≡ Some (Signed (pos 1) (pos 1099511627776))) where
+  -- a command of the arguments FILE and `--turns`
+  serving : Serves two first.arg second.arg []
+  serving = record {
+    args = second.args ∙ ap (λ (l : List Arg). l ++ second.arg ∷ []) (first.args ∙ ap (λ (l : List Arg). l ++ first.arg ∷ []) empty);
+    plain = added_plain one two b second (added_plain start one a first (subst (All IsPlainArg) (sym empty) (All-nil IsPlainArg), groups) own_a.0) own_b.0;
+    globals = own_globals one two b second (own_globals start one a first globals own_a.1) own_b.1;
+    negates = second.negates ∙ (first.negates ∙ negates);
+    takes = same_value a first.arg first.rules takes;
+    file = ap (λ i. i.now) first.rules.id ∙ file;
+    turns = ap (λ i. i.now) second.rules.id ∙ turns;
+    parser = second.rules.parser _ parser;
+  }
+
+  pub gateway_given : (m : ArgMatches) → IsParsedFrom two m → HasWord (found_of m) (codes "FILE") × HasNumberIfAny (found_of m) (codes "turns") 1 1099511627776
+  gateway_given m p = found_serving two first.arg second.arg [] m serving (none_lacks (codes "FILE")) (none_lacks (codes "turns")) p
+
+  -- and one of `--workers` besides
+  pub relay_given : (cmd : Command) (c : Arg) (m : ArgMatches) → AddsArg two c cmd → IsOwn c → c.id.now ≡ codes "workers"
+      → c.value_parser ≡ Some (Signed (pos 0) (pos 64)) → IsParsedFrom cmd m
+      → HasWord (found_of m) (codes "FILE") × HasNumberIfAny (found_of m) (codes "turns") 1 1099511627776 × HasNumberIfAny (found_of m) (codes "workers") 0 64
+  relay_given cmd c m third own_c workers parser_c p =
+      let x = first.arg in
+      let y = second.arg in
+      let z = third.arg in
+      let named : z.id.now ≡ codes "workers" = ap (λ i. i.now) third.rules.id ∙ workers in
+      let serves : Serves cmd x y (z ∷ []) = record {
+        args = third.args ∙ ap (λ (l : List Arg). l ++ z ∷ []) serving.args;
+        plain = added_plain two cmd c third serving.plain own_c.0;
+        globals = own_globals two cmd c third serving.globals own_c.1;
+        negates = third.negates ∙ serving.negates;
+        takes = serving.takes;
+        file = serving.file;
+        turns = serving.turns;
+        parser = serving.parser;
+      } in
+      let found = found_serving cmd x y (z ∷ []) m serves (one_lacks (codes "FILE") z (rw named refl)) (one_lacks (codes "turns") z (rw named refl)) p in
+      let three : length (args_of cmd) ≡ 3 = ap (λ (l : List Arg). length l) serves.args in (
+        found.0,
+        found.1,
+        optional_number_at cmd m p serves.plain serves.globals 2 z (codes "workers") 0 64 (omega arith)
+            (ap (λ (l : List Arg). slice_index_or l 2 z) serves.args) (third.rules.parser _ parser_c) named
+            (subst (λ (l : List Arg). (j : ℕ) (e : Arg) → j < length l → bytes_eq (slice_index_or l j e).id.now (codes "workers") ≡ true → j ≡ 2)
+            (sym serves.args) (workers_alone x y z serves.file serves.turns))
+            (λ e. text_differs _ _ 7 0 e refl refl (λ n. absurd (omega arith)))
+            (λ e. text_differs _ _ 7 4 e refl refl (λ n. absurd (omega arith)))
+            (λ e. let no : 119 ≡ 118 = ap (λ (t : Text). slice_index_or t 0 0) e in absurd (omega arith)),
+      )

@@ -12,6 +12,7 @@ use Rattle.amt_words.specs.declared.command.Replayable.TheVariants as kinds
 use Rattle.amt_words.specs.Line.{IsCommandLine, IsNumberIn, TakesPlainLines, number_in, number_of}
 use Rattle.amt_words.specs.Usage.{Takes, load_usage, replayable_name}
 use Rattle.amt_words.proofs.Digits.{IsPlain, Passes, digits_number, digits_plain, number_passes}
+use Rattle.amt_words.proofs.PlainGateway.{gateway_line}
 use Rattle.amt_words.proofs.PlainRelay.{relay_line}
 use Rattle.amt_words.proofs.Walks.{end_kinds, number_row, rows_at_end, taken}
 
@@ -103,4 +104,4 @@ load_line seed count s c =
     )
 
 pub plain_lines : TakesPlainLines
-plain_lines = record { replay = replay_line; dump = dump_line; vectors = vectors_line; load = load_line; relay = relay_line }
+plain_lines = record { replay = replay_line; dump = dump_line; vectors = vectors_line; load = load_line; relay = relay_line; gateway = gateway_line }

@@ -6,9 +6,9 @@ use Rattle.std.specs.Str.Parse.{IsNumeral, digits_value, without_leading_plus}
 use Rattle.clap.specs.Lexer.{strip_byte}
 use Rattle.clap.specs.Words.{App, Text, first_of, matches_of, one_of, subcommand_of}
 use Rattle.amt_words.specs.declared.command.Command.{Command}
-use Rattle.amt_words.specs.declared.command.Command.TheVariants.{Replay, Dump, Vectors, Load, Relay}
+use Rattle.amt_words.specs.declared.command.Command.TheVariants.{Replay, Dump, Vectors, Load, Relay, Gateway}
 use Rattle.amt_words.specs.declared.command.Replayable.{Replayable}
-use Rattle.amt_words.specs.Usage.{Takes, dump_usage, load_usage, relay_usage, replay_usage}
+use Rattle.amt_words.specs.Usage.{Takes, dump_usage, gateway_usage, load_usage, relay_usage, replay_usage}
 use Rattle.amt_words.specs.Usage.{replayable_name, usages, vectors_usage}
 
 -- the written definition of a command
@@ -18,6 +18,7 @@ usage_of Dump = dump_usage
 usage_of Vectors = vectors_usage
 usage_of (Load seed count) = load_usage
 usage_of (Relay file turns workers) = relay_usage
+usage_of (Gateway file turns) = gateway_usage
 
 -- the number that an unsigned type reads from a text: decimal digits, where a plus may stand first
 abbrev pub number_of : Text → ℕ
@@ -44,11 +45,15 @@ abbrev pub GivesLoad : ℕ → ℕ → List Text → Type 0
 GivesLoad seed count words = (number_in load_usage (codes "SEED") words ≡ Some seed)
     × (number_in load_usage (codes "N") words ≡ Some count)
 
+-- the words after the name of a command that serves give this file and these turns
+pub record GivesRun (usage : App) (file : Text) (turns : ℕ) (words : List Text) : Type 0 where
+  pub file_is : word_in usage (codes "FILE") words ≡ Some file
+  pub turns_are : turns_or_most (number_in usage (codes "turns") words) ≡ turns
+
 -- the words after `relay` give this file, these turns and this number of workers, if any
-pub record GivesRelay (file : Text) (turns : ℕ) (workers : Option ℕ) (words : List Text) : Type 0 where
-  pub file_is : word_in relay_usage (codes "FILE") words ≡ Some file
-  pub turns_are : turns_or_most (number_in relay_usage (codes "turns") words) ≡ turns
-  pub workers_are : number_in relay_usage (codes "workers") words ≡ workers
+abbrev pub GivesRelay : Text → ℕ → Option ℕ → List Text → Type 0
+GivesRelay file turns workers words = GivesRun relay_usage file turns words
+    × (number_in relay_usage (codes "workers") words ≡ workers)
 
 -- the words after the name give what the command holds
 abbrev pub Gives : Command → List Text → Type 0
@@ -57,6 +62,7 @@ Gives Dump words = ⊤
 Gives Vectors words = ⊤
 Gives (Load seed count) words = GivesLoad seed count words
 Gives (Relay file turns workers) words = GivesRelay file turns workers words
+Gives (Gateway file turns) words = GivesRun gateway_usage file turns words
 
 -- the arguments are the command's name, words that its written definition takes, and those give
 -- what it holds
@@ -89,6 +95,7 @@ IsWithinLimits Dump = ⊤
 IsWithinLimits Vectors = ⊤
 IsWithinLimits (Load seed count) = IsLoadCount count
 IsWithinLimits (Relay file turns workers) = IsTurns turns × AreWorkers workers
+IsWithinLimits (Gateway file turns) = IsTurns turns
 
 -- decimal digits of a number from least to most
 abbrev pub IsNumberIn : ℕ → ℕ → Text → Type 0
@@ -104,8 +111,8 @@ option_words name (Some number) = name ∷ number ∷ []
 abbrev pub IsPlainWord : Text → Type 0
 IsPlainWord word = strip_byte 45 word ≡ None
 
--- the plain line of each command is one of its lines: numbers are decimal digits, and the file of
--- `relay` doesn't begin with a hyphen
+-- the plain line of each command is one of its lines: numbers are decimal digits, and a file doesn't
+-- begin with a hyphen
 pub record TakesPlainLines : Type 0 where
   pub replay : (kind : Replayable)
       → IsCommandLine (Replay kind) (codes "replay" ∷ replayable_name kind ∷ [])
@@ -120,3 +127,7 @@ pub record TakesPlainLines : Type 0 where
       (option_map (digits_value 10) workers))
       (codes "relay" ∷ file ∷ option_words (codes "--turns") turns
       ++ option_words (codes "--workers") workers)
+  pub gateway : (file : Text) → (turns : Option Text) → IsPlainWord file
+      → IfSome turns (IsNumberIn 1 1099511627776)
+      → IsCommandLine (Gateway file (turns_or_most (option_map (digits_value 10) turns)))
+      (codes "gateway" ∷ file ∷ option_words (codes "--turns") turns)

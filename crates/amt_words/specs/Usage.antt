@@ -69,15 +69,22 @@ abbrev pub load_usage : App
 load_usage = with_rule (with_rule (bare_usage (codes "load"))
     (number_rule (codes "SEED") 0 4294967295)) (number_rule (codes "N") 1 65536)
 
+-- NAME FILE [--turns T]
+abbrev pub serving_usage : Text → App
+serving_usage name = with_rule (with_rule (bare_usage name) (word_rule (codes "FILE")))
+    (option_rule (codes "turns") 1 1099511627776)
+
 -- relay FILE [--turns T] [--workers W]
 abbrev pub relay_usage : App
-relay_usage = with_rule (with_rule (with_rule (bare_usage (codes "relay"))
-    (word_rule (codes "FILE"))) (option_rule (codes "turns") 1 1099511627776))
-    (option_rule (codes "workers") 0 64)
+relay_usage = with_rule (serving_usage (codes "relay")) (option_rule (codes "workers") 0 64)
+
+-- gateway FILE [--turns T]
+abbrev pub gateway_usage : App
+gateway_usage = serving_usage (codes "gateway")
 
 -- the written definitions, one a command
 abbrev pub usages : List App
-usages = replay_usage ∷ dump_usage ∷ vectors_usage ∷ load_usage ∷ relay_usage ∷ []
+usages = replay_usage ∷ dump_usage ∷ vectors_usage ∷ load_usage ∷ relay_usage ∷ gateway_usage ∷ []
 
 -- the words after a command's name are among those that its written definition takes
 abbrev pub Takes : App → List Text → Type 0

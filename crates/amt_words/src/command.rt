@@ -32,6 +32,11 @@ pub enum Command<'a> {
         turns: u64,
         workers: Option<u32>,
     },
+    /// Serve as the gateway that the settings of `file` say, for so many turns at most.
+    Gateway {
+        file: FileName<'a>,
+        turns: u64,
+    },
 }
 
 /// Why arguments are no command.

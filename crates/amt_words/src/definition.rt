@@ -7,7 +7,7 @@ ghost use Rattle.clap.specs.declared.builder.command.Command.TheViews.{out-Comma
 ghost use Rattle.clap.specs.declared.builder.value_parser.ValueParser.TheVariants.{Signed};
 ghost use Rattle.clap.specs.declared.parser.matches.ArgMatches.{ArgMatches as MatchesValue};
 ghost use Rattle.amt_words.specs.Given.{HasNumber, HasNumberIfAny, HasWord};
-ghost use Rattle.amt_words.specs.Usage.{bare_usage, load_usage, number_rule, option_rule, relay_usage, replay_head, replay_usage, word_rule};
+ghost use Rattle.amt_words.specs.Usage.{bare_usage, gateway_usage, load_usage, number_rule, option_rule, relay_usage, replay_head, replay_usage, word_rule};
 
 use clap::builder::ValueParser;
 use clap::{Arg, ArgAction};
@@ -99,6 +99,17 @@ fn workers_argument<'a>(alloc: Global) -> Arg<'a>
         .long("workers")
         .action(ArgAction::Set)
         .value_parser(clap::value_parser!(u32).range(0..=64))
+}
+
+/// `gateway FILE [--turns T]`.
+pub fn gateway_definition<'a>(alloc: Global) -> Result<clap::Command<'a>, AllocError>
+    ensures usage { IfOk result (λ definition. app_of definition ≡ gateway_usage) }
+    ensures given { IfOk result (λ definition. (found : MatchesValue)
+        → IsParsedFrom definition found → HasWord (found_of found) (codes "FILE")
+        × HasNumberIfAny (found_of found) (codes "turns") 1 1099511627776) }
+{
+    let definition = bare_definition(alloc, "gateway").arg(file_argument(alloc))?;
+    definition.arg(turns_argument(alloc))
 }
 
 /// `relay FILE [--turns T] [--workers W]`.

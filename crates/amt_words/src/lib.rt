@@ -9,10 +9,12 @@
 mod command;
 mod definition;
 mod file_name;
+mod gateway;
 mod load;
 mod parsing;
 mod relay;
 mod replay;
+mod serving;
 #[cfg(test)]
 mod tests;
 mod words;

@@ -191,10 +191,46 @@ const WORKERS: [RelayRow; 13] = [
     (&["relay", "f", "3", "2"], None),
 ];
 
-// Commands that serve and are not read yet.
-const SERVING: [Row; 3] = [
+// Words, and the file and the turns that they give `gateway`.
+type GatewayRow = (&'static [&'static str], Option<(&'static str, u64)>);
+
+const GATEWAYS: [GatewayRow; 34] = [
     (&["gateway"], None),
-    (&["gateway", "f"], None),
+    (&["gateway", "f"], Some(("f", MOST))),
+    (&["gateway", ""], Some(("", MOST))),
+    (&["gateway", "a b.toml"], Some(("a b.toml", MOST))),
+    (&["gateway", "gateway"], Some(("gateway", MOST))),
+    (&["gateway", "help"], Some(("help", MOST))),
+    (&["gateway", "-f"], None),
+    (&["gateway", "--"], None),
+    (&["gateway", "--", "-f"], Some(("-f", MOST))),
+    (&["gateway", "--", "--help"], Some(("--help", MOST))),
+    (&["gateway", "f", "--"], Some(("f", MOST))),
+    (&["gateway", "f", "g"], None),
+    (&["gateway", "--help"], None),
+    (&["gateway", "f", "-h"], None),
+    (&["Gateway", "f"], None),
+    (&["gateway", "f", "--turns", "1"], Some(("f", 1))),
+    (&["gateway", "f", "--turns", "0"], None),
+    (
+        &["gateway", "f", "--turns", "1099511627776"],
+        Some(("f", MOST)),
+    ),
+    (&["gateway", "f", "--turns", "1099511627777"], None),
+    (&["gateway", "--turns", "3", "f"], Some(("f", 3))),
+    (&["gateway", "f", "--turns=3"], Some(("f", 3))),
+    (&["gateway", "--turns=3", "--", "f"], Some(("f", 3))),
+    (&["gateway", "f", "--turns", "+3"], Some(("f", 3))),
+    (&["gateway", "f", "--turns", "003"], Some(("f", 3))),
+    (&["gateway", "f", "--turns=-3"], None),
+    (&["gateway", "f", "--turns"], None),
+    (&["gateway", "--turns", "f"], None),
+    (&["gateway", "f", "--turns", "3", "--turns", "3"], None),
+    (&["gateway", "f", "--", "--turns", "3"], None),
+    (&["gateway", "f", "--workers", "2"], None),
+    (&["gateway", "f", "--workers=0"], None),
+    (&["gateway", "--workers", "2", "f"], None),
+    (&["gateway", "f", "--turns", "3", "--workers", "2"], None),
     (&["pair"], None),
 ];
 
@@ -250,6 +286,17 @@ fn is_relay(
     is_read(rt, alloc, words, command);
 }
 
+fn is_gateway(rt: &impl Abort, alloc: Global, words: &[&str], given: Option<(&str, u64)>) {
+    let command = match given {
+        Some((word, turns)) => Some(Command::Gateway {
+            file: FileName::of(word),
+            turns,
+        }),
+        None => None,
+    };
+    is_read(rt, alloc, words, command);
+}
+
 fn are_read(rt: &impl Abort, alloc: Global, rows: &[Row]) {
     for (words, plain) in rows {
         is_plain(rt, alloc, words, *plain);
@@ -265,6 +312,12 @@ fn are_loads(rt: &impl Abort, alloc: Global, rows: &[LoadRow]) {
 fn are_relays(rt: &impl Abort, alloc: Global, rows: &[RelayRow]) {
     for (words, given) in rows {
         is_relay(rt, alloc, words, *given);
+    }
+}
+
+fn are_gateways(rt: &impl Abort, alloc: Global, rows: &[GatewayRow]) {
+    for (words, given) in rows {
+        is_gateway(rt, alloc, words, *given);
     }
 }
 
@@ -294,6 +347,6 @@ fn workers_are_64_at_most_or_none_given(rt: HostRuntime) {
 }
 
 #[test]
-fn a_gateway_is_not_taken(rt: HostRuntime) {
-    are_read(&rt, rt.alloc(), &SERVING);
+fn a_gateway_has_one_file_and_maybe_turns_but_no_workers(rt: HostRuntime) {
+    are_gateways(&rt, rt.alloc(), &GATEWAYS);
 }

@@ -65,6 +65,13 @@ fn all_send_from<O: OutLink + Drop>(
     outs.len() == 0
 }
 
+fn port_of(link: &UdpLink) -> u16 {
+    match link.local_peer() {
+        Ok(peer) => peer.port,
+        Err(_) => 0,
+    }
+}
+
 // Whether what the link and the links out send comes to the far end from the link's port.
 fn all_send_from_one_port<V: Live<L = UdpLink>>(
     live: &mut V,
@@ -75,10 +82,7 @@ fn all_send_from_one_port<V: Live<L = UdpLink>>(
     let Ok(mut devices) = live.open_relay(&ANY, &ANY, slots) else {
         return false;
     };
-    let port = match devices.link.local_peer() {
-        Ok(peer) => peer.port,
-        Err(_) => 0,
-    };
+    let port = port_of(&devices.link);
     let sent = devices.link.send(to, b"query").is_ok() && comes_from(far, port, b"query");
     let all = all_send_from(&mut devices.outs, slots, port, far, to);
     live.return_relay(devices);
@@ -99,6 +103,27 @@ fn the_devices_of_the_machine_are_opened_and_given_back(rt: HostRuntime) -> Resu
     Ok(())
 }
 
+// Whether what the link and the link out of a gateway send comes to the far end from the link's port.
+fn both_send_from_one_port<V: Live<L = UdpLink>>(live: &mut V, far: &UdpSocket, to: &Peer) -> bool {
+    let Ok(mut devices) = live.open_gateway(&ANY, &ANY) else {
+        return false;
+    };
+    let port = port_of(&devices.link);
+    let sent = devices.link.send(to, b"request").is_ok() && comes_from(far, port, b"request");
+    let handed_on = devices.out.send(to, b"packet").is_ok() && comes_from(far, port, b"packet");
+    live.return_gateway(devices);
+    sent && handed_on
+}
+
+#[test]
+fn a_gateway_hands_packets_on_from_the_port_of_its_link(rt: HostRuntime) -> Result<(), Fail> {
+    let (far, peer) = far_end(&rt)?;
+    let mut live = HostLive::new(rt, rt.alloc());
+    assert!(rt; both_send_from_one_port(&mut live, &far, &peer));
+    assert_eq!(rt; live.faults(), 0);
+    Ok(())
+}
+
 fn buffer(alloc: Global, size: usize) -> Result<Vec<u8>, AllocError>
     ensures { IfOk result (λ octets. vec_len octets ≡ size) }
 {
@@ -113,6 +138,18 @@ fn takes<F: Feed>(alloc: Global, feed: &mut F, octets: &[u8]) -> bool {
     feed.recv(buf, WAIT_MS) == Ok(FeedGot::Packet(octets.len())) && buf.starts_with(octets)
 }
 
+fn listens_at(link: &UdpLink, listen: &Peer) -> bool {
+    match link.local_peer() {
+        Ok(peer) => peer == *listen,
+        Err(_) => false,
+    }
+}
+
+// Whether the feed takes these octets, which the far end sends to its peer.
+fn takes_at(alloc: Global, feed: &mut UdpFeed, at: &Peer, far: &UdpSocket, octets: &[u8]) -> bool {
+    far.send_to(octets, address_of_loopback(at.port)).is_ok() && takes(alloc, feed, octets)
+}
+
 // Whether the link is at the first peer, and the feed takes what comes to the second.
 fn is_opened_at<V: Live<L = UdpLink, F = UdpFeed>>(
     alloc: Global,
@@ -124,16 +161,27 @@ fn is_opened_at<V: Live<L = UdpLink, F = UdpFeed>>(
     let Ok(mut devices) = live.open_relay(listen, feed, 1) else {
         return false;
     };
-    let is_at = match devices.link.local_peer() {
-        Ok(peer) => peer == *listen,
-        Err(_) => false,
-    };
-    let sent = far
-        .send_to(b"packet", address_of_loopback(feed.port))
-        .is_ok();
-    let taken = takes(alloc, &mut devices.feed, b"packet");
+    let is_at = listens_at(&devices.link, listen);
+    let taken = takes_at(alloc, &mut devices.feed, feed, far, b"packet");
     live.return_relay(devices);
-    is_at && sent && taken
+    is_at && taken
+}
+
+// Whether the link of a gateway is at the first peer, and its feed takes what comes to the second.
+fn is_gateway_opened_at<V: Live<L = UdpLink, F = UdpFeed>>(
+    alloc: Global,
+    live: &mut V,
+    listen: &Peer,
+    control: &Peer,
+    far: &UdpSocket,
+) -> bool {
+    let Ok(mut devices) = live.open_gateway(listen, control) else {
+        return false;
+    };
+    let is_at = listens_at(&devices.link, listen);
+    let taken = takes_at(alloc, &mut devices.control, control, far, b"close a");
+    live.return_gateway(devices);
+    is_at && taken
 }
 
 #[test]
@@ -145,6 +193,8 @@ fn the_link_and_the_feed_are_opened_where_it_is_asked(rt: HostRuntime) -> Result
     drop((one, two));
     let mut live = HostLive::new(rt, rt.alloc());
     assert!(rt; is_opened_at(rt.alloc(), &mut live, &listen, &feed, &far));
+    // What was given back is closed, so a gateway can have the same addresses.
+    assert!(rt; is_gateway_opened_at(rt.alloc(), &mut live, &listen, &feed, &far));
     Ok(())
 }
 
@@ -159,16 +209,30 @@ fn can_open<V: Live>(live: &mut V, listen: &Peer) -> Result<(), OpenFault> {
     }
 }
 
+// The same for a gateway.
+fn can_open_gateway<V: Live>(live: &mut V, listen: &Peer) -> Result<(), OpenFault> {
+    match live.open_gateway(listen, &ANY) {
+        Ok(devices) => {
+            live.return_gateway(devices);
+            Ok(())
+        }
+        Err(fault) => Err(fault),
+    }
+}
+
 #[test]
 fn an_address_that_is_taken_is_a_fault_until_it_is_free(rt: HostRuntime) -> Result<(), Fail> {
     let (far, peer) = far_end(&rt)?;
     let mut live = HostLive::new(rt, rt.alloc());
     assert_eq!(rt; can_open(&mut live, &peer), Err(OpenFault::Failed));
     assert_eq!(rt; live.faults(), 1);
+    assert_eq!(rt; can_open_gateway(&mut live, &peer), Err(OpenFault::Failed));
+    assert_eq!(rt; live.faults(), 2);
     drop(far);
     assert_eq!(rt; can_open(&mut live, &peer), Ok(()));
     // What was given back is closed.
+    assert_eq!(rt; can_open_gateway(&mut live, &peer), Ok(()));
     assert_eq!(rt; can_open(&mut live, &peer), Ok(()));
-    assert_eq!(rt; live.faults(), 1);
+    assert_eq!(rt; live.faults(), 2);
     Ok(())
 }

@@ -1,3 +1,2 @@
-mod Deciding
 mod Planning
 mod Runs

@@ -1,5 +1,5 @@
--- The plan of a settings file and a command is lawful, and there is room for what comes back.
-use Rattle.std.proofs.Common.{◌≡◌, ℕ, ◌≤◌, List, codes, Option, None, Some, unwrap_or, inl, inr, subst, sym, ap, arith, ◌∙◌}
+-- The plan of a settings file and a command is lawful.
+use Rattle.std.proofs.Common.{◌≡◌, ℕ, ◌≤◌, List, codes, Option, None, Some, unwrap_or, inl, inr, subst, sym, arith}
 use Rattle.toml.specs.Data.{Members}
 use Rattle.relay_machine.specs.Settings.{AreLawfulSettings}
 use Rattle.relay_machine.specs.declared.number_key.NumberRange.{NumberRange}
@@ -7,9 +7,9 @@ use Rattle.relay_serving.specs.Plans.{IsLawfulPlan}
 use Rattle.amt_config.specs.Key.{HasWholeNumber}
 use Rattle.amt_config.specs.Relay.{rotate_range, settings_of, workers_range}
 use Rattle.amt_config.specs.declared.config.RelayConfig.{RelayConfig}
-use Rattle.amt_live.specs.Sets.{HasRoom, less_room, more_room}
 use Rattle.relay_command.specs.Plans.{AreTurns, AreWorkers, plan_by}
-use Rattle.relay_command.specs.Reading.{IsConfigured}
+use Rattle.serving_commands.specs.Kinds.{relay_file}
+use Rattle.serving_commands.specs.Reading.{IsConfigured}
 
 -- a number of a file is in the range of its key, as its default is
 in_range : (word : List ℕ) (range : NumberRange) (table : Members) (number : ℕ) → HasWholeNumber word range table number
@@ -17,14 +17,14 @@ in_range : (word : List ℕ) (range : NumberRange) (table : Members) (number : �
 in_range word range table number (inl default) low high = (subst (λ (n : ℕ). range.least ≤ n) (sym default.1) low, subst (λ (n : ℕ). n ≤ range.most) (sym default.1) high)
 in_range word range table number (inr given) low high = given.1
 
-pub lawful_settings : (content : Option (List ℕ)) (config : RelayConfig) → IsConfigured content config → AreLawfulSettings (settings_of config)
+pub lawful_settings : (content : Option (List ℕ)) (config : RelayConfig) → IsConfigured relay_file content config → AreLawfulSettings (settings_of config)
 lawful_settings content config configured = configured.file.2.lawful
 
 few_workers : (config : RelayConfig) (workers : Option ℕ) → config.workers ≤ 64 → AreWorkers workers → unwrap_or workers config.workers ≤ 64
 few_workers config None most given = most
 few_workers config (Some number) most given = given
 
-pub lawful_plan : (content : Option (List ℕ)) (config : RelayConfig) (turns : ℕ) (workers : Option ℕ) → IsConfigured content config → AreTurns turns → AreWorkers workers
+pub lawful_plan : (content : Option (List ℕ)) (config : RelayConfig) (turns : ℕ) (workers : Option ℕ) → IsConfigured relay_file content config → AreTurns turns → AreWorkers workers
     → IsLawfulPlan (plan_by config turns workers)
 lawful_plan content config turns workers configured some given =
     let values = configured.file.2.values in
@@ -35,12 +35,3 @@ lawful_plan content config turns workers configured some given =
       few_workers = few_workers config workers few.1 given;
       rotates = omega (arith, rotate.0);
     }
-
--- what was opened can be given back
-pub has_room : (before after : Option ℕ) → after ≡ more_room before → HasRoom after
-has_room None after more = subst (λ (room : Option ℕ). HasRoom room) (sym more) tt
-has_room (Some sets) after more = subst (λ (room : Option ℕ). HasRoom room) (sym more) (omega arith)
-
-pub same_room : (before between after : Option ℕ) → between ≡ more_room before → after ≡ less_room between → after ≡ before
-same_room None between after more less = less ∙ ap less_room more
-same_room (Some sets) between after more less = less ∙ ap less_room more ∙ ap Some (omega arith)

@@ -1,10 +1,11 @@
 -- A run on devices that were opened and given back, put together.
-use Rattle.std.proofs.Common.{◌≡◌, ℕ, List, length, Option, IsSome, sym, subst, ◌∙◌}
+use Rattle.std.proofs.Common.{◌≡◌, ℕ, List, length, Option, IsSome, subst, ◌∙◌}
 use Rattle.amt_config.specs.Relay.{settings_of}
 use Rattle.amt_config.specs.declared.config.RelayConfig.{RelayConfig}
 use Rattle.amt_live.specs.Sets.{TakesFirst, less_room, more_room}
 use Rattle.amt_live.specs.declared.asked.Opening.{Opening}
 use Rattle.amt_live.specs.declared.asked.Opening.TheVariants.{Relay as AskedRelay}
+use Rattle.amt_live.specs.declared.devices.DeviceSet.TheVariants.{Relay as RelaySet}
 use Rattle.amt_live.specs.declared.devices.RelayDevices.{RelayDevices}
 use Rattle.amt_live.specs.declared.live.Live.{Ghosts as LiveTells}
 use Rattle.amt_ports.specs.Told.{Appends}
@@ -13,12 +14,15 @@ use Rattle.relay_machine.specs.declared.settings.Settings.{Settings}
 use Rattle.relay_serving.specs.Serving.{Serves}
 use Rattle.relay_serving.specs.declared.plan.ServePlan.{ServePlan}
 use Rattle.relay_serving.specs.declared.plan.ServeReport.{ServeReport}
-use Rattle.relay_command.specs.Lives.{Tells, links_out_seen, set_seen}
-use Rattle.relay_command.specs.Openings.{IsRefused, IsRefusedBy, opening_by, slots_of}
+use Rattle.relay_command.specs.Lives.{links_out_seen, set_seen}
+use Rattle.relay_command.specs.Openings.{IsRefusedBy, opening_by, slots_of}
 use Rattle.relay_command.specs.Plans.{plan_by}
-use Rattle.relay_command.specs.Reading.{IsConfigured}
 use Rattle.relay_command.specs.Running.{Runs, RunsBy}
-use Rattle.relay_command.proofs.Planning.{same_room}
+use Rattle.serving_commands.specs.Kinds.{relay_file}
+use Rattle.serving_commands.specs.Lives.{Tells}
+use Rattle.serving_commands.specs.Openings.{IsRefused}
+use Rattle.serving_commands.specs.Reading.{IsConfigured}
+use Rattle.serving_commands.proofs.Lending.{lent}
 
 -- the opening that was asked for is the plan's
 asks : (before after : Option (List Opening)) (config : RelayConfig) (plan : ServePlan) (slots : ℕ) → slots ≡ slots_of plan
@@ -26,8 +30,9 @@ asks : (before after : Option (List Opening)) (config : RelayConfig) (plan : Ser
 asks before after config plan slots is asked = subst (λ (number : ℕ). Appends before after (AskedRelay config.listen config.feed number)) is asked
 
 module _ {V L F C W O P T : Type 0} (live : LiveTells V L F C W O P T) where
-  pub refused_by : (content : Option (List ℕ)) (config : RelayConfig) (turns : ℕ) (workers : Option ℕ) (before after : V) (plan : ServePlan) → IsConfigured content config
-      → plan ≡ plan_by config turns workers → IsRefused live (opening_by config plan) before after → IsRefusedBy live content turns workers before after
+  pub refused_by : (content : Option (List ℕ)) (config : RelayConfig) (turns : ℕ) (workers : Option ℕ) (before after : V) (plan : ServePlan)
+      → IsConfigured relay_file content config → plan ≡ plan_by config turns workers → IsRefused live (opening_by config plan) before after
+      → IsRefusedBy live content turns workers before after
   refused_by content config turns workers before after plan configured is refused = record {
     config = config;
     configured = configured;
@@ -35,41 +40,38 @@ module _ {V L F C W O P T : Type 0} (live : LiveTells V L F C W O P T) where
   }
 
   pub refused : (config : RelayConfig) (plan : ServePlan) (before after : V) (slots : ℕ) → slots ≡ slots_of plan
-      → Appends (live.asked before) (live.asked after) (AskedRelay config.listen config.feed slots) → live.relays after ≡ live.relays before
+      → Appends (live.asked before) (live.asked after) (AskedRelay config.listen config.feed slots) → live.sets after ≡ live.sets before
       → live.returned after ≡ live.returned before → live.room after ≡ live.room before → IsRefused live (opening_by config plan) before after
-  refused config plan before after slots is asked relays returned room = record {
+  refused config plan before after slots is asked sets returned room = record {
     asked = asks _ _ config plan slots is asked;
-    relays = relays;
+    sets = sets;
     returned = returned;
     room = room;
   }
 
 module _ {V L F C W O P T : Type 0} (told : Tells V L F C W O P T) where
   pub ran : (config : RelayConfig) (plan : ServePlan) (before between after : V) (opened left : RelayDevices L F C W O P) (views : List View) (report : ServeReport)
-      (settings : Settings) (slots : ℕ) → settings ≡ settings_of config → slots ≡ slots_of plan
-      → length opened.outs ≡ slots → TakesFirst (told.live.relays before) (told.live.relays between) opened → told.live.room between ≡ more_room (told.live.room before)
+      (settings : Settings) (slots : ℕ) → settings ≡ settings_of config → slots ≡ slots_of plan → length opened.outs ≡ slots
       → Appends (told.live.asked before) (told.live.asked between) (AskedRelay config.listen config.feed slots)
-      → (IsSome (told.live.asked before) → IsSome (told.live.asked between)) → told.live.returned between ≡ told.live.returned before
-      → Appends (told.live.returned between) (told.live.returned after) left → (IsSome (told.live.returned between) → IsSome (told.live.returned after))
-      → told.live.room after ≡ less_room (told.live.room between) → told.live.relays after ≡ told.live.relays between → told.live.asked after ≡ told.live.asked between
+      → TakesFirst (told.live.sets before) (told.live.sets between) (RelaySet opened) → (IsSome (told.live.asked before) → IsSome (told.live.asked between))
+      → told.live.returned between ≡ told.live.returned before → told.live.room between ≡ more_room (told.live.room before)
+      → Appends (told.live.returned between) (told.live.returned after) (RelaySet left) → (IsSome (told.live.returned between) → IsSome (told.live.returned after))
+      → told.live.room after ≡ less_room (told.live.room between) → told.live.sets after ≡ told.live.sets between → told.live.asked after ≡ told.live.asked between
       → Serves settings plan (set_seen told opened) (set_seen told left) (links_out_seen told opened) (links_out_seen told left) views report
       → RunsBy told config plan before after report
-  ran config plan before between after opened left views report settings slots settings_are slots_are outs first more asked tells returned back tells_back less relays asked_after serves = record {
+  ran config plan before between after opened left views report settings slots settings_are slots_are outs asked first tells returned more back tells_back less sets asked_after serves = record {
     opened = opened;
-    asked = subst (λ (all : Option (List Opening)). Appends (told.live.asked before) all (opening_by config plan)) (sym asked_after) (asks _ _ config plan slots slots_are asked);
-    first = subst (λ (all : Option (List (RelayDevices L F C W O P))). TakesFirst (told.live.relays before) all opened) (sym relays) first;
-    outs = outs ∙ slots_are;
     left = left;
+    lent = lent told.live (opening_by config plan) (RelaySet opened) (RelaySet left) before between after (asks _ _ config plan slots slots_are asked) first tells returned more
+        back tells_back less sets asked_after;
+    outs = outs ∙ slots_are;
     views = views;
     serves = subst (λ (one : Settings). Serves one plan (set_seen told opened) (set_seen told left) (links_out_seen told opened) (links_out_seen told left) views report) settings_are serves;
-    returned = subst (λ (all : Option (List (RelayDevices L F C W O P))). Appends all (told.live.returned after) left) returned back;
-    tells_asked = λ some. subst (λ (all : Option (List Opening)). IsSome all) (sym asked_after) (tells some);
-    tells_returned = λ some. tells_back (subst (λ (all : Option (List (RelayDevices L F C W O P))). IsSome all) (sym returned) some);
-    room = same_room _ _ _ more less;
   }
 
-  pub ran_by : (content : Option (List ℕ)) (config : RelayConfig) (turns : ℕ) (workers : Option ℕ) (before after : V) (plan : ServePlan) (report : ServeReport) → IsConfigured content config
-      → plan ≡ plan_by config turns workers → RunsBy told config plan before after report → Runs told content turns workers before after report
+  pub ran_by : (content : Option (List ℕ)) (config : RelayConfig) (turns : ℕ) (workers : Option ℕ) (before after : V) (plan : ServePlan) (report : ServeReport)
+      → IsConfigured relay_file content config → plan ≡ plan_by config turns workers → RunsBy told config plan before after report
+      → Runs told content turns workers before after report
   ran_by content config turns workers before after plan report configured is runs = record {
     config = config;
     configured = configured;

@@ -1,15 +1,13 @@
 -- How devices are opened for a run.
-use Rattle.std.specs.Prelude.{◌≡◌, ℕ, List, Option, max}
+use Rattle.std.specs.Prelude.{ℕ, List, Option, max}
 use Rattle.amt_config.specs.declared.config.RelayConfig.{RelayConfig}
 use Rattle.amt_live.specs.declared.asked.Opening.{Opening}
 use Rattle.amt_live.specs.declared.asked.Opening.TheVariants.{Relay as AskedRelay}
 use Rattle.amt_live.specs.declared.live.Live.{Ghosts as LiveTells}
-use Rattle.amt_ports.specs.Told.{Appends}
 use Rattle.relay_serving.specs.declared.plan.ServePlan.{ServePlan}
 use Rattle.relay_command.specs.Plans.{plan_by}
-use Rattle.relay_command.specs.Reading.{IsConfigured}
-use Rattle.relay_command.specs.declared.fault.RelayFault.{RelayFault}
-use Rattle.relay_command.specs.declared.fault.RelayFault.TheVariants.{Memory, NotOpened, NotRead, Settings, TooLong}
+use Rattle.serving_commands.specs.Kinds.{relay_file}
+use Rattle.serving_commands.specs.Openings.{IsRefusedFor}
 
 -- a link out for each worker, and one where there is none
 abbrev pub slots_of : ServePlan → ℕ
@@ -19,24 +17,7 @@ slots_of plan = max plan.workers 1
 abbrev pub opening_by : RelayConfig → ServePlan → Opening
 opening_by config plan = AskedRelay config.listen config.feed (slots_of plan)
 
-module _ {V L F C W O P T : Type 0} (live : LiveTells V L F C W O P T) where
-  -- the devices were asked for once; none were handed out or given back
-  pub record IsRefused (opening : Opening) (before after : V) : Type 0 where
-    pub asked : Appends (live.asked before) (live.asked after) opening
-    pub relays : live.relays after ≡ live.relays before
-    pub returned : live.returned after ≡ live.returned before
-    pub room : live.room after ≡ live.room before
-
-  -- those that the settings file and the command ask for
-  pub record IsRefusedBy (content : Option (List ℕ)) (turns : ℕ) (workers : Option ℕ) (before after : V) : Type 0 where
-    pub config : RelayConfig
-    pub configured : IsConfigured content config
-    pub refused : IsRefused (opening_by config (plan_by config turns workers)) before after
-
--- a fault that is found before devices are asked for
-abbrev pub ComesFirst : RelayFault → Type 0
-ComesFirst NotRead = Unit {0}
-ComesFirst TooLong = Unit {0}
-ComesFirst (Settings fault) = Unit {0}
-ComesFirst NotOpened = ⊥
-ComesFirst Memory = ⊥
+-- what the settings and the command ask for was refused
+abbrev pub IsRefusedBy : {V L F C W O P T : Type 0} → LiveTells V L F C W O P T → Option (List ℕ) → ℕ → Option ℕ → V → V → Type 0
+IsRefusedBy live content turns workers before after =
+    IsRefusedFor live relay_file (λ config. opening_by config (plan_by config turns workers)) content before after

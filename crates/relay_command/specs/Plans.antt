@@ -11,7 +11,7 @@ AreTurns turns = (1 ≤ turns) × (turns ≤ 1099511627776)
 abbrev pub AreWorkers : Option ℕ → Type 0
 AreWorkers workers = IfSome workers (λ number. number ≤ 64)
 
--- the workers that the command gives outweigh those of the file, of which the secret's seconds are taken
+-- the workers that the command gives win over those of the file, of which the secret's seconds are taken
 abbrev pub plan_by : RelayConfig → ℕ → Option ℕ → ServePlan
 plan_by config turns workers =
     record { turns = turns; workers = unwrap_or workers config.workers; rotate_ms = config.rotate_seconds * 1000 }

@@ -1,25 +1,7 @@
--- What is written of a relay's run, and of a settings file with a fault.
-use Rattle.std.specs.Prelude.{ℕ, List, [], ◌∷◌, ◌++◌, codes, decimal}
-use Rattle.amt_config.specs.declared.fault.ConfigFault.{ConfigFault}
-use Rattle.amt_config.specs.declared.fault.ConfigFault.TheVariants as faults
-use Rattle.relay_serving.specs.declared.plan.End.{End}
-use Rattle.relay_serving.specs.declared.plan.End.TheVariants.{Turns, Closed}
+-- What is written of a relay's run.
+use Rattle.std.specs.Prelude.{ℕ, List, ◌++◌, codes}
 use Rattle.relay_serving.specs.declared.plan.ServeReport.{ServeReport}
-
--- all turns were done, or the link or the feed was closed
-abbrev pub IsDone : End → Type 0
-IsDone Turns = Unit {0}
-IsDone Closed = Unit {0}
-IsDone end = ⊥
-
--- the word of such an end
-abbrev pub end_word : End → List ℕ
-end_word Turns = codes "turns"
-end_word end = codes "closed"
-
--- a name and its count on a line
-abbrev pub count_line : List ℕ → ℕ → List ℕ
-count_line name count = name ++ (codes " " ++ (decimal count ++ (10 ∷ [])))
+use Rattle.serving_commands.specs.Texts.{count_line, head_text}
 
 -- what came in: `datagrams N`, `packets N`, `updated N` and `torn N`
 unfoldable pub taken_text : ServeReport → List ℕ
@@ -47,20 +29,4 @@ kept_text report =
 
 -- `end turns` or `end closed`, `turns N`, and the other counts
 unfoldable pub report_text : ServeReport → List ℕ
-report_text report =
-    (codes "end " ++ (end_word report.end ++ (10 ∷ [])))
-    ++ (count_line (codes "turns") report.turns ++ (taken_text report ++ (sent_text report ++ kept_text report)))
-
--- `amt: settings: FAULT KEY`
-abbrev pub key_line : List ℕ → List ℕ → List ℕ
-key_line word key = codes "amt: settings: " ++ (word ++ (codes " " ++ (key ++ (10 ∷ []))))
-
--- the line of a settings file's fault; octets that are no table have no key, and want of memory has no line
-unfoldable pub settings_line : ConfigFault → List ℕ
-settings_line faults.NotToml = codes "amt: settings: toml" ++ (10 ∷ [])
-settings_line (faults.Unknown key) = key_line (codes "unknown") key
-settings_line (faults.Missing key) = key_line (codes "missing") key
-settings_line (faults.Kind key) = key_line (codes "kind") key
-settings_line (faults.Address key) = key_line (codes "address") key
-settings_line (faults.Range key) = key_line (codes "range") key
-settings_line faults.Memory = []
+report_text report = head_text report.end report.turns ++ (taken_text report ++ (sent_text report ++ kept_text report))

@@ -6,17 +6,12 @@
 //! Standard: none of its own; the texts stand in docs/FORMATS.md.
 #![tactic(auto)]
 
-mod fault;
 mod plan;
-mod reading;
 mod report;
 mod running;
-mod settings;
 
-pub use fault::RelayFault;
 pub use report::report_text;
 pub use running::run_relay;
-pub use settings::settings_line;
 
 #[cfg(test)]
 mod tests;

@@ -1,20 +1,12 @@
 //! The text of a run's report. It knows no device.
 ghost use Rattle.std.specs.Prelude.{◌≡◌, ◌++◌, IfOk, OnOk};
-ghost use Rattle.relay_command.specs.Texts.{IsDone, end_word, kept_text, report_text, sent_text, taken_text};
+ghost use Rattle.relay_command.specs.Texts.{kept_text, report_text, sent_text, taken_text};
+ghost use Rattle.serving_commands.specs.Texts.{IsDone};
 
 use amt_values::Bytes;
-use relay_serving::{End, ServeReport};
+use relay_serving::ServeReport;
+use serving_commands::report_head;
 use std::alloc::{AllocError, Global};
-
-fn end_word(end: End) -> &'static str
-    requires done { IsDone end }
-    ensures { result.now ≡ end_word end }
-{
-    match end {
-        End::Turns => "turns",
-        _ => "closed",
-    }
-}
 
 // What came in.
 #[tactic(auto, unfolding(crate::specs::Texts::taken_text))]
@@ -59,9 +51,7 @@ pub fn report_text(alloc: Global, report: &ServeReport) -> Result<Bytes, AllocEr
     requires done { IsDone report.now.end }
     ensures { IfOk result (λ text. text ≡ report_text report.now) }
 {
-    let mut text = Bytes::new(alloc);
-    write!(text, "end {}\n", end_word(report.end))?;
-    write!(text, "turns {}\n", report.turns)?;
+    let mut text = report_head(alloc, report.end, report.turns)?;
     append_taken(&mut text, report)?;
     append_sent(&mut text, report)?;
     append_kept(&mut text, report)?;

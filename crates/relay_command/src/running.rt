@@ -1,22 +1,23 @@
 //! A relay is run on devices that are opened for it. It must not know what they are over.
 ghost use Rattle.std.specs.Prelude.{◌≡◌, ◌⊎◌, ℕ, List, IfErr, IfOk, IsErrOf, OnErr, Some};
 ghost use Rattle.amt_ports.specs.Causes.{Rose};
-ghost use Rattle.relay_command.specs.Lives.{tells};
-ghost use Rattle.relay_command.specs.Openings.{ComesFirst, IsRefused, IsRefusedBy, opening_by};
+ghost use Rattle.relay_command.specs.Openings.{IsRefusedBy, opening_by};
 ghost use Rattle.relay_command.specs.Plans.{AreTurns, AreWorkers};
-ghost use Rattle.relay_command.specs.Reading.{Decides, TellsFault};
 ghost use Rattle.relay_command.specs.Running.{Runs, RunsBy};
 ghost use Rattle.relay_machine.specs.Settings.{AreLawfulSettings};
 ghost use Rattle.amt_config.specs.Relay.{settings_of};
 ghost use Rattle.relay_serving.specs.Plans.{IsLawfulPlan};
+ghost use Rattle.serving_commands.specs.Kinds.{relay_file};
+ghost use Rattle.serving_commands.specs.Lives.{tells};
+ghost use Rattle.serving_commands.specs.Openings.{ComesFirst, IsRefused};
+ghost use Rattle.serving_commands.specs.Reading.{Decides, TellsFault};
 
-use crate::fault::RelayFault;
 use crate::plan::plan_by;
-use crate::reading::read_settings;
 use amt_config::RelayConfig;
 use amt_live::{Live, OpenFault, RelayDevices};
 use amt_ports::Files;
 use relay_serving::{ServePlan, ServeReport, Served, serve_relay};
+use serving_commands::{ServingFault, read_settings};
 use std::alloc::Global;
 use std::sync::Wait;
 
@@ -81,10 +82,10 @@ fn run_by<R: Wait, V: Live>(
 }
 
 /// Runs a relay by the settings file of this name, for so many turns at most; a number of workers that is
-/// given outweighs the file's.
+/// given wins over the file's.
 ///
 /// It reads the file, opens the devices that the settings want, runs the relay on them, and gives back what it
-/// leaves of them whatever the end: a run that was ended by a device or by want of memory has a report too.
+/// leaves of them whatever the end: a run that was ended by a device or out of memory has a report too.
 pub fn run_relay<R: Wait, F: Files, V: Live>(
     rt: &R,
     alloc: Global,
@@ -93,42 +94,42 @@ pub fn run_relay<R: Wait, F: Files, V: Live>(
     workers: Option<u32>,
     files: &mut F,
     live: &mut V,
-) -> Result<ServeReport, RelayFault>
+) -> Result<ServeReport, ServingFault>
     requires turns { AreTurns turns }
     requires workers { AreWorkers workers }
     ensures ran { IfOk result (λ report. ∥ Runs
         (tells V.Live V.L.Link V.F.Feed V.C.Clock V.W.Words V.O.OutLink V.P.starts V.P.faults)
         (F.contents files.old file.now) turns workers live.old live.new report ∥₁) }
 
-    ensures unread { IsErrOf result RelayFault.NotRead
+    ensures unread { IsErrOf result ServingFault.NotRead
         → Rose (F.faults files.old) (F.faults files.new) }
-    ensures absent { F.lacks files.old file.now → IsErrOf result RelayFault.NotRead }
-    ensures fault { IfErr result (TellsFault (F.contents files.old file.now)) }
+    ensures absent { F.lacks files.old file.now → IsErrOf result ServingFault.NotRead }
+    ensures fault { IfErr result (TellsFault relay_file (F.contents files.old file.now)) }
     ensures decided { (octets : List ℕ) → F.contents files.old file.now ≡ Some octets
-        → Decides octets result }
-    ensures unopened { IsErrOf result RelayFault.NotOpened
+        → Decides relay_file octets result }
+    ensures unopened { IsErrOf result ServingFault.NotOpened
         → Rose (V.faults live.old) (V.faults live.new) }
-    ensures refused { IsErrOf result RelayFault.NotOpened
+    ensures refused { IsErrOf result ServingFault.NotOpened
         → IsRefusedBy V.Live (F.contents files.old file.now) turns workers live.old live.new }
-    ensures memory { IsErrOf result RelayFault.Memory → (live.new ≡ live.old)
+    ensures memory { IsErrOf result ServingFault.Memory → (live.new ≡ live.old)
         ⊎ IsRefusedBy V.Live (F.contents files.old file.now) turns workers live.old live.new }
 
     ensures unasked { IfErr result (λ fault. ComesFirst fault → live.new ≡ live.old) }
-    ensures calm_live { ¬ IsErrOf result RelayFault.NotOpened
+    ensures calm_live { ¬ IsErrOf result ServingFault.NotOpened
         → V.faults live.new ≡ V.faults live.old }
-    ensures calm_files { ¬ IsErrOf result RelayFault.NotRead
+    ensures calm_files { ¬ IsErrOf result ServingFault.NotRead
         → F.faults files.new ≡ F.faults files.old }
     ensures same_files { (other : List ℕ)
         → F.contents files.new other ≡ F.contents files.old other }
 {
-    let config = match read_settings(alloc, file, files) {
+    let config = match read_settings::<RelayConfig, F>(alloc, file, files) {
         Ok(config) => config,
         Err(fault) => return Err(fault),
     };
     let plan = plan_by(&config, turns, workers);
     match run_by(rt, alloc, &config, &plan, live) {
         Ok(report) => Ok(report),
-        Err(OpenFault::Failed) => Err(RelayFault::NotOpened),
-        Err(OpenFault::Memory) => Err(RelayFault::Memory),
+        Err(OpenFault::Failed) => Err(ServingFault::NotOpened),
+        Err(OpenFault::Memory) => Err(ServingFault::Memory),
     }
 }

@@ -1,11 +1,8 @@
-//! The texts of reports and of the faults of settings files.
+//! The texts of reports.
 
-ghost use Rattle.std.specs.Prelude.{◌≢◌};
-ghost use Rattle.relay_command.specs.Texts.{IsDone};
+ghost use Rattle.serving_commands.specs.Texts.{IsDone};
 
-use crate::{report_text, settings_line};
-use amt_config::ConfigFault;
-use amt_values::Bytes;
+use crate::report_text;
 use relay_serving::{End, ServeReport};
 use std::alloc::Global;
 use std::process::Abort;
@@ -69,29 +66,4 @@ fn reports(rt: HostRuntime) -> Result<(), Fail> {
         &NOTHING,
         "end closed\nturns 0\ndatagrams 0\npackets 0\nupdated 0\ntorn 0\nsent 0\nunsent 0\ninline 0\nstarved 0\nlate 0\nowed 0\npublished 0\napart 0\n",
     )
-}
-
-fn is_told(rt: &impl Abort, alloc: Global, fault: &ConfigFault, line: &str) -> Result<(), Fail>
-    requires { fault.now ≢ ConfigFault.Memory }
-{
-    let written = settings_line(alloc, fault)?;
-    assert_eq!(rt; written.as_slice(), line.as_bytes());
-    Ok(())
-}
-
-#[test]
-fn faults_of_settings(rt: HostRuntime) -> Result<(), Fail> {
-    let alloc = rt.alloc();
-    let fault = ConfigFault::NotToml;
-    is_told(&rt, alloc, &fault, "amt: settings: toml\n")?;
-    let fault = ConfigFault::Unknown(Bytes::copied(alloc, b"colour")?);
-    is_told(&rt, alloc, &fault, "amt: settings: unknown colour\n")?;
-    let fault = ConfigFault::Missing(Bytes::copied(alloc, b"listen")?);
-    is_told(&rt, alloc, &fault, "amt: settings: missing listen\n")?;
-    let fault = ConfigFault::Kind(Bytes::copied(alloc, b"relay")?);
-    is_told(&rt, alloc, &fault, "amt: settings: kind relay\n")?;
-    let fault = ConfigFault::Address(Bytes::copied(alloc, b"feed")?);
-    is_told(&rt, alloc, &fault, "amt: settings: address feed\n")?;
-    let fault = ConfigFault::Range(Bytes::copied(alloc, b"workers")?);
-    is_told(&rt, alloc, &fault, "amt: settings: range workers\n")
 }

@@ -9,10 +9,10 @@ use Rattle.response_mac.specs.declared.secret.Secret.{Secret}
 use Rattle.relay_machine.specs.Courses.{each_after}
 use Rattle.relay_machine.specs.declared.event.Event.{Event}
 use Rattle.relay_machine.specs.declared.settings.Settings.{Settings}
-use Rattle.replication_workers.specs.Replication.{HasTried}
-use Rattle.replication_workers.proofs.Trying.{HasTried-none, HasTried-then}
+use Rattle.serving_turns.specs.Devices.{LinkSeen}
+use Rattle.serving_turns.specs.Tried.{HasTried}
+use Rattle.serving_turns.proofs.Trying.{HasTried-none, HasTried-then}
 use Rattle.relay_serving.specs.Counting.{HasAnswered}
-use Rattle.relay_serving.specs.Devices.{LinkSeen}
 use Rattle.relay_serving.specs.Sending.{answers_after, answers_to}
 use Rattle.relay_serving.specs.declared.counts.Counts.{Counts}
 

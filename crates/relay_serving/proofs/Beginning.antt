@@ -1,7 +1,7 @@
 -- What the first stage of a turn comes to.
-use Rattle.std.proofs.Common.{◌≡◌, ℕ, max, ◌<◌, false, true≢false, List, [], ◌∷◌, ◌++◌, length, Option, Some, Result, Ok, Err, refl, sym, ap, subst, ◌∙◌, arith}
+use Rattle.std.proofs.Common.{◌≡◌, ℕ, max, ◌<◌, true, false, true≢false, List, [], ◌∷◌, ◌++◌, length, Option, Some, Result, Ok, Err, refl, sym, ap, subst, ◌∙◌, arith}
 use Rattle.std.proofs.lemmas.List.{append_assoc}
-use Rattle.std.specs.Prelude.{OnOk, is_err}
+use Rattle.std.specs.Prelude.{MatchResult, OnOk, is_err}
 use Rattle.std.specs.List.{filter_map}
 use Rattle.amt_ports.specs.Told.{Appends, AppendsAll}
 use Rattle.amt_ports.specs.declared.out_link.OutLink.{Ghosts}
@@ -10,11 +10,11 @@ use Rattle.relay_machine.proofs.Onward.{now_of-moment}
 use Rattle.relay_machine.specs.Events.{moment_in, now_of}
 use Rattle.relay_machine.specs.declared.event.Event.{Event}
 use Rattle.relay_machine.specs.declared.event.Event.TheVariants.{Moment, Rotate}
+use Rattle.serving_turns.specs.declared.end.End.{End}
 use Rattle.relay_serving.specs.Events.{rotation, secret_by}
 use Rattle.relay_serving.specs.Servers.{HasEvents, events_in, now_in, published_in}
 use Rattle.relay_serving.specs.Stages.{BeginsSo, IsBegunBy}
 use Rattle.relay_serving.specs.Turns.{is_due, renewed_after}
-use Rattle.relay_serving.specs.declared.plan.End.{End}
 use Rattle.relay_serving.specs.declared.server.Server.{Server}
 use Rattle.relay_serving.proofs.Events.{IsSameRun-then}
 use Rattle.relay_serving.proofs.Turning.{now_in-kept}
@@ -49,6 +49,10 @@ max_twice earlier answer = grind arith
 pub ok_gives : {E P : Type 0} (result : Result (Unit {0}) E) → is_err result ≡ false → OnOk result P → P
 ok_gives (Ok unit) fine fact = fact
 ok_gives (Err fault) fine fact = absurd (true≢false fine)
+
+pub err_gives : {T E : Type 0} (P Q : Type 0) (result : Result T E) → is_err result ≡ true → MatchResult result (λ _. P) (λ _. Q) → Q
+err_gives P Q (Ok value) wrong fact = absurd (true≢false (sym wrong))
+err_gives P Q (Err fault) wrong fact = fact
 
 module _ {O : Type 0} {g : Ghosts O} {T : Type 0} where
   -- the moment was taken, and then the secret, if all of it was drawn

@@ -33,9 +33,9 @@ use Rattle.relay_machine.specs.Events.{now_of, secrets_of}
 use Rattle.relay_machine.specs.Settings.{table_settings_of}
 use Rattle.relay_machine.specs.Updates.{forwardable_records, report_in}
 use Rattle.relay_machine.proofs.Courses.{each_more, sum_more}
+use Rattle.serving_turns.specs.Devices.{LinkSeen}
 use Rattle.replication_workers.specs.Replication.{to_peer}
 use Rattle.relay_serving.specs.Counting.{HasAnswered, IsCounted, is_datagram, is_packet, one_if, with_outcome}
-use Rattle.relay_serving.specs.Devices.{LinkSeen}
 use Rattle.relay_serving.specs.declared.counts.Counts.{Counts}
 
 count_more : {X : Type 0} (test : X → Bool) (xs : List X) (x : X) → count_by test (xs ++ x ∷ []) ≡ count_by test xs + one_if (test x)

@@ -1,16 +1,15 @@
 -- In which turns a run ends, and why.
-use Rattle.std.proofs.Common.{◌≡◌, ℕ, List, Result, Ok, Err, refl, subst}
+use Rattle.std.proofs.Common.{ℕ, List, Result, Ok, Err, refl, subst}
 use Rattle.std.specs.Prelude.{IsErrOf}
 use Rattle.amt_ports.specs.declared.feed.FeedAnswer.{FeedAnswer}
-use Rattle.amt_ports.specs.declared.feed.FeedAnswer.TheVariants.{Nothing as NothingFed, Closed as FeedClosed}
-use Rattle.amt_ports.specs.declared.link.LinkAnswer.TheVariants.{Nothing as NothingCame, Closed as LinkClosed}
-use Rattle.relay_serving.specs.Bursts.{AreAsked, IsCausedBy}
+use Rattle.serving_turns.specs.Answers.{Taken}
+use Rattle.serving_turns.specs.Bursts.{AreAsked}
+use Rattle.serving_turns.specs.declared.end.End.{End}
+use Rattle.serving_turns.specs.declared.end.End.TheVariants.{Turns, Closed, LinkFault, FeedFault, WordsFault, SpawnFault, Memory}
 use Rattle.relay_serving.specs.Runs.{IsCut, IsUnfed, IsUnheard, at_moment, at_datagram, at_packet, of_link, of_feed}
 use Rattle.relay_serving.specs.Stages.{IsBegunBy}
 use Rattle.relay_serving.specs.Turning.{IsTurnBy}
-use Rattle.relay_serving.specs.Turns.{Ahead, HasBegun, HasHeard, IsDatagram, IsPacket, Progress, Taken, Turn, is_due, moment_of_turn}
-use Rattle.relay_serving.specs.declared.plan.End.{End}
-use Rattle.relay_serving.specs.declared.plan.End.TheVariants.{Turns, Closed, LinkFault, FeedFault, WordsFault, SpawnFault, Memory}
+use Rattle.relay_serving.specs.Turns.{Ahead, HasBegun, HasHeard, Progress, Turn, from_feed, from_link, is_due, moment_of_turn}
 
 module _ (rotate : ℕ) (progress : Progress) (turn : Turn) where
   -- in its first stage
@@ -25,7 +24,7 @@ module _ (rotate : ℕ) (progress : Progress) (turn : Turn) where
   cut_begun SpawnFault begun unheard = begun
 
   -- when the link is asked
-  pub cut_heard : (end : End) → HasBegun rotate progress turn → AreAsked IsDatagram NothingCame LinkClosed (Err end) turn.heard
+  pub cut_heard : (end : End) → HasBegun rotate progress turn → AreAsked from_link (Err end) turn.heard
       → (IsErrOf {T = Unit {0}} (Err end) FeedFault → ⊥) → IsUnfed Ahead turn → IsCut end rotate progress turn
   cut_heard Memory begun asked other unfed = at_datagram begun asked unfed
   cut_heard Closed begun asked other unfed = of_link begun asked unfed
@@ -36,7 +35,7 @@ module _ (rotate : ℕ) (progress : Progress) (turn : Turn) where
   cut_heard SpawnFault begun asked other unfed = asked
 
   -- when the feed is asked
-  pub cut_fed : (end : End) → HasHeard rotate progress turn → AreAsked IsPacket NothingFed FeedClosed (Err end) turn.fed
+  pub cut_fed : (end : End) → HasHeard rotate progress turn → AreAsked from_feed (Err end) turn.fed
       → (IsErrOf {T = Unit {0}} (Err end) LinkFault → ⊥) → IsCut end rotate progress turn
   cut_fed Memory heard asked other = at_packet heard asked
   cut_fed Closed heard asked other = of_feed heard asked
@@ -46,20 +45,16 @@ module _ (rotate : ℕ) (progress : Progress) (turn : Turn) where
   cut_fed Turns heard asked other = asked
   cut_fed SpawnFault heard asked other = asked
 
--- a cause that this result hasn't
-pub not_caused : {A : Type 0} (result : Result A End) (cause : End) (before after : ℕ) → (IsErrOf result cause → ⊥) → after ≡ before → IsCausedBy result cause before after
-not_caused result cause before after not same = record { rose = λ is. absurd (not is); calm = λ _. same }
-
 -- a success has none
 pub no_error : (cause : End) → IsErrOf {T = Unit {0}} (Ok tt) cause → ⊥
 no_error cause is = cc is
 
 -- what the feed's asking comes to
 pub turn_fed : (rotate : ℕ) (progress : Progress) (turn : Turn) (result : Result (Unit {0}) End) → HasHeard rotate progress turn
-    → AreAsked IsPacket NothingFed FeedClosed result turn.fed → (IsErrOf result LinkFault → ⊥) → IsTurnBy result rotate progress turn
+    → AreAsked from_feed result turn.fed → (IsErrOf result LinkFault → ⊥) → IsTurnBy result rotate progress turn
 turn_fed rotate progress turn (Ok unit) heard asked other = record { heard = heard; feed = asked }
 turn_fed rotate progress turn (Err end) heard asked other = cut_fed rotate progress turn end heard asked other
 
 -- no word is drawn then
-pub no_words_fed : (fed : List (Taken FeedAnswer)) (result : Result (Unit {0}) End) → AreAsked IsPacket NothingFed FeedClosed result fed → IsErrOf result WordsFault → ⊥
-no_words_fed fed result asked is = subst (λ (one : Result (Unit {0}) End). AreAsked IsPacket NothingFed FeedClosed one fed) is asked
+pub no_words_fed : (fed : List (Taken FeedAnswer)) (result : Result (Unit {0}) End) → AreAsked from_feed result fed → IsErrOf result WordsFault → ⊥
+no_words_fed fed result asked is = subst (λ (one : Result (Unit {0}) End). AreAsked from_feed one fed) is asked

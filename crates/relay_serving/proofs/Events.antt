@@ -1,15 +1,13 @@
 -- The answers and the events of several askings in a row.
-use Rattle.std.proofs.Common.{◌≡◌, List, [], ◌∷◌, ◌++◌, map, Option, refl, sym, ap, subst, ◌∙◌, append_assoc, append-nil}
-use Rattle.std.proofs.lemmas.List.{map-append}
+use Rattle.std.proofs.Common.{◌≡◌, List, [], ◌++◌, refl, sym, ap, ◌∙◌, append_assoc, append-nil}
 use Rattle.std.proofs.lemmas.List.Elements.{filter_map-append}
 use Rattle.amt_ports.specs.declared.feed.FeedAnswer.{FeedAnswer}
 use Rattle.amt_ports.specs.declared.link.LinkAnswer.{LinkAnswer}
 use Rattle.amt_ports.specs.declared.out_link.OutLink.{Ghosts}
 use Rattle.relay_machine.specs.declared.event.Event.{Event}
-use Rattle.relay_serving.specs.Devices.{AnswersAll}
-use Rattle.relay_serving.specs.Events.{datagram_of, datagrams_in, packet_of, packets_in, unless_starved}
+use Rattle.serving_turns.specs.Answers.{Taken, unless_starved}
+use Rattle.relay_serving.specs.Events.{datagram_of, datagrams_in, packet_of, packets_in}
 use Rattle.relay_serving.specs.Servers.{HasEvents, IsAsBefore, IsSameRun, events_in}
-use Rattle.relay_serving.specs.Turns.{Taken}
 use Rattle.relay_serving.specs.declared.server.Server.{Server}
 
 pub datagrams_in-append : (heard more : List (Taken LinkAnswer)) → datagrams_in (heard ++ more) ≡ datagrams_in heard ++ datagrams_in more
@@ -17,21 +15,6 @@ datagrams_in-append heard more = filter_map-append (λ (one : Taken LinkAnswer).
 
 pub packets_in-append : (fed more : List (Taken FeedAnswer)) → packets_in (fed ++ more) ≡ packets_in fed ++ packets_in more
 packets_in-append fed more = filter_map-append (λ (one : Taken FeedAnswer). unless_starved one.starved (packet_of one.answer)) fed more
-
--- answers, and then others
-pub AnswersAll-then : {X : Type 0} (closed : X) (before now after : Option (List X)) (answers more : List X)
-    → AnswersAll closed before now answers → AnswersAll closed now after more → AnswersAll closed before after (answers ++ more)
-AnswersAll-then {X} closed before now after [] more first second = subst (λ (from : Option (List X)). AnswersAll closed from after more) first second
-AnswersAll-then {X} closed before now after (answer ∷ answers) more first second =
-    (first.0, first.1, AnswersAll-then closed first.0 now after answers more first.2 second)
-
--- the same of what was taken
-pub AnswersAll-taken : {X : Type 0} (closed : X) (before now after : Option (List X)) (answers more : List (Taken X))
-    → AnswersAll closed before now (map (λ one. one.answer) answers) → AnswersAll closed now after (map (λ one. one.answer) more)
-    → AnswersAll closed before after (map (λ one. one.answer) (answers ++ more))
-AnswersAll-taken {X} closed before now after answers more first second =
-    subst (λ (all : List X). AnswersAll closed before after all) (sym (map-append (λ (one : Taken X). one.answer) answers more))
-    (AnswersAll-then closed before now after (map (λ one. one.answer) answers) (map (λ one. one.answer) more) first second)
 
 list_then : {A : Type 0} (before now after first second : List A) → now ≡ before ++ first → after ≡ now ++ second → after ≡ before ++ (first ++ second)
 list_then before now after first second is then = then ∙ ap (λ (list : List _). list ++ second) is ∙ append_assoc before first second

@@ -12,17 +12,20 @@ use Rattle.amt_values.specs.declared.peer.Peer.{Peer}
 use Rattle.relay_machine.specs.Answers.{sends_of}
 use Rattle.relay_machine.specs.declared.event.Event.{Event}
 use Rattle.relay_machine.specs.declared.event.Event.TheVariants.{Datagram, Packet}
-use Rattle.replication_workers.specs.Replication.{HasTried, to_peer}
+use Rattle.serving_turns.specs.Answers.{Taken, taken}
+use Rattle.serving_turns.specs.Devices.{FeedSeen, LinkSeen}
+use Rattle.serving_turns.proofs.Lists.{AnswersAll-taken, one_answer}
+use Rattle.serving_turns.proofs.SoFar.{GoesOn}
+use Rattle.replication_workers.specs.Replication.{to_peer}
+use Rattle.serving_turns.specs.Tried.{HasTried}
 use Rattle.relay_serving.specs.Counting.{HasAnswered}
-use Rattle.relay_serving.specs.Devices.{AnswersAll, FeedSeen, LinkSeen}
 use Rattle.relay_serving.specs.Events.{datagrams_in, packets_in}
 use Rattle.relay_serving.specs.Sending.{answers_after}
-use Rattle.relay_serving.specs.Servers.{Feeds, HasEvents, Hears, IsAsBefore, counts_in, events_in, first_in, published_in, settings_in}
-use Rattle.relay_serving.specs.Turns.{Taken, taken}
+use Rattle.relay_serving.specs.Servers.{Feeds, FeedsBy, HasEvents, Hears, HearsBy, IsAsBefore, counts_in, events_in, first_in, published_in, settings_in}
 use Rattle.relay_serving.specs.declared.counts.Counts.{Counts}
 use Rattle.relay_serving.specs.declared.server.Server.{Server}
 use Rattle.relay_serving.proofs.Answering.{HasAnswered-none, HasAnswered-then, answers_after-append}
-use Rattle.relay_serving.proofs.Events.{AnswersAll-taken, HasEvents-none, HasEvents-then, datagrams_in-append, packets_in-append}
+use Rattle.relay_serving.proofs.Events.{HasEvents-none, HasEvents-then, datagrams_in-append, packets_in-append}
 
 -- a link of which the same was seen
 HasAnswered-from : (link now later : LinkSeen) (counts counts' : Counts) (wanted : List (Peer × List ℕ)) → now.tried ≡ link.tried → now.send_faults ≡ link.send_faults
@@ -36,9 +39,6 @@ HasAnswered-from link now later counts counts' wanted same_tried same_faults ans
   tried = subst (λ (tried : Option (List TriedSend)). HasTried tried later.tried link.send_faults later.send_faults wanted answered.more answered.missed) same_tried
       (subst (λ (faults : ℕ). HasTried now.tried later.tried faults later.send_faults wanted answered.more answered.missed) same_faults answered.tried);
 }
-
-one_answer : {X : Type 0} (closed : X) (before now after : Option (List X)) (answer : X) → Answers closed before now answer → after ≡ now → AnswersAll closed before after (answer ∷ [])
-one_answer closed before now after answer is same = (now, is, same)
 
 module _ {O : Type 0} {g : Ghosts O} {T : Type 0} where
   pub Hears-then : (before now after : Server O T g) (link link_now link_after : LinkSeen) (heard more : List (Taken LinkAnswer))
@@ -57,6 +57,9 @@ module _ {O : Type 0} {g : Ghosts O} {T : Type 0} where
         answered = subst (HasAnswered link link_after (counts_in before) (counts_in after)) all
             (HasAnswered-then link link_now link_after (counts_in before) (counts_in now) (counts_in after) (wanted (datagrams_in heard)) others first.answered second.answered);
       }
+
+  pub hears_on : GoesOn (HearsBy {O = O} {g = g} {T = T})
+  hears_on before now after heard more first second = Hears-then before.0 now.0 after.0 before.1 now.1 after.1 heard more first second
 
   quiet_answered : (before after : Server O T g) (link link' : LinkSeen) → IsAsBefore before after → link'.tried ≡ link.tried → link'.send_faults ≡ link.send_faults
       → HasAnswered link link' (counts_in before) (counts_in after) []
@@ -108,6 +111,9 @@ module _ {O : Type 0} {g : Ghosts O} {T : Type 0} where
     same_unsent = second.same_unsent ∙ first.same_unsent;
     came = AnswersAll-taken FeedClosed feed.coming feed_now.coming feed_after.coming fed more first.came second.came;
   }
+
+  pub feeds_on : GoesOn (FeedsBy {O = O} {g = g} {T = T})
+  feeds_on before now after fed more first second = Feeds-then before.0 now.0 after.0 before.1 now.1 after.1 fed more first second
 
   -- the feed wasn't asked, or it failed
   pub Feeds-none : (before after : Server O T g) (feed feed' : FeedSeen) → IsAsBefore before after → feed'.coming ≡ feed.coming → Feeds before after feed feed' []

@@ -1,7 +1,6 @@
 pub mod AnswerSends
 pub mod Answering
 pub mod Beginning
-pub mod Bursts
 pub mod Counting
 pub mod Cuts
 pub mod Drawing
@@ -14,7 +13,6 @@ pub mod Packets
 pub mod Running
 pub mod Silence
 pub mod SlotsServed
-pub mod SoFar
 pub mod Started
 pub mod Starting
 pub mod Together

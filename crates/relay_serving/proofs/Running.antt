@@ -1,7 +1,8 @@
 -- What the turns of a run come to together.
-use Rattle.std.proofs.Common.{◌≡◌, ◌≢◌, ℕ, ◌+◌, ◌*◌, ◌≤◌, ◌<◌, List, [], ◌∷◌, ◌++◌, length, map, Option, None, Some, Ok, Err, refl, sym, ap, subst, ◌∙◌, arith, length-append}
+use Rattle.std.proofs.Common.{◌≡◌, ◌≢◌, ℕ, ◌+◌, ◌*◌, ◌≤◌, ◌<◌, Bool, false, cond, List, [], ◌∷◌, ◌++◌, length, map, Option, None, Some, Ok, Err, refl, sym, ap, subst, ◌∙◌, arith, length-append}
 use Rattle.std.proofs.lemmas.Grind.{flat_map-append}
-use Rattle.std.proofs.lemmas.List.{append_assoc, map-append}
+use Rattle.std.proofs.lemmas.List.{append-nil, append_assoc, map-append}
+use Rattle.std.proofs.lemmas.List.Elements.{filter-append}
 use Rattle.std.specs.List.{count_by}
 use Rattle.amt_ports.specs.Causes.{Rose}
 use Rattle.amt_ports.specs.Told.{AppendsAll}
@@ -11,27 +12,29 @@ use Rattle.amt_ports.specs.declared.link.LinkAnswer.{LinkAnswer}
 use Rattle.amt_ports.specs.declared.link.LinkAnswer.TheVariants.{Closed as LinkClosed}
 use Rattle.amt_ports.specs.declared.out_link.OutLink.{Ghosts}
 use Rattle.amt_values.specs.declared.peer.Peer.{Peer}
+use Rattle.endpoint_membership.specs.declared.change.Change.{Change}
 use Rattle.relay_machine.specs.Events.{now_of}
 use Rattle.relay_machine.specs.declared.event.Event.{Event}
 use Rattle.relay_machine.specs.Published.{published_log}
 use Rattle.relay_machine.proofs.PublishedLog.{published_log-none}
-use Rattle.relay_serving.specs.Bursts.{IsCauseOf, IsCausedBy}
+use Rattle.serving_turns.specs.Causes.{IsCauseOf, IsCausedBy}
+use Rattle.serving_turns.specs.Devices.{AnswersAll}
+use Rattle.serving_turns.specs.declared.end.End.{End}
+use Rattle.serving_turns.specs.declared.end.End.TheVariants.{Turns, LinkFault, FeedFault, WordsFault}
+use Rattle.serving_turns.proofs.Lists.{AnswersAll-then, AppendsAll-none, AppendsAll-then}
 use Rattle.relay_serving.specs.Counting.{HasAnswered, is_packet}
-use Rattle.relay_serving.specs.Devices.{AnswersAll, Devices}
-use Rattle.relay_serving.specs.Events.{events_from, events_of_turn}
+use Rattle.relay_serving.specs.Devices.{Devices}
+use Rattle.relay_serving.specs.Events.{events_from, events_of_turn, published_turns}
 use Rattle.relay_serving.specs.Runs.{feed_answers, link_answers, moments_given, words_drawn}
 use Rattle.relay_serving.specs.Sending.{answers_after}
 use Rattle.relay_serving.specs.Servers.{counts_in, events_in, first_in, now_in, owing_in, published_in, settings_in}
 use Rattle.relay_serving.specs.Turning.{AreCausesOf, EndsIn, Goes, RunsSo, TurnsSo, progress_in}
-use Rattle.relay_serving.specs.Turns.{AreWhole, IsWhole, Progress, Turn, after_turn, no_progress}
-use Rattle.relay_serving.specs.declared.plan.End.{End}
-use Rattle.relay_serving.specs.declared.plan.End.TheVariants.{LinkFault, FeedFault, WordsFault}
+use Rattle.relay_serving.specs.Turns.{Ahead, AreWhole, Done, IsWhole, Progress, Publishing, Refused, Turn, after_turn, is_done, no_progress}
 use Rattle.relay_serving.specs.declared.plan.ServePlan.{ServePlan}
 use Rattle.relay_serving.specs.declared.server.Server.{Server}
 use Rattle.relay_serving.proofs.Answering.{HasAnswered-none, HasAnswered-then, answers_after-append}
 use Rattle.relay_serving.proofs.Cuts.{no_error}
-use Rattle.relay_serving.proofs.Drawing.{AppendsAll-none, AppendsAll-then}
-use Rattle.relay_serving.proofs.Events.{AnswersAll-then, HasEvents-none, IsAsBefore-same, IsSameRun-then}
+use Rattle.relay_serving.proofs.Events.{HasEvents-none, IsAsBefore-same, IsSameRun-then}
 use Rattle.relay_serving.proofs.Silence.{now_of-none}
 
 -- one whole turn more
@@ -50,6 +53,33 @@ events_from-more rotate progress last (one ∷ turns) turn whole =
     let next = after_turn rotate progress one in
     ap (λ (list : List Event). head ++ list) (events_from-more rotate next last turns turn whole.1)
     ∙ sym (append_assoc head (events_from next.latest turns) (events_from last.latest (turn ∷ [])))
+
+-- whole turns are published
+whole_published : (rotate : ℕ) (progress last : Progress) (turns : List Turn) → AreWhole rotate progress turns last → published_turns turns ≡ turns
+whole_published rotate progress last [] whole = refl
+whole_published rotate progress last (one ∷ turns) whole =
+    ap (λ (publishing : Publishing). cond (is_done publishing) (one ∷ published_turns turns) (published_turns turns)) whole.0.heard.published
+    ∙ ap (λ (later : List Turn). one ∷ later) (whole_published rotate (after_turn rotate progress one) last turns whole.1)
+
+-- and one more if its publishing was done
+published_more : (rotate : ℕ) (progress last : Progress) (turns : List Turn) (turn : Turn) → AreWhole rotate progress turns last
+    → published_turns (turns ++ turn ∷ []) ≡ turns ++ cond (is_done turn.publishing) (turn ∷ []) []
+published_more rotate progress last turns turn whole =
+    filter-append (λ (one : Turn). is_done one.publishing) turns (turn ∷ [])
+    ∙ ap (λ (list : List Turn). list ++ cond (is_done turn.publishing) (turn ∷ []) []) (whole_published rotate progress last turns whole)
+
+isnt_none : {X : Type 0} (one : X) (list : List X) → one ∷ list ≡ [] → ⊥
+isnt_none one list none = cc none
+
+no_item : {X : Type 0} (list : List X) → (list ≢ [] → ⊥) → list ≡ []
+no_item [] none = refl
+no_item (one ∷ list) none = absurd (none (isnt_none one list))
+
+ahead_isnt : Ahead ≡ Done → ⊥
+ahead_isnt same = cc same
+
+refused_isnt : Refused ≡ Done → ⊥
+refused_isnt same = cc same
 
 later_none : {X : Type 0} (one two : List X) → one ++ two ≡ [] → two ≡ []
 later_none [] two none = none
@@ -190,17 +220,78 @@ module _ {O : Type 0} {g : Ghosts O} {T : Type 0} where
         few_packets = omega (arith, packets_so_far, packets);
       }
 
+  -- where nothing is owed all is published
+  all_published : (server : Server O T g) → (owing_in server ≢ [] → ⊥) → published_in server ≡ published_log (settings_in server) (first_in server) (events_in server)
+  all_published server none =
+      sym (append-nil (published_in server)) ∙ ap (λ (list : List Change). published_in server ++ list) (sym (no_item (owing_in server) none)) ∙ server.log
+
+  module _ (rotate : ℕ) (renewed renewed' : Option ℕ) (before now after : Server O T g) (devices devices' devices'' : Devices) (done : ℕ) (end : End)
+      (run : IsRunning rotate renewed before now devices devices' done) (next : TurnsSo rotate renewed renewed' now after devices' devices'' (Err end)) where
+    abbrev log_by : List Turn → List Change
+    log_by turns = published_log (settings_in after) (first_in after) (events_in before ++ events_from (now_in before) turns)
+
+    abbrev turns_by : Bool → List Turn
+    turns_by published = run.turns ++ cond published (next.turn ∷ []) []
+
+    when_done : next.turn.publishing ≡ Done → events_in after ≡ events_in before ++ events_from (now_in before) (run.turns ++ next.turn ∷ [])
+        → published_in after ≡ log_by (turns_by (is_done next.turn.publishing))
+    when_done is events =
+        all_published after (λ some. next.owed some is) ∙ ap (published_log (settings_in after) (first_in after)) events
+        ∙ ap (λ (publishing : Publishing). log_by (turns_by (is_done publishing))) (sym is)
+
+    when_not : (publishing : Publishing) → next.turn.publishing ≡ publishing → is_done publishing ≡ false → next.turn.publishing ≢ Done
+        → published_in after ≡ log_by (turns_by (is_done next.turn.publishing))
+    when_not publishing is not isnt =
+        let same = next.goes.events.same in
+        next.unpublished isnt ∙ all_published now run.none_owed
+        ∙ (λ i. published_log (sym same.same_settings i) (sym same.same_first i) (run.goes.events.events i))
+        ∙ ap log_by (sym (append-nil run.turns))
+        ∙ ap (λ (published : Bool). log_by (turns_by published)) (sym (ap is_done is ∙ not))
+
+    published_at : (publishing : Publishing) → next.turn.publishing ≡ publishing → events_in after ≡ events_in before ++ events_from (now_in before) (run.turns ++ next.turn ∷ [])
+        → published_in after ≡ log_by (turns_by (is_done next.turn.publishing))
+    published_at Done is events = when_done is events
+    published_at Ahead is events = when_not Ahead is refl (λ same. ahead_isnt (sym is ∙ same))
+    published_at Refused is events = when_not Refused is refl (λ same. refused_isnt (sym is ∙ same))
+
+    -- what is published where the run ended in a turn
+    published_cut : events_in after ≡ events_in before ++ events_from (now_in before) (run.turns ++ next.turn ∷ []) → published_in after ≡ log_by (published_turns (run.turns ++ next.turn ∷ []))
+    published_cut events =
+        published_at next.turn.publishing refl events
+        ∙ ap log_by (sym (published_more rotate no_progress (progress_in now renewed) run.turns next.turn run.are_whole))
+
+  -- all turns are done
+  pub RunsSo-all : (plan : ServePlan) (renewed : Option ℕ) (before now : Server O T g) (devices devices' : Devices) (done : ℕ) → IsRunning plan.rotate_ms renewed before now devices devices' done
+      → done ≡ plan.turns → RunsSo plan before now devices devices' Turns plan.turns
+  RunsSo-all plan renewed before now devices devices' done run all =
+      let whole = whole_published plan.rotate_ms no_progress (progress_in now renewed) run.turns run.are_whole in
+      record {
+        whole = run.turns;
+        cut = None;
+        last = progress_in now renewed;
+        goes = run.goes;
+        are_whole = run.are_whole;
+        ended = (refl, sym run.done_is ∙ all);
+        done_is = sym all ∙ run.done_is;
+        owed = λ some. absurd (run.none_owed some);
+        published = all_published now run.none_owed
+            ∙ ap (published_log (settings_in now) (first_in now)) (run.goes.events.events ∙ ap (λ (turns : List Turn). events_in before ++ events_from (now_in before) turns) (sym whole));
+      }
+
   -- the run ended in a turn
   pub RunsSo-cut : (plan : ServePlan) (renewed renewed' : Option ℕ) (before now after : Server O T g) (devices devices' devices'' : Devices) (done : ℕ) (end : End)
       → IsRunning plan.rotate_ms renewed before now devices devices' done → TurnsSo plan.rotate_ms renewed renewed' now after devices' devices'' (Err end) → done < plan.turns
       → RunsSo plan before after devices devices'' end done
-  RunsSo-cut plan renewed renewed' before now after devices devices' devices'' done end run next few = record {
-    whole = run.turns;
-    cut = Some next.turn;
-    last = progress_in now renewed;
-    goes = Goes-then before now after devices devices' devices'' run.turns next.turn (events_then plan.rotate_ms renewed before now run.turns next.turn run.since run.are_whole) run.goes next.goes;
-    are_whole = run.are_whole;
-    ended = (subst (λ (n : ℕ). n < plan.turns) run.done_is few, next.is_turn);
-    done_is = run.done_is;
-    owed = λ some. (run.turns, next.turn, refl, next.owed some);
-  }
+  RunsSo-cut plan renewed renewed' before now after devices devices' devices'' done end run next few =
+      let goes = Goes-then before now after devices devices' devices'' run.turns next.turn (events_then plan.rotate_ms renewed before now run.turns next.turn run.since run.are_whole) run.goes next.goes in
+      record {
+        whole = run.turns;
+        cut = Some next.turn;
+        last = progress_in now renewed;
+        goes = goes;
+        are_whole = run.are_whole;
+        ended = (subst (λ (n : ℕ). n < plan.turns) run.done_is few, next.is_turn);
+        done_is = run.done_is;
+        owed = λ some. (run.turns, next.turn, refl, next.owed some);
+        published = published_cut plan.rotate_ms renewed renewed' before now after devices devices' devices'' done end run next goes.events.events;
+      }

@@ -13,9 +13,9 @@ use Rattle.relay_machine.specs.Events.{moment_in, now_of}
 use Rattle.relay_machine.specs.declared.event.Event.{Event}
 use Rattle.relay_machine.specs.declared.event.Event.TheVariants.{Packet}
 use Rattle.relay_machine.specs.declared.settings.Settings.{Settings}
-use Rattle.relay_serving.specs.Events.{datagram_of, datagrams_in, moment_event, packet_of, packets_in, rotation, unless_starved}
+use Rattle.serving_turns.specs.Answers.{Taken, unless_starved}
+use Rattle.relay_serving.specs.Events.{datagram_of, datagrams_in, moment_event, packet_of, packets_in, rotation}
 use Rattle.relay_serving.specs.Sending.{answers_after}
-use Rattle.relay_serving.specs.Turns.{Taken}
 use Rattle.relay_serving.proofs.Answering.{answers_after-append}
 
 module _ (settings : Settings) (first : Secret) where

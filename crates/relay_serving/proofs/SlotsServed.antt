@@ -23,6 +23,7 @@ use Rattle.relay_machine.specs.declared.event.Event.{Event}
 use Rattle.relay_machine.specs.declared.event.Event.TheVariants.{Moment, Datagram, Packet, Rotate}
 use Rattle.relay_machine.specs.Settings.{table_settings_of}
 use Rattle.relay_machine.specs.declared.settings.Settings.{Settings}
+use Rattle.serving_turns.specs.Devices.{OutSeen, out_seen}
 use Rattle.replication_workers.specs.Dispatchers.{slot_by, slot_for}
 use Rattle.replication_workers.specs.Jobs.{Handled}
 use Rattle.replication_workers.specs.Replicators.{limit_of, out_of, view_of}
@@ -31,7 +32,7 @@ use Rattle.replication_workers.specs.Workers.{HasHandled}
 use Rattle.replication_workers.specs.declared.job.Job.{Job}
 use Rattle.replication_workers.specs.declared.replicator.Replicator.{Replicator}
 use Rattle.relay_serving.specs.Counting.{is_packet}
-use Rattle.relay_serving.specs.Devices.{OutSeen, out_seen, outs_seen}
+use Rattle.relay_serving.specs.Devices.{outs_seen}
 use Rattle.relay_serving.specs.GivenOut.{AreOfPublisher, jobs_at, slots_after, starts_in}
 use Rattle.relay_serving.specs.Sending.{due_of, dues_after}
 use Rattle.relay_serving.specs.Serving.{AreServed, IsServed, SlotServed, logs_in}

@@ -1,6 +1,6 @@
 -- Replicators that are made and taken apart from the end of a list, and slots without jobs.
-use Rattle.std.proofs.Common.{◌≡◌, ℕ, ◌+◌, ◌≤◌, List, [], ◌∷◌, ◌++◌, length, map, reverse, refl, sym, ap, subst, ◌∙◌, append_assoc, arith, length-append, false, true≢false}
-use Rattle.std.specs.Prelude.{Result, Ok, Err, IfOk, OnOk, Some}
+use Rattle.std.proofs.Common.{◌≡◌, ℕ, suc, ◌+◌, ◌≤◌, List, [], ◌∷◌, ◌++◌, length, map, reverse, refl, sym, ap, subst, ◌∙◌, append_assoc, arith, length-append, false, true≢false}
+use Rattle.std.specs.Prelude.{Result, Ok, Err, IfOk, OnOk, Option, Some}
 use Rattle.core.specs.Result.{is_err}
 use Rattle.std.specs.List.{All, enumerate_from}
 use Rattle.std.proofs.lemmas.List.{length-map, length-reverse, reverse-append}
@@ -11,11 +11,13 @@ use Rattle.published_table.specs.Views.{IsNew, publisher_of, terms_of}
 use Rattle.published_table.specs.declared.terms.Terms.{Terms}
 use Rattle.published_table.specs.declared.view.View.{View}
 use Rattle.relay_machine.specs.declared.settings.Settings.{Settings}
-use Rattle.replication_workers.specs.Backs.{AllButOneBack, AreBack, IsBack, SlotBack}
+use Rattle.serving_turns.specs.Devices.{OutSeen}
+use Rattle.replication_workers.specs.Backs.{AreBack, IsBack, SlotBack}
 use Rattle.replication_workers.specs.Replicators.{limit_of, out_of, view_of}
 use Rattle.replication_workers.specs.SlotStates.{SlotState, new_slot}
+use Rattle.replication_workers.specs.Starting.{AllButOneBack, HaveStarted}
 use Rattle.replication_workers.specs.declared.replicator.Replicator.{Replicator}
-use Rattle.relay_serving.specs.Devices.{OutSeen, outs_seen}
+use Rattle.relay_serving.specs.Devices.{outs_seen}
 use Rattle.relay_serving.specs.GivenOut.{AreOfPublisher, jobs_at, slots_after, starts_in, terms_by}
 use Rattle.relay_serving.specs.Starting.{AreStarts, IsStart, LosesOne}
 
@@ -102,15 +104,20 @@ module _ {O : Type 0} {g : Ghosts O} where
   seen_apart [] later = refl
   seen_apart (one ∷ earlier) later = ap (λ (list : List OutSeen). record { tried = g.tried (out_of one); faults = g.faults (out_of one) } ∷ list) (seen_apart earlier later)
 
-  -- one of the outs is gone
-  pub loses_one : (given : List (Replicator O g)) (outs : List O) (views : List View) → AllButOneBack given outs views
-      → LosesOne (outs_seen g.tried g.faults (map out_of given)) (outs_seen g.tried g.faults outs)
-  loses_one given outs views back = record {
+  seen_length : (replicators : List (Replicator O g)) → length (outs_seen g.tried g.faults (map out_of replicators)) ≡ length replicators
+  seen_length [] = refl
+  seen_length (one ∷ replicators) = ap suc (seen_length replicators)
+
+  -- the out of the worker whose start was refused is gone
+  pub loses_one : (given : List (Replicator O g)) (before after : Option ℕ) (outs : List O) (views : List View) → AllButOneBack given before after outs views
+      → LosesOne (outs_seen g.tried g.faults (map out_of given)) (outs_seen g.tried g.faults outs) before after
+  loses_one given before after outs views back = record {
     earlier = outs_seen g.tried g.faults (map out_of back.earlier);
     lost = record { tried = g.tried (out_of back.refused); faults = g.faults (out_of back.refused) };
     later = outs_seen g.tried g.faults (map out_of back.later);
     outs_are = ap (λ (list : List (Replicator O g)). outs_seen g.tried g.faults (map out_of list)) back.given_are ∙ seen_apart back.earlier (back.refused ∷ back.later);
     left_are = backs_seen _ outs views back.back ∙ seen_apart back.earlier back.later;
+    started = subst (λ (count : ℕ). HaveStarted count before after) (sym (seen_length back.earlier)) back.started;
   }
 
   -- slots as they were started

@@ -84,9 +84,11 @@ each_reads settings log published (slot ∷ slots) within served near begins =
 within_all : (published owed all : ℕ) → published + owed ≡ all → published ≤ all
 within_all published owed all is = omega (arith, is)
 
-pub read_prefixes : (settings : Settings) (log : List Change) (slots : List SlotServed) (views : List View) (published owed apart : ℕ) → All (IsServed settings) slots
-    → map (λ (slot : SlotServed). slot.view) slots ≡ views → ArePublished log views published owed apart → apart ≡ 0 → ReadPrefixesOf log slots
-read_prefixes settings log slots views published owed apart served are of none =
+pub read_prefixes : (settings : Settings) (log prefix : List Change) (slots : List SlotServed) (views : List View) (published owed apart : ℕ) → All (IsServed settings) slots
+    → map (λ (slot : SlotServed). slot.view) slots ≡ views → ArePublished log prefix views published owed apart → apart ≡ 0 → ReadPrefixesOf log slots
+read_prefixes settings log prefix slots views published owed apart served are of none =
+    let taken : take published log ≡ prefix = ap (λ (number : ℕ). take number log) of.published_is ∙ of.begins in
     each_reads settings log published slots (within_all published owed (length log) of.all) served
     (subst (All (λ view. is_apart published view ≡ false)) (sym are) (none_apart published views (sym of.apart_is ∙ none)))
-    (subst (All (λ view. BeginsWith (seen view) (take published log))) (sym are) of.each)
+    (subst (All (λ view. BeginsWith (seen view) (take published log))) (sym are)
+    (subst (λ (list : List Change). All (λ view. BeginsWith (seen view) list) views) (sym taken) of.each))

@@ -13,12 +13,14 @@ use Rattle.response_mac.specs.declared.secret.Secret.{Secret}
 use Rattle.relay_machine.specs.Events.{moment_in, now_of}
 use Rattle.relay_machine.specs.declared.event.Event.{Event}
 use Rattle.relay_machine.specs.declared.settings.Settings.{Settings}
-use Rattle.relay_serving.specs.Devices.{AnswersAll, Devices}
+use Rattle.serving_turns.specs.Answers.{Taken}
+use Rattle.serving_turns.specs.Devices.{AnswersAll}
+use Rattle.relay_serving.specs.Devices.{Devices}
 use Rattle.relay_serving.specs.Events.{datagrams_in, moment_event, packets_in, rotation}
 use Rattle.relay_serving.specs.Sending.{answers_after}
 use Rattle.relay_serving.specs.Servers.{Feeds, HasEvents, Hears, IsSameRun, counts_in, events_in, first_in, now_in, settings_in}
 use Rattle.relay_serving.specs.Turning.{Goes}
-use Rattle.relay_serving.specs.Turns.{Publishing, Taken, Turn, moment_of_turn}
+use Rattle.relay_serving.specs.Turns.{Publishing, Turn, moment_of_turn}
 use Rattle.relay_serving.specs.declared.server.Server.{Server}
 use Rattle.relay_serving.proofs.Answering.{HasAnswered-alike, answers_after-append}
 use Rattle.relay_serving.proofs.Events.{IsSameRun-none, IsSameRun-then}

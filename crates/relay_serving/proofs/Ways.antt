@@ -4,22 +4,23 @@ use Rattle.std.proofs.lemmas.List.Sums.{sum_by-append}
 use Rattle.std.specs.Prelude.{IsErrOf}
 use Rattle.std.specs.List.{count_by}
 use Rattle.core.specs.List.{cons_option}
-use Rattle.amt_ports.specs.declared.feed.FeedAnswer.TheVariants.{Nothing as NothingFed, Closed as FeedClosed}
 use Rattle.amt_ports.specs.declared.link.LinkAnswer.{LinkAnswer}
 use Rattle.amt_ports.specs.declared.link.LinkAnswer.TheVariants.{Datagram as DatagramCame, Nothing as NothingCame, Closed as LinkClosed}
 use Rattle.amt_ports.specs.declared.out_link.OutLink.{Ghosts}
 use Rattle.relay_machine.specs.declared.event.Event.{Event}
-use Rattle.relay_serving.specs.Bursts.{AreAsked}
+use Rattle.serving_turns.specs.Answers.{Taken, unless_starved}
+use Rattle.serving_turns.specs.Bursts.{AreAsked}
+use Rattle.serving_turns.specs.Devices.{FeedSeen, LinkSeen, words_seen}
+use Rattle.serving_turns.specs.declared.end.End.{End}
+use Rattle.serving_turns.specs.declared.end.End.TheVariants.{FeedFault, LinkFault, Memory}
 use Rattle.relay_serving.specs.Counting.{is_packet}
-use Rattle.relay_serving.specs.Devices.{FeedSeen, LinkSeen, devices_seen, words_seen}
-use Rattle.relay_serving.specs.Events.{datagram_of, datagrams_in, unless_starved}
-use Rattle.relay_serving.specs.Servers.{FeedsSo, HearsSo, counts_in, events_in, owing_in}
+use Rattle.relay_serving.specs.Devices.{devices_seen}
+use Rattle.relay_serving.specs.Events.{datagram_of, datagrams_in}
+use Rattle.relay_serving.specs.Servers.{FeedsSo, HearsSo, counts_in, events_in, owing_in, published_in}
 use Rattle.relay_serving.specs.Runs.{at_publishing}
 use Rattle.relay_serving.specs.Stages.{BeginsSo}
 use Rattle.relay_serving.specs.Turning.{TurnsSo, progress_in}
-use Rattle.relay_serving.specs.Turns.{Ahead, Done, Refused, IsDatagram, IsPacket, Taken}
-use Rattle.relay_serving.specs.declared.plan.End.{End}
-use Rattle.relay_serving.specs.declared.plan.End.TheVariants.{FeedFault, LinkFault, Memory}
+use Rattle.relay_serving.specs.Turns.{Ahead, Done, Refused, from_feed, from_link}
 use Rattle.relay_serving.specs.declared.server.Server.{Server}
 use Rattle.relay_serving.proofs.Cuts.{cut_begun, cut_heard, turn_fed}
 use Rattle.relay_serving.proofs.Events.{IsAsBefore-same}
@@ -75,15 +76,16 @@ module _ {O : Type 0} {g : Ghosts O} {T : Type 0} where
           latest = λ fine. absurd (true≢false (sym fine));
           renewed_is = λ fine. absurd (true≢false (sym fine));
           owed = λ some same. cc same;
+          unpublished = λ _. begins.same_published;
         }
 
     -- when the link is asked
     pub ends_heard : (before began after : Server O T g) (link link' : LinkSeen) (feed : FeedSeen) (end : End)
         → BeginsSo rotate renewed renewed' before began clock clock' words words' (Ok tt) → counts_in began ≡ counts_in before
-        → HearsSo began after link link' (AreAsked IsDatagram NothingCame LinkClosed (Err end)) → (IsErrOf {T = Unit {0}} (Err end) FeedFault → ⊥)
+        → HearsSo began after link link' (AreAsked from_link (Err end)) → (IsErrOf {T = Unit {0}} (Err end) FeedFault → ⊥)
         → TurnsSo rotate renewed renewed' before after (devices_seen clock (words_seen words faults) link feed None 0) (devices_seen clock' (words_seen words' faults') link' feed None 0) (Err end)
     ends_heard before began after link link' feed end begins counts hears other =
-        let turn = turn_of begins.answer begins.starved begins.drawn hears.heard Ahead [] in
+        let turn = turn_of begins.answer begins.starved begins.drawn hears.answers Ahead [] in
         let stages : HasStages before after _ _ turn = record {
           began = began;
           heard = after;
@@ -92,7 +94,7 @@ module _ {O : Type 0} {g : Ghosts O} {T : Type 0} where
           same_counts = counts;
           clock = begins.clock_gave;
           words = begins.words_gave;
-          hears = hears.hears;
+          hears = hears.goes;
           keeps = Keeps-none after;
           feeds = Feeds-none after after feed feed (IsAsBefore-same after) refl;
         } in
@@ -103,15 +105,16 @@ module _ {O : Type 0} {g : Ghosts O} {T : Type 0} where
           latest = λ fine. absurd (true≢false (sym fine));
           renewed_is = λ fine. absurd (true≢false (sym fine));
           owed = λ some same. cc same;
+          unpublished = λ _. hears.goes.same_published ∙ begins.same_published;
         }
 
     -- when what is owed is published
     pub ends_refused : (before began heard after : Server O T g) (link link' : LinkSeen) (feed : FeedSeen)
         → BeginsSo rotate renewed renewed' before began clock clock' words words' (Ok tt) → counts_in began ≡ counts_in before
-        → HearsSo began heard link link' (AreAsked IsDatagram NothingCame LinkClosed (Ok tt)) → Keeps heard after
+        → HearsSo began heard link link' (AreAsked from_link (Ok tt)) → Keeps heard after → published_in after ≡ published_in heard
         → TurnsSo rotate renewed renewed' before after (devices_seen clock (words_seen words faults) link feed None 0) (devices_seen clock' (words_seen words' faults') link' feed None 0) (Err Memory)
-    ends_refused before began heard after link link' feed begins counts hears keeps =
-        let turn = turn_of begins.answer begins.starved begins.drawn hears.heard Refused [] in
+    ends_refused before began heard after link link' feed begins counts hears keeps same =
+        let turn = turn_of begins.answer begins.starved begins.drawn hears.answers Refused [] in
         let stages : HasStages before after _ _ turn = record {
           began = began;
           heard = heard;
@@ -120,7 +123,7 @@ module _ {O : Type 0} {g : Ghosts O} {T : Type 0} where
           same_counts = counts;
           clock = begins.clock_gave;
           words = begins.words_gave;
-          hears = hears.hears;
+          hears = hears.goes;
           keeps = keeps;
           feeds = Feeds-none after after feed feed (IsAsBefore-same after) refl;
         } in
@@ -131,16 +134,17 @@ module _ {O : Type 0} {g : Ghosts O} {T : Type 0} where
           latest = λ fine. absurd (true≢false (sym fine));
           renewed_is = λ fine. absurd (true≢false (sym fine));
           owed = λ some same. cc same;
+          unpublished = λ _. same ∙ hears.goes.same_published ∙ begins.same_published;
         }
 
     -- when the feed is asked, or not at all
     pub ends_fed : (before began heard published after : Server O T g) (link link' : LinkSeen) (feed feed' : FeedSeen) (result : Result (Unit {0}) End)
         → BeginsSo rotate renewed renewed' before began clock clock' words words' (Ok tt) → counts_in began ≡ counts_in before
-        → HearsSo began heard link link' (AreAsked IsDatagram NothingCame LinkClosed (Ok tt)) → Keeps heard published
-        → FeedsSo published after feed feed' (AreAsked IsPacket NothingFed FeedClosed result) → (IsErrOf result LinkFault → ⊥) → owing_in after ≡ []
+        → HearsSo began heard link link' (AreAsked from_link (Ok tt)) → Keeps heard published
+        → FeedsSo published after feed feed' (AreAsked from_feed result) → (IsErrOf result LinkFault → ⊥) → owing_in after ≡ []
         → TurnsSo rotate renewed renewed' before after (devices_seen clock (words_seen words faults) link feed None 0) (devices_seen clock' (words_seen words' faults') link' feed' None 0) result
     ends_fed before began heard published after link link' feed feed' result begins counts hears keeps feeds other none =
-        let turn = turn_of begins.answer begins.starved begins.drawn hears.heard Done feeds.fed in
+        let turn = turn_of begins.answer begins.starved begins.drawn hears.answers Done feeds.answers in
         let stages : HasStages before after _ _ turn = record {
           began = began;
           heard = heard;
@@ -149,9 +153,9 @@ module _ {O : Type 0} {g : Ghosts O} {T : Type 0} where
           same_counts = counts;
           clock = begins.clock_gave;
           words = begins.words_gave;
-          hears = hears.hears;
+          hears = hears.goes;
           keeps = keeps;
-          feeds = feeds.feeds;
+          feeds = feeds.goes;
         } in
         record {
           turn = turn;
@@ -161,4 +165,5 @@ module _ {O : Type 0} {g : Ghosts O} {T : Type 0} where
           latest = λ _. now_of_stages before after _ _ turn stages ∙ begins.latest begins.is_begun.0;
           renewed_is = λ _. begins.renewed_is begins.is_begun.0;
           owed = λ some. absurd (some none);
+          unpublished = λ not. absurd (not refl);
         }

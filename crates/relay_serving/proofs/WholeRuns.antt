@@ -1,5 +1,5 @@
 -- A whole run, put together.
-use Rattle.std.proofs.Common.{◌≡◌, ◌≢◌, ℕ, ◌+◌, ◌==◌, ◌<◌, ◌≤◌, ◌^◌, max, not, Bool, true, false, List, [], ◌∷◌, ◌++◌, length, map, take, refl, sym, ap, subst, ◌∙◌, append-nil, arith, length-append, inl, inr, if◌then◌else◌}
+use Rattle.std.proofs.Common.{◌≡◌, ◌≢◌, ℕ, ◌+◌, ◌==◌, ◌<◌, ◌≤◌, ◌^◌, max, not, Bool, true, false, List, [], ◌++◌, length, map, refl, sym, ap, subst, ◌∙◌, append-nil, arith, length-append, inl, inr, if◌then◌else◌}
 use Rattle.std.specs.Prelude.{Option, None, Some, Result, Ok, Err}
 use Rattle.std.specs.List.{All, AllZip}
 use Rattle.std.proofs.Math.Logic.{∥∥₁_elim, ∥∥₁_map, ∥∥₁_prop}
@@ -16,26 +16,31 @@ use Rattle.published_table.specs.Lists.{BeginsWith}
 use Rattle.published_table.specs.Publishers.{book_of}
 use Rattle.published_table.specs.Views.{seen, views_of}
 use Rattle.published_table.specs.declared.view.View.{View}
+use Rattle.published_table.proofs.Beginnings.{begins_by}
 use Rattle.response_mac.specs.declared.secret.Secret.{Secret}
 use Rattle.relay_machine.specs.Events.{now_of}
 use Rattle.relay_machine.specs.Published.{published_log}
 use Rattle.relay_machine.specs.declared.event.Event.{Event}
 use Rattle.relay_machine.specs.declared.settings.Settings.{Settings}
+use Rattle.serving_turns.specs.Causes.{IsCauseOf}
+use Rattle.serving_turns.specs.Devices.{FeedSeen, LinkSeen, OutSeen, WordsSeen}
+use Rattle.serving_turns.specs.declared.end.End.{End}
+use Rattle.serving_turns.specs.declared.end.End.TheVariants.{Turns, Closed, LinkFault, FeedFault, WordsFault, SpawnFault, Memory}
+use Rattle.serving_turns.proofs.Lists.{AppendsAll-none, AppendsAll-then}
 use Rattle.replication_workers.specs.Dispatchers.{is_threaded}
-use Rattle.replication_workers.specs.Replication.{HasTried}
+use Rattle.serving_turns.specs.Tried.{HasTried}
 use Rattle.replication_workers.specs.Replicators.{out_of}
 use Rattle.replication_workers.specs.SlotStates.{jobs_in_all}
 use Rattle.replication_workers.specs.Starting.{HaveStarted}
-use Rattle.replication_workers.proofs.Trying.{HasTried-none}
-use Rattle.relay_serving.specs.Bursts.{IsCauseOf}
+use Rattle.serving_turns.proofs.Trying.{HasTried-none}
 use Rattle.relay_serving.specs.Counting.{AreCounted, is_datagram}
-use Rattle.relay_serving.specs.Devices.{Devices, FeedSeen, LinkSeen, OutSeen, WordsSeen, devices_seen, outs_seen}
+use Rattle.relay_serving.specs.Devices.{Devices, devices_seen, outs_seen}
 use Rattle.relay_serving.specs.Drawing.{DrawsSecret, IsDrawn}
 use Rattle.relay_serving.specs.Ending.{Finishes}
-use Rattle.relay_serving.specs.Events.{events_from, events_of, first_of, secret_by}
+use Rattle.relay_serving.specs.Events.{events_from, events_of, first_of, published_events, published_turns, secret_by}
 use Rattle.relay_serving.specs.GivenOut.{AreGivenOut, starts_in}
 use Rattle.relay_serving.specs.Reports.{report_of, unused_report}
-use Rattle.relay_serving.specs.Runs.{HasEnded, IsCut, MayGo, Run, served, turns_of, unsown, unstarted, words_drawn}
+use Rattle.relay_serving.specs.Runs.{HasEnded, IsCut, MayGo, Run, served, turns_of, unstarted, without_secret, words_drawn}
 use Rattle.relay_serving.specs.Sending.{answers_after, due_of, dues_after}
 use Rattle.relay_serving.specs.Serving.{ArePublished, IsOwedBy, OutsServed, Serves, StartsWorkers, one_lost, unused, used}
 use Rattle.relay_serving.specs.Servers.{events_in, first_in, now_in, owing_in, published_in, settings_in, slots_in}
@@ -43,13 +48,10 @@ use Rattle.relay_serving.specs.Starting.{AreLeftBy, AreStarts, IsAtStart}
 use Rattle.relay_serving.specs.Turning.{EndsIn, RunsSo}
 use Rattle.relay_serving.specs.Turns.{Progress, Turn}
 use Rattle.relay_serving.specs.declared.counts.Counts.{Counts}
-use Rattle.relay_serving.specs.declared.plan.End.{End}
-use Rattle.relay_serving.specs.declared.plan.End.TheVariants.{Turns, Closed, LinkFault, FeedFault, WordsFault, SpawnFault, Memory}
 use Rattle.relay_serving.specs.declared.plan.ServePlan.{ServePlan}
 use Rattle.relay_serving.specs.declared.plan.ServeReport.{ServeReport}
 use Rattle.relay_serving.specs.declared.server.Server.{Server}
 use Rattle.relay_serving.specs.declared.server.ending.Ending.{Ending}
-use Rattle.relay_serving.proofs.Drawing.{AppendsAll-none, AppendsAll-then}
 use Rattle.relay_serving.proofs.SlotsServed.{Slotted, all_inline, are_served, jobs_count, slotted}
 use Rattle.relay_serving.proofs.Started.{starts_all, starts_none, starts_refused}
 use Rattle.relay_serving.proofs.Together.{read_prefixes}
@@ -69,7 +71,7 @@ abbrev unrun : List ℕ → Run
 unrun first = record { first = first; whole = []; cut = None }
 
 not_run : (settings : Settings) (plan : ServePlan) (end : End) (first : List ℕ) (clock : Option (List ℕ)) (words words' : WordsSeen) (link : LinkSeen) (feed : FeedSeen) (starts starts' : Option ℕ) (faults faults' : ℕ) (outs outs' : List OutSeen)
-    → AppendsAll words.given words'.given first → MayGo plan end (unrun first) → OutsServed settings plan (unrun first) (unused_report end) outs outs' [] 0 0
+    → AppendsAll words.given words'.given first → MayGo plan end (unrun first) → OutsServed settings plan (unrun first) (unused_report end) outs outs' starts starts' [] 0 0
     → StartsWorkers plan.workers [] end starts starts'
     → end ≢ LinkFault → end ≢ FeedFault → IsCauseOf end WordsFault words.faults words'.faults → IsCauseOf end SpawnFault faults faults'
     → Serves settings plan (devices_seen clock words link feed starts faults) (devices_seen clock words' link feed starts' faults') outs outs' [] (unused_report end)
@@ -100,12 +102,12 @@ not_run settings plan end first clock words words' link feed starts starts' faul
 }
 
 -- words were lacking
-pub serves_unsown : (settings : Settings) (plan : ServePlan) (first : List ℕ) (clock : Option (List ℕ)) (words words' : WordsSeen) (link : LinkSeen) (feed : FeedSeen) (starts : Option ℕ) (faults : ℕ) (outs : List OutSeen)
+pub serves_without_secret : (settings : Settings) (plan : ServePlan) (first : List ℕ) (clock : Option (List ℕ)) (words words' : WordsSeen) (link : LinkSeen) (feed : FeedSeen) (starts : Option ℕ) (faults : ℕ) (outs : List OutSeen)
     → AppendsAll words.given words'.given first → length first < 4 → Rose words.faults words'.faults
     → Serves settings plan (devices_seen clock words link feed starts faults) (devices_seen clock words' link feed starts faults) outs outs [] (unused_report WordsFault)
-serves_unsown settings plan first clock words words' link feed starts faults outs drawn few rose =
+serves_without_secret settings plan first clock words words' link feed starts faults outs drawn few rose =
     let not_spawn : WordsFault ≢ SpawnFault = λ is. (let same : 4 ≡ 5 = ap number_of is in omega (arith, same)) in
-    not_run settings plan WordsFault first clock words words' link feed starts starts faults faults outs outs drawn (unsown few refl refl refl)
+    not_run settings plan WordsFault first clock words words' link feed starts starts faults faults outs outs drawn (without_secret few refl refl refl)
     (unused not_spawn refl refl refl (record { no_inline = refl; none_owed = refl; none_published = refl; none_apart = refl }) refl refl)
     (starts_none plan.workers WordsFault starts starts refl)
     (λ is. (let same : 4 ≡ 2 = ap number_of is in omega (arith, same))) (λ is. (let same : 4 ≡ 3 = ap number_of is in omega (arith, same))) ((λ is. rose), (λ other. absurd (other refl))) ((λ is. absurd (not_spawn is)), (λ other. refl))
@@ -171,16 +173,10 @@ inline_of : (inline packets jobs : ℕ) (threaded none : Bool) → inline ≡ (i
 inline_of inline packets jobs threaded true is mode same = is ∙ ap (λ (mode : Bool). if mode then 0 else jobs) mode ∙ same refl
 inline_of inline packets jobs threaded false is mode same = is ∙ ap (λ (mode : Bool). if mode then 0 else jobs) mode
 
-prefix_of : {X : Type 0} (list more : List X) → take (length list) (list ++ more) ≡ list
-prefix_of [] more = refl
-prefix_of (one ∷ list) more = ap (λ (rest : List _). one ∷ rest) (prefix_of list more)
-
-published_all : (published owing log views_log : List Change) (published_is owed : ℕ) → published ++ owing ≡ log → published_is ≡ length published → owed ≡ length owing
-    → (published_is + owed ≡ length log) × (published ≡ take published_is log)
-published_all published owing log views_log number owed is counted owed_is =
+all_entries : (published owing log : List Change) (number owed : ℕ) → published ++ owing ≡ log → number ≡ length published → owed ≡ length owing → number + owed ≡ length log
+all_entries published owing log number owed is counted owed_is =
     let whole = length-append published owing in
-    let all = ap length is in
-    (omega (arith, whole, all, counted, owed_is), sym (prefix_of published owing) ∙ (λ i. take (sym counted i) (is i)))
+    let all = ap length is in omega (arith, whole, all, counted, owed_is)
 
 moved : (F : Settings → Secret → List Event → Type 0) {settings settings' : Settings} {first first' : Secret} {events events' : List Event}
     → settings ≡ settings' → first ≡ first' → events ≡ events' → F settings first events → F settings' first' events'
@@ -239,15 +235,22 @@ module _ {O : Type 0} {g : Ghosts O} {T : Type 0} where
         (λ i. answers_after (at.settings_are i) ((at.first_is ∙ secret_is) i) (at.no_events i) (events_from (now_none start at.no_events i) (turns_of run_of)))
         runs.goes.answered.tried
 
-    published_so : (ending.published + ending.owed ≡ length (published_log settings (first_of run_of) (events_of run_of)))
-        × (published_in server ≡ take ending.published (published_log settings (first_of run_of) (events_of run_of)))
-    published_so = published_all (published_in server) (owing_in server) (published_log settings (first_of run_of) (events_of run_of)) [] ending.published ending.owed
-        (server.log ∙ (λ i. published_log (settings_are i) (first_is i) (events_are i))) finishes.published_is finishes.owed_is
+    published_is : published_in server ≡ published_log settings (first_of run_of) (published_events run_of)
+    published_is = runs.published
+        ∙ (λ i. published_log (settings_are i) (first_is i) (at.no_events i ++ events_from (now_none start at.no_events i) (published_turns (turns_of run_of))))
 
-    are_published : ArePublished (published_log settings (first_of run_of) (events_of run_of)) (views_of ending.views) ending.published ending.owed ending.apart
+    log_is : published_in server ++ owing_in server ≡ published_log settings (first_of run_of) (events_of run_of)
+    log_is = server.log ∙ (λ i. published_log (settings_are i) (first_is i) (events_are i))
+
+    are_published : ArePublished (published_log settings (first_of run_of) (events_of run_of)) (published_log settings (first_of run_of) (published_events run_of)) (views_of ending.views)
+        ending.published ending.owed ending.apart
     are_published = record {
-      all = published_so.0;
-      each = subst (λ (log : List Change). All (λ view. BeginsWith (seen view) log) (views_of ending.views)) published_so.1 finishes.asked.each;
+      published_is = finishes.published_is ∙ ap length published_is;
+      begins = subst (BeginsWith (published_log settings (first_of run_of) (events_of run_of))) published_is
+          (begins_by (published_log settings (first_of run_of) (events_of run_of)) (published_in server) (owing_in server) (sym log_is));
+      all = all_entries (published_in server) (owing_in server) (published_log settings (first_of run_of) (events_of run_of)) ending.published ending.owed
+          log_is finishes.published_is finishes.owed_is;
+      each = subst (λ (log : List Change). All (λ view. BeginsWith (seen view) log) (views_of ending.views)) published_is finishes.asked.each;
       apart_is = finishes.apart_is;
     }
 
@@ -285,7 +288,7 @@ module _ {O : Type 0} {g : Ghosts O} {T : Type 0} where
             outs_sent = ending.outs_sent;
             outs_unsent = ending.outs_unsent;
             outs_served = used given.jobs due are are_published
-                (read_prefixes settings (published_log settings (first_of run_of) (events_of run_of)) are.slots (views_of ending.views) ending.published ending.owed ending.apart are.each are.views_are are_published)
+                (read_prefixes settings (published_log settings (first_of run_of) (events_of run_of)) (published_log settings (first_of run_of) (published_events run_of)) are.slots (views_of ending.views) ending.published ending.owed ending.apart are.each are.views_are are_published)
                 is_owed inline;
             turns_are = runs.done_is;
             counted = counted;

@@ -1,54 +1,11 @@
 -- What is seen of the devices of a serving relay, before a call and after it.
-use Rattle.std.specs.Prelude.{◌≡◌, ℕ, List, [], ◌∷◌, map, Option}
+use Rattle.std.specs.Prelude.{ℕ, List, map, Option}
 use Rattle.amt_ports.specs.Sends.{TriedSend}
-use Rattle.amt_ports.specs.Told.{Answers}
-use Rattle.amt_ports.specs.declared.feed.FeedAnswer.{FeedAnswer}
-use Rattle.amt_ports.specs.declared.link.LinkAnswer.{LinkAnswer}
-
--- of a link: the answers to come and the tried sends, where it tells them, and how often it failed
-pub record LinkSeen : Type 0 where
-  pub coming : Option (List LinkAnswer)
-  pub tried : Option (List TriedSend)
-  pub receive_faults : ℕ
-  pub send_faults : ℕ
-
-abbrev pub link_seen : Option (List LinkAnswer) → Option (List TriedSend) → ℕ → ℕ → LinkSeen
-link_seen coming tried receive_faults send_faults =
-    record { coming = coming; tried = tried; receive_faults = receive_faults; send_faults = send_faults }
-
--- of a feed
-pub record FeedSeen : Type 0 where
-  pub coming : Option (List FeedAnswer)
-  pub faults : ℕ
-
-abbrev pub feed_seen : Option (List FeedAnswer) → ℕ → FeedSeen
-feed_seen coming faults = record { coming = coming; faults = faults }
-
--- of a source of words: those that it gave
-pub record WordsSeen : Type 0 where
-  pub given : Option (List ℕ)
-  pub faults : ℕ
-
-abbrev pub words_seen : Option (List ℕ) → ℕ → WordsSeen
-words_seen given faults = record { given = given; faults = faults }
-
--- of an out
-pub record OutSeen : Type 0 where
-  pub tried : Option (List TriedSend)
-  pub faults : ℕ
-
-abbrev pub out_seen : Option (List TriedSend) → ℕ → OutSeen
-out_seen tried faults = record { tried = tried; faults = faults }
+use Rattle.serving_turns.specs.Devices.{FeedSeen, LinkSeen, OutSeen, WordsSeen, out_seen}
 
 -- of outs, in order, by what they tell of their tried sends and how often they failed
 abbrev pub outs_seen : {O : Type 0} → (O → Option (List TriedSend)) → (O → ℕ) → List O → List OutSeen
 outs_seen tried faults outs = map (λ out. out_seen (tried out) (faults out)) outs
-
--- each of these was the next answer to come, where the device tells them
-abbrev pub AnswersAll : {X : Type 0} → X → Option (List X) → Option (List X) → List X → Type 0
-AnswersAll closed before after [] = after ≡ before
-AnswersAll {X} closed before after (answer ∷ later) =
-    (middle : Option (List X)) × Answers closed before middle answer × AnswersAll closed middle after later
 
 -- of all devices of a run but its outs: the moments that the clock gave, and how many tasks were started, where
 -- they are told, and how often a start failed

@@ -1,7 +1,7 @@
 -- The events that the answers of devices make, in the order of a turn: its moment, a new secret, each
 -- datagram, each packet.
 use Rattle.std.specs.Prelude.{ℕ, Bool, true, false, List, [], ◌∷◌, ◌++◌, Option, None, Some}
-use Rattle.std.specs.List.{filter_map, flat_map}
+use Rattle.std.specs.List.{filter, filter_map, flat_map}
 use Rattle.byteorder.specs.Endian.{big_bytes}
 use Rattle.amt_ports.specs.declared.feed.FeedAnswer.{FeedAnswer}
 use Rattle.amt_ports.specs.declared.feed.FeedAnswer.TheVariants.{Packet as PacketFed, Nothing as NothingFed, Closed as FeedClosed}
@@ -10,17 +10,13 @@ use Rattle.amt_ports.specs.declared.link.LinkAnswer.TheVariants.{Datagram as Dat
 use Rattle.response_mac.specs.declared.secret.Secret.{Secret}
 use Rattle.relay_machine.specs.declared.event.Event.{Event}
 use Rattle.relay_machine.specs.declared.event.Event.TheVariants.{Moment, Datagram, Packet, Rotate}
-use Rattle.relay_serving.specs.Turns.{Taken, Turn, moment_of_turn}
+use Rattle.serving_turns.specs.Answers.{Taken, unless_starved}
+use Rattle.relay_serving.specs.Turns.{Turn, is_done, moment_of_turn}
 use Rattle.relay_serving.specs.Runs.{Run, turns_of}
 
 -- a secret is the octets of four words, each from the most significant one on (RFC 7450, section 5.3.6)
 abbrev pub secret_by : List ℕ → Secret
 secret_by words = record { 0 = flat_map (big_bytes 8) words }
-
--- an event that memory refused isn't one of the run
-abbrev pub unless_starved : {X : Type 0} → Bool → Option X → Option X
-unless_starved true made = None
-unless_starved false made = made
 
 abbrev pub datagram_of : LinkAnswer → Option Event
 datagram_of (DatagramCame from bytes) = Some (Datagram bytes from)
@@ -59,6 +55,16 @@ events_from latest (turn ∷ later) = events_of_turn latest turn ++ events_from 
 
 abbrev pub events_of : Run → List Event
 events_of run = events_from 0 (turns_of run)
+
+-- The turns whose publishing was done: all of them, but for the last one where the run ended before that. What
+-- was entered in the log by a turn's moment, secret and datagrams is published then; its packets come later, but
+-- enter nothing.
+abbrev pub published_turns : List Turn → List Turn
+published_turns turns = filter (λ turn. is_done turn.publishing) turns
+
+-- their events
+abbrev pub published_events : Run → List Event
+published_events run = events_from 0 (published_turns (turns_of run))
 
 -- the first secret of a run
 abbrev pub first_of : Run → Secret

@@ -1,4 +1,3 @@
-pub mod Bursts
 pub mod Counting
 pub mod Courses
 pub mod Devices

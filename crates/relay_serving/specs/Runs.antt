@@ -2,13 +2,12 @@
 use Rattle.std.specs.Prelude.{◌≡◌, ◌⊎◌, ℕ, ◌<◌, false, true, List, [], ◌∷◌, ◌++◌, length, map, Option, None, Some}
 use Rattle.std.specs.List.{flat_map}
 use Rattle.amt_ports.specs.declared.feed.FeedAnswer.{FeedAnswer}
-use Rattle.amt_ports.specs.declared.feed.FeedAnswer.TheVariants.{Closed as FeedClosed}
 use Rattle.amt_ports.specs.declared.link.LinkAnswer.{LinkAnswer}
-use Rattle.amt_ports.specs.declared.link.LinkAnswer.TheVariants.{Nothing as NothingCame, Closed as LinkClosed}
-use Rattle.relay_serving.specs.declared.plan.End.{End}
-use Rattle.relay_serving.specs.declared.plan.End.TheVariants.{Turns, Closed, LinkFault, FeedFault, WordsFault, SpawnFault, Memory}
+use Rattle.serving_turns.specs.Bursts.{IsBegun, IsBurst, IsClosed, IsStarved}
+use Rattle.serving_turns.specs.declared.end.End.{End}
+use Rattle.serving_turns.specs.declared.end.End.TheVariants.{Turns, Closed, LinkFault, FeedFault, WordsFault, SpawnFault, Memory}
 use Rattle.relay_serving.specs.declared.plan.ServePlan.{ServePlan}
-use Rattle.relay_serving.specs.Turns.{AreWhole, HasBegun, HasHeard, IsBegun, IsBurst, IsClosed, IsDatagram, IsPacket, IsStarved, Progress, Publishing, Ahead, Refused, Turn, is_due, moment_of_turn, no_progress}
+use Rattle.relay_serving.specs.Turns.{AreWhole, HasBegun, HasHeard, Progress, Publishing, Ahead, Refused, Turn, from_feed, from_link, is_due, moment_of_turn, no_progress}
 
 -- the feed was not asked, and so far went the publishing
 abbrev pub IsUnfed : Publishing → Turn → Type 0
@@ -28,14 +27,14 @@ pub record LacksWords (rotate : ℕ) (progress : Progress) (turn : Turn) : Type 
 -- memory refused the moment, a datagram, the publishing, or a packet
 pub data LacksMemory (rotate : ℕ) (progress : Progress) (turn : Turn) : Type 0 where
   at_moment : turn.clock.starved ≡ true → turn.drawn ≡ [] → IsUnheard turn → LacksMemory rotate progress turn
-  at_datagram : HasBegun rotate progress turn → IsStarved IsDatagram turn.heard → IsUnfed Ahead turn → LacksMemory rotate progress turn
-  at_publishing : HasBegun rotate progress turn → IsBurst IsDatagram NothingCame turn.heard → IsUnfed Refused turn → LacksMemory rotate progress turn
-  at_packet : HasHeard rotate progress turn → IsStarved IsPacket turn.fed → LacksMemory rotate progress turn
+  at_datagram : HasBegun rotate progress turn → IsStarved from_link turn.heard → IsUnfed Ahead turn → LacksMemory rotate progress turn
+  at_publishing : HasBegun rotate progress turn → IsBurst from_link turn.heard → IsUnfed Refused turn → LacksMemory rotate progress turn
+  at_packet : HasHeard rotate progress turn → IsStarved from_feed turn.fed → LacksMemory rotate progress turn
 
 -- the link or the feed answered that it is closed
 pub data FindsClosed (rotate : ℕ) (progress : Progress) (turn : Turn) : Type 0 where
-  of_link : HasBegun rotate progress turn → IsClosed IsDatagram LinkClosed turn.heard → IsUnfed Ahead turn → FindsClosed rotate progress turn
-  of_feed : HasHeard rotate progress turn → IsClosed IsPacket FeedClosed turn.fed → FindsClosed rotate progress turn
+  of_link : HasBegun rotate progress turn → IsClosed from_link turn.heard → IsUnfed Ahead turn → FindsClosed rotate progress turn
+  of_feed : HasHeard rotate progress turn → IsClosed from_feed turn.fed → FindsClosed rotate progress turn
 
 -- the run ended in this turn, which isn't whole
 abbrev pub IsCut : End → ℕ → Progress → Turn → Type 0
@@ -43,8 +42,8 @@ IsCut Turns rotate progress turn = ⊥
 IsCut SpawnFault rotate progress turn = ⊥
 IsCut Closed rotate progress turn = FindsClosed rotate progress turn
 IsCut WordsFault rotate progress turn = LacksWords rotate progress turn
-IsCut LinkFault rotate progress turn = HasBegun rotate progress turn × IsBegun IsDatagram turn.heard × IsUnfed Ahead turn
-IsCut FeedFault rotate progress turn = HasHeard rotate progress turn × IsBegun IsPacket turn.fed
+IsCut LinkFault rotate progress turn = HasBegun rotate progress turn × IsBegun from_link turn.heard × IsUnfed Ahead turn
+IsCut FeedFault rotate progress turn = HasHeard rotate progress turn × IsBegun from_feed turn.fed
 IsCut Memory rotate progress turn = LacksMemory rotate progress turn
 
 -- the words of the first secret, the whole turns, and the one in which the run ended, if it is not whole
@@ -67,7 +66,7 @@ HasEnded plan end done last (Some turn) = (done < plan.turns) × IsCut end plan.
 
 -- how a run may go: the first secret lacks words; it has them and nothing was started; or the turns began
 pub data MayGo (plan : ServePlan) (end : End) (run : Run) : Type 0 where
-  unsown : length run.first < 4 → end ≡ WordsFault → run.whole ≡ [] → run.cut ≡ None → MayGo plan end run
+  without_secret : length run.first < 4 → end ≡ WordsFault → run.whole ≡ [] → run.cut ≡ None → MayGo plan end run
   unstarted : length run.first ≡ 4 → (end ≡ Memory) ⊎ (end ≡ SpawnFault) → run.whole ≡ [] → run.cut ≡ None → MayGo plan end run
   served : (last : Progress) → length run.first ≡ 4 → AreWhole plan.rotate_ms no_progress run.whole last
       → HasEnded plan end (length run.whole) last run.cut → MayGo plan end run

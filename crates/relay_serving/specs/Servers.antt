@@ -11,15 +11,16 @@ use Rattle.response_mac.specs.declared.secret.Secret.{Secret}
 use Rattle.relay_machine.specs.Answers.{moment_of, settings_of}
 use Rattle.relay_machine.specs.declared.event.Event.{Event}
 use Rattle.relay_machine.specs.declared.settings.Settings.{Settings}
+use Rattle.serving_turns.specs.Answers.{Taken}
+use Rattle.serving_turns.specs.Bursts.{AskedSo}
+use Rattle.serving_turns.specs.Devices.{AnswersAll, FeedSeen, LinkSeen}
 use Rattle.replication_workers.specs.Dispatchers.{KeepsAllRun, is_threaded, slots_of}
 use Rattle.replication_workers.specs.SlotStates.{SlotState}
 use Rattle.relay_serving.specs.Courses.{events_so_far}
 use Rattle.relay_serving.specs.Counting.{HasAnswered}
-use Rattle.relay_serving.specs.Devices.{AnswersAll, FeedSeen, LinkSeen}
 use Rattle.relay_serving.specs.Events.{datagrams_in, packets_in}
 use Rattle.relay_serving.specs.GivenOut.{starts_in}
 use Rattle.relay_serving.specs.Sending.{answers_after}
-use Rattle.relay_serving.specs.Turns.{Taken}
 use Rattle.relay_serving.specs.declared.counts.Counts.{Counts}
 use Rattle.relay_serving.specs.declared.server.Server.{Server}
 
@@ -82,11 +83,13 @@ module _ {O : Type 0} {g : Ghosts O} {T : Type 0} where
     pub answered : HasAnswered link link' (counts_in before) (counts_in after)
         (answers_after (settings_in before) (first_in before) (events_in before) (datagrams_in heard))
 
+  -- the same of the relay and what is seen of the link
+  abbrev pub HearsBy : Server O T g × LinkSeen → Server O T g × LinkSeen → List (Taken LinkAnswer) → Type 0
+  HearsBy before after heard = Hears before.0 after.0 before.1 after.1 heard
+
   -- of one asking of the link, or of all of a turn, which ended so
-  pub record HearsSo (before after : Server O T g) (link link' : LinkSeen) (Ends : List (Taken LinkAnswer) → Type 0) : Type 0 where
-    pub heard : List (Taken LinkAnswer)
-    pub hears : Hears before after link link' heard
-    pub ends : Ends heard
+  abbrev pub HearsSo : Server O T g → Server O T g → LinkSeen → LinkSeen → (List (Taken LinkAnswer) → Type 0) → Type 0
+  HearsSo before after link link' Ends = AskedSo HearsBy (before, link) (after, link') Ends
 
   -- these were the feed's answers; those that memory took are events
   pub record Feeds (before after : Server O T g) (feed feed' : FeedSeen) (fed : List (Taken FeedAnswer)) : Type 0 where
@@ -96,7 +99,9 @@ module _ {O : Type 0} {g : Ghosts O} {T : Type 0} where
     pub same_unsent : (counts_in after).unsent ≡ (counts_in before).unsent
     pub came : AnswersAll FeedClosed feed.coming feed'.coming (map (λ one. one.answer) fed)
 
-  pub record FeedsSo (before after : Server O T g) (feed feed' : FeedSeen) (Ends : List (Taken FeedAnswer) → Type 0) : Type 0 where
-    pub fed : List (Taken FeedAnswer)
-    pub feeds : Feeds before after feed feed' fed
-    pub ends : Ends fed
+  -- the same of the relay and what is seen of the feed
+  abbrev pub FeedsBy : Server O T g × FeedSeen → Server O T g × FeedSeen → List (Taken FeedAnswer) → Type 0
+  FeedsBy before after fed = Feeds before.0 after.0 before.1 after.1 fed
+
+  abbrev pub FeedsSo : Server O T g → Server O T g → FeedSeen → FeedSeen → (List (Taken FeedAnswer) → Type 0) → Type 0
+  FeedsSo before after feed feed' Ends = AskedSo FeedsBy (before, feed) (after, feed') Ends

@@ -1,5 +1,5 @@
 -- What a run of a serving relay comes to.
-use Rattle.std.specs.Prelude.{◌≡◌, ◌≢◌, ◌==◌, ℕ, ◌+◌, List, [], ◌∷◌, ◌++◌, length, map, take, count_by, sum_by, Option, if◌then◌else◌}
+use Rattle.std.specs.Prelude.{◌≡◌, ◌≢◌, ◌==◌, ℕ, ◌+◌, List, [], ◌∷◌, ◌++◌, length, map, count_by, sum_by, Option, if◌then◌else◌}
 use Rattle.std.specs.List.{All, enumerate_from}
 use Rattle.amt_ports.specs.Told.{AppendsAll}
 use Rattle.amt_ports.specs.declared.feed.FeedAnswer.TheVariants.{Closed as FeedClosed}
@@ -13,22 +13,23 @@ use Rattle.published_table.specs.declared.view.View.{View}
 use Rattle.relay_machine.specs.Published.{published_log}
 use Rattle.relay_machine.specs.Settings.{table_settings_of}
 use Rattle.relay_machine.specs.declared.settings.Settings.{Settings}
+use Rattle.serving_turns.specs.Causes.{IsCauseOf}
+use Rattle.serving_turns.specs.Devices.{AnswersAll, OutSeen}
+use Rattle.serving_turns.specs.declared.end.End.{End}
+use Rattle.serving_turns.specs.declared.end.End.TheVariants.{LinkFault, FeedFault, WordsFault, SpawnFault}
 use Rattle.replication_workers.specs.Jobs.{Handled}
-use Rattle.replication_workers.specs.Replication.{HasTried}
+use Rattle.serving_turns.specs.Tried.{HasTried}
 use Rattle.replication_workers.specs.Starting.{HaveStarted}
 use Rattle.replication_workers.specs.declared.job.Job.{Job}
-use Rattle.relay_serving.specs.Bursts.{IsCauseOf}
 use Rattle.relay_serving.specs.Counting.{AreCounted}
-use Rattle.relay_serving.specs.Devices.{AnswersAll, Devices, OutSeen}
-use Rattle.relay_serving.specs.Events.{events_of, first_of}
+use Rattle.relay_serving.specs.Devices.{Devices}
+use Rattle.relay_serving.specs.Events.{events_of, first_of, published_events}
 use Rattle.relay_serving.specs.Runs.{MayGo, Run, feed_answers, link_answers, moments_given, turns_of, words_drawn}
 use Rattle.relay_serving.specs.Sending.{answers_after, due_of, dues_after}
 use Rattle.relay_serving.specs.GivenOut.{jobs_at}
 use Rattle.relay_serving.specs.Starting.{LosesOne}
 use Rattle.relay_serving.specs.Turns.{Done, Turn}
 use Rattle.relay_serving.specs.Views.{is_apart}
-use Rattle.relay_serving.specs.declared.plan.End.{End}
-use Rattle.relay_serving.specs.declared.plan.End.TheVariants.{LinkFault, FeedFault, WordsFault, SpawnFault}
 use Rattle.relay_serving.specs.declared.plan.ServePlan.{ServePlan}
 use Rattle.relay_serving.specs.declared.plan.ServeReport.{ServeReport}
 
@@ -70,11 +71,13 @@ pub record AreServed (settings : Settings) (outs : List OutSeen) (jobs : List Jo
   pub sent_is : sent ≡ sum_by (λ slot. slot.sent) slots
   pub unsent_is : unsent ≡ sum_by (λ slot. slot.unsent) slots
 
--- each view's log begins with the published one, which is so many of the entries of all events; the others
--- are owed, and so many views have a longer one
-pub record ArePublished (log : List Change) (views : List View) (published owed apart : ℕ) : Type 0 where
+-- Of the log of all events this prefix is published, and the other entries are owed. Each view's log begins with
+-- that prefix, and so many of them are longer.
+pub record ArePublished (log prefix : List Change) (views : List View) (published owed apart : ℕ) : Type 0 where
+  pub published_is : published ≡ length prefix
+  pub begins : BeginsWith log prefix
   pub all : published + owed ≡ length log
-  pub each : All (λ view. BeginsWith (seen view) (take published log)) views
+  pub each : All (λ view. BeginsWith (seen view) prefix) views
   pub apart_is : apart ≡ count_by (is_apart published) views
 
 -- each log by which the slots found receivers is a prefix of this one
@@ -92,21 +95,22 @@ pub record IsIdle (report : ServeReport) : Type 0 where
   pub none_published : report.published ≡ 0
   pub none_apart : report.apart ≡ 0
 
--- What became of the outs: they weren't used; one went with the worker whose start was refused, and the
--- others are as they were; or packets were copied by them, and where no view is apart by prefixes of the whole
+-- What became of the outs: they weren't used; the one of the worker whose start was refused went with it, and
+-- the others are as they were; or packets were copied by them, and where no view is apart by prefixes of the whole
 -- log alone.
-pub data OutsServed (settings : Settings) (plan : ServePlan) (run : Run) (report : ServeReport) (outs after : List OutSeen) (views : List View) (sent unsent : ℕ) : Type 0 where
+pub data OutsServed (settings : Settings) (plan : ServePlan) (run : Run) (report : ServeReport) (outs after : List OutSeen) (starts starts' : Option ℕ) (views : List View) (sent unsent : ℕ) : Type 0 where
   unused : report.end ≢ SpawnFault → turns_of run ≡ [] → after ≡ outs → views ≡ [] → IsIdle report → sent ≡ 0 → unsent ≡ 0
-      → OutsServed settings plan run report outs after views sent unsent
-  one_lost : report.end ≡ SpawnFault → turns_of run ≡ [] → LosesOne outs after
-      → views ≡ [] → IsIdle report → sent ≡ 0 → unsent ≡ 0 → OutsServed settings plan run report outs after views sent unsent
+      → OutsServed settings plan run report outs after starts starts' views sent unsent
+  one_lost : report.end ≡ SpawnFault → turns_of run ≡ [] → LosesOne outs after starts starts'
+      → views ≡ [] → IsIdle report → sent ≡ 0 → unsent ≡ 0 → OutsServed settings plan run report outs after starts starts' views sent unsent
   used : (jobs : List Job) → map due_of jobs ≡ dues_after settings (first_of run) [] (events_of run)
       → (served : AreServed settings outs jobs after views sent unsent)
-      → ArePublished (published_log settings (first_of run) (events_of run)) views report.published report.owed report.apart
+      → ArePublished (published_log settings (first_of run) (events_of run)) (published_log settings (first_of run) (published_events run)) views
+      report.published report.owed report.apart
       → (report.apart ≡ 0 → ReadPrefixesOf (published_log settings (first_of run) (events_of run)) served.slots)
       → IsOwedBy (turns_of run) report.owed
       → report.inline ≡ (if plan.workers == 0 then report.packets else 0)
-      → OutsServed settings plan run report outs after views sent unsent
+      → OutsServed settings plan run report outs after starts starts' views sent unsent
 
 -- Where the turns began, every worker of the plan was started; none was where the plan has none, or where the
 -- run ended before a start was tried.
@@ -134,7 +138,7 @@ pub record Serves (settings : Settings) (plan : ServePlan) (before after : Devic
       (answers_after settings (first_of run) [] (events_of run)) link_sent link_unsent
   pub outs_sent : ℕ
   pub outs_unsent : ℕ
-  pub outs_served : OutsServed settings plan run report outs outs' views outs_sent outs_unsent
+  pub outs_served : OutsServed settings plan run report outs outs' before.starts after.starts views outs_sent outs_unsent
   -- the report
   pub turns_are : report.turns ≡ length run.whole
   pub counted : AreCounted settings (first_of run) (events_of run) report.datagrams report.packets report.updated report.torn

@@ -1,5 +1,5 @@
 -- How a running relay begins, and what is left where it doesn't.
-use Rattle.std.specs.Prelude.{◌≡◌, ℕ, ◌≤◌, Bool, List, [], ◌∷◌, ◌++◌, map, vec_capacity, Option}
+use Rattle.std.specs.Prelude.{◌≡◌, ℕ, ◌≤◌, Bool, List, [], ◌∷◌, ◌++◌, length, map, vec_capacity, Option}
 use Rattle.std.specs.List.{All}
 use Rattle.logbook.specs.Pages.{Book}
 use Rattle.amt_ports.specs.Causes.{Rose}
@@ -10,31 +10,34 @@ use Rattle.published_table.specs.declared.terms.Terms.{Terms}
 use Rattle.published_table.specs.declared.view.View.{View}
 use Rattle.response_mac.specs.declared.secret.Secret.{Secret}
 use Rattle.relay_machine.specs.declared.settings.Settings.{Settings}
+use Rattle.serving_turns.specs.Devices.{OutSeen}
+use Rattle.serving_turns.specs.declared.end.End.{End}
+use Rattle.serving_turns.specs.declared.end.End.TheVariants.{Turns, Closed, LinkFault, FeedFault, WordsFault, SpawnFault, Memory}
 use Rattle.replication_workers.specs.Dispatchers.{is_threaded}
 use Rattle.replication_workers.specs.Replicators.{limit_of, out_of, view_of}
+use Rattle.replication_workers.specs.Starting.{HaveStarted}
 use Rattle.replication_workers.specs.declared.replicator.Replicator.{Replicator}
 use Rattle.relay_serving.specs.Counting.{no_counts}
-use Rattle.relay_serving.specs.Devices.{OutSeen}
 use Rattle.relay_serving.specs.GivenOut.{starts_in, terms_by}
 use Rattle.relay_serving.specs.Servers.{counts_in, events_in, first_in, owing_in, published_in, settings_in, slots_in}
-use Rattle.relay_serving.specs.declared.plan.End.{End}
-use Rattle.relay_serving.specs.declared.plan.End.TheVariants.{Turns, Closed, LinkFault, FeedFault, WordsFault, SpawnFault, Memory}
 use Rattle.relay_serving.specs.declared.server.Server.{Server}
 use Rattle.relay_serving.specs.declared.server.starting.Made.{Made}
 
--- one of the outs is gone, and the others are as they were
-pub record LosesOne (outs left : List OutSeen) : Type 0 where
+-- The out of the worker whose start was refused is gone, and the others are as they were: as many starts were
+-- told as there are outs before it.
+pub record LosesOne (outs left : List OutSeen) (starts starts' : Option ℕ) : Type 0 where
   pub earlier : List OutSeen
   pub lost : OutSeen
   pub later : List OutSeen
   pub outs_are : outs ≡ earlier ++ lost ∷ later
   pub left_are : left ≡ earlier ++ later
+  pub started : HaveStarted (length earlier) starts starts'
 
 -- by why no relay was started: out of memory all outs are as they were, and no worker was started; where a start
--- was refused one out is gone
+-- was refused its worker's out is gone
 abbrev pub AreLeftBy : End → List OutSeen → List OutSeen → Option ℕ → Option ℕ → ℕ → ℕ → Type 0
 AreLeftBy Memory outs left starts starts' faults faults' = (left ≡ outs) × (starts' ≡ starts) × (faults' ≡ faults)
-AreLeftBy SpawnFault outs left starts starts' faults faults' = LosesOne outs left × Rose faults faults'
+AreLeftBy SpawnFault outs left starts starts' faults faults' = LosesOne outs left starts starts' × Rose faults faults'
 AreLeftBy Turns outs left starts starts' faults faults' = ⊥
 AreLeftBy Closed outs left starts starts' faults faults' = ⊥
 AreLeftBy LinkFault outs left starts starts' faults faults' = ⊥

@@ -4,16 +4,18 @@ use Rattle.amt_ports.specs.Told.{AppendsAll}
 use Rattle.amt_ports.specs.declared.feed.FeedAnswer.TheVariants.{Closed as FeedClosed}
 use Rattle.amt_ports.specs.declared.link.LinkAnswer.TheVariants.{Closed as LinkClosed}
 use Rattle.amt_ports.specs.declared.out_link.OutLink.{Ghosts}
-use Rattle.relay_serving.specs.Bursts.{IsCauseOf, IsCausedBy}
+use Rattle.relay_machine.specs.Published.{published_log}
+use Rattle.serving_turns.specs.Causes.{IsCauseOf, IsCausedBy}
+use Rattle.serving_turns.specs.Devices.{AnswersAll}
+use Rattle.serving_turns.specs.declared.end.End.{End}
+use Rattle.serving_turns.specs.declared.end.End.TheVariants.{LinkFault, FeedFault, WordsFault}
 use Rattle.relay_serving.specs.Counting.{HasAnswered}
-use Rattle.relay_serving.specs.Devices.{AnswersAll, Devices}
-use Rattle.relay_serving.specs.Events.{events_from}
+use Rattle.relay_serving.specs.Devices.{Devices}
+use Rattle.relay_serving.specs.Events.{events_from, published_turns}
 use Rattle.relay_serving.specs.Runs.{HasEnded, IsCut, feed_answers, link_answers, moments_given, with_cut, words_drawn}
 use Rattle.relay_serving.specs.Sending.{answers_after}
-use Rattle.relay_serving.specs.Servers.{HasEvents, counts_in, events_in, first_in, now_in, owing_in, settings_in}
+use Rattle.relay_serving.specs.Servers.{HasEvents, counts_in, events_in, first_in, now_in, owing_in, published_in, settings_in}
 use Rattle.relay_serving.specs.Turns.{AreWhole, Done, IsWhole, Progress, Turn, moment_of_turn, no_progress, renewed_after}
-use Rattle.relay_serving.specs.declared.plan.End.{End}
-use Rattle.relay_serving.specs.declared.plan.End.TheVariants.{LinkFault, FeedFault, WordsFault}
 use Rattle.relay_serving.specs.declared.plan.ServePlan.{ServePlan}
 use Rattle.relay_serving.specs.declared.server.Server.{Server}
 
@@ -57,6 +59,7 @@ module _ {O : Type 0} {g : Ghosts O} {T : Type 0} where
     pub latest : IsOk result → now_in after ≡ moment_of_turn (now_in before) turn
     pub renewed_is : IsOk result → renewed' ≡ Some (renewed_after rotate renewed (moment_of_turn (now_in before) turn))
     pub owed : owing_in after ≢ [] → turn.publishing ≢ Done
+    pub unpublished : turn.publishing ≢ Done → published_in after ≡ published_in before
 
   -- all turns of a run
   pub record RunsSo (plan : ServePlan) (before after : Server O T g) (devices devices' : Devices) (end : End) (done : ℕ) : Type 0 where
@@ -68,3 +71,5 @@ module _ {O : Type 0} {g : Ghosts O} {T : Type 0} where
     pub ended : HasEnded plan end (length whole) last cut
     pub done_is : done ≡ length whole
     pub owed : owing_in after ≢ [] → (earlier : List Turn) × (latest : Turn) × (with_cut whole cut ≡ earlier ++ latest ∷ []) × (latest.publishing ≢ Done)
+    pub published : published_in after
+        ≡ published_log (settings_in after) (first_in after) (events_in before ++ events_from (now_in before) (published_turns (with_cut whole cut)))

@@ -1,27 +1,22 @@
 -- What the devices of a serving relay answer, turn by turn.
-use Rattle.std.specs.Prelude.{◌≡◌, ◌⊎◌, ℕ, ◌+◌, ◌<◌, ◌≤◌, max, nat_le, Bool, true, false, List, [], ◌∷◌, ◌++◌, length, Option, None, Some, if◌then◌else◌}
-use Rattle.std.specs.List.{AllByRecursion}
+use Rattle.std.specs.Prelude.{◌≡◌, ℕ, ◌+◌, max, nat_le, Bool, true, false, List, [], ◌∷◌, length, Option, None, Some, if◌then◌else◌}
 use Rattle.amt_ports.specs.declared.feed.FeedAnswer.{FeedAnswer}
-use Rattle.amt_ports.specs.declared.feed.FeedAnswer.TheVariants.{Packet, Nothing as NothingFed, Closed as FeedClosed}
+use Rattle.amt_ports.specs.declared.feed.FeedAnswer.TheVariants.{Nothing as NothingFed, Closed as FeedClosed}
 use Rattle.amt_ports.specs.declared.link.LinkAnswer.{LinkAnswer}
-use Rattle.amt_ports.specs.declared.link.LinkAnswer.TheVariants.{Datagram, Nothing as NothingCame, Closed as LinkClosed}
-
--- a device's answer, and whether memory refused the event that it makes
-pub record Taken (X : Type 0) : Type 0 where
-  pub answer : X
-  pub starved : Bool
-
-abbrev pub taken : {X : Type 0} → X → Taken X
-taken answer = record { answer = answer; starved = false }
-
-abbrev pub refused : {X : Type 0} → X → Taken X
-refused answer = record { answer = answer; starved = true }
+use Rattle.amt_ports.specs.declared.link.LinkAnswer.TheVariants.{Nothing as NothingCame, Closed as LinkClosed}
+use Rattle.serving_turns.specs.Answers.{IsDatagram, IsPacket, Taken, taken}
+use Rattle.serving_turns.specs.Bursts.{AnswerKinds, IsBurst}
 
 -- how far a turn's publishing went; it is done too where nothing was owed
 pub data Publishing : Type 0 where
   Ahead : Publishing
   Refused : Publishing
   Done : Publishing
+
+abbrev pub is_done : Publishing → Bool
+is_done Ahead = false
+is_done Refused = false
+is_done Done = true
 
 -- The answers of one turn, in order: the clock's, the words of a new secret, the link's, and, after the
 -- publishing, the feed's.
@@ -64,39 +59,21 @@ abbrev pub words_due : Bool → ℕ
 words_due false = 0
 words_due true = 4
 
--- something came: a link and a feed hand on at most 65,535 octets at a time
-abbrev pub IsDatagram : LinkAnswer → Type 0
-IsDatagram (Datagram from bytes) = length bytes ≤ 65535
-IsDatagram NothingCame = ⊥
-IsDatagram LinkClosed = ⊥
+-- The run goes on where something came and memory took its event, and ends where memory refused that.
+abbrev pub while_memory : {X : Type 0} → (X → Type 0) → X → X → AnswerKinds (Taken X)
+while_memory Came nothing closed = record {
+  Came = λ one. Came one.answer × (one.starved ≡ false);
+  Starves = λ one. Came one.answer × (one.starved ≡ true);
+  nothing = taken nothing;
+  closed = taken closed;
+}
 
-abbrev pub IsPacket : FeedAnswer → Type 0
-IsPacket (Packet bytes) = length bytes ≤ 65535
-IsPacket NothingFed = ⊥
-IsPacket FeedClosed = ⊥
+-- the answers of the link, and those of the feed
+abbrev pub from_link : AnswerKinds (Taken LinkAnswer)
+from_link = while_memory IsDatagram NothingCame LinkClosed
 
--- each time something came, and memory took it
-abbrev pub CameAll : {X : Type 0} → (X → Type 0) → List (Taken X) → Type 0
-CameAll Came answers = AllByRecursion (λ one. Came one.answer × (one.starved ≡ false)) answers
-
--- a device is asked until it answers that there is nothing, and at most 64 times
-abbrev pub IsBurst : {X : Type 0} → (X → Type 0) → X → List (Taken X) → Type 0
-IsBurst {X} Came nothing answers =
-    (came : List (Taken X)) × CameAll Came came
-    × (((answers ≡ came) × (length came ≡ 64)) ⊎ ((answers ≡ came ++ taken nothing ∷ []) × (length came < 64)))
-
--- it was asked fewer times, and each time something came
-abbrev pub IsBegun : {X : Type 0} → (X → Type 0) → List (Taken X) → Type 0
-IsBegun Came answers = CameAll Came answers × (length answers < 64)
-
--- after such answers, the last is that it is closed
-abbrev pub IsClosed : {X : Type 0} → (X → Type 0) → X → List (Taken X) → Type 0
-IsClosed {X} Came closed answers = (came : List (Taken X)) × IsBegun Came came × (answers ≡ came ++ taken closed ∷ [])
-
--- after such answers, the last is one that memory refused
-abbrev pub IsStarved : {X : Type 0} → (X → Type 0) → List (Taken X) → Type 0
-IsStarved {X} Came answers =
-    (came : List (Taken X)) × (last : X) × IsBegun Came came × Came last × (answers ≡ came ++ refused last ∷ [])
+abbrev pub from_feed : AnswerKinds (Taken FeedAnswer)
+from_feed = while_memory IsPacket NothingFed FeedClosed
 
 -- the moment was taken, and as many words were drawn as were due
 pub record HasBegun (rotate : ℕ) (progress : Progress) (turn : Turn) : Type 0 where
@@ -106,13 +83,13 @@ pub record HasBegun (rotate : ℕ) (progress : Progress) (turn : Turn) : Type 0 
 -- the link was asked, and what was owed is published
 pub record HasHeard (rotate : ℕ) (progress : Progress) (turn : Turn) : Type 0 where
   pub begun : HasBegun rotate progress turn
-  pub link : IsBurst IsDatagram NothingCame turn.heard
+  pub link : IsBurst from_link turn.heard
   pub published : turn.publishing ≡ Done
 
 -- the turn is whole
 pub record IsWhole (rotate : ℕ) (progress : Progress) (turn : Turn) : Type 0 where
   pub heard : HasHeard rotate progress turn
-  pub feed : IsBurst IsPacket NothingFed turn.fed
+  pub feed : IsBurst from_feed turn.fed
 
 -- whole turns, one after the other, which lead so far
 abbrev pub AreWhole : ℕ → Progress → List Turn → Progress → Type 0

@@ -16,5 +16,6 @@ mod secret;
 mod server;
 mod serving;
 
-pub use plan::{End, ServePlan, ServeReport, Served};
+pub use plan::{ServePlan, ServeReport, Served};
 pub use serving::serve_relay;
+pub use serving_turns::End;

@@ -2,6 +2,7 @@
 
 use published_table::Views;
 use replication_workers::Outs;
+use serving_turns::End;
 
 /// How a relay is to be run.
 #[derive(Clone, Copy, Debug, PartialEq, Eq)]
@@ -14,33 +15,16 @@ pub struct ServePlan {
     pub rotate_ms: u64,
 }
 
-/// Why a run ended.
-#[derive(Clone, Copy, Debug, PartialEq, Eq)]
-pub enum End {
-    /// All turns of the plan were done.
-    Turns,
-    /// The link or the feed answered that it is closed.
-    Closed,
-    /// A receiving from the link failed.
-    LinkFault,
-    /// A receiving from the feed failed.
-    FeedFault,
-    /// A random word couldn't be drawn.
-    WordsFault,
-    /// A worker couldn't be started. No turn was begun.
-    SpawnFault,
-    Memory,
-}
-
 /// What a run came to, in numbers.
 #[derive(Clone, Copy, Debug, PartialEq, Eq)]
 pub struct ServeReport {
+    /// Why the run ended.
     pub end: End,
     /// The turns that were done whole.
     pub turns: u64,
-    /// The datagrams that were taken from the link.
+    /// The datagrams that were taken from the link, without one whose event memory refused.
     pub datagrams: u64,
-    /// The packets that were taken from the feed.
+    /// The packets that were taken from the feed, without one whose event memory refused.
     pub packets: u64,
     /// The Updates that were accepted (RFC 7450, section 5.1.5).
     pub updated: u64,
@@ -52,9 +36,9 @@ pub struct ServeReport {
     pub unsent: u64,
     /// The packets that the turns' own thread copied: all of them where there are no workers, and else none.
     pub inline: u64,
-    /// The events that memory refused.
+    /// The events that memory refused in a run that went on. None does, so that this is 0.
     pub starved: u64,
-    /// The publishings that memory refused.
+    /// The publishings that memory refused in a run that went on. None does, so that this is 0.
     pub late: u64,
     /// The entries that weren't published at the end.
     pub owed: u64,

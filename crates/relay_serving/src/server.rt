@@ -30,19 +30,6 @@ mod turning;
 pub(crate) use ending::Ending;
 pub(crate) use starting::NotStarted;
 
-// A device is asked so often in a turn.
-const BURST: u32 = 64;
-
-// So long a receiving waits.
-const WAIT_MS: u32 = 1;
-
-/// Whether an asking of a device found something.
-#[derive(Drop)]
-pub(crate) enum Asked {
-    Something,
-    Nothing,
-}
-
 /// A running relay. It isn't `Drop`: end it by `finish`.
 pub(crate) struct Server<O: OutLink, T> {
     relay: Relay,

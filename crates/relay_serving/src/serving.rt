@@ -3,23 +3,22 @@
 ghost use Rattle.std.specs.Prelude.{◌≡◌, ◌≤◌, ◌<◌, ◌+◌, ◌^◌, [], IfOk, length, max};
 ghost use Rattle.published_table.specs.Views.{room_of, views_of};
 ghost use Rattle.relay_machine.specs.Settings.{AreLawfulSettings};
-ghost use Rattle.relay_serving.specs.Devices.{devices_seen, feed_seen, link_seen, outs_seen, words_seen};
+ghost use Rattle.serving_turns.specs.Devices.{feed_seen, link_seen, words_seen};
+ghost use Rattle.relay_serving.specs.Devices.{devices_seen, outs_seen};
 ghost use Rattle.relay_serving.specs.Plans.{IsLawfulPlan};
 ghost use Rattle.relay_serving.specs.Reports.{report_of, unused_report};
 ghost use Rattle.relay_serving.specs.Serving.{Serves};
 
-use crate::plan::{End, ServePlan, ServeReport, Served};
+use crate::plan::{ServePlan, ServeReport, Served};
 use crate::secret::draw_secret;
 use crate::server::{Ending, NotStarted, Server};
 use amt_ports::{Clock, Feed, Link, OutLink, Spawner, Words};
 use published_table::Views;
 use relay_machine::Settings;
 use replication_workers::{Outs, Worker};
+use serving_turns::{BUFFER, End};
 use std::alloc::{AllocError, Global};
 use std::sync::Wait;
-
-// What a receiving needs room for, in octets.
-const BUFFER: usize = 65_536;
 
 // The room that a run takes before its first turn, besides that of its relay.
 #[derive(Drop)]

@@ -129,22 +129,24 @@ module _ {O T : Type 0} {g : Ghosts O} where
       subst (λ (list : List (Replicator O g)). AreStarted task_of list slots)
       (sym (starting.all_are ∙ ap (λ (list : List (Replicator O g)). starting.done ++ list) none ∙ append-nil starting.done)) starting.started
 
-  pub one_refused : (task_of : T → Worker O g) (all left later : List (Replicator O g)) (slots : List (Kept O T g)) (one : Replicator O g)
-      → Starting task_of all left slots → left ≡ one ∷ later → HasRefusedOne task_of all later slots
-  one_refused task_of all left later slots one starting is = record {
+  -- as many slots as replicators, and no jobs
+  pub filled_length : (replicators : List (Replicator O g)) (slots : List (Kept O T g)) → map state_of slots ≡ map new_slot replicators → length slots ≡ length replicators
+  filled_length replicators slots states = sym (length-map slots state_of) ∙ ap (λ (list : List (SlotState O g)). length list) states ∙ length-map replicators new_slot
+
+  pub one_refused : (task_of : T → Worker O g) (all left later : List (Replicator O g)) (slots : List (Kept O T g)) (one : Replicator O g) (first before after : Option ℕ)
+      → Starting task_of all left slots → HaveStarted (length slots) first before → after ≡ before → left ≡ one ∷ later → HasRefusedOne task_of all later slots first after
+  one_refused task_of all left later slots one first before after starting counted same is = record {
     earlier = starting.done;
     refused = one;
     all_are = starting.all_are ∙ ap (λ (list : List (Replicator O g)). starting.done ++ list) is;
     started = starting.started;
+    counted = subst (HaveStarted (length starting.done) first) (sym same)
+        (subst (λ (count : ℕ). HaveStarted count first before) (filled_length starting.done slots starting.started.states) counted);
   }
 
   -- what a dispatcher has whose slots were all kept
   pub kept_alone : (replicators : List (Replicator O g)) (before after : List (Kept O T g)) (kept : HasKept replicators before after) → before ≡ [] → after ≡ kept.added
   kept_alone replicators before after kept none = kept.after_is ∙ ap (λ (list : List (Kept O T g)). list ++ kept.added) none
-
-  -- as many slots as replicators, and no jobs
-  pub filled_length : (replicators : List (Replicator O g)) (slots : List (Kept O T g)) → map state_of slots ≡ map new_slot replicators → length slots ≡ length replicators
-  filled_length replicators slots states = sym (length-map slots state_of) ∙ ap (λ (list : List (SlotState O g)). length list) states ∙ length-map replicators new_slot
 
   pub filled_idle : (replicators : List (Replicator O g)) (slots : List (Kept O T g)) → map state_of slots ≡ map new_slot replicators → jobs_in_all (map state_of slots) ≡ 0
   filled_idle replicators slots states = ap jobs_in_all states ∙ no_jobs replicators

@@ -10,4 +10,3 @@ pub mod Queues
 pub mod Ready
 pub mod Sending
 pub mod Steps
-pub mod Trying

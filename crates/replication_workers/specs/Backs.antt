@@ -1,5 +1,5 @@
 -- What comes back as it was.
-use Rattle.std.specs.Prelude.{◌≡◌, List, ◌∷◌, ◌++◌, map}
+use Rattle.std.specs.Prelude.{◌≡◌, List, map}
 use Rattle.std.specs.List.{All}
 use Rattle.amt_ports.specs.declared.out_link.OutLink.{Ghosts}
 use Rattle.published_table.specs.Views.{publisher_of, seen, terms_of}
@@ -30,11 +30,3 @@ module _ {O : Type 0} {g : Ghosts O} where
     pub outs_are : map (λ back. back.out) backs ≡ outs
     pub views_are : map (λ back. back.view) backs ≡ views
     pub each : All (λ back. IsBack back.given back.out back.view) backs
-
-  -- those of all replicators but one
-  pub record AllButOneBack (given : List (Replicator O g)) (outs : List O) (views : List View) : Type 0 where
-    pub earlier : List (Replicator O g)
-    pub refused : Replicator O g
-    pub later : List (Replicator O g)
-    pub given_are : given ≡ earlier ++ refused ∷ later
-    pub back : AreBack (earlier ++ later) outs views

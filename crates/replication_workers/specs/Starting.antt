@@ -1,10 +1,10 @@
 -- What a start of several workers does.
-use Rattle.std.specs.Prelude.{◌≡◌, ℕ, zero, suc, List, ◌∷◌, ◌++◌, Option, Some, None}
+use Rattle.std.specs.Prelude.{◌≡◌, ℕ, zero, suc, List, ◌∷◌, ◌++◌, length, Option, Some, None}
 use Rattle.amt_ports.specs.Causes.{next_count}
 use Rattle.amt_ports.specs.declared.out_link.OutLink.{Ghosts}
 use Rattle.published_table.specs.Views.{views_of}
 use Rattle.published_table.specs.declared.view.View.{View}
-use Rattle.replication_workers.specs.Backs.{AllButOneBack}
+use Rattle.replication_workers.specs.Backs.{AreBack}
 use Rattle.replication_workers.specs.KeptSlots.{AreStarted}
 use Rattle.replication_workers.specs.declared.dispatcher.StartFault.{StartFault}
 use Rattle.replication_workers.specs.declared.dispatcher.StartFault.TheVariants.{Memory, Failed}
@@ -23,18 +23,32 @@ HaveStarted number before None = Unit {0}
 HaveStarted number before (Some after) = (earlier : ℕ) × (before ≡ Some earlier) × (after ≡ count_on number earlier)
 
 module _ {O T : Type 0} {g : Ghosts O} where
-  -- Of these replicators, one was refused its start. Workers over those before it were started, and those
-  -- after it are left.
-  pub record HasRefusedOne (task_of : T → Worker O g) (all left : List (Replicator O g)) (slots : List (Kept O T g)) : Type 0 where
+  -- Of these replicators, one was refused its start. Workers over those before it were started, each by one
+  -- start that was told, and those after it are left.
+  pub record HasRefusedOne (task_of : T → Worker O g) (all left : List (Replicator O g)) (slots : List (Kept O T g)) (before after : Option ℕ) : Type 0 where
     pub earlier : List (Replicator O g)
     pub refused : Replicator O g
     pub all_are : all ≡ earlier ++ refused ∷ left
     pub started : AreStarted task_of earlier slots
+    pub counted : HaveStarted (length earlier) before after
 
+module _ {O : Type 0} {g : Ghosts O} where
+  -- Of these replicators, one was refused its start: as many starts were told before it as there are
+  -- replicators before it. The links and the views of all others came back.
+  pub record AllButOneBack (given : List (Replicator O g)) (before after : Option ℕ) (outs : List O) (views : List View) : Type 0 where
+    pub earlier : List (Replicator O g)
+    pub refused : Replicator O g
+    pub later : List (Replicator O g)
+    pub given_are : given ≡ earlier ++ refused ∷ later
+    pub started : HaveStarted (length earlier) before after
+    pub back : AreBack (earlier ++ later) outs views
+
+module _ {O T : Type 0} {g : Ghosts O} where
   -- whichever replicators they were of which one was refused its start
   abbrev pub GivesAllButOne : (T → Worker O g) → List (Replicator O g) → List (Kept O T g) → List O → List View → Type 0
   GivesAllButOne task_of left slots outs views =
-      (all : List (Replicator O g)) → HasRefusedOne task_of all left slots → AllButOneBack all outs views
+      (all : List (Replicator O g)) → (before after : Option ℕ)
+      → HasRefusedOne task_of all left slots before after → AllButOneBack all before after outs views
 
 module _ {O : Type 0} {g : Ghosts O} where
   -- a fact of the replicators that come back without memory

@@ -100,6 +100,13 @@ impl<O> WorkerDone<O> {
     }
 }
 
+fn count_job(jobs: &mut u64)
+    requires { jobs.old < 2 ^ 46 }
+    ensures { jobs.new ≡ jobs.old + 1 }
+{
+    *jobs += 1;
+}
+
 // Handles the job, counts it, and says what became of its datagrams.
 fn handle<O: OutLink, R: Wait>(
     rt: &R,
@@ -121,7 +128,7 @@ fn handle<O: OutLink, R: Wait>(
         result.sent result.unsent }
     ensures few { result.sent + result.unsent ≤ 65536 }
 {
-    *jobs += 1;
+    count_job(jobs);
     replicator.replicate(rt, job)
 }
 

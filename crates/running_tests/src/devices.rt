@@ -3,7 +3,7 @@
 ghost use Rattle.std.specs.Prelude.{◌≤◌, All, IfOk, OnOk, length};
 ghost use Rattle.amt_ports.specs.Arrivals.{IsShortAnswer, IsShortFeedAnswer};
 
-use amt_live::{MemLive, RelayDevices};
+use amt_live::{DeviceSet, MemLive, RelayDevices};
 use amt_ports::{FeedAnswer, LinkAnswer, MemClock, MemFeed, MemLink, MemWords, OutLink, Spawner};
 use amt_values::{Bytes, Ip, Moment, Peer};
 use replication_workers::{Outs, Worker};
@@ -157,6 +157,6 @@ where
     P: Spawner<Worker<O>> + Drop,
 {
     let mut sets = Vec::with_capacity(alloc, 1)?;
-    sets.push(devices)?;
+    sets.push(DeviceSet::Relay(devices))?;
     Ok(MemLive::failing(alloc, sets, vec![in alloc; failing.opening]?))
 }

@@ -5,7 +5,7 @@ ghost use Rattle.std.specs.Prelude.{◌≡◌, IfOk, None, length};
 use crate::commands::{assert_served, is_written, replay};
 use crate::devices::{PACKET, octets_of};
 use crate::starters::Starter;
-use amt_live::{MemLive, RelayDevices};
+use amt_live::{DeviceSet, MemLive, RelayDevices};
 use amt_ports::{Clock, MemWords, ThreadSpawner, UdpFeed, UdpLink, UdpOut, open_sockets};
 use amt_values::{Bytes, Ip, Moment, Peer};
 use replication_workers::Outs;
@@ -177,14 +177,14 @@ fn live_with<'a, R: Net + Threads + Wait + Abort + 'static>(
     };
     let outs = two_outs(rt, alloc, &link);
     let mut sets = Vec::new(alloc);
-    let Ok(()) = sets.push(RelayDevices {
+    let Ok(()) = sets.push(DeviceSet::Relay(RelayDevices {
         link,
         feed,
         clock: client,
         words: MemWords::new(alloc, Vec::new(alloc)),
         outs,
         spawner: ThreadSpawner::new(rt, Starter { rt }),
-    }) else {
+    })) else {
         panic!(rt; "out of memory");
     };
     MemLive::new(alloc, sets)
@@ -269,7 +269,7 @@ fn a_session_over_the_loopback_is_that_of_its_replay(rt: HostRuntime) {
 starved 0\nlate 0\nowed 0\npublished 6\napart 0\n",
     );
     match live.returned() {
-        [devices] => assert_replayed(&rt, rt.alloc(), &devices.clock),
+        [DeviceSet::Relay(devices)] => assert_replayed(&rt, rt.alloc(), &devices.clock),
         _ => panic!(rt; "the devices didn't come back"),
     }
 }

@@ -5,7 +5,7 @@ use crate::devices::{
     ENDPOINT, Failing, MESSAGE, MemSets, NONE_FAILS, PACKET, UPDATE, devices_of, live_of, octets_of,
 };
 use crate::starters::Starter;
-use amt_live::Opening;
+use amt_live::{DeviceSet, Opening};
 use amt_ports::{ListedSpawner, MemOut, Tried};
 use amt_values::{Bytes, Ip, Peer};
 use replication_workers::Outs;
@@ -297,13 +297,12 @@ fn assert_copies(rt: &impl Abort, alloc: Global, row: &Row, outs: &[MemOut]) {
 fn assert_opened(rt: &impl Abort, row: &Row, asked: &[Opening]) {
     assert_eq!(rt; asked.len(), row.openings, "{}", row.what);
     for opening in asked {
-        let Opening::Relay {
-            listen,
-            feed,
-            slots,
-        } = opening;
-        let is_same = *listen == LISTEN && *feed == FEED && *slots == row.slots;
-        assert!(rt; is_same, "{}: {opening:?}", row.what);
+        let wanted = Opening::Relay {
+            listen: LISTEN,
+            feed: FEED,
+            slots: row.slots,
+        };
+        assert_eq!(rt; *opening, wanted, "{}", row.what);
     }
 }
 
@@ -312,7 +311,7 @@ fn assert_returned<R>(rt: &impl Abort, alloc: Global, row: &Row, live: &Sets<R>)
     assert_opened(rt, row, live.asked());
     match live.returned() {
         [] => assert_eq!(rt; row.outs, 0, "{}", row.what),
-        [devices] => {
+        [DeviceSet::Relay(devices)] => {
             assert_eq!(rt; devices.outs.len(), row.outs, "{}", row.what);
             assert_copies(rt, alloc, row, devices.outs.as_slice());
         }

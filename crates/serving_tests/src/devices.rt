@@ -4,7 +4,7 @@ ghost use Rattle.amt_ports.specs.Arrivals.{IsShortAnswer, IsShortFeedAnswer};
 
 use crate::course::{Course, Failing, Fed, Heard, Turn, peer_of};
 use crate::octets::{WORDS, packet_octets};
-use amt_ports::{FeedAnswer, LinkAnswer, MemClock, MemFeed, MemLink, MemOut, MemWords};
+use amt_ports::{FeedAnswer, LinkAnswer, MemClock, MemFeed, MemLink, MemOut, MemWords, OutLink};
 use amt_values::{Bytes, Moment, Peer};
 use replication_workers::Outs;
 use std::alloc::Global;
@@ -173,12 +173,21 @@ pub fn devices_of(rt: &impl Abort, alloc: Global, course: &Course) -> Devices {
     }
 }
 
-/// So many links out.
-pub fn outs_of(rt: &impl Abort, alloc: Global, count: u32, copy: u64) -> Outs<MemOut> {
+// A link out that has sent one datagram, by which it is known again: to the host of its number.
+fn out_of(rt: &impl Abort, alloc: Global, number: u8, copy: u64) -> MemOut {
+    let fails = if copy == 0 { 0 } else { copy.saturating_add(1) };
+    let mut out = MemOut::failing(alloc, failing(rt, alloc, fails));
+    let Ok(()) = out.send(&peer_of(number), &[]) else {
+        panic!(rt; "the first send succeeds");
+    };
+    out
+}
+
+/// So many links out, each with a send to the host of its number, counted from 1.
+pub fn outs_of(rt: &impl Abort, alloc: Global, count: u8, copy: u64) -> Outs<MemOut> {
     let mut outs = Outs::new(alloc);
-    for _ in 0..count {
-        let out = MemOut::failing(alloc, failing(rt, alloc, copy));
-        let Ok(()) = outs.push(out) else {
+    for number in 1..=count {
+        let Ok(()) = outs.push(out_of(rt, alloc, number, copy)) else {
             panic!(rt; "out of memory");
         };
     }

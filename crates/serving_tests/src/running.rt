@@ -32,7 +32,7 @@ fn serve<R: Wait + Abort, P: Spawner<Worker<MemOut>>>(
 ) -> Served<MemOut> {
     let plan = course.plan;
     assert_lawful(rt, &plan);
-    let slots = plan.workers.max(1);
+    let slots = plan.workers.max(1) as u8;
     let outs = outs_of(rt, alloc, slots, course.failing.copy);
     assert_eq!(rt; outs.len(), slots as usize);
     let Devices {
@@ -71,12 +71,28 @@ fn assert_sends(rt: &impl Abort, alloc: Global, what: &str, tried: &[Tried], sen
     }
 }
 
-// What the links out have tried: what the course says, and the copies of the machine.
+// What a link out has tried since it sent to the host of its number.
+fn tried_in_run<'a>(rt: &impl Abort, what: &str, out: &'a MemOut, number: u64) -> &'a [Tried] {
+    let Some((first, later)) = out.tried().split_first() else {
+        panic!(rt; "{what}: a link out that has sent nothing");
+    };
+    let mark = peer_of(number.min(255) as u8);
+    assert!(rt;
+        first.to == mark,
+        "{what}: another link out came back, {first:?}"
+    );
+    later
+}
+
+// What the links out have tried: what the course says, and the copies of the machine. That of the worker
+// whose start was refused is gone.
 fn assert_outs(rt: &impl Abort, alloc: Global, course: &Course, outs: &[MemOut]) {
     assert_eq!(rt; outs.len(), course.copies.len(), "{}", course.what);
-    for ((out, copies), slot) in outs.iter().zip(course.copies).zip(0..64) {
-        assert_sends(rt, alloc, course.what, out.tried(), copies);
-        assert_by_machine(rt, alloc, course, Device::Slot(slot), out.tried());
+    let numbers = (1..=64).filter(|number| *number != course.failing.start);
+    for (((out, copies), slot), number) in outs.iter().zip(course.copies).zip(0..64).zip(numbers) {
+        let tried = tried_in_run(rt, course.what, out, number);
+        assert_sends(rt, alloc, course.what, tried, copies);
+        assert_by_machine(rt, alloc, course, Device::Slot(slot), tried);
     }
 }
 

@@ -1,17 +1,17 @@
 //! How a running relay takes packets from its feed. It must not know turns.
 ghost use Rattle.std.specs.Prelude.{◌≡◌, ◌≤◌, ◌<◌, ◌+◌, ◌^◌, [], ◌∷◌, length, IsErrOf, OnOk, OnErr, MatchResult};
-ghost use Rattle.amt_ports.specs.declared.feed.FeedAnswer.TheVariants.{Nothing as NothingFed, Closed as FeedClosed};
 ghost use Rattle.relay_machine.specs.declared.event.Event.TheVariants.{Packet};
-ghost use Rattle.relay_serving.specs.Bursts.{AreAsked, IsCausedBy, IsNext};
-ghost use Rattle.relay_serving.specs.Devices.{feed_seen};
+ghost use Rattle.serving_turns.specs.Bursts.{AreAsked, IsNext};
+ghost use Rattle.serving_turns.specs.Causes.{IsCausedBy};
+ghost use Rattle.serving_turns.specs.Devices.{feed_seen};
 ghost use Rattle.relay_serving.specs.Servers.{FeedsSo, HasEvents, IsAsBefore, IsSameRun, counts_in, events_in, owing_in, published_in};
-ghost use Rattle.relay_serving.specs.Turns.{IsPacket};
+ghost use Rattle.relay_serving.specs.Turns.{from_feed};
 
-use super::{Asked, BURST, Server, WAIT_MS};
-use crate::plan::End;
+use super::Server;
 use amt_ports::{Feed, FeedGot, OutLink};
 use amt_values::Bytes;
 use replication_workers::Job;
+use serving_turns::{Asked, BURST, End, WAIT_MS};
 use std::alloc::{AllocError, Global};
 use std::sync::Wait;
 
@@ -71,7 +71,7 @@ impl<O: OutLink + Drop, T> Server<O, T> {
         requires few { (counts_in self.old).packets < 2 ^ 46 }
         requires published { owing_in self.old ≡ [] }
         ensures feeds { FeedsSo self.old self.new (feed_seen (F.coming feed.old) (F.faults feed.old))
-            (feed_seen (F.coming feed.new) (F.faults feed.new)) (IsNext IsPacket NothingFed FeedClosed result) }
+            (feed_seen (F.coming feed.new) (F.faults feed.new)) (IsNext from_feed result) }
         ensures counted { (counts_in self.new).packets ≤ (counts_in self.old).packets + 1 }
         ensures few { length (events_in self.new) ≤ length (events_in self.old) + 1 }
         ensures owing { owing_in self.new ≡ [] }
@@ -102,7 +102,7 @@ impl<O: OutLink + Drop, T> Server<O, T> {
         requires few { (counts_in self.old).packets + 64 ≤ 2 ^ 46 }
         requires published { owing_in self.old ≡ [] }
         ensures feeds { FeedsSo self.old self.new (feed_seen (F.coming feed.old) (F.faults feed.old))
-            (feed_seen (F.coming feed.new) (F.faults feed.new)) (AreAsked IsPacket NothingFed FeedClosed result) }
+            (feed_seen (F.coming feed.new) (F.faults feed.new)) (AreAsked from_feed result) }
         ensures counted { (counts_in self.new).packets ≤ (counts_in self.old).packets + 64 }
         ensures few { length (events_in self.new) ≤ length (events_in self.old) + 64 }
         ensures owing { owing_in self.new ≡ [] }

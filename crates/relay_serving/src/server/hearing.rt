@@ -1,21 +1,21 @@
 //! How a running relay hears its link. It must not know turns.
 ghost use Rattle.std.specs.Prelude.{◌≡◌, ◌≤◌, ◌<◌, ◌+◌, ◌^◌, [], ◌∷◌, length, map, IsErrOf, OnOk, OnErr};
-ghost use Rattle.amt_ports.specs.declared.link.LinkAnswer.TheVariants.{Nothing as NothingCame, Closed as LinkClosed};
 ghost use Rattle.relay_machine.specs.Answers.{sends_of};
 ghost use Rattle.relay_machine.specs.declared.event.Event.TheVariants.{Datagram};
+ghost use Rattle.serving_turns.specs.Bursts.{AreAsked, IsNext};
+ghost use Rattle.serving_turns.specs.Causes.{IsCausedBy};
+ghost use Rattle.serving_turns.specs.Devices.{link_seen};
 ghost use Rattle.replication_workers.specs.Replication.{to_peer};
-ghost use Rattle.relay_serving.specs.Bursts.{AreAsked, IsCausedBy, IsNext};
 ghost use Rattle.relay_serving.specs.Counting.{HasAnswered};
-ghost use Rattle.relay_serving.specs.Devices.{link_seen};
 ghost use Rattle.relay_serving.specs.Servers.{HasEvents, HearsSo, IsAsBefore, counts_in, events_in, first_in, published_in, settings_in};
-ghost use Rattle.relay_serving.specs.Turns.{IsDatagram};
+ghost use Rattle.relay_serving.specs.Turns.{from_link};
 
-use super::{Asked, BURST, Server, WAIT_MS};
+use super::Server;
 use crate::counts::Counts;
-use crate::plan::End;
 use amt_ports::{Got, Link, OutLink};
 use amt_values::{Bytes, Peer};
 use relay_machine::{Event, OneSend};
+use serving_turns::{Asked, BURST, End, WAIT_MS};
 use std::alloc::{AllocError, Global};
 
 // Tries to send each, in order, and counts them. One that the link doesn't take isn't tried again.
@@ -83,7 +83,7 @@ impl<O: OutLink + Drop, T> Server<O, T> {
         ensures hears { HearsSo self.old self.new
             (link_seen (L.coming link.old) (L.tried link.old) (L.receive_faults link.old) (L.send_faults link.old))
             (link_seen (L.coming link.new) (L.tried link.new) (L.receive_faults link.new) (L.send_faults link.new))
-            (IsNext IsDatagram NothingCame LinkClosed result) }
+            (IsNext from_link result) }
         ensures few { length (events_in self.new) ≤ length (events_in self.old) + 1 }
         ensures of_link { IsErrOf result End.FeedFault → ⊥ }
         ensures cause { IsCausedBy result End.LinkFault (L.receive_faults link.old) (L.receive_faults link.new) }
@@ -114,7 +114,7 @@ impl<O: OutLink + Drop, T> Server<O, T> {
         ensures hears { HearsSo self.old self.new
             (link_seen (L.coming link.old) (L.tried link.old) (L.receive_faults link.old) (L.send_faults link.old))
             (link_seen (L.coming link.new) (L.tried link.new) (L.receive_faults link.new) (L.send_faults link.new))
-            (AreAsked IsDatagram NothingCame LinkClosed result) }
+            (AreAsked from_link result) }
         ensures few { length (events_in self.new) ≤ length (events_in self.old) + 64 }
         ensures of_link { IsErrOf result End.FeedFault → ⊥ }
         ensures cause { IsCausedBy result End.LinkFault (L.receive_faults link.old) (L.receive_faults link.new) }

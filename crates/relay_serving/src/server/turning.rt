@@ -1,17 +1,19 @@
 //! One turn of a running relay, and all of a run. It must not know how a relay is started or ended.
 ghost use Rattle.std.specs.Prelude.{◌≡◌, ◌≤◌, ◌<◌, ◌+◌, ◌*◌, ◌^◌, [], length, None};
-ghost use Rattle.relay_serving.specs.Bursts.{IsCausedBy};
-ghost use Rattle.relay_serving.specs.Devices.{devices_seen, feed_seen, link_seen, words_seen};
+ghost use Rattle.serving_turns.specs.Causes.{IsCausedBy};
+ghost use Rattle.serving_turns.specs.Devices.{feed_seen, link_seen, words_seen};
+ghost use Rattle.relay_serving.specs.Devices.{devices_seen};
 ghost use Rattle.relay_serving.specs.Plans.{IsLawfulPlan};
 ghost use Rattle.relay_serving.specs.Servers.{IsAsBefore, counts_in, events_in, now_in, owing_in};
 ghost use Rattle.relay_serving.specs.Stages.{BeginsSo};
 ghost use Rattle.relay_serving.specs.Turning.{AreCausesOf, EndsIn, RunsSo, TurnsSo};
 
 use super::Server;
-use crate::plan::{End, ServePlan};
+use crate::plan::ServePlan;
 use crate::renewal::Renewal;
 use crate::secret::draw_secret;
 use amt_ports::{Clock, Feed, Link, OutLink, Words};
+use serving_turns::End;
 use std::alloc::Global;
 use std::sync::Wait;
 

@@ -24,7 +24,8 @@ pub fn start_each<O: OutLink + Drop, P: Spawner<Worker<O>>>(
     requires room { length ready.old.items ≤ vec_capacity kept.old }
     ensures started { OnOk result (AreStarted P.task_of (from_the_end ready.old.items) kept.new.items) }
     ensures refused { OnErr result (HasRefusedOne P.task_of
-        (from_the_end ready.old.items) (from_the_end ready.new.items) kept.new.items) }
+        (from_the_end ready.old.items) (from_the_end ready.new.items) kept.new.items
+        (P.starts spawner.old) (P.starts spawner.new)) }
 
     ensures room { vec_capacity kept.new ≡ vec_capacity kept.old }
     ensures taken { length ready.new.items + length kept.new.items ≤ length ready.old.items }

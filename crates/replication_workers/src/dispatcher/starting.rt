@@ -3,13 +3,12 @@ ghost use Rattle.std.specs.Prelude.{◌≡◌, ◌≤◌, ◌+◌, [], true, fal
 ghost use Rattle.std.specs.List.{All};
 ghost use Rattle.amt_ports.specs.Causes.{Rose};
 ghost use Rattle.published_table.specs.Views.{views_of};
-ghost use Rattle.replication_workers.specs.Backs.{AllButOneBack};
 ghost use Rattle.replication_workers.specs.Dispatchers.{AllRun, held_by, is_threaded, slots_of};
 ghost use Rattle.replication_workers.specs.Gathering.{HasRoom, IsFresh};
 ghost use Rattle.replication_workers.specs.KeptSlots.{IsRunBy, state_of};
 ghost use Rattle.replication_workers.specs.SlotStates.{jobs_in_all, new_slot};
 ghost use Rattle.replication_workers.specs.Slots.{from_the_end};
-ghost use Rattle.replication_workers.specs.Starting.{GivesAllButOne, HaveStarted, OnFailed, OnMemory};
+ghost use Rattle.replication_workers.specs.Starting.{AllButOneBack, GivesAllButOne, HaveStarted, OnFailed, OnMemory};
 
 use super::filling::{keep_inline, start_each};
 use super::finishing::finish_all;
@@ -82,7 +81,8 @@ fn start_workers<O: OutLink + Drop, R: Wait, P: Spawner<Worker<O>>>(
     ensures memory { IfErr result (λ fault. OnMemory fault (λ back. back ≡ slots.items)) }
     ensures before { IfErr result (λ fault. OnMemory fault (λ _. (P.starts spawner.new ≡ P.starts spawner.old)
         × (P.faults spawner.new ≡ P.faults spawner.old))) }
-    ensures failed { IfErr result (λ fault. OnFailed fault (λ outs views. AllButOneBack slots.items outs views)) }
+    ensures failed { IfErr result (λ fault. OnFailed fault
+        (AllButOneBack slots.items (P.starts spawner.old) (P.starts spawner.new))) }
     ensures cause { IfErr result (λ fault. OnFailed fault
         (λ _ _. Rose (P.faults spawner.old) (P.faults spawner.new))) }
 {
@@ -152,7 +152,8 @@ impl<O: OutLink + Drop, T> Dispatcher<O, T> {
         ensures memory { IfErr result (λ fault. OnMemory fault (λ back. back ≡ slots)) }
         ensures before { IfErr result (λ fault. OnMemory fault (λ _. (P.starts spawner.new ≡ P.starts spawner.old)
             × (P.faults spawner.new ≡ P.faults spawner.old))) }
-        ensures failed { IfErr result (λ fault. OnFailed fault (λ outs views. AllButOneBack slots outs views)) }
+        ensures failed { IfErr result (λ fault. OnFailed fault
+            (AllButOneBack slots (P.starts spawner.old) (P.starts spawner.new))) }
         ensures cause { IfErr result (λ fault. OnFailed fault (λ _ _. (threads ≡ true)
             × Rose (P.faults spawner.old) (P.faults spawner.new))) }
     {

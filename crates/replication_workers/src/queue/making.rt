@@ -1,7 +1,7 @@
 //! How a queue is made. It must not know jobs.
 ghost use Rattle.std.specs.Prelude.{◌≡◌, [], ◌∷◌, IfOk};
 ghost use Rattle.crossbeam_channel.specs.Claims.{IsSeatAt, view};
-ghost use Rattle.crossbeam_channel.specs.Ends.{receives_on, sends_on};
+ghost use Rattle.crossbeam_channel.specs.Ends.{receives_on, ruled_capacity, sends_on};
 ghost use Rattle.replication_workers.specs.Queue.{IsPutting, IsTaking, jobs_of, settled, whole_end};
 ghost use Rattle.replication_workers.specs.declared.queue.Item.TheVariants.{Home};
 
@@ -46,6 +46,7 @@ pub fn make_queue<R: Wait>(
         × (jobs_of (view made.1).put ≡ []) × ((view made.1).home ≡ home.now ∷ [])) }
     ensures taking { IfOk result (λ made. IsTaking (view made.3)
         × ((view made.3).taken ≡ []) × ((view made.3).home ≡ home.now ∷ [])) }
+    ensures places { IfOk result (λ made. ruled_capacity (sends_on made.0) ≡ 257) }
 {
     let (sender, receiver, mut pass) = bounded_with::<Item, End, InOrder, Global>(alloc, PLACES)?;
     settle(rt, &sender, &mut pass, Snapshot::of(home));

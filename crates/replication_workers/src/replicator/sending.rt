@@ -2,7 +2,8 @@
 ghost use Rattle.std.specs.Prelude.{◌≡◌, ◌≤◌, ◌∷◌, ◌+◌, length, map, vec_capacity};
 ghost use Rattle.amt_messages.specs.Layout.{spelling_of};
 ghost use Rattle.amt_messages.specs.declared.message.Message.TheVariants.{Multicast};
-ghost use Rattle.replication_workers.specs.Replication.{HasTried, with_message};
+ghost use Rattle.replication_workers.specs.Replication.{with_message};
+ghost use Rattle.serving_turns.specs.Tried.{HasTried};
 
 use amt_ports::OutLink;
 use amt_values::Endpoint;

@@ -72,6 +72,17 @@ returns-clause-relays g c = λ file turns workers line.
       prefix = c.report.ensures.prefix;
     }
 
+pub returns-clause-gateways : goal.returns-clause-gateways
+returns-clause-gateways g c = λ file turns line.
+    let result = c.run-ending.result in
+    let run = c.run-ending.ensures in
+    record {
+      text = line_of result;
+      shown = rw c.status_of.ensures (run.gateways file turns line);
+      line = c.report.ensures.line;
+      prefix = c.report.ensures.prefix;
+    }
+
 pub returns-clause-one_value : goal.returns-clause-one_value
 returns-clause-one_value g c = one_value_of
 

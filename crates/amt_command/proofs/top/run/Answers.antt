@@ -1,7 +1,7 @@
 use Rattle.std.proofs.Common.{Err, map, string_bytes, ap, subst}
 use Rattle.amt_words.specs.Line.{IsCommandLine}
 use Rattle.amt_words.specs.declared.command.Command.{Command}
-use Rattle.amt_words.specs.declared.command.Command.TheVariants.{Relay as RelayServing}
+use Rattle.amt_words.specs.declared.command.Command.TheVariants.{Gateway as GatewayServing, Relay as RelayServing}
 use Rattle.amt_words.specs.declared.command.WordsFault.{WordsFault}
 use Rattle.amt_command.proofs.top.run.Goals as goal
 
@@ -29,12 +29,32 @@ returns-in-Err-clause-relays g c = λ file turns workers line.
     c.in-Err.ensures.relays file turns workers
     (c.in-Ok.ensures.one_command (map string_bytes c.args.words.now) c.in-Ok.command (RelayServing file turns workers) c.in-Ok.ensures.found line)
 
+pub returns-in-Err-Usage-clause-gateways : goal.returns-in-Err-Usage-clause-gateways
+returns-in-Err-Usage-clause-gateways g c = λ file turns line.
+    absurd (c.in-Err-Usage.ensures.usage (ap (λ (fault : WordsFault). Err fault) c.in-Err-Usage.field-0-is) (GatewayServing file turns) line)
+
+pub returns-in-Ok-run_command-clause-gateways : goal.returns-in-Ok-run_command-clause-gateways
+returns-in-Ok-run_command-clause-gateways g c = λ file turns line.
+    c.in-Ok-run_command.ensures.gateways file turns
+    (c.in-Ok.ensures.one_command (map string_bytes c.args.words.now) c.in-Ok.command (GatewayServing file turns) c.in-Ok.ensures.found line)
+
+pub returns-in-Err-clause-gateways : goal.returns-in-Err-clause-gateways
+returns-in-Err-clause-gateways g c = λ file turns line.
+    c.in-Err.ensures.gateways file turns
+    (c.in-Ok.ensures.one_command (map string_bytes c.args.words.now) c.in-Ok.command (GatewayServing file turns) c.in-Ok.ensures.found line)
+
 pub returns-in-Ok-run_command-clause-unused : goal.returns-in-Ok-run_command-clause-unused
-returns-in-Ok-run_command-clause-unused g c = λ none.
-    c.in-Ok-run_command.ensures.unused (λ file turns workers same.
-    none (file, turns, workers, subst (λ (command : Command). IsCommandLine command (map string_bytes c.args.words.now)) same c.in-Ok.ensures.found))
+returns-in-Ok-run_command-clause-unused g c = λ no_relay no_gateway.
+    c.in-Ok-run_command.ensures.unused
+    (λ file turns workers same.
+    no_relay (file, turns, workers, subst (λ (command : Command). IsCommandLine command (map string_bytes c.args.words.now)) same c.in-Ok.ensures.found))
+    (λ file turns same.
+    no_gateway (file, turns, subst (λ (command : Command). IsCommandLine command (map string_bytes c.args.words.now)) same c.in-Ok.ensures.found))
 
 pub returns-in-Err-clause-unused : goal.returns-in-Err-clause-unused
-returns-in-Err-clause-unused g c = λ none.
-    c.in-Err.ensures.unused (λ file turns workers same.
-    none (file, turns, workers, subst (λ (command : Command). IsCommandLine command (map string_bytes c.args.words.now)) same c.in-Ok.ensures.found))
+returns-in-Err-clause-unused g c = λ no_relay no_gateway.
+    c.in-Err.ensures.unused
+    (λ file turns workers same.
+    no_relay (file, turns, workers, subst (λ (command : Command). IsCommandLine command (map string_bytes c.args.words.now)) same c.in-Ok.ensures.found))
+    (λ file turns same.
+    no_gateway (file, turns, subst (λ (command : Command). IsCommandLine command (map string_bytes c.args.words.now)) same c.in-Ok.ensures.found))

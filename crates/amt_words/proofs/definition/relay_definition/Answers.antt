@@ -11,10 +11,9 @@ returns-clause-given c =
     let turns = c.turns_argument.ensures in
     let workers = c.workers_argument.ensures in
     IfOk-weaker c.arg-3.result _ _ (λ r added m parsed.
-    relay_given c.bare_definition.result c.in_ok-definition.definition c.in_ok-arg.field-0 r
-    c.file_argument.result c.turns_argument.result c.workers_argument.result m
-    c.in_ok-definition.ensures c.in_ok-arg.ensures added bare.empty.0 bare.empty.1 bare.local.0 bare.local.1
-    file.plain turns.plain workers.plain file.value
-    (ap (λ (a : Rule). a.id) file.rule, ap (λ (a : Rule). a.id) turns.rule, ap (λ (a : Rule). a.id) workers.rule)
-    (ap (λ (a : Rule). a.parser) turns.rule) (ap (λ (a : Rule). a.parser) workers.rule) parsed)
+    relay_given c.bare_definition.result c.in_ok-definition.definition c.in_ok-arg.field-0
+    c.file_argument.result c.turns_argument.result
+    c.in_ok-definition.ensures c.in_ok-arg.ensures bare.empty.0 bare.empty.1 bare.local.0 bare.local.1
+    file.plain turns.plain file.value (ap (λ (a : Rule). a.id) file.rule) (ap (λ (a : Rule). a.id) turns.rule) (ap (λ (a : Rule). a.parser) turns.rule)
+    r c.workers_argument.result m added workers.plain (ap (λ (a : Rule). a.id) workers.rule) (ap (λ (a : Rule). a.parser) workers.rule) parsed)
     c.arg-3.ensures

@@ -1,7 +1,6 @@
-use Rattle.std.proofs.Common.{◌∙◌, codes, refl, sym, ap, map, string_bytes}
+use Rattle.std.proofs.Common.{◌∙◌, codes, sym, ap, map, string_bytes}
 use Rattle.clap.specs.Words.{App, fault_of, found_of}
-use Rattle.amt_words.specs.Line.{turns_or_most}
-use Rattle.amt_words.proofs.Reading.{given_number, given_word}
+use Rattle.amt_words.proofs.Reading.{given_number, given_run}
 use Rattle.amt_words.proofs.relay.read_relay.Goals as goal
 
 pub turns-requires : goal.turns-requires
@@ -25,8 +24,4 @@ returns-in-Ok-parse-clause-given c =
     let words = map string_bytes c.args.words.now in
     let rows = c.in-Ok-parse.ensures.rows in
     let is = c.in-Ok.ensures.usage in
-    record {
-      file_is = given_word found _ _ words rows is (codes "FILE") _ c.file.ensures.word;
-      turns_are = ap turns_or_most (given_number found _ _ words rows is (codes "turns") _ refl) ∙ c.turns.ensures.value;
-      workers_are = given_number found _ _ words rows is (codes "workers") _ c.workers.ensures.value;
-    }
+    (given_run found _ _ words rows is _ _ c.file.ensures.word c.turns.ensures.value, given_number found _ _ words rows is (codes "workers") _ c.workers.ensures.value)

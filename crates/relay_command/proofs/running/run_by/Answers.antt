@@ -1,8 +1,8 @@
 use Rattle.std.proofs.Math.Logic.{∥∥₁_map}
 use Rattle.published_table.specs.Views.{views_of}
-use Rattle.relay_command.proofs.Planning.{has_room}
 use Rattle.relay_command.proofs.Runs.{ran, refused}
 use Rattle.relay_command.proofs.running.run_by.Goals as goal
+use Rattle.serving_commands.proofs.Lending.{has_room}
 
 pub returns-in-Err-clause-refused : goal.returns-in-Err-clause-refused
 returns-in-Err-clause-refused g c =
@@ -19,8 +19,7 @@ returns-clause-ran g c =
     let back = c.return_relay.ensures in
     let served = c.serve_relay-outs in
     ∥∥₁_map served.ensures.serves
-    (ran _
-    c.args.config.now c.args.plan.now c.args.live.now c.open_relay.new.self c.return_relay.new.self c.in-Ok.devices
+    (ran _ c.args.config.now c.args.plan.now c.args.live.now c.open_relay.new.self c.return_relay.new.self c.in-Ok.devices
     (record {
       link = served.new.link;
       feed = served.new.feed;
@@ -29,5 +28,5 @@ returns-clause-ran g c =
       outs = served.result.outs;
       spawner = served.new.spawner;
     }) (views_of served.result.views) served.result.report c.settings.result c.max-slots.result c.settings.ensures c.max-slots.ensures
-    opening.outs opening.first opening.room c.open_relay.ensures.asked opening.tells c.open_relay.ensures.returned
+    opening.outs c.open_relay.ensures.asked opening.first opening.tells c.open_relay.ensures.returned opening.room
     back.returned back.tells back.room back.kept back.asked)

@@ -3,10 +3,11 @@ use Rattle.std.proofs.Math.Logic.{∥∥₁_map}
 use Rattle.amt_live.specs.declared.live.OpenFault.{OpenFault}
 use Rattle.relay_serving.specs.Plans.{IsLawfulPlan}
 use Rattle.relay_serving.specs.declared.plan.ServePlan.{ServePlan}
-use Rattle.relay_command.proofs.Deciding.{decided_on, decided_too, of_other}
 use Rattle.relay_command.proofs.Planning.{lawful_plan, lawful_settings}
 use Rattle.relay_command.proofs.Runs.{ran_by, refused_by}
 use Rattle.relay_command.proofs.running.run_relay.Goals as goal
+use Rattle.serving_commands.proofs.Deciding.{decided_on, decided_too, of_other}
+use Rattle.serving_commands.specs.Kinds.{relay_file}
 
 pub returns-in-Err-clause-unread : goal.returns-in-Err-clause-unread
 returns-in-Err-clause-unread g c = λ is. c.in-Err.ensures.failed (of_other c.in-Err.fault _ is)
@@ -18,7 +19,7 @@ pub returns-in-Err-clause-fault : goal.returns-in-Err-clause-fault
 returns-in-Err-clause-fault g c = c.in-Err.ensures.fault
 
 pub returns-in-Err-clause-decided : goal.returns-in-Err-clause-decided
-returns-in-Err-clause-decided g c = λ octets told. decided_too octets c.in-Err.fault (c.in-Err.ensures.decided octets told)
+returns-in-Err-clause-decided g c = λ octets told. decided_too relay_file octets c.in-Err.fault (c.in-Err.ensures.decided octets told)
 
 pub returns-in-Err-clause-unopened : goal.returns-in-Err-clause-unopened
 returns-in-Err-clause-unopened g c = λ is. absurd (c.in-Err.ensures.opens_none (of_other c.in-Err.fault _ is))
@@ -59,7 +60,7 @@ pub returns-in-Ok-run_by-clause-absent : goal.returns-in-Ok-run_by-clause-absent
 returns-in-Ok-run_by-clause-absent g c = λ lacks. absurd (cc (c.in-Ok.ensures.absent lacks))
 
 pub returns-in-Ok-run_by-clause-decided : goal.returns-in-Ok-run_by-clause-decided
-returns-in-Ok-run_by-clause-decided g c = λ octets told. decided_on octets c.in-Ok.config (Ok c.in-Ok-run_by.report) (c.in-Ok.ensures.decided octets told) tt
+returns-in-Ok-run_by-clause-decided g c = λ octets told. decided_on relay_file octets c.in-Ok.config (Ok c.in-Ok-run_by.report) (c.in-Ok.ensures.decided octets told) tt
 
 pub returns-in-Ok-run_by-clause-calm_files : goal.returns-in-Ok-run_by-clause-calm_files
 returns-in-Ok-run_by-clause-calm_files g c = λ other. c.in-Ok.ensures.quiet (λ is. cc is)
@@ -86,7 +87,7 @@ pub returns-in-Err-Failed-clause-absent : goal.returns-in-Err-Failed-clause-abse
 returns-in-Err-Failed-clause-absent g c = λ lacks. absurd (cc (c.in-Ok.ensures.absent lacks))
 
 pub returns-in-Err-Failed-clause-decided : goal.returns-in-Err-Failed-clause-decided
-returns-in-Err-Failed-clause-decided g c = λ octets told. decided_on octets c.in-Ok.config _ (c.in-Ok.ensures.decided octets told) tt
+returns-in-Err-Failed-clause-decided g c = λ octets told. decided_on relay_file octets c.in-Ok.config _ (c.in-Ok.ensures.decided octets told) tt
 
 pub returns-in-Err-Failed-clause-calm_files : goal.returns-in-Err-Failed-clause-calm_files
 returns-in-Err-Failed-clause-calm_files g c = λ other. c.in-Ok.ensures.quiet (λ is. cc is)
@@ -116,7 +117,7 @@ pub returns-in-Err-Memory-clause-absent : goal.returns-in-Err-Memory-clause-abse
 returns-in-Err-Memory-clause-absent g c = λ lacks. absurd (cc (c.in-Ok.ensures.absent lacks))
 
 pub returns-in-Err-Memory-clause-decided : goal.returns-in-Err-Memory-clause-decided
-returns-in-Err-Memory-clause-decided g c = λ octets told. decided_on octets c.in-Ok.config _ (c.in-Ok.ensures.decided octets told) tt
+returns-in-Err-Memory-clause-decided g c = λ octets told. decided_on relay_file octets c.in-Ok.config _ (c.in-Ok.ensures.decided octets told) tt
 
 pub returns-in-Err-Memory-clause-calm_files : goal.returns-in-Err-Memory-clause-calm_files
 returns-in-Err-Memory-clause-calm_files g c = λ other. c.in-Ok.ensures.quiet (λ is. cc is)

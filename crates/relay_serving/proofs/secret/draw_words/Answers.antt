@@ -1,6 +1,7 @@
 use Rattle.std.proofs.Common.{arith}
 use Rattle.std.proofs.lemmas.Result.{err_from_is_err_and}
-use Rattle.relay_serving.proofs.Drawing.{AppendsAll-then, HasDrawn-fewer}
+use Rattle.serving_turns.proofs.Lists.{AppendsAll-then}
+use Rattle.relay_serving.proofs.Drawing.{HasDrawn-fewer}
 use Rattle.relay_serving.proofs.secret.draw_words.Goals as goal
 
 pub returns-in_err-three-clause-drawn : goal.returns-in_err-three-clause-drawn

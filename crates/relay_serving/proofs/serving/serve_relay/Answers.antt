@@ -6,7 +6,7 @@ use Rattle.replication_workers.specs.Starting.{HaveStarted}
 use Rattle.relay_serving.specs.Devices.{outs_seen}
 use Rattle.relay_serving.specs.GivenOut.{starts_in}
 use Rattle.relay_serving.specs.Servers.{slots_in}
-use Rattle.relay_serving.proofs.WholeRuns.{few_in_all, few_words, four_words, has_risen, is_quiet, reported, serves_run, serves_unsown, serves_unstarted}
+use Rattle.relay_serving.proofs.WholeRuns.{few_in_all, few_words, four_words, has_risen, is_quiet, reported, serves_run, serves_unstarted, serves_without_secret}
 use Rattle.relay_serving.proofs.serving.serve_relay.Goals as goal
 
 pub returns-in_default : goal.returns-in_default
@@ -14,7 +14,7 @@ returns-in_default g c =
     let drawn = c.draw_secret.ensures.drawn in
     let seen = outs_seen g.O.OutLink.tried g.O.OutLink.faults in record {
       serves = ∣ reported _ _ _ _ _ _ _ _ _ _ _ (ap seen c.unused.ensures.outs) c.unused.ensures.views c.unused.ensures.report
-          (serves_unsown _ _ drawn.words _ _ _ _ _ _ _ _ drawn.given (few_words _ _ _ _ drawn c.in_default.is) (has_risen _ _ _ _ c.draw_secret.ensures.cause c.in_default.is)) ∣₁;
+          (serves_without_secret _ _ drawn.words _ _ _ _ _ _ _ _ drawn.given (few_words _ _ _ _ drawn c.in_default.is) (has_risen _ _ _ _ c.draw_secret.ensures.cause c.in_default.is)) ∣₁;
     }
 
 pub returns-in_default-new : goal.returns-in_default-new

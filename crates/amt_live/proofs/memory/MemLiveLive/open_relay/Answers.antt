@@ -1,12 +1,30 @@
-use Rattle.std.proofs.Common.{◌≡◌, ◌⊎◌, Contains, false, subst}
+use Rattle.std.proofs.Common.{◌≡◌, ◌⊎◌, ◌∙◌, Contains, ap, false, inl, inr, subst, sym}
 use Rattle.amt_ports.specs.Causes.{next_count}
-use Rattle.amt_live.specs.Sets.{fits}
+use Rattle.amt_ports.specs.Tally.{with_call}
+use Rattle.amt_live.specs.Sets.{fits_relay}
+use Rattle.amt_live.specs.declared.live.OpenFault.TheVariants.{Failed}
+use Rattle.amt_live.proofs.Faults.{same_fault}
 use Rattle.amt_live.proofs.memory.MemLiveLive.open_relay.Goals as goal
 
-pub returns-in_default-clause-only : goal.returns-in_default-clause-only
-returns-in_default-clause-only g c = λ _.
-    let fails =
-    subst (λ sets. Contains c.self.inside.calls.failing (next_count c.self.inside.calls.made) ⊎ (fits c.args.slots sets ≡ false))
-    c.as_slice.ensures.value c.in_default.ensures.only in
-    subst (λ live. Contains live.calls.failing (next_count live.calls.made) ⊎ (fits c.args.slots live.relays ≡ false))
-    c.self.view_is fails
+pub returns-in-Err-clause-quiet : goal.returns-in-Err-clause-quiet
+returns-in-Err-clause-quiet g c = λ other.
+    let counted = c.in-Err.ensures.ok (λ is. other (same_fault c.in-Err.fault Failed is)) in
+    subst (λ live. c.admit.new.calls.faults ≡ live.calls.faults) c.self.view_is (ap (λ calls. calls.faults) counted)
+
+pub returns-in-Err-clause-listed : goal.returns-in-Err-clause-listed
+returns-in-Err-clause-listed g c = λ listed.
+    same_fault c.in-Err.fault Failed
+    (c.in-Err.ensures.listed (subst (λ live. Contains live.calls.failing (next_count live.calls.made)) (sym c.self.view_is) listed))
+
+pub returns-in-Err-clause-only : goal.returns-in-Err-clause-only
+returns-in-Err-clause-only g c = λ is.
+    subst (λ live. Contains live.calls.failing (next_count live.calls.made) ⊎ (fits_relay c.args.slots live.sets ≡ false)) c.self.view_is
+    (elim (c.in-Err.ensures.only (same_fault c.in-Err.fault Failed is)) [
+      | inl listed ↦ inl listed
+      | inr unfit ↦ inr (subst (λ sets. fits_relay c.args.slots sets ≡ false) c.as_slice.ensures.value (sym c.fits_relay-fits.ensures ∙ unfit))
+    ])
+
+pub returns-in-Err-clause-ok : goal.returns-in-Err-clause-ok
+returns-in-Err-clause-ok g c = λ other.
+    let counted = c.in-Err.ensures.ok (λ is. other (same_fault c.in-Err.fault Failed is)) in
+    subst (λ live. c.admit.new.calls ≡ with_call live.calls) c.self.view_is counted

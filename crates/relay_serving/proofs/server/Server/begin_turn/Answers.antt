@@ -1,8 +1,8 @@
 use Rattle.std.proofs.Common.{[], max, length, length-append, arith, ap, sym, ◌∙◌, refl, subst}
+use Rattle.serving_turns.proofs.Lists.{AppendsAll-none}
 use Rattle.relay_serving.specs.Servers.{HasEvents, events_in}
 use Rattle.relay_serving.specs.Turns.{words_due}
 use Rattle.relay_serving.proofs.Beginning.{begins, ok_gives, rotation-few, rotation-four}
-use Rattle.relay_serving.proofs.Drawing.{AppendsAll-none}
 use Rattle.relay_serving.proofs.Events.{HasEvents-none, IsAsBefore-same}
 use Rattle.relay_serving.proofs.server.Server.begin_turn.Goals as goal
 

@@ -1,17 +1,17 @@
 use Rattle.std.proofs.Common.{refl, ◌∙◌, arith}
-use Rattle.std.specs.Prelude.{Ok, Err}
 use Rattle.std.proofs.lemmas.Result.{err_from_is_err_and}
-use Rattle.relay_serving.specs.Devices.{feed_seen}
-use Rattle.relay_serving.specs.declared.plan.End.TheVariants.{FeedFault, LinkFault}
-use Rattle.relay_serving.proofs.Bursts.{not_cause, other_end, same_cause}
-use Rattle.relay_serving.proofs.SoFar.{feeds_end, feeds_first, feeds_full, feeds_more, feeds_nothing}
+use Rattle.serving_turns.specs.declared.end.End.TheVariants.{FeedFault, LinkFault}
+use Rattle.serving_turns.proofs.Causes.{not_cause, other_end, same_cause}
+use Rattle.serving_turns.proofs.SoFar.{all_asked, none_asked, one_more, then_ends, then_nothing}
+use Rattle.relay_serving.proofs.Events.{IsAsBefore-same}
+use Rattle.relay_serving.proofs.Hearing.{Feeds-none, feeds_on}
 use Rattle.relay_serving.proofs.server.Server.feed.Goals as goal
 
 pub loop-init : goal.loop-init
 loop-init g c =
     let L = g.F.Feed in
     record {
-      fed = feeds_first c.args.self.now (feed_seen (L.coming c.args.feed.now) (L.faults c.args.feed.now));
+      fed = none_asked _ _ _ (Feeds-none _ _ _ _ (IsAsBefore-same c.args.self.now) refl);
       faults = refl;
       counted = omega arith;
       few = omega arith;
@@ -38,7 +38,7 @@ pub returns-in_err-feed_next-clause-feeds : goal.returns-in_err-feed_next-clause
 returns-in_err-feed_next-clause-feeds g c =
     let L = g.F.Feed in
     let p = err_from_is_err_and c.from_residual.result c.from_residual.ensures.1 in
-    rw (p.1, p.2) (feeds_end c.args.self.now c.loop.self c.feed_next.new.self (feed_seen (L.coming c.args.feed.now) (L.faults c.args.feed.now)) (feed_seen (L.coming c.loop.feed) (L.faults c.loop.feed)) (feed_seen (L.coming c.feed_next.new.feed) (L.faults c.feed_next.new.feed)) c.loop.counter (Err c.in_err-feed_next.field-0.0) c.in_err-feed_next.field-0.0 refl c.loop-test.true c.loop.invariant.fed c.in_err-feed_next.ensures.feeds)
+    rw (p.1, p.2) (then_ends _ _ feeds_on _ _ _ _ _ _ refl c.loop-test.true c.loop.invariant.fed c.in_err-feed_next.ensures.feeds)
 
 pub returns-in_err-feed_next-clause-counted : goal.returns-in_err-feed_next-clause-counted
 returns-in_err-feed_next-clause-counted g c =
@@ -74,7 +74,7 @@ returns-in_err-feed_next-clause-buffer g c =
 pub returns-in-Nothing-clause-feeds : goal.returns-in-Nothing-clause-feeds
 returns-in-Nothing-clause-feeds g c =
     let L = g.F.Feed in
-    feeds_nothing c.args.self.now c.loop.self c.feed_next.new.self (feed_seen (L.coming c.args.feed.now) (L.faults c.args.feed.now)) (feed_seen (L.coming c.loop.feed) (L.faults c.loop.feed)) (feed_seen (L.coming c.feed_next.new.feed) (L.faults c.feed_next.new.feed)) c.loop.counter (Ok c.in_ok-feed_next.field-0) c.in_ok-feed_next.field-0 tt refl c.in-Nothing.is c.loop-test.true c.loop.invariant.fed c.in_ok-feed_next.ensures.feeds
+    then_nothing _ _ feeds_on _ _ _ _ _ _ tt refl c.in-Nothing.is c.loop-test.true c.loop.invariant.fed c.in_ok-feed_next.ensures.feeds
 
 pub returns-in-Nothing-clause-counted : goal.returns-in-Nothing-clause-counted
 returns-in-Nothing-clause-counted g c =
@@ -112,7 +112,7 @@ loop-preserved g c =
     let sofar_few = c.loop.invariant.few in
     let next_few = c.feed_next.ensures.few in
     record {
-      fed = feeds_more c.args.self.now c.loop.self c.feed_next.new.self (feed_seen (L.coming c.args.feed.now) (L.faults c.args.feed.now)) (feed_seen (L.coming c.loop.feed) (L.faults c.loop.feed)) (feed_seen (L.coming c.feed_next.new.feed) (L.faults c.feed_next.new.feed)) c.loop.counter (Ok c.in_ok-feed_next.field-0) c.in_ok-feed_next.field-0 refl c.in-Something.is c.loop.invariant.fed c.in_ok-feed_next.ensures.feeds;
+      fed = one_more _ _ feeds_on _ _ _ _ _ _ refl c.in-Something.is c.loop.invariant.fed c.in_ok-feed_next.ensures.feeds;
       faults = c.in_ok-feed_next.ensures.cause.calm (λ is. cc) ∙ c.loop.invariant.faults;
       counted = omega (arith, sofar_counted, next_counted);
       few = omega (arith, sofar_few, next_few);
@@ -125,7 +125,7 @@ returns-clause-feeds g c =
     let L = g.F.Feed in
     let over = c.loop-test.false in
     let within = c.loop.auto.counter-end in
-    feeds_full c.args.self.now c.loop.self (feed_seen (L.coming c.args.feed.now) (L.faults c.args.feed.now)) (feed_seen (L.coming c.loop.feed) (L.faults c.loop.feed)) c.loop.counter tt (omega (arith, over, within)) c.loop.invariant.fed
+    all_asked _ _ _ _ _ tt (omega (arith, over, within)) c.loop.invariant.fed
 
 pub returns-clause-counted : goal.returns-clause-counted
 returns-clause-counted g c =

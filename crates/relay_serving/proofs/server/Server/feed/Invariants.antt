@@ -1,14 +1,16 @@
 -- Each asking so far found a packet.
 use Rattle.std.proofs.Common.{◌≡◌, ◌≤◌, ◌+◌, [], length}
-use Rattle.relay_serving.specs.Devices.{feed_seen}
-use Rattle.relay_serving.specs.Servers.{counts_in, events_in, owing_in}
-use Rattle.relay_serving.proofs.SoFar.{FeedsSoFar}
+use Rattle.serving_turns.specs.Devices.{feed_seen}
+use Rattle.serving_turns.proofs.SoFar.{SoFar}
+use Rattle.relay_serving.specs.Servers.{FeedsBy, counts_in, events_in, owing_in}
+use Rattle.relay_serving.specs.Turns.{from_feed}
 use Rattle.relay_serving.proofs.server.Server.feed.Given as goal
 
 abbrev pub invariant-loop : goal.invariant-loop
 invariant-loop g l = record {
-  fed : FeedsSoFar l.initial.self l.self (feed_seen (g.F.Feed.coming l.initial.feed) (g.F.Feed.faults l.initial.feed))
-      (feed_seen (g.F.Feed.coming l.feed) (g.F.Feed.faults l.feed)) l.counter;
+  fed : SoFar FeedsBy from_feed
+      (l.initial.self, feed_seen (g.F.Feed.coming l.initial.feed) (g.F.Feed.faults l.initial.feed))
+      (l.self, feed_seen (g.F.Feed.coming l.feed) (g.F.Feed.faults l.feed)) l.counter;
   faults : g.F.Feed.faults l.feed ≡ g.F.Feed.faults l.initial.feed;
   counted : (counts_in l.self).packets ≤ (counts_in l.initial.self).packets + l.counter;
   few : length (events_in l.self) ≤ length (events_in l.initial.self) + l.counter;

@@ -5,11 +5,11 @@ use Rattle.amt_ports.specs.Told.{Answers}
 use Rattle.amt_ports.specs.declared.feed.FeedAnswer.TheVariants.{Packet as PacketFed, Nothing as NothingFed, Closed as FeedClosed}
 use Rattle.amt_ports.specs.declared.feed.FeedGot.{FeedGot}
 use Rattle.relay_machine.specs.declared.event.Event.TheVariants.{Packet}
-use Rattle.relay_serving.specs.Devices.{feed_seen}
+use Rattle.serving_turns.specs.Answers.{refused, taken}
+use Rattle.serving_turns.specs.Devices.{feed_seen}
+use Rattle.serving_turns.proofs.Causes.{not_cause}
 use Rattle.relay_serving.specs.Servers.{events_in}
-use Rattle.relay_serving.specs.Turns.{refused, taken}
 use Rattle.relay_serving.specs.declared.counts.Counts.{Counts}
-use Rattle.relay_serving.proofs.Bursts.{not_cause}
 use Rattle.relay_serving.proofs.Events.{IsAsBefore-same}
 use Rattle.relay_serving.proofs.Hearing.{Feeds-none, Feeds-packet, Feeds-quiet}
 use Rattle.relay_serving.proofs.server.Server.feed_next.Goals as goal
@@ -24,10 +24,10 @@ returns-in-Ok-clause-feeds g c =
     let is = subst (Answers FeedClosed (L.coming feed) (L.coming now)) (ap (λ (one : FeedGot). feed_answer one c.recv.new.buf) got.field-0-is) got.ensures.answer in
     let octets = subst IsShortFeedGot got.field-0-is got.ensures.short in
     let taken_length = length-take got.octets c.recv.new.buf in record {
-      fed = taken (PacketFed bytes) ∷ [];
-      feeds = Feeds-packet c.args.self.now c.feed_packet.new.self (feed_seen (L.coming feed) (L.faults feed)) (feed_seen (L.coming now) (L.faults now)) (feed_seen (L.coming now) (L.faults now))
+      answers = taken (PacketFed bytes) ∷ [];
+      goes = Feeds-packet c.args.self.now c.feed_packet.new.self (feed_seen (L.coming feed) (L.faults feed)) (feed_seen (L.coming now) (L.faults now)) (feed_seen (L.coming now) (L.faults now))
           bytes c.in-Ok.ensures.events c.feed_packet.ensures.published c.feed_packet.ensures.sent.0 c.feed_packet.ensures.sent.1 is refl;
-      ends = (PacketFed bytes, omega (arith, octets, taken_length), refl);
+      ends = (taken (PacketFed bytes), (omega (arith, octets, taken_length), refl), refl);
     }
 
 pub returns-in-Ok-clause-counted : goal.returns-in-Ok-clause-counted
@@ -51,10 +51,10 @@ returns-in-Err-feed_packet-clause-feeds g c =
     let is = subst (Answers FeedClosed (L.coming feed) (L.coming now)) (ap (λ (one : FeedGot). feed_answer one c.recv.new.buf) got.field-0-is) got.ensures.answer in
     let octets = subst IsShortFeedGot got.field-0-is got.ensures.short in
     let taken_length = length-take got.octets c.recv.new.buf in record {
-      fed = refused (PacketFed bytes) ∷ [];
-      feeds = Feeds-quiet c.args.self.now c.feed_packet.new.self (feed_seen (L.coming feed) (L.faults feed)) (feed_seen (L.coming now) (L.faults now)) (feed_seen (L.coming now) (L.faults now))
+      answers = refused (PacketFed bytes) ∷ [];
+      goes = Feeds-quiet c.args.self.now c.feed_packet.new.self (feed_seen (L.coming feed) (L.faults feed)) (feed_seen (L.coming now) (L.faults now)) (feed_seen (L.coming now) (L.faults now))
           (refused (PacketFed bytes)) refl c.in-Err-feed_packet.ensures.err is refl;
-      ends = (PacketFed bytes, omega (arith, octets, taken_length), refl);
+      ends = (refused (PacketFed bytes), (omega (arith, octets, taken_length), refl), refl);
     }
 
 pub returns-in-Err-feed_packet-clause-counted : goal.returns-in-Err-feed_packet-clause-counted
@@ -73,8 +73,8 @@ returns-in-Ok-Nothing-clause-feeds g c =
     let now = c.recv.new.self in
     let got = c.in-Ok-Nothing in
     let is = subst (Answers FeedClosed (L.coming feed) (L.coming now)) (ap (λ (one : FeedGot). feed_answer one c.recv.new.buf) got.field-0-is) got.ensures.answer in record {
-      fed = taken NothingFed ∷ [];
-      feeds = Feeds-quiet c.args.self.now c.args.self.now (feed_seen (L.coming feed) (L.faults feed)) (feed_seen (L.coming now) (L.faults now)) (feed_seen (L.coming now) (L.faults now))
+      answers = taken NothingFed ∷ [];
+      goes = Feeds-quiet c.args.self.now c.args.self.now (feed_seen (L.coming feed) (L.faults feed)) (feed_seen (L.coming now) (L.faults now)) (feed_seen (L.coming now) (L.faults now))
           (taken NothingFed) refl (IsAsBefore-same c.args.self.now) is refl;
       ends = refl;
     }
@@ -89,8 +89,8 @@ returns-in-Ok-Closed-clause-feeds g c =
     let now = c.recv.new.self in
     let got = c.in-Ok-Closed in
     let is = subst (Answers FeedClosed (L.coming feed) (L.coming now)) (ap (λ (one : FeedGot). feed_answer one c.recv.new.buf) got.field-0-is) got.ensures.answer in record {
-      fed = taken FeedClosed ∷ [];
-      feeds = Feeds-quiet c.args.self.now c.args.self.now (feed_seen (L.coming feed) (L.faults feed)) (feed_seen (L.coming now) (L.faults now)) (feed_seen (L.coming now) (L.faults now))
+      answers = taken FeedClosed ∷ [];
+      goes = Feeds-quiet c.args.self.now c.args.self.now (feed_seen (L.coming feed) (L.faults feed)) (feed_seen (L.coming now) (L.faults now)) (feed_seen (L.coming now) (L.faults now))
           (taken FeedClosed) refl (IsAsBefore-same c.args.self.now) is refl;
       ends = refl;
     }
@@ -103,8 +103,8 @@ returns-in-Err-clause-feeds g c =
     let L = g.F.Feed in
     let feed = c.args.feed.now in
     let now = c.recv.new.self in record {
-      fed = [];
-      feeds = Feeds-none c.args.self.now c.args.self.now (feed_seen (L.coming feed) (L.faults feed)) (feed_seen (L.coming now) (L.faults now)) (IsAsBefore-same c.args.self.now) c.in-Err.ensures.kept;
+      answers = [];
+      goes = Feeds-none c.args.self.now c.args.self.now (feed_seen (L.coming feed) (L.faults feed)) (feed_seen (L.coming now) (L.faults now)) (IsAsBefore-same c.args.self.now) c.in-Err.ensures.kept;
       ends = refl;
     }
 

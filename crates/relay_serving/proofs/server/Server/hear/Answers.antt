@@ -1,17 +1,17 @@
 use Rattle.std.proofs.Common.{refl, ◌∙◌, arith}
-use Rattle.std.specs.Prelude.{Ok, Err}
 use Rattle.std.proofs.lemmas.Result.{err_from_is_err_and}
-use Rattle.relay_serving.specs.Devices.{link_seen}
-use Rattle.relay_serving.specs.declared.plan.End.TheVariants.{FeedFault, LinkFault}
-use Rattle.relay_serving.proofs.Bursts.{not_cause, other_end, same_cause}
-use Rattle.relay_serving.proofs.SoFar.{hears_end, hears_first, hears_full, hears_more, hears_nothing}
+use Rattle.serving_turns.specs.declared.end.End.TheVariants.{FeedFault, LinkFault}
+use Rattle.serving_turns.proofs.Causes.{not_cause, other_end, same_cause}
+use Rattle.serving_turns.proofs.SoFar.{all_asked, none_asked, one_more, then_ends, then_nothing}
+use Rattle.relay_serving.proofs.Events.{IsAsBefore-same}
+use Rattle.relay_serving.proofs.Hearing.{Hears-none, hears_on}
 use Rattle.relay_serving.proofs.server.Server.hear.Goals as goal
 
 pub loop-init : goal.loop-init
 loop-init g c =
     let L = g.L.Link in
     record {
-      heard = hears_first c.args.self.now (link_seen (L.coming c.args.link.now) (L.tried c.args.link.now) (L.receive_faults c.args.link.now) (L.send_faults c.args.link.now));
+      heard = none_asked _ _ _ (Hears-none _ _ _ _ (IsAsBefore-same c.args.self.now) refl refl refl);
       faults = refl;
       few = omega arith;
       buffer = refl;
@@ -32,7 +32,7 @@ pub returns-in_err-hear_next-clause-hears : goal.returns-in_err-hear_next-clause
 returns-in_err-hear_next-clause-hears g c =
     let L = g.L.Link in
     let p = err_from_is_err_and c.from_residual.result c.from_residual.ensures.1 in
-    rw (p.1, p.2) (hears_end c.args.self.now c.loop.self c.hear_next.new.self (link_seen (L.coming c.args.link.now) (L.tried c.args.link.now) (L.receive_faults c.args.link.now) (L.send_faults c.args.link.now)) (link_seen (L.coming c.loop.link) (L.tried c.loop.link) (L.receive_faults c.loop.link) (L.send_faults c.loop.link)) (link_seen (L.coming c.hear_next.new.link) (L.tried c.hear_next.new.link) (L.receive_faults c.hear_next.new.link) (L.send_faults c.hear_next.new.link)) c.loop.counter (Err c.in_err-hear_next.field-0.0) c.in_err-hear_next.field-0.0 refl c.loop-test.true c.loop.invariant.heard c.in_err-hear_next.ensures.hears)
+    rw (p.1, p.2) (then_ends _ _ hears_on _ _ _ _ _ _ refl c.loop-test.true c.loop.invariant.heard c.in_err-hear_next.ensures.hears)
 
 pub returns-in_err-hear_next-clause-few : goal.returns-in_err-hear_next-clause-few
 returns-in_err-hear_next-clause-few g c =
@@ -58,7 +58,7 @@ returns-in_err-hear_next-clause-buffer g c =
 pub returns-in-Nothing-clause-hears : goal.returns-in-Nothing-clause-hears
 returns-in-Nothing-clause-hears g c =
     let L = g.L.Link in
-    hears_nothing c.args.self.now c.loop.self c.hear_next.new.self (link_seen (L.coming c.args.link.now) (L.tried c.args.link.now) (L.receive_faults c.args.link.now) (L.send_faults c.args.link.now)) (link_seen (L.coming c.loop.link) (L.tried c.loop.link) (L.receive_faults c.loop.link) (L.send_faults c.loop.link)) (link_seen (L.coming c.hear_next.new.link) (L.tried c.hear_next.new.link) (L.receive_faults c.hear_next.new.link) (L.send_faults c.hear_next.new.link)) c.loop.counter (Ok c.in_ok-hear_next.field-0) c.in_ok-hear_next.field-0 tt refl c.in-Nothing.is c.loop-test.true c.loop.invariant.heard c.in_ok-hear_next.ensures.hears
+    then_nothing _ _ hears_on _ _ _ _ _ _ tt refl c.in-Nothing.is c.loop-test.true c.loop.invariant.heard c.in_ok-hear_next.ensures.hears
 
 pub returns-in-Nothing-clause-few : goal.returns-in-Nothing-clause-few
 returns-in-Nothing-clause-few g c =
@@ -84,7 +84,7 @@ loop-preserved g c =
     let sofar_few = c.loop.invariant.few in
     let next_few = c.hear_next.ensures.few in
     record {
-      heard = hears_more c.args.self.now c.loop.self c.hear_next.new.self (link_seen (L.coming c.args.link.now) (L.tried c.args.link.now) (L.receive_faults c.args.link.now) (L.send_faults c.args.link.now)) (link_seen (L.coming c.loop.link) (L.tried c.loop.link) (L.receive_faults c.loop.link) (L.send_faults c.loop.link)) (link_seen (L.coming c.hear_next.new.link) (L.tried c.hear_next.new.link) (L.receive_faults c.hear_next.new.link) (L.send_faults c.hear_next.new.link)) c.loop.counter (Ok c.in_ok-hear_next.field-0) c.in_ok-hear_next.field-0 refl c.in-Something.is c.loop.invariant.heard c.in_ok-hear_next.ensures.hears;
+      heard = one_more _ _ hears_on _ _ _ _ _ _ refl c.in-Something.is c.loop.invariant.heard c.in_ok-hear_next.ensures.hears;
       faults = c.in_ok-hear_next.ensures.cause.calm (λ is. cc) ∙ c.loop.invariant.faults;
       few = omega (arith, sofar_few, next_few);
       buffer = c.hear_next.ensures.buffer ∙ c.loop.invariant.buffer;
@@ -95,7 +95,7 @@ returns-clause-hears g c =
     let L = g.L.Link in
     let over = c.loop-test.false in
     let within = c.loop.auto.counter-end in
-    hears_full c.args.self.now c.loop.self (link_seen (L.coming c.args.link.now) (L.tried c.args.link.now) (L.receive_faults c.args.link.now) (L.send_faults c.args.link.now)) (link_seen (L.coming c.loop.link) (L.tried c.loop.link) (L.receive_faults c.loop.link) (L.send_faults c.loop.link)) c.loop.counter tt (omega (arith, over, within)) c.loop.invariant.heard
+    all_asked _ _ _ _ _ tt (omega (arith, over, within)) c.loop.invariant.heard
 
 pub returns-clause-few : goal.returns-clause-few
 returns-clause-few g c =

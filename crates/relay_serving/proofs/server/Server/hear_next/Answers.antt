@@ -5,10 +5,10 @@ use Rattle.amt_ports.specs.Told.{Answers}
 use Rattle.amt_ports.specs.declared.link.Got.{Got}
 use Rattle.amt_ports.specs.declared.link.LinkAnswer.TheVariants.{Datagram as DatagramCame, Nothing as NothingCame, Closed as LinkClosed}
 use Rattle.relay_machine.specs.declared.event.Event.TheVariants.{Datagram}
-use Rattle.relay_serving.specs.Devices.{link_seen}
+use Rattle.serving_turns.specs.Answers.{refused, taken}
+use Rattle.serving_turns.specs.Devices.{link_seen}
+use Rattle.serving_turns.proofs.Causes.{not_cause}
 use Rattle.relay_serving.specs.Servers.{events_in}
-use Rattle.relay_serving.specs.Turns.{refused, taken}
-use Rattle.relay_serving.proofs.Bursts.{not_cause}
 use Rattle.relay_serving.proofs.Events.{IsAsBefore-same}
 use Rattle.relay_serving.proofs.Hearing.{Hears-datagram, Hears-none, Hears-quiet}
 use Rattle.relay_serving.proofs.server.Server.hear_next.Goals as goal
@@ -24,13 +24,13 @@ returns-in-Ok-clause-hears g c =
     let is = subst (Answers LinkClosed (L.coming link) (L.coming now)) (ap (λ (one : Got). link_answer one c.recv.new.buf) got.field-0-is) got.ensures.answer in
     let octets = subst IsShortGot got.field-0-is got.ensures.short in
     let taken_length = length-take got.octets c.recv.new.buf in record {
-      heard = taken (DatagramCame got.from bytes) ∷ [];
-      hears = Hears-datagram c.args.self.now c.hear_datagram.new.self
+      answers = taken (DatagramCame got.from bytes) ∷ [];
+      goes = Hears-datagram c.args.self.now c.hear_datagram.new.self
           (link_seen (L.coming link) (L.tried link) (L.receive_faults link) (L.send_faults link))
           (link_seen (L.coming now) (L.tried now) (L.receive_faults now) (L.send_faults now))
           (link_seen (L.coming last) (L.tried last) (L.receive_faults last) (L.send_faults last))
           got.from bytes c.in-Ok.ensures.events c.hear_datagram.ensures.published is got.ensures.sends got.ensures.apart c.hear_datagram.ensures.coming c.in-Ok.ensures.answered;
-      ends = (DatagramCame got.from bytes, omega (arith, octets, taken_length), refl);
+      ends = (taken (DatagramCame got.from bytes), (omega (arith, octets, taken_length), refl), refl);
     }
 
 pub returns-in-Ok-clause-few : goal.returns-in-Ok-clause-few
@@ -53,13 +53,13 @@ returns-in-Err-hear_datagram-clause-hears g c =
     let octets = subst IsShortGot got.field-0-is got.ensures.short in
     let taken_length = length-take got.octets c.recv.new.buf in
     let same = c.in-Err-hear_datagram.ensures.unsent in record {
-      heard = refused (DatagramCame got.from bytes) ∷ [];
-      hears = Hears-quiet c.args.self.now c.hear_datagram.new.self
+      answers = refused (DatagramCame got.from bytes) ∷ [];
+      goes = Hears-quiet c.args.self.now c.hear_datagram.new.self
           (link_seen (L.coming link) (L.tried link) (L.receive_faults link) (L.send_faults link))
           (link_seen (L.coming now) (L.tried now) (L.receive_faults now) (L.send_faults now))
           (link_seen (L.coming last) (L.tried last) (L.receive_faults last) (L.send_faults last))
           (refused (DatagramCame got.from bytes)) refl c.in-Err-hear_datagram.ensures.err is (ap L.coming same) (ap L.tried same ∙ got.ensures.sends) (ap L.send_faults same ∙ got.ensures.apart);
-      ends = (DatagramCame got.from bytes, omega (arith, octets, taken_length), refl);
+      ends = (refused (DatagramCame got.from bytes), (omega (arith, octets, taken_length), refl), refl);
     }
 
 pub returns-in-Err-hear_datagram-clause-few : goal.returns-in-Err-hear_datagram-clause-few
@@ -75,8 +75,8 @@ returns-in-Ok-Nothing-clause-hears g c =
     let now = c.recv.new.self in
     let got = c.in-Ok-Nothing in
     let is = subst (Answers LinkClosed (L.coming link) (L.coming now)) (ap (λ (one : Got). link_answer one c.recv.new.buf) got.field-0-is) got.ensures.answer in record {
-      heard = taken NothingCame ∷ [];
-      hears = Hears-quiet c.args.self.now c.args.self.now
+      answers = taken NothingCame ∷ [];
+      goes = Hears-quiet c.args.self.now c.args.self.now
           (link_seen (L.coming link) (L.tried link) (L.receive_faults link) (L.send_faults link))
           (link_seen (L.coming now) (L.tried now) (L.receive_faults now) (L.send_faults now))
           (link_seen (L.coming now) (L.tried now) (L.receive_faults now) (L.send_faults now))
@@ -94,8 +94,8 @@ returns-in-Ok-Closed-clause-hears g c =
     let now = c.recv.new.self in
     let got = c.in-Ok-Closed in
     let is = subst (Answers LinkClosed (L.coming link) (L.coming now)) (ap (λ (one : Got). link_answer one c.recv.new.buf) got.field-0-is) got.ensures.answer in record {
-      heard = taken LinkClosed ∷ [];
-      hears = Hears-quiet c.args.self.now c.args.self.now
+      answers = taken LinkClosed ∷ [];
+      goes = Hears-quiet c.args.self.now c.args.self.now
           (link_seen (L.coming link) (L.tried link) (L.receive_faults link) (L.send_faults link))
           (link_seen (L.coming now) (L.tried now) (L.receive_faults now) (L.send_faults now))
           (link_seen (L.coming now) (L.tried now) (L.receive_faults now) (L.send_faults now))
@@ -111,8 +111,8 @@ returns-in-Err-clause-hears g c =
     let L = g.L.Link in
     let link = c.args.link.now in
     let now = c.recv.new.self in record {
-      heard = [];
-      hears = Hears-none c.args.self.now c.args.self.now
+      answers = [];
+      goes = Hears-none c.args.self.now c.args.self.now
           (link_seen (L.coming link) (L.tried link) (L.receive_faults link) (L.send_faults link))
           (link_seen (L.coming now) (L.tried now) (L.receive_faults now) (L.send_faults now))
           (IsAsBefore-same c.args.self.now) c.in-Err.ensures.kept c.in-Err.ensures.sends c.in-Err.ensures.apart;

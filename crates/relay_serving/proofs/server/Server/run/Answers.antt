@@ -1,5 +1,5 @@
 use Rattle.std.proofs.Common.{refl, ◌∙◌, arith}
-use Rattle.relay_serving.proofs.Running.{EndsIn-cut, IsRunning-none, IsRunning-then, RunsSo-cut}
+use Rattle.relay_serving.proofs.Running.{EndsIn-cut, IsRunning-none, IsRunning-then, RunsSo-all, RunsSo-cut}
 use Rattle.relay_serving.proofs.server.Server.run.Goals as goal
 
 pub loop-done-init : goal.loop-done-init
@@ -24,6 +24,9 @@ loop-done-preserved g c = record {
 pub returns-in-Err-clause-few : goal.returns-in-Err-clause-few
 returns-in-Err-clause-few g c =
     omega (arith, c.loop-done.invariant.running.few_events, c.loop-done-test.true, c.turn.ensures.few, c.requires.plan.few_turns)
+
+pub returns-clause-runs : goal.returns-clause-runs
+returns-clause-runs g c = RunsSo-all _ _ _ _ _ _ _ c.loop-done.invariant.running (omega (arith, c.loop-done-test.false, c.loop-done.auto.done-end))
 
 pub returns-clause-few : goal.returns-clause-few
 returns-clause-few g c = omega (arith, c.loop-done.invariant.running.few_events, c.loop-done.auto.done-end, c.requires.plan.few_turns)

@@ -1,5 +1,6 @@
 use Rattle.std.proofs.Common.{◌≡◌, length, None}
-use Rattle.relay_serving.specs.Devices.{devices_seen, feed_seen, link_seen, words_seen}
+use Rattle.serving_turns.specs.Devices.{feed_seen, link_seen, words_seen}
+use Rattle.relay_serving.specs.Devices.{devices_seen}
 use Rattle.relay_serving.proofs.Running.{IsRunning}
 use Rattle.relay_serving.proofs.server.Server.run.Given as goal
 

@@ -1,8 +1,10 @@
-use Rattle.std.proofs.Common.{ap, refl, arith}
+use Rattle.std.proofs.Common.{◌∙◌, ap, refl, sym, arith}
 use Rattle.std.proofs.lemmas.Result.{err_from_is_err_and}
+use Rattle.serving_turns.specs.declared.end.End.TheVariants.{FeedFault, LinkFault, WordsFault}
+use Rattle.serving_turns.proofs.Causes.{not_cause}
 use Rattle.relay_serving.specs.declared.counts.Counts.{Counts}
-use Rattle.relay_serving.specs.declared.plan.End.TheVariants.{FeedFault, LinkFault, WordsFault}
-use Rattle.relay_serving.proofs.Cuts.{no_error, no_words_fed, not_caused}
+use Rattle.relay_serving.proofs.Beginning.{err_gives}
+use Rattle.relay_serving.proofs.Cuts.{no_error, no_words_fed}
 use Rattle.relay_serving.proofs.Turning.{Keeps}
 use Rattle.relay_serving.proofs.Ways.{ends_begun, ends_fed, ends_heard, ends_refused, packets-kept}
 use Rattle.relay_serving.proofs.server.Server.turn.Goals as goal
@@ -23,18 +25,19 @@ pub returns-then-is_err-clause-turns : goal.returns-then-is_err-clause-turns
 returns-then-is_err-clause-turns g c =
     let keeps : Keeps c.hear.new.self c.publish.new.self = record { same = c.publish.ensures.same; events = c.publish.ensures.events; counts = c.publish.ensures.counts } in
     ends_refused _ _ _ _ _ _ _ _ _ _ _ _ _ _ _ _ c.in_ok-begin_turn.ensures.begins c.begin_turn.ensures.counts c.in_ok-hear.ensures.hears keeps
+    (err_gives _ _ c.publish.result (sym c.is_err.ensures.value ∙ c.if-is_err.true) c.publish.ensures.owing).0
 
 pub returns-then-is_err-clause-causes : goal.returns-then-is_err-clause-causes
 returns-then-is_err-clause-causes g c = record {
-  link = not_caused _ LinkFault _ _ (λ is. cc is) (c.in_ok-hear.ensures.cause.calm (no_error LinkFault));
-  feed = not_caused _ FeedFault _ _ (λ is. cc is) refl;
-  words = not_caused _ WordsFault _ _ (λ is. cc is) (c.in_ok-begin_turn.ensures.cause.calm (no_error WordsFault));
+  link = not_cause _ LinkFault _ _ (λ is. cc is) (c.in_ok-hear.ensures.cause.calm (no_error LinkFault));
+  feed = not_cause _ FeedFault _ _ (λ is. cc is) refl;
+  words = not_cause _ WordsFault _ _ (λ is. cc is) (c.in_ok-begin_turn.ensures.cause.calm (no_error WordsFault));
 }
 
 pub feed-requires-clause-few : goal.feed-requires-clause-few
 feed-requires-clause-few g c =
     let hears = c.in_ok-hear.ensures.hears in
-    let heard = packets-kept c.begin_turn.new.self c.hear.new.self hears.heard hears.hears.events.events in
+    let heard = packets-kept c.begin_turn.new.self c.hear.new.self hears.answers hears.goes.events.events in
     let begun = ap (λ (counts : Counts). counts.packets) c.begin_turn.ensures.counts in
     let kept = ap (λ (counts : Counts). counts.packets) c.publish.ensures.counts in
     omega (arith, heard, begun, kept, c.requires.few_packets)
@@ -47,15 +50,15 @@ returns-clause-turns g c =
 
 pub returns-clause-causes : goal.returns-clause-causes
 returns-clause-causes g c = record {
-  link = not_caused c.feed.result LinkFault _ _ c.feed.ensures.of_feed (c.in_ok-hear.ensures.cause.calm (no_error LinkFault));
+  link = not_cause c.feed.result LinkFault _ _ c.feed.ensures.of_feed (c.in_ok-hear.ensures.cause.calm (no_error LinkFault));
   feed = c.feed.ensures.cause;
-  words = not_caused c.feed.result WordsFault _ _ (no_words_fed c.feed.ensures.feeds.fed c.feed.result c.feed.ensures.feeds.ends) (c.in_ok-begin_turn.ensures.cause.calm (no_error WordsFault));
+  words = not_cause c.feed.result WordsFault _ _ (no_words_fed c.feed.ensures.feeds.answers c.feed.result c.feed.ensures.feeds.ends) (c.in_ok-begin_turn.ensures.cause.calm (no_error WordsFault));
 }
 
 pub returns-clause-few_packets : goal.returns-clause-few_packets
 returns-clause-few_packets g c =
     let hears = c.in_ok-hear.ensures.hears in
-    let heard = packets-kept c.begin_turn.new.self c.hear.new.self hears.heard hears.hears.events.events in
+    let heard = packets-kept c.begin_turn.new.self c.hear.new.self hears.answers hears.goes.events.events in
     let begun = ap (λ (counts : Counts). counts.packets) c.begin_turn.ensures.counts in
     let kept = ap (λ (counts : Counts). counts.packets) c.publish.ensures.counts in
     omega (arith, heard, begun, kept, c.feed.ensures.counted)

@@ -1,7 +1,7 @@
 use Rattle.std.proofs.Common.{map, take, refl, ap, subst, ◌∙◌, arith}
+use Rattle.serving_turns.specs.Devices.{LinkSeen, link_seen}
 use Rattle.replication_workers.specs.Replication.{to_peer}
 use Rattle.relay_serving.specs.Counting.{HasAnswered}
-use Rattle.relay_serving.specs.Devices.{LinkSeen, link_seen}
 use Rattle.relay_serving.specs.declared.counts.Counts.{Counts}
 use Rattle.relay_serving.proofs.AnswerSends.{answered-failed, answered-sent, answers_more}
 use Rattle.relay_serving.proofs.Answering.{HasAnswered-none}

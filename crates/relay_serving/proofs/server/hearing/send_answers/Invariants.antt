@@ -1,8 +1,8 @@
 -- What was tried so far is the answers so far, and nothing else was counted.
 use Rattle.std.proofs.Common.{◌≡◌, ◌+◌, map, take}
+use Rattle.serving_turns.specs.Devices.{link_seen}
 use Rattle.replication_workers.specs.Replication.{to_peer}
 use Rattle.relay_serving.specs.Counting.{HasAnswered}
-use Rattle.relay_serving.specs.Devices.{link_seen}
 use Rattle.relay_serving.proofs.AnswerSends.{CountsAlike}
 use Rattle.relay_serving.proofs.server.hearing.send_answers.Given as goal
 

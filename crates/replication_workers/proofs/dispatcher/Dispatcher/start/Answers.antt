@@ -1,9 +1,8 @@
 use Rattle.std.proofs.Common.{◌≡◌, ◌∙◌, IfErr, IfOk, OnOk, ap, length, map, refl, subst, sym, true≢false, arith}
-use Rattle.replication_workers.specs.Backs.{AllButOneBack}
 use Rattle.replication_workers.specs.Dispatchers.{is_threaded, slots_of}
 use Rattle.replication_workers.specs.Gathering.{HasRoom}
 use Rattle.replication_workers.specs.SlotStates.{new_slot}
-use Rattle.replication_workers.specs.Starting.{HaveStarted, OnFailed, OnMemory}
+use Rattle.replication_workers.specs.Starting.{AllButOneBack, HaveStarted, OnFailed, OnMemory}
 use Rattle.replication_workers.proofs.Filling.{inline_runs, on_failed_also}
 use Rattle.replication_workers.proofs.dispatcher.Dispatcher.start.Goals as goal
 
@@ -98,7 +97,7 @@ returns-then-threads-clause-before g c = c.start_workers.ensures.before
 
 pub returns-then-threads-clause-failed : goal.returns-then-threads-clause-failed
 returns-then-threads-clause-failed g c =
-    subst (λ list. IfErr c.start_workers.result (λ fault. OnFailed fault (λ outs views. AllButOneBack list outs views))) c.into_items-slots.ensures c.start_workers.ensures.failed
+    subst (λ list. IfErr c.start_workers.result (λ fault. OnFailed fault (AllButOneBack list (g.P.Spawner.starts c.args.spawner.now) (g.P.Spawner.starts c.start_workers.new.spawner)))) c.into_items-slots.ensures c.start_workers.ensures.failed
 
 pub returns-then-threads-clause-cause : goal.returns-then-threads-clause-cause
 returns-then-threads-clause-cause g c = on_failed_also c.start_workers.result _ _ c.if-threads.true c.start_workers.ensures.cause

@@ -47,7 +47,9 @@ loop-one-preserved g c =
 pub returns-in-Err-clause-refused : goal.returns-in-Err-clause-refused
 returns-in-Err-clause-refused g c =
     let left = ap (λ ready. from_the_end ready) (popped _ _ _ _ c.pop.ensures.items c.in-Some.is) ∙ from_the_end-last c.pop.new.self.items c.in-Some.one in
-    one_refused _ _ _ _ _ _ c.loop-one.invariant.0 left
+    let starts = g.P.Spawner.starts in
+    let counted = subst (λ (count : ℕ). HaveStarted count (starts c.args.spawner.now) (starts c.loop-one.spawner)) c.loop-one.kept.ok.0 c.loop-one.invariant.1 in
+    one_refused _ _ _ _ _ _ _ _ _ c.loop-one.invariant.0 counted c.in-Err.ensures.kept left
 
 pub returns-clause-started : goal.returns-clause-started
 returns-clause-started g c =

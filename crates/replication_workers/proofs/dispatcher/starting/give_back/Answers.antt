@@ -31,7 +31,7 @@ finish_all-outs-requires g c =
     }
 
 pub returns-clause-back : goal.returns-clause-back
-returns-clause-back g c = λ all refused.
+returns-clause-back g c = λ all before after refused.
     let back = c.unready.ensures.slots ∙ ap (λ slots. slots ++ from_the_end c.args.ready.items) c.requires.none in
     let kept = c.keep_inline.ensures in
     let left = from_the_end c.args.ready.items in
@@ -40,6 +40,7 @@ returns-clause-back g c = λ all refused.
       refused = refused.refused;
       later = left;
       given_are = refused.all_are;
+      started = refused.counted;
       back = subst (λ outs. AreBack (refused.earlier ++ left) outs (views_of c.finish_all-outs.result.views)) (sym c.from.ensures)
           (are_back (refused.earlier ++ left) _ _ _ _ _ c.finish_all-outs.ensures.left states);
     }

@@ -85,8 +85,12 @@ returns-in-Ok-start_each-clause-quiet g c =
 
 pub returns-in-Err-clause-failed : goal.returns-in-Err-clause-failed
 returns-in-Err-clause-failed g c =
-    c.give_back-outs.ensures.back c.args.slots.items
-    (subst (λ all. HasRefusedOne g.P.Spawner.task_of all (from_the_end c.start_each.new.ready.items) c.start_each.new.kept.items) c.in-Ok.ensures.ready c.in-Err.ensures.refused)
+    let starts = g.P.Spawner.starts in
+    let refused = subst (λ all. HasRefusedOne g.P.Spawner.task_of all (from_the_end c.start_each.new.ready.items) c.start_each.new.kept.items
+    (starts c.args.spawner.now) (starts c.start_each.new.spawner)) c.in-Ok.ensures.ready c.in-Err.ensures.refused in
+    c.give_back-outs.ensures.back c.args.slots.items (starts c.args.spawner.now) _
+    (subst (HasRefusedOne g.P.Spawner.task_of c.args.slots.items (from_the_end c.start_each.new.ready.items) c.start_each.new.kept.items (starts c.args.spawner.now))
+    (sym c.give_back-outs.ensures.starts) refused)
 
 pub returns-in-Err-clause-cause : goal.returns-in-Err-clause-cause
 returns-in-Err-clause-cause g c =

@@ -1,0 +1,4 @@
+pub mod Lives
+pub mod Openings
+pub mod Running
+pub mod Texts

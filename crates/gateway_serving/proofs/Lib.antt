@@ -1,0 +1,14 @@
+pub mod Lawful
+mod Beginning
+mod Few
+mod FewSends
+mod Hearing
+mod Lines
+mod Running
+mod Sending
+mod Stepping
+mod Taking
+mod Telling
+mod Trying
+mod Turning
+mod WholeRuns

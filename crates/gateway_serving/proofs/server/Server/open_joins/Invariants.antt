@@ -1,0 +1,18 @@
+-- The joins so far were opened.
+use Rattle.std.proofs.Common.{◌≡◌}
+use Rattle.serving_turns.specs.Devices.{link_seen, out_seen}
+use Rattle.gateway_serving.specs.Servers.{GrowsBy, at_work, latest_in, settings_in}
+use Rattle.gateway_serving.proofs.Beginning.{AreOpened}
+use Rattle.gateway_serving.proofs.server.Server.open_joins.Given as goal
+
+abbrev pub invariant-loop-join : goal.invariant-loop-join
+invariant-loop-join g l = record {
+  opened : AreOpened l.joins
+      (at_work l.initial.self (link_seen (g.L.Link.coming l.initial.link) (g.L.Link.tried l.initial.link) (g.L.Link.receive_faults l.initial.link) (g.L.Link.send_faults l.initial.link)) (out_seen (g.O.OutLink.tried l.initial.out) (g.O.OutLink.faults l.initial.out)))
+      (at_work l.self (link_seen (g.L.Link.coming l.link) (g.L.Link.tried l.link) (g.L.Link.receive_faults l.link) (g.L.Link.send_faults l.link)) (out_seen (g.O.OutLink.tried l.out) (g.O.OutLink.faults l.out))) l.join-index;
+  same_settings : settings_in l.self ≡ settings_in l.initial.self;
+  latest : latest_in l.self ≡ latest_in l.initial.self;
+  coming : g.L.Link.coming l.link ≡ g.L.Link.coming l.initial.link;
+  faults : g.L.Link.receive_faults l.link ≡ g.L.Link.receive_faults l.initial.link;
+  few : GrowsBy l.join-index l.initial.self l.self;
+}

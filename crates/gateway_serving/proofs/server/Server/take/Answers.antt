@@ -1,0 +1,61 @@
+use Rattle.std.proofs.Common.{length, refl, ap, ◌∙◌, arith}
+use Rattle.std.proofs.lemmas.List.{length_push}
+use Rattle.std.proofs.lemmas.Result.{err_from_is_err_and}
+use Rattle.gateway_machine.specs.declared.settings.GatewaySettings.{GatewaySettings}
+use Rattle.gateway_serving.specs.Servers.{events_in}
+use Rattle.gateway_serving.proofs.Stepping.{Takes-step, at_next, few_sent}
+use Rattle.gateway_serving.proofs.Taking.{Takes-none}
+use Rattle.gateway_serving.proofs.server.Server.take.Goals as goal
+
+pub returns-in_err-sends-clause-none : goal.returns-in_err-sends-clause-none
+returns-in_err-sends-clause-none g c =
+    let p = err_from_is_err_and c.from_residual.result c.from_residual.ensures.1 in
+    rw p.1
+    (Takes-none _ _
+    (record { same = record { same_settings = c.step.ensures.settings; same_first = refl; same_deliver = refl }; same_events = refl; same_delivered = refl; same_unsent = refl })
+    (record { tried = refl; faults = refl; handed = refl; out_faults = refl }))
+
+pub send_all-requires : goal.send_all-requires
+send_all-requires g c =
+    let server = c.args.self.now in
+    let sent = few_sent server c.args.event.now c.in_ok-sends.field-0.sends c.in_ok-sends.ensures.sends in
+    let same = ap length c.as_slice.ensures in
+    let few = c.requires.few.few_events in
+    let unsent = server.few_unsent in
+    record { room = omega (arith, sent, same, few, unsent) }
+
+pub hand_on-requires : goal.hand_on-requires
+hand_on-requires g c =
+    let server = c.args.self.now in
+    let sent = few_sent server c.args.event.now c.in_ok-sends.field-0.sends c.in_ok-sends.ensures.sends in
+    let same = ap length c.as_slice.ensures in
+    let few = c.requires.few.few_events in
+    let unsent = server.few_unsent in
+    let delivered = server.few_delivered in
+    let more = c.send_all.ensures.few in
+    let still = c.send_all.ensures.sent.delivered_are in
+    record { room = (omega (arith, sent, same, few, unsent, more), omega (arith, few, delivered, still)) }
+
+pub invariant_of-self-2 : goal.invariant_of-self-2
+invariant_of-self-2 g c =
+    let server = c.args.self.now in
+    let sent = few_sent server c.args.event.now c.in_ok-sends.field-0.sends c.in_ok-sends.ensures.sends in
+    let same = ap length c.as_slice.ensures in
+    let unsent = server.few_unsent in
+    let delivered = server.few_delivered in
+    let more = c.send_all.ensures.few in
+    let still = c.send_all.ensures.sent.delivered_are in
+    let handed = c.hand_on.ensures.few in
+    let grown = ap length c.then.ensures in
+    let pushed = length_push (events_in server) c.args.event.now in
+    record {
+      at = at_next server c.step.new.self c.args.event.now c.then.result c.in_ok-sends.ensures.next c.step.ensures.settings c.then.ensures;
+      family = ap (λ (settings : GatewaySettings). settings.v6) c.step.ensures.settings ∙ server.family;
+      few_delivered = omega (arith, delivered, still, handed.1, grown, pushed);
+      few_unsent = omega (arith, sent, same, unsent, more, handed.0, grown, pushed);
+    }
+
+pub returns-clause-takes : goal.returns-clause-takes
+returns-clause-takes g c =
+    Takes-step _ _ c.args.event.now _ c.as_slice.result.now c.in_ok-sends.field-0.sends c.in_ok-sends.field-0.deliver c.as_slice.ensures c.in_ok-sends.ensures.sends c.in_ok-sends.ensures.deliver
+    (record { same_settings = c.step.ensures.settings; same_first = refl; same_deliver = refl }) c.then.ensures c.send_all.ensures.sent c.hand_on.ensures.handed

@@ -1,0 +1,69 @@
+use Rattle.std.proofs.Common.{map, take, refl, ap, subst, ◌∙◌, arith}
+use Rattle.serving_turns.specs.Devices.{LinkSeen, link_seen}
+use Rattle.gateway_serving.specs.Sending.{to_peer}
+use Rattle.gateway_serving.specs.Taking.{HasSent}
+use Rattle.gateway_serving.specs.declared.counts.Counts.{Counts}
+use Rattle.gateway_serving.proofs.Taking.{Tallies-none}
+use Rattle.gateway_serving.proofs.Trying.{HasSent-failed, HasSent-none, HasSent-taken, Tallies-still, sends_more}
+use Rattle.gateway_serving.proofs.server.taking.send_all.Goals.{in-Ok, in-Err}
+use Rattle.gateway_serving.proofs.server.taking.send_all.Goals as goal
+
+pub loop-send-init : goal.loop-send-init
+loop-send-init g c =
+    let link = c.args.link.now in
+    record {
+      sent = HasSent-none (link_seen (g.L.Link.coming link) (g.L.Link.tried link) (g.L.Link.receive_faults link) (g.L.Link.send_faults link)) c.args.counts.now;
+      few = omega arith;
+      tallies = Tallies-none c.args.counts.now;
+      coming = refl;
+      faults = refl;
+    }
+
+pub overflow_add-counts : goal.overflow_add-counts
+overflow_add-counts g c =
+    let few = c.loop-send.invariant.few in
+    let within = c.loop-send-test.true in
+    let room = c.requires.room in omega (arith, few, within, room)
+
+pub loop-send-preserved : goal.loop-send-preserved
+loop-send-preserved g c =
+    let link = c.args.link.now in
+    let middle = c.loop-send.link in
+    let after = c.send.new.self in
+    let seen : LinkSeen = link_seen (g.L.Link.coming link) (g.L.Link.tried link) (g.L.Link.receive_faults link) (g.L.Link.send_faults link) in
+    let seen_now : LinkSeen = link_seen (g.L.Link.coming middle) (g.L.Link.tried middle) (g.L.Link.receive_faults middle) (g.L.Link.send_faults middle) in
+    let seen_after : LinkSeen = link_seen (g.L.Link.coming after) (g.L.Link.tried after) (g.L.Link.receive_faults after) (g.L.Link.send_faults after) in
+    let sends = c.args.sends.now in
+    let place = c.loop-send.send-index in
+    let first = c.args.counts.now in
+    let before = c.loop-send.counts in
+    let invariant = c.loop-send.invariant in
+    let few = invariant.few in
+    let grown = sends_more sends place c.send-item.result c.as_slice.result.now c.loop-send-test.true c.send-item.is c.as_slice.ensures in
+    let counts = c.match-send.counts in
+    elim c.match-send.branch [
+      | in-Ok w ↦
+          let unsent = ap (λ (one : Counts). one.unsent) w.counts-is in
+          record {
+            sent = subst (HasSent seen seen_after first counts) grown
+                (HasSent-taken seen seen_now seen_after first before counts (map to_peer (take place sends)) c.send-item.result.to c.as_slice.result.now c.send.result _ w.in-Ok.is invariant.sent
+                c.send.ensures.tried c.send.ensures.tells c.send.ensures.cause (ap (λ (one : Counts). one.delivered) w.counts-is) unsent);
+            few = omega (arith, few, unsent);
+            tallies = Tallies-still first before counts 0 0 0 0 (ap (λ (one : Counts). one.datagrams) w.counts-is) (ap (λ (one : Counts). one.controls) w.counts-is)
+                (ap (λ (one : Counts). one.bad_controls) w.counts-is) (ap (λ (one : Counts). one.starved) w.counts-is) invariant.tallies;
+            coming = c.send.ensures.coming ∙ invariant.coming;
+            faults = c.send.ensures.apart ∙ invariant.faults;
+          }
+      | in-Err w ↦
+          let unsent = ap (λ (one : Counts). one.unsent) w.counts-is in
+          record {
+            sent = subst (HasSent seen seen_after first counts) grown
+                (HasSent-failed seen seen_now seen_after first before counts (map to_peer (take place sends)) c.send-item.result.to c.as_slice.result.now c.send.result _ w.in-Err.is invariant.sent
+                c.send.ensures.tried c.send.ensures.cause (ap (λ (one : Counts). one.delivered) w.counts-is) unsent);
+            few = omega (arith, few, unsent);
+            tallies = Tallies-still first before counts 0 0 0 0 (ap (λ (one : Counts). one.datagrams) w.counts-is) (ap (λ (one : Counts). one.controls) w.counts-is)
+                (ap (λ (one : Counts). one.bad_controls) w.counts-is) (ap (λ (one : Counts). one.starved) w.counts-is) invariant.tallies;
+            coming = c.send.ensures.coming ∙ invariant.coming;
+            faults = c.send.ensures.apart ∙ invariant.faults;
+          }
+    ]

@@ -1,0 +1,55 @@
+-- What is counted of a run.
+use Rattle.std.specs.Prelude.{◌≡◌, ℕ, ◌+◌, Bool, true, false, List, count_by, sum_by, Option, None, Some}
+use Rattle.amt_ports.specs.declared.feed.FeedAnswer.{FeedAnswer}
+use Rattle.amt_ports.specs.declared.feed.FeedAnswer.TheVariants.{Packet, Nothing as NothingFed, Closed as FeedClosed}
+use Rattle.amt_ports.specs.declared.link.LinkAnswer.{LinkAnswer}
+use Rattle.amt_ports.specs.declared.link.LinkAnswer.TheVariants.{Datagram, Nothing as NothingCame, Closed as LinkClosed}
+use Rattle.gateway_serving.specs.Turns.{Bad, Called, Line, Starved, Turn}
+use Rattle.gateway_serving.specs.declared.counts.Counts.{Counts}
+
+abbrev pub is_datagram : LinkAnswer → Bool
+is_datagram (Datagram from bytes) = true
+is_datagram NothingCame = false
+is_datagram LinkClosed = false
+
+abbrev pub is_line : FeedAnswer → Bool
+is_line (Packet bytes) = true
+is_line NothingFed = false
+is_line FeedClosed = false
+
+abbrev pub is_bad : Option Line → Bool
+is_bad None = false
+is_bad (Some (Called event)) = false
+is_bad (Some Bad) = true
+is_bad (Some Starved) = false
+
+abbrev pub is_starved_line : Option Line → Bool
+is_starved_line None = false
+is_starved_line (Some (Called event)) = false
+is_starved_line (Some Bad) = false
+is_starved_line (Some Starved) = true
+
+-- the events and the lines of a turn that memory refused
+abbrev pub starved_in : Turn → ℕ
+starved_in turn =
+    count_by (λ one. one.starved) turn.clock
+    + (count_by (λ one. one.starved) turn.heard + count_by (λ one. is_starved_line one.line) turn.told)
+
+abbrev pub datagrams_heard : Turn → ℕ
+datagrams_heard turn = count_by (λ one. is_datagram one.answer) turn.heard
+
+abbrev pub lines_told : Turn → ℕ
+lines_told turn = count_by (λ one. is_line one.answer) turn.told
+
+abbrev pub bad_lines_told : Turn → ℕ
+bad_lines_told turn = count_by (λ one. is_bad one.line) turn.told
+
+-- each datagram and each line that was taken counts, those that memory refused among them
+pub record AreCounted (turns : List Turn) (datagrams controls bad_controls starved : ℕ) : Type 0 where
+  pub datagrams_are : datagrams ≡ sum_by datagrams_heard turns
+  pub controls_are : controls ≡ sum_by lines_told turns
+  pub bad_are : bad_controls ≡ sum_by bad_lines_told turns
+  pub starved_are : starved ≡ sum_by starved_in turns
+
+abbrev pub no_counts : Counts
+no_counts = record { datagrams = 0; controls = 0; bad_controls = 0; delivered = 0; unsent = 0; starved = 0 }

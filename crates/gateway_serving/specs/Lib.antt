@@ -1,0 +1,15 @@
+pub mod Counting
+pub mod Courses
+pub mod Devices
+pub mod Events
+pub mod Hearing
+pub mod Openings
+pub mod Reports
+pub mod Runs
+pub mod Sending
+pub mod Servers
+pub mod Serving
+pub mod Settings
+pub mod Stages
+pub mod Taking
+pub mod Turns

@@ -1,0 +1,124 @@
+//! How a running gateway is told socket calls by its control feed. It must not know turns.
+ghost use Rattle.std.specs.Prelude.{◌≡◌, ◌≤◌, ◌-◌, ◌^◌, length, IsErrOf};
+ghost use Rattle.serving_turns.specs.Bursts.{AreAsked, AskedSo, IsNext};
+ghost use Rattle.serving_turns.specs.Causes.{IsCausedBy};
+ghost use Rattle.serving_turns.specs.Devices.{feed_seen, link_seen, out_seen};
+ghost use Rattle.gateway_serving.specs.Hearing.{IsToldOne};
+ghost use Rattle.gateway_serving.specs.Servers.{AreFew, GrowsBy, IsTold, at_control, at_work, family_in, latest_in};
+ghost use Rattle.gateway_serving.specs.Turns.{from_control};
+
+use super::Server;
+use amt_ports::{Feed, FeedGot, Link, OutLink};
+use gateway_script::{ScriptError, read_socket_line};
+use serving_turns::{Asked, BURST, End, WAIT_MS};
+use std::alloc::Global;
+
+impl Server {
+    // Takes a line, and counts it: the socket call that it makes, if it makes one. A line that makes none changes
+    // nothing.
+    fn take_line<L: Link, O: OutLink>(
+        &mut self,
+        alloc: Global,
+        link: &mut L,
+        out: &mut O,
+        line: &[u8],
+    )
+        requires few { AreFew (2 ^ 61 - 1) self.old }
+        ensures told { IsToldOne line.now
+            (at_work self.old (link_seen (L.coming link.old) (L.tried link.old) (L.receive_faults link.old) (L.send_faults link.old))
+            (out_seen (O.tried out.old) (O.faults out.old)))
+            (at_work self.new (link_seen (L.coming link.new) (L.tried link.new) (L.receive_faults link.new) (L.send_faults link.new))
+            (out_seen (O.tried out.new) (O.faults out.new))) }
+        ensures latest { latest_in self.new ≡ latest_in self.old }
+        ensures coming { L.coming link.new ≡ L.coming link.old }
+        ensures faults { L.receive_faults link.new ≡ L.receive_faults link.old }
+    {
+        self.counts.controls += 1;
+        match read_socket_line(alloc, self.v6, line) {
+            Ok(event) => match self.take(alloc, &event, link, out) {
+                Ok(()) => {}
+                Err(_) => self.count_starved(),
+            },
+            Err(ScriptError::Memory) => self.count_starved(),
+            Err(ScriptError::Fault { .. }) => self.counts.bad_controls += 1,
+        }
+    }
+
+    // Asks the control feed once.
+    fn tell_next<L: Link, F: Feed, O: OutLink>(
+        &mut self,
+        alloc: Global,
+        link: &mut L,
+        control: &mut F,
+        out: &mut O,
+        buf: &mut [u8],
+    ) -> Result<Asked, End>
+        requires room { 65536 ≤ length buf.old }
+        requires few { AreFew (2 ^ 61 - 1) self.old }
+        ensures told { AskedSo IsTold
+            (at_control
+            (at_work self.old (link_seen (L.coming link.old) (L.tried link.old) (L.receive_faults link.old) (L.send_faults link.old))
+            (out_seen (O.tried out.old) (O.faults out.old)))
+            (feed_seen (F.coming control.old) (F.faults control.old)))
+            (at_control
+            (at_work self.new (link_seen (L.coming link.new) (L.tried link.new) (L.receive_faults link.new) (L.send_faults link.new))
+            (out_seen (O.tried out.new) (O.faults out.new)))
+            (feed_seen (F.coming control.new) (F.faults control.new)))
+            (IsNext (from_control (family_in self.old)) result) }
+        ensures latest { latest_in self.new ≡ latest_in self.old }
+        ensures coming { L.coming link.new ≡ L.coming link.old }
+        ensures faults { L.receive_faults link.new ≡ L.receive_faults link.old }
+        ensures of_control { IsErrOf result End.LinkFault → ⊥ }
+        ensures cause { IsCausedBy result End.FeedFault (F.faults control.old) (F.faults control.new) }
+        ensures few { GrowsBy 1 self.old self.new }
+        ensures buffer { length buf.new ≡ length buf.old }
+    {
+        match control.recv(buf, WAIT_MS) {
+            Ok(FeedGot::Packet(octets)) => {
+                self.take_line(alloc, link, out, &buf[..octets]);
+                Ok(Asked::Something)
+            }
+            Ok(FeedGot::Nothing) => Ok(Asked::Nothing),
+            Ok(FeedGot::Closed) => Err(End::Closed),
+            Err(_) => Err(End::FeedFault),
+        }
+    }
+
+    /// Asks the control feed until nothing is there, and at most 64 times.
+    pub(super) fn tell<L: Link, F: Feed, O: OutLink>(
+        &mut self,
+        alloc: Global,
+        link: &mut L,
+        control: &mut F,
+        out: &mut O,
+        buf: &mut [u8],
+    ) -> Result<(), End>
+        requires room { 65536 ≤ length buf.old }
+        requires few { AreFew (2 ^ 61 - 64) self.old }
+        ensures told { AskedSo IsTold
+            (at_control
+            (at_work self.old (link_seen (L.coming link.old) (L.tried link.old) (L.receive_faults link.old) (L.send_faults link.old))
+            (out_seen (O.tried out.old) (O.faults out.old)))
+            (feed_seen (F.coming control.old) (F.faults control.old)))
+            (at_control
+            (at_work self.new (link_seen (L.coming link.new) (L.tried link.new) (L.receive_faults link.new) (L.send_faults link.new))
+            (out_seen (O.tried out.new) (O.faults out.new)))
+            (feed_seen (F.coming control.new) (F.faults control.new)))
+            (AreAsked (from_control (family_in self.old)) result) }
+        ensures latest { latest_in self.new ≡ latest_in self.old }
+        ensures coming { L.coming link.new ≡ L.coming link.old }
+        ensures faults { L.receive_faults link.new ≡ L.receive_faults link.old }
+        ensures of_control { IsErrOf result End.LinkFault → ⊥ }
+        ensures cause { IsCausedBy result End.FeedFault (F.faults control.old) (F.faults control.new) }
+        ensures few { GrowsBy 64 self.old self.new }
+        ensures buffer { length buf.new ≡ length buf.old }
+    {
+        for _ in 0..BURST {
+            match self.tell_next(alloc, link, control, out, buf)? {
+                Asked::Something => {}
+                Asked::Nothing => return Ok(()),
+            }
+        }
+        Ok(())
+    }
+}

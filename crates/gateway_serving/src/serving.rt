@@ -1,0 +1,66 @@
+//! A whole run of a gateway. It must not know which devices it is over.
+ghost use Rattle.std.specs.Prelude.{◌≡◌, ◌≤◌, length};
+ghost use Rattle.serving_turns.specs.Devices.{feed_seen, link_seen, out_seen, words_seen};
+ghost use Rattle.gateway_serving.specs.Devices.{devices_seen};
+ghost use Rattle.gateway_serving.specs.Serving.{Serves};
+ghost use Rattle.gateway_serving.specs.Settings.{AreTurns, IsLawfulConfig};
+
+use crate::served::GatewayServed;
+use crate::server::Server;
+use amt_config::GatewayConfig;
+use amt_ports::{Clock, Feed, Link, OutLink, Words};
+use serving_turns::{BUFFER, End};
+use std::alloc::Global;
+
+/// Runs a gateway over these devices (RFC 7450, section 4.1.2).
+///
+/// It draws one word as the first nonce, takes one moment of the clock, and opens the joins of its configuration;
+/// out of memory there the run ends. Each turn then draws one word as the next nonce and takes one moment; takes
+/// what the link has, until it has nothing and at most 64 times; and takes the lines of the control feed in the
+/// same way. A line that makes no socket call is counted and changes nothing. What memory refuses in a turn is
+/// counted and isn't an event.
+pub fn serve_gateway<L: Link, F: Feed, O: OutLink, C: Clock, W: Words>(
+    alloc: Global,
+    config: &GatewayConfig,
+    turns: u64,
+    link: &mut L,
+    control: &mut F,
+    out: &mut O,
+    clock: &mut C,
+    words: &mut W,
+) -> GatewayServed
+    requires config { IsLawfulConfig config.now }
+    requires turns { AreTurns turns }
+    ensures serves { ∥ Serves config.now turns
+        (devices_seen (C.given clock.old) (words_seen (W.given words.old) (W.faults words.old))
+        (link_seen (L.coming link.old) (L.tried link.old) (L.receive_faults link.old) (L.send_faults link.old))
+        (feed_seen (F.coming control.old) (F.faults control.old)) (out_seen (O.tried out.old) (O.faults out.old)))
+        (devices_seen (C.given clock.new) (words_seen (W.given words.new) (W.faults words.new))
+        (link_seen (L.coming link.new) (L.tried link.new) (L.receive_faults link.new) (L.send_faults link.new))
+        (feed_seen (F.coming control.new) (F.faults control.new)) (out_seen (O.tried out.new) (O.faults out.new)))
+        result ∥₁ }
+{
+    let Ok(word) = words.word() else {
+        return GatewayServed::unused(End::WordsFault);
+    };
+    let Ok(mut buf) = Vec::from_elem(alloc, 0, BUFFER) else {
+        return GatewayServed::unused(End::Memory);
+    };
+    let Ok(mut server) = Server::start(alloc, config, word) else {
+        return GatewayServed::unused(End::Memory);
+    };
+    let Ok(()) = server.open(alloc, config.joins.as_slice(), clock, link, out) else {
+        return GatewayServed::of(End::Memory, 0, server.counts());
+    };
+    let (end, done) = server.run(
+        alloc,
+        turns,
+        clock,
+        words,
+        link,
+        control,
+        out,
+        buf.as_mut_slice(),
+    );
+    GatewayServed::of(end, done, server.counts())
+}

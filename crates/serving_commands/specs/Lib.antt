@@ -1,0 +1,5 @@
+pub mod Kinds
+pub mod Lives
+pub mod Openings
+pub mod Reading
+pub mod Texts

@@ -1,0 +1,5 @@
+pub mod Bursts
+pub mod Causes
+pub mod Lists
+pub mod SoFar
+pub mod Trying

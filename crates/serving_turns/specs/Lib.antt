@@ -1,0 +1,5 @@
+pub mod Answers
+pub mod Bursts
+pub mod Causes
+pub mod Devices
+pub mod Tried

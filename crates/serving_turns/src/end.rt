@@ -1,0 +1,20 @@
+//! Why a run ended. It must not know what is run.
+
+/// Why a run ended.
+#[derive(Clone, Copy, Debug, PartialEq, Eq)]
+pub enum End {
+    /// All turns were done.
+    Turns,
+    /// The link or the feed answered that it is closed.
+    Closed,
+    /// A receiving from the link failed.
+    LinkFault,
+    /// A receiving from the feed failed.
+    FeedFault,
+    /// A random word couldn't be drawn.
+    WordsFault,
+    /// A worker couldn't be started. No turn was begun.
+    SpawnFault,
+    /// Out of memory.
+    Memory,
+}

@@ -1,0 +1,83 @@
+#!/bin/bash
+# Runs every example and compares what it writes with `expected` beside it.
+#
+# usage: tools/run-examples.sh [COMMAND]      COMMAND is the binary of `amt`, and crates/amt/out/amt without it
+#
+# A folder of examples/ with a `script` is replayed, as its README says. One with a `run.sh` is run over the loopback,
+# for some seconds; where it has a script besides, its status counts alone. In the `expected` of such a run NONCE, MAC
+# and PORT stand for what is random, and N for a number that depends on how often a message had to be sent again. A line
+# that comes several times in a row, as a message that is sent again, counts once. A folder with neither has nothing to
+# run.
+#
+# It says of each folder whether it passed, and ends with 1 where one did not.
+set -eu
+
+top=$(cd "$(dirname "$0")/.." && pwd)
+amt=${1:-$top/crates/amt/out/amt}
+work=$(mktemp -d)
+trap 'rm -rf "$work"' EXIT
+failed=0
+
+if [ ! -x "${amt%% *}" ]; then
+    echo "run-examples: no binary $amt: \`rt run\` in crates/amt leaves it there" >&2
+    exit 1
+fi
+
+# like EXPECTED OUTPUT: whether each line of the output is as expected, or the first one that isn't
+like() {
+    local pattern line number=0
+    sed -E -e 's/[][\\.*^$+?(){}|]/\\&/g' -e 's/NONCE/[0-9a-f]{8}/g' -e 's/MAC/[0-9a-f]{12}/g' \
+        -e 's/PORT/[0-9a-f]{4}/g' -e 's/ N$/ [0-9]+/' "$1" > "$work/patterns"
+    uniq "$2" > "$work/lines"
+    if [ "$(wc -l < "$work/lines")" != "$(wc -l < "$1")" ]; then
+        echo "  $(wc -l < "$work/lines") lines, expected are $(wc -l < "$1")"
+        return 1
+    fi
+    while IFS= read -r line <&3 && IFS= read -r pattern <&4; do
+        number=$((number + 1))
+        if ! [[ $line =~ ^$pattern$ ]]; then
+            echo "  line $number: $line"
+            return 1
+        fi
+    done 3< "$work/lines" 4< "$work/patterns"
+}
+
+# say NAME WHAT STATUS: one line, and what went wrong below it
+say() {
+    if [ "$3" = 0 ]; then
+        echo "passed  $1: $2"
+    else
+        echo "FAILED  $1: $2"
+        head -n 20 "$work/said"
+        failed=1
+    fi
+}
+
+replay() {
+    local kind status=0
+    kind=$(grep -o -m 1 'replay \(relay\|gateway\|pair\) <' "$1/README.md" | cut -d ' ' -f 2)
+    $amt replay "$kind" < "$1/script" > "$work/output" 2> "$work/said" || status=$?
+    if [ $status = 0 ]; then
+        diff "$1/expected" "$work/output" > "$work/said" || status=$?
+    fi
+    say "$(basename "$1")" "replay $kind" $status
+}
+
+run() {
+    local command=$amt status=0
+    # This one is handed the whole command.
+    if [ "$(basename "$1")" = a_running_relay ]; then command="$amt relay"; fi
+    "$1/run.sh" "$command" > "$work/output" 2> "$work/said" || status=$?
+    if [ $status = 0 ] && [ ! -e "$1/script" ]; then
+        like "$1/expected" "$work/output" > "$work/said" || status=$?
+    fi
+    say "$(basename "$1")" "run" $status
+}
+
+for folder in "$top"/examples/*/; do
+    folder=${folder%/}
+    if [ -e "$folder/script" ]; then replay "$folder"; fi
+    if [ -e "$folder/run.sh" ]; then run "$folder"; fi
+    if [ ! -e "$folder/script" ] && [ ! -e "$folder/run.sh" ]; then echo "nothing $(basename "$folder")"; fi
+done
+exit $failed
