@@ -21,9 +21,9 @@ use Rattle.replication_workers.specs.Jobs.{Handled}
 use Rattle.serving_turns.specs.Tried.{HasTried}
 use Rattle.replication_workers.specs.Starting.{HaveStarted}
 use Rattle.replication_workers.specs.declared.job.Job.{Job}
-use Rattle.relay_serving.specs.Counting.{AreCounted}
+use Rattle.relay_serving.specs.Counting.{AreCounted, is_late, starved_in}
 use Rattle.relay_serving.specs.Devices.{Devices}
-use Rattle.relay_serving.specs.Events.{events_of, first_of, published_events}
+use Rattle.relay_serving.specs.Events.{events_of, first_of, happenings_of, published_events}
 use Rattle.relay_serving.specs.Runs.{MayGo, Run, feed_answers, link_answers, moments_given, turns_of, words_drawn}
 use Rattle.relay_serving.specs.Sending.{answers_after, due_of, dues_after}
 use Rattle.relay_serving.specs.GivenOut.{jobs_at}
@@ -103,7 +103,7 @@ pub data OutsServed (settings : Settings) (plan : ServePlan) (run : Run) (report
       → OutsServed settings plan run report outs after starts starts' views sent unsent
   one_lost : report.end ≡ SpawnFault → turns_of run ≡ [] → LosesOne outs after starts starts'
       → views ≡ [] → IsIdle report → sent ≡ 0 → unsent ≡ 0 → OutsServed settings plan run report outs after starts starts' views sent unsent
-  used : (jobs : List Job) → map due_of jobs ≡ dues_after settings (first_of run) [] (events_of run)
+  used : (jobs : List Job) → map due_of jobs ≡ dues_after settings (first_of run) [] (happenings_of run)
       → (served : AreServed settings outs jobs after views sent unsent)
       → ArePublished (published_log settings (first_of run) (events_of run)) (published_log settings (first_of run) (published_events run)) views
       report.published report.owed report.apart
@@ -144,8 +144,8 @@ pub record Serves (settings : Settings) (plan : ServePlan) (before after : Devic
   pub counted : AreCounted settings (first_of run) (events_of run) report.datagrams report.packets report.updated report.torn
   pub sent_are : report.sent ≡ link_sent + outs_sent
   pub unsent_are : report.unsent ≡ link_unsent + outs_unsent
-  pub none_starved : report.starved ≡ 0
-  pub none_late : report.late ≡ 0
+  pub starved_are : report.starved ≡ sum_by starved_in (turns_of run)
+  pub late_are : report.late ≡ count_by is_late (turns_of run)
   -- the causes
   pub link_cause : IsCauseOf report.end LinkFault before.link.receive_faults after.link.receive_faults
   pub feed_cause : IsCauseOf report.end FeedFault before.feed.faults after.feed.faults
