@@ -2,6 +2,7 @@ use Rattle.relay_machine.specs.Answers.{outcome_of}
 use Rattle.relay_machine.specs.declared.event.Event.TheVariants.{Datagram}
 use Rattle.relay_serving.specs.Servers.{counts_in, events_in, first_in, settings_in}
 use Rattle.relay_serving.proofs.Counting.{IsCounted-answered, answers-few, datagram-room}
+use Rattle.relay_serving.proofs.Events.{HasRefused-alike}
 use Rattle.relay_serving.proofs.server.Server.hear_datagram.Goals as goal
 
 pub send_answers-requires-clause-few : goal.send_answers-requires-clause-few
@@ -22,9 +23,14 @@ invariant_of-self g c =
       at = server.at;
       lawful = server.lawful;
       log = server.log;
+      shown = server.shown;
       terms = server.terms;
       given_out = server.given_out;
       publishers = server.publishers;
       counted = IsCounted-answered (settings_in server) (first_in server) (events_in server) _ _ (counts_in server) c.send_answers.new.counts c.as_slice.result.now c.send_answers.ensures.answered
-          few room others.0 others.1 others.2 others.3 server.counted;
+          few room others server.counted;
     }
+
+pub returns-clause-refused : goal.returns-clause-refused
+returns-clause-refused g c =
+    HasRefused-alike (counts_in c.args.self.now) (counts_in c.enter.new.self) c.send_answers.new.counts _ _ c.in_ok-sends.ensures.counts c.send_answers.ensures.others
