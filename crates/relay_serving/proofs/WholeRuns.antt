@@ -53,7 +53,7 @@ use Rattle.relay_serving.specs.declared.plan.ServeReport.{ServeReport}
 use Rattle.relay_serving.specs.declared.server.Server.{Server}
 use Rattle.relay_serving.specs.declared.server.ending.Ending.{Ending}
 use Rattle.relay_serving.proofs.GivenOut.{jobs_count}
-use Rattle.relay_serving.proofs.Owed.{owed_by}
+use Rattle.relay_serving.proofs.Owed.{is_prompt, owed_by}
 use Rattle.relay_serving.proofs.SlotsServed.{Slotted, all_inline, are_served, slotted}
 use Rattle.relay_serving.proofs.Started.{starts_all, starts_none, starts_refused}
 use Rattle.relay_serving.proofs.Together.{read_prefixes}
@@ -91,6 +91,7 @@ not_run settings plan end first clock words words' link feed starts starts' faul
   outs_sent = 0;
   outs_unsent = 0;
   outs_served = outs_are;
+  prompt = is_prompt settings (first_of (unrun first));
   turns_are = refl;
   counted = record { datagrams_are = refl; packets_are = refl; updated_are = refl; torn_are = refl };
   sent_are = refl;
@@ -258,7 +259,7 @@ module _ {O : Type 0} {g : Ghosts O} {T : Type 0} where
 
     is_owed : IsOwedBy (turns_of run_of) ending.owed
     is_owed some =
-        owed_by settings (first_of run_of) (published_in server) (owing_in server) (happenings_of run_of) log_is published_is (turns_of run_of) refl
+        owed_by settings (first_of run_of) (published_in server) (owing_in server) (turns_of run_of) log_is published_is
         (λ none. some (finishes.owed_is ∙ ap length none))
 
     module _ (given : AreGivenOut (settings_in server) (first_in server) (happenings_in server) (slots_in server)) where
@@ -294,6 +295,7 @@ module _ {O : Type 0} {g : Ghosts O} {T : Type 0} where
             outs_served = used given.jobs due are are_published
                 (read_prefixes settings (published_log settings (first_of run_of) (events_of run_of)) (published_log settings (first_of run_of) (published_events run_of)) are.slots (views_of ending.views) ending.published ending.owed ending.apart are.each are.views_are are_published)
                 is_owed inline;
+            prompt = is_prompt settings (first_of run_of);
             turns_are = runs.done_is;
             counted = counted;
             sent_are = ap (λ (counts : Counts). counts.sent + ending.outs_sent) finishes.same_counts ∙ sum_is server.counts.sent start.counts.sent runs.goes.answered.more ending.outs_sent runs.goes.answered.sent_are (ap (λ (counts : Counts). counts.sent) at.none_counted);

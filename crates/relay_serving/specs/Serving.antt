@@ -10,6 +10,7 @@ use Rattle.endpoint_membership.specs.declared.change.Change.{Change}
 use Rattle.published_table.specs.Lists.{BeginsWith, BeginsWithEach}
 use Rattle.published_table.specs.Views.{seen}
 use Rattle.published_table.specs.declared.view.View.{View}
+use Rattle.response_mac.specs.declared.secret.Secret.{Secret}
 use Rattle.relay_machine.specs.Published.{published_log}
 use Rattle.relay_machine.specs.Settings.{table_settings_of}
 use Rattle.relay_machine.specs.declared.settings.Settings.{Settings}
@@ -23,7 +24,8 @@ use Rattle.replication_workers.specs.Starting.{HaveStarted}
 use Rattle.replication_workers.specs.declared.job.Job.{Job}
 use Rattle.relay_serving.specs.Counting.{AreCounted, is_late, starved_in}
 use Rattle.relay_serving.specs.Devices.{Devices}
-use Rattle.relay_serving.specs.Events.{events_of, first_of, happenings_of, published_events}
+use Rattle.relay_serving.specs.Events.{events_of, first_of, happenings_from, happenings_of, published_events}
+use Rattle.relay_serving.specs.Happenings.{events_among, published_events_among}
 use Rattle.relay_serving.specs.Runs.{MayGo, Run, feed_answers, link_answers, moments_given, turns_of, words_drawn}
 use Rattle.relay_serving.specs.Sending.{answers_after, due_of, dues_after}
 use Rattle.relay_serving.specs.GivenOut.{jobs_at}
@@ -79,6 +81,14 @@ pub record ArePublished (log prefix : List Change) (views : List View) (publishe
   pub all : published + owed ≡ length log
   pub each : All (λ view. BeginsWith (seen view) prefix) views
   pub apart_is : apart ≡ count_by (is_apart published) views
+
+-- In a turn whose publishing was done, the published log is that of all events, whatever packets came since: so a
+-- packet that comes next is due by the log of all events before it.
+abbrev pub IsPrompt : Settings → Secret → Type 0
+IsPrompt settings first =
+    (earlier : List Turn) (turn : Turn) → turn.publishing ≡ Done
+    → published_log settings first (published_events_among (happenings_from 0 (earlier ++ turn ∷ [])))
+    ≡ published_log settings first (events_among (happenings_from 0 (earlier ++ turn ∷ [])))
 
 -- each log by which the slots found receivers is a prefix of this one
 abbrev pub ReadPrefixesOf : List Change → List SlotServed → Type 0
@@ -139,6 +149,7 @@ pub record Serves (settings : Settings) (plan : ServePlan) (before after : Devic
   pub outs_sent : ℕ
   pub outs_unsent : ℕ
   pub outs_served : OutsServed settings plan run report outs outs' before.starts after.starts views outs_sent outs_unsent
+  pub prompt : IsPrompt settings (first_of run)
   -- the report
   pub turns_are : report.turns ≡ length run.whole
   pub counted : AreCounted settings (first_of run) (events_of run) report.datagrams report.packets report.updated report.torn
