@@ -7,9 +7,8 @@ use Rattle.amt_ports.specs.declared.feed.FeedAnswer.{FeedAnswer}
 use Rattle.amt_ports.specs.declared.link.LinkAnswer.{LinkAnswer}
 use Rattle.amt_ports.specs.declared.out_link.OutLink.{Ghosts}
 use Rattle.relay_machine.specs.declared.event.Event.{Event}
-use Rattle.relay_machine.specs.declared.outcome.Outcome.{Outcome}
 use Rattle.serving_turns.specs.Answers.{Taken, unless_starved}
-use Rattle.relay_serving.specs.Counting.{CountsAlike, HasRefused, with_outcome, with_packet, with_starved}
+use Rattle.relay_serving.specs.Counting.{HasRefused, with_starved}
 use Rattle.relay_serving.specs.Events.{datagram_of, datagrams_in, packet_of, packets_in}
 use Rattle.relay_serving.specs.Happenings.{Happening, Took, events_among}
 use Rattle.relay_serving.specs.Servers.{Happens, HasEvents, IsAsBefore, IsSameRun, IsStarved, SendsAlike, counts_in, events_in, happenings_in, tally_in}
@@ -25,23 +24,11 @@ pub packets_in-append : (fed more : List (Taken FeedAnswer)) → packets_in (fed
 packets_in-append fed more = filter_map-append (λ (one : Taken FeedAnswer). unless_starved one.starved (packet_of one.answer)) fed more
 
 -- nothing more was refused
+pub HasRefused-none : (before after : Counts) → after.starved ≡ before.starved → after.late ≡ before.late → HasRefused before after 0 0
+HasRefused-none before after starved late = record { starved_are = starved ∙ no_more before.starved; late_are = late ∙ no_more before.late }
+
 pub HasRefused-same : (before after : Counts) → after ≡ before → HasRefused before after 0 0
-HasRefused-same before after same = record {
-  starved_are = ap (λ (counts : Counts). counts.starved) same ∙ no_more before.starved;
-  late_are = ap (λ (counts : Counts). counts.late) same ∙ no_more before.late;
-}
-
-pub HasRefused-packet : (before after : Counts) → after ≡ with_packet before → HasRefused before after 0 0
-HasRefused-packet before after counted = record {
-  starved_are = ap (λ (counts : Counts). counts.starved) counted ∙ no_more before.starved;
-  late_are = ap (λ (counts : Counts). counts.late) counted ∙ no_more before.late;
-}
-
-pub HasRefused-alike : (before now after : Counts) (event : Event) (outcome : Outcome) → now ≡ with_outcome before event outcome → CountsAlike now after → HasRefused before after 0 0
-HasRefused-alike before now after event outcome counted alike = record {
-  starved_are = alike.same_starved ∙ ap (λ (counts : Counts). counts.starved) counted ∙ no_more before.starved;
-  late_are = alike.same_late ∙ ap (λ (counts : Counts). counts.late) counted ∙ no_more before.late;
-}
+HasRefused-same before after same = HasRefused-none before after (ap (λ (counts : Counts). counts.starved) same) (ap (λ (counts : Counts). counts.late) same)
 
 -- more was refused, and then more again
 pub HasRefused-then : (before now after : Counts) (starved late starved' late' : ℕ) → HasRefused before now starved late → HasRefused now after starved' late'

@@ -25,7 +25,7 @@ use Rattle.relay_serving.specs.Servers.{Feeds, FeedsBy, HasEvents, Hears, HearsB
 use Rattle.relay_serving.specs.declared.counts.Counts.{Counts}
 use Rattle.relay_serving.specs.declared.server.Server.{Server}
 use Rattle.relay_serving.proofs.Answering.{HasAnswered-alike, HasAnswered-none, HasAnswered-then, answers_after-append}
-use Rattle.relay_serving.proofs.Events.{HasEvents-none, HasEvents-starved, HasEvents-then, HasRefused-packet, HasRefused-same, HasRefused-starved, HasRefused-then, datagrams_in-append, events_more, packets_in-append, starved-append}
+use Rattle.relay_serving.proofs.Events.{HasEvents-none, HasEvents-starved, HasEvents-then, HasRefused-none, HasRefused-same, HasRefused-starved, HasRefused-then, datagrams_in-append, events_more, packets_in-append, starved-append}
 
 -- a link of which the same was seen
 HasAnswered-from : (link now later : LinkSeen) (counts counts' : Counts) (wanted : List (Peer × List ℕ)) → now.tried ≡ link.tried → now.send_faults ≡ link.send_faults
@@ -170,7 +170,7 @@ module _ {O : Type 0} {g : Ghosts O} {T : Type 0} where
       → Answers FeedClosed feed.coming now.coming (PacketFed bytes) → feed'.coming ≡ now.coming → Feeds before after feed feed' (taken (PacketFed bytes) ∷ [])
   Feeds-packet before after feed now feed' bytes events counted is same_coming = record {
     events = events;
-    refused = HasRefused-packet (counts_in before) (counts_in after) counted;
+    refused = HasRefused-none (counts_in before) (counts_in after) (ap (λ (counts : Counts). counts.starved) counted) (ap (λ (counts : Counts). counts.late) counted);
     same_sent = ap (λ (counts : Counts). counts.sent) counted;
     same_unsent = ap (λ (counts : Counts). counts.unsent) counted;
     came = one_answer FeedClosed feed.coming now.coming feed'.coming (PacketFed bytes) is same_coming;

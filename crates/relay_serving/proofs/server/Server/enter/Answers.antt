@@ -115,3 +115,7 @@ returns-clause-counts g c =
       | in-Some w ↦ ap counts_in w.self-is ∙ counted
       | in-None w ↦ ap counts_in w.self-is ∙ counted
     ]
+
+pub returns-clause-sends : goal.returns-clause-sends
+returns-clause-sends g c =
+    let server = c.args.self.now in c.in_ok-outcome.ensures.sends (settings_of server.relay) server.first.value (events_so_far server.course) server.at

@@ -10,7 +10,7 @@ use Rattle.serving_turns.specs.Devices.{feed_seen}
 use Rattle.serving_turns.proofs.Causes.{not_cause}
 use Rattle.relay_serving.specs.Servers.{counts_in}
 use Rattle.relay_serving.specs.declared.counts.Counts.{Counts}
-use Rattle.relay_serving.proofs.Events.{HasRefused-packet, IsAsBefore-same, IsStarved-then, tally_same, tally_starved, tally_took}
+use Rattle.relay_serving.proofs.Events.{HasRefused-none, IsAsBefore-same, IsStarved-then, tally_same, tally_starved, tally_took}
 use Rattle.relay_serving.proofs.Hearing.{Feeds-none, Feeds-packet, Feeds-quiet, Feeds-starved}
 use Rattle.relay_serving.proofs.server.Server.feed_next.Goals as goal
 
@@ -35,8 +35,9 @@ returns-in-Ok-clause-counted g c = let counted = ap (λ (counts : Counts). count
 
 pub returns-in-Ok-clause-few : goal.returns-in-Ok-clause-few
 returns-in-Ok-clause-few g c =
-    let more = tally_took c.args.self.now c.feed_packet.new.self (Packet (take c.in-Ok-Packet.octets c.recv.new.buf)) c.in-Ok.ensures.events
-    (HasRefused-packet (counts_in c.args.self.now) (counts_in c.feed_packet.new.self) c.in-Ok.ensures.counts) in omega (arith, more)
+    let counted = c.in-Ok.ensures.counts in
+    let none = HasRefused-none (counts_in c.args.self.now) (counts_in c.feed_packet.new.self) (ap (λ (counts : Counts). counts.starved) counted) (ap (λ (counts : Counts). counts.late) counted) in
+    let more = tally_took c.args.self.now c.feed_packet.new.self (Packet (take c.in-Ok-Packet.octets c.recv.new.buf)) c.in-Ok.ensures.events none in omega (arith, more)
 
 pub returns-in-Ok-clause-cause : goal.returns-in-Ok-clause-cause
 returns-in-Ok-clause-cause g c = not_cause _ _ _ _ (λ is. cc) c.in-Ok-Packet.ensures.cause.quiet

@@ -1,8 +1,10 @@
+use Rattle.std.proofs.Common.{◌∙◌, ap}
 use Rattle.relay_machine.specs.Answers.{outcome_of}
 use Rattle.relay_machine.specs.declared.event.Event.TheVariants.{Datagram}
 use Rattle.relay_serving.specs.Servers.{counts_in, events_in, first_in, settings_in}
+use Rattle.relay_serving.specs.declared.counts.Counts.{Counts}
 use Rattle.relay_serving.proofs.Counting.{IsCounted-answered, answers-few, datagram-room}
-use Rattle.relay_serving.proofs.Events.{HasRefused-alike}
+use Rattle.relay_serving.proofs.Events.{HasRefused-none}
 use Rattle.relay_serving.proofs.server.Server.hear_datagram.Goals as goal
 
 pub send_answers-requires-clause-few : goal.send_answers-requires-clause-few
@@ -33,4 +35,7 @@ invariant_of-self g c =
 
 pub returns-clause-refused : goal.returns-clause-refused
 returns-clause-refused g c =
-    HasRefused-alike (counts_in c.args.self.now) (counts_in c.enter.new.self) c.send_answers.new.counts _ _ c.in_ok-sends.ensures.counts c.send_answers.ensures.others
+    let entered = c.in_ok-sends.ensures.counts in
+    let alike = c.send_answers.ensures.others in
+    HasRefused-none (counts_in c.args.self.now) c.send_answers.new.counts
+    (alike.same_starved ∙ ap (λ (counts : Counts). counts.starved) entered) (alike.same_late ∙ ap (λ (counts : Counts). counts.late) entered)
