@@ -35,7 +35,7 @@ use Rattle.relay_machine.specs.Updates.{forwardable_records, report_in}
 use Rattle.relay_machine.proofs.Courses.{each_more, sum_more}
 use Rattle.serving_turns.specs.Devices.{LinkSeen}
 use Rattle.replication_workers.specs.Replication.{to_peer}
-use Rattle.relay_serving.specs.Counting.{CountsAlike, HasAnswered, IsCounted, is_datagram, is_packet, one_if, with_late, with_outcome, with_starved}
+use Rattle.relay_serving.specs.Counting.{CountsAlike, HasAnswered, IsCounted, is_datagram, is_packet, one_if, with_late, with_outcome}
 use Rattle.relay_serving.specs.declared.counts.Counts.{Counts}
 
 count_more : {X : Type 0} (test : X → Bool) (xs : List X) (x : X) → count_by test (xs ++ x ∷ []) ≡ count_by test xs + one_if (test x)
@@ -96,12 +96,7 @@ secret-uncounted counts secret =
       late = counts.late;
     }
 
--- neither is what memory refused
-pub IsCounted-starved : (settings : Settings) (first : Secret) (events : List Event) (counts counts' : Counts) → counts' ≡ with_starved counts → IsCounted settings first events counts
-    → IsCounted settings first events counts'
-IsCounted-starved settings first events counts counts' is counted =
-    subst (IsCounted settings first events) (sym is) (record { events_are = counted.events_are; few_sends = counted.few_sends })
-
+-- neither is a publishing that memory refused
 pub IsCounted-late : (settings : Settings) (first : Secret) (events : List Event) (counts counts' : Counts) → counts' ≡ with_late counts → IsCounted settings first events counts
     → IsCounted settings first events counts'
 IsCounted-late settings first events counts counts' is counted =

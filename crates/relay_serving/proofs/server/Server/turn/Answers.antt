@@ -9,13 +9,19 @@ use Rattle.relay_serving.proofs.server.Server.turn.Goals as goal
 pub returns-in_err-begin_turn-clause-turns : goal.returns-in_err-begin_turn-clause-turns
 returns-in_err-begin_turn-clause-turns g c =
     let p = err_from_is_err_and c.from_residual.result c.from_residual.ensures.1 in
-    rw (p.1, p.2) (ends_begun _ _ _ _ _ _ _ _ _ _ _ _ _ c.in_err-begin_turn.ensures.begins)
+    rw (p.1, p.2) (ends_begun _ _ _ _ _ _ _ _ _ _ _ _ _ _ c.in_err-begin_turn.ensures.begins)
 
 pub returns-in_err-hear-clause-turns : goal.returns-in_err-hear-clause-turns
 returns-in_err-hear-clause-turns g c =
     let p = err_from_is_err_and c.from_residual-in_err-hear.result c.from_residual-in_err-hear.ensures.1 in
     rw (p.1, p.2)
-    (ends_heard _ _ _ _ _ _ _ _ _ _ _ _ _ _ _ c.in_ok-begin_turn.ensures.begins c.in_err-hear.ensures.hears c.in_err-hear.ensures.of_link)
+    (ends_heard _ _ _ _ _ _ _ _ _ _ _ _ _ _ _ _ c.in_ok-begin_turn.ensures.begins c.in_err-hear.ensures.hears c.in_err-hear.ensures.of_link)
+
+pub returns-in_err-hear-clause-few_packets : goal.returns-in_err-hear-clause-few_packets
+returns-in_err-hear-clause-few_packets g c =
+    let hears = c.in_err-hear.ensures.hears in
+    let heard = packets-kept c.begin_turn.new.self c.hear.new.self hears.answers hears.goes.events in
+    let begun = c.in_ok-begin_turn.ensures.begins.alike.same_packets in omega (arith, heard, begun)
 
 pub feed-requires-clause-few : goal.feed-requires-clause-few
 feed-requires-clause-few g c =
@@ -27,7 +33,7 @@ feed-requires-clause-few g c =
 
 pub returns-clause-turns : goal.returns-clause-turns
 returns-clause-turns g c =
-    ends_fed _ _ _ _ _ _ _ _ _ _ _ _ _ _ _ _ _ _ c.in_ok-begin_turn.ensures.begins c.in_ok-hear.ensures.hears c.publish.ensures.publishes
+    ends_fed _ _ _ _ _ _ _ _ _ _ _ _ _ _ _ _ _ _ _ c.in_ok-begin_turn.ensures.begins c.in_ok-hear.ensures.hears c.publish.ensures.publishes
     c.feed.ensures.feeds c.feed.ensures.of_feed
 
 pub returns-clause-causes : goal.returns-clause-causes
