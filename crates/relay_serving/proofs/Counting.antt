@@ -35,7 +35,8 @@ use Rattle.relay_machine.specs.Updates.{forwardable_records, report_in}
 use Rattle.relay_machine.proofs.Courses.{each_more, sum_more}
 use Rattle.serving_turns.specs.Devices.{LinkSeen}
 use Rattle.replication_workers.specs.Replication.{to_peer}
-use Rattle.relay_serving.specs.Counting.{CountsAlike, HasAnswered, IsCounted, is_datagram, is_packet, one_if, with_late, with_outcome}
+use Rattle.relay_serving.specs.Counting.{CountsAlike, HasAnswered, IsCounted, is_datagram, is_packet, no_counts, one_if, with_late, with_outcome}
+use Rattle.relay_serving.specs.Happenings.{Happening, events_among}
 use Rattle.relay_serving.specs.declared.counts.Counts.{Counts}
 
 count_more : {X : Type 0} (test : X → Bool) (xs : List X) (x : X) → count_by test (xs ++ x ∷ []) ≡ count_by test xs + one_if (test x)
@@ -54,6 +55,12 @@ counted_more test settings first events event count is =
     ap (λ (number : ℕ). number + one_if (test outcome)) is
     ∙ (sym (count_more test (outcomes_of settings first events) outcome)
     ∙ ap (count_by test) (sym (each_more (outcome_of settings first) [] events event)))
+
+-- nothing is counted where nothing has happened
+pub IsCounted-none : (settings : Settings) (first : Secret) (past : List Happening) (counts : Counts) → past ≡ [] → counts ≡ no_counts → IsCounted settings first (events_among past) counts
+IsCounted-none settings first past counts none is =
+    subst (λ (list : List Happening). IsCounted settings first (events_among list) counts) (sym none)
+    (subst (IsCounted settings first []) (sym is) (record { events_are = record { datagrams_are = refl; packets_are = refl; updated_are = refl; torn_are = refl }; few_sends = omega arith }))
 
 pub IsCounted-next : (settings : Settings) (first : Secret) (events : List Event) (event : Event) (counts : Counts) → IsCounted settings first events counts
     → IsCounted settings first (events ++ event ∷ []) (with_outcome counts event (outcome_of settings first events event))

@@ -1,5 +1,5 @@
 -- What the turns of a run come to together.
-use Rattle.std.proofs.Common.{◌≡◌, ℕ, ◌+◌, ◌*◌, ◌≤◌, ◌<◌, cond, List, [], ◌∷◌, ◌++◌, count_by, length, map, None, Some, Ok, Err, refl, sym, ap, subst, ◌∙◌, arith, length-append}
+use Rattle.std.proofs.Common.{◌≡◌, ℕ, ◌+◌, ◌*◌, ◌≤◌, ◌<◌, cond, List, [], ◌∷◌, ◌++◌, length, map, None, Some, Ok, Err, refl, sym, ap, subst, ◌∙◌, arith, length-append}
 use Rattle.std.proofs.lemmas.Grind.{flat_map-append}
 use Rattle.std.proofs.lemmas.List.{append_assoc, map-append}
 use Rattle.std.proofs.lemmas.List.Sums.{sum_by-append}
@@ -96,7 +96,7 @@ module _ {O : Type 0} {g : Ghosts O} {T : Type 0} where
       let wanted : answers_after (settings_in before) (first_in before) (events_in before) earlier ++ answers_after (settings_in now) (first_in now) (events_in now) later
       ≡ answers_after (settings_in before) (first_in before) (events_in before) (events_among (happenings_from latest (turns ++ turn ∷ []))) =
       (λ i. answers_after (settings_in before) (first_in before) (events_in before) earlier
-          ++ answers_after (same.same_settings i) (same.same_first i) (events_grown before now (happenings_from latest turns) first.happens i) later)
+      ++ answers_after (same.same_settings i) (same.same_first i) (events_grown before now (happenings_from latest turns) first.happens i) later)
       ∙ sym (answers_after-append (settings_in before) (first_in before) (events_in before) earlier later)
       ∙ ap (answers_after (settings_in before) (first_in before) (events_in before)) (sym events) in
       let starved = sum_by-append starved_in turns (turn ∷ []) in

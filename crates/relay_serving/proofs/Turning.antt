@@ -1,5 +1,5 @@
 -- What the stages of a turn come to together.
-use Rattle.std.proofs.Common.{◌≡◌, ℕ, ◌+◌, Bool, cond, List, [], ◌∷◌, ◌++◌, count_by, map, refl, sym, ap, subst, ◌∙◌, arith}
+use Rattle.std.proofs.Common.{◌≡◌, ℕ, Bool, cond, List, [], ◌∷◌, ◌++◌, count_by, map, refl, sym, ap, subst, ◌∙◌, arith}
 use Rattle.std.specs.List.{sum_by}
 use Rattle.std.proofs.lemmas.List.{append-nil, append_assoc}
 use Rattle.std.proofs.lemmas.List.Sums.{sum_by-cons}
@@ -20,7 +20,7 @@ use Rattle.relay_serving.specs.Devices.{Devices}
 use Rattle.relay_serving.specs.Events.{beginning_of, datagrams_in, happenings_from, happenings_of_turn, moment_event, packets_in, publishing_in, rotation}
 use Rattle.relay_serving.specs.Happenings.{Happening, Took, events_among}
 use Rattle.relay_serving.specs.Sending.{answers_after}
-use Rattle.relay_serving.specs.Servers.{Feeds, Happens, HasEvents, Hears, IsSameRun, SendsAlike, counts_in, events_in, first_in, happenings_in, settings_in}
+use Rattle.relay_serving.specs.Servers.{Feeds, Happens, HasEvents, Hears, SendsAlike, counts_in, events_in, first_in, happenings_in, settings_in}
 use Rattle.relay_serving.specs.Turning.{Goes}
 use Rattle.relay_serving.specs.Turns.{Publishing, Ahead, Done, Refused, Turn, moment_of_turn}
 use Rattle.relay_serving.specs.declared.counts.Counts.{Counts}

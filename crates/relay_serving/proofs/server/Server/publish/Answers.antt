@@ -1,7 +1,7 @@
 use Rattle.std.proofs.Common.{◌∙◌, ◌++◌, List, length, refl, sym, ap, subst, append-nil, arith}
 use Rattle.endpoint_membership.specs.declared.change.Change.{Change}
 use Rattle.logbook.specs.Pages.{Book}
-use Rattle.published_table.specs.Publishers.{owing, published}
+use Rattle.published_table.specs.Publishers.{published}
 use Rattle.relay_machine.specs.Answers.{RelayAt, settings_of}
 use Rattle.relay_machine.specs.Published.{published_log}
 use Rattle.relay_machine.specs.declared.event.Event.{Event}

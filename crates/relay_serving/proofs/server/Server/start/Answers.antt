@@ -8,7 +8,9 @@ use Rattle.replication_workers.specs.Dispatchers.{slots_of}
 use Rattle.std.specs.List.{All}
 use Rattle.published_table.specs.Publishers.{book_of}
 use Rattle.published_table.specs.Views.{IsNew, views_of}
+use Rattle.relay_serving.proofs.Counting.{IsCounted-none}
 use Rattle.relay_serving.proofs.Starting.{none_given, of_publisher}
+use Rattle.relay_serving.specs.Courses.{happenings_so_far}
 use Rattle.relay_serving.specs.GivenOut.{AreGivenOut, terms_by}
 use Rattle.relay_serving.specs.Happenings.{Happening, events_among, published_events_among}
 use Rattle.relay_serving.proofs.server.Server.start.Goals as goal
@@ -47,6 +49,11 @@ made_new : (g : _) (c : goal.After-new-in-Ok-start_slots-2 g) → All (IsNew (bo
 made_new g c =
     subst (λ (lifetime : ℕ). All (IsNew (book_of c.in-Ok-with_views.publisher) (record { limits = c.args.settings.limits; lifetime_ms = lifetime })) (views_of c.in-Ok-with_views.views))
     c.lifetime_ms.ensures c.in-Ok-with_views.ensures.views
+
+pub invariant_of-result-clause-counted : goal.invariant_of-result-clause-counted
+invariant_of-result-clause-counted g c =
+    IsCounted-none (settings_of c.in-Ok.relay) c.of.result.value (happenings_so_far c.new-in-Ok-start_slots-2.result) c.new-in-Ok-start_slots.result
+    c.new-in-Ok-start_slots-2.ensures c.new-in-Ok-start_slots.ensures
 
 pub invariant_of-result-clause-publishers : goal.invariant_of-result-clause-publishers
 invariant_of-result-clause-publishers g c =
