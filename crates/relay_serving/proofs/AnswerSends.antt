@@ -15,11 +15,6 @@ use Rattle.serving_turns.proofs.Trying.{HasTried-failed, HasTried-sent}
 use Rattle.relay_serving.specs.Counting.{HasAnswered}
 use Rattle.relay_serving.specs.declared.counts.Counts.{Counts}
 
--- no datagram, packet, Update or Teardown more was counted
-abbrev pub CountsAlike : Counts → Counts → Type 0
-CountsAlike before after =
-    (after.datagrams ≡ before.datagrams) × (after.packets ≡ before.packets) × (after.updated ≡ before.updated) × (after.torn ≡ before.torn)
-
 pub answers_more : (sends : List OneSend) (place : ℕ) (send : OneSend) (peer : Peer) (bytes : List ℕ) → place < length sends → send ≡ get_or sends place send → peer ≡ peer_of send.to → bytes ≡ send.bytes
     → map to_peer (take place sends) ++ (peer, bytes) ∷ [] ≡ map to_peer (take (place + 1) sends)
 answers_more sends place send peer bytes within is value same =

@@ -31,14 +31,14 @@ answers_after-append settings first earlier events more =
     ap (flat_map (λ (sends : List (Peer × List ℕ)). sends)) (each_append (answers_to settings first) earlier events more)
     ∙ flat_map-append (λ (sends : List (Peer × List ℕ)). sends) (each_after (answers_to settings first) earlier events) (each_after (answers_to settings first) (earlier ++ events) more)
 
-sum_then : (before now after first second : ℕ) → now ≡ before + first → after ≡ now + second → after ≡ before + (first + second)
+pub sum_then : (before now after first second : ℕ) → now ≡ before + first → after ≡ now + second → after ≡ before + (first + second)
 sum_then before now after first second is then = omega (arith, is, then)
 
 as_many_then : (more missed then_more then_missed first second all : ℕ) → more + missed ≡ first → then_more + then_missed ≡ second → all ≡ first + second
     → (more + then_more) + (missed + then_missed) ≡ all
 as_many_then more missed then_more then_missed first second all is then both = omega (arith, is, then, both)
 
-no_more : (number : ℕ) → number ≡ number + 0
+pub no_more : (number : ℕ) → number ≡ number + 0
 no_more number = omega arith
 
 -- answers, and then others

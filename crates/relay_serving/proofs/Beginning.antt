@@ -1,23 +1,18 @@
 -- What the first stage of a turn comes to.
-use Rattle.std.proofs.Common.{◌≡◌, ℕ, max, ◌<◌, true, false, true≢false, List, [], ◌∷◌, ◌++◌, length, Option, Some, Result, Ok, Err, refl, sym, ap, subst, ◌∙◌, arith}
-use Rattle.std.proofs.lemmas.List.{append_assoc}
-use Rattle.std.specs.Prelude.{MatchResult, OnOk, is_err}
-use Rattle.std.specs.List.{filter_map}
+use Rattle.std.proofs.Common.{◌≡◌, ℕ, max, ◌<◌, List, [], ◌∷◌, length, Option, Some, Result, refl, sym, ap, subst, arith}
 use Rattle.amt_ports.specs.Told.{Appends, AppendsAll}
 use Rattle.amt_ports.specs.declared.out_link.OutLink.{Ghosts}
 use Rattle.response_mac.specs.declared.secret.Secret.{Secret}
-use Rattle.relay_machine.proofs.Onward.{now_of-moment}
-use Rattle.relay_machine.specs.Events.{moment_in, now_of}
-use Rattle.relay_machine.specs.declared.event.Event.{Event}
-use Rattle.relay_machine.specs.declared.event.Event.TheVariants.{Moment, Rotate}
+use Rattle.relay_machine.specs.declared.event.Event.TheVariants.{Rotate}
 use Rattle.serving_turns.specs.declared.end.End.{End}
-use Rattle.relay_serving.specs.Events.{rotation, secret_by}
-use Rattle.relay_serving.specs.Servers.{HasEvents, events_in, now_in, published_in}
-use Rattle.relay_serving.specs.Stages.{BeginsSo, IsBegunBy}
-use Rattle.relay_serving.specs.Turns.{is_due, renewed_after}
+use Rattle.relay_serving.specs.Counting.{HasRefused, one_if}
+use Rattle.relay_serving.specs.Events.{moment_event, rotation, secret_by}
+use Rattle.relay_serving.specs.Servers.{HasEvents, counts_in}
+use Rattle.relay_serving.specs.Stages.{BeginsSo, IsBegunBy, PassesMoment}
+use Rattle.relay_serving.specs.Turns.{Progress, is_due, renewed_after}
+use Rattle.relay_serving.specs.declared.counts.Counts.{Counts}
 use Rattle.relay_serving.specs.declared.server.Server.{Server}
-use Rattle.relay_serving.proofs.Events.{IsSameRun-then}
-use Rattle.relay_serving.proofs.Turning.{now_in-kept}
+use Rattle.relay_serving.proofs.Events.{HasEvents-then, SendsAlike-same, SendsAlike-then}
 
 pub rotation-few : (drawn : List ℕ) → length drawn < 4 → rotation drawn ≡ []
 rotation-few [] few = refl
@@ -35,66 +30,41 @@ rotation-four (one ∷ two ∷ three ∷ []) secret four is = absurd (omega (ari
 rotation-four (one ∷ two ∷ three ∷ four_th ∷ []) secret four is = ap (λ (key : Secret). Rotate key ∷ []) is
 rotation-four (one ∷ two ∷ three ∷ four_th ∷ five ∷ more) secret four is = absurd (omega (arith, four))
 
-timeless-rotation : (drawn : List ℕ) → filter_map moment_in (rotation drawn) ≡ []
-timeless-rotation [] = refl
-timeless-rotation (one ∷ []) = refl
-timeless-rotation (one ∷ two ∷ []) = refl
-timeless-rotation (one ∷ two ∷ three ∷ []) = refl
-timeless-rotation (one ∷ two ∷ three ∷ four ∷ []) = refl
-timeless-rotation (one ∷ two ∷ three ∷ four ∷ five ∷ more) = refl
-
-max_twice : (earlier answer : ℕ) → max earlier (max earlier answer) ≡ max earlier answer
-max_twice earlier answer = grind arith
-
-pub ok_gives : {E P : Type 0} (result : Result (Unit {0}) E) → is_err result ≡ false → OnOk result P → P
-ok_gives (Ok unit) fine fact = fact
-ok_gives (Err fault) fine fact = absurd (true≢false fine)
-
-pub err_gives : {T E : Type 0} (P Q : Type 0) (result : Result T E) → is_err result ≡ true → MatchResult result (λ _. P) (λ _. Q) → Q
-err_gives P Q (Ok value) wrong fact = absurd (true≢false (sym wrong))
-err_gives P Q (Err fault) wrong fact = fact
-
 module _ {O : Type 0} {g : Ghosts O} {T : Type 0} where
-  -- the moment was taken, and then the secret, if all of it was drawn
-  pub record HasMoved (rotate : ℕ) (renewed renewed' : Option ℕ) (before after : Server O T g) (words words' : Option (List ℕ)) (result : Result (Unit {0}) End) (now : ℕ) : Type 0 where
+  -- it is this late, and then the secret was drawn, or was not
+  pub record HasMoved (rotate : ℕ) (progress progress' : Progress) (before after : Server O T g) (words words' : Option (List ℕ)) (result : Result (Unit {0}) End) (now : ℕ) : Type 0 where
     pub moved : Server O T g
     pub drawn : List ℕ
     pub words_gave : AppendsAll words words' drawn
-    pub is_begun : IsBegunBy result (is_due rotate renewed now) false drawn
-    pub moment : HasEvents before moved (Moment now ∷ [])
-    pub same_published : published_in moved ≡ published_in before
+    pub is_begun : IsBegunBy result (is_due rotate progress.renewed now) drawn
+    pub passes : PassesMoment now before moved
     pub secret : HasEvents moved after (rotation drawn)
-    pub published_then : published_in after ≡ published_in moved
-    pub renewed_is : renewed' ≡ Some (renewed_after rotate renewed now)
+    pub same_counts : counts_in after ≡ counts_in moved
+    pub latest_is : progress'.latest ≡ now
+    pub renewed_is : progress'.renewed ≡ Some (renewed_after rotate progress.renewed now)
 
-  begins_at : (rotate : ℕ) (renewed renewed' : Option ℕ) (before after : Server O T g) (clock clock' words words' : Option (List ℕ)) (result : Result (Unit {0}) End) (answer : ℕ)
-      → Appends clock clock' answer → HasMoved rotate renewed renewed' before after words words' result (max (now_in before) answer)
-      → BeginsSo rotate renewed renewed' before after clock clock' words words' result
-  begins_at rotate renewed renewed' before after clock clock' words words' result answer clock_gave has =
-      let now = max (now_in before) answer in
-      let time : now_in has.moved ≡ now =
-      has.moved.at.moment ∙ ap now_of has.moment.events ∙ now_of-moment (events_in before) now
-      ∙ ap (λ (n : ℕ). max n now) (sym before.at.moment) ∙ max_twice (now_in before) answer in
-      record {
+  begins_at : (rotate : ℕ) (progress progress' : Progress) (before after : Server O T g) (clock clock' words words' : Option (List ℕ)) (result : Result (Unit {0}) End) (answer : ℕ)
+      → Appends clock clock' answer → HasMoved rotate progress progress' before after words words' result (max progress.latest answer)
+      → BeginsSo rotate progress progress' before after clock clock' words words' result
+  begins_at rotate progress progress' before after clock clock' words words' result answer clock_gave has =
+      let now = max progress.latest answer in
+      let starved = has.passes.starved in record {
         answer = answer;
-        starved = false;
+        starved = starved;
         drawn = has.drawn;
         clock_gave = clock_gave;
         words_gave = has.words_gave;
         is_begun = has.is_begun;
-        events = record {
-          same = IsSameRun-then before has.moved after has.moment.same has.secret.same;
-          events = has.secret.events ∙ ap (λ (list : List Event). list ++ rotation has.drawn) has.moment.events
-              ∙ append_assoc (events_in before) (Moment now ∷ []) (rotation has.drawn);
-        };
-        same_published = has.published_then ∙ has.same_published;
-        latest = λ _. now_in-kept has.moved after (rotation has.drawn) has.secret.events (timeless-rotation has.drawn) ∙ time;
-        renewed_is = λ _. has.renewed_is;
+        events = HasEvents-then before has.moved after (moment_event starved now) (rotation has.drawn) has.passes.events has.secret;
+        refused = subst (λ (counts : Counts). HasRefused (counts_in before) counts (one_if starved) 0) (sym has.same_counts) has.passes.refused;
+        alike = SendsAlike-then before has.moved after has.passes.alike (SendsAlike-same has.moved after has.same_counts);
+        latest_is = has.latest_is;
+        renewed_is = has.renewed_is;
       }
 
-  pub begins : (rotate : ℕ) (renewed renewed' : Option ℕ) (before after : Server O T g) (clock clock' words words' : Option (List ℕ)) (result : Result (Unit {0}) End) (answer now : ℕ)
-      → now ≡ max (now_in before) answer → Appends clock clock' answer → HasMoved rotate renewed renewed' before after words words' result now
-      → BeginsSo rotate renewed renewed' before after clock clock' words words' result
-  begins rotate renewed renewed' before after clock clock' words words' result answer now is clock_gave has =
-      begins_at rotate renewed renewed' before after clock clock' words words' result answer clock_gave
-      (subst (λ (at : ℕ). HasMoved rotate renewed renewed' before after words words' result at) is has)
+  pub begins : (rotate : ℕ) (progress progress' : Progress) (before after : Server O T g) (clock clock' words words' : Option (List ℕ)) (result : Result (Unit {0}) End) (answer now : ℕ)
+      → now ≡ max progress.latest answer → Appends clock clock' answer → HasMoved rotate progress progress' before after words words' result now
+      → BeginsSo rotate progress progress' before after clock clock' words words' result
+  begins rotate progress progress' before after clock clock' words words' result answer now is clock_gave has =
+      begins_at rotate progress progress' before after clock clock' words words' result answer clock_gave
+      (subst (λ (at : ℕ). HasMoved rotate progress progress' before after words words' result at) is has)

@@ -35,7 +35,8 @@ use Rattle.relay_machine.specs.Updates.{forwardable_records, report_in}
 use Rattle.relay_machine.proofs.Courses.{each_more, sum_more}
 use Rattle.serving_turns.specs.Devices.{LinkSeen}
 use Rattle.replication_workers.specs.Replication.{to_peer}
-use Rattle.relay_serving.specs.Counting.{HasAnswered, IsCounted, is_datagram, is_packet, one_if, with_outcome}
+use Rattle.relay_serving.specs.Counting.{CountsAlike, HasAnswered, IsCounted, is_datagram, is_packet, no_counts, one_if, with_late, with_outcome}
+use Rattle.relay_serving.specs.Happenings.{Happening, events_among}
 use Rattle.relay_serving.specs.declared.counts.Counts.{Counts}
 
 count_more : {X : Type 0} (test : X → Bool) (xs : List X) (x : X) → count_by test (xs ++ x ∷ []) ≡ count_by test xs + one_if (test x)
@@ -54,6 +55,12 @@ counted_more test settings first events event count is =
     ap (λ (number : ℕ). number + one_if (test outcome)) is
     ∙ (sym (count_more test (outcomes_of settings first events) outcome)
     ∙ ap (count_by test) (sym (each_more (outcome_of settings first) [] events event)))
+
+-- nothing is counted where nothing has happened
+pub IsCounted-none : (settings : Settings) (first : Secret) (past : List Happening) (counts : Counts) → past ≡ [] → counts ≡ no_counts → IsCounted settings first (events_among past) counts
+IsCounted-none settings first past counts none is =
+    subst (λ (list : List Happening). IsCounted settings first (events_among list) counts) (sym none)
+    (subst (IsCounted settings first []) (sym is) (record { events_are = record { datagrams_are = refl; packets_are = refl; updated_are = refl; torn_are = refl }; few_sends = omega arith }))
 
 pub IsCounted-next : (settings : Settings) (first : Secret) (events : List Event) (event : Event) (counts : Counts) → IsCounted settings first events counts
     → IsCounted settings first (events ++ event ∷ []) (with_outcome counts event (outcome_of settings first events event))
@@ -85,24 +92,39 @@ secret-uncounted counts secret =
     let packets : counts.packets ≡ counts.packets + 0 = omega arith in
     let updated : counts.updated ≡ counts.updated + 0 = omega arith in
     let torn : counts.torn ≡ counts.torn + 0 = omega arith in
-    λ i. record { datagrams = datagrams i; packets = packets i; updated = updated i; torn = torn i; sent = counts.sent; unsent = counts.unsent }
+    λ i. record {
+      datagrams = datagrams i;
+      packets = packets i;
+      updated = updated i;
+      torn = torn i;
+      sent = counts.sent;
+      unsent = counts.unsent;
+      starved = counts.starved;
+      late = counts.late;
+    }
+
+-- neither is a publishing that memory refused
+pub IsCounted-late : (settings : Settings) (first : Secret) (events : List Event) (counts counts' : Counts) → counts' ≡ with_late counts → IsCounted settings first events counts
+    → IsCounted settings first events counts'
+IsCounted-late settings first events counts counts' is counted =
+    subst (IsCounted settings first events) (sym is) (record { events_are = counted.events_are; few_sends = counted.few_sends })
 
 -- at most one answer was tried to a datagram that is counted already
 pub IsCounted-answered : (settings : Settings) (first : Secret) (events : List Event) (link link' : LinkSeen) (counts counts' : Counts) (sends : List OneSend) → HasAnswered link link' counts counts' (map to_peer sends)
-    → length sends ≤ 1 → counts.sent + counts.unsent + 1 ≤ counts.datagrams → counts'.datagrams ≡ counts.datagrams → counts'.packets ≡ counts.packets → counts'.updated ≡ counts.updated → counts'.torn ≡ counts.torn
+    → length sends ≤ 1 → counts.sent + counts.unsent + 1 ≤ counts.datagrams → CountsAlike counts counts'
     → IsCounted settings first events counts → IsCounted settings first events counts'
-IsCounted-answered settings first events link link' counts counts' sends answered few room datagrams packets updated torn counted =
+IsCounted-answered settings first events link link' counts counts' sends answered few room alike counted =
     let all = answered.as_many in
     let long = length-map sends to_peer in
     let sent = answered.sent_are in
     let unsent = answered.unsent_are in record {
       events_are = record {
-        datagrams_are = datagrams ∙ counted.events_are.datagrams_are;
-        packets_are = packets ∙ counted.events_are.packets_are;
-        updated_are = updated ∙ counted.events_are.updated_are;
-        torn_are = torn ∙ counted.events_are.torn_are;
+        datagrams_are = alike.same_datagrams ∙ counted.events_are.datagrams_are;
+        packets_are = alike.same_packets ∙ counted.events_are.packets_are;
+        updated_are = alike.same_updated ∙ counted.events_are.updated_are;
+        torn_are = alike.same_torn ∙ counted.events_are.torn_are;
       };
-      few_sends = omega (arith, all, long, sent, unsent, few, room, datagrams);
+      few_sends = omega (arith, all, long, sent, unsent, few, room, alike.same_datagrams);
     }
 
 -- no count passes the number of events

@@ -6,17 +6,17 @@ use Rattle.serving_turns.specs.Answers.{Taken}
 use Rattle.serving_turns.specs.Bursts.{AreAsked}
 use Rattle.serving_turns.specs.declared.end.End.{End}
 use Rattle.serving_turns.specs.declared.end.End.TheVariants.{Turns, Closed, LinkFault, FeedFault, WordsFault, SpawnFault, Memory}
-use Rattle.relay_serving.specs.Runs.{IsCut, IsUnfed, IsUnheard, at_moment, at_datagram, at_packet, of_link, of_feed}
+use Rattle.relay_serving.specs.Runs.{IsCut, IsUnfed, IsUnheard, of_link, of_feed}
 use Rattle.relay_serving.specs.Stages.{IsBegunBy}
 use Rattle.relay_serving.specs.Turning.{IsTurnBy}
 use Rattle.relay_serving.specs.Turns.{Ahead, HasBegun, HasHeard, Progress, Turn, from_feed, from_link, is_due, moment_of_turn}
 
 module _ (rotate : ℕ) (progress : Progress) (turn : Turn) where
   -- in its first stage
-  pub cut_begun : (end : End) → IsBegunBy (Err end) (is_due rotate progress.renewed (moment_of_turn progress.latest turn)) turn.clock.starved turn.drawn
+  pub cut_begun : (end : End) → IsBegunBy (Err end) (is_due rotate progress.renewed (moment_of_turn progress.latest turn)) turn.drawn
       → IsUnheard turn → IsCut end rotate progress turn
-  cut_begun Memory begun unheard = at_moment begun.0 begun.1 unheard
-  cut_begun WordsFault begun unheard = record { moment = begun.0; due = begun.1; few = begun.2; unheard = unheard }
+  cut_begun WordsFault begun unheard = record { due = begun.0; few = begun.1; unheard = unheard }
+  cut_begun Memory begun unheard = begun
   cut_begun Turns begun unheard = begun
   cut_begun Closed begun unheard = absurd begun
   cut_begun LinkFault begun unheard = absurd begun
@@ -26,7 +26,7 @@ module _ (rotate : ℕ) (progress : Progress) (turn : Turn) where
   -- when the link is asked
   pub cut_heard : (end : End) → HasBegun rotate progress turn → AreAsked from_link (Err end) turn.heard
       → (IsErrOf {T = Unit {0}} (Err end) FeedFault → ⊥) → IsUnfed Ahead turn → IsCut end rotate progress turn
-  cut_heard Memory begun asked other unfed = at_datagram begun asked unfed
+  cut_heard Memory begun asked other unfed = asked.3
   cut_heard Closed begun asked other unfed = of_link begun asked unfed
   cut_heard LinkFault begun asked other unfed = (begun, asked, unfed)
   cut_heard FeedFault begun asked other unfed = absurd (other refl)
@@ -37,7 +37,7 @@ module _ (rotate : ℕ) (progress : Progress) (turn : Turn) where
   -- when the feed is asked
   pub cut_fed : (end : End) → HasHeard rotate progress turn → AreAsked from_feed (Err end) turn.fed
       → (IsErrOf {T = Unit {0}} (Err end) LinkFault → ⊥) → IsCut end rotate progress turn
-  cut_fed Memory heard asked other = at_packet heard asked
+  cut_fed Memory heard asked other = asked.3
   cut_fed Closed heard asked other = of_feed heard asked
   cut_fed FeedFault heard asked other = (heard, asked)
   cut_fed LinkFault heard asked other = absurd (other refl)

@@ -26,7 +26,9 @@ use Rattle.relay_machine.proofs.PublishedLog.{published_log-next, published_log-
 use Rattle.replication_workers.specs.SlotStates.{SlotState}
 use Rattle.relay_serving.specs.Counting.{is_packet}
 use Rattle.relay_serving.specs.GivenOut.{AreGivenOut, terms_by}
+use Rattle.relay_serving.specs.Happenings.{Happening, Took, published_events_among}
 use Rattle.relay_serving.specs.Sending.{Due, due_to, dues_after}
+use Rattle.relay_serving.proofs.Happenings.{published-next}
 
 -- each event adds at most one entry
 few_more : (log : List Change) (entry : Option Change) → length (with_change log entry) ≤ length log + 1
@@ -69,32 +71,39 @@ entry-fits settings first events event log terms change lawful by before is =
     (published_log-next settings first events event ∙ (λ i. with_change (sym before i) (sym is i)))
     (∥∥₁_elim lawful (hlevel props) (λ known. published_log-within settings first (events ++ event ∷ []) known)))
 
+-- the log that is shown stays where no publishing happens
+pub shown-next : (settings after : Settings) (first : Secret) (past later : List Happening) (event : Event) (shown shown' : List Change)
+    → after ≡ settings → later ≡ past ++ Took event ∷ [] → shown' ≡ shown → shown ≡ published_log settings first (published_events_among past)
+    → shown' ≡ published_log after first (published_events_among later)
+shown-next settings after first past later event shown shown' same next kept before =
+    kept ∙ before ∙ (λ i. published_log (sym same i) first (sym (published-next past later event next) i))
+
 -- a packet alone is due
-none_due : (settings : Settings) (first : Secret) (events : List Event) (event : Event) → is_packet event ≡ false → due_to settings first events event ≡ []
-none_due settings first events (Moment moment) other = refl
-none_due settings first events (Datagram bytes from) other = refl
-none_due settings first events (Rotate secret) other = refl
-none_due settings first events (Packet bytes) other = absurd (no other)
+pub none_due : (settings : Settings) (first : Secret) (past : List Happening) (event : Event) → is_packet event ≡ false → due_to settings first past (Took event) ≡ []
+none_due settings first past (Moment moment) other = refl
+none_due settings first past (Datagram bytes from) other = refl
+none_due settings first past (Rotate secret) other = refl
+none_due settings first past (Packet bytes) other = absurd (no other)
   where
     no : true ≡ false → ⊥
     no same = cc
 
-pub dues-next : (settings : Settings) (first : Secret) (events : List Event) (event : Event)
-    → dues_after settings first [] (events ++ event ∷ []) ≡ dues_after settings first [] events ++ due_to settings first events event
-dues-next settings first events event =
-    ap (flat_map (λ (dues : List Due). dues)) (each_more (due_to settings first) [] events event)
-    ∙ sym (flat_map_more (λ (dues : List Due). dues) [] (each_after (due_to settings first) [] events) (due_to settings first events event))
+pub dues-next : (settings : Settings) (first : Secret) (past : List Happening) (one : Happening)
+    → dues_after settings first [] (past ++ one ∷ []) ≡ dues_after settings first [] past ++ due_to settings first past one
+dues-next settings first past one =
+    ap (flat_map (λ (dues : List Due). dues)) (each_more (due_to settings first) [] past one)
+    ∙ sym (flat_map_more (λ (dues : List Due). dues) [] (each_after (due_to settings first) [] past) (due_to settings first past one))
 
-pub given_out-other : {O : Type 0} {g : Ghosts O} (settings after : Settings) (first : Secret) (events later : List Event) (event : Event) (slots : List (SlotState O g))
-    → after ≡ settings → later ≡ events ++ event ∷ [] → is_packet event ≡ false → ∥ AreGivenOut settings first events slots ∥₁ → ∥ AreGivenOut after first later slots ∥₁
-given_out-other settings after first events later event slots same next other given =
+pub given_out-other : {O : Type 0} {g : Ghosts O} (settings after : Settings) (first : Secret) (past later : List Happening) (one : Happening) (slots : List (SlotState O g))
+    → after ≡ settings → later ≡ past ++ one ∷ [] → due_to settings first past one ≡ [] → ∥ AreGivenOut settings first past slots ∥₁ → ∥ AreGivenOut after first later slots ∥₁
+given_out-other settings after first past later one slots same next none given =
     subst (λ (known : Settings). ∥ AreGivenOut known first later slots ∥₁) (sym same)
-    (subst (λ (all : List Event). ∥ AreGivenOut settings first all slots ∥₁) (sym next)
+    (subst (λ (all : List Happening). ∥ AreGivenOut settings first all slots ∥₁) (sym next)
     (∥∥₁_map given (λ before. record {
       jobs = before.jobs;
       are_due = before.are_due
-          ∙ sym (dues-next settings first events event
-          ∙ (ap (λ (more : List Due). dues_after settings first [] events ++ more) (none_due settings first events event other) ∙ append-nil _));
+          ∙ sym (dues-next settings first past one
+          ∙ (ap (λ (more : List Due). dues_after settings first [] past ++ more) none ∙ append-nil _));
       at_slots = before.at_slots;
     })))
 

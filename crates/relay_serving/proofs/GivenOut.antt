@@ -25,6 +25,7 @@ use Rattle.replication_workers.specs.declared.job.Job.{Job}
 use Rattle.replication_workers.specs.declared.replicator.Replicator.{Replicator}
 use Rattle.relay_serving.specs.Counting.{is_packet}
 use Rattle.relay_serving.specs.GivenOut.{AreGivenOut, AreOfPublisher, jobs_at, slots_after, starts_in}
+use Rattle.relay_serving.specs.Happenings.{Happening, Took, Published, events_among, published_events_among}
 use Rattle.relay_serving.specs.Sending.{due_of, due_to, dues_after}
 use Rattle.relay_serving.proofs.Entering.{dues-next}
 
@@ -113,58 +114,62 @@ module _ {O : Type 0} {g : Ghosts O} where
       let same = length-reverse jobs in omega (arith, back, turned, same)
 
 -- each packet is due once
-one_due : (settings : Settings) (first : Secret) (earlier : List Event) (event : Event) → length (due_to settings first earlier event) ≡ cond (is_packet event) 1 0
+one_due : (settings : Settings) (first : Secret) (earlier : List Happening) (event : Event) → length (due_to settings first earlier (Took event)) ≡ cond (is_packet event) 1 0
 one_due settings first earlier (Moment moment) = refl
 one_due settings first earlier (Datagram bytes from) = refl
 one_due settings first earlier (Rotate secret) = refl
 one_due settings first earlier (Packet bytes) = refl
 
-dues-counted : (settings : Settings) (first : Secret) (earlier later : List Event) → length (dues_after settings first earlier later) ≡ count_by is_packet later
+dues-counted : (settings : Settings) (first : Secret) (earlier later : List Happening) → length (dues_after settings first earlier later) ≡ count_by is_packet (events_among later)
 dues-counted settings first earlier [] = refl
-dues-counted settings first earlier (event ∷ later) =
-    let all = length-append (due_to settings first earlier event) (dues_after settings first (earlier ++ event ∷ []) later) in
+dues-counted settings first earlier (Took event ∷ later) =
+    let all = length-append (due_to settings first earlier (Took event)) (dues_after settings first (earlier ++ Took event ∷ []) later) in
     let one = one_due settings first earlier event in
-    let more = dues-counted settings first (earlier ++ event ∷ []) later in
-    let sum = sum_by-cons (λ (known : Event). cond (is_packet known) 1 0) event later in omega (arith, all, one, more, sum)
+    let more = dues-counted settings first (earlier ++ Took event ∷ []) later in
+    let sum = sum_by-cons (λ (known : Event). cond (is_packet known) 1 0) event (events_among later) in omega (arith, all, one, more, sum)
+dues-counted settings first earlier (Published ∷ later) = dues-counted settings first (earlier ++ Published ∷ []) later
 
-due_is : (settings : Settings) (first : Secret) (events : List Event) (job : Job) (bytes : List ℕ) → job.packet ≡ bytes → job.at ≡ now_of events → named job.note ≡ published_log settings first events
-    → due_of job ∷ [] ≡ due_to settings first events (Packet bytes)
-due_is settings first events job bytes packet at log = λ i. record { packet = packet i; at = at i; log = log i } ∷ []
+-- there are as many jobs as packets
+pub jobs_count : (settings : Settings) (first : Secret) (past : List Happening) (jobs : List Job) → map due_of jobs ≡ dues_after settings first [] past
+    → length jobs ≡ count_by is_packet (events_among past)
+jobs_count settings first past jobs due = sym (length-map jobs due_of) ∙ ap length due ∙ dues-counted settings first [] past
+
+due_is : (settings : Settings) (first : Secret) (past : List Happening) (job : Job) (bytes : List ℕ) → job.packet ≡ bytes → job.at ≡ now_of (events_among past)
+    → named job.note ≡ published_log settings first (published_events_among past) → due_of job ∷ [] ≡ due_to settings first past (Took (Packet bytes))
+due_is settings first past job bytes packet at log = λ i. record { packet = packet i; at = at i; log = log i } ∷ []
 
 module _ {O : Type 0} {g : Ghosts O} where
   -- all jobs are packets that were counted
-  pub few-given : (settings : Settings) (first : Secret) (events : List Event) (slots : List (SlotState O g)) (packets : ℕ) → ∥ AreGivenOut settings first events slots ∥₁
-      → packets ≡ count_by is_packet events → packets < 2 ^ 46 → jobs_in_all slots < 2 ^ 46
-  few-given settings first events slots packets given counted few =
+  pub few-given : (settings : Settings) (first : Secret) (past : List Happening) (slots : List (SlotState O g)) (packets : ℕ) → ∥ AreGivenOut settings first past slots ∥₁
+      → packets ≡ count_by is_packet (events_among past) → packets < 2 ^ 46 → jobs_in_all slots < 2 ^ 46
+  few-given settings first past slots packets given counted few =
       ∥∥₁_elim given (hlevel props) (λ known.
       let at = ap jobs_in_all known.at_slots in
       let all = few_jobs (starts_in slots) known.jobs in
-      let due = ap length known.are_due in
-      let long = length-map known.jobs due_of in
-      let dues = dues-counted settings first [] events in omega (arith, at, all, due, long, dues, counted, few))
+      let number = jobs_count settings first past known.jobs known.are_due in omega (arith, at, all, number, counted, few))
 
-  given_more : (settings : Settings) (first : Secret) (events : List Event) (slots slots' : List (SlotState O g)) (job : Job) (bytes : List ℕ) (place : ℕ) → place ≡ slot_for (length slots) job.packet
-      → slots' ≡ with_job place job slots → job.packet ≡ bytes → job.at ≡ now_of events → named job.note ≡ published_log settings first events
-      → AreGivenOut settings first events slots → AreGivenOut settings first (events ++ Packet bytes ∷ []) slots'
-  given_more settings first events slots slots' job bytes place slot put packet at log given =
+  given_more : (settings : Settings) (first : Secret) (past : List Happening) (slots slots' : List (SlotState O g)) (job : Job) (bytes : List ℕ) (place : ℕ) → place ≡ slot_for (length slots) job.packet
+      → slots' ≡ with_job place job slots → job.packet ≡ bytes → job.at ≡ now_of (events_among past) → named job.note ≡ published_log settings first (published_events_among past)
+      → AreGivenOut settings first past slots → AreGivenOut settings first (past ++ Took (Packet bytes) ∷ []) slots'
+  given_more settings first past slots slots' job bytes place slot put packet at log given =
       let firsts = starts_in slots in
       let same_firsts = ap starts_in put ∙ starts_in-put place job slots in
       let same_place : place ≡ slot_for (length firsts) job.packet = slot ∙ ap (λ (number : ℕ). slot_for number job.packet) (sym (length-map slots (λ (one : SlotState O g). one.first))) in record {
         jobs = given.jobs ++ job ∷ [];
         are_due = map-append due_of given.jobs (job ∷ [])
-            ∙ ((λ i. given.are_due i ++ due_is settings first events job bytes packet at log i) ∙ sym (dues-next settings first events (Packet bytes)));
+            ∙ ((λ i. given.are_due i ++ due_is settings first past job bytes packet at log i) ∙ sym (dues-next settings first past (Took (Packet bytes))));
         at_slots = put
             ∙ ((λ i. with_job (same_place i) job (given.at_slots i))
             ∙ (sym (slots_after-put firsts given.jobs job)
             ∙ ap (λ (known : List (Replicator O g)). slots_after known (given.jobs ++ job ∷ [])) (sym same_firsts)));
       }
 
-  pub given_out-packet : (settings : Settings) (first : Secret) (events later : List Event) (slots slots' : List (SlotState O g)) (job : Job) (bytes : List ℕ) (place : ℕ) → place ≡ slot_for (length slots) job.packet
-      → slots' ≡ with_job place job slots → later ≡ events ++ Packet bytes ∷ [] → job.packet ≡ bytes → job.at ≡ now_of events → named job.note ≡ published_log settings first events
-      → ∥ AreGivenOut settings first events slots ∥₁ → ∥ AreGivenOut settings first later slots' ∥₁
-  given_out-packet settings first events later slots slots' job bytes place slot put next packet at log given =
-      subst (λ (all : List Event). ∥ AreGivenOut settings first all slots' ∥₁) (sym next)
-      (∥∥₁_map given (given_more settings first events slots slots' job bytes place slot put packet at log))
+  pub given_out-packet : (settings : Settings) (first : Secret) (past later : List Happening) (slots slots' : List (SlotState O g)) (job : Job) (bytes : List ℕ) (place : ℕ) → place ≡ slot_for (length slots) job.packet
+      → slots' ≡ with_job place job slots → later ≡ past ++ Took (Packet bytes) ∷ [] → job.packet ≡ bytes → job.at ≡ now_of (events_among past)
+      → named job.note ≡ published_log settings first (published_events_among past) → ∥ AreGivenOut settings first past slots ∥₁ → ∥ AreGivenOut settings first later slots' ∥₁
+  given_out-packet settings first past later slots slots' job bytes place slot put next packet at log given =
+      subst (λ (all : List Happening). ∥ AreGivenOut settings first all slots' ∥₁) (sym next)
+      (∥∥₁_map given (given_more settings first past slots slots' job bytes place slot put packet at log))
 
   -- a job's note is of the slots' publisher
   pub for_slots : (publisher : Book) (note : Note) (slots : List (SlotState O g)) → note_publisher note ≡ publisher → AreOfPublisher publisher slots

@@ -1,5 +1,5 @@
 -- One asking of a link or a feed, and several in a row.
-use Rattle.std.proofs.Common.{◌≡◌, ℕ, List, [], ◌∷◌, ◌++◌, map, sym, ap, subst, ◌∙◌, append-nil}
+use Rattle.std.proofs.Common.{◌≡◌, ℕ, List, [], ◌∷◌, ◌++◌, count_by, map, refl, sym, ap, subst, ◌∙◌, append-nil}
 use Rattle.std.specs.Prelude.{Option}
 use Rattle.amt_ports.specs.Sends.{TriedSend}
 use Rattle.amt_ports.specs.Told.{Answers}
@@ -12,20 +12,20 @@ use Rattle.amt_values.specs.declared.peer.Peer.{Peer}
 use Rattle.relay_machine.specs.Answers.{sends_of}
 use Rattle.relay_machine.specs.declared.event.Event.{Event}
 use Rattle.relay_machine.specs.declared.event.Event.TheVariants.{Datagram, Packet}
-use Rattle.serving_turns.specs.Answers.{Taken, taken}
+use Rattle.serving_turns.specs.Answers.{Taken, refused, taken}
 use Rattle.serving_turns.specs.Devices.{FeedSeen, LinkSeen}
 use Rattle.serving_turns.proofs.Lists.{AnswersAll-taken, one_answer}
 use Rattle.serving_turns.proofs.SoFar.{GoesOn}
 use Rattle.replication_workers.specs.Replication.{to_peer}
 use Rattle.serving_turns.specs.Tried.{HasTried}
-use Rattle.relay_serving.specs.Counting.{HasAnswered}
+use Rattle.relay_serving.specs.Counting.{HasAnswered, HasRefused, with_packet}
 use Rattle.relay_serving.specs.Events.{datagrams_in, packets_in}
 use Rattle.relay_serving.specs.Sending.{answers_after}
-use Rattle.relay_serving.specs.Servers.{Feeds, FeedsBy, HasEvents, Hears, HearsBy, IsAsBefore, counts_in, events_in, first_in, published_in, settings_in}
+use Rattle.relay_serving.specs.Servers.{Feeds, FeedsBy, HasEvents, Hears, HearsBy, IsAsBefore, IsStarved, counts_in, events_in, first_in, settings_in}
 use Rattle.relay_serving.specs.declared.counts.Counts.{Counts}
 use Rattle.relay_serving.specs.declared.server.Server.{Server}
-use Rattle.relay_serving.proofs.Answering.{HasAnswered-none, HasAnswered-then, answers_after-append}
-use Rattle.relay_serving.proofs.Events.{HasEvents-none, HasEvents-then, datagrams_in-append, packets_in-append}
+use Rattle.relay_serving.proofs.Answering.{HasAnswered-alike, HasAnswered-none, HasAnswered-then, answers_after-append}
+use Rattle.relay_serving.proofs.Events.{HasEvents-none, HasEvents-starved, HasEvents-then, HasRefused-none, HasRefused-same, HasRefused-starved, HasRefused-then, datagrams_in-append, events_more, packets_in-append, starved-append}
 
 -- a link of which the same was seen
 HasAnswered-from : (link now later : LinkSeen) (counts counts' : Counts) (wanted : List (Peer × List ℕ)) → now.tried ≡ link.tried → now.send_faults ≡ link.send_faults
@@ -48,11 +48,12 @@ module _ {O : Type 0} {g : Ghosts O} {T : Type 0} where
       let others = answers_after (settings_in now) (first_in now) (events_in now) (datagrams_in more) in
       let same = first.events.same in
       let all : wanted (datagrams_in heard) ++ others ≡ wanted (datagrams_in (heard ++ more)) =
-      (λ i. wanted (datagrams_in heard) ++ answers_after (same.same_settings i) (same.same_first i) (first.events.events i) (datagrams_in more))
+      (λ i. wanted (datagrams_in heard) ++ answers_after (same.same_settings i) (same.same_first i) (events_more before now (datagrams_in heard) first.events i) (datagrams_in more))
       ∙ (sym (answers_after-append (settings_in before) (first_in before) (events_in before) (datagrams_in heard) (datagrams_in more))
       ∙ ap wanted (sym (datagrams_in-append heard more))) in record {
         events = subst (HasEvents before after) (sym (datagrams_in-append heard more)) (HasEvents-then before now after (datagrams_in heard) (datagrams_in more) first.events second.events);
-        same_published = second.same_published ∙ first.same_published;
+        refused = subst (λ (starved : ℕ). HasRefused (counts_in before) (counts_in after) starved 0) (sym (starved-append heard more))
+            (HasRefused-then (counts_in before) (counts_in now) (counts_in after) _ 0 _ 0 first.refused second.refused);
         came = AnswersAll-taken LinkClosed link.coming link_now.coming link_after.coming heard more first.came second.came;
         answered = subst (HasAnswered link link_after (counts_in before) (counts_in after)) all
             (HasAnswered-then link link_now link_after (counts_in before) (counts_in now) (counts_in after) (wanted (datagrams_in heard)) others first.answered second.answered);
@@ -71,32 +72,46 @@ module _ {O : Type 0} {g : Ghosts O} {T : Type 0} where
       → Hears before after link link' []
   Hears-none before after link link' as_before same_coming same_tried same_faults = record {
     events = HasEvents-none before after as_before;
-    same_published = as_before.same_published;
+    refused = HasRefused-same (counts_in before) (counts_in after) as_before.same_counts;
     came = same_coming;
     answered = quiet_answered before after link link' as_before same_tried same_faults;
   }
 
   -- an answer that makes no event
-  pub Hears-quiet : (before after : Server O T g) (link now link' : LinkSeen) (one : Taken LinkAnswer) → datagrams_in (one ∷ []) ≡ [] → IsAsBefore before after
+  pub Hears-quiet : (before after : Server O T g) (link now link' : LinkSeen) (one : Taken LinkAnswer) → datagrams_in (one ∷ []) ≡ []
+      → count_by (λ (answer : Taken LinkAnswer). answer.starved) (one ∷ []) ≡ 0 → IsAsBefore before after
       → Answers LinkClosed link.coming now.coming one.answer → link'.coming ≡ now.coming → link'.tried ≡ link.tried → link'.send_faults ≡ link.send_faults
       → Hears before after link link' (one ∷ [])
-  Hears-quiet before after link now link' one none as_before is same_coming same_tried same_faults = record {
+  Hears-quiet before after link now link' one none few as_before is same_coming same_tried same_faults = record {
     events = subst (HasEvents before after) (sym none) (HasEvents-none before after as_before);
-    same_published = as_before.same_published;
+    refused = subst (λ (starved : ℕ). HasRefused (counts_in before) (counts_in after) starved 0) (sym few) (HasRefused-same (counts_in before) (counts_in after) as_before.same_counts);
     came = one_answer LinkClosed link.coming now.coming link'.coming one.answer is same_coming;
     answered = subst (λ (events : List Event). HasAnswered link link' (counts_in before) (counts_in after) (answers_after (settings_in before) (first_in before) (events_in before) events))
         (sym none) (quiet_answered before after link link' as_before same_tried same_faults);
   }
 
+  -- a datagram that memory refused
+  pub Hears-starved : (before after : Server O T g) (link now link' : LinkSeen) (answer : LinkAnswer) → IsStarved before after
+      → Answers LinkClosed link.coming now.coming answer → link'.coming ≡ now.coming → link'.tried ≡ link.tried → link'.send_faults ≡ link.send_faults
+      → Hears before after link link' (refused answer ∷ [])
+  Hears-starved before after link now link' answer starved is same_coming same_tried same_faults = record {
+    events = HasEvents-starved before after starved;
+    refused = HasRefused-starved before after starved;
+    came = one_answer LinkClosed link.coming now.coming link'.coming answer is same_coming;
+    answered = HasAnswered-alike link link' (counts_in before) (counts_in before) (counts_in before) (counts_in after) [] [] refl refl
+        (ap (λ (counts : Counts). counts.sent) starved.counted) (ap (λ (counts : Counts). counts.unsent) starved.counted) refl
+        (HasAnswered-none link link' (counts_in before) same_tried same_faults);
+  }
+
   -- a datagram that was taken
-  pub Hears-datagram : (before after : Server O T g) (link now link' : LinkSeen) (from : Peer) (bytes : List ℕ) → HasEvents before after (Datagram bytes from ∷ []) → published_in after ≡ published_in before
+  pub Hears-datagram : (before after : Server O T g) (link now link' : LinkSeen) (from : Peer) (bytes : List ℕ) → HasEvents before after (Datagram bytes from ∷ []) → HasRefused (counts_in before) (counts_in after) 0 0
       → Answers LinkClosed link.coming now.coming (DatagramCame from bytes) → now.tried ≡ link.tried → now.send_faults ≡ link.send_faults → link'.coming ≡ now.coming
       → HasAnswered now link' (counts_in before) (counts_in after) (map to_peer (sends_of (settings_in before) (first_in before) (events_in before) (Datagram bytes from)))
       → Hears before after link link' (taken (DatagramCame from bytes) ∷ [])
-  Hears-datagram before after link now link' from bytes events same_published is same_tried same_faults same_coming answered =
+  Hears-datagram before after link now link' from bytes events none is same_tried same_faults same_coming answered =
       let wanted = map to_peer (sends_of (settings_in before) (first_in before) (events_in before) (Datagram bytes from)) in record {
         events = events;
-        same_published = same_published;
+        refused = none;
         came = one_answer LinkClosed link.coming now.coming link'.coming (DatagramCame from bytes) is same_coming;
         answered = subst (HasAnswered link link' (counts_in before) (counts_in after)) (sym (append-nil wanted))
             (HasAnswered-from link now link' (counts_in before) (counts_in after) wanted same_tried same_faults answered);
@@ -106,7 +121,8 @@ module _ {O : Type 0} {g : Ghosts O} {T : Type 0} where
       → Feeds before now feed feed_now fed → Feeds now after feed_now feed_after more → Feeds before after feed feed_after (fed ++ more)
   Feeds-then before now after feed feed_now feed_after fed more first second = record {
     events = subst (HasEvents before after) (sym (packets_in-append fed more)) (HasEvents-then before now after (packets_in fed) (packets_in more) first.events second.events);
-    same_published = second.same_published ∙ first.same_published;
+    refused = subst (λ (starved : ℕ). HasRefused (counts_in before) (counts_in after) starved 0) (sym (starved-append fed more))
+        (HasRefused-then (counts_in before) (counts_in now) (counts_in after) _ 0 _ 0 first.refused second.refused);
     same_sent = second.same_sent ∙ first.same_sent;
     same_unsent = second.same_unsent ∙ first.same_unsent;
     came = AnswersAll-taken FeedClosed feed.coming feed_now.coming feed_after.coming fed more first.came second.came;
@@ -119,31 +135,43 @@ module _ {O : Type 0} {g : Ghosts O} {T : Type 0} where
   pub Feeds-none : (before after : Server O T g) (feed feed' : FeedSeen) → IsAsBefore before after → feed'.coming ≡ feed.coming → Feeds before after feed feed' []
   Feeds-none before after feed feed' as_before same_coming = record {
     events = HasEvents-none before after as_before;
-    same_published = as_before.same_published;
+    refused = HasRefused-same (counts_in before) (counts_in after) as_before.same_counts;
     same_sent = ap (λ (counts : Counts). counts.sent) as_before.same_counts;
     same_unsent = ap (λ (counts : Counts). counts.unsent) as_before.same_counts;
     came = same_coming;
   }
 
   -- an answer that makes no event
-  pub Feeds-quiet : (before after : Server O T g) (feed now feed' : FeedSeen) (one : Taken FeedAnswer) → packets_in (one ∷ []) ≡ [] → IsAsBefore before after
+  pub Feeds-quiet : (before after : Server O T g) (feed now feed' : FeedSeen) (one : Taken FeedAnswer) → packets_in (one ∷ []) ≡ []
+      → count_by (λ (answer : Taken FeedAnswer). answer.starved) (one ∷ []) ≡ 0 → IsAsBefore before after
       → Answers FeedClosed feed.coming now.coming one.answer → feed'.coming ≡ now.coming → Feeds before after feed feed' (one ∷ [])
-  Feeds-quiet before after feed now feed' one none as_before is same_coming = record {
+  Feeds-quiet before after feed now feed' one none few as_before is same_coming = record {
     events = subst (HasEvents before after) (sym none) (HasEvents-none before after as_before);
-    same_published = as_before.same_published;
+    refused = subst (λ (starved : ℕ). HasRefused (counts_in before) (counts_in after) starved 0) (sym few) (HasRefused-same (counts_in before) (counts_in after) as_before.same_counts);
     same_sent = ap (λ (counts : Counts). counts.sent) as_before.same_counts;
     same_unsent = ap (λ (counts : Counts). counts.unsent) as_before.same_counts;
     came = one_answer FeedClosed feed.coming now.coming feed'.coming one.answer is same_coming;
   }
 
+  -- a packet that memory refused
+  pub Feeds-starved : (before after : Server O T g) (feed now feed' : FeedSeen) (answer : FeedAnswer) → IsStarved before after
+      → Answers FeedClosed feed.coming now.coming answer → feed'.coming ≡ now.coming → Feeds before after feed feed' (refused answer ∷ [])
+  Feeds-starved before after feed now feed' answer starved is same_coming = record {
+    events = HasEvents-starved before after starved;
+    refused = HasRefused-starved before after starved;
+    same_sent = ap (λ (counts : Counts). counts.sent) starved.counted;
+    same_unsent = ap (λ (counts : Counts). counts.unsent) starved.counted;
+    came = one_answer FeedClosed feed.coming now.coming feed'.coming answer is same_coming;
+  }
+
   -- a packet that was taken
-  pub Feeds-packet : (before after : Server O T g) (feed now feed' : FeedSeen) (bytes : List ℕ) → HasEvents before after (Packet bytes ∷ []) → published_in after ≡ published_in before
-      → (counts_in after).sent ≡ (counts_in before).sent → (counts_in after).unsent ≡ (counts_in before).unsent
+  pub Feeds-packet : (before after : Server O T g) (feed now feed' : FeedSeen) (bytes : List ℕ) → HasEvents before after (Packet bytes ∷ [])
+      → counts_in after ≡ with_packet (counts_in before)
       → Answers FeedClosed feed.coming now.coming (PacketFed bytes) → feed'.coming ≡ now.coming → Feeds before after feed feed' (taken (PacketFed bytes) ∷ [])
-  Feeds-packet before after feed now feed' bytes events same_published same_sent same_unsent is same_coming = record {
+  Feeds-packet before after feed now feed' bytes events counted is same_coming = record {
     events = events;
-    same_published = same_published;
-    same_sent = same_sent;
-    same_unsent = same_unsent;
+    refused = HasRefused-none (counts_in before) (counts_in after) (ap (λ (counts : Counts). counts.starved) counted) (ap (λ (counts : Counts). counts.late) counted);
+    same_sent = ap (λ (counts : Counts). counts.sent) counted;
+    same_unsent = ap (λ (counts : Counts). counts.unsent) counted;
     came = one_answer FeedClosed feed.coming now.coming feed'.coming (PacketFed bytes) is same_coming;
   }

@@ -8,7 +8,9 @@ pub mod Ending
 pub mod Entering
 pub mod Events
 pub mod GivenOut
+pub mod Happenings
 pub mod Hearing
+pub mod Owed
 pub mod Packets
 pub mod Running
 pub mod Silence

@@ -1,6 +1,9 @@
 -- A packet changes nothing of a relay: neither its log nor its moment nor its secrets.
-use Rattle.std.proofs.Common.{◌≡◌, ◌+◌, ℕ, Bool, true, false, List, [], ◌∷◌, ◌++◌, length, nat_lt, if◌then◌else◌, refl, sym, ap, subst, ◌∙◌, arith}
+use Rattle.std.proofs.Common.{◌≡◌, ◌+◌, ℕ, Bool, true, false, List, [], ◌∷◌, ◌++◌, length, nat_lt, if◌then◌else◌, refl, sym, ap, subst, ◌∙◌, append_assoc, append-nil, arith}
 use Rattle.std.specs.Prelude.{Option, None, Result, Ok, Err}
+use Rattle.core.specs.List.{cons_option}
+use Rattle.amt_ports.specs.declared.feed.FeedAnswer.{FeedAnswer}
+use Rattle.amt_ports.specs.declared.feed.FeedAnswer.TheVariants.{Packet as PacketFed, Nothing as NothingFed, Closed as FeedClosed}
 use Rattle.amt_values.specs.EndpointValue.{EndpointValue}
 use Rattle.response_mac.specs.declared.secret.Secret.{Secret}
 use Rattle.inner_datagrams.specs.Head.{head_of}
@@ -25,7 +28,9 @@ use Rattle.relay_machine.specs.declared.relay.Relay.{Relay}
 use Rattle.relay_machine.specs.declared.settings.Settings.{Settings}
 use Rattle.relay_machine.proofs.Onward.{RelayAt-payload}
 use Rattle.relay_machine.proofs.PublishedLog.{published_log-next}
+use Rattle.serving_turns.specs.Answers.{Taken, unless_starved}
 use Rattle.relay_serving.specs.Counting.{with_outcome, with_packet}
+use Rattle.relay_serving.specs.Events.{packet_of, packets_in}
 use Rattle.relay_serving.specs.declared.counts.Counts.{Counts}
 
 enters_none : (targets : Head → List EndpointValue) (packet : List ℕ) (reading : Result Head Outcome) → (packet_answer targets packet reading).entry ≡ None
@@ -47,6 +52,22 @@ published_log-packet settings first events bytes =
     let none = enters_none (targets_at (table_settings_of settings) log (now_of events)) bytes (head_to_copy settings.packet_limit bytes) in
     published_log-next settings first events (Packet bytes)
     ∙ ap (λ (entry : Option Change). with_change (published_log settings first events) (handed_out (table_settings_of settings) log entry)) none
+
+-- nor do several
+published_log-taken : (settings : Settings) (first : Secret) (later : List Event) (starved : Bool) (answer : FeedAnswer)
+    → ((events : List Event) → published_log settings first (events ++ later) ≡ published_log settings first events) → (events : List Event)
+    → published_log settings first (events ++ cons_option (unless_starved starved (packet_of answer)) later) ≡ published_log settings first events
+published_log-taken settings first later true answer same events = same events
+published_log-taken settings first later false (PacketFed bytes) same events =
+    ap (published_log settings first) (sym (append_assoc events (Packet bytes ∷ []) later)) ∙ same (events ++ Packet bytes ∷ []) ∙ published_log-packet settings first events bytes
+published_log-taken settings first later false NothingFed same events = same events
+published_log-taken settings first later false FeedClosed same events = same events
+
+pub published_log-packets : (settings : Settings) (first : Secret) (fed : List (Taken FeedAnswer)) (events : List Event)
+    → published_log settings first (events ++ packets_in fed) ≡ published_log settings first events
+published_log-packets settings first [] events = ap (published_log settings first) (append-nil events)
+published_log-packets settings first (one ∷ fed) events =
+    published_log-taken settings first (packets_in fed) one.starved one.answer (published_log-packets settings first fed) events
 
 -- it is neither an Update nor a Teardown
 abbrev IsPlain : Outcome → Type 0
@@ -76,4 +97,13 @@ counted-packet counts bytes outcome plain =
     let none : (number : ℕ) → number ≡ number + 0 = λ number. omega arith in
     let updated = none counts.updated ∙ ap (λ (known : Bool). counts.updated + (if known then 1 else 0)) (sym plain.0) in
     let torn = none counts.torn ∙ ap (λ (known : Bool). counts.torn + (if known then 1 else 0)) (sym plain.1) in
-    λ i. record { datagrams = none counts.datagrams i; packets = counts.packets + 1; updated = updated i; torn = torn i; sent = counts.sent; unsent = counts.unsent }
+    λ i. record {
+      datagrams = none counts.datagrams i;
+      packets = counts.packets + 1;
+      updated = updated i;
+      torn = torn i;
+      sent = counts.sent;
+      unsent = counts.unsent;
+      starved = counts.starved;
+      late = counts.late;
+    }

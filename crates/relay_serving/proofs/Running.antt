@@ -1,9 +1,8 @@
 -- What the turns of a run come to together.
-use Rattle.std.proofs.Common.{◌≡◌, ◌≢◌, ℕ, ◌+◌, ◌*◌, ◌≤◌, ◌<◌, Bool, false, cond, List, [], ◌∷◌, ◌++◌, length, map, Option, None, Some, Ok, Err, refl, sym, ap, subst, ◌∙◌, arith, length-append}
+use Rattle.std.proofs.Common.{◌≡◌, ℕ, ◌+◌, ◌*◌, ◌≤◌, ◌<◌, cond, List, [], ◌∷◌, ◌++◌, length, map, None, Some, Ok, Err, refl, sym, ap, subst, ◌∙◌, arith, length-append}
 use Rattle.std.proofs.lemmas.Grind.{flat_map-append}
-use Rattle.std.proofs.lemmas.List.{append-nil, append_assoc, map-append}
-use Rattle.std.proofs.lemmas.List.Elements.{filter-append}
-use Rattle.std.specs.List.{count_by}
+use Rattle.std.proofs.lemmas.List.{append_assoc, map-append}
+use Rattle.std.proofs.lemmas.List.Sums.{sum_by-append}
 use Rattle.amt_ports.specs.Causes.{Rose}
 use Rattle.amt_ports.specs.Told.{AppendsAll}
 use Rattle.amt_ports.specs.declared.feed.FeedAnswer.{FeedAnswer}
@@ -12,30 +11,27 @@ use Rattle.amt_ports.specs.declared.link.LinkAnswer.{LinkAnswer}
 use Rattle.amt_ports.specs.declared.link.LinkAnswer.TheVariants.{Closed as LinkClosed}
 use Rattle.amt_ports.specs.declared.out_link.OutLink.{Ghosts}
 use Rattle.amt_values.specs.declared.peer.Peer.{Peer}
-use Rattle.endpoint_membership.specs.declared.change.Change.{Change}
-use Rattle.relay_machine.specs.Events.{now_of}
-use Rattle.relay_machine.specs.declared.event.Event.{Event}
-use Rattle.relay_machine.specs.Published.{published_log}
-use Rattle.relay_machine.proofs.PublishedLog.{published_log-none}
 use Rattle.serving_turns.specs.Causes.{IsCauseOf, IsCausedBy}
 use Rattle.serving_turns.specs.Devices.{AnswersAll}
 use Rattle.serving_turns.specs.declared.end.End.{End}
 use Rattle.serving_turns.specs.declared.end.End.TheVariants.{Turns, LinkFault, FeedFault, WordsFault}
 use Rattle.serving_turns.proofs.Lists.{AnswersAll-then, AppendsAll-none, AppendsAll-then}
-use Rattle.relay_serving.specs.Counting.{HasAnswered, is_packet}
+use Rattle.relay_serving.specs.Counting.{HasAnswered, is_late, no_counts, starved_in}
 use Rattle.relay_serving.specs.Devices.{Devices}
-use Rattle.relay_serving.specs.Events.{events_from, events_of_turn, published_turns}
+use Rattle.relay_serving.specs.Events.{happenings_from, happenings_of_turn}
+use Rattle.relay_serving.specs.Happenings.{Happening, events_among}
 use Rattle.relay_serving.specs.Runs.{feed_answers, link_answers, moments_given, words_drawn}
 use Rattle.relay_serving.specs.Sending.{answers_after}
-use Rattle.relay_serving.specs.Servers.{counts_in, events_in, first_in, now_in, owing_in, published_in, settings_in}
-use Rattle.relay_serving.specs.Turning.{AreCausesOf, EndsIn, Goes, RunsSo, TurnsSo, progress_in}
-use Rattle.relay_serving.specs.Turns.{Ahead, AreWhole, Done, IsWhole, Progress, Publishing, Refused, Turn, after_turn, is_done, no_progress}
+use Rattle.relay_serving.specs.Servers.{Happens, counts_in, events_in, first_in, happenings_in, settings_in, tally_in}
+use Rattle.relay_serving.specs.Turning.{AreCausesOf, EndsIn, Goes, RunsSo, TurnsSo}
+use Rattle.relay_serving.specs.Turns.{AreWhole, IsWhole, Progress, Turn, after_turn, no_progress}
+use Rattle.relay_serving.specs.declared.counts.Counts.{Counts}
 use Rattle.relay_serving.specs.declared.plan.ServePlan.{ServePlan}
 use Rattle.relay_serving.specs.declared.server.Server.{Server}
 use Rattle.relay_serving.proofs.Answering.{HasAnswered-none, HasAnswered-then, answers_after-append}
 use Rattle.relay_serving.proofs.Cuts.{no_error}
-use Rattle.relay_serving.proofs.Events.{HasEvents-none, IsAsBefore-same, IsSameRun-then}
-use Rattle.relay_serving.proofs.Silence.{now_of-none}
+use Rattle.relay_serving.proofs.Events.{Happens-then, HasEvents-none, HasRefused-same, IsAsBefore-same, events_grown}
+use Rattle.relay_serving.proofs.Happenings.{events_among-append}
 
 -- one whole turn more
 pub AreWhole-more : (rotate : ℕ) (progress last : Progress) (turns : List Turn) (turn : Turn) → AreWhole rotate progress turns last → IsWhole rotate last turn
@@ -44,46 +40,15 @@ AreWhole-more rotate progress last [] turn whole next =
     (subst (λ (from : Progress). IsWhole rotate from turn) whole next, ap (λ (from : Progress). after_turn rotate from turn) whole)
 AreWhole-more rotate progress last (one ∷ turns) turn whole next = (whole.0, AreWhole-more rotate (after_turn rotate progress one) last turns turn whole.1 next)
 
--- the events of one turn more are those from where the others led
-pub events_from-more : (rotate : ℕ) (progress last : Progress) (turns : List Turn) (turn : Turn) → AreWhole rotate progress turns last
-    → events_from progress.latest (turns ++ turn ∷ []) ≡ events_from progress.latest turns ++ events_from last.latest (turn ∷ [])
-events_from-more rotate progress last [] turn whole = ap (λ (from : Progress). events_from from.latest (turn ∷ [])) (sym whole)
-events_from-more rotate progress last (one ∷ turns) turn whole =
-    let head = events_of_turn progress.latest one in
+-- what happens in one turn more happens from where the others led
+pub happenings_from-more : (rotate : ℕ) (progress last : Progress) (turns : List Turn) (turn : Turn) → AreWhole rotate progress turns last
+    → happenings_from progress.latest (turns ++ turn ∷ []) ≡ happenings_from progress.latest turns ++ happenings_from last.latest (turn ∷ [])
+happenings_from-more rotate progress last [] turn whole = ap (λ (from : Progress). happenings_from from.latest (turn ∷ [])) (sym whole)
+happenings_from-more rotate progress last (one ∷ turns) turn whole =
+    let head = happenings_of_turn progress.latest one in
     let next = after_turn rotate progress one in
-    ap (λ (list : List Event). head ++ list) (events_from-more rotate next last turns turn whole.1)
-    ∙ sym (append_assoc head (events_from next.latest turns) (events_from last.latest (turn ∷ [])))
-
--- whole turns are published
-whole_published : (rotate : ℕ) (progress last : Progress) (turns : List Turn) → AreWhole rotate progress turns last → published_turns turns ≡ turns
-whole_published rotate progress last [] whole = refl
-whole_published rotate progress last (one ∷ turns) whole =
-    ap (λ (publishing : Publishing). cond (is_done publishing) (one ∷ published_turns turns) (published_turns turns)) whole.0.heard.published
-    ∙ ap (λ (later : List Turn). one ∷ later) (whole_published rotate (after_turn rotate progress one) last turns whole.1)
-
--- and one more if its publishing was done
-published_more : (rotate : ℕ) (progress last : Progress) (turns : List Turn) (turn : Turn) → AreWhole rotate progress turns last
-    → published_turns (turns ++ turn ∷ []) ≡ turns ++ cond (is_done turn.publishing) (turn ∷ []) []
-published_more rotate progress last turns turn whole =
-    filter-append (λ (one : Turn). is_done one.publishing) turns (turn ∷ [])
-    ∙ ap (λ (list : List Turn). list ++ cond (is_done turn.publishing) (turn ∷ []) []) (whole_published rotate progress last turns whole)
-
-isnt_none : {X : Type 0} (one : X) (list : List X) → one ∷ list ≡ [] → ⊥
-isnt_none one list none = cc none
-
-no_item : {X : Type 0} (list : List X) → (list ≢ [] → ⊥) → list ≡ []
-no_item [] none = refl
-no_item (one ∷ list) none = absurd (none (isnt_none one list))
-
-ahead_isnt : Ahead ≡ Done → ⊥
-ahead_isnt same = cc same
-
-refused_isnt : Refused ≡ Done → ⊥
-refused_isnt same = cc same
-
-later_none : {X : Type 0} (one two : List X) → one ++ two ≡ [] → two ≡ []
-later_none [] two none = none
-later_none (x ∷ one) two none = absurd (cc none)
+    ap (λ (list : List Happening). head ++ list) (happenings_from-more rotate next last turns turn whole.1)
+    ∙ sym (append_assoc head (happenings_from next.latest turns) (happenings_from last.latest (turn ∷ [])))
 
 -- where a count stood still, and then rose for a cause or didn't
 cause_then : (end cause : End) (first middle last : ℕ) → middle ≡ first → IsCausedBy {A = Unit {0}} (Err end) cause middle last → IsCauseOf end cause first last
@@ -107,10 +72,11 @@ EndsIn-cut devices devices' devices'' end calm causes = record {
 }
 
 module _ {O : Type 0} {g : Ghosts O} {T : Type 0} where
-  pub Goes-none : (server : Server O T g) (devices : Devices) → Goes [] server server devices devices
+  pub Goes-none : (server : Server O T g) (devices : Devices) → Goes 0 [] server server devices devices
   Goes-none server devices = record {
-    events = HasEvents-none server server (IsAsBefore-same server);
+    happens = HasEvents-none server server (IsAsBefore-same server);
     answered = HasAnswered-none devices.link devices.link (counts_in server) refl refl;
+    refused = HasRefused-same (counts_in server) (counts_in server) refl;
     clock = AppendsAll-none devices.clock;
     words = AppendsAll-none devices.words.given;
     link = refl;
@@ -118,27 +84,32 @@ module _ {O : Type 0} {g : Ghosts O} {T : Type 0} where
   }
 
   -- one turn more
-  pub Goes-then : (before now after : Server O T g) (devices devices' devices'' : Devices) (turns : List Turn) (turn : Turn)
-      → events_from (now_in before) (turns ++ turn ∷ []) ≡ events_from (now_in before) turns ++ events_from (now_in now) (turn ∷ [])
-      → Goes turns before now devices devices' → Goes (turn ∷ []) now after devices' devices'' → Goes (turns ++ turn ∷ []) before after devices devices''
-  Goes-then before now after devices devices' devices'' turns turn events first second =
-      let earlier = events_from (now_in before) turns in
-      let later = events_from (now_in now) (turn ∷ []) in
-      let same = first.events.same in
-      let whole : events_in after ≡ events_in before ++ (earlier ++ later) =
-      second.events.events ∙ ap (λ (list : List Event). list ++ later) first.events.events ∙ append_assoc (events_in before) earlier later in
+  pub Goes-then : (latest latest' : ℕ) (before now after : Server O T g) (devices devices' devices'' : Devices) (turns : List Turn) (turn : Turn)
+      → happenings_from latest (turns ++ turn ∷ []) ≡ happenings_from latest turns ++ happenings_from latest' (turn ∷ [])
+      → Goes latest turns before now devices devices' → Goes latest' (turn ∷ []) now after devices' devices'' → Goes latest (turns ++ turn ∷ []) before after devices devices''
+  Goes-then latest latest' before now after devices devices' devices'' turns turn more first second =
+      let earlier = events_among (happenings_from latest turns) in
+      let later = events_among (happenings_from latest' (turn ∷ [])) in
+      let same = first.happens.same in
+      let events : events_among (happenings_from latest (turns ++ turn ∷ [])) ≡ earlier ++ later =
+      ap events_among more ∙ events_among-append (happenings_from latest turns) (happenings_from latest' (turn ∷ [])) in
       let wanted : answers_after (settings_in before) (first_in before) (events_in before) earlier ++ answers_after (settings_in now) (first_in now) (events_in now) later
-      ≡ answers_after (settings_in before) (first_in before) (events_in before) (events_from (now_in before) (turns ++ turn ∷ [])) =
-      (λ i. answers_after (settings_in before) (first_in before) (events_in before) earlier ++ answers_after (same.same_settings i) (same.same_first i) (first.events.events i) later)
+      ≡ answers_after (settings_in before) (first_in before) (events_in before) (events_among (happenings_from latest (turns ++ turn ∷ []))) =
+      (λ i. answers_after (settings_in before) (first_in before) (events_in before) earlier
+      ++ answers_after (same.same_settings i) (same.same_first i) (events_grown before now (happenings_from latest turns) first.happens i) later)
       ∙ sym (answers_after-append (settings_in before) (first_in before) (events_in before) earlier later)
       ∙ ap (answers_after (settings_in before) (first_in before) (events_in before)) (sym events) in
+      let starved = sum_by-append starved_in turns (turn ∷ []) in
+      let late = sum_by-append (λ (one : Turn). cond (is_late one) 1 0) turns (turn ∷ []) in
       record {
-        events = record {
-          same = IsSameRun-then before now after same second.events.same;
-          events = whole ∙ ap (λ (list : List Event). events_in before ++ list) (sym events);
-        };
+        happens = subst (Happens before after) (sym more)
+            (Happens-then before now after (happenings_from latest turns) (happenings_from latest' (turn ∷ [])) first.happens second.happens);
         answered = subst (λ (list : List (Peer × List ℕ)). HasAnswered devices.link devices''.link (counts_in before) (counts_in after) list) wanted
             (HasAnswered-then devices.link devices'.link devices''.link (counts_in before) (counts_in now) (counts_in after) _ _ first.answered second.answered);
+        refused = record {
+          starved_are = omega (arith, starved, first.refused.starved_are, second.refused.starved_are);
+          late_are = omega (arith, late, first.refused.late_are, second.refused.late_are);
+        };
         clock = subst (λ (list : List ℕ). AppendsAll devices.clock devices''.clock list) (sym (map-append (λ (one : Turn). one.clock.answer) turns (turn ∷ [])))
             (AppendsAll-then devices.clock devices'.clock devices''.clock (moments_given turns) (moments_given (turn ∷ [])) first.clock second.clock);
         words = subst (λ (list : List ℕ). AppendsAll devices.words.given devices''.words.given list) (sym (flat_map-append (λ (one : Turn). one.drawn) turns (turn ∷ [])))
@@ -152,146 +123,80 @@ module _ {O : Type 0} {g : Ghosts O} {T : Type 0} where
       }
 
   -- a run after so many whole turns
-  pub record IsRunning (rotate : ℕ) (renewed : Option ℕ) (before now : Server O T g) (devices devices' : Devices) (done : ℕ) : Type 0 where
+  pub record IsRunning (rotate : ℕ) (progress : Progress) (before now : Server O T g) (devices devices' : Devices) (done : ℕ) : Type 0 where
     pub turns : List Turn
-    pub goes : Goes turns before now devices devices'
-    pub are_whole : AreWhole rotate no_progress turns (progress_in now renewed)
+    pub goes : Goes 0 turns before now devices devices'
+    pub are_whole : AreWhole rotate no_progress turns progress
     pub done_is : done ≡ length turns
-    pub since : now_in before ≡ 0
-    pub none_owed : owing_in now ≢ [] → ⊥
     pub calm : AreCalm devices devices'
-    pub few_events : length (events_in now) ≤ 130 * done
+    pub few : tally_in now ≤ 131 * done
     pub few_packets : (counts_in now).packets ≤ 64 * done
 
-  -- nothing was owed before the first event
-  none_owing : (server : Server O T g) → events_in server ≡ [] → owing_in server ≡ []
-  none_owing server fresh =
-      later_none (published_in server) (owing_in server)
-      (server.log ∙ ap (published_log (settings_in server) (first_in server)) fresh ∙ published_log-none (settings_in server) (first_in server))
-
-  pub IsRunning-none : (rotate : ℕ) (renewed : Option ℕ) (server : Server O T g) (devices : Devices) → events_in server ≡ [] → renewed ≡ None → IsRunning rotate renewed server server devices devices 0
-  IsRunning-none rotate renewed server devices fresh first =
-      let time : now_in server ≡ 0 = server.at.moment ∙ ap now_of fresh ∙ now_of-none in
-      let packets : (counts_in server).packets ≡ 0 = server.counted.events_are.packets_are ∙ ap (count_by is_packet) fresh in
-      let none = ap length fresh in
+  pub IsRunning-none : (rotate : ℕ) (progress : Progress) (server : Server O T g) (devices : Devices) → happenings_in server ≡ [] → counts_in server ≡ no_counts
+      → progress.latest ≡ 0 → progress.renewed ≡ None → IsRunning rotate progress server server devices devices 0
+  IsRunning-none rotate progress server devices fresh uncounted latest renewed =
+      let none = ap (λ (list : List Happening). length (events_among list)) fresh in
+      let starved = ap (λ (counts : Counts). counts.starved) uncounted in
+      let late = ap (λ (counts : Counts). counts.late) uncounted in
+      let packets = ap (λ (counts : Counts). counts.packets) uncounted in
       record {
         turns = [];
         goes = Goes-none server devices;
-        are_whole = λ i. record { latest = time i; renewed = first i };
+        are_whole = λ i. record { latest = latest i; renewed = renewed i };
         done_is = refl;
-        since = time;
-        none_owed = λ some. some (none_owing server fresh);
         calm = record { link = refl; feed = refl; words = refl };
-        few_events = omega (arith, none);
+        few = omega (arith, none, starved, late);
         few_packets = omega (arith, packets);
       }
 
-  -- the events of one turn more
-  events_then : (rotate : ℕ) (renewed : Option ℕ) (before now : Server O T g) (turns : List Turn) (turn : Turn) → now_in before ≡ 0 → AreWhole rotate no_progress turns (progress_in now renewed)
-      → events_from (now_in before) (turns ++ turn ∷ []) ≡ events_from (now_in before) turns ++ events_from (now_in now) (turn ∷ [])
-  events_then rotate renewed before now turns turn since whole =
-      subst (λ (from : ℕ). events_from from (turns ++ turn ∷ []) ≡ events_from from turns ++ events_from (now_in now) (turn ∷ [])) (sym since)
-      (events_from-more rotate no_progress (progress_in now renewed) turns turn whole)
-
   -- a whole turn more
-  pub IsRunning-then : (rotate : ℕ) (renewed renewed' : Option ℕ) (before now after : Server O T g) (devices devices' devices'' : Devices) (done : ℕ)
-      → IsRunning rotate renewed before now devices devices' done → TurnsSo rotate renewed renewed' now after devices' devices'' (Ok tt) → AreCausesOf {A = Unit {0}} (Ok tt) devices' devices''
-      → length (events_in after) ≤ length (events_in now) + 130 → (counts_in after).packets ≤ (counts_in now).packets + 64
-      → IsRunning rotate renewed' before after devices devices'' (done + 1)
-  IsRunning-then rotate renewed renewed' before now after devices devices' devices'' done run next causes events packets =
-      let so_far = run.few_events in
+  pub IsRunning-then : (rotate : ℕ) (progress progress' : Progress) (before now after : Server O T g) (devices devices' devices'' : Devices) (done : ℕ)
+      → IsRunning rotate progress before now devices devices' done → TurnsSo rotate progress progress' now after devices' devices'' (Ok tt) → AreCausesOf {A = Unit {0}} (Ok tt) devices' devices''
+      → tally_in after ≤ tally_in now + 131 → (counts_in after).packets ≤ (counts_in now).packets + 64
+      → IsRunning rotate progress' before after devices devices'' (done + 1)
+  IsRunning-then rotate progress progress' before now after devices devices' devices'' done run next causes tally packets =
+      let so_far = run.few in
       let packets_so_far = run.few_packets in
-      let whole = AreWhole-more rotate no_progress (progress_in now renewed) run.turns next.turn run.are_whole next.is_turn in
-      let reached : after_turn rotate (progress_in now renewed) next.turn ≡ progress_in after renewed' =
-      λ i. record { latest = sym (next.latest refl) i; renewed = sym (next.renewed_is refl) i } in
+      let whole = AreWhole-more rotate no_progress progress run.turns next.turn run.are_whole next.is_turn in
+      let more = happenings_from-more rotate no_progress progress run.turns next.turn run.are_whole in
       record {
         turns = run.turns ++ next.turn ∷ [];
-        goes = Goes-then before now after devices devices' devices'' run.turns next.turn (events_then rotate renewed before now run.turns next.turn run.since run.are_whole) run.goes next.goes;
-        are_whole = subst (λ (last : Progress). AreWhole rotate no_progress (run.turns ++ next.turn ∷ []) last) reached whole;
+        goes = Goes-then 0 progress.latest before now after devices devices' devices'' run.turns next.turn more run.goes next.goes;
+        are_whole = subst (λ (last : Progress). AreWhole rotate no_progress (run.turns ++ next.turn ∷ []) last) (sym (next.progress_is refl)) whole;
         done_is = ap (λ (n : ℕ). n + 1) run.done_is ∙ sym (length-append run.turns (next.turn ∷ []));
-        since = run.since;
-        none_owed = λ some. next.owed some next.is_turn.heard.published;
         calm = record {
           link = causes.link.calm (no_error LinkFault) ∙ run.calm.link;
           feed = causes.feed.calm (no_error FeedFault) ∙ run.calm.feed;
           words = causes.words.calm (no_error WordsFault) ∙ run.calm.words;
         };
-        few_events = omega (arith, so_far, events);
+        few = omega (arith, so_far, tally);
         few_packets = omega (arith, packets_so_far, packets);
       }
 
-  -- where nothing is owed all is published
-  all_published : (server : Server O T g) → (owing_in server ≢ [] → ⊥) → published_in server ≡ published_log (settings_in server) (first_in server) (events_in server)
-  all_published server none =
-      sym (append-nil (published_in server)) ∙ ap (λ (list : List Change). published_in server ++ list) (sym (no_item (owing_in server) none)) ∙ server.log
-
-  module _ (rotate : ℕ) (renewed renewed' : Option ℕ) (before now after : Server O T g) (devices devices' devices'' : Devices) (done : ℕ) (end : End)
-      (run : IsRunning rotate renewed before now devices devices' done) (next : TurnsSo rotate renewed renewed' now after devices' devices'' (Err end)) where
-    abbrev log_by : List Turn → List Change
-    log_by turns = published_log (settings_in after) (first_in after) (events_in before ++ events_from (now_in before) turns)
-
-    abbrev turns_by : Bool → List Turn
-    turns_by published = run.turns ++ cond published (next.turn ∷ []) []
-
-    when_done : next.turn.publishing ≡ Done → events_in after ≡ events_in before ++ events_from (now_in before) (run.turns ++ next.turn ∷ [])
-        → published_in after ≡ log_by (turns_by (is_done next.turn.publishing))
-    when_done is events =
-        all_published after (λ some. next.owed some is) ∙ ap (published_log (settings_in after) (first_in after)) events
-        ∙ ap (λ (publishing : Publishing). log_by (turns_by (is_done publishing))) (sym is)
-
-    when_not : (publishing : Publishing) → next.turn.publishing ≡ publishing → is_done publishing ≡ false → next.turn.publishing ≢ Done
-        → published_in after ≡ log_by (turns_by (is_done next.turn.publishing))
-    when_not publishing is not isnt =
-        let same = next.goes.events.same in
-        next.unpublished isnt ∙ all_published now run.none_owed
-        ∙ (λ i. published_log (sym same.same_settings i) (sym same.same_first i) (run.goes.events.events i))
-        ∙ ap log_by (sym (append-nil run.turns))
-        ∙ ap (λ (published : Bool). log_by (turns_by published)) (sym (ap is_done is ∙ not))
-
-    published_at : (publishing : Publishing) → next.turn.publishing ≡ publishing → events_in after ≡ events_in before ++ events_from (now_in before) (run.turns ++ next.turn ∷ [])
-        → published_in after ≡ log_by (turns_by (is_done next.turn.publishing))
-    published_at Done is events = when_done is events
-    published_at Ahead is events = when_not Ahead is refl (λ same. ahead_isnt (sym is ∙ same))
-    published_at Refused is events = when_not Refused is refl (λ same. refused_isnt (sym is ∙ same))
-
-    -- what is published where the run ended in a turn
-    published_cut : events_in after ≡ events_in before ++ events_from (now_in before) (run.turns ++ next.turn ∷ []) → published_in after ≡ log_by (published_turns (run.turns ++ next.turn ∷ []))
-    published_cut events =
-        published_at next.turn.publishing refl events
-        ∙ ap log_by (sym (published_more rotate no_progress (progress_in now renewed) run.turns next.turn run.are_whole))
-
   -- all turns are done
-  pub RunsSo-all : (plan : ServePlan) (renewed : Option ℕ) (before now : Server O T g) (devices devices' : Devices) (done : ℕ) → IsRunning plan.rotate_ms renewed before now devices devices' done
+  pub RunsSo-all : (plan : ServePlan) (progress : Progress) (before now : Server O T g) (devices devices' : Devices) (done : ℕ) → IsRunning plan.rotate_ms progress before now devices devices' done
       → done ≡ plan.turns → RunsSo plan before now devices devices' Turns plan.turns
-  RunsSo-all plan renewed before now devices devices' done run all =
-      let whole = whole_published plan.rotate_ms no_progress (progress_in now renewed) run.turns run.are_whole in
-      record {
-        whole = run.turns;
-        cut = None;
-        last = progress_in now renewed;
-        goes = run.goes;
-        are_whole = run.are_whole;
-        ended = (refl, sym run.done_is ∙ all);
-        done_is = sym all ∙ run.done_is;
-        owed = λ some. absurd (run.none_owed some);
-        published = all_published now run.none_owed
-            ∙ ap (published_log (settings_in now) (first_in now)) (run.goes.events.events ∙ ap (λ (turns : List Turn). events_in before ++ events_from (now_in before) turns) (sym whole));
-      }
+  RunsSo-all plan progress before now devices devices' done run all = record {
+    whole = run.turns;
+    cut = None;
+    last = progress;
+    goes = run.goes;
+    are_whole = run.are_whole;
+    ended = (refl, sym run.done_is ∙ all);
+    done_is = sym all ∙ run.done_is;
+  }
 
   -- the run ended in a turn
-  pub RunsSo-cut : (plan : ServePlan) (renewed renewed' : Option ℕ) (before now after : Server O T g) (devices devices' devices'' : Devices) (done : ℕ) (end : End)
-      → IsRunning plan.rotate_ms renewed before now devices devices' done → TurnsSo plan.rotate_ms renewed renewed' now after devices' devices'' (Err end) → done < plan.turns
+  pub RunsSo-cut : (plan : ServePlan) (progress progress' : Progress) (before now after : Server O T g) (devices devices' devices'' : Devices) (done : ℕ) (end : End)
+      → IsRunning plan.rotate_ms progress before now devices devices' done → TurnsSo plan.rotate_ms progress progress' now after devices' devices'' (Err end) → done < plan.turns
       → RunsSo plan before after devices devices'' end done
-  RunsSo-cut plan renewed renewed' before now after devices devices' devices'' done end run next few =
-      let goes = Goes-then before now after devices devices' devices'' run.turns next.turn (events_then plan.rotate_ms renewed before now run.turns next.turn run.since run.are_whole) run.goes next.goes in
-      record {
+  RunsSo-cut plan progress progress' before now after devices devices' devices'' done end run next few =
+      let more = happenings_from-more plan.rotate_ms no_progress progress run.turns next.turn run.are_whole in record {
         whole = run.turns;
         cut = Some next.turn;
-        last = progress_in now renewed;
-        goes = goes;
+        last = progress;
+        goes = Goes-then 0 progress.latest before now after devices devices' devices'' run.turns next.turn more run.goes next.goes;
         are_whole = run.are_whole;
         ended = (subst (λ (n : ℕ). n < plan.turns) run.done_is few, next.is_turn);
         done_is = run.done_is;
-        owed = λ some. (run.turns, next.turn, refl, next.owed some);
-        published = published_cut plan.rotate_ms renewed renewed' before now after devices devices' devices'' done end run next goes.events.events;
       }

@@ -1,5 +1,5 @@
 -- What slots left, as it is seen of a whole run.
-use Rattle.std.proofs.Common.{◌≡◌, ℕ, suc, ◌+◌, ◌*◌, ◌≤◌, ◌==◌, Bool, true, cond, List, [], ◌∷◌, ◌++◌, length, map, count_by, refl, sym, ap, subst, ◌∙◌, arith}
+use Rattle.std.proofs.Common.{◌≡◌, ℕ, suc, ◌+◌, ◌*◌, ◌≤◌, ◌==◌, Bool, true, cond, List, [], ◌∷◌, length, map, refl, sym, ap, subst, ◌∙◌, arith}
 use Rattle.std.specs.Prelude.{Result, Ok, Err}
 use Rattle.std.specs.List.{All, AllZip, enumerate_from, filter, sum_by}
 use Rattle.std.proofs.Props.{props}
@@ -18,9 +18,6 @@ use Rattle.published_table.specs.Terms.{settings_by}
 use Rattle.published_table.specs.Views.{publisher_of, seen, terms_of}
 use Rattle.published_table.specs.declared.terms.Terms.{Terms}
 use Rattle.published_table.specs.declared.view.View.{View}
-use Rattle.response_mac.specs.declared.secret.Secret.{Secret}
-use Rattle.relay_machine.specs.declared.event.Event.{Event}
-use Rattle.relay_machine.specs.declared.event.Event.TheVariants.{Moment, Datagram, Packet, Rotate}
 use Rattle.relay_machine.specs.Settings.{table_settings_of}
 use Rattle.relay_machine.specs.declared.settings.Settings.{Settings}
 use Rattle.serving_turns.specs.Devices.{OutSeen, out_seen}
@@ -31,10 +28,8 @@ use Rattle.replication_workers.specs.SlotStates.{HaveLeft, IsLeft, SlotLeft, Slo
 use Rattle.replication_workers.specs.Workers.{HasHandled}
 use Rattle.replication_workers.specs.declared.job.Job.{Job}
 use Rattle.replication_workers.specs.declared.replicator.Replicator.{Replicator}
-use Rattle.relay_serving.specs.Counting.{is_packet}
 use Rattle.relay_serving.specs.Devices.{outs_seen}
 use Rattle.relay_serving.specs.GivenOut.{AreOfPublisher, jobs_at, slots_after, starts_in}
-use Rattle.relay_serving.specs.Sending.{due_of, dues_after}
 use Rattle.relay_serving.specs.Serving.{AreServed, IsServed, SlotServed, logs_in}
 use Rattle.relay_serving.specs.Starting.{AreStarts, IsStart}
 
@@ -56,25 +51,6 @@ all_at_first jobs = filter_all (λ (job : Job). slot_for 1 job.packet == 0) jobs
 
 none_more : (number : ℕ) → number ≡ 0 + number
 none_more number = omega arith
-
-one_more : (number : ℕ) → suc number ≡ 1 + number
-one_more number = omega arith
-
--- one is due for each packet
-due_count : (settings : Settings) (first : Secret) (before events : List Event) → length (dues_after settings first before events) ≡ count_by is_packet events
-due_count settings first before [] = refl
-due_count settings first before (Packet bytes ∷ events) =
-    ap suc (due_count settings first (before ++ Packet bytes ∷ []) events) ∙ one_more _ ∙ sym (sum_by-cons (λ event. cond (is_packet event) 1 0) (Packet bytes) events)
-due_count settings first before (Datagram bytes from ∷ events) =
-    due_count settings first (before ++ Datagram bytes from ∷ []) events ∙ none_more _ ∙ sym (sum_by-cons (λ event. cond (is_packet event) 1 0) (Datagram bytes from) events)
-due_count settings first before (Moment moment ∷ events) =
-    due_count settings first (before ++ Moment moment ∷ []) events ∙ none_more _ ∙ sym (sum_by-cons (λ event. cond (is_packet event) 1 0) (Moment moment) events)
-due_count settings first before (Rotate secret ∷ events) =
-    due_count settings first (before ++ Rotate secret ∷ []) events ∙ none_more _ ∙ sym (sum_by-cons (λ event. cond (is_packet event) 1 0) (Rotate secret) events)
-
--- there are as many jobs as packets
-pub jobs_count : (settings : Settings) (first : Secret) (events : List Event) (jobs : List Job) → map due_of jobs ≡ dues_after settings first [] events → length jobs ≡ count_by is_packet events
-jobs_count settings first events jobs due = sym (length-map jobs due_of) ∙ ap length due ∙ due_count settings first [] events
 
 module _ {O : Type 0} {g : Ghosts O} where
   -- what slots left, and their views as they were asked then

@@ -18,7 +18,6 @@ use Rattle.published_table.specs.Views.{seen, views_of}
 use Rattle.published_table.specs.declared.view.View.{View}
 use Rattle.published_table.proofs.Beginnings.{begins_by}
 use Rattle.response_mac.specs.declared.secret.Secret.{Secret}
-use Rattle.relay_machine.specs.Events.{now_of}
 use Rattle.relay_machine.specs.Published.{published_log}
 use Rattle.relay_machine.specs.declared.event.Event.{Event}
 use Rattle.relay_machine.specs.declared.settings.Settings.{Settings}
@@ -37,13 +36,14 @@ use Rattle.relay_serving.specs.Counting.{AreCounted, is_datagram}
 use Rattle.relay_serving.specs.Devices.{Devices, devices_seen, outs_seen}
 use Rattle.relay_serving.specs.Drawing.{DrawsSecret, IsDrawn}
 use Rattle.relay_serving.specs.Ending.{Finishes}
-use Rattle.relay_serving.specs.Events.{events_from, events_of, first_of, published_events, published_turns, secret_by}
+use Rattle.relay_serving.specs.Events.{events_of, first_of, happenings_of, published_events, secret_by}
 use Rattle.relay_serving.specs.GivenOut.{AreGivenOut, starts_in}
+use Rattle.relay_serving.specs.Happenings.{Happening, events_among, published_events_among}
 use Rattle.relay_serving.specs.Reports.{report_of, unused_report}
 use Rattle.relay_serving.specs.Runs.{HasEnded, IsCut, MayGo, Run, served, turns_of, unstarted, without_secret, words_drawn}
 use Rattle.relay_serving.specs.Sending.{answers_after, due_of, dues_after}
 use Rattle.relay_serving.specs.Serving.{ArePublished, IsOwedBy, OutsServed, Serves, StartsWorkers, one_lost, unused, used}
-use Rattle.relay_serving.specs.Servers.{events_in, first_in, now_in, owing_in, published_in, settings_in, slots_in}
+use Rattle.relay_serving.specs.Servers.{events_in, first_in, happenings_in, owing_in, published_in, settings_in, slots_in, tally_in}
 use Rattle.relay_serving.specs.Starting.{AreLeftBy, AreStarts, IsAtStart}
 use Rattle.relay_serving.specs.Turning.{EndsIn, RunsSo}
 use Rattle.relay_serving.specs.Turns.{Progress, Turn}
@@ -52,7 +52,9 @@ use Rattle.relay_serving.specs.declared.plan.ServePlan.{ServePlan}
 use Rattle.relay_serving.specs.declared.plan.ServeReport.{ServeReport}
 use Rattle.relay_serving.specs.declared.server.Server.{Server}
 use Rattle.relay_serving.specs.declared.server.ending.Ending.{Ending}
-use Rattle.relay_serving.proofs.SlotsServed.{Slotted, all_inline, are_served, jobs_count, slotted}
+use Rattle.relay_serving.proofs.GivenOut.{jobs_count}
+use Rattle.relay_serving.proofs.Owed.{is_prompt, owed_by}
+use Rattle.relay_serving.proofs.SlotsServed.{Slotted, all_inline, are_served, slotted}
 use Rattle.relay_serving.proofs.Started.{starts_all, starts_none, starts_refused}
 use Rattle.relay_serving.proofs.Together.{read_prefixes}
 
@@ -89,12 +91,13 @@ not_run settings plan end first clock words words' link feed starts starts' faul
   outs_sent = 0;
   outs_unsent = 0;
   outs_served = outs_are;
+  prompt = is_prompt settings (first_of (unrun first));
   turns_are = refl;
   counted = record { datagrams_are = refl; packets_are = refl; updated_are = refl; torn_are = refl };
   sent_are = refl;
   unsent_are = refl;
-  none_starved = refl;
-  none_late = refl;
+  starved_are = refl;
+  late_are = refl;
   link_cause = ((λ is. absurd (no_link is)), (λ other. refl));
   feed_cause = ((λ is. absurd (no_feed is)), (λ other. refl));
   words_cause = words_are;
@@ -164,6 +167,9 @@ no_spawn plan end done last (Some turn) ended is = subst (λ (one : End). IsCut 
 sum_is : (now start more outs : ℕ) → now ≡ start + more → start ≡ 0 → now + outs ≡ more + outs
 sum_is now start more outs is none = omega (arith, is, none)
 
+from_none : (now start more : ℕ) → now ≡ start + more → start ≡ 0 → now ≡ more
+from_none now start more is none = omega (arith, is, none)
+
 zero_of : (number : ℕ) → (number == 0) ≡ true → number ≡ 0
 zero_of number is = eqb-true number 0 is
 
@@ -184,13 +190,8 @@ moved F {settings' = settings'} {first = first} {first' = first'} {events = even
     subst (F settings' first') three (subst (λ (secret : Secret). F settings' secret events) two (subst (λ (all : Settings). F all first events) one holds))
 
 module _ {O : Type 0} {g : Ghosts O} {T : Type 0} where
-  -- before all events it is moment 0
-  now_none : (server : Server O T g) → events_in server ≡ [] → now_in server ≡ 0
-  unfolding now_of
-  now_none server none = server.at.moment ∙ ap now_of none
-
   -- what link and outs tried can be counted
-  pub few_in_all : (server : Server O T g) (ending : Ending O) → Finishes server ending → length (events_in server) < 2 ^ 50 → ending.outs_sent + ending.outs_unsent ≤ 2 ^ 62
+  pub few_in_all : (server : Server O T g) (ending : Ending O) → Finishes server ending → tally_in server < 2 ^ 50 → ending.outs_sent + ending.outs_unsent ≤ 2 ^ 62
       → (ending.counts.sent + ending.outs_sent < 2 ^ 64) × (ending.counts.unsent + ending.outs_unsent < 2 ^ 64)
   few_in_all server ending finishes few outs_few =
       let sent = ap (λ (counts : Counts). counts.sent) finishes.same_counts in
@@ -212,16 +213,19 @@ module _ {O : Type 0} {g : Ghosts O} {T : Type 0} where
     run_of = record { first = drawn; whole = runs.whole; cut = runs.cut }
 
     settings_are : settings_in server ≡ settings
-    settings_are = runs.goes.events.same.same_settings ∙ at.settings_are
+    settings_are = runs.goes.happens.same.same_settings ∙ at.settings_are
 
     first_is : first_in server ≡ first_of run_of
-    first_is = runs.goes.events.same.same_first ∙ at.first_is ∙ secret_is
+    first_is = runs.goes.happens.same.same_first ∙ at.first_is ∙ secret_is
+
+    happened : happenings_in server ≡ happenings_of run_of
+    happened = runs.goes.happens.happened ∙ ap (λ (list : List Happening). list ++ happenings_of run_of) at.none_happened
 
     events_are : events_in server ≡ events_of run_of
-    events_are = runs.goes.events.events ∙ (λ i. at.no_events i ++ events_from (now_none start at.no_events i) (turns_of run_of))
+    events_are = ap events_among happened
 
     outs_were : map out_of (starts_in (slots_in server)) ≡ outs
-    outs_were = ap (map out_of) runs.goes.events.same.same_starts ∙ at.outs_are
+    outs_were = ap (map out_of) runs.goes.happens.same.same_starts ∙ at.outs_are
 
     counted : AreCounted settings (first_of run_of) (events_of run_of) ending.counts.datagrams ending.counts.packets ending.counts.updated ending.counts.torn
     counted =
@@ -232,12 +236,11 @@ module _ {O : Type 0} {g : Ghosts O} {T : Type 0} where
     tried : HasTried link.tried link'.tried link.send_faults link'.send_faults (answers_after settings (first_of run_of) [] (events_of run_of)) runs.goes.answered.more runs.goes.answered.missed
     tried =
         subst (λ (wanted : List (Peer × List ℕ)). HasTried link.tried link'.tried link.send_faults link'.send_faults wanted runs.goes.answered.more runs.goes.answered.missed)
-        (λ i. answers_after (at.settings_are i) ((at.first_is ∙ secret_is) i) (at.no_events i) (events_from (now_none start at.no_events i) (turns_of run_of)))
+        (λ i. answers_after (at.settings_are i) ((at.first_is ∙ secret_is) i) (events_among (at.none_happened i)) (events_of run_of))
         runs.goes.answered.tried
 
     published_is : published_in server ≡ published_log settings (first_of run_of) (published_events run_of)
-    published_is = runs.published
-        ∙ (λ i. published_log (settings_are i) (first_is i) (at.no_events i ++ events_from (now_none start at.no_events i) (published_turns (turns_of run_of))))
+    published_is = server.shown ∙ (λ i. published_log (settings_are i) (first_is i) (published_events_among (happened i)))
 
     log_is : published_in server ++ owing_in server ≡ published_log settings (first_of run_of) (events_of run_of)
     log_is = server.log ∙ (λ i. published_log (settings_are i) (first_is i) (events_are i))
@@ -255,21 +258,23 @@ module _ {O : Type 0} {g : Ghosts O} {T : Type 0} where
     }
 
     is_owed : IsOwedBy (turns_of run_of) ending.owed
-    is_owed some = runs.owed (λ none. some (finishes.owed_is ∙ ap length none))
+    is_owed some =
+        owed_by settings (first_of run_of) (published_in server) (owing_in server) (turns_of run_of) log_is published_is
+        (λ none. some (finishes.owed_is ∙ ap length none))
 
-    module _ (given : AreGivenOut (settings_in server) (first_in server) (events_in server) (slots_in server)) where
-      due : map due_of given.jobs ≡ dues_after settings (first_of run_of) [] (events_of run_of)
-      due = given.are_due ∙ (λ i. dues_after (settings_are i) (first_is i) [] (events_are i))
+    module _ (given : AreGivenOut (settings_in server) (first_in server) (happenings_in server) (slots_in server)) where
+      due : map due_of given.jobs ≡ dues_after settings (first_of run_of) [] (happenings_of run_of)
+      due = given.are_due ∙ (λ i. dues_after (settings_are i) (first_is i) [] (happened i))
 
       inline : ending.inline ≡ (if plan.workers == 0 then ending.counts.packets else 0)
       inline = inline_of ending.inline ending.counts.packets (jobs_in_all (slots_in server)) (is_threaded server.dispatcher) (plan.workers == 0)
-          finishes.inline_is (runs.goes.events.same.same_mode ∙ at.mode ∙ mode)
+          finishes.inline_is (runs.goes.happens.same.same_mode ∙ at.mode ∙ mode)
           (λ none.
           let zero_workers = zero_of plan.workers none in
           let outs_number = ap length outs_were in
           let firsts_number = length-map (starts_in (slots_in server)) out_of in
           let one : length (starts_in (slots_in server)) ≡ 1 = sym firsts_number ∙ outs_number ∙ number ∙ ap (λ (workers : ℕ). max workers 1) zero_workers in
-          all_inline (slots_in server) given.jobs one given.at_slots ∙ jobs_count settings (first_of run_of) (events_of run_of) given.jobs due ∙ sym counted.packets_are)
+          all_inline (slots_in server) given.jobs one given.at_slots ∙ jobs_count settings (first_of run_of) (happenings_of run_of) given.jobs due ∙ sym counted.packets_are)
 
       serves_by : (faults faults' : ℕ) → faults' ≡ faults → Slotted settings finishes.left.lefts (views_of ending.views)
           → Serves settings plan (devices_seen clock words link feed starts faults) (devices_seen clock' words'' link' feed' starts' faults') (outs_seen g.tried g.faults outs) (outs_seen g.tried g.faults ending.outs) (views_of ending.views) (report_of end turns ending)
@@ -290,12 +295,15 @@ module _ {O : Type 0} {g : Ghosts O} {T : Type 0} where
             outs_served = used given.jobs due are are_published
                 (read_prefixes settings (published_log settings (first_of run_of) (events_of run_of)) (published_log settings (first_of run_of) (published_events run_of)) are.slots (views_of ending.views) ending.published ending.owed ending.apart are.each are.views_are are_published)
                 is_owed inline;
+            prompt = is_prompt settings (first_of run_of);
             turns_are = runs.done_is;
             counted = counted;
             sent_are = ap (λ (counts : Counts). counts.sent + ending.outs_sent) finishes.same_counts ∙ sum_is server.counts.sent start.counts.sent runs.goes.answered.more ending.outs_sent runs.goes.answered.sent_are (ap (λ (counts : Counts). counts.sent) at.none_counted);
             unsent_are = ap (λ (counts : Counts). counts.unsent + ending.outs_unsent) finishes.same_counts ∙ sum_is server.counts.unsent start.counts.unsent runs.goes.answered.missed ending.outs_unsent runs.goes.answered.unsent_are (ap (λ (counts : Counts). counts.unsent) at.none_counted);
-            none_starved = refl;
-            none_late = refl;
+            starved_are = ap (λ (counts : Counts). counts.starved) finishes.same_counts
+                ∙ from_none server.counts.starved start.counts.starved _ runs.goes.refused.starved_are (ap (λ (counts : Counts). counts.starved) at.none_counted);
+            late_are = ap (λ (counts : Counts). counts.late) finishes.same_counts
+                ∙ from_none server.counts.late start.counts.late _ runs.goes.refused.late_are (ap (λ (counts : Counts). counts.late) at.none_counted);
             link_cause = ends.link;
             feed_cause = ends.feed;
             words_cause = subst (λ (count : ℕ). IsCauseOf end WordsFault count words''.faults) quiet ends.words;
@@ -307,7 +315,7 @@ module _ {O : Type 0} {g : Ghosts O} {T : Type 0} where
         → ∥ Serves settings plan (devices_seen clock words link feed starts faults) (devices_seen clock' words'' link' feed' starts' faults') (outs_seen g.tried g.faults outs) (outs_seen g.tried g.faults ending.outs) (views_of ending.views) (report_of end turns ending) ∥₁
     serves_run faults faults' same =
         let left = finishes.left in
-        let firsts = subst (AreStarts settings (book_of start.publisher)) (sym (ap starts_in left.slots_are ∙ runs.goes.events.same.same_starts)) at.starts in
+        let firsts = subst (AreStarts settings (book_of start.publisher)) (sym (ap starts_in left.slots_are ∙ runs.goes.happens.same.same_starts)) at.starts in
         let further = subst (λ (list : List View). AllZip (λ one other. BeginsWith (seen other) (seen one)) list (views_of ending.views)) (sym left.views_are) finishes.asked.further in
         ∥∥₁_elim server.given_out ∥∥₁_prop (λ given.
         ∥∥₁_map (slotted settings (book_of start.publisher) left.lefts (views_of ending.views) left.each firsts further)

@@ -9,6 +9,7 @@ use Rattle.relay_machine.specs.declared.outcome.Outcome.{Outcome}
 use Rattle.relay_machine.specs.declared.settings.Settings.{Settings}
 use Rattle.serving_turns.specs.Devices.{LinkSeen}
 use Rattle.serving_turns.specs.Tried.{HasTried}
+use Rattle.relay_serving.specs.Turns.{Turn, is_refused}
 use Rattle.relay_serving.specs.declared.counts.Counts.{Counts}
 
 abbrev pub is_datagram : Event → Bool
@@ -36,7 +37,7 @@ pub record IsCounted (settings : Settings) (first : Secret) (events : List Event
   pub few_sends : counts.sent + counts.unsent ≤ counts.datagrams
 
 abbrev pub no_counts : Counts
-no_counts = record { datagrams = 0; packets = 0; updated = 0; torn = 0; sent = 0; unsent = 0 }
+no_counts = record { datagrams = 0; packets = 0; updated = 0; torn = 0; sent = 0; unsent = 0; starved = 0; late = 0 }
 
 abbrev pub one_if : Bool → ℕ
 one_if condition = if condition then 1 else 0
@@ -50,6 +51,8 @@ with_outcome counts event outcome = record {
   torn = counts.torn + one_if (is_torn outcome);
   sent = counts.sent;
   unsent = counts.unsent;
+  starved = counts.starved;
+  late = counts.late;
 }
 
 -- the counts after one packet more
@@ -61,7 +64,58 @@ with_packet counts = record {
   torn = counts.torn;
   sent = counts.sent;
   unsent = counts.unsent;
+  starved = counts.starved;
+  late = counts.late;
 }
+
+-- the counts after one event more that memory refused
+abbrev pub with_starved : Counts → Counts
+with_starved counts = record {
+  datagrams = counts.datagrams;
+  packets = counts.packets;
+  updated = counts.updated;
+  torn = counts.torn;
+  sent = counts.sent;
+  unsent = counts.unsent;
+  starved = counts.starved + 1;
+  late = counts.late;
+}
+
+-- the counts after one publishing more that memory refused
+abbrev pub with_late : Counts → Counts
+with_late counts = record {
+  datagrams = counts.datagrams;
+  packets = counts.packets;
+  updated = counts.updated;
+  torn = counts.torn;
+  sent = counts.sent;
+  unsent = counts.unsent;
+  starved = counts.starved;
+  late = counts.late + 1;
+}
+
+-- nothing more was counted but sends
+pub record CountsAlike (before after : Counts) : Type 0 where
+  pub same_datagrams : after.datagrams ≡ before.datagrams
+  pub same_packets : after.packets ≡ before.packets
+  pub same_updated : after.updated ≡ before.updated
+  pub same_torn : after.torn ≡ before.torn
+  pub same_starved : after.starved ≡ before.starved
+  pub same_late : after.late ≡ before.late
+
+-- so many more events, and so many more publishings, were refused by memory
+pub record HasRefused (before after : Counts) (starved late : ℕ) : Type 0 where
+  pub starved_are : after.starved ≡ before.starved + starved
+  pub late_are : after.late ≡ before.late + late
+
+-- the events of a turn that memory refused
+abbrev pub starved_in : Turn → ℕ
+starved_in turn =
+    one_if turn.clock.starved + (count_by (λ one. one.starved) turn.heard + count_by (λ one. one.starved) turn.fed)
+
+-- whether memory refused its publishing
+abbrev pub is_late : Turn → Bool
+is_late turn = is_refused turn.publishing
 
 -- exactly these answers were tried by a link; so many more were sent, and so many more not
 pub record HasAnswered (link link' : LinkSeen) (counts counts' : Counts) (wanted : List (Peer × List ℕ)) : Type 0 where

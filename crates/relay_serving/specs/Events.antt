@@ -1,7 +1,7 @@
--- The events that the answers of devices make, in the order of a turn: its moment, a new secret, each
--- datagram, each packet.
-use Rattle.std.specs.Prelude.{ℕ, Bool, true, false, List, [], ◌∷◌, ◌++◌, Option, None, Some}
-use Rattle.std.specs.List.{filter, filter_map, flat_map}
+-- What happens by the answers of devices, in the order of a turn: its moment, a new secret, each datagram, the
+-- publishing, each packet.
+use Rattle.std.specs.Prelude.{ℕ, Bool, true, false, List, [], ◌∷◌, ◌++◌, map, Option, None, Some}
+use Rattle.std.specs.List.{filter_map, flat_map}
 use Rattle.byteorder.specs.Endian.{big_bytes}
 use Rattle.amt_ports.specs.declared.feed.FeedAnswer.{FeedAnswer}
 use Rattle.amt_ports.specs.declared.feed.FeedAnswer.TheVariants.{Packet as PacketFed, Nothing as NothingFed, Closed as FeedClosed}
@@ -11,7 +11,8 @@ use Rattle.response_mac.specs.declared.secret.Secret.{Secret}
 use Rattle.relay_machine.specs.declared.event.Event.{Event}
 use Rattle.relay_machine.specs.declared.event.Event.TheVariants.{Moment, Datagram, Packet, Rotate}
 use Rattle.serving_turns.specs.Answers.{Taken, unless_starved}
-use Rattle.relay_serving.specs.Turns.{Turn, is_done, moment_of_turn}
+use Rattle.relay_serving.specs.Turns.{Publishing, Ahead, Refused, Done, Turn, moment_of_turn}
+use Rattle.relay_serving.specs.Happenings.{Happening, Took, Published, events_among, published_events_among}
 use Rattle.relay_serving.specs.Runs.{Run, turns_of}
 
 -- a secret is the octets of four words, each from the most significant one on (RFC 7450, section 5.3.6)
@@ -44,27 +45,35 @@ abbrev pub rotation : List ℕ → List Event
 rotation (one ∷ two ∷ three ∷ four ∷ []) = Rotate (secret_by (one ∷ two ∷ three ∷ four ∷ [])) ∷ []
 rotation other = []
 
-abbrev pub events_of_turn : ℕ → Turn → List Event
-events_of_turn latest turn =
-    moment_event turn.clock.starved (moment_of_turn latest turn) ++ (rotation turn.drawn ++ (datagrams_in turn.heard ++ packets_in turn.fed))
+-- a turn's moment, and its new secret
+abbrev pub beginning_of : ℕ → Turn → List Event
+beginning_of latest turn = moment_event turn.clock.starved (moment_of_turn latest turn) ++ rotation turn.drawn
 
--- the events of turns, if this moment was the latest before them
-abbrev pub events_from : ℕ → List Turn → List Event
-events_from latest [] = []
-events_from latest (turn ∷ later) = events_of_turn latest turn ++ events_from (moment_of_turn latest turn) later
+-- one that memory refused leaves all as it was
+abbrev pub publishing_in : Publishing → List Happening
+publishing_in Ahead = []
+publishing_in Refused = []
+publishing_in Done = Published ∷ []
+
+abbrev pub happenings_of_turn : ℕ → Turn → List Happening
+happenings_of_turn latest turn =
+    map Took (beginning_of latest turn)
+    ++ (map Took (datagrams_in turn.heard) ++ (publishing_in turn.publishing ++ map Took (packets_in turn.fed)))
+
+-- what happens in turns, if this moment was the latest before them
+abbrev pub happenings_from : ℕ → List Turn → List Happening
+happenings_from latest [] = []
+happenings_from latest (turn ∷ later) = happenings_of_turn latest turn ++ happenings_from (moment_of_turn latest turn) later
+
+abbrev pub happenings_of : Run → List Happening
+happenings_of run = happenings_from 0 (turns_of run)
 
 abbrev pub events_of : Run → List Event
-events_of run = events_from 0 (turns_of run)
+events_of run = events_among (happenings_of run)
 
--- The turns whose publishing was done: all of them, but for the last one where the run ended before that. What
--- was entered in the log by a turn's moment, secret and datagrams is published then; its packets come later, but
--- enter nothing.
-abbrev pub published_turns : List Turn → List Turn
-published_turns turns = filter (λ turn. is_done turn.publishing) turns
-
--- their events
+-- those before the last publishing that was done
 abbrev pub published_events : Run → List Event
-published_events run = events_from 0 (published_turns (turns_of run))
+published_events run = published_events_among (happenings_of run)
 
 -- the first secret of a run
 abbrev pub first_of : Run → Secret

@@ -7,13 +7,13 @@ use Rattle.published_table.specs.Views.{publisher_of}
 use Rattle.published_table.specs.declared.terms.Terms.{Terms}
 use Rattle.response_mac.specs.declared.secret.Secret.{Secret}
 use Rattle.relay_machine.specs.Settings.{membership_interval_ms}
-use Rattle.relay_machine.specs.declared.event.Event.{Event}
 use Rattle.relay_machine.specs.declared.settings.Settings.{Settings}
 use Rattle.replication_workers.specs.Dispatchers.{slot_for}
 use Rattle.replication_workers.specs.Replicators.{view_of}
 use Rattle.replication_workers.specs.SlotStates.{SlotState}
 use Rattle.replication_workers.specs.declared.job.Job.{Job}
 use Rattle.replication_workers.specs.declared.replicator.Replicator.{Replicator}
+use Rattle.relay_serving.specs.Happenings.{Happening}
 use Rattle.relay_serving.specs.Sending.{due_of, dues_after}
 
 -- by what the table of a relay with these settings is read
@@ -35,9 +35,9 @@ module _ {O : Type 0} {g : Ghosts O} where
       map (λ numbered. record { first = numbered.1; jobs = jobs_at (length firsts) numbered.0 jobs }) (enumerate_from 0 firsts)
 
   -- the jobs ask for exactly what is due, and each stands at its slot
-  pub record AreGivenOut (settings : Settings) (first : Secret) (events : List Event) (slots : List (SlotState O g)) : Type 0 where
+  pub record AreGivenOut (settings : Settings) (first : Secret) (happenings : List Happening) (slots : List (SlotState O g)) : Type 0 where
     pub jobs : List Job
-    pub are_due : map due_of jobs ≡ dues_after settings first [] events
+    pub are_due : map due_of jobs ≡ dues_after settings first [] happenings
     pub at_slots : slots ≡ slots_after (starts_in slots) jobs
 
   -- the slots' views are of this publisher

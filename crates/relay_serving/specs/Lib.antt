@@ -5,6 +5,7 @@ pub mod Drawing
 pub mod Ending
 pub mod Events
 pub mod GivenOut
+pub mod Happenings
 pub mod Plans
 pub mod Reports
 pub mod Runs

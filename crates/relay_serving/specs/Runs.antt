@@ -1,13 +1,13 @@
 -- How a run of a serving relay may go.
-use Rattle.std.specs.Prelude.{◌≡◌, ◌⊎◌, ℕ, ◌<◌, false, true, List, [], ◌∷◌, ◌++◌, length, map, Option, None, Some}
+use Rattle.std.specs.Prelude.{◌≡◌, ◌⊎◌, ℕ, ◌<◌, true, List, [], ◌∷◌, ◌++◌, length, map, Option, None, Some}
 use Rattle.std.specs.List.{flat_map}
 use Rattle.amt_ports.specs.declared.feed.FeedAnswer.{FeedAnswer}
 use Rattle.amt_ports.specs.declared.link.LinkAnswer.{LinkAnswer}
-use Rattle.serving_turns.specs.Bursts.{IsBegun, IsBurst, IsClosed, IsStarved}
+use Rattle.serving_turns.specs.Bursts.{IsBegun, IsClosed}
 use Rattle.serving_turns.specs.declared.end.End.{End}
 use Rattle.serving_turns.specs.declared.end.End.TheVariants.{Turns, Closed, LinkFault, FeedFault, WordsFault, SpawnFault, Memory}
 use Rattle.relay_serving.specs.declared.plan.ServePlan.{ServePlan}
-use Rattle.relay_serving.specs.Turns.{AreWhole, HasBegun, HasHeard, Progress, Publishing, Ahead, Refused, Turn, from_feed, from_link, is_due, moment_of_turn, no_progress}
+use Rattle.relay_serving.specs.Turns.{AreWhole, HasBegun, HasHeard, Progress, Publishing, Ahead, Turn, from_feed, from_link, is_due, moment_of_turn, no_progress}
 
 -- the feed was not asked, and so far went the publishing
 abbrev pub IsUnfed : Publishing → Turn → Type 0
@@ -19,24 +19,16 @@ IsUnheard turn = (turn.heard ≡ []) × IsUnfed Ahead turn
 
 -- a word that was due couldn't be drawn
 pub record LacksWords (rotate : ℕ) (progress : Progress) (turn : Turn) : Type 0 where
-  pub moment : turn.clock.starved ≡ false
   pub due : is_due rotate progress.renewed (moment_of_turn progress.latest turn) ≡ true
   pub few : length turn.drawn < 4
   pub unheard : IsUnheard turn
-
--- memory refused the moment, a datagram, the publishing, or a packet
-pub data LacksMemory (rotate : ℕ) (progress : Progress) (turn : Turn) : Type 0 where
-  at_moment : turn.clock.starved ≡ true → turn.drawn ≡ [] → IsUnheard turn → LacksMemory rotate progress turn
-  at_datagram : HasBegun rotate progress turn → IsStarved from_link turn.heard → IsUnfed Ahead turn → LacksMemory rotate progress turn
-  at_publishing : HasBegun rotate progress turn → IsBurst from_link turn.heard → IsUnfed Refused turn → LacksMemory rotate progress turn
-  at_packet : HasHeard rotate progress turn → IsStarved from_feed turn.fed → LacksMemory rotate progress turn
 
 -- the link or the feed answered that it is closed
 pub data FindsClosed (rotate : ℕ) (progress : Progress) (turn : Turn) : Type 0 where
   of_link : HasBegun rotate progress turn → IsClosed from_link turn.heard → IsUnfed Ahead turn → FindsClosed rotate progress turn
   of_feed : HasHeard rotate progress turn → IsClosed from_feed turn.fed → FindsClosed rotate progress turn
 
--- the run ended in this turn, which isn't whole
+-- the run ended in this turn, which isn't whole: never out of memory
 abbrev pub IsCut : End → ℕ → Progress → Turn → Type 0
 IsCut Turns rotate progress turn = ⊥
 IsCut SpawnFault rotate progress turn = ⊥
@@ -44,7 +36,7 @@ IsCut Closed rotate progress turn = FindsClosed rotate progress turn
 IsCut WordsFault rotate progress turn = LacksWords rotate progress turn
 IsCut LinkFault rotate progress turn = HasBegun rotate progress turn × IsBegun from_link turn.heard × IsUnfed Ahead turn
 IsCut FeedFault rotate progress turn = HasHeard rotate progress turn × IsBegun from_feed turn.fed
-IsCut Memory rotate progress turn = LacksMemory rotate progress turn
+IsCut Memory rotate progress turn = ⊥
 
 -- the words of the first secret, the whole turns, and the one in which the run ended, if it is not whole
 pub record Run : Type 0 where

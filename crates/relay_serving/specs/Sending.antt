@@ -14,6 +14,7 @@ use Rattle.relay_machine.specs.Events.{now_of}
 use Rattle.relay_machine.specs.Published.{published_log}
 use Rattle.replication_workers.specs.Replication.{to_peer}
 use Rattle.replication_workers.specs.declared.job.Job.{Job}
+use Rattle.relay_serving.specs.Happenings.{Happening, Took, Published, events_among, published_events_among}
 
 -- the answers to a datagram after these events: a packet is no step of the relay here
 abbrev pub answers_to : Settings → Secret → List Event → Event → List (Peer × List ℕ)
@@ -32,14 +33,16 @@ pub record Due : Type 0 where
   pub at : ℕ
   pub log : List Change
 
--- by the relay's moment, and the log that is published of all events before it
-abbrev pub due_to : Settings → Secret → List Event → Event → List Due
-due_to settings first earlier (Packet bytes) = record { packet = bytes; at = now_of earlier; log = published_log settings first earlier } ∷ []
-due_to settings first earlier (Datagram bytes from) = []
-due_to settings first earlier (Moment moment) = []
-due_to settings first earlier (Rotate secret) = []
+-- by the relay's moment, and the log of the events before the last publishing
+abbrev pub due_to : Settings → Secret → List Happening → Happening → List Due
+due_to settings first earlier (Took (Packet bytes)) =
+    record { packet = bytes; at = now_of (events_among earlier); log = published_log settings first (published_events_among earlier) } ∷ []
+due_to settings first earlier (Took (Datagram bytes from)) = []
+due_to settings first earlier (Took (Moment moment)) = []
+due_to settings first earlier (Took (Rotate secret)) = []
+due_to settings first earlier Published = []
 
-abbrev pub dues_after : Settings → Secret → List Event → List Event → List Due
+abbrev pub dues_after : Settings → Secret → List Happening → List Happening → List Due
 dues_after settings first earlier later = flat_map (λ dues. dues) (each_after (due_to settings first) earlier later)
 
 -- what a job asks for

@@ -1,5 +1,5 @@
 -- What is read of a running relay, and what its calls do to it and its devices.
-use Rattle.std.specs.Prelude.{◌≡◌, ℕ, List, ◌++◌, map}
+use Rattle.std.specs.Prelude.{◌≡◌, ◌≢◌, ℕ, ◌+◌, List, ◌++◌, count_by, length, map}
 use Rattle.amt_ports.specs.declared.feed.FeedAnswer.{FeedAnswer}
 use Rattle.amt_ports.specs.declared.feed.FeedAnswer.TheVariants.{Closed as FeedClosed}
 use Rattle.amt_ports.specs.declared.link.LinkAnswer.{LinkAnswer}
@@ -8,7 +8,7 @@ use Rattle.amt_ports.specs.declared.out_link.OutLink.{Ghosts}
 use Rattle.endpoint_membership.specs.declared.change.Change.{Change}
 use Rattle.published_table.specs.Publishers.{book_of, owing, published}
 use Rattle.response_mac.specs.declared.secret.Secret.{Secret}
-use Rattle.relay_machine.specs.Answers.{moment_of, settings_of}
+use Rattle.relay_machine.specs.Answers.{settings_of}
 use Rattle.relay_machine.specs.declared.event.Event.{Event}
 use Rattle.relay_machine.specs.declared.settings.Settings.{Settings}
 use Rattle.serving_turns.specs.Answers.{Taken}
@@ -16,11 +16,13 @@ use Rattle.serving_turns.specs.Bursts.{AskedSo}
 use Rattle.serving_turns.specs.Devices.{AnswersAll, FeedSeen, LinkSeen}
 use Rattle.replication_workers.specs.Dispatchers.{KeepsAllRun, is_threaded, slots_of}
 use Rattle.replication_workers.specs.SlotStates.{SlotState}
-use Rattle.relay_serving.specs.Courses.{events_so_far}
-use Rattle.relay_serving.specs.Counting.{HasAnswered}
-use Rattle.relay_serving.specs.Events.{datagrams_in, packets_in}
+use Rattle.relay_serving.specs.Courses.{events_so_far, happenings_so_far}
+use Rattle.relay_serving.specs.Counting.{HasAnswered, HasRefused, one_if, with_starved}
+use Rattle.relay_serving.specs.Events.{datagrams_in, packets_in, publishing_in}
 use Rattle.relay_serving.specs.GivenOut.{starts_in}
+use Rattle.relay_serving.specs.Happenings.{Happening, Took}
 use Rattle.relay_serving.specs.Sending.{answers_after}
+use Rattle.relay_serving.specs.Turns.{Publishing, Ahead, is_refused}
 use Rattle.relay_serving.specs.declared.counts.Counts.{Counts}
 use Rattle.relay_serving.specs.declared.server.Server.{Server}
 
@@ -32,16 +34,19 @@ module _ {O : Type 0} {g : Ghosts O} {T : Type 0} where
   abbrev pub first_in : Server O T g → Secret
   first_in server = server.first.value
 
-  -- its events so far
+  -- what has happened to it so far, and its events among that
+  abbrev pub happenings_in : Server O T g → List Happening
+  happenings_in server = happenings_so_far server.course
+
   abbrev pub events_in : Server O T g → List Event
   events_in server = events_so_far server.course
 
-  -- how late it is
-  abbrev pub now_in : Server O T g → ℕ
-  now_in server = moment_of server.relay
-
   abbrev pub counts_in : Server O T g → Counts
   counts_in server = server.counts
+
+  -- its events, and all that memory refused it
+  abbrev pub tally_in : Server O T g → ℕ
+  tally_in server = length (events_in server) + ((counts_in server).starved + (counts_in server).late)
 
   -- what its views read, and what isn't published
   abbrev pub published_in : Server O T g → List Change
@@ -62,23 +67,46 @@ module _ {O : Type 0} {g : Ghosts O} {T : Type 0} where
     pub same_mode : is_threaded after.dispatcher ≡ is_threaded before.dispatcher
     pub same_tasks : KeepsAllRun before.dispatcher after.dispatcher
 
-  -- its events are these more
-  pub record HasEvents (before after : Server O T g) (more : List Event) : Type 0 where
+  -- so much more happened to it
+  pub record Happens (before after : Server O T g) (more : List Happening) : Type 0 where
     pub same : IsSameRun before after
-    pub events : events_in after ≡ events_in before ++ more
+    pub happened : happenings_in after ≡ happenings_in before ++ more
+
+  -- its events are these more
+  abbrev pub HasEvents : Server O T g → Server O T g → List Event → Type 0
+  HasEvents before after more = Happens before after (map Took more)
 
   -- nothing happened
   pub record IsAsBefore (before after : Server O T g) : Type 0 where
     pub same : IsSameRun before after
-    pub same_events : events_in after ≡ events_in before
-    pub same_published : published_in after ≡ published_in before
+    pub same_happenings : happenings_in after ≡ happenings_in before
     pub same_counts : counts_in after ≡ counts_in before
 
-  -- these were the link's answers; those that memory took are events, and exactly the answers to them
-  -- were tried, each once and in order
+  -- nothing happened, and memory refused one event more
+  pub record IsStarved (before after : Server O T g) : Type 0 where
+    pub same : IsSameRun before after
+    pub same_happenings : happenings_in after ≡ happenings_in before
+    pub counted : counts_in after ≡ with_starved (counts_in before)
+
+  -- what was counted of packets and sends is as before
+  pub record SendsAlike (before after : Server O T g) : Type 0 where
+    pub same_packets : (counts_in after).packets ≡ (counts_in before).packets
+    pub same_sent : (counts_in after).sent ≡ (counts_in before).sent
+    pub same_unsent : (counts_in after).unsent ≡ (counts_in before).unsent
+
+  -- what was owed is published, or memory refused that, which is counted
+  pub record PublishesSo (before after : Server O T g) : Type 0 where
+    pub publishing : Publishing
+    pub tried : publishing ≢ Ahead
+    pub happens : Happens before after (publishing_in publishing)
+    pub refused : HasRefused (counts_in before) (counts_in after) 0 (one_if (is_refused publishing))
+    pub alike : SendsAlike before after
+
+  -- these were the link's answers; those that memory took are events, the others are counted, and exactly the
+  -- answers to the events were tried, each once and in order
   pub record Hears (before after : Server O T g) (link link' : LinkSeen) (heard : List (Taken LinkAnswer)) : Type 0 where
     pub events : HasEvents before after (datagrams_in heard)
-    pub same_published : published_in after ≡ published_in before
+    pub refused : HasRefused (counts_in before) (counts_in after) (count_by (λ one. one.starved) heard) 0
     pub came : AnswersAll LinkClosed link.coming link'.coming (map (λ one. one.answer) heard)
     pub answered : HasAnswered link link' (counts_in before) (counts_in after)
         (answers_after (settings_in before) (first_in before) (events_in before) (datagrams_in heard))
@@ -91,10 +119,10 @@ module _ {O : Type 0} {g : Ghosts O} {T : Type 0} where
   abbrev pub HearsSo : Server O T g → Server O T g → LinkSeen → LinkSeen → (List (Taken LinkAnswer) → Type 0) → Type 0
   HearsSo before after link link' Ends = AskedSo HearsBy (before, link) (after, link') Ends
 
-  -- these were the feed's answers; those that memory took are events
+  -- these were the feed's answers; those that memory took are events, and the others are counted
   pub record Feeds (before after : Server O T g) (feed feed' : FeedSeen) (fed : List (Taken FeedAnswer)) : Type 0 where
     pub events : HasEvents before after (packets_in fed)
-    pub same_published : published_in after ≡ published_in before
+    pub refused : HasRefused (counts_in before) (counts_in after) (count_by (λ one. one.starved) fed) 0
     pub same_sent : (counts_in after).sent ≡ (counts_in before).sent
     pub same_unsent : (counts_in after).unsent ≡ (counts_in before).unsent
     pub came : AnswersAll FeedClosed feed.coming feed'.coming (map (λ one. one.answer) fed)

@@ -10,6 +10,7 @@ use Rattle.endpoint_membership.specs.declared.change.Change.{Change}
 use Rattle.published_table.specs.Lists.{BeginsWith, BeginsWithEach}
 use Rattle.published_table.specs.Views.{seen}
 use Rattle.published_table.specs.declared.view.View.{View}
+use Rattle.response_mac.specs.declared.secret.Secret.{Secret}
 use Rattle.relay_machine.specs.Published.{published_log}
 use Rattle.relay_machine.specs.Settings.{table_settings_of}
 use Rattle.relay_machine.specs.declared.settings.Settings.{Settings}
@@ -21,9 +22,10 @@ use Rattle.replication_workers.specs.Jobs.{Handled}
 use Rattle.serving_turns.specs.Tried.{HasTried}
 use Rattle.replication_workers.specs.Starting.{HaveStarted}
 use Rattle.replication_workers.specs.declared.job.Job.{Job}
-use Rattle.relay_serving.specs.Counting.{AreCounted}
+use Rattle.relay_serving.specs.Counting.{AreCounted, is_late, starved_in}
 use Rattle.relay_serving.specs.Devices.{Devices}
-use Rattle.relay_serving.specs.Events.{events_of, first_of, published_events}
+use Rattle.relay_serving.specs.Events.{events_of, first_of, happenings_from, happenings_of, published_events}
+use Rattle.relay_serving.specs.Happenings.{events_among, published_events_among}
 use Rattle.relay_serving.specs.Runs.{MayGo, Run, feed_answers, link_answers, moments_given, turns_of, words_drawn}
 use Rattle.relay_serving.specs.Sending.{answers_after, due_of, dues_after}
 use Rattle.relay_serving.specs.GivenOut.{jobs_at}
@@ -80,6 +82,14 @@ pub record ArePublished (log prefix : List Change) (views : List View) (publishe
   pub each : All (λ view. BeginsWith (seen view) prefix) views
   pub apart_is : apart ≡ count_by (is_apart published) views
 
+-- In a turn whose publishing was done, the published log is that of all events, whatever packets came since: so a
+-- packet that comes next is due by the log of all events before it.
+abbrev pub IsPrompt : Settings → Secret → Type 0
+IsPrompt settings first =
+    (earlier : List Turn) (turn : Turn) → turn.publishing ≡ Done
+    → published_log settings first (published_events_among (happenings_from 0 (earlier ++ turn ∷ [])))
+    ≡ published_log settings first (events_among (happenings_from 0 (earlier ++ turn ∷ [])))
+
 -- each log by which the slots found receivers is a prefix of this one
 abbrev pub ReadPrefixesOf : List Change → List SlotServed → Type 0
 ReadPrefixesOf log slots = All (λ slot. BeginsWithEach log slot.logs) slots
@@ -103,7 +113,7 @@ pub data OutsServed (settings : Settings) (plan : ServePlan) (run : Run) (report
       → OutsServed settings plan run report outs after starts starts' views sent unsent
   one_lost : report.end ≡ SpawnFault → turns_of run ≡ [] → LosesOne outs after starts starts'
       → views ≡ [] → IsIdle report → sent ≡ 0 → unsent ≡ 0 → OutsServed settings plan run report outs after starts starts' views sent unsent
-  used : (jobs : List Job) → map due_of jobs ≡ dues_after settings (first_of run) [] (events_of run)
+  used : (jobs : List Job) → map due_of jobs ≡ dues_after settings (first_of run) [] (happenings_of run)
       → (served : AreServed settings outs jobs after views sent unsent)
       → ArePublished (published_log settings (first_of run) (events_of run)) (published_log settings (first_of run) (published_events run)) views
       report.published report.owed report.apart
@@ -139,13 +149,14 @@ pub record Serves (settings : Settings) (plan : ServePlan) (before after : Devic
   pub outs_sent : ℕ
   pub outs_unsent : ℕ
   pub outs_served : OutsServed settings plan run report outs outs' before.starts after.starts views outs_sent outs_unsent
+  pub prompt : IsPrompt settings (first_of run)
   -- the report
   pub turns_are : report.turns ≡ length run.whole
   pub counted : AreCounted settings (first_of run) (events_of run) report.datagrams report.packets report.updated report.torn
   pub sent_are : report.sent ≡ link_sent + outs_sent
   pub unsent_are : report.unsent ≡ link_unsent + outs_unsent
-  pub none_starved : report.starved ≡ 0
-  pub none_late : report.late ≡ 0
+  pub starved_are : report.starved ≡ sum_by starved_in (turns_of run)
+  pub late_are : report.late ≡ count_by is_late (turns_of run)
   -- the causes
   pub link_cause : IsCauseOf report.end LinkFault before.link.receive_faults after.link.receive_faults
   pub feed_cause : IsCauseOf report.end FeedFault before.feed.faults after.feed.faults

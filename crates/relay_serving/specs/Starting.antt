@@ -19,7 +19,7 @@ use Rattle.replication_workers.specs.Starting.{HaveStarted}
 use Rattle.replication_workers.specs.declared.replicator.Replicator.{Replicator}
 use Rattle.relay_serving.specs.Counting.{no_counts}
 use Rattle.relay_serving.specs.GivenOut.{starts_in, terms_by}
-use Rattle.relay_serving.specs.Servers.{counts_in, events_in, first_in, owing_in, published_in, settings_in, slots_in}
+use Rattle.relay_serving.specs.Servers.{counts_in, first_in, happenings_in, owing_in, published_in, settings_in, slots_in}
 use Rattle.relay_serving.specs.declared.server.Server.{Server}
 use Rattle.relay_serving.specs.declared.server.starting.Made.{Made}
 
@@ -68,7 +68,7 @@ module _ {O : Type 0} {g : Ghosts O} where
   pub record IsAtStart {T : Type 0} (settings : Settings) (first : Secret) (outs : List O) (threads : Bool) (server : Server O T g) : Type 0 where
     pub settings_are : settings_in server ≡ settings
     pub first_is : first_in server ≡ first
-    pub no_events : events_in server ≡ []
+    pub none_happened : happenings_in server ≡ []
     pub none_counted : counts_in server ≡ no_counts
     pub none_published : published_in server ≡ []
     pub none_owing : owing_in server ≡ []

@@ -1,5 +1,5 @@
 -- What the devices of a serving relay answer, turn by turn.
-use Rattle.std.specs.Prelude.{◌≡◌, ℕ, ◌+◌, max, nat_le, Bool, true, false, List, [], ◌∷◌, length, Option, None, Some, if◌then◌else◌}
+use Rattle.std.specs.Prelude.{◌≡◌, ◌≢◌, ℕ, ◌+◌, max, nat_le, Bool, true, false, List, [], ◌∷◌, length, Option, None, Some, if◌then◌else◌}
 use Rattle.amt_ports.specs.declared.feed.FeedAnswer.{FeedAnswer}
 use Rattle.amt_ports.specs.declared.feed.FeedAnswer.TheVariants.{Nothing as NothingFed, Closed as FeedClosed}
 use Rattle.amt_ports.specs.declared.link.LinkAnswer.{LinkAnswer}
@@ -13,10 +13,10 @@ pub data Publishing : Type 0 where
   Refused : Publishing
   Done : Publishing
 
-abbrev pub is_done : Publishing → Bool
-is_done Ahead = false
-is_done Refused = false
-is_done Done = true
+abbrev pub is_refused : Publishing → Bool
+is_refused Ahead = false
+is_refused Refused = true
+is_refused Done = false
 
 -- The answers of one turn, in order: the clock's, the words of a new secret, the link's, and, after the
 -- publishing, the feed's.
@@ -36,7 +36,7 @@ pub record Progress : Type 0 where
 abbrev pub no_progress : Progress
 no_progress = record { latest = 0; renewed = None }
 
--- the turn's moment: the latest that the clock has given so far
+-- the turn's moment: the latest that the clock has given so far, also where memory refused its event
 abbrev pub moment_of_turn : ℕ → Turn → ℕ
 moment_of_turn latest turn = max latest turn.clock.answer
 
@@ -59,32 +59,31 @@ abbrev pub words_due : Bool → ℕ
 words_due false = 0
 words_due true = 4
 
--- The run goes on where something came and memory took its event, and ends where memory refused that.
-abbrev pub while_memory : {X : Type 0} → (X → Type 0) → X → X → AnswerKinds (Taken X)
-while_memory Came nothing closed = record {
-  Came = λ one. Came one.answer × (one.starved ≡ false);
-  Starves = λ one. Came one.answer × (one.starved ≡ true);
+-- The run goes on where something came, whether memory took its event or refused it: no answer ends it out of memory.
+abbrev pub while_open : {X : Type 0} → (X → Type 0) → X → X → AnswerKinds (Taken X)
+while_open Came nothing closed = record {
+  Came = λ one. Came one.answer;
+  Starves = λ one. ⊥;
   nothing = taken nothing;
   closed = taken closed;
 }
 
 -- the answers of the link, and those of the feed
 abbrev pub from_link : AnswerKinds (Taken LinkAnswer)
-from_link = while_memory IsDatagram NothingCame LinkClosed
+from_link = while_open IsDatagram NothingCame LinkClosed
 
 abbrev pub from_feed : AnswerKinds (Taken FeedAnswer)
-from_feed = while_memory IsPacket NothingFed FeedClosed
+from_feed = while_open IsPacket NothingFed FeedClosed
 
--- the moment was taken, and as many words were drawn as were due
+-- as many words were drawn as were due
 pub record HasBegun (rotate : ℕ) (progress : Progress) (turn : Turn) : Type 0 where
-  pub moment : turn.clock.starved ≡ false
   pub secret : length turn.drawn ≡ words_due (is_due rotate progress.renewed (moment_of_turn progress.latest turn))
 
--- the link was asked, and what was owed is published
+-- the link was asked, and the publishing was done or refused
 pub record HasHeard (rotate : ℕ) (progress : Progress) (turn : Turn) : Type 0 where
   pub begun : HasBegun rotate progress turn
   pub link : IsBurst from_link turn.heard
-  pub published : turn.publishing ≡ Done
+  pub tried : turn.publishing ≢ Ahead
 
 -- the turn is whole
 pub record IsWhole (rotate : ℕ) (progress : Progress) (turn : Turn) : Type 0 where

@@ -1,6 +1,6 @@
 //! What a running relay counts. It must not know where an event comes from.
 ghost use Rattle.std.specs.Prelude.{◌≡◌, ◌<◌, ◌^◌};
-ghost use Rattle.relay_serving.specs.Counting.{no_counts, with_outcome, with_packet};
+ghost use Rattle.relay_serving.specs.Counting.{no_counts, with_late, with_outcome, with_packet, with_starved};
 
 use relay_machine::{Event, Outcome};
 
@@ -16,6 +16,9 @@ pub struct Counts {
     /// Answers that the link sent, and that it didn't take.
     pub sent: u64,
     pub unsent: u64,
+    /// Events, and publishings, that memory refused.
+    pub starved: u64,
+    pub late: u64,
 }
 
 impl Counts {
@@ -30,6 +33,8 @@ impl Counts {
             torn: 0,
             sent: 0,
             unsent: 0,
+            starved: 0,
+            late: 0,
         }
     }
 
@@ -39,6 +44,22 @@ impl Counts {
         ensures { self.new ≡ with_packet self.old }
     {
         self.packets += 1;
+    }
+
+    /// Counts an event that memory refused.
+    pub(crate) fn count_starved(&mut self)
+        requires { self.old.starved < 2 ^ 62 }
+        ensures { self.new ≡ with_starved self.old }
+    {
+        self.starved += 1;
+    }
+
+    /// Counts a publishing that memory refused.
+    pub(crate) fn count_late(&mut self)
+        requires { self.old.late < 2 ^ 62 }
+        ensures { self.new ≡ with_late self.old }
+    {
+        self.late += 1;
     }
 
     /// Counts an event by what it came to.

@@ -1,40 +1,52 @@
-//! The events of a run so far. None of that is kept: it is for contracts alone.
+//! What has happened in a run so far. None of that is kept: it is for contracts alone.
 ghost use Rattle.std.specs.Prelude.{◌≡◌, [], ◌∷◌, ◌++◌};
 ghost use Rattle.relay_machine.specs.declared.event.Event.TheVariants.{Packet};
-ghost use Rattle.relay_serving.specs.Courses.{events_so_far};
+ghost use Rattle.relay_serving.specs.Courses.{happenings_so_far};
+ghost use Rattle.relay_serving.specs.Happenings.{Published, Took};
 
 use amt_values::Bytes;
 use relay_machine::Event;
 use std::snapshot::Snapshot;
 
-/// Events, the newest last.
+/// What happened, the newest last.
 #[derive(Drop)]
 pub enum Course {
     Start,
+    /// An event was taken.
     Then(Snapshot<Course>, Snapshot<Event>),
     /// A packet came, of which no event was made.
     Fed(Snapshot<Course>, Snapshot<Bytes>),
+    /// All that was owed is published.
+    Shown(Snapshot<Course>),
 }
 
 impl Course {
-    /// No event.
+    /// Nothing has happened.
     pub fn new() -> Course
-        ensures { events_so_far result ≡ [] }
+        ensures { happenings_so_far result ≡ [] }
     {
         Course::Start
     }
 
-    /// The events, and then this one.
+    /// The same, and then this event.
     pub fn then(&self, event: &Event) -> Course
-        ensures { events_so_far result ≡ events_so_far self.now ++ event.now ∷ [] }
+        ensures { happenings_so_far result ≡ happenings_so_far self.now ++ Took event.now ∷ [] }
     {
         Course::Then(Snapshot::of(self), Snapshot::of(event))
     }
 
-    /// The events, and then that this packet came.
+    /// The same, and then that this packet came.
     pub fn fed(&self, packet: &Bytes) -> Course
-        ensures { events_so_far result ≡ events_so_far self.now ++ Packet packet.now ∷ [] }
+        ensures { happenings_so_far result
+            ≡ happenings_so_far self.now ++ Took (Packet packet.now) ∷ [] }
     {
         Course::Fed(Snapshot::of(self), Snapshot::of(packet))
+    }
+
+    /// The same, and then that all that was owed is published.
+    pub fn shown(&self) -> Course
+        ensures { happenings_so_far result ≡ happenings_so_far self.now ++ Published ∷ [] }
+    {
+        Course::Shown(Snapshot::of(self))
     }
 }

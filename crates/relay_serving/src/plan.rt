@@ -22,9 +22,9 @@ pub struct ServeReport {
     pub end: End,
     /// The turns that were done whole.
     pub turns: u64,
-    /// The datagrams that were taken from the link, without one whose event memory refused.
+    /// The datagrams that were taken from the link, without those whose event memory refused.
     pub datagrams: u64,
-    /// The packets that were taken from the feed, without one whose event memory refused.
+    /// The packets that were taken from the feed, without those whose event memory refused.
     pub packets: u64,
     /// The Updates that were accepted (RFC 7450, section 5.1.5).
     pub updated: u64,
@@ -36,9 +36,9 @@ pub struct ServeReport {
     pub unsent: u64,
     /// The packets that the turns' own thread copied: all of them where there are no workers, and else none.
     pub inline: u64,
-    /// The events that memory refused in a run that went on. None does, so that this is 0.
+    /// The moments, datagrams and packets that memory refused. They changed nothing.
     pub starved: u64,
-    /// The publishings that memory refused in a run that went on. None does, so that this is 0.
+    /// The publishings that memory refused. What they left owed goes first at the next one.
     pub late: u64,
     /// The entries that weren't published at the end.
     pub owed: u64,

@@ -7,7 +7,7 @@ ghost use Rattle.relay_machine.specs.Answers.{RelayAt, settings_of};
 ghost use Rattle.relay_machine.specs.Published.{published_log};
 ghost use Rattle.relay_machine.specs.Settings.{AreLawfulSettings};
 ghost use Rattle.relay_serving.specs.Counting.{IsCounted};
-ghost use Rattle.relay_serving.specs.Courses.{events_so_far};
+ghost use Rattle.relay_serving.specs.Courses.{events_so_far, happenings_so_far, published_events_so_far};
 ghost use Rattle.relay_serving.specs.GivenOut.{AreGivenOut, AreOfPublisher, terms_by};
 ghost use Rattle.replication_workers.specs.Dispatchers.{slots_of};
 
@@ -24,6 +24,7 @@ mod ending;
 mod entering;
 mod feeding;
 mod hearing;
+mod publishing;
 mod starting;
 mod turning;
 
@@ -42,8 +43,10 @@ pub(crate) struct Server<O: OutLink, T> {
     ghost lawful: { ∥ AreLawfulSettings (settings_of relay) ∥₁ },
     ghost log: { published publisher ++ owing publisher
         ≡ published_log (settings_of relay) first.value (events_so_far course) },
+    ghost shown: { published publisher
+        ≡ published_log (settings_of relay) first.value (published_events_so_far course) },
     ghost terms: { reading_terms publisher ≡ terms_by (settings_of relay) },
-    ghost given_out: { ∥ AreGivenOut (settings_of relay) first.value (events_so_far course)
+    ghost given_out: { ∥ AreGivenOut (settings_of relay) first.value (happenings_so_far course)
         (slots_of dispatcher) ∥₁ },
     ghost publishers: { AreOfPublisher (book_of publisher) (slots_of dispatcher) },
     ghost counted: { IsCounted (settings_of relay) first.value (events_so_far course) counts },

@@ -1,10 +1,11 @@
 //! How a running relay takes an event. It must not know where the event comes from.
-ghost use Rattle.std.specs.Prelude.{◌≡◌, ◌<◌, ◌^◌, [], ◌∷◌, length, IfOk, OnOk, OnErr, false};
+ghost use Rattle.std.specs.Prelude.{◌≡◌, ◌≤◌, ◌<◌, ◌+◌, ◌^◌, [], ◌∷◌, IfOk, OnOk, OnErr, false};
 ghost use Rattle.relay_machine.specs.Answers.{outcome_of, sends_of};
 ghost use Rattle.relay_machine.specs.EventSize.{IsEvent};
-ghost use Rattle.relay_machine.specs.declared.event.Event.TheVariants.{Moment as MomentEvent, Rotate};
+ghost use Rattle.relay_machine.specs.declared.event.Event.TheVariants.{Rotate};
 ghost use Rattle.relay_serving.specs.Counting.{is_packet, with_outcome};
-ghost use Rattle.relay_serving.specs.Servers.{HasEvents, IsAsBefore, counts_in, events_in, first_in, now_in, owing_in, published_in, settings_in, slots_in};
+ghost use Rattle.relay_serving.specs.Servers.{HasEvents, IsAsBefore, IsStarved, counts_in, events_in, first_in, settings_in, tally_in};
+ghost use Rattle.relay_serving.specs.Stages.{PassesMoment};
 
 use super::Server;
 use amt_ports::OutLink;
@@ -14,25 +15,17 @@ use response_mac::Secret;
 use std::alloc::{AllocError, Global};
 
 impl<O: OutLink + Drop, T> Server<O, T> {
-    /// How late it is.
-    pub(crate) fn now(&self) -> Moment
-        ensures { result ≡ now_in self.now }
-    {
-        self.relay.now()
-    }
-
     // Takes an event that isn't a packet, and answers what is to be sent. What the event enters in the log
     // is owed then. Where memory ran out nothing happened.
     pub(super) fn enter(&mut self, alloc: Global, event: &Event) -> Result<Sends, AllocError>
         requires event { IsEvent event.now }
         requires entered { is_packet event.now ≡ false }
-        requires few { length (events_in self.old) < 2 ^ 50 }
+        requires few { tally_in self.old < 2 ^ 50 }
         ensures sends { IfOk result (λ sends. sends
             ≡ sends_of (settings_in self.old) (first_in self.old) (events_in self.old) event.now) }
         ensures events { OnOk result (HasEvents self.old self.new (event.now ∷ [])) }
         ensures counts { OnOk result (counts_in self.new ≡ with_outcome (counts_in self.old) event.now
             (outcome_of (settings_in self.old) (first_in self.old) (events_in self.old) event.now)) }
-        ensures published { published_in self.new ≡ published_in self.old }
         ensures err { OnErr result (IsAsBefore self.old self.new) }
     {
         self.publisher.ready()?;
@@ -50,24 +43,30 @@ impl<O: OutLink + Drop, T> Server<O, T> {
         Ok(sends)
     }
 
-    /// It has become this late.
-    pub(crate) fn pass_moment(&mut self, alloc: Global, at: Moment) -> Result<(), AllocError>
-        requires few { length (events_in self.old) < 2 ^ 50 }
-        ensures events { OnOk result (HasEvents self.old self.new (MomentEvent at ∷ [])) }
-        ensures counts { counts_in self.new ≡ counts_in self.old }
-        ensures published { published_in self.new ≡ published_in self.old }
-        ensures err { OnErr result (IsAsBefore self.old self.new) }
+    /// It has become this late. An event that memory refuses is counted, and nothing else happens then.
+    pub(crate) fn pass_moment(&mut self, alloc: Global, at: Moment)
+        requires few { tally_in self.old < 2 ^ 50 }
+        ensures passes { PassesMoment at self.old self.new }
+        ensures few { tally_in self.new ≤ tally_in self.old + 1 }
     {
-        // Nothing is sent then.
-        let _sends = self.enter(alloc, &Event::Moment(at))?;
-        Ok(())
+        match self.enter(alloc, &Event::Moment(at)) {
+            Ok(_sends) => {} // Nothing is sent then.
+            Err(_) => self.starve(),
+        }
+    }
+
+    /// Counts an event that memory refused.
+    pub(super) fn starve(&mut self)
+        requires few { tally_in self.old < 2 ^ 50 }
+        ensures { IsStarved self.old self.new }
+    {
+        self.counts.count_starved();
     }
 
     /// This secret is the current one from now on. It takes no memory.
     pub(crate) fn rotate(&mut self, alloc: Global, secret: Secret)
         ensures events { HasEvents self.old self.new (Rotate secret ∷ []) }
         ensures counts { counts_in self.new ≡ counts_in self.old }
-        ensures published { published_in self.new ≡ published_in self.old }
     {
         let event = Event::Rotate(secret);
         match self.relay.step(alloc, &event) {

@@ -1,10 +1,11 @@
 //! How a running relay takes packets from its feed. It must not know turns.
-ghost use Rattle.std.specs.Prelude.{◌≡◌, ◌≤◌, ◌<◌, ◌+◌, ◌^◌, [], ◌∷◌, length, IsErrOf, OnOk, OnErr, MatchResult};
+ghost use Rattle.std.specs.Prelude.{◌≡◌, ◌≤◌, ◌<◌, ◌+◌, ◌^◌, [], ◌∷◌, length, IsErrOf, OnOk, OnErr};
 ghost use Rattle.relay_machine.specs.declared.event.Event.TheVariants.{Packet};
 ghost use Rattle.serving_turns.specs.Bursts.{AreAsked, IsNext};
 ghost use Rattle.serving_turns.specs.Causes.{IsCausedBy};
 ghost use Rattle.serving_turns.specs.Devices.{feed_seen};
-ghost use Rattle.relay_serving.specs.Servers.{FeedsSo, HasEvents, IsAsBefore, IsSameRun, counts_in, events_in, owing_in, published_in};
+ghost use Rattle.relay_serving.specs.Counting.{with_packet};
+ghost use Rattle.relay_serving.specs.Servers.{FeedsSo, HasEvents, IsAsBefore, counts_in, tally_in};
 ghost use Rattle.relay_serving.specs.Turns.{from_feed};
 
 use super::Server;
@@ -16,19 +17,6 @@ use std::alloc::{AllocError, Global};
 use std::sync::Wait;
 
 impl<O: OutLink + Drop, T> Server<O, T> {
-    /// Publishes what is owed. Where memory ran out it is owed still, and nothing else happened.
-    pub(crate) fn publish<R: Wait>(&mut self, rt: &R) -> Result<(), AllocError>
-        ensures same { IsSameRun self.old self.new }
-        ensures events { events_in self.new ≡ events_in self.old }
-        ensures counts { counts_in self.new ≡ counts_in self.old }
-        ensures owing { MatchResult result (λ _. owing_in self.new ≡ []) (λ _. (published_in self.new ≡ published_in self.old) × (owing_in self.new ≡ owing_in self.old)) }
-    {
-        if self.publisher.owed() == 0 {
-            return Ok(());
-        }
-        self.publisher.publish(rt)
-    }
-
     // Gives the packet to the slot of its source and group. Where memory ran out nothing happened.
     fn feed_packet<R: Wait>(
         &mut self,
@@ -38,13 +26,8 @@ impl<O: OutLink + Drop, T> Server<O, T> {
     ) -> Result<(), AllocError>
         requires short { length packet.now ≤ 65535 }
         requires few { (counts_in self.old).packets < 2 ^ 46 }
-        requires published { owing_in self.old ≡ [] }
         ensures events { OnOk result (HasEvents self.old self.new (Packet packet.now ∷ [])) }
-        ensures published { published_in self.new ≡ published_in self.old }
-        ensures owing { owing_in self.new ≡ [] }
-        ensures counted { OnOk result ((counts_in self.new).packets ≡ (counts_in self.old).packets + 1) }
-        ensures sent { ((counts_in self.new).sent ≡ (counts_in self.old).sent)
-            × ((counts_in self.new).unsent ≡ (counts_in self.old).unsent) }
+        ensures counts { OnOk result (counts_in self.new ≡ with_packet (counts_in self.old)) }
         ensures err { OnErr result (IsAsBefore self.old self.new) }
     {
         let packet = Bytes::copied(alloc, packet)?;
@@ -69,12 +52,11 @@ impl<O: OutLink + Drop, T> Server<O, T> {
     ) -> Result<Asked, End>
         requires room { 65536 ≤ length buf.old }
         requires few { (counts_in self.old).packets < 2 ^ 46 }
-        requires published { owing_in self.old ≡ [] }
+        requires tally { tally_in self.old < 2 ^ 50 }
         ensures feeds { FeedsSo self.old self.new (feed_seen (F.coming feed.old) (F.faults feed.old))
             (feed_seen (F.coming feed.new) (F.faults feed.new)) (IsNext from_feed result) }
         ensures counted { (counts_in self.new).packets ≤ (counts_in self.old).packets + 1 }
-        ensures few { length (events_in self.new) ≤ length (events_in self.old) + 1 }
-        ensures owing { owing_in self.new ≡ [] }
+        ensures few { tally_in self.new ≤ tally_in self.old + 1 }
         ensures of_feed { IsErrOf result End.LinkFault → ⊥ }
         ensures cause { IsCausedBy result End.FeedFault (F.faults feed.old) (F.faults feed.new) }
         ensures buffer { length buf.new ≡ length buf.old }
@@ -82,7 +64,10 @@ impl<O: OutLink + Drop, T> Server<O, T> {
         match feed.recv(buf, WAIT_MS) {
             Ok(FeedGot::Packet(octets)) => match self.feed_packet(rt, alloc, &buf[..octets]) {
                 Ok(()) => Ok(Asked::Something),
-                Err(_) => Err(End::Memory),
+                Err(_) => {
+                    self.starve();
+                    Ok(Asked::Something)
+                }
             },
             Ok(FeedGot::Nothing) => Ok(Asked::Nothing),
             Ok(FeedGot::Closed) => Err(End::Closed),
@@ -100,12 +85,11 @@ impl<O: OutLink + Drop, T> Server<O, T> {
     ) -> Result<(), End>
         requires room { 65536 ≤ length buf.old }
         requires few { (counts_in self.old).packets + 64 ≤ 2 ^ 46 }
-        requires published { owing_in self.old ≡ [] }
+        requires tally { tally_in self.old + 64 < 2 ^ 50 }
         ensures feeds { FeedsSo self.old self.new (feed_seen (F.coming feed.old) (F.faults feed.old))
             (feed_seen (F.coming feed.new) (F.faults feed.new)) (AreAsked from_feed result) }
         ensures counted { (counts_in self.new).packets ≤ (counts_in self.old).packets + 64 }
-        ensures few { length (events_in self.new) ≤ length (events_in self.old) + 64 }
-        ensures owing { owing_in self.new ≡ [] }
+        ensures few { tally_in self.new ≤ tally_in self.old + 64 }
         ensures of_feed { IsErrOf result End.LinkFault → ⊥ }
         ensures cause { IsCausedBy result End.FeedFault (F.faults feed.old) (F.faults feed.new) }
         ensures buffer { length buf.new ≡ length buf.old }

@@ -6,8 +6,8 @@ ghost use Rattle.serving_turns.specs.Bursts.{AreAsked, IsNext};
 ghost use Rattle.serving_turns.specs.Causes.{IsCausedBy};
 ghost use Rattle.serving_turns.specs.Devices.{link_seen};
 ghost use Rattle.replication_workers.specs.Replication.{to_peer};
-ghost use Rattle.relay_serving.specs.Counting.{HasAnswered};
-ghost use Rattle.relay_serving.specs.Servers.{HasEvents, HearsSo, IsAsBefore, counts_in, events_in, first_in, published_in, settings_in};
+ghost use Rattle.relay_serving.specs.Counting.{CountsAlike, HasAnswered, HasRefused};
+ghost use Rattle.relay_serving.specs.Servers.{HasEvents, HearsSo, IsAsBefore, counts_in, events_in, first_in, settings_in, tally_in};
 ghost use Rattle.relay_serving.specs.Turns.{from_link};
 
 use super::Server;
@@ -28,8 +28,7 @@ fn send_answers<L: Link>(link: &mut L, sends: &[OneSend], counts: &mut Counts)
         counts.old counts.new (map to_peer sends.now) }
     ensures coming { L.coming link.new ≡ L.coming link.old }
     ensures faults { L.receive_faults link.new ≡ L.receive_faults link.old }
-    ensures others { (counts.new.datagrams ≡ counts.old.datagrams) × (counts.new.packets ≡ counts.old.packets)
-        × (counts.new.updated ≡ counts.old.updated) × (counts.new.torn ≡ counts.old.torn) }
+    ensures others { CountsAlike counts.old counts.new }
 {
     for send in sends {
         match link.send(&send.to.peer(), send.bytes.as_slice()) {
@@ -49,9 +48,9 @@ impl<O: OutLink + Drop, T> Server<O, T> {
         bytes: &[u8],
     ) -> Result<(), AllocError>
         requires short { length bytes.now ≤ 65535 }
-        requires few { length (events_in self.old) < 2 ^ 50 }
+        requires few { tally_in self.old < 2 ^ 50 }
         ensures events { OnOk result (HasEvents self.old self.new (Datagram bytes.now from ∷ [])) }
-        ensures published { published_in self.new ≡ published_in self.old }
+        ensures refused { OnOk result (HasRefused (counts_in self.old) (counts_in self.new) 0 0) }
         ensures answered { OnOk result (HasAnswered
             (link_seen (L.coming link.old) (L.tried link.old) (L.receive_faults link.old) (L.send_faults link.old))
             (link_seen (L.coming link.new) (L.tried link.new) (L.receive_faults link.new) (L.send_faults link.new))
@@ -79,12 +78,12 @@ impl<O: OutLink + Drop, T> Server<O, T> {
         buf: &mut [u8],
     ) -> Result<Asked, End>
         requires room { 65536 ≤ length buf.old }
-        requires few { length (events_in self.old) < 2 ^ 50 }
+        requires few { tally_in self.old < 2 ^ 50 }
         ensures hears { HearsSo self.old self.new
             (link_seen (L.coming link.old) (L.tried link.old) (L.receive_faults link.old) (L.send_faults link.old))
             (link_seen (L.coming link.new) (L.tried link.new) (L.receive_faults link.new) (L.send_faults link.new))
             (IsNext from_link result) }
-        ensures few { length (events_in self.new) ≤ length (events_in self.old) + 1 }
+        ensures few { tally_in self.new ≤ tally_in self.old + 1 }
         ensures of_link { IsErrOf result End.FeedFault → ⊥ }
         ensures cause { IsCausedBy result End.LinkFault (L.receive_faults link.old) (L.receive_faults link.new) }
         ensures buffer { length buf.new ≡ length buf.old }
@@ -93,7 +92,10 @@ impl<O: OutLink + Drop, T> Server<O, T> {
             Ok(Got::Datagram(from, octets)) => {
                 match self.hear_datagram(alloc, link, from, &buf[..octets]) {
                     Ok(()) => Ok(Asked::Something),
-                    Err(_) => Err(End::Memory),
+                    Err(_) => {
+                        self.starve();
+                        Ok(Asked::Something)
+                    }
                 }
             }
             Ok(Got::Nothing) => Ok(Asked::Nothing),
@@ -110,12 +112,12 @@ impl<O: OutLink + Drop, T> Server<O, T> {
         buf: &mut [u8],
     ) -> Result<(), End>
         requires room { 65536 ≤ length buf.old }
-        requires few { length (events_in self.old) + 64 < 2 ^ 50 }
+        requires few { tally_in self.old + 64 < 2 ^ 50 }
         ensures hears { HearsSo self.old self.new
             (link_seen (L.coming link.old) (L.tried link.old) (L.receive_faults link.old) (L.send_faults link.old))
             (link_seen (L.coming link.new) (L.tried link.new) (L.receive_faults link.new) (L.send_faults link.new))
             (AreAsked from_link result) }
-        ensures few { length (events_in self.new) ≤ length (events_in self.old) + 64 }
+        ensures few { tally_in self.new ≤ tally_in self.old + 64 }
         ensures of_link { IsErrOf result End.FeedFault → ⊥ }
         ensures cause { IsCausedBy result End.LinkFault (L.receive_faults link.old) (L.receive_faults link.new) }
         ensures buffer { length buf.new ≡ length buf.old }

@@ -1,11 +1,12 @@
 //! One turn of a running relay, and all of a run. It must not know how a relay is started or ended.
-ghost use Rattle.std.specs.Prelude.{◌≡◌, ◌≤◌, ◌<◌, ◌+◌, ◌*◌, ◌^◌, [], length, None};
+ghost use Rattle.std.specs.Prelude.{◌≡◌, ◌≤◌, ◌<◌, ◌+◌, ◌^◌, [], length, None};
 ghost use Rattle.serving_turns.specs.Causes.{IsCausedBy};
 ghost use Rattle.serving_turns.specs.Devices.{feed_seen, link_seen, words_seen};
+ghost use Rattle.relay_serving.specs.Counting.{no_counts};
 ghost use Rattle.relay_serving.specs.Devices.{devices_seen};
 ghost use Rattle.relay_serving.specs.Plans.{IsLawfulPlan};
-ghost use Rattle.relay_serving.specs.Servers.{IsAsBefore, counts_in, events_in, now_in, owing_in};
-ghost use Rattle.relay_serving.specs.Stages.{BeginsSo};
+ghost use Rattle.relay_serving.specs.Servers.{counts_in, happenings_in, tally_in};
+ghost use Rattle.relay_serving.specs.Stages.{BeginsSo, progress_in};
 ghost use Rattle.relay_serving.specs.Turning.{AreCausesOf, EndsIn, RunsSo, TurnsSo};
 
 use super::Server;
@@ -27,18 +28,15 @@ impl<O: OutLink + Drop, T> Server<O, T> {
         clock: &mut C,
         words: &mut W,
     ) -> Result<(), End>
-        requires few { length (events_in self.old) + 2 < 2 ^ 50 }
-        ensures begins { BeginsSo rotate_ms renewal.old.renewed renewal.new.renewed self.old self.new
+        requires few { tally_in self.old + 2 < 2 ^ 50 }
+        ensures begins { BeginsSo rotate_ms (progress_in renewal.old) (progress_in renewal.new) self.old self.new
             (C.given clock.old) (C.given clock.new) (W.given words.old) (W.given words.new) result }
         ensures cause { IsCausedBy result End.WordsFault (W.faults words.old) (W.faults words.new) }
-        ensures few { length (events_in self.new) ≤ length (events_in self.old) + 2 }
-        ensures counts { counts_in self.new ≡ counts_in self.old }
+        ensures few { tally_in self.new ≤ tally_in self.old + 2 }
     {
-        let now = self.now().later(&clock.now());
-        if self.pass_moment(alloc, now).is_err() {
-            return Err(End::Memory);
-        }
-        if renewal.pass(rotate_ms, now) {
+        renewal.reach(clock.now());
+        self.pass_moment(alloc, renewal.latest);
+        if renewal.pass(rotate_ms) {
             match draw_secret(words) {
                 Ok(secret) => self.rotate(alloc, secret),
                 Err(_) => return Err(End::WordsFault),
@@ -62,9 +60,9 @@ impl<O: OutLink + Drop, T> Server<O, T> {
         buf: &mut [u8],
     ) -> Result<(), End>
         requires room { 65536 ≤ length buf.old }
-        requires few { length (events_in self.old) + 130 < 2 ^ 50 }
+        requires few { tally_in self.old + 131 < 2 ^ 50 }
         requires few_packets { (counts_in self.old).packets + 64 ≤ 2 ^ 46 }
-        ensures turns { TurnsSo rotate_ms renewal.old.renewed renewal.new.renewed self.old self.new
+        ensures turns { TurnsSo rotate_ms (progress_in renewal.old) (progress_in renewal.new) self.old self.new
             (devices_seen (C.given clock.old) (words_seen (W.given words.old) (W.faults words.old))
             (link_seen (L.coming link.old) (L.tried link.old) (L.receive_faults link.old) (L.send_faults link.old))
             (feed_seen (F.coming feed.old) (F.faults feed.old)) None 0)
@@ -79,14 +77,12 @@ impl<O: OutLink + Drop, T> Server<O, T> {
             (link_seen (L.coming link.new) (L.tried link.new) (L.receive_faults link.new) (L.send_faults link.new))
             (feed_seen (F.coming feed.new) (F.faults feed.new)) None 0) }
         ensures buffer { length buf.new ≡ length buf.old }
-        ensures few { length (events_in self.new) ≤ length (events_in self.old) + 130 }
+        ensures few { tally_in self.new ≤ tally_in self.old + 131 }
         ensures few_packets { (counts_in self.new).packets ≤ (counts_in self.old).packets + 64 }
     {
         self.begin_turn(alloc, rotate_ms, renewal, clock, words)?;
         self.hear(alloc, link, buf)?;
-        if self.publish(rt).is_err() {
-            return Err(End::Memory); // What is owed is owed still.
-        }
+        self.publish(rt);
         self.feed(rt, alloc, feed, buf)
     }
 
@@ -105,8 +101,9 @@ impl<O: OutLink + Drop, T> Server<O, T> {
     ) -> (End, u64)
         requires plan { IsLawfulPlan plan.now }
         requires room { 65536 ≤ length buf.old }
-        requires fresh { events_in self.old ≡ [] }
-        ensures few { length (events_in self.new) < 2 ^ 50 }
+        requires fresh { happenings_in self.old ≡ [] }
+        requires uncounted { counts_in self.old ≡ no_counts }
+        ensures few { tally_in self.new < 2 ^ 50 }
         ensures runs { RunsSo plan.now self.old self.new
             (devices_seen (C.given clock.old) (words_seen (W.given words.old) (W.faults words.old))
             (link_seen (L.coming link.old) (L.tried link.old) (L.receive_faults link.old) (L.send_faults link.old))

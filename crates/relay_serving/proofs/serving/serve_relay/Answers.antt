@@ -35,11 +35,11 @@ returns-in-Err g c =
     }
 
 pub finish-ending-requires-clause-run : goal.finish-ending-requires-clause-run
-finish-ending-requires-clause-run g c = c.run-end.ensures.runs.goes.events.same.same_tasks g.P.Spawner.task_of c.in-Ok-start.ensures.run
+finish-ending-requires-clause-run g c = c.run-end.ensures.runs.goes.happens.same.same_tasks g.P.Spawner.task_of c.in-Ok-start.ensures.run
 
 pub finish-ending-requires-clause-room : goal.finish-ending-requires-clause-room
 finish-ending-requires-clause-room g c =
-    let same = ap length (c.run-end.ensures.runs.goes.events.same.same_starts) in
+    let same = ap length (c.run-end.ensures.runs.goes.happens.same.same_starts) in
     let were = ap length c.in-Ok-start.ensures.started.outs_are in
     let now = length-map (slots_in c.run-end.new.self) (λ slot. slot.first) in
     let outs = length-map (starts_in (slots_in c.in-Ok-start.server)) out_of in (

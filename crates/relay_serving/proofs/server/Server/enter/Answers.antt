@@ -8,11 +8,13 @@ use Rattle.relay_machine.specs.Answers.{settings_of}
 use Rattle.relay_machine.specs.Settings.{AreLawfulSettings}
 use Rattle.relay_machine.specs.declared.settings.Settings.{Settings}
 use Rattle.relay_serving.specs.Counting.{with_outcome}
-use Rattle.relay_serving.specs.Courses.{events_so_far}
+use Rattle.relay_serving.specs.Courses.{events_so_far, happenings_so_far}
 use Rattle.relay_serving.specs.GivenOut.{AreOfPublisher, terms_by}
 use Rattle.relay_serving.specs.Servers.{counts_in}
 use Rattle.relay_serving.proofs.Counting.{IsCounted-then, torn-few, updated-few}
-use Rattle.relay_serving.proofs.Entering.{at-next, entry-fits, given_out-other, log-next, published_log-few}
+use Rattle.relay_serving.specs.Happenings.{Took}
+use Rattle.relay_serving.proofs.Entering.{at-next, entry-fits, given_out-other, log-next, none_due, published_log-few, shown-next}
+use Rattle.relay_serving.proofs.Happenings.{events-next}
 use Rattle.relay_serving.proofs.server.Server.enter.Goals.{in-Some, in-None}
 use Rattle.relay_serving.proofs.server.Server.enter.Goals as goal
 
@@ -52,9 +54,11 @@ invariant_of-self-in-Some g c =
     let settings = settings_of server.relay in
     let first = server.first.value in
     let events = events_so_far server.course in
+    let past = happenings_so_far server.course in
     let event = c.args.event.now in
     let same = c.step.ensures.settings in
-    let next = c.then.ensures in
+    let happened = c.then.ensures in
+    let next = events-next past (happenings_so_far c.then.result) event happened in
     let shown = c.ready.ensures.logs.same_published in
     let owed = c.ready.ensures.logs.same_owing in
     let publisher = c.ready.new.self in
@@ -64,8 +68,11 @@ invariant_of-self-in-Some g c =
       log = log-next settings (settings_of c.step.new.self) first events (events_so_far c.then.result) event (published publisher ++ owing publisher) _ (Some c.in-Some.change) same next change
           ((λ i. c.take.ensures.published i ++ c.take.ensures.owing i) ∙ sym (append_assoc (published publisher) (owing publisher) (c.in-Some.change ∷ [])))
           ((λ i. shown i ++ owed i) ∙ server.log);
+      shown = shown-next settings (settings_of c.step.new.self) first past (happenings_so_far c.then.result) event (published server.publisher) (published c.take.new.self) same happened
+          (c.take.ensures.published ∙ shown) server.shown;
       terms = c.take.ensures.same.terms ∙ c.ready.ensures.same.terms ∙ server.terms ∙ ap terms_by (sym same);
-      given_out = given_out-other settings (settings_of c.step.new.self) first events (events_so_far c.then.result) event (slots_of server.dispatcher) same next c.requires.entered server.given_out;
+      given_out = given_out-other settings (settings_of c.step.new.self) first past (happenings_so_far c.then.result) (Took event) (slots_of server.dispatcher) same happened
+          (none_due settings first past event c.requires.entered) server.given_out;
       publishers = subst (λ (book : Book). AreOfPublisher book (slots_of server.dispatcher)) (sym (c.take.ensures.same.book ∙ c.ready.ensures.same.book)) server.publishers;
       counted = IsCounted-then settings (settings_of c.step.new.self) first events (events_so_far c.then.result) event c.in_ok-outcome.field-0.outcome server.counts c.count.new.self same next
           (c.in_ok-outcome.ensures.outcome settings first events server.at) c.count.ensures server.counted;
@@ -77,9 +84,11 @@ invariant_of-self-in-None g c =
     let settings = settings_of server.relay in
     let first = server.first.value in
     let events = events_so_far server.course in
+    let past = happenings_so_far server.course in
     let event = c.args.event.now in
     let same = c.step.ensures.settings in
-    let next = c.then.ensures in
+    let happened = c.then.ensures in
+    let next = events-next past (happenings_so_far c.then.result) event happened in
     let shown = c.ready.ensures.logs.same_published in
     let owed = c.ready.ensures.logs.same_owing in
     let publisher = c.ready.new.self in
@@ -88,8 +97,10 @@ invariant_of-self-in-None g c =
       lawful = subst (λ (known : Settings). ∥ AreLawfulSettings known ∥₁) (sym same) server.lawful;
       log = log-next settings (settings_of c.step.new.self) first events (events_so_far c.then.result) event (published publisher ++ owing publisher) _ None same next change
           refl ((λ i. shown i ++ owed i) ∙ server.log);
+      shown = shown-next settings (settings_of c.step.new.self) first past (happenings_so_far c.then.result) event (published server.publisher) (published publisher) same happened shown server.shown;
       terms = c.ready.ensures.same.terms ∙ server.terms ∙ ap terms_by (sym same);
-      given_out = given_out-other settings (settings_of c.step.new.self) first events (events_so_far c.then.result) event (slots_of server.dispatcher) same next c.requires.entered server.given_out;
+      given_out = given_out-other settings (settings_of c.step.new.self) first past (happenings_so_far c.then.result) (Took event) (slots_of server.dispatcher) same happened
+          (none_due settings first past event c.requires.entered) server.given_out;
       publishers = subst (λ (book : Book). AreOfPublisher book (slots_of server.dispatcher)) (sym c.ready.ensures.same.book) server.publishers;
       counted = IsCounted-then settings (settings_of c.step.new.self) first events (events_so_far c.then.result) event c.in_ok-outcome.field-0.outcome server.counts c.count.new.self same next
           (c.in_ok-outcome.ensures.outcome settings first events server.at) c.count.ensures server.counted;
@@ -104,3 +115,7 @@ returns-clause-counts g c =
       | in-Some w ↦ ap counts_in w.self-is ∙ counted
       | in-None w ↦ ap counts_in w.self-is ∙ counted
     ]
+
+pub returns-clause-sends : goal.returns-clause-sends
+returns-clause-sends g c =
+    let server = c.args.self.now in c.in_ok-outcome.ensures.sends (settings_of server.relay) server.first.value (events_so_far server.course) server.at

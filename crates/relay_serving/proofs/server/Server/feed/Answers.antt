@@ -15,7 +15,6 @@ loop-init g c =
       faults = refl;
       counted = omega arith;
       few = omega arith;
-      owing = c.requires.published;
       buffer = refl;
     }
 
@@ -30,9 +29,11 @@ feed_next-requires-clause-few g c =
     let few = c.requires.few in
     let short = c.loop-test.true in omega (arith, sofar, few, short)
 
-pub feed_next-requires-clause-published : goal.feed_next-requires-clause-published
-feed_next-requires-clause-published g c =
-    c.loop.invariant.owing
+pub feed_next-requires-clause-tally : goal.feed_next-requires-clause-tally
+feed_next-requires-clause-tally g c =
+    let sofar = c.loop.invariant.few in
+    let few = c.requires.tally in
+    let short = c.loop-test.true in omega (arith, sofar, few, short)
 
 pub returns-in_err-feed_next-clause-feeds : goal.returns-in_err-feed_next-clause-feeds
 returns-in_err-feed_next-clause-feeds g c =
@@ -51,10 +52,6 @@ returns-in_err-feed_next-clause-few g c =
     let sofar = c.loop.invariant.few in
     let next = c.feed_next.ensures.few in
     let short = c.loop-test.true in omega (arith, sofar, next, short)
-
-pub returns-in_err-feed_next-clause-owing : goal.returns-in_err-feed_next-clause-owing
-returns-in_err-feed_next-clause-owing g c =
-    c.feed_next.ensures.owing
 
 pub returns-in_err-feed_next-clause-of_feed : goal.returns-in_err-feed_next-clause-of_feed
 returns-in_err-feed_next-clause-of_feed g c =
@@ -88,10 +85,6 @@ returns-in-Nothing-clause-few g c =
     let next = c.feed_next.ensures.few in
     let short = c.loop-test.true in omega (arith, sofar, next, short)
 
-pub returns-in-Nothing-clause-owing : goal.returns-in-Nothing-clause-owing
-returns-in-Nothing-clause-owing g c =
-    c.feed_next.ensures.owing
-
 pub returns-in-Nothing-clause-of_feed : goal.returns-in-Nothing-clause-of_feed
 returns-in-Nothing-clause-of_feed g c =
     λ is. cc
@@ -116,7 +109,6 @@ loop-preserved g c =
       faults = c.in_ok-feed_next.ensures.cause.calm (λ is. cc) ∙ c.loop.invariant.faults;
       counted = omega (arith, sofar_counted, next_counted);
       few = omega (arith, sofar_few, next_few);
-      owing = c.feed_next.ensures.owing;
       buffer = c.feed_next.ensures.buffer ∙ c.loop.invariant.buffer;
     }
 
@@ -138,10 +130,6 @@ returns-clause-few g c =
     let over = c.loop-test.false in
     let within = c.loop.auto.counter-end in
     let sofar = c.loop.invariant.few in omega (arith, over, within, sofar)
-
-pub returns-clause-owing : goal.returns-clause-owing
-returns-clause-owing g c =
-    c.loop.invariant.owing
 
 pub returns-clause-of_feed : goal.returns-clause-of_feed
 returns-clause-of_feed g c =

@@ -1,8 +1,8 @@
 -- Each asking so far found a packet.
-use Rattle.std.proofs.Common.{◌≡◌, ◌≤◌, ◌+◌, [], length}
+use Rattle.std.proofs.Common.{◌≡◌, ◌≤◌, ◌+◌, length}
 use Rattle.serving_turns.specs.Devices.{feed_seen}
 use Rattle.serving_turns.proofs.SoFar.{SoFar}
-use Rattle.relay_serving.specs.Servers.{FeedsBy, counts_in, events_in, owing_in}
+use Rattle.relay_serving.specs.Servers.{FeedsBy, counts_in, tally_in}
 use Rattle.relay_serving.specs.Turns.{from_feed}
 use Rattle.relay_serving.proofs.server.Server.feed.Given as goal
 
@@ -13,7 +13,6 @@ invariant-loop g l = record {
       (l.self, feed_seen (g.F.Feed.coming l.feed) (g.F.Feed.faults l.feed)) l.counter;
   faults : g.F.Feed.faults l.feed ≡ g.F.Feed.faults l.initial.feed;
   counted : (counts_in l.self).packets ≤ (counts_in l.initial.self).packets + l.counter;
-  few : length (events_in l.self) ≤ length (events_in l.initial.self) + l.counter;
-  owing : owing_in l.self ≡ [];
+  few : tally_in l.self ≤ tally_in l.initial.self + l.counter;
   buffer : length l.buf ≡ length l.initial.buf;
 }

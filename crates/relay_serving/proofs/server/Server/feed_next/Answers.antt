@@ -1,5 +1,5 @@
-use Rattle.std.proofs.Common.{[], ◌∷◌, length, take, refl, ap, subst, arith}
-use Rattle.std.proofs.lemmas.List.{length-take, length_push}
+use Rattle.std.proofs.Common.{[], ◌∷◌, take, refl, ap, subst, arith}
+use Rattle.std.proofs.lemmas.List.{length-take}
 use Rattle.amt_ports.specs.Arrivals.{IsShortFeedGot, feed_answer}
 use Rattle.amt_ports.specs.Told.{Answers}
 use Rattle.amt_ports.specs.declared.feed.FeedAnswer.TheVariants.{Packet as PacketFed, Nothing as NothingFed, Closed as FeedClosed}
@@ -8,10 +8,10 @@ use Rattle.relay_machine.specs.declared.event.Event.TheVariants.{Packet}
 use Rattle.serving_turns.specs.Answers.{refused, taken}
 use Rattle.serving_turns.specs.Devices.{feed_seen}
 use Rattle.serving_turns.proofs.Causes.{not_cause}
-use Rattle.relay_serving.specs.Servers.{events_in}
+use Rattle.relay_serving.specs.Servers.{counts_in}
 use Rattle.relay_serving.specs.declared.counts.Counts.{Counts}
-use Rattle.relay_serving.proofs.Events.{IsAsBefore-same}
-use Rattle.relay_serving.proofs.Hearing.{Feeds-none, Feeds-packet, Feeds-quiet}
+use Rattle.relay_serving.proofs.Events.{HasRefused-none, IsAsBefore-same, IsStarved-then, tally_same, tally_starved, tally_took}
+use Rattle.relay_serving.proofs.Hearing.{Feeds-none, Feeds-packet, Feeds-quiet, Feeds-starved}
 use Rattle.relay_serving.proofs.server.Server.feed_next.Goals as goal
 
 pub returns-in-Ok-clause-feeds : goal.returns-in-Ok-clause-feeds
@@ -26,17 +26,18 @@ returns-in-Ok-clause-feeds g c =
     let taken_length = length-take got.octets c.recv.new.buf in record {
       answers = taken (PacketFed bytes) ∷ [];
       goes = Feeds-packet c.args.self.now c.feed_packet.new.self (feed_seen (L.coming feed) (L.faults feed)) (feed_seen (L.coming now) (L.faults now)) (feed_seen (L.coming now) (L.faults now))
-          bytes c.in-Ok.ensures.events c.feed_packet.ensures.published c.feed_packet.ensures.sent.0 c.feed_packet.ensures.sent.1 is refl;
-      ends = (taken (PacketFed bytes), (omega (arith, octets, taken_length), refl), refl);
+          bytes c.in-Ok.ensures.events c.in-Ok.ensures.counts is refl;
+      ends = (taken (PacketFed bytes), omega (arith, octets, taken_length), refl);
     }
 
 pub returns-in-Ok-clause-counted : goal.returns-in-Ok-clause-counted
-returns-in-Ok-clause-counted g c = let counted = c.in-Ok.ensures.counted in omega (arith, counted)
+returns-in-Ok-clause-counted g c = let counted = ap (λ (counts : Counts). counts.packets) c.in-Ok.ensures.counts in omega (arith, counted)
 
 pub returns-in-Ok-clause-few : goal.returns-in-Ok-clause-few
 returns-in-Ok-clause-few g c =
-    let grown = ap length c.in-Ok.ensures.events.events in
-    let pushed = length_push (events_in c.args.self.now) (Packet (take c.in-Ok-Packet.octets c.recv.new.buf)) in omega (arith, grown, pushed)
+    let counted = c.in-Ok.ensures.counts in
+    let none = HasRefused-none (counts_in c.args.self.now) (counts_in c.feed_packet.new.self) (ap (λ (counts : Counts). counts.starved) counted) (ap (λ (counts : Counts). counts.late) counted) in
+    let more = tally_took c.args.self.now c.feed_packet.new.self (Packet (take c.in-Ok-Packet.octets c.recv.new.buf)) c.in-Ok.ensures.events none in omega (arith, more)
 
 pub returns-in-Ok-clause-cause : goal.returns-in-Ok-clause-cause
 returns-in-Ok-clause-cause g c = not_cause _ _ _ _ (λ is. cc) c.in-Ok-Packet.ensures.cause.quiet
@@ -52,16 +53,22 @@ returns-in-Err-feed_packet-clause-feeds g c =
     let octets = subst IsShortFeedGot got.field-0-is got.ensures.short in
     let taken_length = length-take got.octets c.recv.new.buf in record {
       answers = refused (PacketFed bytes) ∷ [];
-      goes = Feeds-quiet c.args.self.now c.feed_packet.new.self (feed_seen (L.coming feed) (L.faults feed)) (feed_seen (L.coming now) (L.faults now)) (feed_seen (L.coming now) (L.faults now))
-          (refused (PacketFed bytes)) refl c.in-Err-feed_packet.ensures.err is refl;
-      ends = (refused (PacketFed bytes), (omega (arith, octets, taken_length), refl), refl);
+      goes = Feeds-starved c.args.self.now c.starve.new.self (feed_seen (L.coming feed) (L.faults feed)) (feed_seen (L.coming now) (L.faults now)) (feed_seen (L.coming now) (L.faults now))
+          (PacketFed bytes) (IsStarved-then _ _ _ c.in-Err-feed_packet.ensures.err c.starve.ensures) is refl;
+      ends = (refused (PacketFed bytes), omega (arith, octets, taken_length), refl);
     }
 
 pub returns-in-Err-feed_packet-clause-counted : goal.returns-in-Err-feed_packet-clause-counted
-returns-in-Err-feed_packet-clause-counted g c = let same = ap (λ (counts : Counts). counts.packets) c.in-Err-feed_packet.ensures.err.same_counts in omega (arith, same)
+returns-in-Err-feed_packet-clause-counted g c =
+    let starved = IsStarved-then _ _ _ c.in-Err-feed_packet.ensures.err c.starve.ensures in
+    let same = ap (λ (counts : Counts). counts.packets) starved.counted in omega (arith, same)
 
 pub returns-in-Err-feed_packet-clause-few : goal.returns-in-Err-feed_packet-clause-few
-returns-in-Err-feed_packet-clause-few g c = let same = ap length c.in-Err-feed_packet.ensures.err.same_events in omega (arith, same)
+returns-in-Err-feed_packet-clause-few g c =
+    let more = tally_starved c.args.self.now c.starve.new.self (IsStarved-then _ _ _ c.in-Err-feed_packet.ensures.err c.starve.ensures) in omega (arith, more)
+
+pub starve-requires : goal.starve-requires
+starve-requires g c = let same = tally_same c.args.self.now c.feed_packet.new.self c.in-Err-feed_packet.ensures.err in omega (arith, same, c.requires.tally)
 
 pub returns-in-Err-feed_packet-clause-cause : goal.returns-in-Err-feed_packet-clause-cause
 returns-in-Err-feed_packet-clause-cause g c = not_cause _ _ _ _ (λ is. cc) c.in-Ok-Packet.ensures.cause.quiet
@@ -75,7 +82,7 @@ returns-in-Ok-Nothing-clause-feeds g c =
     let is = subst (Answers FeedClosed (L.coming feed) (L.coming now)) (ap (λ (one : FeedGot). feed_answer one c.recv.new.buf) got.field-0-is) got.ensures.answer in record {
       answers = taken NothingFed ∷ [];
       goes = Feeds-quiet c.args.self.now c.args.self.now (feed_seen (L.coming feed) (L.faults feed)) (feed_seen (L.coming now) (L.faults now)) (feed_seen (L.coming now) (L.faults now))
-          (taken NothingFed) refl (IsAsBefore-same c.args.self.now) is refl;
+          (taken NothingFed) refl refl (IsAsBefore-same c.args.self.now) is refl;
       ends = refl;
     }
 
@@ -91,7 +98,7 @@ returns-in-Ok-Closed-clause-feeds g c =
     let is = subst (Answers FeedClosed (L.coming feed) (L.coming now)) (ap (λ (one : FeedGot). feed_answer one c.recv.new.buf) got.field-0-is) got.ensures.answer in record {
       answers = taken FeedClosed ∷ [];
       goes = Feeds-quiet c.args.self.now c.args.self.now (feed_seen (L.coming feed) (L.faults feed)) (feed_seen (L.coming now) (L.faults now)) (feed_seen (L.coming now) (L.faults now))
-          (taken FeedClosed) refl (IsAsBefore-same c.args.self.now) is refl;
+          (taken FeedClosed) refl refl (IsAsBefore-same c.args.self.now) is refl;
       ends = refl;
     }
 

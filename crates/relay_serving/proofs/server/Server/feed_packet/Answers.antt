@@ -1,15 +1,16 @@
-use Rattle.std.proofs.Common.{◌≡◌, ℕ, [], ◌∷◌, ◌++◌, List, refl, sym, ap, subst, ◌∙◌, append-nil}
-use Rattle.endpoint_membership.specs.declared.change.Change.{Change}
+use Rattle.std.proofs.Common.{ℕ, [], ◌∷◌, ◌++◌, List, refl, sym, ap, subst, ◌∙◌}
 use Rattle.published_table.specs.Publishers.{book_of, published}
 use Rattle.relay_machine.specs.Answers.{RelayAt, outcome_of, settings_of}
 use Rattle.relay_machine.specs.Published.{published_log}
 use Rattle.relay_machine.specs.declared.event.Event.{Event}
 use Rattle.relay_machine.specs.declared.event.Event.TheVariants.{Packet}
 use Rattle.replication_workers.specs.Dispatchers.{slots_of}
-use Rattle.relay_serving.specs.Courses.{events_so_far}
+use Rattle.relay_serving.specs.Courses.{events_so_far, happenings_so_far}
 use Rattle.relay_serving.specs.GivenOut.{starts_in}
-use Rattle.relay_serving.specs.declared.counts.Counts.{Counts}
+use Rattle.relay_serving.specs.Happenings.{Took}
 use Rattle.relay_serving.proofs.Counting.{IsCounted-then}
+use Rattle.relay_serving.proofs.Entering.{shown-next}
+use Rattle.relay_serving.proofs.Happenings.{events-next}
 use Rattle.relay_serving.proofs.GivenOut.{few-given, given_out-packet, of_publisher-put, starts_in-put}
 use Rattle.relay_serving.proofs.Packets.{RelayAt-packet, counted-packet, outcome-plain, published_log-packet}
 use Rattle.relay_serving.proofs.server.Server.feed_packet.Goals as goal
@@ -17,7 +18,7 @@ use Rattle.relay_serving.proofs.server.Server.feed_packet.Goals as goal
 pub send-requires-clause-few : goal.send-requires-clause-few
 send-requires-clause-few g c =
     let server = c.args.self.now in
-    few-given (settings_of server.relay) server.first.value (events_so_far server.course) (slots_of server.dispatcher) server.counts.packets server.given_out server.counted.events_are.packets_are c.requires.few
+    few-given (settings_of server.relay) server.first.value (happenings_so_far server.course) (slots_of server.dispatcher) server.counts.packets server.given_out server.counted.events_are.packets_are c.requires.few
 
 pub send-requires-clause-publisher : goal.send-requires-clause-publisher
 send-requires-clause-publisher g c =
@@ -30,18 +31,19 @@ invariant_of-self g c =
     let settings = settings_of server.relay in
     let first = server.first.value in
     let events = events_so_far server.course in
+    let past = happenings_so_far server.course in
     let later = events_so_far c.fed.result in
     let bytes = c.in_ok-packet.packet in
-    let next = c.fed.ensures in
-    let outcome = outcome_of settings first events (Packet bytes) in
-    let shown : published server.publisher ≡ published_log settings first events =
-    sym (append-nil (published server.publisher)) ∙ (ap (λ (log : List Change). published server.publisher ++ log) (sym c.requires.published) ∙ server.log) in record {
+    let happened = c.fed.ensures in
+    let next = events-next past (happenings_so_far c.fed.result) (Packet bytes) happened in
+    let outcome = outcome_of settings first events (Packet bytes) in record {
       at = subst (λ (all : List Event). RelayAt server.relay settings first all) (sym next) (RelayAt-packet server.relay settings first events bytes server.at);
       lawful = server.lawful;
       log = server.log ∙ (sym (published_log-packet settings first events bytes) ∙ ap (published_log settings first) (sym next));
+      shown = shown-next settings settings first past (happenings_so_far c.fed.result) (Packet bytes) (published server.publisher) (published server.publisher) refl happened refl server.shown;
       terms = server.terms;
-      given_out = given_out-packet settings first events later (slots_of server.dispatcher) (slots_of c.send.new.self) _ bytes c.send.result c.send.ensures.slot c.send.ensures.put next refl
-          (c.now.ensures.value ∙ server.at.moment) (c.tell.ensures.named ∙ shown) server.given_out;
+      given_out = given_out-packet settings first past (happenings_so_far c.fed.result) (slots_of server.dispatcher) (slots_of c.send.new.self) _ bytes c.send.result c.send.ensures.slot c.send.ensures.put happened refl
+          (c.now.ensures.value ∙ server.at.moment) (c.tell.ensures.named ∙ server.shown) server.given_out;
       publishers = of_publisher-put (book_of server.publisher) c.send.result _ (slots_of server.dispatcher) (slots_of c.send.new.self) c.send.ensures.put server.publishers;
       counted = IsCounted-then settings settings first events later (Packet bytes) outcome server.counts _ refl next refl
           (c.count_packet.ensures ∙ counted-packet server.counts bytes outcome (outcome-plain settings first events bytes)) server.counted;
@@ -58,11 +60,5 @@ returns-clause-events g c =
         same_mode = c.send.ensures.mode;
         same_tasks = c.send.ensures.run;
       };
-      events = c.fed.ensures ∙ ap (λ (bytes : List ℕ). events_so_far server.course ++ Packet bytes ∷ []) c.in_ok-packet.ensures;
+      happened = c.fed.ensures ∙ ap (λ (bytes : List ℕ). happenings_so_far server.course ++ Took (Packet bytes) ∷ []) c.in_ok-packet.ensures;
     }
-
-pub returns-clause-counted : goal.returns-clause-counted
-returns-clause-counted g c = ap (λ (counts : Counts). counts.packets) c.count_packet.ensures
-
-pub returns-clause-sent : goal.returns-clause-sent
-returns-clause-sent g c = (ap (λ (counts : Counts). counts.sent) c.count_packet.ensures, ap (λ (counts : Counts). counts.unsent) c.count_packet.ensures)

@@ -2,7 +2,7 @@
 use Rattle.std.proofs.Common.{◌≡◌, ◌≤◌, ◌+◌, length}
 use Rattle.serving_turns.specs.Devices.{link_seen}
 use Rattle.serving_turns.proofs.SoFar.{SoFar}
-use Rattle.relay_serving.specs.Servers.{HearsBy, events_in}
+use Rattle.relay_serving.specs.Servers.{HearsBy, tally_in}
 use Rattle.relay_serving.specs.Turns.{from_link}
 use Rattle.relay_serving.proofs.server.Server.hear.Given as goal
 
@@ -12,6 +12,6 @@ invariant-loop g l = record {
       (l.initial.self, link_seen (g.L.Link.coming l.initial.link) (g.L.Link.tried l.initial.link) (g.L.Link.receive_faults l.initial.link) (g.L.Link.send_faults l.initial.link))
       (l.self, link_seen (g.L.Link.coming l.link) (g.L.Link.tried l.link) (g.L.Link.receive_faults l.link) (g.L.Link.send_faults l.link)) l.counter;
   faults : g.L.Link.receive_faults l.link ≡ g.L.Link.receive_faults l.initial.link;
-  few : length (events_in l.self) ≤ length (events_in l.initial.self) + l.counter;
+  few : tally_in l.self ≤ tally_in l.initial.self + l.counter;
   buffer : length l.buf ≡ length l.initial.buf;
 }

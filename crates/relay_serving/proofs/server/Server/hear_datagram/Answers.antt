@@ -1,7 +1,10 @@
+use Rattle.std.proofs.Common.{◌∙◌, ap}
 use Rattle.relay_machine.specs.Answers.{outcome_of}
 use Rattle.relay_machine.specs.declared.event.Event.TheVariants.{Datagram}
 use Rattle.relay_serving.specs.Servers.{counts_in, events_in, first_in, settings_in}
+use Rattle.relay_serving.specs.declared.counts.Counts.{Counts}
 use Rattle.relay_serving.proofs.Counting.{IsCounted-answered, answers-few, datagram-room}
+use Rattle.relay_serving.proofs.Events.{HasRefused-none}
 use Rattle.relay_serving.proofs.server.Server.hear_datagram.Goals as goal
 
 pub send_answers-requires-clause-few : goal.send_answers-requires-clause-few
@@ -22,9 +25,17 @@ invariant_of-self g c =
       at = server.at;
       lawful = server.lawful;
       log = server.log;
+      shown = server.shown;
       terms = server.terms;
       given_out = server.given_out;
       publishers = server.publishers;
       counted = IsCounted-answered (settings_in server) (first_in server) (events_in server) _ _ (counts_in server) c.send_answers.new.counts c.as_slice.result.now c.send_answers.ensures.answered
-          few room others.0 others.1 others.2 others.3 server.counted;
+          few room others server.counted;
     }
+
+pub returns-clause-refused : goal.returns-clause-refused
+returns-clause-refused g c =
+    let entered = c.in_ok-sends.ensures.counts in
+    let alike = c.send_answers.ensures.others in
+    HasRefused-none (counts_in c.args.self.now) c.send_answers.new.counts
+    (alike.same_starved ∙ ap (λ (counts : Counts). counts.starved) entered) (alike.same_late ∙ ap (λ (counts : Counts). counts.late) entered)

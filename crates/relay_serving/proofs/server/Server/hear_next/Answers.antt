@@ -1,5 +1,5 @@
-use Rattle.std.proofs.Common.{[], ◌∷◌, length, take, refl, ap, subst, ◌∙◌, arith}
-use Rattle.std.proofs.lemmas.List.{length-take, length_push}
+use Rattle.std.proofs.Common.{[], ◌∷◌, take, refl, ap, subst, ◌∙◌, arith}
+use Rattle.std.proofs.lemmas.List.{length-take}
 use Rattle.amt_ports.specs.Arrivals.{IsShortGot, link_answer}
 use Rattle.amt_ports.specs.Told.{Answers}
 use Rattle.amt_ports.specs.declared.link.Got.{Got}
@@ -8,9 +8,8 @@ use Rattle.relay_machine.specs.declared.event.Event.TheVariants.{Datagram}
 use Rattle.serving_turns.specs.Answers.{refused, taken}
 use Rattle.serving_turns.specs.Devices.{link_seen}
 use Rattle.serving_turns.proofs.Causes.{not_cause}
-use Rattle.relay_serving.specs.Servers.{events_in}
-use Rattle.relay_serving.proofs.Events.{IsAsBefore-same}
-use Rattle.relay_serving.proofs.Hearing.{Hears-datagram, Hears-none, Hears-quiet}
+use Rattle.relay_serving.proofs.Events.{IsAsBefore-same, IsStarved-then, tally_same, tally_starved, tally_took}
+use Rattle.relay_serving.proofs.Hearing.{Hears-datagram, Hears-none, Hears-quiet, Hears-starved}
 use Rattle.relay_serving.proofs.server.Server.hear_next.Goals as goal
 
 pub returns-in-Ok-clause-hears : goal.returns-in-Ok-clause-hears
@@ -29,14 +28,14 @@ returns-in-Ok-clause-hears g c =
           (link_seen (L.coming link) (L.tried link) (L.receive_faults link) (L.send_faults link))
           (link_seen (L.coming now) (L.tried now) (L.receive_faults now) (L.send_faults now))
           (link_seen (L.coming last) (L.tried last) (L.receive_faults last) (L.send_faults last))
-          got.from bytes c.in-Ok.ensures.events c.hear_datagram.ensures.published is got.ensures.sends got.ensures.apart c.hear_datagram.ensures.coming c.in-Ok.ensures.answered;
-      ends = (taken (DatagramCame got.from bytes), (omega (arith, octets, taken_length), refl), refl);
+          got.from bytes c.in-Ok.ensures.events c.in-Ok.ensures.refused is got.ensures.sends got.ensures.apart c.hear_datagram.ensures.coming c.in-Ok.ensures.answered;
+      ends = (taken (DatagramCame got.from bytes), omega (arith, octets, taken_length), refl);
     }
 
 pub returns-in-Ok-clause-few : goal.returns-in-Ok-clause-few
 returns-in-Ok-clause-few g c =
-    let grown = ap length c.in-Ok.ensures.events.events in
-    let pushed = length_push (events_in c.args.self.now) (Datagram (take c.in-Ok-Datagram.octets c.recv.new.buf) c.in-Ok-Datagram.from) in omega (arith, grown, pushed)
+    let more = tally_took c.args.self.now c.hear_datagram.new.self (Datagram (take c.in-Ok-Datagram.octets c.recv.new.buf) c.in-Ok-Datagram.from) c.in-Ok.ensures.events c.in-Ok.ensures.refused in
+    omega (arith, more)
 
 pub returns-in-Ok-clause-cause : goal.returns-in-Ok-clause-cause
 returns-in-Ok-clause-cause g c = not_cause _ _ _ _ (λ is. cc) (c.hear_datagram.ensures.faults ∙ c.in-Ok-Datagram.ensures.cause.quiet)
@@ -54,16 +53,20 @@ returns-in-Err-hear_datagram-clause-hears g c =
     let taken_length = length-take got.octets c.recv.new.buf in
     let same = c.in-Err-hear_datagram.ensures.unsent in record {
       answers = refused (DatagramCame got.from bytes) ∷ [];
-      goes = Hears-quiet c.args.self.now c.hear_datagram.new.self
+      goes = Hears-starved c.args.self.now c.starve.new.self
           (link_seen (L.coming link) (L.tried link) (L.receive_faults link) (L.send_faults link))
           (link_seen (L.coming now) (L.tried now) (L.receive_faults now) (L.send_faults now))
           (link_seen (L.coming last) (L.tried last) (L.receive_faults last) (L.send_faults last))
-          (refused (DatagramCame got.from bytes)) refl c.in-Err-hear_datagram.ensures.err is (ap L.coming same) (ap L.tried same ∙ got.ensures.sends) (ap L.send_faults same ∙ got.ensures.apart);
-      ends = (refused (DatagramCame got.from bytes), (omega (arith, octets, taken_length), refl), refl);
+          (DatagramCame got.from bytes) (IsStarved-then _ _ _ c.in-Err-hear_datagram.ensures.err c.starve.ensures) is (ap L.coming same) (ap L.tried same ∙ got.ensures.sends) (ap L.send_faults same ∙ got.ensures.apart);
+      ends = (refused (DatagramCame got.from bytes), omega (arith, octets, taken_length), refl);
     }
 
 pub returns-in-Err-hear_datagram-clause-few : goal.returns-in-Err-hear_datagram-clause-few
-returns-in-Err-hear_datagram-clause-few g c = let same = ap length c.in-Err-hear_datagram.ensures.err.same_events in omega (arith, same)
+returns-in-Err-hear_datagram-clause-few g c =
+    let more = tally_starved c.args.self.now c.starve.new.self (IsStarved-then _ _ _ c.in-Err-hear_datagram.ensures.err c.starve.ensures) in omega (arith, more)
+
+pub starve-requires : goal.starve-requires
+starve-requires g c = let same = tally_same c.args.self.now c.hear_datagram.new.self c.in-Err-hear_datagram.ensures.err in omega (arith, same, c.requires.few)
 
 pub returns-in-Err-hear_datagram-clause-cause : goal.returns-in-Err-hear_datagram-clause-cause
 returns-in-Err-hear_datagram-clause-cause g c = not_cause _ _ _ _ (λ is. cc) (c.hear_datagram.ensures.faults ∙ c.in-Ok-Datagram.ensures.cause.quiet)
@@ -80,7 +83,7 @@ returns-in-Ok-Nothing-clause-hears g c =
           (link_seen (L.coming link) (L.tried link) (L.receive_faults link) (L.send_faults link))
           (link_seen (L.coming now) (L.tried now) (L.receive_faults now) (L.send_faults now))
           (link_seen (L.coming now) (L.tried now) (L.receive_faults now) (L.send_faults now))
-          (taken NothingCame) refl (IsAsBefore-same c.args.self.now) is refl got.ensures.sends got.ensures.apart;
+          (taken NothingCame) refl refl (IsAsBefore-same c.args.self.now) is refl got.ensures.sends got.ensures.apart;
       ends = refl;
     }
 
@@ -99,7 +102,7 @@ returns-in-Ok-Closed-clause-hears g c =
           (link_seen (L.coming link) (L.tried link) (L.receive_faults link) (L.send_faults link))
           (link_seen (L.coming now) (L.tried now) (L.receive_faults now) (L.send_faults now))
           (link_seen (L.coming now) (L.tried now) (L.receive_faults now) (L.send_faults now))
-          (taken LinkClosed) refl (IsAsBefore-same c.args.self.now) is refl got.ensures.sends got.ensures.apart;
+          (taken LinkClosed) refl refl (IsAsBefore-same c.args.self.now) is refl got.ensures.sends got.ensures.apart;
       ends = refl;
     }
 

@@ -7,10 +7,12 @@ use Rattle.relay_machine.specs.declared.event.Event.TheVariants.{Rotate}
 use Rattle.relay_machine.specs.declared.outcome.Outcome.TheVariants.{Rotated}
 use Rattle.relay_machine.specs.declared.settings.Settings.{Settings}
 use Rattle.replication_workers.specs.Dispatchers.{slots_of}
-use Rattle.relay_serving.specs.Courses.{events_so_far}
+use Rattle.relay_serving.specs.Courses.{events_so_far, happenings_so_far}
 use Rattle.relay_serving.specs.GivenOut.{terms_by}
 use Rattle.relay_serving.proofs.Counting.{IsCounted-then, secret-uncounted}
-use Rattle.relay_serving.proofs.Entering.{at-next, given_out-other, log-next}
+use Rattle.relay_serving.specs.Happenings.{Took}
+use Rattle.relay_serving.proofs.Entering.{at-next, given_out-other, log-next, shown-next}
+use Rattle.relay_serving.proofs.Happenings.{events-next}
 use Rattle.relay_serving.proofs.server.Server.rotate.Goals as goal
 
 pub invariant_of-self : goal.invariant_of-self
@@ -18,16 +20,19 @@ invariant_of-self g c =
     let server = c.args.self.now in
     let settings = settings_of server.relay in
     let first = server.first.value in
+    let past = happenings_so_far server.course in
     let events = events_so_far server.course in
     let event = Rotate c.args.secret in
     let same = c.step.ensures.settings in
-    let next = c.then.ensures in
+    let happened = c.then.ensures in
+    let next = events-next past (happenings_so_far c.then.result) event happened in
     let publisher = server.publisher in record {
       at = at-next c.step.new.self settings first events (events_so_far c.then.result) event same next (c.in-Ok.ensures.next settings first events server.at);
       lawful = subst (λ (known : Settings). ∥ AreLawfulSettings known ∥₁) (sym same) server.lawful;
       log = log-next settings (settings_of c.step.new.self) first events (events_so_far c.then.result) event (published publisher ++ owing publisher) _ None same next refl refl server.log;
+      shown = shown-next settings (settings_of c.step.new.self) first past (happenings_so_far c.then.result) event (published publisher) (published publisher) same happened refl server.shown;
       terms = server.terms ∙ ap terms_by (sym same);
-      given_out = given_out-other settings (settings_of c.step.new.self) first events (events_so_far c.then.result) event (slots_of server.dispatcher) same next refl server.given_out;
+      given_out = given_out-other settings (settings_of c.step.new.self) first past (happenings_so_far c.then.result) (Took event) (slots_of server.dispatcher) same happened refl server.given_out;
       publishers = server.publishers;
       counted = IsCounted-then settings (settings_of c.step.new.self) first events (events_so_far c.then.result) event Rotated server.counts server.counts same next refl (secret-uncounted server.counts c.args.secret) server.counted;
     }

@@ -4,7 +4,7 @@ use Rattle.relay_serving.proofs.server.Server.run.Goals as goal
 
 pub loop-done-init : goal.loop-done-init
 loop-done-init g c = record {
-  running = IsRunning-none _ _ c.args.self.now _ c.requires.fresh c.new-renewal.ensures;
+  running = IsRunning-none _ _ c.args.self.now _ c.requires.fresh c.requires.uncounted c.new-renewal.ensures.latest c.new-renewal.ensures.renewed;
   buffer = refl;
 }
 
@@ -23,10 +23,10 @@ loop-done-preserved g c = record {
 
 pub returns-in-Err-clause-few : goal.returns-in-Err-clause-few
 returns-in-Err-clause-few g c =
-    omega (arith, c.loop-done.invariant.running.few_events, c.loop-done-test.true, c.turn.ensures.few, c.requires.plan.few_turns)
+    omega (arith, c.loop-done.invariant.running.few, c.loop-done-test.true, c.turn.ensures.few, c.requires.plan.few_turns)
 
 pub returns-clause-runs : goal.returns-clause-runs
 returns-clause-runs g c = RunsSo-all _ _ _ _ _ _ _ c.loop-done.invariant.running (omega (arith, c.loop-done-test.false, c.loop-done.auto.done-end))
 
 pub returns-clause-few : goal.returns-clause-few
-returns-clause-few g c = omega (arith, c.loop-done.invariant.running.few_events, c.loop-done.auto.done-end, c.requires.plan.few_turns)
+returns-clause-few g c = omega (arith, c.loop-done.invariant.running.few, c.loop-done.auto.done-end, c.requires.plan.few_turns)

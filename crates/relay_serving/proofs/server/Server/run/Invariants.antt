@@ -1,12 +1,13 @@
 use Rattle.std.proofs.Common.{◌≡◌, length, None}
 use Rattle.serving_turns.specs.Devices.{feed_seen, link_seen, words_seen}
 use Rattle.relay_serving.specs.Devices.{devices_seen}
+use Rattle.relay_serving.specs.Stages.{progress_in}
 use Rattle.relay_serving.proofs.Running.{IsRunning}
 use Rattle.relay_serving.proofs.server.Server.run.Given as goal
 
 abbrev pub invariant-loop-done : goal.invariant-loop-done
 invariant-loop-done g l = record {
-  running : IsRunning l.fn.plan.rotate_ms l.renewal.renewed l.initial.self l.self
+  running : IsRunning l.fn.plan.rotate_ms (progress_in l.renewal) l.initial.self l.self
       (devices_seen (g.C.Clock.given l.initial.clock) (words_seen (g.W.Words.given l.initial.words) (g.W.Words.faults l.initial.words))
       (link_seen (g.L.Link.coming l.initial.link) (g.L.Link.tried l.initial.link) (g.L.Link.receive_faults l.initial.link) (g.L.Link.send_faults l.initial.link))
       (feed_seen (g.F.Feed.coming l.initial.feed) (g.F.Feed.faults l.initial.feed)) None 0)

@@ -1,52 +1,40 @@
-use Rattle.std.proofs.Common.{◌∙◌, ap, refl, sym, arith}
+use Rattle.std.proofs.Common.{arith}
 use Rattle.std.proofs.lemmas.Result.{err_from_is_err_and}
-use Rattle.serving_turns.specs.declared.end.End.TheVariants.{FeedFault, LinkFault, WordsFault}
+use Rattle.serving_turns.specs.declared.end.End.TheVariants.{LinkFault, WordsFault}
 use Rattle.serving_turns.proofs.Causes.{not_cause}
-use Rattle.relay_serving.specs.declared.counts.Counts.{Counts}
-use Rattle.relay_serving.proofs.Beginning.{err_gives}
 use Rattle.relay_serving.proofs.Cuts.{no_error, no_words_fed}
-use Rattle.relay_serving.proofs.Turning.{Keeps}
-use Rattle.relay_serving.proofs.Ways.{ends_begun, ends_fed, ends_heard, ends_refused, packets-kept}
+use Rattle.relay_serving.proofs.Ways.{ends_begun, ends_fed, ends_heard, packets-kept}
 use Rattle.relay_serving.proofs.server.Server.turn.Goals as goal
 
 pub returns-in_err-begin_turn-clause-turns : goal.returns-in_err-begin_turn-clause-turns
 returns-in_err-begin_turn-clause-turns g c =
     let p = err_from_is_err_and c.from_residual.result c.from_residual.ensures.1 in
-    rw (p.1, p.2)
-    (ends_begun _ _ _ _ _ _ _ _ _ _ _ _ _ _ c.in_err-begin_turn.ensures.begins c.begin_turn.ensures.counts)
+    rw (p.1, p.2) (ends_begun _ _ _ _ _ _ _ _ _ _ _ _ _ _ c.in_err-begin_turn.ensures.begins)
 
 pub returns-in_err-hear-clause-turns : goal.returns-in_err-hear-clause-turns
 returns-in_err-hear-clause-turns g c =
     let p = err_from_is_err_and c.from_residual-in_err-hear.result c.from_residual-in_err-hear.ensures.1 in
     rw (p.1, p.2)
-    (ends_heard _ _ _ _ _ _ _ _ _ _ _ _ _ _ _ _ c.in_ok-begin_turn.ensures.begins c.begin_turn.ensures.counts c.in_err-hear.ensures.hears c.in_err-hear.ensures.of_link)
+    (ends_heard _ _ _ _ _ _ _ _ _ _ _ _ _ _ _ _ c.in_ok-begin_turn.ensures.begins c.in_err-hear.ensures.hears c.in_err-hear.ensures.of_link)
 
-pub returns-then-is_err-clause-turns : goal.returns-then-is_err-clause-turns
-returns-then-is_err-clause-turns g c =
-    let keeps : Keeps c.hear.new.self c.publish.new.self = record { same = c.publish.ensures.same; events = c.publish.ensures.events; counts = c.publish.ensures.counts } in
-    ends_refused _ _ _ _ _ _ _ _ _ _ _ _ _ _ _ _ c.in_ok-begin_turn.ensures.begins c.begin_turn.ensures.counts c.in_ok-hear.ensures.hears keeps
-    (err_gives _ _ c.publish.result (sym c.is_err.ensures.value ∙ c.if-is_err.true) c.publish.ensures.owing).0
-
-pub returns-then-is_err-clause-causes : goal.returns-then-is_err-clause-causes
-returns-then-is_err-clause-causes g c = record {
-  link = not_cause _ LinkFault _ _ (λ is. cc is) (c.in_ok-hear.ensures.cause.calm (no_error LinkFault));
-  feed = not_cause _ FeedFault _ _ (λ is. cc is) refl;
-  words = not_cause _ WordsFault _ _ (λ is. cc is) (c.in_ok-begin_turn.ensures.cause.calm (no_error WordsFault));
-}
+pub returns-in_err-hear-clause-few_packets : goal.returns-in_err-hear-clause-few_packets
+returns-in_err-hear-clause-few_packets g c =
+    let hears = c.in_err-hear.ensures.hears in
+    let heard = packets-kept c.begin_turn.new.self c.hear.new.self hears.answers hears.goes.events in
+    let begun = c.in_ok-begin_turn.ensures.begins.alike.same_packets in omega (arith, heard, begun)
 
 pub feed-requires-clause-few : goal.feed-requires-clause-few
 feed-requires-clause-few g c =
     let hears = c.in_ok-hear.ensures.hears in
-    let heard = packets-kept c.begin_turn.new.self c.hear.new.self hears.answers hears.goes.events.events in
-    let begun = ap (λ (counts : Counts). counts.packets) c.begin_turn.ensures.counts in
-    let kept = ap (λ (counts : Counts). counts.packets) c.publish.ensures.counts in
+    let heard = packets-kept c.begin_turn.new.self c.hear.new.self hears.answers hears.goes.events in
+    let begun = c.in_ok-begin_turn.ensures.begins.alike.same_packets in
+    let kept = c.publish.ensures.publishes.alike.same_packets in
     omega (arith, heard, begun, kept, c.requires.few_packets)
 
 pub returns-clause-turns : goal.returns-clause-turns
 returns-clause-turns g c =
-    let keeps : Keeps c.hear.new.self c.publish.new.self = record { same = c.publish.ensures.same; events = c.publish.ensures.events; counts = c.publish.ensures.counts } in
-    ends_fed _ _ _ _ _ _ _ _ _ _ _ _ _ _ _ _ _ _ _ c.in_ok-begin_turn.ensures.begins c.begin_turn.ensures.counts c.in_ok-hear.ensures.hears keeps
-    c.feed.ensures.feeds c.feed.ensures.of_feed c.feed.ensures.owing
+    ends_fed _ _ _ _ _ _ _ _ _ _ _ _ _ _ _ _ _ _ _ c.in_ok-begin_turn.ensures.begins c.in_ok-hear.ensures.hears c.publish.ensures.publishes
+    c.feed.ensures.feeds c.feed.ensures.of_feed
 
 pub returns-clause-causes : goal.returns-clause-causes
 returns-clause-causes g c = record {
@@ -58,7 +46,7 @@ returns-clause-causes g c = record {
 pub returns-clause-few_packets : goal.returns-clause-few_packets
 returns-clause-few_packets g c =
     let hears = c.in_ok-hear.ensures.hears in
-    let heard = packets-kept c.begin_turn.new.self c.hear.new.self hears.answers hears.goes.events.events in
-    let begun = ap (λ (counts : Counts). counts.packets) c.begin_turn.ensures.counts in
-    let kept = ap (λ (counts : Counts). counts.packets) c.publish.ensures.counts in
+    let heard = packets-kept c.begin_turn.new.self c.hear.new.self hears.answers hears.goes.events in
+    let begun = c.in_ok-begin_turn.ensures.begins.alike.same_packets in
+    let kept = c.publish.ensures.publishes.alike.same_packets in
     omega (arith, heard, begun, kept, c.feed.ensures.counted)

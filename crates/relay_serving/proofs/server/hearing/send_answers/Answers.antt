@@ -12,7 +12,7 @@ pub loop-send-init : goal.loop-send-init
 loop-send-init g c =
     let link = c.args.link.now in
     let seen = link_seen (g.L.Link.coming link) (g.L.Link.tried link) (g.L.Link.receive_faults link) (g.L.Link.send_faults link) in
-    ((refl, refl, refl, refl), HasAnswered-none seen seen c.args.counts.now refl refl, omega arith, refl, refl)
+    (record { same_datagrams = refl; same_packets = refl; same_updated = refl; same_torn = refl; same_starved = refl; same_late = refl }, HasAnswered-none seen seen c.args.counts.now refl refl, omega arith, refl, refl)
 
 pub loop-send-preserved : goal.loop-send-preserved
 loop-send-preserved g c =
@@ -36,12 +36,14 @@ loop-send-preserved g c =
       | in-Ok w ↦
           let sent = ap (λ (one : Counts). one.sent) w.counts-is in
           let unsent = ap (λ (one : Counts). one.unsent) w.counts-is in (
-            (
-              ap (λ (one : Counts). one.datagrams) w.counts-is ∙ alike.0,
-              ap (λ (one : Counts). one.packets) w.counts-is ∙ alike.1,
-              ap (λ (one : Counts). one.updated) w.counts-is ∙ alike.2,
-              ap (λ (one : Counts). one.torn) w.counts-is ∙ alike.3,
-            ),
+            record {
+              same_datagrams = ap (λ (one : Counts). one.datagrams) w.counts-is ∙ alike.same_datagrams;
+              same_packets = ap (λ (one : Counts). one.packets) w.counts-is ∙ alike.same_packets;
+              same_updated = ap (λ (one : Counts). one.updated) w.counts-is ∙ alike.same_updated;
+              same_torn = ap (λ (one : Counts). one.torn) w.counts-is ∙ alike.same_torn;
+              same_starved = ap (λ (one : Counts). one.starved) w.counts-is ∙ alike.same_starved;
+              same_late = ap (λ (one : Counts). one.late) w.counts-is ∙ alike.same_late;
+            },
             subst (HasAnswered seen seen_after c.args.counts.now counts) grown
                 (answered-sent seen seen_now seen_after c.args.counts.now before counts (map to_peer (take place sends)) c.peer.result c.as_slice.result.now c.send.result _ w.in-Ok.is answered
                 c.send.ensures.tried c.send.ensures.tells c.send.ensures.cause sent unsent),
@@ -52,12 +54,14 @@ loop-send-preserved g c =
       | in-Err w ↦
           let sent = ap (λ (one : Counts). one.sent) w.counts-is in
           let unsent = ap (λ (one : Counts). one.unsent) w.counts-is in (
-            (
-              ap (λ (one : Counts). one.datagrams) w.counts-is ∙ alike.0,
-              ap (λ (one : Counts). one.packets) w.counts-is ∙ alike.1,
-              ap (λ (one : Counts). one.updated) w.counts-is ∙ alike.2,
-              ap (λ (one : Counts). one.torn) w.counts-is ∙ alike.3,
-            ),
+            record {
+              same_datagrams = ap (λ (one : Counts). one.datagrams) w.counts-is ∙ alike.same_datagrams;
+              same_packets = ap (λ (one : Counts). one.packets) w.counts-is ∙ alike.same_packets;
+              same_updated = ap (λ (one : Counts). one.updated) w.counts-is ∙ alike.same_updated;
+              same_torn = ap (λ (one : Counts). one.torn) w.counts-is ∙ alike.same_torn;
+              same_starved = ap (λ (one : Counts). one.starved) w.counts-is ∙ alike.same_starved;
+              same_late = ap (λ (one : Counts). one.late) w.counts-is ∙ alike.same_late;
+            },
             subst (HasAnswered seen seen_after c.args.counts.now counts) grown
                 (answered-failed seen seen_now seen_after c.args.counts.now before counts (map to_peer (take place sends)) c.peer.result c.as_slice.result.now c.send.result _ w.in-Err.is answered
                 c.send.ensures.tried c.send.ensures.cause sent unsent),

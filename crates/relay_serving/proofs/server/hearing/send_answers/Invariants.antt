@@ -2,8 +2,7 @@
 use Rattle.std.proofs.Common.{◌≡◌, ◌+◌, map, take}
 use Rattle.serving_turns.specs.Devices.{link_seen}
 use Rattle.replication_workers.specs.Replication.{to_peer}
-use Rattle.relay_serving.specs.Counting.{HasAnswered}
-use Rattle.relay_serving.proofs.AnswerSends.{CountsAlike}
+use Rattle.relay_serving.specs.Counting.{CountsAlike, HasAnswered}
 use Rattle.relay_serving.proofs.server.hearing.send_answers.Given as goal
 
 abbrev pub invariant-loop-send : goal.invariant-loop-send

@@ -1,0 +1,91 @@
+use Rattle.std.proofs.Common.{◌∙◌, ◌++◌, List, length, refl, sym, ap, subst, append-nil, arith}
+use Rattle.endpoint_membership.specs.declared.change.Change.{Change}
+use Rattle.logbook.specs.Pages.{Book}
+use Rattle.published_table.specs.Publishers.{published}
+use Rattle.relay_machine.specs.Answers.{RelayAt, settings_of}
+use Rattle.relay_machine.specs.Published.{published_log}
+use Rattle.relay_machine.specs.declared.event.Event.{Event}
+use Rattle.replication_workers.specs.Dispatchers.{slots_of}
+use Rattle.relay_serving.specs.Counting.{IsCounted}
+use Rattle.relay_serving.specs.Courses.{events_so_far, happenings_so_far}
+use Rattle.relay_serving.specs.GivenOut.{AreOfPublisher}
+use Rattle.relay_serving.specs.Happenings.{Published}
+use Rattle.relay_serving.specs.Servers.{happenings_in}
+use Rattle.relay_serving.specs.Turns.{Done, Refused}
+use Rattle.relay_serving.specs.declared.counts.Counts.{Counts}
+use Rattle.relay_serving.proofs.Answering.{no_more}
+use Rattle.relay_serving.proofs.Counting.{IsCounted-late}
+use Rattle.relay_serving.proofs.Entering.{given_out-other}
+use Rattle.relay_serving.proofs.Events.{HasRefused-same}
+use Rattle.relay_serving.proofs.Happenings.{events-shown, published-shown}
+use Rattle.relay_serving.proofs.server.Server.publish.Goals as goal
+
+pub invariant_of-self : goal.invariant_of-self
+invariant_of-self g c =
+    let server = c.args.self.now in
+    let settings = settings_of server.relay in
+    let first = server.first.value in
+    let past = happenings_so_far server.course in
+    let later = happenings_so_far c.shown.result in
+    let same = events-shown past later c.shown.ensures in
+    let publisher = c.publish_owed.new.publisher in
+    let logs = c.in-Ok.ensures.logs in record {
+      at = subst (λ (events : List Event). RelayAt server.relay settings first events) (sym same) server.at;
+      lawful = server.lawful;
+      log = ap (λ (owed : List Change). published publisher ++ owed) logs.none ∙ append-nil (published publisher) ∙ logs.all ∙ server.log
+          ∙ ap (published_log settings first) (sym same);
+      shown = logs.all ∙ server.log ∙ ap (published_log settings first) (sym (published-shown past later c.shown.ensures));
+      terms = c.publish_owed.ensures.same.terms ∙ server.terms;
+      given_out = given_out-other settings settings first past later Published (slots_of server.dispatcher) refl c.shown.ensures refl server.given_out;
+      publishers = subst (λ (book : Book). AreOfPublisher book (slots_of server.dispatcher)) (sym c.publish_owed.ensures.same.book) server.publishers;
+      counted = subst (λ (events : List Event). IsCounted settings first events server.counts) (sym same) server.counted;
+    }
+
+pub invariant_of-self-in-Err : goal.invariant_of-self-in-Err
+invariant_of-self-in-Err g c =
+    let server = c.args.self.now in
+    let logs = c.in-Err.ensures.logs in record {
+      at = server.at;
+      lawful = server.lawful;
+      log = (λ i. logs.same_published i ++ logs.same_owing i) ∙ server.log;
+      shown = logs.same_published ∙ server.shown;
+      terms = c.publish_owed.ensures.same.terms ∙ server.terms;
+      given_out = server.given_out;
+      publishers = subst (λ (book : Book). AreOfPublisher book (slots_of server.dispatcher)) (sym c.publish_owed.ensures.same.book) server.publishers;
+      counted = IsCounted-late (settings_of server.relay) server.first.value (events_so_far server.course) server.counts c.count_late.new.self c.count_late.ensures server.counted;
+    }
+
+pub returns-in-Ok-clause-publishes : goal.returns-in-Ok-clause-publishes
+returns-in-Ok-clause-publishes g c = record {
+  publishing = Done;
+  tried = λ is. cc is;
+  happens = record {
+    same = record { same_settings = refl; same_first = refl; same_starts = refl; same_book = c.publish_owed.ensures.same.book; same_mode = refl; same_tasks = λ task_of run. run };
+    happened = c.shown.ensures;
+  };
+  refused = HasRefused-same c.args.self.now.counts c.args.self.now.counts refl;
+  alike = record { same_packets = refl; same_sent = refl; same_unsent = refl };
+}
+
+pub returns-in-Ok-clause-few : goal.returns-in-Ok-clause-few
+returns-in-Ok-clause-few g c =
+    let same = ap length (events-shown (happenings_in c.args.self.now) (happenings_so_far c.shown.result) c.shown.ensures) in omega (arith, same)
+
+pub returns-in-Err-clause-publishes : goal.returns-in-Err-clause-publishes
+returns-in-Err-clause-publishes g c = record {
+  publishing = Refused;
+  tried = λ is. cc is;
+  happens = record {
+    same = record { same_settings = refl; same_first = refl; same_starts = refl; same_book = c.publish_owed.ensures.same.book; same_mode = refl; same_tasks = λ task_of run. run };
+    happened = sym (append-nil (happenings_in c.args.self.now));
+  };
+  refused = record {
+    starved_are = ap (λ (counts : Counts). counts.starved) c.count_late.ensures ∙ no_more c.args.self.now.counts.starved;
+    late_are = ap (λ (counts : Counts). counts.late) c.count_late.ensures;
+  };
+  alike = record {
+    same_packets = ap (λ (counts : Counts). counts.packets) c.count_late.ensures;
+    same_sent = ap (λ (counts : Counts). counts.sent) c.count_late.ensures;
+    same_unsent = ap (λ (counts : Counts). counts.unsent) c.count_late.ensures;
+  };
+}
