@@ -1,4 +1,4 @@
-//! Tests of `amt relay`, over devices in memory and over the loopback, by public calls.
+//! Tests of `amt relay` and `amt gateway`, over devices in memory and over the loopback, by public calls.
 //!
 //! Contract: none; it is tests alone. They stand in a crate of their own since the tests of a crate prove
 //! all its functions once more, and since some of them start threads and open sockets.
@@ -10,6 +10,10 @@
 mod commands;
 #[cfg(test)]
 mod devices;
+#[cfg(test)]
+mod gateway_devices;
+#[cfg(test)]
+mod gateway_statuses;
 #[cfg(test)]
 mod host;
 #[cfg(test)]

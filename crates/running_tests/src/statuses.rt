@@ -1,6 +1,6 @@
 //! What `amt relay` ends with, and what it writes. It must not know what a relay keeps to itself.
 
-use crate::commands::{Ended, SETTINGS, files_of, is_ended, run};
+use crate::commands::{Ended, File, SETTINGS, file_of, files_of, is_ended, run};
 use crate::devices::{
     ENDPOINT, Failing, MESSAGE, MemSets, NONE_FAILS, PACKET, UPDATE, devices_of, live_of, octets_of,
 };
@@ -27,14 +27,6 @@ const FEED: Peer = Peer {
 type Spawner<'a, R> = ListedSpawner<&'a R, Starter<'a, R>>;
 
 type Sets<'a, R> = MemSets<MemOut, Spawner<'a, R>>;
-
-// What a settings file has.
-#[derive(Clone, Copy)]
-enum File<'a> {
-    Text(&'a str),
-    // So many octets `#`.
-    Long(usize),
-}
 
 // A run of the command over a file `F` and one set of devices with two links out.
 #[derive(Clone, Copy)]
@@ -234,13 +226,6 @@ starved 0\nlate 0\nowed 1\npublished 4\napart 0\n",
         ..DONE
     },
 ];
-
-fn file_of(alloc: Global, file: &File) -> Result<Bytes, AllocError> {
-    match file {
-        File::Text(text) => Bytes::copied(alloc, text.as_bytes()),
-        File::Long(count) => Ok(Bytes::from(Vec::from_elem(alloc, b'#', *count)?)),
-    }
-}
 
 fn two_outs(alloc: Global) -> Result<Outs<MemOut>, AllocError> {
     let mut outs = Vec::with_capacity(alloc, 2)?;
