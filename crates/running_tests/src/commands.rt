@@ -88,16 +88,17 @@ pub fn run<V: Live>(
     run_over(rt, alloc, line, input, files, failing, live)
 }
 
-/// A run of `amt replay relay` over this script.
+/// A run of `amt replay relay` or `amt replay gateway` over this script.
 pub fn replay<V: Live>(
     rt: &impl Wait,
     alloc: Global,
+    line: &str,
     script: Bytes,
     live: &mut V,
 ) -> Result<Ended, AllocError> {
     let input = MemSource::failing(script, Vec::new(alloc));
     let mut files = MemFiles::new(alloc, Vec::new(alloc));
-    run_over(rt, alloc, "replay relay", input, &mut files, 0, live)
+    run_over(rt, alloc, line, input, &mut files, 0, live)
 }
 
 /// The run ended with this status, this output and this line on standard error.
@@ -138,6 +139,18 @@ pub fn assert_served<R: Wait + Abort, V: Live>(
     let Ok(settings) = Bytes::copied(alloc, SETTINGS.as_bytes()) else {
         panic!(rt; "out of memory");
     };
+    assert_served_by(rt, alloc, line, settings, live, out);
+}
+
+/// A run by a file of these settings ends with status 0 and this output.
+pub fn assert_served_by<R: Wait + Abort, V: Live>(
+    rt: &R,
+    alloc: Global,
+    line: &str,
+    settings: Bytes,
+    live: &mut V,
+    out: &str,
+) {
     let Ok(mut files) = files_of(alloc, settings, 0) else {
         panic!(rt; "out of memory");
     };

@@ -3,7 +3,9 @@
 
 use crate::commands::{Ended, File, SETTINGS, file_of, files_of, is_ended, run};
 use crate::devices::{MESSAGE, PACKET, octets_of};
-use crate::gateway_devices::{Answer, Failing, GatewaySets, NONE_FAILS, RELAY, gateway_live};
+use crate::gateway_devices::{
+    Answer, Failing, GatewaySets, NONE_FAILS, QUERY, RELAY, gateway_live,
+};
 use amt_live::{DeviceSet, Opening};
 use amt_ports::Tried;
 use amt_values::{Ip, Peer};
@@ -33,16 +35,11 @@ control = \"127.0.0.1:9002\"\ndiscovery = \"192.0.2.1:2268\"\nsource = \"10.0.0.
 [[join]]\nname = \"a\"\ngroup = \"239.1.1.1\"\nmode = \"exclude\"\nsources = []\n";
 
 // In the first turn the relay is found, and two lines come, of which one makes a call; in the second the
-// relay's Query comes, and a packet of 239.1.1.1; in the third nothing. Then the link is closed. The octets
-// were computed by a model of the messages in Python that was written from the standards.
+// relay's Query comes, and a packet of 239.1.1.1; in the third nothing. Then the link is closed.
 const HEARD: [Answer<'static>; 6] = [
     Some("0200000000000007c0000201"),
     None,
-    Some(
-        "0401a1a2a3a4a5a600000100\
-46c000240000000001028211c0000201e0000001940400001164ec1e00000000027d0000\
-1388000000000000000000000000c6336407",
-    ),
+    Some(QUERY),
     Some(MESSAGE),
     None,
     None,
@@ -60,7 +57,7 @@ const DISCOVERY: &str = "0100000000000007";
 
 const REQUEST: &str = "0300000000000100";
 
-// All sources of 239.1.1.1, and 198.51.100.9 of 239.1.1.2.
+// All sources of 239.1.1.1, and 198.51.100.9 of 239.1.1.2. The octets were computed by the model of `QUERY`.
 const UPDATE: &str = "0500a1a2a3a4a5a600000100\
 46c0003400000000010239ec0a000002e0000016940400002200d0b8\
 0000000202000000ef01010101000001ef010102c6336409";

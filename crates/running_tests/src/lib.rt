@@ -13,6 +13,8 @@ mod devices;
 #[cfg(test)]
 mod gateway_devices;
 #[cfg(test)]
+mod gateway_loopback;
+#[cfg(test)]
 mod gateway_statuses;
 #[cfg(test)]
 mod host;

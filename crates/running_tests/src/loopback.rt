@@ -253,7 +253,7 @@ fn assert_replayed<R: Threads + Wait + Abort + 'static>(rt: &R, alloc: Global, c
         panic!(rt; "other than three datagrams were heard");
     };
     let mut live: Sets<R> = MemLive::new(alloc, Vec::new(alloc));
-    let replayed = replay(rt, alloc, script, &mut live);
+    let replayed = replay(rt, alloc, "replay relay", script, &mut live);
     is_written(rt, "replay relay", &replayed, text.as_slice());
 }
 
