@@ -1,16 +1,11 @@
 //! A set of devices in memory for a gateway, which answer what is listed. It must not know who opens it.
-ghost use Rattle.std.specs.Prelude.{◌≤◌, All, IfOk, length};
-ghost use Rattle.amt_ports.specs.Arrivals.{IsShortAnswer, IsShortFeedAnswer};
 
-use crate::devices::octets_of;
+use crate::answers::{Answer, clock_of, feed_of, link_of};
 use crate::starters::Starter;
 use amt_live::{DeviceSet, GatewayDevices, MemLive};
-use amt_ports::{
-    FeedAnswer, LinkAnswer, ListedSpawner, MemClock, MemFeed, MemLink, MemOut, MemWords,
-};
-use amt_values::{Bytes, Ip, Moment, Peer};
+use amt_ports::{ListedSpawner, MemClock, MemFeed, MemLink, MemOut, MemWords};
+use amt_values::{Ip, Peer};
 use std::alloc::{AllocError, Global};
-use std::collections::VecDeque;
 use std::sync::Wait;
 use std::thread::Threads;
 
@@ -26,9 +21,6 @@ pub const RELAY: Peer = Peer {
 pub const QUERY: &str = "0401a1a2a3a4a5a600000100\
 46c000240000000001028211c0000201e0000001940400001164ec1e00000000027d0000\
 1388000000000000000000000000c6336407";
-
-/// What a device answers: the octets of these digits, or this line; or else that nothing has come.
-pub type Answer<'a> = Option<&'a str>;
 
 /// The call of each device that fails, counted from 1; 0 for none.
 #[derive(Clone, Copy)]
@@ -51,81 +43,8 @@ pub const NONE_FAILS: Failing = Failing {
     packet: 0,
 };
 
-fn heard_answer(alloc: Global, heard: &Answer) -> Result<LinkAnswer, AllocError>
-    ensures { IfOk result (λ answer. IsShortAnswer answer) }
-{
-    match heard {
-        Some(digits) => Ok(LinkAnswer::Datagram(RELAY, octets_of(alloc, digits)?)),
-        None => Ok(LinkAnswer::Nothing),
-    }
-}
-
-// After the last of these it is closed.
-fn link_answers(alloc: Global, heard: &[Answer]) -> Result<VecDeque<LinkAnswer>, AllocError>
-    ensures { IfOk result (λ answers. All IsShortAnswer answers.items) }
-{
-    let mut answers = VecDeque::new(alloc);
-    for one in heard {
-        answers.push_back(heard_answer(alloc, one)?)?;
-    }
-    Ok(answers)
-}
-
-fn line_octets(alloc: Global, line: &str) -> Result<Bytes, AllocError>
-    ensures { IfOk result (λ octets. length octets ≤ 65535) }
-{
-    match Bytes::copied(alloc, line.as_bytes()) {
-        Ok(octets) if octets.len() <= 65_535 => Ok(octets),
-        Ok(_) | Err(_) => Err(AllocError),
-    }
-}
-
-fn told_answer(alloc: Global, told: &Answer) -> Result<FeedAnswer, AllocError>
-    ensures { IfOk result (λ answer. IsShortFeedAnswer answer) }
-{
-    match told {
-        Some(line) => Ok(FeedAnswer::Packet(line_octets(alloc, line)?)),
-        None => Ok(FeedAnswer::Nothing),
-    }
-}
-
-// After the last of these it is closed.
-fn control_answers(alloc: Global, told: &[Answer]) -> Result<VecDeque<FeedAnswer>, AllocError>
-    ensures { IfOk result (λ answers. All IsShortFeedAnswer answers.items) }
-{
-    let mut answers = VecDeque::new(alloc);
-    for one in told {
-        answers.push_back(told_answer(alloc, one)?)?;
-    }
-    Ok(answers)
-}
-
-fn link_of(alloc: Global, failing: &Failing, heard: &[Answer]) -> Result<MemLink, AllocError> {
-    Ok(MemLink::failing(
-        alloc,
-        link_answers(alloc, heard)?,
-        vec![in alloc; failing.receiving]?,
-        vec![in alloc; failing.send]?,
-    ))
-}
-
-fn control_of(alloc: Global, failing: &Failing, told: &[Answer]) -> Result<MemFeed, AllocError> {
-    Ok(MemFeed::failing(
-        control_answers(alloc, told)?,
-        vec![in alloc; failing.telling]?,
-    ))
-}
-
-// The moments 0 and, in the first turns, 0, 1 and 2.
-fn clock_of(alloc: Global) -> Result<MemClock, AllocError> {
-    let mut moments = Vec::with_capacity(alloc, 4)?;
-    for ms in [0, 0, 1, 2] {
-        if let Some(moment) = Moment::new(ms) {
-            moments.push(moment)?;
-        }
-    }
-    Ok(MemClock::new(moments))
-}
+// The first moment, and those of the first turns.
+const MOMENTS: [u64; 4] = [0, 0, 1, 2];
 
 // The first nonce is 7, and those of the first turns are 100, 200 and 300 in hexadecimal digits.
 fn words_of(alloc: Global, failing: u64) -> Result<MemWords, AllocError> {
@@ -142,10 +61,10 @@ fn devices_of(
     told: &[Answer],
 ) -> Result<Set, AllocError> {
     Ok(GatewayDevices {
-        link: link_of(alloc, failing, heard)?,
-        control: control_of(alloc, failing, told)?,
+        link: link_of(alloc, &RELAY, heard, failing.receiving, failing.send)?,
+        control: feed_of(alloc, told, failing.telling)?,
         out: MemOut::failing(alloc, vec![in alloc; failing.packet]?),
-        clock: clock_of(alloc)?,
+        clock: clock_of(alloc, &MOMENTS)?,
         words: words_of(alloc, failing.drawing)?,
     })
 }
@@ -155,8 +74,8 @@ type Spawner<'a, R> = ListedSpawner<&'a R, Starter<'a, R>>;
 /// A place where a gateway's set is opened. Its relays would have workers in threads.
 pub type GatewaySets<'a, R> = MemLive<MemLink, MemFeed, MemClock, MemWords, MemOut, Spawner<'a, R>>;
 
-/// A place where one set is opened, unless that fails: its link hears these datagrams, and its control feed
-/// is told these lines.
+/// A place where one set is opened, unless that fails. Its link and its control feed answer what is listed, and
+/// are then closed.
 pub fn gateway_live<'a, R: Threads + Wait + 'static>(
     _rt: &'a R,
     alloc: Global,

@@ -2,8 +2,9 @@
 //! its applications and the receiver of its packets. It must not know what a turn does.
 ghost use Rattle.std.specs.Prelude.{None};
 
+use crate::answers::octets_of;
 use crate::commands::{assert_served_by, is_written, replay};
-use crate::devices::{MESSAGE, octets_of};
+use crate::devices::MESSAGE;
 use crate::gateway_devices::QUERY;
 use crate::starters::Starter;
 use amt_live::{DeviceSet, GatewayDevices, MemLive};

@@ -7,13 +7,19 @@
 #![tactic(auto)]
 
 #[cfg(test)]
+mod answers;
+#[cfg(test)]
 mod commands;
 #[cfg(test)]
 mod devices;
 #[cfg(test)]
+mod failing;
+#[cfg(test)]
 mod gateway_devices;
 #[cfg(test)]
 mod gateway_loopback;
+#[cfg(test)]
+mod gateway_runs;
 #[cfg(test)]
 mod gateway_statuses;
 #[cfg(test)]
@@ -22,6 +28,10 @@ mod host;
 mod loopback;
 #[cfg(test)]
 mod meeting;
+#[cfg(test)]
+mod relay_runs;
+#[cfg(test)]
+mod sends;
 #[cfg(test)]
 mod starters;
 #[cfg(test)]

@@ -2,8 +2,9 @@
 //! not know what a turn does.
 ghost use Rattle.std.specs.Prelude.{◌≡◌, IfOk, None, length};
 
+use crate::answers::octets_of;
 use crate::commands::{assert_served, is_written, replay};
-use crate::devices::{PACKET, octets_of};
+use crate::devices::PACKET;
 use crate::starters::Starter;
 use amt_live::{DeviceSet, MemLive, RelayDevices};
 use amt_ports::{Clock, MemWords, ThreadSpawner, UdpFeed, UdpLink, UdpOut, open_sockets};
