@@ -21,15 +21,6 @@ pub enum File<'a> {
     Long(usize),
 }
 
-/// The writes that fail, counted from 1: one to the output, 0 for none, and these to standard error.
-#[derive(Clone, Copy)]
-pub struct Writes {
-    pub out: u64,
-    pub err: &'static [u64],
-}
-
-pub const ALL_WRITTEN: Writes = Writes { out: 0, err: &[] };
-
 /// What a run of the command comes to.
 #[derive(Drop)]
 pub struct Ended {
@@ -64,36 +55,45 @@ pub fn files_of(alloc: Global, octets: Bytes, failing: u64) -> Result<MemFiles, 
     Ok(MemFiles::failing(files, vec![in alloc; failing]?))
 }
 
-// A run with these words.
+// A line is one write; where that is to fail, none succeeds.
+fn err_sink(alloc: Global, is_mute: bool) -> Result<MemSink, AllocError> {
+    let failing = if is_mute { 1 } else { 0 };
+    Ok(MemSink::failing(alloc, vec![in alloc; failing]?))
+}
+
+// A run with these words; the write of this number to the output fails, counted from 1.
 fn run_over<V: Live>(
     rt: &impl Wait,
     alloc: Global,
     line: &str,
     mut input: MemSource,
     files: &mut MemFiles,
-    writes: &Writes,
+    write: u64,
+    is_mute: bool,
     live: &mut V,
 ) -> Result<Ended, AllocError> {
     let words = words_of(alloc, line)?;
-    let mut out = MemSink::failing(alloc, vec![in alloc; writes.out]?);
-    let mut err = MemSink::failing(alloc, Vec::from_slice(alloc, writes.err)?);
+    let mut out = MemSink::failing(alloc, vec![in alloc; write]?);
+    let mut err = err_sink(alloc, is_mute)?;
     let status = amt(
         rt, alloc, &words, &mut input, files, &mut out, &mut err, live,
     );
     Ok(Ended { status, out, err })
 }
 
-/// A run of `amt relay` or `amt gateway` with these words: its input fails where it is read.
+/// A run of `amt relay` or `amt gateway` with these words: its input fails where it is read. The
+/// write of this number to the output fails, counted from 1, and those to standard error where it is mute.
 pub fn run<V: Live>(
     rt: &impl Wait,
     alloc: Global,
     line: &str,
     files: &mut MemFiles,
-    writes: &Writes,
+    write: u64,
+    is_mute: bool,
     live: &mut V,
 ) -> Result<Ended, AllocError> {
     let input = MemSource::failing(Bytes::new(alloc), vec![in alloc; 1]?);
-    run_over(rt, alloc, line, input, files, writes, live)
+    run_over(rt, alloc, line, input, files, write, is_mute, live)
 }
 
 /// A run of `amt replay relay` or `amt replay gateway` over this script.
@@ -106,7 +106,7 @@ pub fn replay<V: Live>(
 ) -> Result<Ended, AllocError> {
     let input = MemSource::failing(script, Vec::new(alloc));
     let mut files = MemFiles::new(alloc, Vec::new(alloc));
-    run_over(rt, alloc, line, input, &mut files, &ALL_WRITTEN, live)
+    run_over(rt, alloc, line, input, &mut files, 0, false, live)
 }
 
 /// The run ended with this status, this output and this line on standard error.
@@ -162,6 +162,6 @@ pub fn assert_served_by<R: Wait + Abort, V: Live>(
     let Ok(mut files) = files_of(alloc, settings, 0) else {
         panic!(rt; "out of memory");
     };
-    let ended = run(rt, alloc, line, &mut files, &ALL_WRITTEN, live);
+    let ended = run(rt, alloc, line, &mut files, 0, false, live);
     is_ended(rt, line, &ended, 0, out, "");
 }

@@ -1,16 +1,14 @@
 //! Devices of which one call fails, and what becomes of the run. It must not know what a relay or a gateway
 //! keeps to itself.
 
-use crate::answers::Answer;
-use crate::commands::{ALL_WRITTEN, File, Writes};
-use crate::devices::{Failing, NONE_FAILS, PACKET, UPDATE};
-use crate::relay_runs::{DONE, Row, assert_rows};
+use crate::commands::File;
+use crate::devices::{Failing, NONE_FAILS};
+use crate::relay_runs::{Course, DONE, Row, assert_rows};
 use crate::{gateway_devices, gateway_runs};
 
 // A relay that has copied the packet in the first turn.
 const COPIED: Row<'static> = Row {
-    heard: &[Answer::Octets(UPDATE), Answer::Nothing, Answer::Nothing],
-    fed: &[Answer::Octets(PACKET), Answer::Nothing],
+    course: Course::Early,
     status: 6,
     out: "",
     err: "amt: link fault\n",
@@ -38,31 +36,17 @@ const RECEIVINGS: [Row<'static>; 2] = [
 
 #[test]
 fn what_was_copied_before_a_receiving_fails_stays_copied(rt: HostRuntime) {
-    assert_rows(&rt, rt.alloc(), &RECEIVINGS);
+    assert_rows(&rt, rt.alloc(), RECEIVINGS.as_slice());
 }
 
 // A relay that hears three Discoveries in the first turn, of which one isn't answered.
 const ASKED: Row<'static> = Row {
-    heard: &[
-        Answer::Octets("0100000001020304"),
-        Answer::Octets("0100000001020305"),
-        Answer::Octets("0100000001020306"),
-        Answer::Nothing,
-        Answer::Nothing,
-        Answer::Nothing,
-    ],
-    fed: &[Answer::Nothing, Answer::Nothing, Answer::Nothing],
+    course: Course::Asked,
     out: "end turns\nturns 3\ndatagrams 3\npackets 0\nupdated 0\ntorn 0\nsent 2\nunsent 1\ninline 0\n\
 starved 0\nlate 0\nowed 0\npublished 3\napart 0\n",
     copies: 0,
     ..DONE
 };
-
-const FIRST: &str = "0200000001020304c0000201";
-
-const SECOND: &str = "0200000001020305c0000201";
-
-const THIRD: &str = "0200000001020306c0000201";
 
 const SENDS: [Row<'static>; 3] = [
     Row {
@@ -71,7 +55,6 @@ const SENDS: [Row<'static>; 3] = [
             send: 1,
             ..NONE_FAILS
         },
-        sent: &[(FIRST, false), (SECOND, true), (THIRD, true)],
         ..ASKED
     },
     Row {
@@ -80,7 +63,6 @@ const SENDS: [Row<'static>; 3] = [
             send: 2,
             ..NONE_FAILS
         },
-        sent: &[(FIRST, true), (SECOND, false), (THIRD, true)],
         ..ASKED
     },
     Row {
@@ -89,14 +71,13 @@ const SENDS: [Row<'static>; 3] = [
             send: 3,
             ..NONE_FAILS
         },
-        sent: &[(FIRST, true), (SECOND, true), (THIRD, false)],
         ..ASKED
     },
 ];
 
 #[test]
 fn of_three_sends_the_other_two_are_sent_where_one_fails(rt: HostRuntime) {
-    assert_rows(&rt, rt.alloc(), &SENDS);
+    assert_rows(&rt, rt.alloc(), SENDS.as_slice());
 }
 
 const STARTS: [Row<'static>; 1] = [Row {
@@ -115,17 +96,12 @@ const STARTS: [Row<'static>; 1] = [Row {
 
 #[test]
 fn where_the_first_of_two_workers_is_refused_there_is_no_turn(rt: HostRuntime) {
-    assert_rows(&rt, rt.alloc(), &STARTS);
+    assert_rows(&rt, rt.alloc(), STARTS.as_slice());
 }
 
 // No write to standard error succeeds.
-const MUTE: Writes = Writes {
-    out: 0,
-    err: &[1, 2, 3, 4, 5, 6, 7, 8],
-};
-
 const MUTE_RELAY: Row<'static> = Row {
-    writes: MUTE,
+    is_mute: true,
     out: "",
     err: "",
     openings: 0,
@@ -155,7 +131,7 @@ const MUTE_RELAYS: [Row<'static>; 7] = [
     },
     Row {
         what: "the counts aren't written",
-        writes: Writes { out: 1, ..MUTE },
+        write: 1,
         status: 5,
         openings: 1,
         outs: 2,
@@ -193,17 +169,17 @@ const MUTE_RELAYS: [Row<'static>; 7] = [
 
 #[test]
 fn a_relay_that_can_tell_nothing_ends_with_the_same_status(rt: HostRuntime) {
-    assert_rows(&rt, rt.alloc(), &MUTE_RELAYS);
+    assert_rows(&rt, rt.alloc(), MUTE_RELAYS.as_slice());
 }
 
 const MUTE_GATEWAY: gateway_runs::Row<'static> = gateway_runs::Row {
-    writes: MUTE,
+    is_mute: true,
     out: "",
     err: "",
     openings: 0,
     sets: 0,
-    sent: &[],
-    handed: &[],
+    sent: 0,
+    handed: 0,
     ..gateway_runs::DONE
 };
 
@@ -257,20 +233,17 @@ const MUTE_GATEWAYS: [gateway_runs::Row<'static>; 6] = [
 
 #[test]
 fn a_gateway_that_can_tell_nothing_ends_with_the_same_status(rt: HostRuntime) {
-    gateway_runs::assert_rows(&rt, rt.alloc(), &MUTE_GATEWAYS);
+    gateway_runs::assert_rows(&rt, rt.alloc(), MUTE_GATEWAYS.as_slice());
 }
 
 // The counts are one write: a second one never comes.
 const WRITES: [Row<'static>; 1] = [Row {
     what: "the second write would fail",
-    writes: Writes {
-        out: 2,
-        ..ALL_WRITTEN
-    },
+    write: 2,
     ..DONE
 }];
 
 #[test]
 fn the_counts_of_a_relay_are_one_write(rt: HostRuntime) {
-    assert_rows(&rt, rt.alloc(), &WRITES);
+    assert_rows(&rt, rt.alloc(), WRITES.as_slice());
 }

@@ -1,11 +1,9 @@
 //! What `amt gateway` ends with, what it writes, and what its devices come back with. It must not know what a
 //! gateway keeps to itself.
 
-use crate::answers::Answer;
-use crate::commands::{ALL_WRITTEN, File, SETTINGS, Writes};
-use crate::devices::PACKET;
+use crate::commands::{File, SETTINGS};
 use crate::gateway_devices::{Failing, NONE_FAILS};
-use crate::gateway_runs::{DISCOVERY, DONE, REQUEST, Row, UPDATE, assert_rows};
+use crate::gateway_runs::{Course, DONE, Row, assert_rows};
 
 const DONE_ROWS: [Row<'static>; 8] = [
     DONE,
@@ -18,28 +16,26 @@ const DONE_ROWS: [Row<'static>; 8] = [
     Row {
         what: "the link is closed at once",
         words: "gateway F",
-        heard: &[],
-        told: &[],
+        course: Course::Closed,
         out: "end closed\nturns 0\ndatagrams 0\ncontrols 0\nbad_controls 0\ndelivered 0\nunsent 0\nstarved 0\n",
-        sent: &[(DISCOVERY, true)],
-        handed: &[],
+        sent: 1,
+        handed: 0,
         ..DONE
     },
     Row {
         what: "the control feed is closed at once",
-        heard: &[Answer::Nothing],
-        told: &[],
+        course: Course::Untold,
         out: "end closed\nturns 0\ndatagrams 0\ncontrols 0\nbad_controls 0\ndelivered 0\nunsent 0\nstarved 0\n",
-        sent: &[(DISCOVERY, true)],
-        handed: &[],
+        sent: 1,
+        handed: 0,
         ..DONE
     },
     Row {
         what: "one turn is done, though the devices have more",
         words: "gateway F --turns 1",
         out: "end turns\nturns 1\ndatagrams 1\ncontrols 2\nbad_controls 1\ndelivered 0\nunsent 0\nstarved 0\n",
-        sent: &[(DISCOVERY, true), (REQUEST, true)],
-        handed: &[],
+        sent: 2,
+        handed: 0,
         ..DONE
     },
     Row {
@@ -49,7 +45,6 @@ const DONE_ROWS: [Row<'static>; 8] = [
             ..NONE_FAILS
         },
         out: "end turns\nturns 3\ndatagrams 3\ncontrols 2\nbad_controls 1\ndelivered 1\nunsent 1\nstarved 0\n",
-        sent: &[(DISCOVERY, true), (REQUEST, false), (UPDATE, true)],
         ..DONE
     },
     Row {
@@ -59,7 +54,6 @@ const DONE_ROWS: [Row<'static>; 8] = [
             ..NONE_FAILS
         },
         out: "end turns\nturns 3\ndatagrams 3\ncontrols 2\nbad_controls 1\ndelivered 1\nunsent 1\nstarved 0\n",
-        handed: &[(PACKET, false)],
         ..DONE
     },
     Row {
@@ -76,8 +70,8 @@ const UNOPENED: Row<'static> = Row {
     out: "",
     openings: 0,
     sets: 0,
-    sent: &[],
-    handed: &[],
+    sent: 0,
+    handed: 0,
     ..DONE
 };
 
@@ -220,17 +214,14 @@ const NO_WORD: Row<'static> = Row {
     status: 10,
     out: "",
     err: "amt: random source fault\n",
-    handed: &[],
+    handed: 0,
     ..DONE
 };
 
 const ENDED_ROWS: [Row<'static>; 9] = [
     Row {
         what: "the counts aren't written, though a packet was handed on",
-        writes: Writes {
-            out: 1,
-            ..ALL_WRITTEN
-        },
+        write: 1,
         status: 5,
         out: "",
         err: "amt: write fault\n",
@@ -243,8 +234,8 @@ const ENDED_ROWS: [Row<'static>; 9] = [
             ..NONE_FAILS
         },
         sets: 0,
-        sent: &[],
-        handed: &[],
+        sent: 0,
+        handed: 0,
         ..LINK_FAULT
     },
     Row {
@@ -253,8 +244,8 @@ const ENDED_ROWS: [Row<'static>; 9] = [
             receiving: 1,
             ..NONE_FAILS
         },
-        sent: &[(DISCOVERY, true)],
-        handed: &[],
+        sent: 1,
+        handed: 0,
         ..LINK_FAULT
     },
     Row {
@@ -271,8 +262,8 @@ const ENDED_ROWS: [Row<'static>; 9] = [
             telling: 1,
             ..NONE_FAILS
         },
-        sent: &[(DISCOVERY, true), (REQUEST, true)],
-        handed: &[],
+        sent: 2,
+        handed: 0,
         ..LINK_FAULT
     },
     Row {
@@ -289,7 +280,7 @@ const ENDED_ROWS: [Row<'static>; 9] = [
             drawing: 1,
             ..NONE_FAILS
         },
-        sent: &[],
+        sent: 0,
         ..NO_WORD
     },
     Row {
@@ -298,7 +289,7 @@ const ENDED_ROWS: [Row<'static>; 9] = [
             drawing: 2,
             ..NONE_FAILS
         },
-        sent: &[(DISCOVERY, true)],
+        sent: 1,
         ..NO_WORD
     },
     Row {
@@ -307,28 +298,32 @@ const ENDED_ROWS: [Row<'static>; 9] = [
             drawing: 3,
             ..NONE_FAILS
         },
-        sent: &[(DISCOVERY, true), (REQUEST, true)],
+        sent: 2,
         ..NO_WORD
     },
 ];
 
 #[test]
 fn turns_that_are_done_and_closed_devices_end_a_gateway_well(rt: HostRuntime) {
-    assert_rows(&rt, rt.alloc(), &DONE_ROWS);
+    assert_rows(&rt, rt.alloc(), DONE_ROWS.as_slice());
 }
 
 #[test]
 fn without_arguments_of_a_gateway_nothing_is_opened(rt: HostRuntime) {
-    assert_rows(&rt, rt.alloc(), &WORDS_ROWS);
+    assert_rows(&rt, rt.alloc(), WORDS_ROWS.as_slice());
 }
 
 #[test]
 fn without_settings_of_a_gateway_nothing_is_opened(rt: HostRuntime) {
-    assert_rows(&rt, rt.alloc(), &SETTINGS_ROWS);
-    assert_rows(&rt, rt.alloc(), &FILE_ROWS);
+    assert_rows(&rt, rt.alloc(), SETTINGS_ROWS.as_slice());
+}
+
+#[test]
+fn without_the_file_of_a_gateway_nothing_is_opened(rt: HostRuntime) {
+    assert_rows(&rt, rt.alloc(), FILE_ROWS.as_slice());
 }
 
 #[test]
 fn each_end_of_a_gateway_has_its_status_and_gives_its_devices_back(rt: HostRuntime) {
-    assert_rows(&rt, rt.alloc(), &ENDED_ROWS);
+    assert_rows(&rt, rt.alloc(), ENDED_ROWS.as_slice());
 }

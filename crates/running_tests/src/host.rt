@@ -1,6 +1,6 @@
 //! The command over the devices of the machine. It must not know what they are.
 
-use crate::commands::{ALL_WRITTEN, files_of, is_ended, run};
+use crate::commands::{files_of, is_ended, run};
 use amt_live::HostLive;
 use amt_values::Bytes;
 use std::alloc::AllocError;
@@ -18,7 +18,7 @@ fn a_relay_runs_on_the_devices_of_the_machine(rt: HostRuntime) -> Result<(), All
     let mut files = files_of(rt.alloc(), settings, 0)?;
     let mut live = HostLive::new(rt, rt.alloc());
     let words = "relay F --turns 3 --workers 2";
-    let ended = run(&rt, rt.alloc(), words, &mut files, &ALL_WRITTEN, &mut live);
+    let ended = run(&rt, rt.alloc(), words, &mut files, 0, false, &mut live);
     let out =
         "end turns\nturns 3\ndatagrams 0\npackets 0\nupdated 0\ntorn 0\nsent 0\nunsent 0\ninline 0\n\
 starved 0\nlate 0\nowed 0\npublished 3\napart 0\n";
@@ -33,7 +33,7 @@ fn a_gateway_runs_on_the_devices_of_the_machine(rt: HostRuntime) -> Result<(), A
     let mut files = files_of(rt.alloc(), settings, 0)?;
     let mut live = HostLive::new(rt, rt.alloc());
     let words = "gateway F --turns 3";
-    let ended = run(&rt, rt.alloc(), words, &mut files, &ALL_WRITTEN, &mut live);
+    let ended = run(&rt, rt.alloc(), words, &mut files, 0, false, &mut live);
     let out =
         "end turns\nturns 3\ndatagrams 0\ncontrols 0\nbad_controls 0\ndelivered 0\nunsent 0\nstarved 0\n";
     is_ended(&rt, words, &ended, 0, out, "");

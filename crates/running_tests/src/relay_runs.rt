@@ -2,13 +2,11 @@
 //! compared with. It must not know what a relay keeps to itself.
 
 use crate::answers::{Answer, octets_of};
-use crate::commands::{
-    ALL_WRITTEN, Ended, File, SETTINGS, Writes, file_of, files_of, is_ended, run,
-};
+use crate::commands::{Ended, File, SETTINGS, file_of, files_of, is_ended, run};
 use crate::devices::{
     ENDPOINT, Failing, MESSAGE, MemSets, NONE_FAILS, PACKET, UPDATE, devices_of, live_of,
 };
-use crate::sends::{Sent, assert_sends};
+use crate::sends::assert_sends;
 use crate::starters::Starter;
 use amt_live::{DeviceSet, Opening};
 use amt_ports::{ListedSpawner, MemOut, Tried};
@@ -33,19 +31,69 @@ type Spawner<'a, R> = ListedSpawner<&'a R, Starter<'a, R>>;
 
 type Sets<'a, R> = MemSets<MemOut, Spawner<'a, R>>;
 
-// In the first turn the Update comes, in the second the packet, in the third nothing. Then the link is closed.
-const HEARD: [Answer<'static>; 4] = [
-    Answer::Octets(UPDATE),
-    Answer::Nothing,
-    Answer::Nothing,
-    Answer::Nothing,
-];
+/// What comes to a relay in three turns. Then its link is closed.
+#[derive(Clone, Copy)]
+pub enum Course {
+    /// The Update in the first turn, and the packet in the second.
+    Usual,
+    /// Both in the first turn.
+    Early,
+    /// Three Discoveries in the first turn.
+    Asked,
+}
 
-const FED: [Answer<'static>; 4] = [
-    Answer::Nothing,
-    Answer::Octets(PACKET),
-    Answer::Nothing,
-    Answer::Nothing,
+impl Course {
+    fn heard(self) -> &'static [Answer<'static>] {
+        match self {
+            Course::Usual | Course::Early => &[
+                Answer::Octets(UPDATE),
+                Answer::Nothing,
+                Answer::Nothing,
+                Answer::Nothing,
+            ],
+            Course::Asked => &[
+                Answer::Octets("0100000001020304"),
+                Answer::Octets("0100000001020305"),
+                Answer::Octets("0100000001020306"),
+                Answer::Nothing,
+                Answer::Nothing,
+                Answer::Nothing,
+            ],
+        }
+    }
+
+    fn fed(self) -> &'static [Answer<'static>] {
+        match self {
+            Course::Usual => &[
+                Answer::Nothing,
+                Answer::Octets(PACKET),
+                Answer::Nothing,
+                Answer::Nothing,
+            ],
+            Course::Early => &[
+                Answer::Octets(PACKET),
+                Answer::Nothing,
+                Answer::Nothing,
+                Answer::Nothing,
+            ],
+            Course::Asked => &[Answer::Nothing, Answer::Nothing, Answer::Nothing],
+        }
+    }
+
+    // How many answers the relay sends.
+    fn sends(self) -> usize {
+        match self {
+            Course::Usual | Course::Early => 0,
+            Course::Asked => 3,
+        }
+    }
+}
+
+// What it answers to three Discoveries.
+const ADVERTISEMENTS: [&str; 3] = [
+    "0200000001020304c0000201",
+    "0200000001020305c0000201",
+    "0200000001020306c0000201",
 ];
 
 /// A run of the command over a file `F` and one set of devices.
@@ -54,13 +102,13 @@ pub struct Row<'a> {
     pub what: &'a str,
     pub words: &'a str,
     pub file: File<'a>,
-    /// The reading that fails, counted from 1, the writes, and the calls of the devices.
+    /// The reading and the write to the output that fail, counted from 1; whether those to standard error do;
+    /// and the calls of the devices that fail.
     pub reading: u64,
-    pub writes: Writes,
+    pub write: u64,
+    pub is_mute: bool,
     pub failing: Failing,
-    /// What the link and the feed answer.
-    pub heard: &'a [Answer<'a>],
-    pub fed: &'a [Answer<'a>],
+    pub course: Course,
     pub status: u8,
     pub out: &'a str,
     pub err: &'a str,
@@ -70,8 +118,6 @@ pub struct Row<'a> {
     pub slots: u32,
     pub outs: usize,
     pub copies: usize,
-    /// What the link has tried to send to the endpoint.
-    pub sent: &'a [Sent<'a>],
 }
 
 /// Three turns in which one packet is copied.
@@ -80,10 +126,10 @@ pub const DONE: Row<'static> = Row {
     words: "relay F --turns 3 --workers 2",
     file: File::Text(SETTINGS),
     reading: 0,
-    writes: ALL_WRITTEN,
+    write: 0,
+    is_mute: false,
     failing: NONE_FAILS,
-    heard: &HEARD,
-    fed: &FED,
+    course: Course::Usual,
     status: 0,
     out: "end turns\nturns 3\ndatagrams 1\npackets 1\nupdated 1\ntorn 0\nsent 1\nunsent 0\ninline 0\n\
 starved 0\nlate 0\nowed 0\npublished 4\napart 0\n",
@@ -92,7 +138,6 @@ starved 0\nlate 0\nowed 0\npublished 4\napart 0\n",
     slots: 2,
     outs: 2,
     copies: 1,
-    sent: &[],
 };
 
 fn two_outs(alloc: Global) -> Result<Outs<MemOut>, AllocError> {
@@ -111,7 +156,14 @@ fn live_for<'a, R: Threads + Wait + 'static>(
     let refused = vec![in alloc; failing.start]?;
     let spawner = ListedSpawner::new(rt, Starter { rt }, refused);
     let outs = two_outs(alloc)?;
-    let devices = devices_of(alloc, failing, row.heard, row.fed, outs, spawner)?;
+    let devices = devices_of(
+        alloc,
+        failing,
+        row.course.heard(),
+        row.course.fed(),
+        outs,
+        spawner,
+    )?;
     live_of(alloc, failing, devices)
 }
 
@@ -123,7 +175,15 @@ fn run_row<R: Threads + Wait + 'static>(
 ) -> Result<Ended, AllocError> {
     let octets = file_of(alloc, &row.file)?;
     let mut files = files_of(alloc, octets, row.reading)?;
-    run(rt, alloc, row.words, &mut files, &row.writes, live)
+    run(
+        rt,
+        alloc,
+        row.words,
+        &mut files,
+        row.write,
+        row.is_mute,
+        live,
+    )
 }
 
 fn assert_copy(rt: &impl Abort, what: &str, tried: &Tried, message: &Bytes) {
@@ -160,22 +220,30 @@ fn assert_opened(rt: &impl Abort, row: &Row, asked: &[Opening]) {
     }
 }
 
+// The link has answered each Discovery, but for one where that send fails.
+fn assert_answers(rt: &impl Abort, alloc: Global, row: &Row, tried: &[Tried]) {
+    let count = row.course.sends();
+    assert_sends(
+        rt,
+        alloc,
+        row.what,
+        &ENDPOINT,
+        tried,
+        &ADVERTISEMENTS,
+        count,
+        row.failing.send,
+    );
+}
+
 // What is opened comes back, once.
 fn assert_returned<R>(rt: &impl Abort, alloc: Global, row: &Row, live: &Sets<R>) {
     assert_opened(rt, row, live.asked());
     match live.returned() {
-        [] => assert!(rt; row.outs == 0 && row.sent.is_empty(), "{}", row.what),
+        [] => assert_eq!(rt; row.outs, 0, "{}", row.what),
         [DeviceSet::Relay(devices)] => {
             assert_eq!(rt; devices.outs.len(), row.outs, "{}", row.what);
             assert_copies(rt, alloc, row, devices.outs.as_slice());
-            assert_sends(
-                rt,
-                alloc,
-                row.what,
-                &ENDPOINT,
-                devices.link.tried(),
-                row.sent,
-            );
+            assert_answers(rt, alloc, row, devices.link.tried());
         }
         _ => panic!(rt; "{}", row.what),
     }

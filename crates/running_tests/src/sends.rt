@@ -7,37 +7,41 @@ use amt_values::Peer;
 use std::alloc::Global;
 use std::process::Abort;
 
-/// The digits of what was tried, and whether the device took it.
-pub type Sent<'a> = (&'a str, bool);
-
 fn assert_send(
     rt: &impl Abort,
     alloc: Global,
     what: &str,
     to: &Peer,
     tried: &Tried,
-    (digits, sent): &Sent,
+    digits: &str,
+    sent: bool,
 ) {
     let Ok(octets) = octets_of(alloc, digits) else {
         panic!(rt; "no octets: {digits}");
     };
     let is_same = tried.to == *to
         && tried.bytes.as_slice() == octets.as_slice()
-        && tried.sent == *sent;
+        && tried.sent == sent;
     assert!(rt; is_same, "{what}: {tried:?} for {digits}");
 }
 
-/// Just these were tried, in this order, all of them to one peer.
+/// So many of these were tried, in this order, and nothing else; all of them to one peer. They were sent but for
+/// the one of this number, counted from 1; 0 for none.
 pub fn assert_sends(
     rt: &impl Abort,
     alloc: Global,
     what: &str,
     to: &Peer,
     tried: &[Tried],
-    sends: &[Sent],
+    list: &[&str],
+    count: usize,
+    failing: u64,
 ) {
-    for (one, send) in tried.iter().zip(sends) {
-        assert_send(rt, alloc, what, to, one, send);
+    let mut number = 0u64;
+    for (one, digits) in tried.iter().zip(list) {
+        number = number.saturating_add(1);
+        assert_send(rt, alloc, what, to, one, digits, number != failing);
     }
-    assert_eq!(rt; tried.len(), sends.len(), "{what}");
+    assert_eq!(rt; tried.len(), count, "{what}");
+    assert!(rt; count <= list.len(), "{what}");
 }
