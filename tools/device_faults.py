@@ -204,32 +204,28 @@ def a_gateway_is_gone(bench):
     return "the run goes on: 5 copies to each of the two, `unsent 0`"
 
 
-def the_receiver_of_a_gateway_is_gone(bench):
+def handed_on(bench, unsent, **changes):
+    """Three packets that a gateway hands on, at an address where nothing takes them."""
     relay = bench.relay()
-    join = '\n[[join]]\nname = "a"\ngroup = "%s"\nmode = "exclude"\nsources = []\n' % GROUP
-    words = bench.words("gateway")
+    words = bench.words("gateway", LONG, **changes)
     with open(words[-3], "a", encoding="ascii") as file:
-        file.write(join)
+        file.write(f'\n[[join]]\nname = "a"\ngroup = "{GROUP}"\nmode = "exclude"\nsources = []\n')
     gateway = End(words, bench.address, [OTHER, CONTROL])
-    time.sleep(0.5)
+    # Discovery, Request and Update take some turns.
+    time.sleep(1)
     for number in range(3):
         bench.feed(packet(SOURCE, GROUP, b"%d" % number))
-    bench.done(gateway, delivered=3, unsent=0)
-    bench.done(relay, packets=3, unsent=0)
+    bench.done(gateway, delivered=3, unsent=unsent, datagrams=5)
+    bench.done(relay, packets=3, updated=1, unsent=0)
+
+
+def the_receiver_of_a_gateway_is_gone(bench):
+    handed_on(bench, 0)
     return "the run goes on: `delivered 3`, `unsent 0`"
 
 
 def the_receiver_of_a_gateway_is_of_another_family(bench):
-    relay = bench.relay()
-    words = bench.words("gateway", deliver="[::1]:2272")
-    with open(words[-3], "a", encoding="ascii") as file:
-        file.write('\n[[join]]\nname = "a"\ngroup = "%s"\nmode = "exclude"\nsources = []\n' % GROUP)
-    gateway = End(words, bench.address, [OTHER, CONTROL])
-    time.sleep(0.5)
-    for number in range(3):
-        bench.feed(packet(SOURCE, GROUP, b"%d" % number))
-    bench.done(gateway, delivered=3, unsent=3)
-    bench.done(relay, packets=3, unsent=0)
+    handed_on(bench, 3, deliver="[::1]:2272")
     return "each send is counted, and the run goes on: `delivered 3`, `unsent 3`"
 
 
