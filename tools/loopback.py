@@ -15,6 +15,8 @@ import time
 HERE = pathlib.Path(__file__).resolve().parent
 AMT = str(HERE.parent / "crates" / "amt" / "out" / "amt")
 AMT_PORT = 2268
+# An idle turn takes at least 2 ms, and one in which something comes may take much less.
+TURNS_A_SECOND = 2000
 DISCOVERY, ADVERTISEMENT, REQUEST, QUERY, UPDATE, DATA, TEARDOWN = range(1, 8)
 # Kinds of group records (RFC 3376, section 4.2.12).
 IS_IN, IS_EX, TO_IN, TO_EX, ALLOW, BLOCK = range(1, 7)
@@ -197,4 +199,10 @@ def stop_all():
         STARTED.pop().stop()
 
 
+def ended_by_signal(_number, _frame):
+    """Nothing that was started outlives this program."""
+    raise SystemExit(1)
+
+
 atexit.register(stop_all)
+signal.signal(signal.SIGTERM, ended_by_signal)

@@ -13,7 +13,7 @@ Input is the real one; output, errors, files and devices are in memory. It prove
 repository, where it builds the program of tools/refuse_memory/main.rt.in by `rt try`.
 
 rt refuses one allocation of a run, by its number, and builds anew each time it is called. So there is one build, in
-which allocation 20,000 is refused, and a run for each N makes 20,000 - N allocations first. N counts from the first
+which allocation 1,000 is refused, and a run for each N makes 1,000 - N allocations first. N counts from the first
 allocation of the program; the first some of them make its devices, and runs in which they are refused are told as such.
 LAST has to be past the last allocation of each session: 500 is, and is the default. The build takes a minute or two, and
 a run some tenths of a second.
@@ -42,7 +42,7 @@ REPOSITORY = HERE.parent
 NAME = "refuse_memory"
 # The crate that has the same devices and makes the same calls: what it stands on is what the program needs.
 LIKE = "running_tests"
-REFUSED = 20_000
+REFUSED = 1_000
 SESSIONS = {
     "pair": ["replay", "pair"],
     "relay": ["relay", "F", "--turns", "3", "--workers", "2"],

@@ -433,16 +433,18 @@ class Watched:
         return statistics.median(self.kb[name][-quarter:]) - statistics.median(self.kb[name][quarter:2 * quarter])
 
 
-def ends_of(command, address, folder):
-    """A relay that says of itself that it is the hop, and a gateway that goes to the hop."""
+def ends_of(command, address, folder, seconds):
+    """A relay that says of itself that it is the hop, and a gateway that goes to the hop. Were this program killed, they
+    would end by their turns."""
+    turns = str(int((seconds + 60) * loopback.TURNS_A_SECOND))
     relay = loopback.write_settings(f"{folder}/relay.toml", {
         "relay": address, "listen": f"{address}:{RELAY}", "feed": f"{address}:{FEED}", "query4": address, "workers": 2,
         "robustness": ROBUSTNESS, "query_seconds": QUERY_SECONDS, "response_tenths": RESPONSE_TENTHS, "rotate_seconds": 60})
     gateway = loopback.write_settings(f"{folder}/gateway.toml", {
         "family": "v4", "source": loopback.HOST, "listen": f"{address}:{LISTEN}", "deliver": f"{address}:{DELIVER}",
         "control": f"{address}:{CONTROL}", "discovery": f"{address}:{AMT_PORT}", "relay": f"{address}:{AMT_PORT}"})
-    return {"relay": End([*command, "relay", relay], address, [RELAY, FEED]),
-            "gateway": End([*command, "gateway", gateway], address, [LISTEN, CONTROL])}
+    return {"relay": End([*command, "relay", relay, "--turns", turns], address, [RELAY, FEED]),
+            "gateway": End([*command, "gateway", gateway, "--turns", turns], address, [LISTEN, CONTROL])}
 
 
 def tell(soak, watched, ends, seconds):
@@ -467,7 +469,7 @@ def main():
     address = f"127.67.{os.getpid() % 255}.1"
     with tempfile.TemporaryDirectory() as folder:
         soak = Soak(address, seed)
-        ends = ends_of(command, address, folder)
+        ends = ends_of(command, address, folder, seconds)
         watched = Watched(ends)
         began = time.monotonic()
         soak.run(seconds, watched)
