@@ -11,7 +11,7 @@ membership lasts 2 x QUERY_SECONDS + 10 s; QUERY_SECONDS is 45 where none is giv
     2. 10,000 other ports send a Request each. Each gets its Query, without the L flag: not one has become an endpoint.
        The relay's resident memory grows by no more than 256 KiB, and packets to 256 of the endpoints are copied.
     3. The last endpoint reports, and then the L flag is set: all 65,536 are live.
-    4. All ask and report again, in less than half of what a membership lasts.
+    4. After an eighth of what a membership lasts all ask and report again, in less than half of it.
     5. Once all first reports are past that, the L flag is still set, so all were renewed; the packets are copied.
     6. Once the second ones are too, the L flag isn't set, and no packet is copied.
 
@@ -172,6 +172,8 @@ def run(load):
     joined = time.monotonic()
     print(f"the last endpoint reported, and the relay is full, after {joined - began:.1f} s", flush=True)
 
+    # So that there is a time at which the first reports are past, and the second ones aren't.
+    wait_until(joined + load.lasts_s / 8)
     took, limited = timed(load.report, 0, many)
     renewed = time.monotonic()
     expect(limited == many, f"{many - limited} Queries without the L flag: memberships expired")

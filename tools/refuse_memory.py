@@ -33,6 +33,7 @@ import collections
 import pathlib
 import re
 import shutil
+import signal
 import subprocess
 import sys
 import tempfile
@@ -190,6 +191,7 @@ def tell(session, numbers, texts, is_lasting):
 
 
 def main():
+    signal.signal(signal.SIGTERM, lambda number, _: sys.exit(128 + number))
     words = sys.argv[1:]
     if "--help" in words:
         print(__doc__)
