@@ -145,6 +145,17 @@ def the_output_is_full(bench):
     return "status 5, of relay, gateway and vectors"
 
 
+def the_output_is_a_closed_pipe(bench):
+    for words in (bench.words("relay"), bench.words("gateway"), [*bench.command, "load", "1", "10"]):
+        reader, writer = os.pipe()
+        os.close(reader)
+        try:
+            bench.ends_with(words, 5, "amt: write fault\n", stdout=writer)
+        finally:
+            os.close(writer)
+    return "status 5, of relay, gateway and load"
+
+
 def the_errors_are_full(bench):
     with open("/dev/full", "w", encoding="ascii") as full:
         bench.ends_with([*bench.command, "jump"], 2, "", stderr=full)
@@ -349,6 +360,7 @@ def a_send_never_has_room(bench):
     return "`unsent 1` after a hundred tries, and the five other copies come"
 
 
+# The monotonic clock is right for a second and a half from its first reading on, and then another one.
 CLOCK = """
 #define _GNU_SOURCE
 #include <stdlib.h>
@@ -356,36 +368,47 @@ CLOCK = """
 #include <time.h>
 #include <unistd.h>
 int clock_gettime(clockid_t clock, struct timespec *now) {
-    static long count;
+    static struct timespec first;
     int status = syscall(SYS_clock_gettime, clock, now);
-    if (++count > 400) now->tv_sec -= atoi(getenv("CLOCK_BACK"));
+    if (clock != CLOCK_MONOTONIC) return status;
+    if (first.tv_sec == 0) first = *now;
+    if ((now->tv_sec - first.tv_sec) * 1000 + (now->tv_nsec - first.tv_nsec) / 1000000 > 1500)
+        now->tv_sec += atoi(getenv("CLOCK_SHIFT"));
     return status;
 }
 """
 
 
-def preloaded(bench):
-    """A library that sets the clock back, for a program that takes the time from a C library."""
+def shifted(bench, seconds):
+    """How many of three packets are copied to an endpoint that reported before the clock was shifted."""
     compiler = os.environ.get("CC", "cc")
     if shutil.which(compiler) is None:
         raise Skipped(f"there is no {compiler}")
     source, library = bench.folder / "clock.c", bench.folder / "clock.so"
     source.write_text(CLOCK)
     subprocess.run([compiler, "-O1", "-shared", "-fPIC", "-o", library, source], check=True, capture_output=True)
-    return str(library)
+    relay = End(bench.words("relay", LONG), bench.address, [AMT_PORT, FEED],
+                env={**os.environ, "LD_PRELOAD": str(library), "CLOCK_SHIFT": str(seconds)})
+    began = time.monotonic()
+    endpoint = bench.joined(bench.address)
+    expect(time.monotonic() < began + 1, "too much else runs on this machine")
+    time.sleep(1.7)
+    endpoint.socket.settimeout(0.3)
+    came = 0
+    for number in range(3):
+        bench.feed(packet(SOURCE, GROUP, b"%d" % number))
+        came += endpoint.receive(DATA) is not None
+    bench.done(relay, packets=3, updated=1, unsent=0)
+    return came
 
 
 def the_clock_goes_back(bench):
-    relay = End(bench.words("relay", LONG), bench.address, [AMT_PORT, FEED],
-                env={**os.environ, "LD_PRELOAD": preloaded(bench), "CLOCK_BACK": "3600"})
-    if "clock.so" not in pathlib.Path(f"/proc/{relay.process.pid}/maps").read_text():
-        relay.stop()
-        raise Skipped("the binary takes nothing from a C library; `time_ends_a_membership` of serving_tests has a clock that goes back")
-    endpoint = bench.joined(bench.address)
-    time.sleep(1.5)
-    bench.copies(endpoint, 3)
-    bench.done(relay, packets=3, updated=1, unsent=0)
-    return "the run goes on, and the membership counts"
+    # Forward by an hour, so that the membership has expired: else this program doesn't reach the clock.
+    if shifted(bench, 3600) != 0:
+        raise Skipped("`amt` takes the time from no C library; `time_ends_a_membership` of serving_tests has such a clock")
+    came = shifted(bench, -3600)
+    expect(came == 3, f"{came} of 3 packets were copied")
+    return "the run goes on, and the membership counts; after an hour forward it has expired"
 
 
 FAULTS = [
@@ -393,6 +416,7 @@ FAULTS = [
     a_port_of_a_gateway_is_taken,
     an_address_is_not_ours,
     the_output_is_full,
+    the_output_is_a_closed_pipe,
     the_errors_are_full,
     the_settings_cannot_be_read,
     the_input_cannot_be_read,

@@ -9,14 +9,14 @@ The sessions are:
     relay    `amt relay` over devices in memory: three turns with two workers, an Update in the first, a packet in the
              second
     inline   the same with no worker, which isn't run where no session is named
-Input is the real one; output, errors, files and devices are in memory. It proves nothing, and works on a copy of the
-repository, where it builds the program of tools/refuse_memory/main.rt.in by `rt try`.
+Input, output, errors, files and devices are in memory. It proves nothing, and works on a copy of the repository, where
+it builds the tests of tools/refuse_memory/sessions.rt.in by `rt try --test`.
 
-rt refuses one allocation of a run, by its number, and builds anew each time it is called. So there is one build, in
-which allocation 1,000 is refused, and a run for each N makes 1,000 - N allocations first. N counts from the first
-allocation of the program; the first some of them make its devices, and runs in which they are refused are told as such.
-LAST has to be past the last allocation of each session: 500 is, and is the default. The build takes a minute or two, and
-a run some tenths of a second.
+rt refuses one allocation of a process, by its number, and builds anew each time it is called. So one build has a test for
+each N, which makes 1,000 - N allocations first, and allocation 1,000 is refused. N counts from the first allocation of
+the test; the first some of them make its devices, and tests in which they are refused are told as such. LAST has to be
+past the last allocation of each session: 500 is, and is the default. It takes some three minutes of a processor, nearly
+all of them for the build, whatever the range is.
 
 A run has to come to one of these, after which nothing is as it shouldn't be:
     7            status 7, its line, and a beginning of the output, which is empty for a relay
@@ -44,12 +44,14 @@ NAME = "refuse_memory"
 # The crate that has the same devices and makes the same calls: what it stands on is what the program needs.
 LIKE = "running_tests"
 REFUSED = 1_000
+LONGEST_S = 600
+# The command of each session, and for how many workers it has links out.
 SESSIONS = {
-    "pair": ["replay", "pair"],
-    "relay": ["relay", "F", "--turns", "3", "--workers", "2"],
-    "inline": ["relay", "F", "--turns", "3", "--workers", "0"],
+    "pair": ("replay pair", 0),
+    "relay": ("relay F --turns 3 --workers 2", 2),
+    "inline": ("relay F --turns 3 --workers 0", 1),
 }
-LINES = {7: "amt: out of memory\n", 5: "amt: write fault\n", 6: "amt: link fault\n"}
+LINES = {7: "amt: out of memory;", 5: "amt: write fault;", 6: "amt: link fault;"}
 KINDS = ["before the session", "7", "5", "6", "starved", "late", "owed", "unsent", "enough", "none"]
 
 
@@ -58,21 +60,25 @@ class Failed(Exception):
 
 
 class Run:
-    """What the program told of a run."""
+    """What a test told of its session, and of the same session with enough memory."""
+
+    LINE = re.compile(r"refused ([01]) status (\d+) output (\w+) kept (\d+) (\d+) of (\d+) err(.*?)( report.*)?")
 
     def __init__(self, text):
-        self.is_padded = text != "unpadded\n"
+        self.is_padded = text is not None
         if self.is_padded:
-            told = re.fullmatch(r"refused ([01])\nstatus (\d+)\nkept (\d+) (\d+)\nerr (.*?)\nout\n(.*)", text, re.S)
+            told = self.LINE.fullmatch(text)
             if told is None:
-                raise Failed(f"it tells {text!r}")
-            self.is_refused = told[1] == "1"
-            self.status = int(told[2])
-            self.kept, self.strange = int(told[3]), int(told[4])
-            self.err, self.out = told[5], told[6]
+                raise Failed("nothing that is known")
+            self.is_refused, self.status, self.output = told[1] == "1", int(told[2]), told[3]
+            self.kept, self.strange, self.wanted = int(told[4]), int(told[5]), int(told[6])
+            self.err = told[7].strip()
+            out, _, enough = (told[8] or "").partition(" enough")
+            self.counts, self.enough = counts_in(out), counts_in(enough)
 
-    def counts(self):
-        return {key: int(value) for key, value in re.findall(r"^(\w+) (\d+)$", self.out, re.M)}
+
+def counts_in(text):
+    return dict(re.findall(r"(\w+) (\w+);", text))
 
 
 def expect(holds, what):
@@ -80,10 +86,10 @@ def expect(holds, what):
         raise Failed(what)
 
 
-def check_report(run, enough):
-    """The report of a run in which memory refused something, and went on: one allocation of it was refused."""
-    counts, whole = run.counts(), enough.counts()
-    expect(list(counts) == list(whole) and run.out.startswith("end turns\n"), "no report")
+def check_report(run):
+    """The report of a run in which memory refused something, and that went on: one allocation of it was refused."""
+    expect(list(run.counts) == list(run.enough) and run.counts["end"] == "turns", "no report")
+    counts, whole = ({key: int(value) for key, value in it.items() if key != "end"} for it in (run.counts, run.enough))
     expect(counts["turns"] == whole["turns"] and counts["torn"] == 0, "other turns")
     expect(counts["starved"] + counts["late"] + counts["unsent"] <= 1, "more than one refusal")
     expect(counts["apart"] == 0, "a view is apart")
@@ -101,26 +107,25 @@ def check_report(run, enough):
     expect(run.kept in (counts["sent"], copies), "sends that aren't the report's")
 
 
-def kind_of(run, enough):
+def kind_of(run):
     """Which of the lawful results the run has."""
     if not run.is_padded:
         return "before the session"
     expect(run.strange == 0, "a send that isn't the copy")
     if run.status in LINES:
-        expect(run.is_refused, f"status {run.status}, and nothing was refused")
-        expect(run.err == LINES[run.status], f"status {run.status} with the line {run.err!r}")
-        expect(enough.out.startswith(run.out), f"status {run.status}, and other output")
-        expect(run.out == "" or (run.status != 6 and not enough.kept), f"status {run.status}, and a report")
+        expect(run.is_refused, "nothing was refused")
+        expect(run.err == LINES[run.status], "another line")
+        expect(run.output == "none" or run.output == "part" and run.status != 6, "other output")
+        expect(run.output == "none" or not run.enough or run.status == 5, "a report")
         return str(run.status)
-    expect(run.status == 0, f"status {run.status}")
-    expect(run.err == "", f"status 0 with the line {run.err!r}")
-    if run.out == enough.out and run.kept == enough.kept:
+    expect(run.status == 0, "another status")
+    expect(run.err == "", "a line with status 0")
+    if run.output == "whole" and run.kept == run.wanted:
         return "enough" if run.is_refused else "none"
-    expect(run.is_refused, "other output, and nothing was refused")
-    counts = run.counts()
-    above = [name for name in ("starved", "late", "owed", "unsent") if counts.get(name, 0) > 0]
-    expect(above, "other output")
-    check_report(run, enough)
+    expect(run.is_refused, "nothing was refused")
+    above = [name for name in ("starved", "late", "owed", "unsent") if run.counts.get(name, "0") != "0"]
+    expect(above, "other output, and a report that tells of no refusal")
+    check_report(run)
     return above[0]
 
 
@@ -131,56 +136,71 @@ def lines_for_copy():
     return f"{text}\n{NAME}:{uses}\n"
 
 
+def tests_of(numbers, sessions):
+    """A test for each run."""
+    script = (HERE / NAME / "session").read_text(encoding="ascii").replace("\n", "\\n\\\n")
+    lines = ["use crate::sessions::{Session, tell};", "use std::alloc::AllocError;", ""]
+    lines += [f'const SCRIPT: &str = "{script}";', ""]
+    for session in sessions:
+        words, slots = SESSIONS[session]
+        given = "SCRIPT" if session == "pair" else '""'
+        lines.append(f'const {session.upper()}: Session<\'static> = Session {{ words: "{words}", input: {given}, slots: {slots} }};')
+    for session in sessions:
+        for number in numbers:
+            lines += ["", "#[test]", f"fn {session}_{number}(rt: HostRuntime) -> Result<(), AllocError> {{",
+                      f"    tell(&rt, rt.alloc(), &{session.upper()}, {REFUSED - number})", "}"]
+    return "\n".join(lines) + "\n"
+
+
 def copy_all(top, numbers, sessions):
-    """The crates, the program, and a case for each run."""
+    """The crates, and one with the tests."""
     (top / "crates.txt").write_text(lines_for_copy())
     shutil.copy(REPOSITORY / "HANDLES", top)
     for crate in (REPOSITORY / "crates").iterdir():
         for part in ("src", "specs", "proofs"):
             if (crate / part).is_dir():
                 shutil.copytree(crate / part, top / "crates" / crate.name / part)
-    (top / "crates" / NAME / "src").mkdir(parents=True)
-    shutil.copy(HERE / NAME / "main.rt.in", top / "crates" / NAME / "src" / "main.rt")
-    (top / "cases").mkdir()
-    for session in sessions:
-        for number in numbers:
-            case = top / "cases" / f"{session}.{number}"
-            case.write_bytes((HERE / NAME / "session").read_bytes() if session == "pair" else b"")
-            words = [str(REFUSED - number), *SESSIONS[session]]
-            case.with_name(f"{case.name}.args").write_text("\n".join(words) + "\n")
+    source = top / "crates" / NAME / "src"
+    source.mkdir(parents=True)
+    (source / "lib.rt").write_text("#![tactic(auto)]\n#[cfg(test)] mod each;\n#[cfg(test)] mod sessions;\n")
+    (source / "each.rt").write_text(tests_of(numbers, sessions))
+    shutil.copy(HERE / NAME / "sessions.rt.in", source / "sessions.rt")
 
 
 def runs_of(numbers, sessions):
-    """What each run told, by session and number."""
+    """What each test told, by session and number: a line, or nothing where its devices got no memory."""
     with tempfile.TemporaryDirectory() as folder:
         top = pathlib.Path(folder)
         copy_all(top, numbers, sessions)
-        words = ["rt", "try", "--fail-alloc", str(REFUSED), "--cases", "../../cases"]
+        words = ["rt", "try", "--test", "--fail-alloc", str(REFUSED), "--seconds", str(LONGEST_S)]
         ran = subprocess.run(words, cwd=top / "crates" / NAME, capture_output=True, text=True, check=False)
-    ends = dict(re.findall(r"^case=(\S+) run=(\S+)", ran.stderr, re.M))
-    told = re.split(r"^== (\S+)\n", ran.stdout, flags=re.M)[1:]
-    texts = dict(zip(told[::2], told[1::2]))
     found = {}
-    for session in sessions:
-        for number in numbers:
-            case = f"{session}.{number}"
-            if ends.get(case) != "ended":
-                sys.exit(f"{ran.stderr[-2000:]}\nrefuse-memory: the run {case} didn't end")
-            found[session, number] = texts.get(case, "")
+    for name, ended, told in re.findall(r"^test each::(\w+) \.\.\. (\w+)\n((?:    .*\n)*)", ran.stdout, re.M):
+        lines = [line.strip() for line in told.splitlines()]
+        session, _, number = name.rpartition("_")
+        texts = [line for line in lines if line.startswith("refused ")]
+        if ended == "ok" and len(texts) == 1:
+            found[session, int(number)] = texts[0]
+        elif "Error: AllocError" in lines and not texts:
+            found[session, int(number)] = None
+        else:
+            found[session, int(number)] = f"{ended} {lines}"
+    missing = [f"{session}_{number}" for session in sessions for number in numbers if (session, number) not in found]
+    if missing:
+        sys.exit(f"{ran.stdout[-2000:]}{ran.stderr[-2000:]}\nrefuse-memory: nothing of the test {missing[0]}")
     return found
 
 
 def tell(session, numbers, texts, is_lasting):
     """The tally of a session, after each of its runs is checked."""
-    enough = Run(texts[session, numbers[-1]])
-    if not enough.is_padded or enough.is_refused:
-        sys.exit(f"refuse-memory: {session} has more allocations than {numbers[-1]}: give a greater LAST")
     tally = collections.Counter()
     for number in numbers:
         try:
-            tally[kind_of(Run(texts[session, number]), enough)] += 1
+            tally[kind_of(Run(texts[session, number]))] += 1
         except Failed as fault:
             sys.exit(f"{texts[session, number]}\nrefuse-memory: {session}, allocation {number}: {fault}")
+    if texts[session, numbers[-1]] is None or not tally["none"]:
+        sys.exit(f"refuse-memory: {session} has more allocations than {numbers[-1]}: give a greater LAST")
     refused = len(numbers) - tally["before the session"] - tally["none"]
     kinds = ", ".join(f"{kind} {tally[kind]}" for kind in KINDS if tally[kind])
     print(f"{session}: {refused} allocations refused; {kinds}", flush=True)
