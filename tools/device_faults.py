@@ -2,8 +2,8 @@
 
 usage: tools/device-faults.sh [COMMAND]
 
-COMMAND is the binary of `amt`, and crates/amt/out/amt without it. All goes over the loopback, at addresses of this run's
-own; every run of `amt` ends by its turns or is ended. It prints a line for each fault, and ends with 1 where one wasn't
+COMMAND is the binary of `amt`, and crates/amt/out/amt without it. All goes over the loopback, at addresses of its own;
+every run of `amt` ends by its turns or is ended. It prints a line for each fault, and ends with 1 where one wasn't
 answered as it should be.
 
 Faults that the loopback doesn't have, as a send or a random word that fails, are made by strace, which lets a system
@@ -41,8 +41,8 @@ class Bench:
         self.command, self.folder = command, pathlib.Path(folder)
         self.address = f"127.66.{os.getpid() % 255}.1"
         self.relay_peer, self.feed_peer = (self.address, AMT_PORT), (self.address, FEED)
-        self.relay_settings = {"relay": self.address, "listen": f"{self.address}:{AMT_PORT}", "feed": f"{self.address}:{FEED}",
-                               "query4": self.address, "workers": 1}
+        self.relay_settings = {"relay": self.address, "listen": f"{self.address}:{AMT_PORT}",
+                               "feed": f"{self.address}:{FEED}", "query4": self.address, "workers": 1}
         self.gateway_settings = {"family": "v4", "source": loopback.HOST, "listen": f"{self.address}:{OTHER}",
                                  "deliver": f"{self.address}:{DELIVER}", "control": f"{self.address}:{CONTROL}",
                                  "discovery": f"{self.address}:{AMT_PORT}"}
@@ -253,7 +253,8 @@ def kill_socket(bench, port):
     """Has the kernel abort a socket: its next receiving fails. It wants rights, and a kernel that can."""
     if shutil.which("ss") is None:
         raise Skipped("there is no ss")
-    said = subprocess.run(["ss", "-K", "-u", "-a", "src", f"{bench.address}:{port}"], capture_output=True, text=True, check=False)
+    words = ["ss", "-K", "-u", "-a", "src", f"{bench.address}:{port}"]
+    said = subprocess.run(words, capture_output=True, text=True, check=False)
     if said.returncode or str(port) not in said.stdout:
         raise Skipped("ss can't abort a socket here")
 
@@ -405,7 +406,7 @@ def shifted(bench, seconds):
 def the_clock_goes_back(bench):
     # Forward by an hour, so that the membership has expired: else this program doesn't reach the clock.
     if shifted(bench, 3600) != 0:
-        raise Skipped("`amt` takes the time from no C library; `time_ends_a_membership` of serving_tests has such a clock")
+        raise Skipped("`amt` takes no time from a C library; of serving_tests `time_ends_a_membership` has such a clock")
     came = shifted(bench, -3600)
     expect(came == 3, f"{came} of 3 packets were copied")
     return "the run goes on, and the membership counts; after an hour forward it has expired"

@@ -2,10 +2,10 @@
 
 usage: tools/load-held.sh [COMMAND [QUERY_SECONDS [ENDPOINTS]]]
 
-COMMAND is the binary of `amt`, and crates/amt/out/amt without it. With fewer ENDPOINTS, a power of two from 256 on, the
-relay's limit is that number, and all else is the same, as for a binary with checks, which is slower. The endpoints are ports of many addresses of
-127.0.0.0/8, and each wants a group of its own. Each asks by a Request, and reports by the MAC of the Query that comes. A
-membership lasts 2 x QUERY_SECONDS + 10 s; QUERY_SECONDS is 45 where none is given. What is checked, and in which order:
+COMMAND is the binary of `amt`, and crates/amt/out/amt without it. The endpoints are ports of many addresses of
+127.0.0.0/8, and each wants a group of its own. Each asks by a Request, and reports by the MAC of the Query that comes.
+A membership lasts 2 x QUERY_SECONDS + 10 s; QUERY_SECONDS is 45 where none is given. With fewer ENDPOINTS, a power of two
+from 256 on, the relay's limit is that number: for a binary with checks, which is slower. What is checked, in order:
 
     1. 65,535 endpoints report. The limit is one more, so no Query has the L flag yet.
     2. 10,000 other ports send a Request each. Each gets its Query, without the L flag: not one has become an endpoint.
@@ -31,7 +31,8 @@ from loopback import AMT_PORT, DATA, IS_EX, QUERY, UPDATE, End, Failed, bound, e
 MANY, STRANGERS, SAMPLE = 65_536, 10_000, 256
 # However long it takes.
 LONGEST_S = 1800
-# As many at a time as the receive buffer of a relay holds, which by default is some 200 KiB: each takes some 800 octets.
+# Twice as many are in the receive buffer of a relay at a time, which by default is some 200 KiB: each takes some 800
+# octets.
 BATCH = 100
 PORTS, FIRST_PORT = 1024, 10_000
 FEED = 2269
@@ -117,6 +118,10 @@ class Load:
                 made.sendto(struct.pack("!BB", UPDATE, 0) + answer[2:12] + body, self.peer)
         return limited
 
+    def ask_as_strangers(self):
+        """Requests from other ports, and their Queries."""
+        return [answer for _, sockets in self.batches(0, STRANGERS, net=70) for answer in self.ask(sockets)]
+
     def is_full(self):
         """Whether the relay says so: the L flag of a Query for somebody else. Reports before it have been taken."""
         with bound(self.address) as asking:
@@ -158,7 +163,7 @@ def run(load):
     before = load.relay.memory_kb()
     print(f"resident {before} KiB with {many - 1} live endpoints", flush=True)
 
-    took, answers = timed(lambda: [answer for _, sockets in load.batches(0, STRANGERS, net=70) for answer in load.ask(sockets)])
+    took, answers = timed(load.ask_as_strangers)
     after = load.relay.memory_kb()
     print(f"{STRANGERS} Requests from other ports answered in {took:.1f} s, {STRANGERS / took:.0f} a second; resident "
           f"{after} KiB after them", flush=True)

@@ -1,4 +1,4 @@
-"""What the tools that run `amt` over the loopback have in common: messages, settings files, processes. It is no command.
+"""What the tools that run `amt` over the loopback have in common: messages, settings, processes. It is no command.
 
 A tool has its own addresses of 127.0.0.0/8, so that it disturbs no other run. It needs nothing but Python.
 """

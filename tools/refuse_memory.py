@@ -12,11 +12,11 @@ The sessions are:
 Input, output, errors, files and devices are in memory. It proves nothing, and works on a copy of the repository, where
 it builds the tests of tools/refuse_memory/sessions.rt.in by `rt try --test`.
 
-rt refuses one allocation of a process, by its number, and builds anew each time it is called. So one build has a test for
-each N, which makes 1,000 - N allocations first, and allocation 1,000 is refused. N counts from the first allocation of
-the test; the first some of them make its devices, and tests in which they are refused are told as such. LAST has to be
-past the last allocation of each session: 500 is, and is the default. It takes some three minutes of a processor, nearly
-all of them for the build, whatever the range is.
+rt refuses one allocation of a process, by its number, and builds anew each time it is called. So one build has a test
+for each N, which makes 1,000 - N allocations first, and allocation 1,000 is refused. N counts from the first allocation
+of the test; the first some of them make its devices, and tests in which they are refused are told as such. LAST has to
+be past the last allocation of each session: 500 is, and is the default. It takes some three minutes of a processor,
+nearly all of them for the build, whatever the range is.
 
 A run has to come to one of these, after which nothing is as it shouldn't be:
     7            status 7, its line, and a beginning of the output, which is empty for a relay
@@ -144,7 +144,8 @@ def tests_of(numbers, sessions):
     for session in sessions:
         words, slots = SESSIONS[session]
         given = "SCRIPT" if session == "pair" else '""'
-        lines.append(f'const {session.upper()}: Session<\'static> = Session {{ words: "{words}", input: {given}, slots: {slots} }};')
+        fields = f'words: "{words}", input: {given}, slots: {slots}'
+        lines.append(f"const {session.upper()}: Session<'static> = Session {{ {fields} }};")
     for session in sessions:
         for number in numbers:
             lines += ["", "#[test]", f"fn {session}_{number}(rt: HostRuntime) -> Result<(), AllocError> {{",

@@ -2,9 +2,9 @@
 
 usage: tools/soak.sh MINUTES [COMMAND [SEED]]
 
-COMMAND is the binary of `amt`, and crates/amt/out/amt without it. `amt relay` and `amt gateway` run over the loopback;
-this program stands between them as the network, and loses, repeats, delays and so reorders datagrams of both directions,
-by SEED. It sends numbered packets to the feed, lines to the control socket, and, from other sockets, Discoveries and
+COMMAND is the binary of `amt`, and crates/amt/out/amt without it. `amt relay` and `amt gateway` run over the loopback.
+This program stands between them as the network, and loses, repeats, delays and so reorders datagrams both ways, by
+SEED. It sends numbered packets to the feed, lines to the control socket, and, from other sockets, Discoveries and
 Requests to the relay, and noise and forged messages to both ends. Secrets are rotated each minute, and memberships last
 13 s, so that both happen often.
 
@@ -13,18 +13,19 @@ Updates that it passed on, with their lifetimes; and what it did to each datagra
     - a packet that is handed on was wanted by a socket and by the relay's filters, and came no more often than the hop
       passed its copies on;
     - a packet that the relay's filters want is copied to the gateway, once, and one that they don't want is not;
-    - a copy that the hop passed on and a socket wants is handed on, as often as it was passed on, and one that no socket
-      wants is not;
+    - a copy that the hop passed on and a socket wants is handed on, as often as it was passed on, and one that no
+      socket wants is not;
     - an Update and a Teardown carry the MAC and the nonce of a Query that was passed on before;
     - a stranger's packets and messages change nothing of this, and its Requests are answered;
     - neither process grows: the median of its resident memory in the last quarter of the run is at most 512 KiB above
       that in the second quarter. A run of less than a minute isn't judged so.
 
-The margin. The record has the moment at which this program sent something, and an end takes it in one of its next turns.
-An idle turn takes 2 ms; what a loaded machine adds is the time that a process waits for a processor. So a packet is judged
-where what is wanted of its group and source is the same from a second before it was sent until a second after it came;
-the others are counted as unjudged. The longest ways that were seen are told at the end, and how late this program itself
-was: these have to be shorter than that second, or the run is void and ends with 2. Copies are waited for until 5 s after the packet.
+The margin. The record has the moment at which this program sent something, and an end takes it in one of its next
+turns. An idle turn takes 2 ms; what a loaded machine adds is the time that a process waits for a processor. So a packet
+is judged where what is wanted of its group and source is the same from a second before it was sent until a second after
+it came; the others are counted as unjudged. The longest ways that were seen are told at the end, and how late this
+program itself was: these have to be shorter than that second, or the run is void and ends with 2. What is under way is
+waited for until 5 s after the last packet.
 
 It prints its figures, and ends with 0 where all of this holds, and with 1 and what doesn't otherwise.
 """
@@ -42,7 +43,7 @@ import time
 
 import loopback
 from loopback import (
-    ALLOW, AMT_PORT, BLOCK, DATA, DISCOVERY, IS_EX, IS_IN, QUERY, TEARDOWN, TO_EX, TO_IN, UPDATE, End, Failed, bound,
+    ALLOW, AMT_PORT, DATA, DISCOVERY, IS_EX, IS_IN, QUERY, TEARDOWN, TO_EX, TO_IN, UPDATE, End, Failed, bound,
     packet, request, text_of,
 )
 
@@ -100,7 +101,8 @@ class Sockets:
 
     def wants(self, group, source, start, end):
         """Whether a socket wanted this at each time from start to end, or at some."""
-        found = [any(admits(filter_, source) for filter_ in filters) for filters in self.lines[group].within(start, end)]
+        states = self.lines[group].within(start, end)
+        found = [any(admits(filter_, source) for filter_ in filters) for filters in states]
         return all(found), any(found)
 
 
@@ -327,8 +329,8 @@ class Soak:
             octets = struct.pack("!BB", DATA, 0) + packet(SOURCES[0], self.random.choice(GROUPS), FORGED)
         elif chance < 0.7 and self.proofs:
             # A Query, an Update or a Teardown by a MAC that is good for somebody else.
-            octets = struct.pack("!BB", self.random.choice([QUERY, UPDATE, TEARDOWN]), 1) + self.random.choice(sorted(self.proofs))
-            octets += noise
+            kind, proof = self.random.choice([QUERY, UPDATE, TEARDOWN]), self.random.choice(sorted(self.proofs))
+            octets = struct.pack("!BB", kind, 1) + proof + noise
         else:
             octets = struct.pack("!B", self.random.randrange(16)) + noise
             if octets[0] == 3 and len(octets) == 8:
@@ -393,7 +395,8 @@ class Soak:
         if always != ever:
             self.counts["unjudged at the relay"] += 1
         elif len(found.copied) != always:
-            self.fault(f"packet {number}: {len(found.copied)} copies where the relay has {'a' if always else 'no'} receiver")
+            receiver = "a receiver" if always else "no receiver"
+            self.fault(f"packet {number}: {len(found.copied)} copies where the relay has {receiver}")
         else:
             self.counts["copied, as wanted" if always else "not copied, as not wanted"] += 1
         if found.copied and not ever:
@@ -436,12 +439,13 @@ class Watched:
 
 
 def ends_of(command, address, folder, seconds):
-    """A relay that says of itself that it is the hop, and a gateway that goes to the hop. Were this program killed, they
-    would end by their turns."""
+    """A relay that says of itself that it is the hop, and a gateway that goes to the hop. Were this program killed,
+    they would end by their turns."""
     turns = str(int((seconds + 60) * loopback.TURNS_A_SECOND))
     relay = loopback.write_settings(f"{folder}/relay.toml", {
         "relay": address, "listen": f"{address}:{RELAY}", "feed": f"{address}:{FEED}", "query4": address, "workers": 2,
-        "robustness": ROBUSTNESS, "query_seconds": QUERY_SECONDS, "response_tenths": RESPONSE_TENTHS, "rotate_seconds": 60})
+        "robustness": ROBUSTNESS, "query_seconds": QUERY_SECONDS, "response_tenths": RESPONSE_TENTHS,
+        "rotate_seconds": 60})
     gateway = loopback.write_settings(f"{folder}/gateway.toml", {
         "family": "v4", "source": loopback.HOST, "listen": f"{address}:{LISTEN}", "deliver": f"{address}:{DELIVER}",
         "control": f"{address}:{CONTROL}", "discovery": f"{address}:{AMT_PORT}", "relay": f"{address}:{AMT_PORT}"})
@@ -489,7 +493,7 @@ def main():
     for fault in soak.faults:
         print(f"soak: {fault}", file=sys.stderr)
     if max(soak.longest.values()) > MARGIN_S:
-        print("soak: void, since something took longer than the margin: too much else runs on this machine", file=sys.stderr)
+        print("soak: void: something took longer than the margin, since too much else runs here", file=sys.stderr)
         return 2
     if soak.counts["handed on, as wanted"] == 0:
         print("soak: nothing was handed on", file=sys.stderr)
