@@ -29,7 +29,7 @@ import loopback
 from loopback import AMT_PORT, DATA, IS_EX, QUERY, UPDATE, End, Failed, bound, expect, packet, request
 
 MANY, STRANGERS, SAMPLE = 65_536, 10_000, 256
-# However long it takes.
+# It takes no longer than that, however slow the relay is.
 LONGEST_S = 1800
 # Twice as many are in the receive buffer of a relay at a time, which by default is some 200 KiB: each takes some 800
 # octets.
@@ -58,6 +58,7 @@ class Load:
         turns = str(LONGEST_S * loopback.TURNS_A_SECOND)
         self.relay = End([*command, "relay", settings, "--turns", turns], self.address, [AMT_PORT, FEED])
         self.peer = (self.address, AMT_PORT)
+        self.until = time.monotonic() + LONGEST_S
         self.sender = bound(self.address)
         # The sockets of those that hear packets stay.
         self.kept = {}
@@ -78,6 +79,8 @@ class Load:
         nonces = [struct.pack("!I", random.getrandbits(32)) for _ in asking]
         answers = [None] * len(asking)
         for _ in range(10):
+            expect(self.relay.process.poll() is None, "the relay has ended")
+            expect(time.monotonic() < self.until, f"it takes more than {LONGEST_S} s")
             left = [place for place, answer in enumerate(answers) if answer is None]
             for place in left:
                 asking[place].sendto(request(*struct.unpack("!I", nonces[place])), self.peer)
