@@ -1,6 +1,6 @@
 """Both ends for some minutes over a lossy hop, with joins and leaves at random, strangers and noise.
 
-usage: tools/soak.sh MINUTES [COMMAND [SEED]]
+usage: tools/soak.sh MINUTES [COMMAND [SEED [PACKETS]]]
 
 COMMAND is the binary of `amt`, and crates/amt/out/amt without it. `amt relay` and `amt gateway` run over the loopback.
 This program stands between them as the network, and loses, repeats, delays and so reorders datagrams both ways, by
@@ -24,8 +24,8 @@ The margin. The record has the moment at which this program sent something, and 
 turns. An idle turn takes 2 ms; what a loaded machine adds is the time that a process waits for a processor. So a packet
 is judged where what is wanted of its group and source is the same from a second before it was sent until a second after
 it came; the others are counted as unjudged. The longest ways that were seen are told at the end, and how late this
-program itself was: these have to be shorter than that second, or the run is void and ends with 2. What is under way is
-waited for until 5 s after the last packet.
+program itself was: these have to be shorter than that second, or the run is void and ends with 2; then fewer PACKETS a
+second, 200 where no number is given, may do. What is under way is waited for until 5 s after the last packet.
 
 It prints its figures, and ends with 0 where all of this holds, and with 1 and what doesn't otherwise.
 """
@@ -56,7 +56,8 @@ LIFETIME_S = ROBUSTNESS * QUERY_SECONDS + RESPONSE_TENTHS / 10
 GROUPS = [f"233.252.0.{number}" for number in range(1, 17)]
 SOURCES = [f"203.0.113.{number}" for number in range(1, 5)]
 NAMES = [f"s{number}" for number in range(20)]
-PACKETS_A_SECOND, LINES_A_SECOND, STRANGERS_A_SECOND = 200, 3, 40
+# Strangers send a fifth as many datagrams.
+PACKETS_A_SECOND, LINES_A_SECOND = 200, 3
 FORGED = b"forged"
 GROWTH_KB = 512
 
@@ -357,11 +358,11 @@ class Soak:
             _, _, octets, is_up = heapq.heappop(self.under_way)
             self.put(octets, is_up)
 
-    def run(self, seconds, watched):
+    def run(self, seconds, packets, watched):
         """Lets all of it happen for so long. What happens is at random moments, so many in a second."""
         start = time.monotonic()
         todo = [(start, number) for number in range(3)]
-        actions = [(self.feed, PACKETS_A_SECOND), (self.line, LINES_A_SECOND), (self.strange, STRANGERS_A_SECOND)]
+        actions = [(self.feed, packets), (self.line, LINES_A_SECOND), (self.strange, packets / 5)]
         looked = 0
         while time.monotonic() < start + seconds:
             self.take(min(todo[0][0], self.under_way[0][0] if self.under_way else todo[0][0]) - time.monotonic())
@@ -467,18 +468,19 @@ def tell(soak, watched, ends, seconds):
 
 
 def main():
-    if not 2 <= len(sys.argv) <= 4:
+    if not 2 <= len(sys.argv) <= 5:
         sys.exit(__doc__)
     seconds = 60 * float(sys.argv[1])
     command = loopback.command_of(sys.argv[2:3])
     seed = int(sys.argv[3]) if len(sys.argv) > 3 else 1
+    packets = int(sys.argv[4]) if len(sys.argv) > 4 else PACKETS_A_SECOND
     address = f"127.67.{os.getpid() % 255}.1"
     with tempfile.TemporaryDirectory() as folder:
         soak = Soak(address, seed)
         ends = ends_of(command, address, folder, seconds)
         watched = Watched(ends)
         began = time.monotonic()
-        soak.run(seconds, watched)
+        soak.run(seconds, packets, watched)
         lasted = time.monotonic() - began
         soak.judge()
         for name, end in ends.items():
