@@ -174,9 +174,10 @@ def runs_of(numbers, sessions):
         top = pathlib.Path(folder)
         copy_all(top, numbers, sessions)
         words = ["rt", "try", "--test", "--fail-alloc", str(REFUSED), "--seconds", str(LONGEST_S)]
-        ran = subprocess.run(words, cwd=top / "crates" / NAME, capture_output=True, text=True, check=False)
+        how = {"stdout": subprocess.PIPE, "stderr": subprocess.STDOUT, "text": True, "check": False}
+        said = subprocess.run(words, cwd=top / "crates" / NAME, **how).stdout
     found = {}
-    for name, ended, told in re.findall(r"^test each::(\w+) \.\.\. (\w+)\n((?:    .*\n)*)", ran.stdout, re.M):
+    for name, ended, told in re.findall(r"^test each::(\w+) \.\.\. (\w+)\n((?:    .*\n)*)", said, re.M):
         lines = [line.strip() for line in told.splitlines()]
         session, _, number = name.rpartition("_")
         texts = [line for line in lines if line.startswith("refused ")]
@@ -188,7 +189,7 @@ def runs_of(numbers, sessions):
             found[session, int(number)] = f"{ended} {lines}"
     missing = [f"{session}_{number}" for session in sessions for number in numbers if (session, number) not in found]
     if missing:
-        sys.exit(f"{ran.stdout[-2000:]}{ran.stderr[-2000:]}\nrefuse-memory: nothing of the test {missing[0]}")
+        sys.exit(f"{said[-4000:]}\nrefuse-memory: nothing of the test {missing[0]}")
     return found
 
 
