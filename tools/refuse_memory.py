@@ -15,8 +15,8 @@ it builds the tests of tools/refuse_memory/sessions.rt.in by `rt try --test`.
 rt refuses one allocation of a process, by its number, and builds anew each time it is called. So one build has a test
 for each N, which makes 1,000 - N allocations first, and allocation 1,000 is refused. N counts from the first allocation
 of the test; the first some of them make its devices, and tests in which they are refused are told as such. LAST has to
-be past the last allocation of each session: 500 is, and is the default. It takes some three minutes of a processor,
-nearly all of them for the build, whatever the range is.
+be past the last allocation of each session: 500 is, and is the default. The build takes some two minutes of a processor,
+and a test some tenths of a second.
 
 A run has to come to one of these, after which nothing is as it shouldn't be:
     7            status 7, its line, and a beginning of the output, which is empty for a relay
@@ -44,7 +44,8 @@ NAME = "refuse_memory"
 # The crate that has the same devices and makes the same calls: what it stands on is what the program needs.
 LIKE = "running_tests"
 REFUSED = 1_000
-LONGEST_S = 600
+# The tests take some tenths of a second each, and more on a busy machine.
+LONGEST_S = 3600
 # The command of each session, and for how many workers it has links out.
 SESSIONS = {
     "pair": ("replay pair", 0),
