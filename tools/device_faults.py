@@ -23,6 +23,8 @@ from loopback import AMT_PORT, DATA, IS_EX, End, Endpoint, Failed, bound, counts
 
 # An idle turn takes some 2 ms: two receivings that each wait for one.
 SHORT, LONG = "5", "1500"
+# A run takes some seconds at most; a busy machine and a binary with checks have more.
+PATIENCE_S = 300
 FEED, CONTROL, DELIVER, OTHER = 2269, 2271, 2272, 2270
 SOURCE, GROUP = "203.0.113.5", "233.252.0.1"
 # An address for documentation (RFC 5737): no machine has it.
@@ -59,7 +61,7 @@ class Bench:
     def ended(self, words, **how):
         """Status, output and errors of a run that ends by itself."""
         how = {"stdin": subprocess.DEVNULL, "stdout": subprocess.PIPE, "stderr": subprocess.PIPE, **how}
-        ran = subprocess.run(words, text=True, timeout=60, check=False, **how)
+        ran = subprocess.run(words, text=True, timeout=PATIENCE_S, check=False, **how)
         return ran.returncode, ran.stdout or "", ran.stderr or ""
 
     def ends_with(self, words, status, line, **how):
@@ -94,7 +96,7 @@ class Bench:
 
     def done(self, end, **wanted):
         """An end that does all its turns and reports so."""
-        status, out, err = end.wait(60)
+        status, out, err = end.wait(PATIENCE_S)
         expect((status, err) == (0, ""), f"status {status}, {err!r}")
         counts = counts_of(out)
         for name, count in {"end": "turns", **wanted}.items():
@@ -265,7 +267,7 @@ def a_socket_is_aborted(bench):
             end = start()
             try:
                 kill_socket(bench, port)
-                have = end.wait(60)
+                have = end.wait(PATIENCE_S)
             finally:
                 end.stop()
             expect(have == (6, "", "amt: link fault\n"), f"{have} after port {port} was aborted")
