@@ -178,7 +178,7 @@ def runs_of(numbers, sessions):
         how = {"stdout": subprocess.PIPE, "stderr": subprocess.STDOUT, "text": True, "check": False}
         said = subprocess.run(words, cwd=top / "crates" / NAME, **how).stdout
     found = {}
-    for name, ended, told in re.findall(r"^test each::(\w+) \.\.\. (\w+)\n((?:    .*\n)*)", said, re.M):
+    for name, ended, told in re.findall(r"^test each::(\w+) \.\.\. (\w+).*\n((?:    .*\n)*)", said, re.M):
         lines = [line.strip() for line in told.splitlines()]
         session, _, number = name.rpartition("_")
         texts = [line for line in lines if line.startswith("refused ")]
