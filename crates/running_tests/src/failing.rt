@@ -110,7 +110,7 @@ const MUTE_RELAY: Row<'static> = Row {
     ..DONE
 };
 
-const MUTE_RELAYS: [Row<'static>; 7] = [
+const MUTE_UNOPENED: [Row<'static>; 4] = [
     Row {
         what: "no file is given",
         words: "relay --turns 3",
@@ -129,6 +129,15 @@ const MUTE_RELAYS: [Row<'static>; 7] = [
         status: 4,
         ..MUTE_RELAY
     },
+    Row {
+        what: "the file has one octet more than an input may have",
+        file: File::Long(16_777_217),
+        status: 8,
+        ..MUTE_RELAY
+    },
+];
+
+const MUTE_OPENED: [Row<'static>; 3] = [
     Row {
         what: "the counts aren't written",
         write: 1,
@@ -149,12 +158,6 @@ const MUTE_RELAYS: [Row<'static>; 7] = [
         ..MUTE_RELAY
     },
     Row {
-        what: "the file has one octet more than an input may have",
-        file: File::Long(16_777_217),
-        status: 8,
-        ..MUTE_RELAY
-    },
-    Row {
         what: "the first secret isn't drawn",
         failing: Failing {
             drawing: 1,
@@ -168,8 +171,13 @@ const MUTE_RELAYS: [Row<'static>; 7] = [
 ];
 
 #[test]
-fn a_relay_that_can_tell_nothing_ends_with_the_same_status(rt: HostRuntime) {
-    assert_rows(&rt, rt.alloc(), MUTE_RELAYS.as_slice());
+fn a_relay_that_can_tell_nothing_and_opens_nothing_ends_with_the_same_status(rt: HostRuntime) {
+    assert_rows(&rt, rt.alloc(), MUTE_UNOPENED.as_slice());
+}
+
+#[test]
+fn a_relay_that_can_tell_nothing_of_its_run_ends_with_the_same_status(rt: HostRuntime) {
+    assert_rows(&rt, rt.alloc(), MUTE_OPENED.as_slice());
 }
 
 const MUTE_GATEWAY: gateway_runs::Row<'static> = gateway_runs::Row {
@@ -183,7 +191,7 @@ const MUTE_GATEWAY: gateway_runs::Row<'static> = gateway_runs::Row {
     ..gateway_runs::DONE
 };
 
-const MUTE_GATEWAYS: [gateway_runs::Row<'static>; 6] = [
+const MUTE_UNOPENED_GATEWAYS: [gateway_runs::Row<'static>; 4] = [
     gateway_runs::Row {
         what: "no file is given",
         words: "gateway",
@@ -203,6 +211,15 @@ const MUTE_GATEWAYS: [gateway_runs::Row<'static>; 6] = [
         ..MUTE_GATEWAY
     },
     gateway_runs::Row {
+        what: "the file has one octet more than an input may have",
+        file: File::Long(16_777_217),
+        status: 8,
+        ..MUTE_GATEWAY
+    },
+];
+
+const MUTE_OPENED_GATEWAYS: [gateway_runs::Row<'static>; 2] = [
+    gateway_runs::Row {
         what: "the devices aren't opened",
         failing: gateway_devices::Failing {
             opening: 1,
@@ -210,12 +227,6 @@ const MUTE_GATEWAYS: [gateway_runs::Row<'static>; 6] = [
         },
         status: 6,
         openings: 1,
-        ..MUTE_GATEWAY
-    },
-    gateway_runs::Row {
-        what: "the file has one octet more than an input may have",
-        file: File::Long(16_777_217),
-        status: 8,
         ..MUTE_GATEWAY
     },
     gateway_runs::Row {
@@ -232,8 +243,13 @@ const MUTE_GATEWAYS: [gateway_runs::Row<'static>; 6] = [
 ];
 
 #[test]
-fn a_gateway_that_can_tell_nothing_ends_with_the_same_status(rt: HostRuntime) {
-    gateway_runs::assert_rows(&rt, rt.alloc(), MUTE_GATEWAYS.as_slice());
+fn a_gateway_that_can_tell_nothing_and_opens_nothing_ends_with_the_same_status(rt: HostRuntime) {
+    gateway_runs::assert_rows(&rt, rt.alloc(), MUTE_UNOPENED_GATEWAYS.as_slice());
+}
+
+#[test]
+fn a_gateway_that_can_tell_nothing_of_its_run_ends_with_the_same_status(rt: HostRuntime) {
+    gateway_runs::assert_rows(&rt, rt.alloc(), MUTE_OPENED_GATEWAYS.as_slice());
 }
 
 // The counts are one write: a second one never comes.

@@ -5,8 +5,25 @@ use crate::commands::{File, SETTINGS};
 use crate::gateway_devices::{Failing, NONE_FAILS};
 use crate::gateway_runs::{Course, DONE, Row, assert_rows};
 
-const DONE_ROWS: [Row<'static>; 8] = [
+const TURNS_ROWS: [Row<'static>; 3] = [
     DONE,
+    Row {
+        what: "one turn is done, though the devices have more",
+        words: "gateway F --turns 1",
+        out: "end turns\nturns 1\ndatagrams 1\ncontrols 2\nbad_controls 1\ndelivered 0\nunsent 0\nstarved 0\n",
+        sent: 2,
+        handed: 0,
+        ..DONE
+    },
+    Row {
+        what: "the greatest number of turns",
+        words: "gateway --turns 1099511627776 F",
+        out: "end closed\nturns 3\ndatagrams 3\ncontrols 2\nbad_controls 1\ndelivered 1\nunsent 0\nstarved 0\n",
+        ..DONE
+    },
+];
+
+const CLOSED_ROWS: [Row<'static>; 3] = [
     Row {
         what: "in the fourth turn the link is closed",
         words: "gateway F",
@@ -30,14 +47,9 @@ const DONE_ROWS: [Row<'static>; 8] = [
         handed: 0,
         ..DONE
     },
-    Row {
-        what: "one turn is done, though the devices have more",
-        words: "gateway F --turns 1",
-        out: "end turns\nturns 1\ndatagrams 1\ncontrols 2\nbad_controls 1\ndelivered 0\nunsent 0\nstarved 0\n",
-        sent: 2,
-        handed: 0,
-        ..DONE
-    },
+];
+
+const SENDS_ROWS: [Row<'static>; 2] = [
     Row {
         what: "of three sends of the link the second one fails",
         failing: Failing {
@@ -54,12 +66,6 @@ const DONE_ROWS: [Row<'static>; 8] = [
             ..NONE_FAILS
         },
         out: "end turns\nturns 3\ndatagrams 3\ncontrols 2\nbad_controls 1\ndelivered 1\nunsent 1\nstarved 0\n",
-        ..DONE
-    },
-    Row {
-        what: "the greatest number of turns",
-        words: "gateway --turns 1099511627776 F",
-        out: "end closed\nturns 3\ndatagrams 3\ncontrols 2\nbad_controls 1\ndelivered 1\nunsent 0\nstarved 0\n",
         ..DONE
     },
 ];
@@ -81,7 +87,7 @@ const USAGE: Row<'static> = Row {
     ..UNOPENED
 };
 
-const WORDS_ROWS: [Row<'static>; 6] = [
+const ABSENT_ROWS: [Row<'static>; 3] = [
     Row {
         what: "no file is given",
         words: "gateway",
@@ -92,6 +98,14 @@ const WORDS_ROWS: [Row<'static>; 6] = [
         words: "gateway --turns 3",
         ..USAGE
     },
+    Row {
+        what: "two files",
+        words: "gateway F F",
+        ..USAGE
+    },
+];
+
+const OPTION_ROWS: [Row<'static>; 3] = [
     Row {
         what: "a gateway has no workers",
         words: "gateway F --workers 2",
@@ -107,11 +121,6 @@ const WORDS_ROWS: [Row<'static>; 6] = [
         words: "gateway F --turns 1099511627777",
         ..USAGE
     },
-    Row {
-        what: "two files",
-        words: "gateway F F",
-        ..USAGE
-    },
 ];
 
 const BAD: Row<'static> = Row {
@@ -119,7 +128,7 @@ const BAD: Row<'static> = Row {
     ..UNOPENED
 };
 
-const SETTINGS_ROWS: [Row<'static>; 8] = [
+const SETTINGS_ROWS: [Row<'static>; 4] = [
     Row {
         what: "no TOML",
         file: File::Text("family ="),
@@ -144,6 +153,9 @@ const SETTINGS_ROWS: [Row<'static>; 8] = [
         err: "amt: settings: kind family\n",
         ..BAD
     },
+];
+
+const VALUES_ROWS: [Row<'static>; 4] = [
     Row {
         what: "a setting is no peer",
         file: File::Text("family = \"v4\"\nlisten = \"127.0.0.1\"\n"),
@@ -218,7 +230,7 @@ const NO_WORD: Row<'static> = Row {
     ..DONE
 };
 
-const ENDED_ROWS: [Row<'static>; 9] = [
+const UNDONE_ROWS: [Row<'static>; 2] = [
     Row {
         what: "the counts aren't written, though a packet was handed on",
         write: 1,
@@ -238,6 +250,9 @@ const ENDED_ROWS: [Row<'static>; 9] = [
         handed: 0,
         ..LINK_FAULT
     },
+];
+
+const DEVICE_ROWS: [Row<'static>; 4] = [
     Row {
         what: "the first receiving from the link fails",
         failing: Failing {
@@ -274,6 +289,9 @@ const ENDED_ROWS: [Row<'static>; 9] = [
         },
         ..LINK_FAULT
     },
+];
+
+const NONCE_ROWS: [Row<'static>; 3] = [
     Row {
         what: "the first nonce isn't drawn",
         failing: Failing {
@@ -304,13 +322,28 @@ const ENDED_ROWS: [Row<'static>; 9] = [
 ];
 
 #[test]
-fn turns_that_are_done_and_closed_devices_end_a_gateway_well(rt: HostRuntime) {
-    assert_rows(&rt, rt.alloc(), DONE_ROWS.as_slice());
+fn turns_that_are_done_end_a_gateway_well(rt: HostRuntime) {
+    assert_rows(&rt, rt.alloc(), TURNS_ROWS.as_slice());
 }
 
 #[test]
-fn without_arguments_of_a_gateway_nothing_is_opened(rt: HostRuntime) {
-    assert_rows(&rt, rt.alloc(), WORDS_ROWS.as_slice());
+fn a_closed_link_or_control_feed_ends_a_gateway_well(rt: HostRuntime) {
+    assert_rows(&rt, rt.alloc(), CLOSED_ROWS.as_slice());
+}
+
+#[test]
+fn a_gateway_goes_on_after_a_send_that_fails(rt: HostRuntime) {
+    assert_rows(&rt, rt.alloc(), SENDS_ROWS.as_slice());
+}
+
+#[test]
+fn without_one_file_of_a_gateway_nothing_is_opened(rt: HostRuntime) {
+    assert_rows(&rt, rt.alloc(), ABSENT_ROWS.as_slice());
+}
+
+#[test]
+fn without_options_of_a_gateway_nothing_is_opened(rt: HostRuntime) {
+    assert_rows(&rt, rt.alloc(), OPTION_ROWS.as_slice());
 }
 
 #[test]
@@ -319,11 +352,26 @@ fn without_settings_of_a_gateway_nothing_is_opened(rt: HostRuntime) {
 }
 
 #[test]
+fn without_lawful_values_of_its_settings_a_gateway_opens_nothing(rt: HostRuntime) {
+    assert_rows(&rt, rt.alloc(), VALUES_ROWS.as_slice());
+}
+
+#[test]
 fn without_the_file_of_a_gateway_nothing_is_opened(rt: HostRuntime) {
     assert_rows(&rt, rt.alloc(), FILE_ROWS.as_slice());
 }
 
 #[test]
-fn each_end_of_a_gateway_has_its_status_and_gives_its_devices_back(rt: HostRuntime) {
-    assert_rows(&rt, rt.alloc(), ENDED_ROWS.as_slice());
+fn a_gateway_that_opens_or_tells_nothing_has_its_status(rt: HostRuntime) {
+    assert_rows(&rt, rt.alloc(), UNDONE_ROWS.as_slice());
+}
+
+#[test]
+fn a_gateway_whose_receiving_fails_gives_its_devices_back(rt: HostRuntime) {
+    assert_rows(&rt, rt.alloc(), DEVICE_ROWS.as_slice());
+}
+
+#[test]
+fn a_gateway_without_a_nonce_gives_its_devices_back(rt: HostRuntime) {
+    assert_rows(&rt, rt.alloc(), NONCE_ROWS.as_slice());
 }
