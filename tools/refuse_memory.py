@@ -1,6 +1,6 @@
 """Refuses each allocation of a session in turn, one a run, and checks what the run comes to.
 
-usage: tools/refuse-memory.sh [--lasting] [FIRST [LAST [STRIDE [SESSION..]]]]
+usage: tools/refuse-memory.sh [FIRST [LAST [STRIDE [SESSION..]]]]
        tools/refuse-memory.sh                      all of both sessions
        tools/refuse-memory.sh 1 500 25 relay       each 25th allocation of the running relay
 
@@ -26,8 +26,8 @@ A run has to come to one of these, after which nothing is as it shouldn't be:
                  status 0 and a report in which this is above 0, and the rest is what the events that are left make
     enough       status 0, the output, and the copies, as with enough memory
     none         as `enough`, and there was no allocation of this number
-A relay that memory ends only before its first turn has some runs with `starved` and some with `late`; `--lasting` asks
-for that. It ends with 1, and the first run that comes to something else, where one does.
+Memory ends a relay only before its first turn. So where each allocation is refused, some runs of it have `starved`
+above 0, and some `late`. It ends with 1, and the first run that comes to something else, where one does.
 """
 import collections
 import pathlib
@@ -96,11 +96,11 @@ def check_report(run):
     expect(counts["apart"] == 0, "a view is apart")
     # A publishing that is refused is made good by the next one, unless it was the last.
     expect(counts["owed"] == 0 or counts["late"] == 1, "entries are owed, and no publishing was refused")
-    # Each turn and each accepted Update has an entry. An event that is refused has none, and may count as taken.
+    # Each turn and each accepted Update has an entry. An event that is refused has none and isn't counted.
     entries = counts["published"] + counts["owed"]
     events = entries - counts["updated"] + counts["datagrams"] + counts["packets"]
     wanted = whole["published"] - whole["updated"] + whole["datagrams"] + whole["packets"]
-    expect(wanted - counts["starved"] <= events <= wanted, f"{events} events")
+    expect(events == wanted - counts["starved"], f"{events} events")
     # The packet is copied where the Update and itself were taken.
     copies = counts["sent"] + counts["unsent"]
     expect(copies <= counts["updated"], "a copy to nobody")
@@ -194,7 +194,7 @@ def runs_of(numbers, sessions):
     return found
 
 
-def tell(session, numbers, texts, is_lasting):
+def tell(session, numbers, texts, is_whole):
     """The tally of a session, after each of its runs is checked."""
     tally = collections.Counter()
     for number in numbers:
@@ -207,7 +207,7 @@ def tell(session, numbers, texts, is_lasting):
     refused = len(numbers) - tally["before the session"] - tally["none"]
     kinds = ", ".join(f"{kind} {tally[kind]}" for kind in KINDS if tally[kind])
     print(f"{session}: {refused} allocations refused; {kinds}", flush=True)
-    if is_lasting and session != "pair":
+    if is_whole and session != "pair":
         missing = [kind for kind in ("starved", "late") if not tally[kind]]
         if missing:
             sys.exit(f"refuse-memory: {session}: no run with {' or '.join(missing)} above 0")
@@ -219,8 +219,6 @@ def main():
     if "--help" in words:
         print(__doc__)
         return
-    is_lasting = "--lasting" in words
-    words = [word for word in words if word != "--lasting"]
     first, last, stride = [int(word) for word in words[:3]] + [1, 500, 1][len(words[:3]):]
     sessions = words[3:] or ["pair", "relay"]
     # The last run shows what there is with enough memory.
@@ -229,7 +227,7 @@ def main():
         sys.exit(__doc__)
     texts = runs_of(numbers, sessions)
     for session in sessions:
-        tell(session, numbers, texts, is_lasting)
+        tell(session, numbers, texts, stride == 1)
 
 
 main()
