@@ -1,6 +1,6 @@
 """What a run of the gate costs, in processor seconds by crate.
 
-usage: tools/gate-cost.sh
+usage: tools/gate-cost.sh [--anew | CRATE ..]
 
 The gate runs one checker process a task. This reads the processor time of each from /proc, five times a
 second, so the last fifth of a second of each process is missed; the sum of all that the gate waited for,

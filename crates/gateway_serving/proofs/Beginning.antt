@@ -48,7 +48,7 @@ pub begins_lacking : (work : AtWork) (clock words words' : Option (List ℕ)) �
 begins_lacking work clock words words' kept = record {
   drawn = [];
   given = [];
-  words_gave = subst (λ (told : Option (List ℕ)). AppendsAll words told []) (sym kept) (AppendsAll-none words);
+  words_gave = subst (λ (lines : Option (List ℕ)). AppendsAll words lines []) (sym kept) (AppendsAll-none words);
   clock_gave = AppendsAll-none clock;
   takes = none_taken work;
   tallies = Tallies-none (counts_in work.server);

@@ -8,7 +8,7 @@ mod Running
 mod Sending
 mod Stepping
 mod Taking
-mod Telling
+mod ControlLines
 mod Trying
 mod Turning
 mod WholeRuns

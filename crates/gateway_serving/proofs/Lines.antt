@@ -4,7 +4,7 @@ use Rattle.gateway_machine.specs.declared.event.GatewayEvent.{GatewayEvent}
 use Rattle.gateway_script.specs.SocketLine.{IsSocketLine}
 use Rattle.serving_turns.specs.Devices.{LinkSeen, OutSeen}
 use Rattle.socket_merge.specs.FullReport.{family_by}
-use Rattle.gateway_serving.specs.Hearing.{IsToldOne}
+use Rattle.gateway_serving.specs.Hearing.{HearsControlLine}
 use Rattle.gateway_serving.specs.Servers.{AtWork, IsAlike, Takes, Tallies, at_work, counts_in}
 use Rattle.gateway_serving.specs.Turns.{Bad, Called, Starved}
 use Rattle.gateway_serving.specs.declared.server.Server.{Server}
@@ -13,9 +13,9 @@ use Rattle.gateway_serving.proofs.Taking.{Takes-from, Takes-none, Takes-to, Tall
 module _ (server : Server) (link : LinkSeen) (out : OutSeen) (bytes : List ℕ) where
   module _ (counted : Server) (alike : IsAlike server counted) (line : Tallies (counts_in server) (counts_in counted) 0 1 0 0) where
     -- it makes a socket call, which memory took
-    pub told_called : (after : AtWork) (event : GatewayEvent) → IsSocketLine (family_by server.v6) event bytes → Takes (at_work counted link out) after (event ∷ [])
-        → Tallies (counts_in counted) (counts_in after.server) 0 0 0 0 → IsToldOne bytes (at_work server link out) after
-    told_called after event is takes tallies = record {
+    pub line_called : (after : AtWork) (event : GatewayEvent) → IsSocketLine (family_by server.v6) event bytes → Takes (at_work counted link out) after (event ∷ [])
+        → Tallies (counts_in counted) (counts_in after.server) 0 0 0 0 → HearsControlLine bytes (at_work server link out) after
+    line_called after event is takes tallies = record {
       line = Called event;
       may = subst (λ (v6 : Bool). IsSocketLine (family_by v6) event bytes) (sym server.family) is;
       takes = Takes-from (at_work server link out) (at_work counted link out) after (event ∷ []) alike (seen_same server counted link out) takes;
@@ -23,9 +23,9 @@ module _ (server : Server) (link : LinkSeen) (out : OutSeen) (bytes : List ℕ) 
     }
 
     -- memory refused its event
-    pub told_starved : (after : AtWork) (last : Server) → Takes (at_work counted link out) after [] → Tallies (counts_in counted) (counts_in after.server) 0 0 0 0
-        → IsAlike after.server last → Tallies (counts_in after.server) (counts_in last) 0 0 0 1 → IsToldOne bytes (at_work server link out) (at_work last after.link after.out)
-    told_starved after last takes tallies still more = record {
+    pub line_starved : (after : AtWork) (last : Server) → Takes (at_work counted link out) after [] → Tallies (counts_in counted) (counts_in after.server) 0 0 0 0
+        → IsAlike after.server last → Tallies (counts_in after.server) (counts_in last) 0 0 0 1 → HearsControlLine bytes (at_work server link out) (at_work last after.link after.out)
+    line_starved after last takes tallies still more = record {
       line = Starved;
       may = tt;
       takes = Takes-to (at_work server link out) after (at_work last after.link after.out) []
@@ -35,8 +35,8 @@ module _ (server : Server) (link : LinkSeen) (out : OutSeen) (bytes : List ℕ) 
     }
 
     -- memory refused to read it
-    pub told_unread : (last : Server) → IsAlike counted last → Tallies (counts_in counted) (counts_in last) 0 0 0 1 → IsToldOne bytes (at_work server link out) (at_work last link out)
-    told_unread last still more = record {
+    pub line_unread : (last : Server) → IsAlike counted last → Tallies (counts_in counted) (counts_in last) 0 0 0 1 → HearsControlLine bytes (at_work server link out) (at_work last link out)
+    line_unread last still more = record {
       line = Starved;
       may = tt;
       takes = Takes-from (at_work server link out) (at_work counted link out) (at_work last link out) [] alike (seen_same server counted link out)
@@ -45,9 +45,9 @@ module _ (server : Server) (link : LinkSeen) (out : OutSeen) (bytes : List ℕ) 
     }
 
   -- it makes none
-  pub told_bad : (last : Server) → ((event : GatewayEvent) → IsSocketLine (family_by server.v6) event bytes → ⊥) → IsAlike server last → Tallies (counts_in server) (counts_in last) 0 1 1 0
-      → IsToldOne bytes (at_work server link out) (at_work last link out)
-  told_bad last never alike tallies = record {
+  pub line_bad : (last : Server) → ((event : GatewayEvent) → IsSocketLine (family_by server.v6) event bytes → ⊥) → IsAlike server last → Tallies (counts_in server) (counts_in last) 0 1 1 0
+      → HearsControlLine bytes (at_work server link out) (at_work last link out)
+  line_bad last never alike tallies = record {
     line = Bad;
     may = subst (λ (v6 : Bool). (event : GatewayEvent) → IsSocketLine (family_by v6) event bytes → ⊥) (sym server.family) never;
     takes = Takes-none (at_work server link out) (at_work last link out) alike (seen_same server last link out);

@@ -21,13 +21,13 @@ use Rattle.serving_turns.specs.Devices.{AnswersAll}
 use Rattle.serving_turns.specs.declared.end.End.{End}
 use Rattle.serving_turns.specs.declared.end.End.TheVariants.{Turns, LinkFault, FeedFault, WordsFault}
 use Rattle.serving_turns.proofs.Lists.{AnswersAll-then, AppendsAll-none, AppendsAll-then}
-use Rattle.gateway_serving.specs.Counting.{bad_lines_told, datagrams_heard, lines_told, starved_in}
+use Rattle.gateway_serving.specs.Counting.{bad_lines_taken, datagrams_heard, lines_taken, starved_in}
 use Rattle.gateway_serving.specs.Devices.{Devices}
 use Rattle.gateway_serving.specs.Events.{events_from, events_of_turn}
 use Rattle.gateway_serving.specs.Servers.{GrowsBy, Takes, counts_in, family_in, latest_in}
 use Rattle.gateway_serving.specs.Stages.{AreCausesOf, EndsIn, Goes, RunsSo, TurnsSo, work_on}
 use Rattle.gateway_serving.specs.Runs.{IsCut}
-use Rattle.gateway_serving.specs.Turns.{IsWhole, Told, Turn, moment_of_turn}
+use Rattle.gateway_serving.specs.Turns.{IsWhole, ControlAnswer, Turn, moment_of_turn}
 use Rattle.gateway_serving.specs.declared.server.Server.{Server}
 use Rattle.gateway_serving.proofs.Few.{GrowsBy-none, GrowsBy-then}
 use Rattle.gateway_serving.proofs.Taking.{Takes-then, Tallies-as, Tallies-none, Tallies-then, none_taken}
@@ -106,7 +106,7 @@ Goes-then before now after devices devices' devices'' turns turn latest first se
     let drawn : Turn → List ℕ = λ one. one.drawn in
     let moments : Turn → List ℕ = λ one. map (λ (taken : Taken ℕ). taken.answer) one.clock in
     let heard : Turn → List LinkAnswer = λ one. map (λ (taken : Taken LinkAnswer). taken.answer) one.heard in
-    let told : Turn → List FeedAnswer = λ one. map (λ (told : Told). told.answer) one.told in
+    let lines : Turn → List FeedAnswer = λ one. map (λ (lines : ControlAnswer). lines.answer) one.lines in
     let events = ap (λ (from : ℕ). events_from (latest_in before) turns ++ events_from from (turn ∷ [])) latest ∙ events_from-more (latest_in before) turns turn in record {
       takes = subst (Takes (work_on before devices) (work_on after devices'')) events
           (Takes-then (work_on before devices) (work_on now devices') (work_on after devices'') (events_from (latest_in before) turns) (events_from (latest_in now) (turn ∷ [])) first.takes second.takes);
@@ -116,9 +116,9 @@ Goes-then before now after devices devices' devices'' turns turn latest first se
           (AppendsAll-then devices.clock devices'.clock devices''.clock (flat_map moments turns) (flat_map moments (turn ∷ [])) first.clock second.clock);
       link = subst (λ (list : List LinkAnswer). AnswersAll LinkClosed devices.link.coming devices''.link.coming list) (sym (flat_map-append heard turns (turn ∷ [])))
           (AnswersAll-then LinkClosed devices.link.coming devices'.link.coming devices''.link.coming (flat_map heard turns) (flat_map heard (turn ∷ [])) first.link second.link);
-      control = subst (λ (list : List FeedAnswer). AnswersAll FeedClosed devices.control.coming devices''.control.coming list) (sym (flat_map-append told turns (turn ∷ [])))
-          (AnswersAll-then FeedClosed devices.control.coming devices'.control.coming devices''.control.coming (flat_map told turns) (flat_map told (turn ∷ [])) first.control second.control);
-      tallies = Tallies-as (counts_in before) (counts_in after) _ _ _ _ _ _ _ _ (sum datagrams_heard) (sum lines_told) (sum bad_lines_told) (sum starved_in)
+      control = subst (λ (list : List FeedAnswer). AnswersAll FeedClosed devices.control.coming devices''.control.coming list) (sym (flat_map-append lines turns (turn ∷ [])))
+          (AnswersAll-then FeedClosed devices.control.coming devices'.control.coming devices''.control.coming (flat_map lines turns) (flat_map lines (turn ∷ [])) first.control second.control);
+      tallies = Tallies-as (counts_in before) (counts_in after) _ _ _ _ _ _ _ _ (sum datagrams_heard) (sum lines_taken) (sum bad_lines_taken) (sum starved_in)
           (Tallies-then (counts_in before) (counts_in now) (counts_in after) _ _ _ _ _ _ _ _ first.tallies second.tallies);
     }
 

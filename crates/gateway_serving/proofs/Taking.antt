@@ -54,7 +54,7 @@ seen_same server server' link out = record { tried = refl; faults = refl; handed
 
 quiet_tried : (before after : Option (List TriedSend)) (faults faults' : ℕ) → after ≡ before → faults' ≡ faults → HasTried before after faults faults' [] 0 0
 quiet_tried before after faults faults' same same_faults =
-    subst (λ (told : Option (List TriedSend)). HasTried before told faults faults' [] 0 0) (sym same)
+    subst (λ (lines : Option (List TriedSend)). HasTried before lines faults faults' [] 0 0) (sym same)
     (subst (λ (count : ℕ). HasTried before before faults count [] 0 0) (sym same_faults) (HasTried-none before faults))
 
 -- nothing happened

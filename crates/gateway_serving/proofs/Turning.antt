@@ -15,21 +15,21 @@ use Rattle.serving_turns.specs.Bursts.{AreAsked, AskedSo}
 use Rattle.serving_turns.specs.Devices.{AnswersAll}
 use Rattle.serving_turns.specs.declared.end.End.{End}
 use Rattle.serving_turns.specs.declared.end.End.TheVariants.{Turns, Closed, LinkFault, FeedFault, WordsFault, SpawnFault, Memory}
-use Rattle.gateway_serving.specs.Counting.{bad_lines_told, datagrams_heard, lines_told}
+use Rattle.gateway_serving.specs.Counting.{bad_lines_taken, datagrams_heard, lines_taken}
 use Rattle.gateway_serving.specs.Devices.{Devices}
 use Rattle.gateway_serving.specs.Events.{calls_in, datagrams_in, moments_in, nonces_in}
 use Rattle.gateway_serving.specs.Runs.{IsCut, of_control, of_link}
-use Rattle.gateway_serving.specs.Servers.{AtWork, Hears, IsTold, Takes, Tallies, at_control, counts_in, family_in, latest_in}
+use Rattle.gateway_serving.specs.Servers.{AtWork, Hears, HearsControl, Takes, Tallies, at_control, counts_in, family_in, latest_in}
 use Rattle.gateway_serving.specs.Stages.{BeginsTurn, Goes, IsTurnBegun, IsTurnBy, TurnsSo, work_on}
-use Rattle.gateway_serving.specs.Turns.{HasBegun, HasHeard, Told, Turn, from_control, from_link}
+use Rattle.gateway_serving.specs.Turns.{HasBegun, HasHeard, ControlAnswer, Turn, from_control, from_link}
 use Rattle.gateway_serving.specs.declared.server.Server.{Server}
 use Rattle.gateway_serving.proofs.Hearing.{Hears-none}
 use Rattle.gateway_serving.proofs.Taking.{Takes-then, Tallies-as, Tallies-then}
-use Rattle.gateway_serving.proofs.Telling.{IsTold-failed}
+use Rattle.gateway_serving.proofs.ControlLines.{HearsControl-failed}
 
 -- the answers of a turn
-abbrev pub turn_of : List ℕ → List (Taken ℕ) → List (Taken LinkAnswer) → List Told → Turn
-turn_of drawn clock heard told = record { drawn = drawn; clock = clock; heard = heard; told = told }
+abbrev pub turn_of : List ℕ → List (Taken ℕ) → List (Taken LinkAnswer) → List ControlAnswer → Turn
+turn_of drawn clock heard lines = record { drawn = drawn; clock = clock; heard = heard; lines = lines }
 
 -- four lots of events in a row
 all_events : (nonces moments datagrams calls : List GatewayEvent) → ((nonces ++ moments) ++ datagrams) ++ calls ≡ (nonces ++ (moments ++ (datagrams ++ calls))) ++ []
@@ -55,7 +55,7 @@ pub record HasStages (before after : Server) (devices devices' : Devices) (turn 
   pub clock : AppendsAll devices.clock devices'.clock (map (λ one. one.answer) turn.clock)
   pub coming_kept : began.link.coming ≡ devices.link.coming
   pub hears : Hears began heard turn.heard
-  pub told : IsTold (at_control heard devices.control) (at_control (work_on after devices') devices'.control) turn.told
+  pub lines : HearsControl (at_control heard devices.control) (at_control (work_on after devices') devices'.control) turn.lines
   pub coming_still : devices'.link.coming ≡ heard.link.coming
 
 pub goes_of : (before after : Server) (devices devices' : Devices) (turn : Turn) → HasStages before after devices devices' turn → Goes (turn ∷ []) before after devices devices'
@@ -67,21 +67,21 @@ goes_of before after devices devices' turn stages =
     let nonces = nonces_in turn.drawn in
     let moments = moments_in (latest_in before) turn.clock in
     let came = map (λ (one : Taken LinkAnswer). one.answer) turn.heard in
-    let told = map (λ (one : Told). one.answer) turn.told in record {
-      takes = subst (Takes first last) (all_events nonces moments (datagrams_in turn.heard) (calls_in turn.told))
-          (Takes-then first heard last ((nonces ++ moments) ++ datagrams_in turn.heard) (calls_in turn.told)
-          (Takes-then first began heard (nonces ++ moments) (datagrams_in turn.heard) stages.takes stages.hears.takes) stages.told.takes);
+    let lines = map (λ (one : ControlAnswer). one.answer) turn.lines in record {
+      takes = subst (Takes first last) (all_events nonces moments (datagrams_in turn.heard) (calls_in turn.lines))
+          (Takes-then first heard last ((nonces ++ moments) ++ datagrams_in turn.heard) (calls_in turn.lines)
+          (Takes-then first began heard (nonces ++ moments) (datagrams_in turn.heard) stages.takes stages.hears.takes) stages.lines.takes);
       words = subst (λ (more : List ℕ). AppendsAll devices.words.given devices'.words.given more) (sym (append-nil turn.drawn)) stages.words;
       clock = subst (λ (more : List ℕ). AppendsAll devices.clock devices'.clock more) (sym (append-nil (map (λ (one : Taken ℕ). one.answer) turn.clock))) stages.clock;
       link = subst (λ (more : List LinkAnswer). AnswersAll LinkClosed devices.link.coming devices'.link.coming more) (sym (append-nil came))
           (subst (λ (from : Option (List LinkAnswer)). AnswersAll LinkClosed from devices'.link.coming came) stages.coming_kept
           (subst (λ (to : Option (List LinkAnswer)). AnswersAll LinkClosed began.link.coming to came) (sym stages.coming_still) stages.hears.came));
-      control = subst (λ (more : List FeedAnswer). AnswersAll FeedClosed devices.control.coming devices'.control.coming more) (sym (append-nil told)) stages.told.came;
+      control = subst (λ (more : List FeedAnswer). AnswersAll FeedClosed devices.control.coming devices'.control.coming more) (sym (append-nil lines)) stages.lines.came;
       tallies = Tallies-as (counts_in before) (counts_in after) _ _ _ _ _ _ _ _
-          (first_alone (datagrams_heard turn)) (second_alone (lines_told turn)) (second_alone (bad_lines_told turn))
+          (first_alone (datagrams_heard turn)) (second_alone (lines_taken turn)) (second_alone (bad_lines_taken turn))
           (all_three (count_by (λ one. one.starved) turn.clock) (count_by (λ one. one.starved) turn.heard) _)
           (Tallies-then (counts_in before) (counts_in heard.server) (counts_in after) _ _ _ _ _ _ _ _
-          (Tallies-then (counts_in before) (counts_in began.server) (counts_in heard.server) _ _ _ _ _ _ _ _ stages.tallies stages.hears.tallies) stages.told.tallies);
+          (Tallies-then (counts_in before) (counts_in began.server) (counts_in heard.server) _ _ _ _ _ _ _ _ stages.tallies stages.hears.tallies) stages.lines.tallies);
     }
 
 -- the gateway's family after the first stages
@@ -91,7 +91,7 @@ same_family before now events takes = ap family_of takes.events.same.same_settin
 module _ (family : Family) (drawn : List ℕ) (clock : List (Taken ℕ)) where
   -- the run ended in the first stage
   cut_begun : (end : End) → IsTurnBegun (Err end) drawn clock → IsCut end family (turn_of drawn clock [] [])
-  cut_begun WordsFault begun = record { none = begun.0; no_moment = begun.1; unheard = refl; untold = refl }
+  cut_begun WordsFault begun = record { none = begun.0; no_moment = begun.1; unheard = refl; no_lines = refl }
   cut_begun Turns begun = begun
   cut_begun Closed begun = absurd begun
   cut_begun LinkFault begun = absurd begun
@@ -111,25 +111,25 @@ module _ (family : Family) (drawn : List ℕ) (clock : List (Taken ℕ)) where
   cut_heard SpawnFault heard begun asked other = asked
 
   -- when the control feed was asked
-  cut_told : (end : End) (heard : List (Taken LinkAnswer)) (told : List Told) → HasHeard (turn_of drawn clock heard told) → AreAsked (from_control family) (Err end) told
-      → (IsErrOf {T = Unit {0}} (Err end) LinkFault → ⊥) → IsCut end family (turn_of drawn clock heard told)
-  cut_told Closed heard told has asked other = of_control has asked
-  cut_told FeedFault heard told has asked other = (has, asked)
-  cut_told LinkFault heard told has asked other = absurd (other refl)
-  cut_told Memory heard told has asked other = asked.3
-  cut_told WordsFault heard told has asked other = absurd asked
-  cut_told Turns heard told has asked other = asked
-  cut_told SpawnFault heard told has asked other = asked
+  cut_at_control : (end : End) (heard : List (Taken LinkAnswer)) (lines : List ControlAnswer) → HasHeard (turn_of drawn clock heard lines) → AreAsked (from_control family) (Err end) lines
+      → (IsErrOf {T = Unit {0}} (Err end) LinkFault → ⊥) → IsCut end family (turn_of drawn clock heard lines)
+  cut_at_control Closed heard lines has asked other = of_control has asked
+  cut_at_control FeedFault heard lines has asked other = (has, asked)
+  cut_at_control LinkFault heard lines has asked other = absurd (other refl)
+  cut_at_control Memory heard lines has asked other = asked.3
+  cut_at_control WordsFault heard lines has asked other = absurd asked
+  cut_at_control Turns heard lines has asked other = asked
+  cut_at_control SpawnFault heard lines has asked other = asked
 
   -- what the control feed's asking comes to
-  turn_told : (result : Result (Unit {0}) End) (heard : List (Taken LinkAnswer)) (told : List Told) → HasHeard (turn_of drawn clock heard told) → AreAsked (from_control family) result told
-      → (IsErrOf result LinkFault → ⊥) → IsTurnBy result family (turn_of drawn clock heard told)
-  turn_told (Ok unit) heard told has asked other = record { heard = has; control = asked }
-  turn_told (Err end) heard told has asked other = cut_told end heard told has asked other
+  turn_by_control : (result : Result (Unit {0}) End) (heard : List (Taken LinkAnswer)) (lines : List ControlAnswer) → HasHeard (turn_of drawn clock heard lines) → AreAsked (from_control family) result lines
+      → (IsErrOf result LinkFault → ⊥) → IsTurnBy result family (turn_of drawn clock heard lines)
+  turn_by_control (Ok unit) heard lines has asked other = record { heard = has; control = asked }
+  turn_by_control (Err end) heard lines has asked other = cut_at_control end heard lines has asked other
 
 -- a word and a moment
-has_begun : (drawn : List ℕ) (clock : List (Taken ℕ)) (heard : List (Taken LinkAnswer)) (told : List Told) (unit : Unit {0}) → IsTurnBegun (Ok unit) drawn clock → HasBegun (turn_of drawn clock heard told)
-has_begun drawn clock heard told unit begun = record { word = begun.0; moment = begun.1 }
+has_begun : (drawn : List ℕ) (clock : List (Taken ℕ)) (heard : List (Taken LinkAnswer)) (lines : List ControlAnswer) (unit : Unit {0}) → IsTurnBegun (Ok unit) drawn clock → HasBegun (turn_of drawn clock heard lines)
+has_begun drawn clock heard lines unit begun = record { word = begun.0; moment = begun.1 }
 
 -- a success has no cause
 pub no_error : (cause : End) → IsErrOf {T = Unit {0}} (Ok tt) cause → ⊥
@@ -143,8 +143,8 @@ begun_other cause result drawn clock begun never is = never (subst (λ (one : Re
 pub no_words_heard : (heard : List (Taken LinkAnswer)) (result : Result (Unit {0}) End) → AreAsked from_link result heard → IsErrOf result WordsFault → ⊥
 no_words_heard heard result asked is = subst (λ (one : Result (Unit {0}) End). AreAsked from_link one heard) is asked
 
-pub no_words_told : (family : Family) (told : List Told) (result : Result (Unit {0}) End) → AreAsked (from_control family) result told → IsErrOf result WordsFault → ⊥
-no_words_told family told result asked is = subst (λ (one : Result (Unit {0}) End). AreAsked (from_control family) one told) is asked
+pub no_words_in_lines : (family : Family) (lines : List ControlAnswer) (result : Result (Unit {0}) End) → AreAsked (from_control family) result lines → IsErrOf result WordsFault → ⊥
+no_words_in_lines family lines result asked is = subst (λ (one : Result (Unit {0}) End). AreAsked (from_control family) one lines) is asked
 
 -- the run ended in the first stage
 pub ends_begun : (before after : Server) (devices devices' : Devices) (end : End)
@@ -163,7 +163,7 @@ ends_begun before after devices devices' end same_link same_control begins =
         clock = begins.clock_gave;
         coming_kept = same_link;
         hears = Hears-none last;
-        told = IsTold-failed last devices.control devices'.control same_control;
+        lines = HearsControl-failed last devices.control devices'.control same_control;
         coming_still = refl;
       });
       latest = begins.latest;
@@ -189,7 +189,7 @@ ends_heard before after began devices devices' end unit same_link same_control b
         clock = begins.clock_gave;
         coming_kept = same_link;
         hears = hears.goes;
-        told = IsTold-failed last devices.control devices'.control same_control;
+        lines = HearsControl-failed last devices.control devices'.control same_control;
         coming_still = refl;
       });
       latest = same_latest ∙ begins.latest;
@@ -197,17 +197,17 @@ ends_heard before after began devices devices' end unit same_link same_control b
     }
 
 -- the turn is whole, or the run ended when the control feed was asked
-pub ends_told : (before after : Server) (began heard : AtWork) (devices devices' : Devices) (result : Result (Unit {0}) End) (unit unit' : Unit {0})
+pub ends_control : (before after : Server) (began heard : AtWork) (devices devices' : Devices) (result : Result (Unit {0}) End) (unit unit' : Unit {0})
     → began.link.coming ≡ devices.link.coming → devices'.link.coming ≡ heard.link.coming
     → BeginsTurn (work_on before devices) began devices.clock devices'.clock devices.words.given devices'.words.given (Ok unit)
     → AskedSo Hears began heard (AreAsked from_link (Ok unit'))
-    → AskedSo IsTold (at_control heard devices.control) (at_control (work_on after devices') devices'.control) (AreAsked (from_control (family_in heard.server)) result)
+    → AskedSo HearsControl (at_control heard devices.control) (at_control (work_on after devices') devices'.control) (AreAsked (from_control (family_in heard.server)) result)
     → latest_in heard.server ≡ latest_in began.server → latest_in after ≡ latest_in heard.server
     → (IsErrOf result LinkFault → ⊥) → TurnsSo before after devices devices' result
-ends_told before after began heard devices devices' result unit unit' same_link still begins hears told same_latest last_latest other =
-    let turn = turn_of begins.drawn begins.given hears.answers told.answers in
+ends_control before after began heard devices devices' result unit unit' same_link still begins hears lines same_latest last_latest other =
+    let turn = turn_of begins.drawn begins.given hears.answers lines.answers in
     let family = same_family began heard (datagrams_in hears.answers) hears.goes.takes ∙ same_family (work_on before devices) began _ begins.takes in
-    let asked = subst (λ (one : Family). AreAsked (from_control one) result told.answers) family told.ends in record {
+    let asked = subst (λ (one : Family). AreAsked (from_control one) result lines.answers) family lines.ends in record {
       turn = turn;
       goes = goes_of before after devices devices' turn (record {
         began = began;
@@ -218,10 +218,10 @@ ends_told before after began heard devices devices' result unit unit' same_link 
         clock = begins.clock_gave;
         coming_kept = same_link;
         hears = hears.goes;
-        told = told.goes;
+        lines = lines.goes;
         coming_still = still;
       });
       latest = last_latest ∙ same_latest ∙ begins.latest;
-      is_turn = turn_told (family_in before) begins.drawn begins.given result hears.answers told.answers
-          (record { begun = has_begun begins.drawn begins.given hears.answers told.answers unit begins.is; link = hears.ends }) asked other;
+      is_turn = turn_by_control (family_in before) begins.drawn begins.given result hears.answers lines.answers
+          (record { begun = has_begun begins.drawn begins.given hears.answers lines.answers unit begins.is; link = hears.ends }) asked other;
     }

@@ -21,7 +21,7 @@ use Rattle.serving_turns.specs.declared.end.End.{End}
 use Rattle.serving_turns.specs.declared.end.End.TheVariants.{LinkFault, FeedFault, WordsFault, Memory}
 use Rattle.serving_turns.proofs.Lists.{AppendsAll-none, AppendsAll-then}
 use Rattle.serving_turns.proofs.Trying.{HasTried-none}
-use Rattle.gateway_serving.specs.Counting.{bad_lines_told, datagrams_heard, lines_told, no_counts, starved_in}
+use Rattle.gateway_serving.specs.Counting.{bad_lines_taken, datagrams_heard, lines_taken, no_counts, starved_in}
 use Rattle.gateway_serving.specs.Devices.{Devices, devices_seen}
 use Rattle.gateway_serving.specs.Events.{events_from, events_of, first_of, nonce_of}
 use Rattle.gateway_serving.specs.Openings.{OpensSo}
@@ -78,7 +78,7 @@ pub serves_undrawn : (config : GatewayConfig) (turns : ℕ) (clock : Option (Lis
     → Serves config turns (devices_seen clock words link control out) (devices_seen clock words' link control out) (report_of WordsFault 0 no_counts)
 serves_undrawn config turns clock words words' link control out kept rose =
     not_run config turns WordsFault [] clock words words' link control out
-    (subst (λ (told : Option (List ℕ)). AppendsAll words.given told []) (sym kept) (AppendsAll-none words.given))
+    (subst (λ (lines : Option (List ℕ)). AppendsAll words.given lines []) (sym kept) (AppendsAll-none words.given))
     (undrawn refl refl (record { no_moment = refl; no_event = refl; no_turn = refl }))
     (λ is. cc is) (λ is. cc is) ((λ is. rose), (λ other. absurd (other refl)))
 
@@ -108,7 +108,7 @@ serves_by : (config : GatewayConfig) (turns word done : ℕ) (end : End) (run : 
     → AppendsAll before.words.given after.words.given (words_of run) → AppendsAll before.clock after.clock (moments_of run)
     → AnswersAll LinkClosed before.link.coming after.link.coming (link_answers run) → AnswersAll FeedClosed before.control.coming after.control.coming (control_answers run)
     → Takes (work_on fresh before) (work_on last after) (events_of run)
-    → Tallies (counts_in fresh) (counts_in last) (sum_by datagrams_heard (turns_of run)) (sum_by lines_told (turns_of run)) (sum_by bad_lines_told (turns_of run)) (sum_by starved_in (turns_of run))
+    → Tallies (counts_in fresh) (counts_in last) (sum_by datagrams_heard (turns_of run)) (sum_by lines_taken (turns_of run)) (sum_by bad_lines_taken (turns_of run)) (sum_by starved_in (turns_of run))
     → EndsIn end before after → Serves config turns before after (report_of end done (counts_in last))
 serves_by config turns word done end run fresh last before after is goes first done_is words clock link control takes tallies ends =
     let none : (count : Counts → ℕ) → count no_counts ≡ 0 → count (counts_in fresh) ≡ 0 = λ count zero. (ap count is.counts ∙ zero) in

@@ -33,22 +33,22 @@ is_starved_line (Some Starved) = true
 abbrev pub starved_in : Turn → ℕ
 starved_in turn =
     count_by (λ one. one.starved) turn.clock
-    + (count_by (λ one. one.starved) turn.heard + count_by (λ one. is_starved_line one.line) turn.told)
+    + (count_by (λ one. one.starved) turn.heard + count_by (λ one. is_starved_line one.line) turn.lines)
 
 abbrev pub datagrams_heard : Turn → ℕ
 datagrams_heard turn = count_by (λ one. is_datagram one.answer) turn.heard
 
-abbrev pub lines_told : Turn → ℕ
-lines_told turn = count_by (λ one. is_line one.answer) turn.told
+abbrev pub lines_taken : Turn → ℕ
+lines_taken turn = count_by (λ one. is_line one.answer) turn.lines
 
-abbrev pub bad_lines_told : Turn → ℕ
-bad_lines_told turn = count_by (λ one. is_bad one.line) turn.told
+abbrev pub bad_lines_taken : Turn → ℕ
+bad_lines_taken turn = count_by (λ one. is_bad one.line) turn.lines
 
 -- each datagram and each line that was taken counts, those that memory refused among them
 pub record AreCounted (turns : List Turn) (datagrams controls bad_controls starved : ℕ) : Type 0 where
   pub datagrams_are : datagrams ≡ sum_by datagrams_heard turns
-  pub controls_are : controls ≡ sum_by lines_told turns
-  pub bad_are : bad_controls ≡ sum_by bad_lines_told turns
+  pub controls_are : controls ≡ sum_by lines_taken turns
+  pub bad_are : bad_controls ≡ sum_by bad_lines_taken turns
   pub starved_are : starved ≡ sum_by starved_in turns
 
 abbrev pub no_counts : Counts

@@ -8,7 +8,7 @@ use Rattle.gateway_machine.specs.declared.event.GatewayEvent.{GatewayEvent}
 use Rattle.gateway_machine.specs.declared.event.GatewayEvent.TheVariants.{Datagram, Moment, Nonce}
 use Rattle.serving_turns.specs.Answers.{Taken, unless_starved}
 use Rattle.gateway_serving.specs.Runs.{Run, turns_of}
-use Rattle.gateway_serving.specs.Turns.{Bad, Called, Line, Starved, Told, Turn, moment_of_turn}
+use Rattle.gateway_serving.specs.Turns.{Bad, Called, Line, Starved, ControlAnswer, Turn, moment_of_turn}
 
 -- a nonce is the low 32 bits of a word
 abbrev pub nonce_of : ℕ → ℕ
@@ -32,15 +32,15 @@ call_of (Some (Called event)) = Some event
 call_of (Some Bad) = None
 call_of (Some Starved) = None
 
-abbrev pub calls_in : List Told → List GatewayEvent
-calls_in told = filter_map (λ one. call_of one.line) told
+abbrev pub calls_in : List ControlAnswer → List GatewayEvent
+calls_in lines = filter_map (λ one. call_of one.line) lines
 
 abbrev pub nonces_in : List ℕ → List GatewayEvent
 nonces_in words = map (λ word. Nonce (nonce_of word)) words
 
 abbrev pub events_of_turn : ℕ → Turn → List GatewayEvent
 events_of_turn latest turn =
-    nonces_in turn.drawn ++ (moments_in latest turn.clock ++ (datagrams_in turn.heard ++ calls_in turn.told))
+    nonces_in turn.drawn ++ (moments_in latest turn.clock ++ (datagrams_in turn.heard ++ calls_in turn.lines))
 
 -- the events of turns, if this moment was the latest before them
 abbrev pub events_from : ℕ → List Turn → List GatewayEvent

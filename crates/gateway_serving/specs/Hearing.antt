@@ -17,7 +17,7 @@ pub record HearsOne (from : Peer) (bytes : List ℕ) (before after : AtWork) : T
   pub tallies : Tallies (counts_in before.server) (counts_in after.server) 1 0 0 (one_if starved)
 
 -- this line came, and this became of it
-pub record IsToldOne (bytes : List ℕ) (before after : AtWork) : Type 0 where
+pub record HearsControlLine (bytes : List ℕ) (before after : AtWork) : Type 0 where
   pub line : Line
   pub may : MayBecome (family_in before.server) bytes line
   pub takes : Takes before after (calls_in (a_line bytes line ∷ []))

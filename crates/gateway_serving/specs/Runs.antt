@@ -18,12 +18,12 @@ pub record LacksWord (turn : Turn) : Type 0 where
   pub none : turn.drawn ≡ []
   pub no_moment : turn.clock ≡ []
   pub unheard : turn.heard ≡ []
-  pub untold : turn.told ≡ []
+  pub no_lines : turn.lines ≡ []
 
 -- the link or the control feed answered that it is closed
 pub data FindsClosed (family : Family) (turn : Turn) : Type 0 where
-  of_link : HasBegun turn → IsClosed from_link turn.heard → turn.told ≡ [] → FindsClosed family turn
-  of_control : HasHeard turn → IsClosed (from_control family) turn.told → FindsClosed family turn
+  of_link : HasBegun turn → IsClosed from_link turn.heard → turn.lines ≡ [] → FindsClosed family turn
+  of_control : HasHeard turn → IsClosed (from_control family) turn.lines → FindsClosed family turn
 
 -- the run ended in this turn, which isn't whole; out of memory none ends
 abbrev pub IsCut : End → Family → Turn → Type 0
@@ -32,8 +32,8 @@ IsCut SpawnFault family turn = ⊥
 IsCut Memory family turn = ⊥
 IsCut Closed family turn = FindsClosed family turn
 IsCut WordsFault family turn = LacksWord turn
-IsCut LinkFault family turn = HasBegun turn × IsBegun from_link turn.heard × (turn.told ≡ [])
-IsCut FeedFault family turn = HasHeard turn × IsBegun (from_control family) turn.told
+IsCut LinkFault family turn = HasBegun turn × IsBegun from_link turn.heard × (turn.lines ≡ [])
+IsCut FeedFault family turn = HasHeard turn × IsBegun (from_control family) turn.lines
 
 -- The word of the first nonce, if one was drawn; the first moment, if the clock was asked; the events before the
 -- first turn; the whole turns, and the one in which the run ended, if it is not whole.
@@ -98,4 +98,4 @@ abbrev pub link_answers : Run → List LinkAnswer
 link_answers run = flat_map (λ turn. map (λ one. one.answer) turn.heard) (turns_of run)
 
 abbrev pub control_answers : Run → List FeedAnswer
-control_answers run = flat_map (λ turn. map (λ one. one.answer) turn.told) (turns_of run)
+control_answers run = flat_map (λ turn. map (λ one. one.answer) turn.lines) (turns_of run)

@@ -16,7 +16,7 @@ use Rattle.gateway_serving.specs.Counting.{is_bad, is_datagram, is_line, is_star
 use Rattle.gateway_serving.specs.Courses.{events_so_far}
 use Rattle.gateway_serving.specs.Events.{calls_in, datagrams_in}
 use Rattle.gateway_serving.specs.Sending.{delivered_after, sends_after}
-use Rattle.gateway_serving.specs.Turns.{Told}
+use Rattle.gateway_serving.specs.Turns.{ControlAnswer}
 use Rattle.gateway_serving.specs.declared.counts.Counts.{Counts}
 use Rattle.gateway_serving.specs.declared.server.Server.{Server}
 
@@ -130,9 +130,9 @@ abbrev pub at_control : AtWork → FeedSeen → AtControl
 at_control work control = record { work = work; control = control }
 
 -- these were the control feed's answers; the socket calls among them are events, but for those that memory refused
-pub record IsTold (before after : AtControl) (told : List Told) : Type 0 where
-  pub takes : Takes before.work after.work (calls_in told)
-  pub came : AnswersAll FeedClosed before.control.coming after.control.coming (map (λ one. one.answer) told)
+pub record HearsControl (before after : AtControl) (lines : List ControlAnswer) : Type 0 where
+  pub takes : Takes before.work after.work (calls_in lines)
+  pub came : AnswersAll FeedClosed before.control.coming after.control.coming (map (λ one. one.answer) lines)
   pub tallies : Tallies (counts_in before.work.server) (counts_in after.work.server)
-      0 (count_by (λ one. is_line one.answer) told) (count_by (λ one. is_bad one.line) told)
-      (count_by (λ one. is_starved_line one.line) told)
+      0 (count_by (λ one. is_line one.answer) lines) (count_by (λ one. is_bad one.line) lines)
+      (count_by (λ one. is_starved_line one.line) lines)

@@ -11,7 +11,7 @@ use Rattle.serving_turns.specs.declared.end.End.{End}
 use Rattle.serving_turns.specs.declared.end.End.TheVariants.{Turns, Closed, LinkFault, FeedFault, WordsFault, SpawnFault, Memory}
 use Rattle.serving_turns.specs.Answers.{Taken}
 use Rattle.group_records.specs.declared.family.Family.{Family}
-use Rattle.gateway_serving.specs.Counting.{bad_lines_told, datagrams_heard, lines_told, starved_in}
+use Rattle.gateway_serving.specs.Counting.{bad_lines_taken, datagrams_heard, lines_taken, starved_in}
 use Rattle.gateway_serving.specs.Devices.{Devices}
 use Rattle.gateway_serving.specs.Events.{events_from, moments_in, nonces_in}
 use Rattle.gateway_serving.specs.Runs.{HasEnded, IsCut, with_cut}
@@ -76,9 +76,9 @@ pub record Goes (turns : List Turn) (before after : Server) (devices devices' : 
   pub words : AppendsAll devices.words.given devices'.words.given (flat_map (λ turn. turn.drawn) turns)
   pub clock : AppendsAll devices.clock devices'.clock (flat_map (λ turn. map (λ one. one.answer) turn.clock) turns)
   pub link : AnswersAll LinkClosed devices.link.coming devices'.link.coming (flat_map (λ turn. map (λ one. one.answer) turn.heard) turns)
-  pub control : AnswersAll FeedClosed devices.control.coming devices'.control.coming (flat_map (λ turn. map (λ one. one.answer) turn.told) turns)
+  pub control : AnswersAll FeedClosed devices.control.coming devices'.control.coming (flat_map (λ turn. map (λ one. one.answer) turn.lines) turns)
   pub tallies : Tallies (counts_in before) (counts_in after)
-      (sum_by datagrams_heard turns) (sum_by lines_told turns) (sum_by bad_lines_told turns) (sum_by starved_in turns)
+      (sum_by datagrams_heard turns) (sum_by lines_taken turns) (sum_by bad_lines_taken turns) (sum_by starved_in turns)
 
 -- one turn, which was whole or ended the run
 pub record TurnsSo (before after : Server) (devices devices' : Devices) (result : Result (Unit {0}) End) : Type 0 where

@@ -18,14 +18,14 @@ pub data Line : Type 0 where
   Starved : Line
 
 -- an answer of the control feed, and what became of its line, if it is one
-pub record Told : Type 0 where
+pub record ControlAnswer : Type 0 where
   pub answer : FeedAnswer
   pub line : Option Line
 
-abbrev pub no_line : FeedAnswer → Told
+abbrev pub no_line : FeedAnswer → ControlAnswer
 no_line answer = record { answer = answer; line = None }
 
-abbrev pub a_line : List ℕ → Line → Told
+abbrev pub a_line : List ℕ → Line → ControlAnswer
 a_line bytes line = record { answer = Packet bytes; line = Some line }
 
 -- this may become of the octets
@@ -50,7 +50,7 @@ from_link = record {
   closed = taken LinkClosed;
 }
 
-abbrev pub from_control : Family → AnswerKinds Told
+abbrev pub from_control : Family → AnswerKinds ControlAnswer
 from_control family = record {
   Came = λ one. HasLine family one.answer one.line;
   Starves = λ one. ⊥;
@@ -63,7 +63,7 @@ pub record Turn : Type 0 where
   pub drawn : List ℕ
   pub clock : List (Taken ℕ)
   pub heard : List (Taken LinkAnswer)
-  pub told : List Told
+  pub lines : List ControlAnswer
 
 -- the latest of these moments, if this was the latest before them
 abbrev pub latest_of : ℕ → List (Taken ℕ) → ℕ
@@ -87,4 +87,4 @@ pub record HasHeard (turn : Turn) : Type 0 where
 -- the turn is whole
 pub record IsWhole (family : Family) (turn : Turn) : Type 0 where
   pub heard : HasHeard turn
-  pub control : IsBurst (from_control family) turn.told
+  pub control : IsBurst (from_control family) turn.lines

@@ -11,10 +11,10 @@ use amt_ports::OutLink;
 use amt_values::{Moment, Peer};
 use gateway_machine::Gateway;
 
+mod control_lines;
 mod hearing;
 mod opening;
 mod taking;
-mod telling;
 mod turning;
 
 /// A running gateway.

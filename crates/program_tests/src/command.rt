@@ -5,6 +5,7 @@ mod datagrams;
 mod day;
 mod embedding;
 mod faults;
+mod hostile;
 mod mld;
 mod others;
 mod outcomes;
@@ -23,6 +24,15 @@ const ADDRESSES: &str = "set relay 192.0.2.1\nset query4 192.0.2.1\n";
 const RELAY: Start = ("replay relay", ADDRESSES);
 
 const WHOLE: Start = ("replay relay", "");
+
+// Scripts that begin at 1,000 ms.
+const LATE: Start = (
+    "replay relay",
+    "set relay 192.0.2.1\nset query4 192.0.2.1\nat 1000\n",
+);
+
+// One line more, with which nothing is sent.
+const LINE: Frame = (LATE, "= 1 moved 1000\n= 2 ", "\n. 2\n");
 
 // One datagram from 198.51.100.7:5000 with which nothing is sent.
 const DATAGRAM: Frame = (
@@ -53,6 +63,26 @@ fn secrets_sources_types_and_limits_decide_what_a_datagram_comes_to(rt: HostRunt
 #[test]
 fn a_script_with_a_fault_takes_no_step(rt: HostRuntime) {
     are_faults(&rt, rt.alloc(), WHOLE, &faults::FAULTS);
+}
+
+#[test]
+fn hostile_input_has_its_first_fault(rt: HostRuntime) {
+    are_framed(&rt, rt.alloc(), LINE, &hostile::LINES);
+}
+
+#[test]
+fn one_bit_of_the_mac_makes_it_bad_whatever_follows(rt: HostRuntime) {
+    are_framed(&rt, rt.alloc(), LINE, &hostile::OTHER_MACS);
+}
+
+#[test]
+fn hostile_input_leaves_what_is_wanted(rt: HostRuntime) {
+    are_texts(&rt, rt.alloc(), RELAY, &hostile::SCRIPTS);
+}
+
+#[test]
+fn requests_from_10_000_ports_leave_nothing(rt: HostRuntime) {
+    hostile::are_forgotten(&rt, rt.alloc(), LATE);
 }
 
 #[test]

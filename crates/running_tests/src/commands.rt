@@ -13,6 +13,14 @@ use std::sync::Wait;
 pub const SETTINGS: &str =
     "relay = \"192.0.2.1\"\nlisten = \"127.0.0.1:2268\"\nfeed = \"127.0.0.1:9000\"\n";
 
+/// What a settings file has.
+#[derive(Clone, Copy)]
+pub enum File<'a> {
+    Text(&'a str),
+    /// So many octets `#`.
+    Long(usize),
+}
+
 /// What a run of the command comes to.
 #[derive(Drop)]
 pub struct Ended {
@@ -29,6 +37,14 @@ fn words_of(alloc: Global, line: &str) -> Result<Vec<String>, AllocError> {
     Ok(words)
 }
 
+/// The octets of a file.
+pub fn file_of(alloc: Global, file: &File) -> Result<Bytes, AllocError> {
+    match file {
+        File::Text(text) => Bytes::copied(alloc, text.as_bytes()),
+        File::Long(count) => Ok(Bytes::from(Vec::from_elem(alloc, b'#', *count)?)),
+    }
+}
+
 /// A file `F` with these octets; a reading of it fails where its number is this, counted from 1.
 pub fn files_of(alloc: Global, octets: Bytes, failing: u64) -> Result<MemFiles, AllocError> {
     let mut files = Vec::with_capacity(alloc, 1)?;
@@ -39,6 +55,12 @@ pub fn files_of(alloc: Global, octets: Bytes, failing: u64) -> Result<MemFiles, 
     Ok(MemFiles::failing(files, vec![in alloc; failing]?))
 }
 
+// A line is one write; where that is to fail, none succeeds.
+fn err_sink(alloc: Global, is_mute: bool) -> Result<MemSink, AllocError> {
+    let failing = if is_mute { 1 } else { 0 };
+    Ok(MemSink::failing(alloc, vec![in alloc; failing]?))
+}
+
 // A run with these words; the write of this number to the output fails, counted from 1.
 fn run_over<V: Live>(
     rt: &impl Wait,
@@ -46,42 +68,45 @@ fn run_over<V: Live>(
     line: &str,
     mut input: MemSource,
     files: &mut MemFiles,
-    failing: u64,
+    write: u64,
+    is_mute: bool,
     live: &mut V,
 ) -> Result<Ended, AllocError> {
     let words = words_of(alloc, line)?;
-    let mut out = MemSink::failing(alloc, vec![in alloc; failing]?);
-    let mut err = MemSink::new(alloc);
+    let mut out = MemSink::failing(alloc, vec![in alloc; write]?);
+    let mut err = err_sink(alloc, is_mute)?;
     let status = amt(
         rt, alloc, &words, &mut input, files, &mut out, &mut err, live,
     );
     Ok(Ended { status, out, err })
 }
 
-/// A run of `amt relay` with these words: its input fails where it is read. The write of this number to the
-/// output fails, counted from 1.
+/// A run of `amt relay` or `amt gateway` with these words: its input fails where it is read. The
+/// write of this number to the output fails, counted from 1, and those to standard error where it is mute.
 pub fn run<V: Live>(
     rt: &impl Wait,
     alloc: Global,
     line: &str,
     files: &mut MemFiles,
-    failing: u64,
+    write: u64,
+    is_mute: bool,
     live: &mut V,
 ) -> Result<Ended, AllocError> {
     let input = MemSource::failing(Bytes::new(alloc), vec![in alloc; 1]?);
-    run_over(rt, alloc, line, input, files, failing, live)
+    run_over(rt, alloc, line, input, files, write, is_mute, live)
 }
 
-/// A run of `amt replay relay` over this script.
+/// A run of `amt replay relay` or `amt replay gateway` over this script.
 pub fn replay<V: Live>(
     rt: &impl Wait,
     alloc: Global,
+    line: &str,
     script: Bytes,
     live: &mut V,
 ) -> Result<Ended, AllocError> {
     let input = MemSource::failing(script, Vec::new(alloc));
     let mut files = MemFiles::new(alloc, Vec::new(alloc));
-    run_over(rt, alloc, "replay relay", input, &mut files, 0, live)
+    run_over(rt, alloc, line, input, &mut files, 0, false, live)
 }
 
 /// The run ended with this status, this output and this line on standard error.
@@ -122,9 +147,21 @@ pub fn assert_served<R: Wait + Abort, V: Live>(
     let Ok(settings) = Bytes::copied(alloc, SETTINGS.as_bytes()) else {
         panic!(rt; "out of memory");
     };
+    assert_served_by(rt, alloc, line, settings, live, out);
+}
+
+/// A run by a file of these settings ends with status 0 and this output.
+pub fn assert_served_by<R: Wait + Abort, V: Live>(
+    rt: &R,
+    alloc: Global,
+    line: &str,
+    settings: Bytes,
+    live: &mut V,
+    out: &str,
+) {
     let Ok(mut files) = files_of(alloc, settings, 0) else {
         panic!(rt; "out of memory");
     };
-    let ended = run(rt, alloc, line, &mut files, 0, live);
+    let ended = run(rt, alloc, line, &mut files, 0, false, live);
     is_ended(rt, line, &ended, 0, out, "");
 }

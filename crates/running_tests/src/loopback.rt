@@ -2,8 +2,9 @@
 //! not know what a turn does.
 ghost use Rattle.std.specs.Prelude.{◌≡◌, IfOk, None, length};
 
+use crate::answers::octets_of;
 use crate::commands::{assert_served, is_written, replay};
-use crate::devices::{PACKET, octets_of};
+use crate::devices::PACKET;
 use crate::starters::Starter;
 use amt_live::{DeviceSet, MemLive, RelayDevices};
 use amt_ports::{Clock, MemWords, ThreadSpawner, UdpFeed, UdpLink, UdpOut, open_sockets};
@@ -253,7 +254,7 @@ fn assert_replayed<R: Threads + Wait + Abort + 'static>(rt: &R, alloc: Global, c
         panic!(rt; "other than three datagrams were heard");
     };
     let mut live: Sets<R> = MemLive::new(alloc, Vec::new(alloc));
-    let replayed = replay(rt, alloc, script, &mut live);
+    let replayed = replay(rt, alloc, "replay relay", script, &mut live);
     is_written(rt, "replay relay", &replayed, text.as_slice());
 }
 

@@ -3,6 +3,7 @@
 
 ghost use Rattle.std.specs.Prelude.{None};
 
+use crate::answers::Answer;
 use crate::commands::assert_served;
 use crate::devices::{MemSets, NONE_FAILS, PACKET, UPDATE, devices_of, live_of};
 use crate::starters::Starter;
@@ -23,6 +24,23 @@ const OTHER_UPDATE: &str = "05004db758a175550a0b0c0d\
 46c0002800000000010239f80a000002e0000016940400002200ebfa0000000102000000ef010102";
 
 const OTHER_PACKET: &str = "4500001c0000000004119c91c6336409ef0101020400040000080000";
+
+// Both Updates come in the first turn, and both packets in the second.
+const HEARD: [Answer<'static>; 5] = [
+    Answer::Octets(UPDATE),
+    Answer::Octets(OTHER_UPDATE),
+    Answer::Nothing,
+    Answer::Nothing,
+    Answer::Nothing,
+];
+
+const FED: [Answer<'static>; 5] = [
+    Answer::Nothing,
+    Answer::Octets(PACKET),
+    Answer::Octets(OTHER_PACKET),
+    Answer::Nothing,
+    Answer::Nothing,
+];
 
 /// Which of the links out send.
 #[derive(Drop)]
@@ -105,14 +123,7 @@ fn live_with<'a, R: Threads + Wait + 'static>(
 ) -> Result<MemSets<MeetingOut, Spawner<'a, R>>, AllocError> {
     let spawner = ThreadSpawner::new(rt, Starter { rt });
     let outs = two_outs(alloc)?;
-    let devices = devices_of(
-        alloc,
-        &NONE_FAILS,
-        &[UPDATE, OTHER_UPDATE],
-        &[PACKET, OTHER_PACKET],
-        outs,
-        spawner,
-    )?;
+    let devices = devices_of(alloc, &NONE_FAILS, &HEARD, &FED, outs, spawner)?;
     live_of(alloc, &NONE_FAILS, devices)
 }
 

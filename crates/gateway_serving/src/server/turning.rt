@@ -125,7 +125,7 @@ impl Server {
     {
         self.begin_turn(alloc, clock, words, link, out)?;
         self.hear(alloc, link, out, buf)?;
-        self.tell(alloc, link, control, out, buf)
+        self.hear_control(alloc, link, control, out, buf)
     }
 
     /// So many turns, or those up to the one in which the run ended: why it ended, and how many turns were whole.

@@ -3,7 +3,7 @@ use Rattle.std.proofs.lemmas.Result.{err_from_is_err_and}
 use Rattle.serving_turns.specs.declared.end.End.TheVariants.{FeedFault, LinkFault, WordsFault}
 use Rattle.serving_turns.proofs.Causes.{not_cause, same_cause}
 use Rattle.gateway_serving.proofs.Few.{AreFew-most, GrowsBy-none, GrowsBy-then}
-use Rattle.gateway_serving.proofs.Turning.{begun_other, ends_begun, ends_heard, ends_told, no_error, no_words_heard, no_words_told}
+use Rattle.gateway_serving.proofs.Turning.{begun_other, ends_begun, ends_heard, ends_control, no_error, no_words_heard, no_words_in_lines}
 use Rattle.gateway_serving.proofs.server.Server.turn.Goals as goal
 
 pub begin_turn-requires : goal.begin_turn-requires
@@ -12,8 +12,8 @@ begin_turn-requires g c = record { few = AreFew-most _ _ c.args.self.now (omega 
 pub hear-requires-clause-few : goal.hear-requires-clause-few
 hear-requires-clause-few g c = AreFew-most _ _ c.begin_turn.new.self (omega arith) (c.begin_turn.ensures.few _ c.requires.few)
 
-pub tell-requires-clause-few : goal.tell-requires-clause-few
-tell-requires-clause-few g c = AreFew-most _ _ c.hear.new.self (omega arith) (c.hear.ensures.few _ (c.begin_turn.ensures.few _ c.requires.few))
+pub hear_control-requires-clause-few : goal.hear_control-requires-clause-few
+hear_control-requires-clause-few g c = AreFew-most _ _ c.hear.new.self (omega arith) (c.hear.ensures.few _ (c.begin_turn.ensures.few _ c.requires.few))
 
 pub returns-in_err-begin_turn-clause-turns : goal.returns-in_err-begin_turn-clause-turns
 returns-in_err-begin_turn-clause-turns g c =
@@ -53,21 +53,21 @@ returns-in_err-hear-clause-few g c = GrowsBy-then 2 64 130 _ _ _ (omega arith) c
 
 pub returns-clause-turns : goal.returns-clause-turns
 returns-clause-turns g c =
-    ends_told _ _ _ _ _ _ _ _ _ c.begin_turn.ensures.coming c.tell.ensures.coming c.in_ok-begin_turn.ensures.begins c.in_ok-hear.ensures.hears c.tell.ensures.told
-    c.hear.ensures.latest c.tell.ensures.latest c.tell.ensures.of_control
+    ends_control _ _ _ _ _ _ _ _ _ c.begin_turn.ensures.coming c.hear_control.ensures.coming c.in_ok-begin_turn.ensures.begins c.in_ok-hear.ensures.hears c.hear_control.ensures.lines
+    c.hear.ensures.latest c.hear_control.ensures.latest c.hear_control.ensures.of_control
 
 pub returns-clause-causes : goal.returns-clause-causes
 returns-clause-causes g c =
-    let told = c.tell.ensures.told in record {
-      link = not_cause c.tell.result LinkFault _ _ c.tell.ensures.of_control
-          (c.tell.ensures.faults ∙ c.in_ok-hear.ensures.cause.calm (no_error LinkFault) ∙ c.begin_turn.ensures.faults);
-      control = c.tell.ensures.cause;
-      words = not_cause c.tell.result WordsFault _ _ (no_words_told _ told.answers c.tell.result told.ends) (c.in_ok-begin_turn.ensures.cause.calm (no_error WordsFault));
+    let lines = c.hear_control.ensures.lines in record {
+      link = not_cause c.hear_control.result LinkFault _ _ c.hear_control.ensures.of_control
+          (c.hear_control.ensures.faults ∙ c.in_ok-hear.ensures.cause.calm (no_error LinkFault) ∙ c.begin_turn.ensures.faults);
+      control = c.hear_control.ensures.cause;
+      words = not_cause c.hear_control.result WordsFault _ _ (no_words_in_lines _ lines.answers c.hear_control.result lines.ends) (c.in_ok-begin_turn.ensures.cause.calm (no_error WordsFault));
     }
 
 pub returns-clause-few : goal.returns-clause-few
 returns-clause-few g c =
-    GrowsBy-then 66 64 130 _ _ _ (omega arith) (GrowsBy-then 2 64 66 _ _ _ (omega arith) c.begin_turn.ensures.few c.hear.ensures.few) c.tell.ensures.few
+    GrowsBy-then 66 64 130 _ _ _ (omega arith) (GrowsBy-then 2 64 66 _ _ _ (omega arith) c.begin_turn.ensures.few c.hear.ensures.few) c.hear_control.ensures.few
 
 pub returns-clause-buffer : goal.returns-clause-buffer
-returns-clause-buffer g c = c.tell.ensures.buffer ∙ c.hear.ensures.buffer
+returns-clause-buffer g c = c.hear_control.ensures.buffer ∙ c.hear.ensures.buffer

@@ -1,10 +1,10 @@
-//! How a running gateway is told socket calls by its control feed. It must not know turns.
+//! How a running gateway takes socket calls from its control feed. It must not know turns.
 ghost use Rattle.std.specs.Prelude.{◌≡◌, ◌≤◌, ◌-◌, ◌^◌, length, IsErrOf};
 ghost use Rattle.serving_turns.specs.Bursts.{AreAsked, AskedSo, IsNext};
 ghost use Rattle.serving_turns.specs.Causes.{IsCausedBy};
 ghost use Rattle.serving_turns.specs.Devices.{feed_seen, link_seen, out_seen};
-ghost use Rattle.gateway_serving.specs.Hearing.{IsToldOne};
-ghost use Rattle.gateway_serving.specs.Servers.{AreFew, GrowsBy, IsTold, at_control, at_work, family_in, latest_in};
+ghost use Rattle.gateway_serving.specs.Hearing.{HearsControlLine};
+ghost use Rattle.gateway_serving.specs.Servers.{AreFew, GrowsBy, HearsControl, at_control, at_work, family_in, latest_in};
 ghost use Rattle.gateway_serving.specs.Turns.{from_control};
 
 use super::Server;
@@ -24,7 +24,7 @@ impl Server {
         line: &[u8],
     )
         requires few { AreFew (2 ^ 61 - 1) self.old }
-        ensures told { IsToldOne line.now
+        ensures lines { HearsControlLine line.now
             (at_work self.old (link_seen (L.coming link.old) (L.tried link.old) (L.receive_faults link.old) (L.send_faults link.old))
             (out_seen (O.tried out.old) (O.faults out.old)))
             (at_work self.new (link_seen (L.coming link.new) (L.tried link.new) (L.receive_faults link.new) (L.send_faults link.new))
@@ -45,7 +45,7 @@ impl Server {
     }
 
     // Asks the control feed once.
-    fn tell_next<L: Link, F: Feed, O: OutLink>(
+    fn hear_control_next<L: Link, F: Feed, O: OutLink>(
         &mut self,
         alloc: Global,
         link: &mut L,
@@ -55,7 +55,7 @@ impl Server {
     ) -> Result<Asked, End>
         requires room { 65536 ≤ length buf.old }
         requires few { AreFew (2 ^ 61 - 1) self.old }
-        ensures told { AskedSo IsTold
+        ensures lines { AskedSo HearsControl
             (at_control
             (at_work self.old (link_seen (L.coming link.old) (L.tried link.old) (L.receive_faults link.old) (L.send_faults link.old))
             (out_seen (O.tried out.old) (O.faults out.old)))
@@ -85,7 +85,7 @@ impl Server {
     }
 
     /// Asks the control feed until nothing is there, and at most 64 times.
-    pub(super) fn tell<L: Link, F: Feed, O: OutLink>(
+    pub(super) fn hear_control<L: Link, F: Feed, O: OutLink>(
         &mut self,
         alloc: Global,
         link: &mut L,
@@ -95,7 +95,7 @@ impl Server {
     ) -> Result<(), End>
         requires room { 65536 ≤ length buf.old }
         requires few { AreFew (2 ^ 61 - 64) self.old }
-        ensures told { AskedSo IsTold
+        ensures lines { AskedSo HearsControl
             (at_control
             (at_work self.old (link_seen (L.coming link.old) (L.tried link.old) (L.receive_faults link.old) (L.send_faults link.old))
             (out_seen (O.tried out.old) (O.faults out.old)))
@@ -114,7 +114,7 @@ impl Server {
         ensures buffer { length buf.new ≡ length buf.old }
     {
         for _ in 0..BURST {
-            match self.tell_next(alloc, link, control, out, buf)? {
+            match self.hear_control_next(alloc, link, control, out, buf)? {
                 Asked::Something => {}
                 Asked::Nothing => return Ok(()),
             }

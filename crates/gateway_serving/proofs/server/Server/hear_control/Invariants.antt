@@ -2,13 +2,13 @@
 use Rattle.std.proofs.Common.{◌≡◌, length}
 use Rattle.serving_turns.specs.Devices.{feed_seen, link_seen, out_seen}
 use Rattle.serving_turns.proofs.SoFar.{SoFar}
-use Rattle.gateway_serving.specs.Servers.{GrowsBy, IsTold, at_control, at_work, family_in, latest_in}
+use Rattle.gateway_serving.specs.Servers.{GrowsBy, HearsControl, at_control, at_work, family_in, latest_in}
 use Rattle.gateway_serving.specs.Turns.{from_control}
-use Rattle.gateway_serving.proofs.server.Server.tell.Given as goal
+use Rattle.gateway_serving.proofs.server.Server.hear_control.Given as goal
 
 abbrev pub invariant-loop : goal.invariant-loop
 invariant-loop g l = record {
-  told : SoFar IsTold (from_control (family_in l.initial.self))
+  lines : SoFar HearsControl (from_control (family_in l.initial.self))
       (at_control (at_work l.initial.self (link_seen (g.L.Link.coming l.initial.link) (g.L.Link.tried l.initial.link) (g.L.Link.receive_faults l.initial.link) (g.L.Link.send_faults l.initial.link)) (out_seen (g.O.OutLink.tried l.initial.out) (g.O.OutLink.faults l.initial.out))) (feed_seen (g.F.Feed.coming l.initial.control) (g.F.Feed.faults l.initial.control)))
       (at_control (at_work l.self (link_seen (g.L.Link.coming l.link) (g.L.Link.tried l.link) (g.L.Link.receive_faults l.link) (g.L.Link.send_faults l.link)) (out_seen (g.O.OutLink.tried l.out) (g.O.OutLink.faults l.out))) (feed_seen (g.F.Feed.coming l.control) (g.F.Feed.faults l.control))) l.counter;
   latest : latest_in l.self ≡ latest_in l.initial.self;
