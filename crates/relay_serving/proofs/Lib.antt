@@ -11,6 +11,7 @@ pub mod GivenOut
 pub mod Happenings
 pub mod Hearing
 pub mod Owed
+pub mod OwedLate
 pub mod Packets
 pub mod Running
 pub mod Silence

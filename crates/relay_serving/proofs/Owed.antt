@@ -48,7 +48,7 @@ module _ (settings : Settings) (first : Secret) where
   pub is_prompt : IsPrompt settings first
   is_prompt earlier turn done = shows_from 0 [] earlier turn done
 
-no_more_than : (list more : List Change) → list ++ more ≡ list → more ≡ []
+pub no_more_than : (list more : List Change) → list ++ more ≡ list → more ≡ []
 no_more_than list [] is = refl
 no_more_than list (one ∷ more) is = absurd (omega (arith, ap length is, length-append list (one ∷ more)))
 

@@ -1,5 +1,6 @@
 -- What the turns of a run come to together.
 use Rattle.std.proofs.Common.{◌≡◌, ℕ, ◌+◌, ◌*◌, ◌≤◌, ◌<◌, cond, List, [], ◌∷◌, ◌++◌, length, map, None, Some, Ok, Err, refl, sym, ap, subst, ◌∙◌, arith, length-append}
+use Rattle.std.specs.Prelude.{Result}
 use Rattle.std.proofs.lemmas.Grind.{flat_map-append}
 use Rattle.std.proofs.lemmas.List.{append_assoc, map-append}
 use Rattle.std.proofs.lemmas.List.Sums.{sum_by-append}
@@ -23,6 +24,7 @@ use Rattle.relay_serving.specs.Happenings.{Happening, events_among}
 use Rattle.relay_serving.specs.Runs.{feed_answers, link_answers, moments_given, words_drawn}
 use Rattle.relay_serving.specs.Sending.{answers_after}
 use Rattle.relay_serving.specs.Servers.{Happens, counts_in, events_in, first_in, happenings_in, settings_in, tally_in}
+use Rattle.relay_serving.specs.Serving.{AreOwedLate}
 use Rattle.relay_serving.specs.Turning.{AreCausesOf, EndsIn, Goes, RunsSo, TurnsSo}
 use Rattle.relay_serving.specs.Turns.{AreWhole, IsWhole, Progress, Turn, after_turn, no_progress}
 use Rattle.relay_serving.specs.declared.counts.Counts.{Counts}
@@ -32,6 +34,7 @@ use Rattle.relay_serving.proofs.Answering.{HasAnswered-none, HasAnswered-then, a
 use Rattle.relay_serving.proofs.Cuts.{no_error}
 use Rattle.relay_serving.proofs.Events.{Happens-then, HasEvents-none, HasRefused-same, IsAsBefore-same, events_grown}
 use Rattle.relay_serving.proofs.Happenings.{events_among-append}
+use Rattle.relay_serving.proofs.OwedLate.{AreOwedLate-none, AreOwedLate-then, owed_after}
 
 -- one whole turn more
 pub AreWhole-more : (rotate : ℕ) (progress last : Progress) (turns : List Turn) (turn : Turn) → AreWhole rotate progress turns last → IsWhole rotate last turn
@@ -126,6 +129,8 @@ module _ {O : Type 0} {g : Ghosts O} {T : Type 0} where
   pub record IsRunning (rotate : ℕ) (progress : Progress) (before now : Server O T g) (devices devices' : Devices) (done : ℕ) : Type 0 where
     pub turns : List Turn
     pub goes : Goes 0 turns before now devices devices'
+    pub fresh : happenings_in before ≡ []
+    pub late_owed : AreOwedLate (settings_in before) (first_in before) turns
     pub are_whole : AreWhole rotate no_progress turns progress
     pub done_is : done ≡ length turns
     pub calm : AreCalm devices devices'
@@ -142,12 +147,24 @@ module _ {O : Type 0} {g : Ghosts O} {T : Type 0} where
       record {
         turns = [];
         goes = Goes-none server devices;
+        fresh = fresh;
+        late_owed = AreOwedLate-none (settings_in server) (first_in server);
         are_whole = λ i. record { latest = latest i; renewed = renewed i };
         done_is = refl;
         calm = record { link = refl; feed = refl; words = refl };
         few = omega (arith, none, starved, late);
         few_packets = omega (arith, packets);
       }
+
+  -- a turn more, in which something was owed if memory refused its publishing
+  late_more : (rotate : ℕ) (progress progress' : Progress) (before now after : Server O T g) (devices devices' devices'' : Devices) (done : ℕ) (result : Result (Unit {0}) End)
+      → (run : IsRunning rotate progress before now devices devices' done) (next : TurnsSo rotate progress progress' now after devices' devices'' result)
+      → AreOwedLate (settings_in before) (first_in before) (run.turns ++ next.turn ∷ [])
+  late_more rotate progress progress' before now after devices devices' devices'' done result run next =
+      let more = happenings_from-more rotate no_progress progress run.turns next.turn run.are_whole in
+      let goes = Goes-then 0 progress.latest before now after devices devices' devices'' run.turns next.turn more run.goes next.goes in
+      AreOwedLate-then (settings_in before) (first_in before) run.turns next.turn run.late_owed
+      (λ refused. owed_after before after (run.turns ++ next.turn ∷ []) run.fresh goes.happens (next.owed refused))
 
   -- a whole turn more
   pub IsRunning-then : (rotate : ℕ) (progress progress' : Progress) (before now after : Server O T g) (devices devices' devices'' : Devices) (done : ℕ)
@@ -162,6 +179,8 @@ module _ {O : Type 0} {g : Ghosts O} {T : Type 0} where
       record {
         turns = run.turns ++ next.turn ∷ [];
         goes = Goes-then 0 progress.latest before now after devices devices' devices'' run.turns next.turn more run.goes next.goes;
+        fresh = run.fresh;
+        late_owed = late_more rotate progress progress' before now after devices devices' devices'' done (Ok tt) run next;
         are_whole = subst (λ (last : Progress). AreWhole rotate no_progress (run.turns ++ next.turn ∷ []) last) (sym (next.progress_is refl)) whole;
         done_is = ap (λ (n : ℕ). n + 1) run.done_is ∙ sym (length-append run.turns (next.turn ∷ []));
         calm = record {
@@ -181,6 +200,7 @@ module _ {O : Type 0} {g : Ghosts O} {T : Type 0} where
     cut = None;
     last = progress;
     goes = run.goes;
+    late_owed = run.late_owed;
     are_whole = run.are_whole;
     ended = (refl, sym run.done_is ∙ all);
     done_is = sym all ∙ run.done_is;
@@ -196,6 +216,7 @@ module _ {O : Type 0} {g : Ghosts O} {T : Type 0} where
         cut = Some next.turn;
         last = progress;
         goes = Goes-then 0 progress.latest before now after devices devices' devices'' run.turns next.turn more run.goes next.goes;
+        late_owed = late_more plan.rotate_ms progress progress' before now after devices devices' devices'' done (Err end) run next;
         are_whole = run.are_whole;
         ended = (subst (λ (n : ℕ). n < plan.turns) run.done_is few, next.is_turn);
         done_is = run.done_is;

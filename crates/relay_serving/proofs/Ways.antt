@@ -24,6 +24,7 @@ use Rattle.relay_serving.specs.declared.server.Server.{Server}
 use Rattle.relay_serving.proofs.Cuts.{cut_begun, cut_heard, turn_fed}
 use Rattle.relay_serving.proofs.Events.{IsAsBefore-same, events_more}
 use Rattle.relay_serving.proofs.Hearing.{Feeds-none, Hears-none}
+use Rattle.relay_serving.proofs.OwedLate.{owed_since}
 use Rattle.relay_serving.proofs.Turning.{HasStages, Keeps-none, goes_of, turn_of}
 
 -- datagrams are no packets
@@ -73,6 +74,7 @@ module _ {O : Type 0} {g : Ghosts O} {T : Type 0} where
         record {
           turn = turn;
           goes = goes_of progress.latest before after _ _ turn stages;
+          owed = λ is. cc is;
           is_turn = cut_begun rotate progress turn end begins.is_begun (refl, (refl, refl));
           progress_is = λ fine. absurd (true≢false (sym fine));
         }
@@ -100,6 +102,7 @@ module _ {O : Type 0} {g : Ghosts O} {T : Type 0} where
         record {
           turn = turn;
           goes = goes_of progress.latest before after _ _ turn stages;
+          owed = λ is. cc is;
           is_turn = cut_heard rotate progress turn end (record { secret = begins.is_begun }) hears.ends other (refl, refl);
           progress_is = λ fine. absurd (true≢false (sym fine));
         }
@@ -128,6 +131,7 @@ module _ {O : Type 0} {g : Ghosts O} {T : Type 0} where
         record {
           turn = turn;
           goes = goes_of progress.latest before after _ _ turn stages;
+          owed = λ refused. owed_since heard published after publishes.publishing feeds.answers publishes.happens feeds.goes.events refused (publishes.owed refused);
           is_turn = turn_fed rotate progress turn result (record { begun = record { secret = begins.is_begun }; link = hears.ends; tried = publishes.tried }) feeds.ends other;
           progress_is = λ _. (λ i. record { latest = begins.latest_is i; renewed = begins.renewed_is i });
         }

@@ -42,7 +42,7 @@ use Rattle.relay_serving.specs.Happenings.{Happening, events_among, published_ev
 use Rattle.relay_serving.specs.Reports.{report_of, unused_report}
 use Rattle.relay_serving.specs.Runs.{HasEnded, IsCut, MayGo, Run, served, turns_of, unstarted, without_secret, words_drawn}
 use Rattle.relay_serving.specs.Sending.{answers_after, due_of, dues_after}
-use Rattle.relay_serving.specs.Serving.{ArePublished, IsOwedBy, OutsServed, Serves, StartsWorkers, one_lost, unused, used}
+use Rattle.relay_serving.specs.Serving.{AreOwedLate, ArePublished, IsOwedBy, OutsServed, Serves, StartsWorkers, one_lost, unused, used}
 use Rattle.relay_serving.specs.Servers.{events_in, first_in, happenings_in, owing_in, published_in, settings_in, slots_in, tally_in}
 use Rattle.relay_serving.specs.Starting.{AreLeftBy, AreStarts, IsAtStart}
 use Rattle.relay_serving.specs.Turning.{EndsIn, RunsSo}
@@ -54,6 +54,7 @@ use Rattle.relay_serving.specs.declared.server.Server.{Server}
 use Rattle.relay_serving.specs.declared.server.ending.Ending.{Ending}
 use Rattle.relay_serving.proofs.GivenOut.{jobs_count}
 use Rattle.relay_serving.proofs.Owed.{is_prompt, owed_by}
+use Rattle.relay_serving.proofs.OwedLate.{AreOwedLate-none}
 use Rattle.relay_serving.proofs.SlotsServed.{Slotted, all_inline, are_served, slotted}
 use Rattle.relay_serving.proofs.Started.{starts_all, starts_none, starts_refused}
 use Rattle.relay_serving.proofs.Together.{read_prefixes}
@@ -98,6 +99,7 @@ not_run settings plan end first clock words words' link feed starts starts' faul
   unsent_are = refl;
   starved_are = refl;
   late_are = refl;
+  late_owed = AreOwedLate-none settings (first_of (unrun first));
   link_cause = ((λ is. absurd (no_link is)), (λ other. refl));
   feed_cause = ((λ is. absurd (no_feed is)), (λ other. refl));
   words_cause = words_are;
@@ -257,6 +259,11 @@ module _ {O : Type 0} {g : Ghosts O} {T : Type 0} where
       apart_is = finishes.apart_is;
     }
 
+    late_owed : AreOwedLate settings (first_of run_of) (turns_of run_of)
+    late_owed =
+        subst (λ (secret : Secret). AreOwedLate settings secret (turns_of run_of)) (at.first_is ∙ secret_is)
+        (subst (λ (known : Settings). AreOwedLate known (first_in start) (turns_of run_of)) at.settings_are runs.late_owed)
+
     is_owed : IsOwedBy (turns_of run_of) ending.owed
     is_owed some =
         owed_by settings (first_of run_of) (published_in server) (owing_in server) (turns_of run_of) log_is published_is
@@ -304,6 +311,7 @@ module _ {O : Type 0} {g : Ghosts O} {T : Type 0} where
                 ∙ from_none server.counts.starved start.counts.starved _ runs.goes.refused.starved_are (ap (λ (counts : Counts). counts.starved) at.none_counted);
             late_are = ap (λ (counts : Counts). counts.late) finishes.same_counts
                 ∙ from_none server.counts.late start.counts.late _ runs.goes.refused.late_are (ap (λ (counts : Counts). counts.late) at.none_counted);
+            late_owed = late_owed;
             link_cause = ends.link;
             feed_cause = ends.feed;
             words_cause = subst (λ (count : ℕ). IsCauseOf end WordsFault count words''.faults) quiet ends.words;

@@ -1,5 +1,5 @@
 -- What is read of a running relay, and what its calls do to it and its devices.
-use Rattle.std.specs.Prelude.{◌≡◌, ◌≢◌, ℕ, ◌+◌, List, ◌++◌, count_by, length, map}
+use Rattle.std.specs.Prelude.{◌≡◌, ◌≢◌, ℕ, ◌+◌, List, [], ◌++◌, count_by, length, map}
 use Rattle.amt_ports.specs.declared.feed.FeedAnswer.{FeedAnswer}
 use Rattle.amt_ports.specs.declared.feed.FeedAnswer.TheVariants.{Closed as FeedClosed}
 use Rattle.amt_ports.specs.declared.link.LinkAnswer.{LinkAnswer}
@@ -22,7 +22,7 @@ use Rattle.relay_serving.specs.Events.{datagrams_in, packets_in, publishing_in}
 use Rattle.relay_serving.specs.GivenOut.{starts_in}
 use Rattle.relay_serving.specs.Happenings.{Happening, Took}
 use Rattle.relay_serving.specs.Sending.{answers_after}
-use Rattle.relay_serving.specs.Turns.{Publishing, Ahead, is_refused}
+use Rattle.relay_serving.specs.Turns.{Publishing, Ahead, Refused, is_refused}
 use Rattle.relay_serving.specs.declared.counts.Counts.{Counts}
 use Rattle.relay_serving.specs.declared.server.Server.{Server}
 
@@ -94,10 +94,11 @@ module _ {O : Type 0} {g : Ghosts O} {T : Type 0} where
     pub same_sent : (counts_in after).sent ≡ (counts_in before).sent
     pub same_unsent : (counts_in after).unsent ≡ (counts_in before).unsent
 
-  -- what was owed is published, or memory refused that, which is counted
+  -- what was owed is published, or memory refused that, which is counted: then something was owed
   pub record PublishesSo (before after : Server O T g) : Type 0 where
     pub publishing : Publishing
     pub tried : publishing ≢ Ahead
+    pub owed : publishing ≡ Refused → owing_in before ≢ []
     pub happens : Happens before after (publishing_in publishing)
     pub refused : HasRefused (counts_in before) (counts_in after) 0 (one_if (is_refused publishing))
     pub alike : SendsAlike before after

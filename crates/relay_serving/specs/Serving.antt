@@ -30,7 +30,7 @@ use Rattle.relay_serving.specs.Runs.{MayGo, Run, feed_answers, link_answers, mom
 use Rattle.relay_serving.specs.Sending.{answers_after, due_of, dues_after}
 use Rattle.relay_serving.specs.GivenOut.{jobs_at}
 use Rattle.relay_serving.specs.Starting.{LosesOne}
-use Rattle.relay_serving.specs.Turns.{Done, Turn}
+use Rattle.relay_serving.specs.Turns.{Done, Refused, Turn}
 use Rattle.relay_serving.specs.Views.{is_apart}
 use Rattle.relay_serving.specs.declared.plan.ServePlan.{ServePlan}
 use Rattle.relay_serving.specs.declared.plan.ServeReport.{ServeReport}
@@ -90,11 +90,18 @@ IsPrompt settings first =
     → published_log settings first (published_events_among (happenings_from 0 (earlier ++ turn ∷ [])))
     ≡ published_log settings first (events_among (happenings_from 0 (earlier ++ turn ∷ [])))
 
+-- Where memory refused a turn's publishing, something was owed: the published log isn't that of all events so far.
+abbrev pub AreOwedLate : Settings → Secret → List Turn → Type 0
+AreOwedLate settings first turns =
+    (earlier : List Turn) (turn : Turn) (later : List Turn) → turns ≡ earlier ++ turn ∷ later → turn.publishing ≡ Refused
+    → published_log settings first (published_events_among (happenings_from 0 (earlier ++ turn ∷ [])))
+    ≢ published_log settings first (events_among (happenings_from 0 (earlier ++ turn ∷ [])))
+
 -- each log by which the slots found receivers is a prefix of this one
 abbrev pub ReadPrefixesOf : List Change → List SlotServed → Type 0
 ReadPrefixesOf log slots = All (λ slot. BeginsWithEach log slot.logs) slots
 
--- something is owed only where the run ended before its last turn's publishing, or in it
+-- something is owed only where the run ended before its last turn's publishing, or memory refused that
 abbrev pub IsOwedBy : List Turn → ℕ → Type 0
 IsOwedBy turns owed = owed ≢ 0 → (earlier : List Turn) × (last : Turn) × (turns ≡ earlier ++ last ∷ []) × (last.publishing ≢ Done)
 
@@ -157,6 +164,7 @@ pub record Serves (settings : Settings) (plan : ServePlan) (before after : Devic
   pub unsent_are : report.unsent ≡ link_unsent + outs_unsent
   pub starved_are : report.starved ≡ sum_by starved_in (turns_of run)
   pub late_are : report.late ≡ count_by is_late (turns_of run)
+  pub late_owed : AreOwedLate settings (first_of run) (turns_of run)
   -- the causes
   pub link_cause : IsCauseOf report.end LinkFault before.link.receive_faults after.link.receive_faults
   pub feed_cause : IsCauseOf report.end FeedFault before.feed.faults after.feed.faults

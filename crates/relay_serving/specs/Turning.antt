@@ -1,5 +1,5 @@
 -- What one turn does, and all turns of a run.
-use Rattle.std.specs.Prelude.{◌≡◌, ℕ, List, [], ◌∷◌, count_by, length, sum_by, Option, Result, Ok, Err, IsOk}
+use Rattle.std.specs.Prelude.{◌≡◌, ◌≢◌, ℕ, List, [], ◌∷◌, count_by, length, sum_by, Option, Result, Ok, Err, IsOk}
 use Rattle.amt_ports.specs.Told.{AppendsAll}
 use Rattle.amt_ports.specs.declared.feed.FeedAnswer.TheVariants.{Closed as FeedClosed}
 use Rattle.amt_ports.specs.declared.link.LinkAnswer.TheVariants.{Closed as LinkClosed}
@@ -14,8 +14,9 @@ use Rattle.relay_serving.specs.Events.{happenings_from}
 use Rattle.relay_serving.specs.Happenings.{events_among}
 use Rattle.relay_serving.specs.Runs.{HasEnded, IsCut, feed_answers, link_answers, moments_given, with_cut, words_drawn}
 use Rattle.relay_serving.specs.Sending.{answers_after}
-use Rattle.relay_serving.specs.Servers.{Happens, counts_in, events_in, first_in, settings_in}
-use Rattle.relay_serving.specs.Turns.{AreWhole, IsWhole, Progress, Turn, after_turn, no_progress}
+use Rattle.relay_serving.specs.Servers.{Happens, counts_in, events_in, first_in, owing_in, settings_in}
+use Rattle.relay_serving.specs.Serving.{AreOwedLate}
+use Rattle.relay_serving.specs.Turns.{AreWhole, IsWhole, Progress, Refused, Turn, after_turn, no_progress}
 use Rattle.relay_serving.specs.declared.plan.ServePlan.{ServePlan}
 use Rattle.relay_serving.specs.declared.server.Server.{Server}
 
@@ -49,10 +50,11 @@ module _ {O : Type 0} {g : Ghosts O} {T : Type 0} where
     pub link : AnswersAll LinkClosed devices.link.coming devices'.link.coming (link_answers turns)
     pub feed : AnswersAll FeedClosed devices.feed.coming devices'.feed.coming (feed_answers turns)
 
-  -- one turn, which was whole or ended the run
+  -- one turn, which was whole or ended the run; where memory refused its publishing something is owed
   pub record TurnsSo (rotate : ℕ) (progress progress' : Progress) (before after : Server O T g) (devices devices' : Devices) (result : Result (Unit {0}) End) : Type 0 where
     pub turn : Turn
     pub goes : Goes progress.latest (turn ∷ []) before after devices devices'
+    pub owed : turn.publishing ≡ Refused → owing_in after ≢ []
     pub is_turn : IsTurnBy result rotate progress turn
     pub progress_is : IsOk result → progress' ≡ after_turn rotate progress turn
 
@@ -62,6 +64,7 @@ module _ {O : Type 0} {g : Ghosts O} {T : Type 0} where
     pub cut : Option Turn
     pub last : Progress
     pub goes : Goes 0 (with_cut whole cut) before after devices devices'
+    pub late_owed : AreOwedLate (settings_in before) (first_in before) (with_cut whole cut)
     pub are_whole : AreWhole plan.rotate_ms no_progress whole last
     pub ended : HasEnded plan end (length whole) last cut
     pub done_is : done ≡ length whole

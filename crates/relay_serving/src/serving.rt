@@ -112,9 +112,9 @@ impl<O> Served<O> {
 /// most 64 times; publishes what is owed; and takes what the feed has in the same way, giving each packet to
 /// the slot of its source and group. With no workers in the plan one slot copies in the turns' own thread.
 ///
-/// Before the first turn the run ends out of memory. In a turn it goes on: what memory refuses is counted and changes
-/// nothing, and what a refused publishing leaves owed goes first at the next one. At the end of a run the workers are
-/// stopped and waited for, and the outs come back.
+/// Out of memory the run ends before its first turn alone. In a turn it goes on: what memory refuses is
+/// counted and changes nothing, and what a refused publishing leaves owed goes first at the next one. At the
+/// end of a run the workers are stopped and waited for, and the outs come back.
 pub fn serve_relay<
     L: Link,
     F: Feed,

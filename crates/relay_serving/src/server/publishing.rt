@@ -1,6 +1,6 @@
 //! How a running relay publishes what it owes. It must not know turns.
-ghost use Rattle.std.specs.Prelude.{◌≤◌, ◌<◌, ◌+◌, ◌^◌, MatchResult};
-ghost use Rattle.published_table.specs.Publishers.{HasPublished, IsSamePublisher, ShowsAlike};
+ghost use Rattle.std.specs.Prelude.{◌≢◌, ◌≤◌, ◌<◌, ◌+◌, ◌^◌, [], MatchResult, OnErr};
+ghost use Rattle.published_table.specs.Publishers.{HasPublished, IsSamePublisher, ShowsAlike, owing};
 ghost use Rattle.relay_serving.specs.Servers.{PublishesSo, tally_in};
 
 use super::Server;
@@ -14,6 +14,7 @@ fn publish_owed<R: Wait>(rt: &R, publisher: &mut Publisher) -> Result<(), AllocE
     ensures same { IsSamePublisher publisher.old publisher.new }
     ensures logs { MatchResult result (λ _. HasPublished publisher.old publisher.new)
         (λ _. ShowsAlike publisher.old publisher.new) }
+    ensures owed { OnErr result (owing publisher.old ≢ []) }
 {
     if publisher.owed() == 0 {
         return Ok(());

@@ -59,6 +59,7 @@ pub returns-in-Ok-clause-publishes : goal.returns-in-Ok-clause-publishes
 returns-in-Ok-clause-publishes g c = record {
   publishing = Done;
   tried = λ is. cc is;
+  owed = λ is. cc is;
   happens = record {
     same = record { same_settings = refl; same_first = refl; same_starts = refl; same_book = c.publish_owed.ensures.same.book; same_mode = refl; same_tasks = λ task_of run. run };
     happened = c.shown.ensures;
@@ -75,6 +76,7 @@ pub returns-in-Err-clause-publishes : goal.returns-in-Err-clause-publishes
 returns-in-Err-clause-publishes g c = record {
   publishing = Refused;
   tried = λ is. cc is;
+  owed = λ _. c.in-Err.ensures.owed;
   happens = record {
     same = record { same_settings = refl; same_first = refl; same_starts = refl; same_book = c.publish_owed.ensures.same.book; same_mode = refl; same_tasks = λ task_of run. run };
     happened = sym (append-nil (happenings_in c.args.self.now));
