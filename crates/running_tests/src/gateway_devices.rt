@@ -71,7 +71,17 @@ fn devices_of(
 
 type Spawner<'a, R> = ListedSpawner<&'a R, Starter<'a, R>>;
 
-/// A place where a gateway's set is opened. Its relays would have workers in threads.
+/// A set of devices in memory, of either kind. Its relays would have workers in threads.
+pub type GatewaySet<'a, R> = DeviceSet<
+    MemLink,
+    MemFeed,
+    MemClock,
+    MemWords,
+    MemOut,
+    Spawner<'a, R>,
+>;
+
+/// A place where a gateway's set is opened.
 pub type GatewaySets<'a, R> = MemLive<MemLink, MemFeed, MemClock, MemWords, MemOut, Spawner<'a, R>>;
 
 /// A place where one set is opened, unless that fails. Its link and its control feed answer what is listed, and

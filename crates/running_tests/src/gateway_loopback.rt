@@ -145,6 +145,8 @@ fn host_of<N: Net>(net: &N, alloc: Global, link: &UdpLink, control: &UdpFeed) ->
 
 type Spawner<'a, R> = ThreadSpawner<&'a R, Starter<'a, R>>;
 
+type Set<'a, R> = DeviceSet<UdpLink, UdpFeed, Host, MemWords, UdpOut, Spawner<'a, R>>;
+
 type Sets<'a, R> = MemLive<UdpLink, UdpFeed, Host, MemWords, UdpOut, Spawner<'a, R>>;
 
 fn devices_of<R: Net + Abort>(
@@ -284,18 +286,35 @@ where
     );
 }
 
+// A place where these devices are opened.
+fn live_with<'a, R: Threads + Wait + Abort + 'static>(
+    rt: &'a R,
+    alloc: Global,
+    devices: GatewayDevices<UdpLink, UdpFeed, UdpOut, Host, MemWords>,
+) -> Sets<'a, R> {
+    let mut sets = Vec::new(alloc);
+    let Ok(()) = sets.push(DeviceSet::Gateway(devices)) else {
+        panic!(rt; "out of memory");
+    };
+    MemLive::new(alloc, sets)
+}
+
+fn assert_set<R: Threads + Wait + Abort + 'static>(rt: &R, alloc: Global, set: &Set<R>) {
+    match set {
+        DeviceSet::Gateway(devices) => assert_replayed(rt, alloc, &devices.clock),
+        DeviceSet::Relay(_) => panic!(rt; "other devices came back"),
+    }
+}
+
 fn assert_session<R: Net + Threads + Wait + Abort + 'static>(rt: &R, alloc: Global) {
     let devices = devices_of(rt, alloc);
     let Ok(settings) = devices.clock.settings() else {
         panic!(rt; "out of memory");
     };
-    let Ok(sets) = vec![in alloc; DeviceSet::Gateway(devices)] else {
-        panic!(rt; "out of memory");
-    };
-    let mut live: Sets<R> = MemLive::new(alloc, sets);
+    let mut live = live_with(rt, alloc, devices);
     assert_served_to(rt, alloc, settings, &mut live);
     match live.returned() {
-        [DeviceSet::Gateway(devices)] => assert_replayed(rt, alloc, &devices.clock),
+        [set] => assert_set(rt, alloc, set),
         _ => panic!(rt; "the devices didn't come back"),
     }
 }

@@ -4,7 +4,9 @@
 use crate::answers::Answer;
 use crate::commands::{Ended, File, file_of, files_of, is_ended, run};
 use crate::devices::{MESSAGE, PACKET};
-use crate::gateway_devices::{Failing, GatewaySets, NONE_FAILS, QUERY, RELAY, gateway_live};
+use crate::gateway_devices::{
+    Failing, GatewaySet, GatewaySets, NONE_FAILS, QUERY, RELAY, gateway_live,
+};
 use crate::sends::assert_sends;
 use amt_live::{DeviceSet, Opening};
 use amt_ports::Tried;
@@ -185,14 +187,23 @@ fn assert_tried(rt: &impl Abort, alloc: Global, row: &Row, link: &[Tried], out: 
     );
 }
 
+fn assert_set<R>(rt: &impl Abort, alloc: Global, row: &Row, set: &GatewaySet<R>) {
+    match set {
+        DeviceSet::Gateway(devices) => {
+            assert_tried(rt, alloc, row, devices.link.tried(), devices.out.tried());
+        }
+        DeviceSet::Relay(_) => panic!(rt; "{}", row.what),
+    }
+}
+
 // What is opened comes back, once, as the run leaves it.
 fn assert_returned<R>(rt: &impl Abort, alloc: Global, row: &Row, live: &GatewaySets<R>) {
     assert_opened(rt, row, live.asked());
     match live.returned() {
         [] => assert_eq!(rt; row.sets, 0, "{}", row.what),
-        [DeviceSet::Gateway(devices)] => {
+        [set] => {
             assert_eq!(rt; row.sets, 1, "{}", row.what);
-            assert_tried(rt, alloc, row, devices.link.tried(), devices.out.tried());
+            assert_set(rt, alloc, row, set);
         }
         _ => panic!(rt; "{}", row.what),
     }

@@ -9,7 +9,7 @@ use crate::devices::{
 use crate::sends::assert_sends;
 use crate::starters::Starter;
 use amt_live::{DeviceSet, Opening};
-use amt_ports::{ListedSpawner, MemOut, Tried};
+use amt_ports::{ListedSpawner, MemClock, MemFeed, MemLink, MemOut, MemWords, Tried};
 use amt_values::{Bytes, Ip, Peer};
 use replication_workers::Outs;
 use std::alloc::{AllocError, Global};
@@ -30,6 +30,8 @@ const FEED: Peer = Peer {
 type Spawner<'a, R> = ListedSpawner<&'a R, Starter<'a, R>>;
 
 type Sets<'a, R> = MemSets<MemOut, Spawner<'a, R>>;
+
+type RelaySet<'a, R> = DeviceSet<MemLink, MemFeed, MemClock, MemWords, MemOut, Spawner<'a, R>>;
 
 /// What comes to a relay in three turns. Then its link is closed.
 #[derive(Clone, Copy)]
@@ -235,16 +237,23 @@ fn assert_answers(rt: &impl Abort, alloc: Global, row: &Row, tried: &[Tried]) {
     );
 }
 
+fn assert_set<R>(rt: &impl Abort, alloc: Global, row: &Row, set: &RelaySet<R>) {
+    match set {
+        DeviceSet::Relay(devices) => {
+            assert_eq!(rt; devices.outs.len(), row.outs, "{}", row.what);
+            assert_copies(rt, alloc, row, devices.outs.as_slice());
+            assert_answers(rt, alloc, row, devices.link.tried());
+        }
+        DeviceSet::Gateway(_) => panic!(rt; "{}", row.what),
+    }
+}
+
 // What is opened comes back, once.
 fn assert_returned<R>(rt: &impl Abort, alloc: Global, row: &Row, live: &Sets<R>) {
     assert_opened(rt, row, live.asked());
     match live.returned() {
         [] => assert_eq!(rt; row.outs, 0, "{}", row.what),
-        [DeviceSet::Relay(devices)] => {
-            assert_eq!(rt; devices.outs.len(), row.outs, "{}", row.what);
-            assert_copies(rt, alloc, row, devices.outs.as_slice());
-            assert_answers(rt, alloc, row, devices.link.tried());
-        }
+        [set] => assert_set(rt, alloc, row, set),
         _ => panic!(rt; "{}", row.what),
     }
 }
