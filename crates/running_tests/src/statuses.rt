@@ -4,7 +4,7 @@ use crate::commands::File;
 use crate::devices::{Failing, NONE_FAILS};
 use crate::relay_runs::{DONE, Row, assert_rows};
 
-const ROWS: [Row<'static>; 16] = [
+const DONE_ROWS: [Row<'static>; 4] = [
     DONE,
     Row {
         what: "in the fourth turn the link is closed",
@@ -29,6 +29,9 @@ starved 0\nlate 0\nowed 1\npublished 4\napart 0\n",
         ),
         ..DONE
     },
+];
+
+const UNREAD_ROWS: [Row<'static>; 5] = [
     Row {
         what: "no file is given",
         words: "relay --turns 3",
@@ -74,6 +77,20 @@ starved 0\nlate 0\nowed 1\npublished 4\napart 0\n",
         ..DONE
     },
     Row {
+        what: "the file has one octet more than an input may have",
+        file: File::Long(16_777_217),
+        status: 8,
+        out: "",
+        err: "amt: input too long\n",
+        openings: 0,
+        outs: 0,
+        copies: 0,
+        ..DONE
+    },
+];
+
+const UNOPENED_ROWS: [Row<'static>; 4] = [
+    Row {
         what: "the counts aren't written, though packets were copied",
         write: 1,
         status: 5,
@@ -106,6 +123,22 @@ starved 0\nlate 0\nowed 1\npublished 4\napart 0\n",
         ..DONE
     },
     Row {
+        what: "the second worker isn't started, and its link out is lost",
+        failing: Failing {
+            start: 2,
+            ..NONE_FAILS
+        },
+        status: 6,
+        out: "",
+        err: "amt: link fault\n",
+        outs: 1,
+        copies: 0,
+        ..DONE
+    },
+];
+
+const DEVICE_ROWS: [Row<'static>; 3] = [
+    Row {
         what: "in the third turn the link fails",
         failing: Failing {
             receiving: 4,
@@ -128,30 +161,6 @@ starved 0\nlate 0\nowed 1\npublished 4\napart 0\n",
         ..DONE
     },
     Row {
-        what: "the second worker isn't started, and its link out is lost",
-        failing: Failing {
-            start: 2,
-            ..NONE_FAILS
-        },
-        status: 6,
-        out: "",
-        err: "amt: link fault\n",
-        outs: 1,
-        copies: 0,
-        ..DONE
-    },
-    Row {
-        what: "the file has one octet more than an input may have",
-        file: File::Long(16_777_217),
-        status: 8,
-        out: "",
-        err: "amt: input too long\n",
-        openings: 0,
-        outs: 0,
-        copies: 0,
-        ..DONE
-    },
-    Row {
         what: "the first secret isn't drawn",
         failing: Failing {
             drawing: 1,
@@ -166,6 +175,21 @@ starved 0\nlate 0\nowed 1\npublished 4\napart 0\n",
 ];
 
 #[test]
-fn each_status_has_its_cause_and_its_line(rt: HostRuntime) {
-    assert_rows(&rt, rt.alloc(), ROWS.as_slice());
+fn a_run_to_its_end_has_status_0_and_its_counts(rt: HostRuntime) {
+    assert_rows(&rt, rt.alloc(), DONE_ROWS.as_slice());
+}
+
+#[test]
+fn without_arguments_and_settings_of_a_relay_nothing_is_opened(rt: HostRuntime) {
+    assert_rows(&rt, rt.alloc(), UNREAD_ROWS.as_slice());
+}
+
+#[test]
+fn a_relay_that_opens_starts_or_writes_nothing_has_its_status(rt: HostRuntime) {
+    assert_rows(&rt, rt.alloc(), UNOPENED_ROWS.as_slice());
+}
+
+#[test]
+fn a_relay_whose_devices_fail_has_their_status(rt: HostRuntime) {
+    assert_rows(&rt, rt.alloc(), DEVICE_ROWS.as_slice());
 }
