@@ -105,7 +105,7 @@ module _ (family : Family) (drawn : List ℕ) (clock : List (Taken ℕ)) where
   cut_heard Closed heard begun asked other = of_link begun asked refl
   cut_heard LinkFault heard begun asked other = (begun, asked, refl)
   cut_heard FeedFault heard begun asked other = absurd (other refl)
-  cut_heard Memory heard begun asked other = asked.3
+  cut_heard Memory heard begun asked other = asked
   cut_heard WordsFault heard begun asked other = absurd asked
   cut_heard Turns heard begun asked other = asked
   cut_heard SpawnFault heard begun asked other = asked
@@ -116,7 +116,7 @@ module _ (family : Family) (drawn : List ℕ) (clock : List (Taken ℕ)) where
   cut_at_control Closed heard lines has asked other = of_control has asked
   cut_at_control FeedFault heard lines has asked other = (has, asked)
   cut_at_control LinkFault heard lines has asked other = absurd (other refl)
-  cut_at_control Memory heard lines has asked other = asked.3
+  cut_at_control Memory heard lines has asked other = asked
   cut_at_control WordsFault heard lines has asked other = absurd asked
   cut_at_control Turns heard lines has asked other = asked
   cut_at_control SpawnFault heard lines has asked other = asked

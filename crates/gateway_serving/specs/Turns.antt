@@ -45,7 +45,6 @@ HasLine family FeedClosed line = ⊥
 abbrev pub from_link : AnswerKinds (Taken LinkAnswer)
 from_link = record {
   Came = λ one. IsDatagram one.answer;
-  Starves = λ one. ⊥;
   nothing = taken NothingCame;
   closed = taken LinkClosed;
 }
@@ -53,7 +52,6 @@ from_link = record {
 abbrev pub from_control : Family → AnswerKinds ControlAnswer
 from_control family = record {
   Came = λ one. HasLine family one.answer one.line;
-  Starves = λ one. ⊥;
   nothing = no_line NothingFed;
   closed = no_line FeedClosed;
 }

@@ -26,7 +26,7 @@ module _ (rotate : ℕ) (progress : Progress) (turn : Turn) where
   -- when the link is asked
   pub cut_heard : (end : End) → HasBegun rotate progress turn → AreAsked from_link (Err end) turn.heard
       → (IsErrOf {T = Unit {0}} (Err end) FeedFault → ⊥) → IsUnfed Ahead turn → IsCut end rotate progress turn
-  cut_heard Memory begun asked other unfed = asked.3
+  cut_heard Memory begun asked other unfed = asked
   cut_heard Closed begun asked other unfed = of_link begun asked unfed
   cut_heard LinkFault begun asked other unfed = (begun, asked, unfed)
   cut_heard FeedFault begun asked other unfed = absurd (other refl)
@@ -37,7 +37,7 @@ module _ (rotate : ℕ) (progress : Progress) (turn : Turn) where
   -- when the feed is asked
   pub cut_fed : (end : End) → HasHeard rotate progress turn → AreAsked from_feed (Err end) turn.fed
       → (IsErrOf {T = Unit {0}} (Err end) LinkFault → ⊥) → IsCut end rotate progress turn
-  cut_fed Memory heard asked other = asked.3
+  cut_fed Memory heard asked other = asked
   cut_fed Closed heard asked other = of_feed heard asked
   cut_fed FeedFault heard asked other = (heard, asked)
   cut_fed LinkFault heard asked other = absurd (other refl)

@@ -63,7 +63,6 @@ words_due true = 4
 abbrev pub while_open : {X : Type 0} → (X → Type 0) → X → X → AnswerKinds (Taken X)
 while_open Came nothing closed = record {
   Came = λ one. Came one.answer;
-  Starves = λ one. ⊥;
   nothing = taken nothing;
   closed = taken closed;
 }

@@ -35,7 +35,7 @@ module _ {A : Type 0} (kinds : AnswerKinds A) where
   -- the run ended
   pub ends_more : (came last : List A) (end : End) → CameAll kinds came → length came < 64 → NextEnds kinds end last → BurstEnds kinds end (came ++ last)
   ends_more came last Closed all few next = (came, (all, few), ap (λ (list : List A). came ++ list) next)
-  ends_more came last Memory all few next = (came, next.0, (all, few), next.1, ap (λ (list : List A). came ++ list) next.2)
+  ends_more came last Memory all few next = absurd next
   ends_more came last LinkFault all few next = subst (IsBegun kinds) (sym (ap (λ (list : List A). came ++ list) next ∙ append-nil came)) (all, few)
   ends_more came last FeedFault all few next = subst (IsBegun kinds) (sym (ap (λ (list : List A). came ++ list) next ∙ append-nil came)) (all, few)
   ends_more came last WordsFault all few next = absurd next

@@ -7,11 +7,10 @@ use Rattle.serving_turns.specs.declared.asked.Asked.TheVariants.{Something, Noth
 use Rattle.serving_turns.specs.declared.end.End.{End}
 use Rattle.serving_turns.specs.declared.end.End.TheVariants.{Turns, Closed, LinkFault, FeedFault, WordsFault, SpawnFault, Memory}
 
--- The answers of a device: those of which something came, after which the loop goes on; those at which the run ends
--- out of memory, of which a loop may have none; that there is nothing; and that the device is closed.
+-- The answers of a device: those of which something came, after which the loop goes on, also where memory refused the
+-- event; that there is nothing; and that the device is closed.
 pub record AnswerKinds (A : Type 0) : Type 1 where
   pub Came : A → Type 0
-  pub Starves : A → Type 0
   pub nothing : A
   pub closed : A
 
@@ -33,14 +32,10 @@ module _ {A : Type 0} (kinds : AnswerKinds A) where
   abbrev pub IsClosed : List A → Type 0
   IsClosed answers = (came : List A) × IsBegun came × (answers ≡ came ++ kinds.closed ∷ [])
 
-  -- after such answers, the last is one at which the run ends out of memory
-  abbrev pub IsStarved : List A → Type 0
-  IsStarved answers = (came : List A) × (last : A) × IsBegun came × kinds.Starves last × (answers ≡ came ++ last ∷ [])
-
-  -- of one asking that ends a run
+  -- of one asking that ends a run: want of memory ends none
   abbrev pub NextEnds : End → List A → Type 0
   NextEnds Closed answers = answers ≡ kinds.closed ∷ []
-  NextEnds Memory answers = (one : A) × kinds.Starves one × (answers ≡ one ∷ [])
+  NextEnds Memory answers = ⊥
   NextEnds LinkFault answers = answers ≡ []
   NextEnds FeedFault answers = answers ≡ []
   NextEnds WordsFault answers = ⊥
@@ -56,7 +51,7 @@ module _ {A : Type 0} (kinds : AnswerKinds A) where
   -- of all of a turn
   abbrev pub BurstEnds : End → List A → Type 0
   BurstEnds Closed answers = IsClosed answers
-  BurstEnds Memory answers = IsStarved answers
+  BurstEnds Memory answers = ⊥
   BurstEnds LinkFault answers = IsBegun answers
   BurstEnds FeedFault answers = IsBegun answers
   BurstEnds WordsFault answers = ⊥
