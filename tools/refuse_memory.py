@@ -101,10 +101,10 @@ def check_report(run):
     events = entries - counts["updated"] + counts["datagrams"] + counts["packets"]
     wanted = whole["published"] - whole["updated"] + whole["datagrams"] + whole["packets"]
     expect(events == wanted - counts["starved"], f"{events} events")
-    # The packet is copied where the Update and itself were taken.
+    # An Update that was taken is accepted, and a packet that was taken is copied to its endpoint.
+    expect(counts["updated"] == counts["datagrams"], "an Update that isn't accepted")
     copies = counts["sent"] + counts["unsent"]
-    expect(copies <= counts["updated"], "a copy to nobody")
-    expect(copies == 1 or counts["starved"] == 1, "no copy")
+    expect(copies == counts["datagrams"] * counts["packets"], "other copies")
     expect(run.kept in (counts["sent"], copies), "sends that aren't the report's")
 
 

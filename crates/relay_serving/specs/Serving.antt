@@ -82,8 +82,9 @@ pub record ArePublished (log prefix : List Change) (views : List View) (publishe
   pub each : All (λ view. BeginsWith (seen view) prefix) views
   pub apart_is : apart ≡ count_by (is_apart published) views
 
--- In a turn whose publishing was done, the published log is that of all events, whatever packets came since: so a
--- packet that comes next is due by the log of all events before it.
+-- A law of the definitions, of all lists of turns and not of one run's: in a turn whose publishing was done, the published
+-- log is that of all events, whatever packets came since. Read of a turn that is cut before a packet, it says that this
+-- packet is due by the log of all events before it.
 abbrev pub IsPrompt : Settings → Secret → Type 0
 IsPrompt settings first =
     (earlier : List Turn) (turn : Turn) → turn.publishing ≡ Done

@@ -15,6 +15,6 @@ pub enum End {
     WordsFault,
     /// A worker couldn't be started. No turn was begun.
     SpawnFault,
-    /// Out of memory.
+    /// Out of memory before the first turn. In a turn, want of memory ends no run.
     Memory,
 }
