@@ -1,0 +1,86 @@
+#!/bin/sh
+# What an idle relay and an idle gateway take of a processor: as they are started by hand, and with the timer slack of
+# their service units (examples/systemd), by which the system may end a sleep late. Nothing is sent to them. All else on
+# the machine disturbs the figures: a processor that has other work needn't be woken, and one that hasn't is slow at
+# first. It builds nothing: `rt run` in crates/amt leaves the binary at crates/amt/out/amt.
+#
+# usage: bench/idle.sh [AMT [SECONDS]]        Linux, any user
+set -eu
+
+here=$(cd "$(dirname "$0")" && pwd)
+amt=${1:-$here/../crates/amt/out/amt}
+seconds=${2:-4}
+work=$(mktemp -d)
+process=
+trap 'end; rm -rf "$work"' EXIT
+trap 'exit 1' INT TERM
+
+# An address of the loopback that two runs of this script don't share.
+address=127.78.$(($$ % 255)).1
+
+cat > "$work/relay.toml" << END
+relay = "192.0.2.1"
+listen = "$address:2268"
+feed = "$address:9000"
+END
+cat > "$work/gateway.toml" << END
+family = "v4"
+listen = "$address:5000"
+deliver = "$address:5001"
+control = "$address:5002"
+discovery = "$address:2267"
+source = "198.51.100.7"
+END
+
+end() {
+    if [ -n "$process" ]; then
+        kill "$process" 2> /dev/null || true
+        wait "$process" 2> /dev/null || true
+        process=
+    fi
+}
+
+# slack UNIT: the nanoseconds by which a unit's sleeps may end late
+slack() {
+    awk -F= '$1 == "TimerSlackNSec" { sub("ms", "000000", $2); print $2 }' "$here/../examples/systemd/$1.service"
+}
+
+# spent: nanoseconds of processor time, and how often it slept, of all threads
+spent() {
+    cat /proc/"$process"/task/*/schedstat | awk '{ sum += $1 } END { printf "%d ", sum }'
+    awk '$1 == "voluntary_ctxt_switches:" { sum += $2 } END { print sum }' /proc/"$process"/task/*/status
+}
+
+# idle SLACK WORDS..: hundredths of a processor, and wakings a second
+idle() {
+    late=$1
+    shift
+    # A process may set its own slack, and keeps it as another program.
+    (
+        [ "$late" = usual ] || echo "$late" > /proc/self/timerslack_ns
+        exec "$amt" "$@" > /dev/null
+    ) &
+    process=$!
+    sleep 1
+    before=$(spent)
+    sleep "$seconds"
+    after=$(spent)
+    end
+    echo "$before $after" | awk -v seconds="$seconds" '
+        { printf "%9.2f %9.0f", ($3 - $1) / seconds / 1e7, ($4 - $2) / seconds }'
+}
+
+# show WHAT UNIT WORDS..
+show() {
+    what=$1
+    unit=$2
+    shift 2
+    printf '%-20s %s %s\n' "$what" "$(idle usual "$@")" "$(idle "$(slack "$unit")" "$@")"
+}
+
+echo "$(getconf _NPROCESSORS_ONLN) processors;$(uptime | sed 's/.*load/ load/'); $seconds s each"
+printf '%-20s %19s %19s\n' '' 'as started' "with the unit's slack"
+printf '%-20s %9s %9s %9s %9s\n' '' 'of 100' wakings/s 'of 100' wakings/s
+show 'relay, 0 workers' amt-relay relay "$work/relay.toml"
+show 'relay, 1 worker' amt-relay relay "$work/relay.toml" --workers 1
+show 'gateway' amt-gateway gateway "$work/gateway.toml"
