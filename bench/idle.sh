@@ -10,6 +10,11 @@ set -eu
 here=$(cd "$(dirname "$0")" && pwd)
 amt=${1:-$here/../crates/amt/out/amt}
 seconds=${2:-4}
+if [ ! -x "$amt" ]; then
+    echo "idle: no binary $amt: \`rt run\` in crates/amt leaves it there" >&2
+    exit 1
+fi
+
 work=$(mktemp -d)
 process=
 trap 'end; rm -rf "$work"' EXIT
@@ -51,7 +56,7 @@ spent() {
     awk '$1 == "voluntary_ctxt_switches:" { sum += $2 } END { print sum }' /proc/"$process"/task/*/status
 }
 
-# idle SLACK WORDS..: hundredths of a processor, and wakings a second
+# idle SLACK WORDS..: hundredths of a processor, and wakings a second, as `figures`
 idle() {
     late=$1
     shift
@@ -66,8 +71,8 @@ idle() {
     sleep "$seconds"
     after=$(spent)
     end
-    echo "$before $after" | awk -v seconds="$seconds" '
-        { printf "%9.2f %9.0f", ($3 - $1) / seconds / 1e7, ($4 - $2) / seconds }'
+    figures=$(echo "$before $after" | awk -v seconds="$seconds" '
+        { printf "%9.2f %9.0f", ($3 - $1) / seconds / 1e7, ($4 - $2) / seconds }')
 }
 
 # show WHAT UNIT WORDS..
@@ -75,7 +80,10 @@ show() {
     what=$1
     unit=$2
     shift 2
-    printf '%-20s %s %s\n' "$what" "$(idle usual "$@")" "$(idle "$(slack "$unit")" "$@")"
+    idle usual "$@"
+    usual=$figures
+    idle "$(slack "$unit")" "$@"
+    printf '%-20s %s %s\n' "$what" "$usual" "$figures"
 }
 
 echo "$(getconf _NPROCESSORS_ONLN) processors;$(uptime | sed 's/.*load/ load/'); $seconds s each"

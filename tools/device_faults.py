@@ -299,7 +299,7 @@ def goes_on_traced(bench, injects, kinds=("relay", "gateway")):
 
 
 def a_socket_cannot_be_made_or_set(bench):
-    ends_traced(bench, 6, "amt: link fault\n", ["socket:error=EMFILE", "setsockopt:error=EPERM"])
+    ends_traced(bench, 6, "amt: link fault\n", ["socket:error=EMFILE", "setsockopt:error=EPERM", "fcntl:error=EMFILE"])
     return "status 6, for both ends"
 
 
