@@ -11,11 +11,17 @@ use amt_ports::{
 use amt_values::Peer;
 use replication_workers::{Outs, Worker, WorkerDone, start_worker};
 use std::alloc::Global;
+use std::fs;
+use std::fs::Files;
 use std::net::Net;
 use std::random::RandomSource;
 use std::sync::Wait;
 use std::thread::{PromisedHandle, Threads};
 use std::time::Clock;
+
+// How late the system may end a sleep, in nanoseconds. A turn in which nothing comes sleeps twice, for a millisecond
+// each: on time that is some 900 wakings a second, and with this 250.
+const TIMER_SLACK: &str = "3000000";
 
 /// What starts workers that send through UDP sockets, each in a thread of its own.
 #[derive(Debug, Drop)]
@@ -100,7 +106,7 @@ fn open_outs(alloc: Global, link: &UdpLink, slots: u32) -> Result<Outs<UdpOut>, 
 
 impl<R> Live for HostLive<R>
 where
-    R: Net + Threads + Wait + Clock + RandomSource + Copy + Drop + 'static,
+    R: Net + Threads + Wait + Clock + RandomSource + Files + Copy + Drop + 'static,
 {
     type L = UdpLink;
 
@@ -156,6 +162,12 @@ where
     }
 }
 
+// What comes in ends a sleep at once, whatever this says. A system that has no such file ends sleeps on time, and an
+// idle run takes more of a processor: that is no fault.
+fn let_sleeps_end_late<F: Files>(files: &F) {
+    let _ = fs::write(files, "/proc/self/timerslack_ns", TIMER_SLACK);
+}
+
 fn open_relay_devices<R>(
     rt: R,
     alloc: Global,
@@ -164,9 +176,10 @@ fn open_relay_devices<R>(
     slots: u32,
 ) -> Result<HostDevices<R>, OpenFault>
 where
-    R: Net + Threads + Wait + Clock + RandomSource + Copy + Drop + 'static,
+    R: Net + Threads + Wait + Clock + RandomSource + Files + Copy + Drop + 'static,
     ensures { IfOk result (λ devices. length devices.outs ≡ slots) }
 {
+    let_sleeps_end_late(&rt);
     let Ok((link, feed)) = open_sockets(&rt, listen, feed) else {
         return Err(OpenFault::Failed);
     };
@@ -188,8 +201,9 @@ fn open_gateway_devices<R>(
     control: &Peer,
 ) -> Result<HostGateway<R>, OpenFault>
 where
-    R: Net + Clock + RandomSource + Copy,
+    R: Net + Clock + RandomSource + Files + Copy,
 {
+    let_sleeps_end_late(&rt);
     let Ok((link, control)) = open_sockets(&rt, listen, control) else {
         return Err(OpenFault::Failed);
     };

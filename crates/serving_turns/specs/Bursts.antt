@@ -32,7 +32,7 @@ module _ {A : Type 0} (kinds : AnswerKinds A) where
   abbrev pub IsClosed : List A → Type 0
   IsClosed answers = (came : List A) × IsBegun came × (answers ≡ came ++ kinds.closed ∷ [])
 
-  -- of one asking that ends a run: want of memory ends none
+  -- of one asking that ends a run: running out of memory ends none
   abbrev pub NextEnds : End → List A → Type 0
   NextEnds Closed answers = answers ≡ kinds.closed ∷ []
   NextEnds Memory answers = ⊥

@@ -15,6 +15,6 @@ pub enum End {
     WordsFault,
     /// A worker couldn't be started. No turn was begun.
     SpawnFault,
-    /// Out of memory before the first turn. In a turn, want of memory ends no run.
+    /// Out of memory before the first turn. In a turn, running out of memory ends no run.
     Memory,
 }
