@@ -1,10 +1,10 @@
 #!/bin/sh
-# What an idle relay and an idle gateway take of a processor: as they are started by hand, and with the timer slack of
-# their service units (examples/systemd), by which the system may end a sleep late. Nothing is sent to them. All else on
+# What an idle relay and an idle gateway take of a processor: as they run, with sleeps that may end late, and, where
+# this may be changed (by root), with sleeps that end within 50 us, as Linux has it. Nothing is sent to them. All else on
 # the machine disturbs the figures: a processor that has other work needn't be woken, and one that hasn't is slow at
 # first. It builds nothing: `rt run` in crates/amt leaves the binary at crates/amt/out/amt.
 #
-# usage: bench/idle.sh [AMT [SECONDS]]        Linux, any user
+# usage: bench/idle.sh [AMT [SECONDS]]        Linux
 set -eu
 
 here=$(cd "$(dirname "$0")" && pwd)
@@ -45,50 +45,46 @@ end() {
     fi
 }
 
-# slack UNIT: the nanoseconds by which a unit's sleeps may end late
-slack() {
-    awk -F= '$1 == "TimerSlackNSec" { sub("ms", "000000", $2); print $2 }' "$here/../examples/systemd/$1.service"
-}
-
 # spent: nanoseconds of processor time, and how often it slept, of all threads
 spent() {
     cat /proc/"$process"/task/*/schedstat | awk '{ sum += $1 } END { printf "%d ", sum }'
     awk '$1 == "voluntary_ctxt_switches:" { sum += $2 } END { print sum }' /proc/"$process"/task/*/status
 }
 
-# idle SLACK WORDS..: hundredths of a processor, and wakings a second, as `figures`
+# idle WORDS..: hundredths of a processor and wakings a second, as `figures`: as it runs, and with sleeps that end soon
 idle() {
-    late=$1
-    shift
-    # A process may set its own slack, and keeps it as another program.
-    (
-        [ "$late" = usual ] || echo "$late" > /proc/self/timerslack_ns
-        exec "$amt" "$@" > /dev/null
-    ) &
+    "$amt" "$@" > /dev/null &
     process=$!
     sleep 1
+    measure
+    late=$figures
+    figures='        -         -'
+    if { echo 50000 > /proc/"$process"/timerslack_ns; } 2> /dev/null; then
+        measure
+    fi
+    end
+}
+
+# measure: hundredths of a processor and wakings a second, as `figures`
+measure() {
     before=$(spent)
     sleep "$seconds"
     after=$(spent)
-    end
     figures=$(echo "$before $after" | awk -v seconds="$seconds" '
         { printf "%9.2f %9.0f", ($3 - $1) / seconds / 1e7, ($4 - $2) / seconds }')
 }
 
-# show WHAT UNIT WORDS..
+# show WHAT WORDS..
 show() {
     what=$1
-    unit=$2
-    shift 2
-    idle usual "$@"
-    usual=$figures
-    idle "$(slack "$unit")" "$@"
-    printf '%-20s %s %s\n' "$what" "$usual" "$figures"
+    shift
+    idle "$@"
+    printf '%-20s %s %s\n' "$what" "$late" "$figures"
 }
 
 echo "$(getconf _NPROCESSORS_ONLN) processors;$(uptime | sed 's/.*load/ load/'); $seconds s each"
-printf '%-20s %19s %19s\n' '' 'as started' "with the unit's slack"
+printf '%-20s %19s %19s\n' '' 'as it runs' 'within 50 us'
 printf '%-20s %9s %9s %9s %9s\n' '' 'of 100' wakings/s 'of 100' wakings/s
-show 'relay, 0 workers' amt-relay relay "$work/relay.toml"
-show 'relay, 1 worker' amt-relay relay "$work/relay.toml" --workers 1
-show 'gateway' amt-gateway gateway "$work/gateway.toml"
+show 'relay, 0 workers' relay "$work/relay.toml"
+show 'relay, 1 worker' relay "$work/relay.toml" --workers 1
+show 'gateway' gateway "$work/gateway.toml"

@@ -3,7 +3,8 @@
 # of a bare `sendto` loop, copies a second at full rate, the processor time of a copy and Updates a second with 65,536
 # live endpoints, and what an idle relay takes. In the same run, each figure stands beside the bare loop and beside
 # the least that a relay can do, a loop of `recv` and `sendto` in C. All else on the machine disturbs them: the load is
-# printed, and `chrt -f 1 bench/relay.sh` gives every program of the trial the same advantage over it.
+# printed, and `chrt -f 1 bench/relay.sh` gives every program of the trial the same advantage over it; but an idle relay
+# has none, since by a real-time policy its sleeps would end on time, which isn't how it runs.
 #
 # It builds no relay: `rt run` in crates/amt leaves the binary at crates/amt/out/amt. The programs of bench/relay are
 # compiled into a folder of its own. COMMAND is called with a settings file and `--workers W`; `loop` is the C loop in
@@ -174,9 +175,10 @@ endpoints() {
     fi
 }
 
-# idle COMMAND WORKERS: a trial in which nothing comes for three seconds, and hundredths of a processor that it took
+# idle COMMAND WORKERS: a trial in which nothing comes for three seconds, and hundredths of a processor that it took, by
+# the scheduler's usual policy.
 idle() {
-    serve "$1" "$2"
+    serve "chrt -o 0 $1" "$2"
     "$work/trial" "$link" "$process" shared 1 sleep 3 > "$work/figures"
     end
     idle=$(sum "$(figure processor) * 100 / $(figure lasted)")

@@ -21,8 +21,8 @@ import time
 import loopback
 from loopback import AMT_PORT, DATA, IS_EX, End, Endpoint, Failed, bound, counts_of, expect, packet
 
-# An idle turn takes some 2 ms: two receivings that each wait for one.
-SHORT, LONG = "5", "1500"
+# An idle turn takes some 8 ms: two receivings, each of which waits for a millisecond and may end late by three more.
+SHORT, LONG = "5", "400"
 # A run takes some seconds at most; a busy machine and a binary with checks have more.
 PATIENCE_S = 300
 FEED, CONTROL, DELIVER, OTHER = 2269, 2271, 2272, 2270
@@ -243,7 +243,7 @@ def the_receiver_of_a_gateway_is_of_another_family(bench):
 
 
 def the_control_socket_has_noise(bench):
-    gateway = bench.gateway(turns="600")
+    gateway = bench.gateway(turns="150")
     with bound(bench.address) as sender:
         for line in (b"", b"jump", b"\xff\x00", b"x" * 65_507, b"close nobody\n"):
             sender.sendto(line, (bench.address, CONTROL))
@@ -274,12 +274,13 @@ def a_socket_is_aborted(bench):
     return "status 6, for each socket of both ends"
 
 
-def traced(bench, kind, inject, turns="50", **changes):
-    """A run in which a system call answers an error."""
+def traced(bench, kind, inject, turns="50", path=None, **changes):
+    """A run in which a system call answers an error, or one about this file."""
     if shutil.which("strace") is None:
         raise Skipped("there is no strace")
     # What strace writes goes nowhere; errors of its own would be on standard error.
-    words = ["strace", "-f", "-qq", "-o", "/dev/null", "-e", f"inject={inject}"]
+    words = ["strace", "-f", "--quiet=all", "-o", "/dev/null", "-e", f"inject={inject}"]
+    words += ["-P", path] if path else []
     return [*words, *bench.words(kind, turns, **changes)]
 
 
@@ -290,10 +291,10 @@ def ends_traced(bench, status, line, injects, kinds=("relay", "gateway")):
             expect(have == (status, "", line), f"{kind}, {inject}: {have}")
 
 
-def goes_on_traced(bench, injects, kinds=("relay", "gateway")):
-    for kind in kinds:
+def goes_on_traced(bench, injects, path=None):
+    for kind in ("relay", "gateway"):
         for inject in injects:
-            status, out, err = bench.ended(traced(bench, kind, inject))
+            status, out, err = bench.ended(traced(bench, kind, inject, path=path))
             expect((status, err) == (0, ""), f"{kind}, {inject}: status {status}, {err!r}")
             expect(counts_of(out)["turns"] == "50", f"{kind}, {inject}: {out}")
 
@@ -314,6 +315,11 @@ def a_receiving_is_interrupted(bench):
     return "the run goes on, for both ends"
 
 
+def sleeps_cannot_end_late(bench):
+    goes_on_traced(bench, ["open,openat:error=EACCES"], "/proc/self/timerslack_ns")
+    return "the run goes on, for both ends"
+
+
 def a_worker_cannot_be_started(bench):
     ends_traced(bench, 6, "amt: link fault\n", ["clone,clone3:error=EAGAIN"], kinds=["relay"])
     return "status 6, before the first turn"
@@ -326,7 +332,7 @@ def no_random_word_comes(bench):
 
 def sends_traced(bench, inject):
     """A relay with two endpoints that have a packet each time, of which some sends answer an error."""
-    words = traced(bench, "relay", inject, turns="800")
+    words = traced(bench, "relay", inject, turns="200")
     relay = End(words, bench.address, [AMT_PORT, FEED])
     first, second = bench.joined(bench.address), bench.joined(bench.address)
     for number in range(3):
@@ -433,6 +439,7 @@ FAULTS = [
     a_socket_cannot_be_made_or_set,
     a_receiving_fails,
     a_receiving_is_interrupted,
+    sleeps_cannot_end_late,
     a_worker_cannot_be_started,
     no_random_word_comes,
     a_send_fails,

@@ -39,12 +39,12 @@ KINDS = ["", "Discovery", "Advertisement", "Request", "Query", "Update", "Data",
 # Where the nonce and the MAC stand in a message of a type.
 NONCE_AT = {1: 4, 2: 4, 3: 4, 4: 8, 5: 8, 7: 8}
 MAC_AT = {4: 2, 5: 2, 7: 2}
-# How long an end has for what an event makes it send, and how long it has to be quiet after that. A turn takes some
-# 2 ms.
+# How long an end has for what an event makes it send, and how long it has to be quiet after that. A turn takes
+# some 8 ms at most.
 PATIENCE_S = 2.0
 QUIET_S = 0.03
-# An idle turn takes at least 2 ms. The ends run for somewhat longer than the script.
-TURNS_A_SECOND = 500
+# An idle turn takes some 8 ms. The ends run for somewhat longer than the script.
+TURNS_A_SECOND = 125
 SPARE_S = 3
 
 

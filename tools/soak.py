@@ -21,11 +21,11 @@ Updates that it passed on, with their lifetimes; and what it did to each datagra
       that in the second quarter. A run of less than a minute isn't judged so.
 
 The margin. The record has the moment at which this program sent something, and an end takes it in one of its next
-turns. An idle turn takes 2 ms; what a loaded machine adds is the time that a process waits for a processor. So a packet
-is judged where what is wanted of its group and source is the same from a second before it was sent until a second after
-it came; the others are counted as unjudged. The longest ways that were seen are told at the end, and how late this
-program itself was: these have to be shorter than that second, or the run is void and ends with 2; then fewer PACKETS a
-second, 200 where no number is given, may do. What is under way is waited for until 5 s after the last packet.
+turns. An idle turn takes some 8 ms; what a loaded machine adds is the time that a process waits for a processor. So a
+packet is judged where what is wanted of its group and source is the same from a second before it was sent until a
+second after it came; the others are counted as unjudged. The longest ways that were seen are told at the end, and how
+late this program itself was: these have to be shorter than that second, or the run is void and ends with 2; then fewer
+PACKETS a second, 200 where no number is given, may do. What is under way is waited for until 5 s after the last packet.
 
 It prints its figures, and ends with 0 where all of this holds, and with 1 and what doesn't otherwise.
 """

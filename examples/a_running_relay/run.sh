@@ -7,8 +7,8 @@ set -eu
 
 here=$(cd "$(dirname "$0")" && pwd)
 relay=${1:-$here/../../crates/amt/out/amt relay}
-# An idle turn takes about 2 ms, so these are some 3 s.
-turns=1500
+# An idle turn takes some 8 ms, so these are some 7 s, and 2 s on a system that ends sleeps on time.
+turns=900
 report=$(mktemp)
 process=
 

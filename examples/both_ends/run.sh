@@ -7,9 +7,10 @@ set -eu
 
 here=$(cd "$(dirname "$0")" && pwd)
 amt=${1:-$here/../../crates/amt/out/amt}
-# An idle turn takes about 2 ms, so these are some 3 s and some 2.6 s: the relay goes on for longer than the gateway.
-relay_turns=1500
-gateway_turns=1300
+# An idle turn takes some 8 ms, so these are some 7 s and some 6 s, and 2 s on a system that ends sleeps on time: the
+# relay goes on for longer than the gateway.
+relay_turns=900
+gateway_turns=800
 work=$(mktemp -d)
 trap 'kill $(jobs -p) 2> /dev/null || true; rm -rf "$work"' EXIT
 trap 'exit 1' INT TERM
@@ -42,7 +43,7 @@ control() {
     echo "control: $1"
     echo "$1" > /dev/udp/127.0.0.1/2271
     # A turn or two at each end: the gateway reports what changed, and the relay publishes it.
-    sleep 0.3
+    sleep 0.2
 }
 
 exec 3> >(exec python3 "$here/send.py" 127.0.0.1:2269)
@@ -55,7 +56,7 @@ timeout 9 $amt gateway "$here/gateway.toml" --turns $gateway_turns > "$work/gate
 gateway=$!
 bound 2271
 # Discovery, Advertisement, Request, Query and Update take some turns.
-sleep 0.5
+sleep 0.3
 
 echo "five packets to 233.252.0.1, which the gateway's settings join:"
 packets 233.252.0.1 1 5
@@ -65,7 +66,7 @@ packets 233.252.0.2 6 5
 control "leave"
 echo "another packet to 233.252.0.1:"
 echo "233.252.0.1 11 1" >&3
-sleep 0.3
+sleep 0.2
 [ "$(wc -l < "$work/delivered")" = 10 ] || fail "a packet that nobody wants was handed on"
 echo "  nothing is handed on"
 
