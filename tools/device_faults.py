@@ -21,8 +21,9 @@ import time
 import loopback
 from loopback import AMT_PORT, DATA, IS_EX, End, Endpoint, Failed, bound, counts_of, expect, packet
 
-# An idle turn takes some 8 ms: two receivings, each of which waits for a millisecond and may end late by three more.
-SHORT, LONG = "5", "400"
+SHORT = "5"
+# As long as an end has to be there: faults are met within a second or two.
+LONG_S = 3
 # A run takes some seconds at most; a busy machine and a binary with checks have more.
 PATIENCE_S = 300
 FEED, CONTROL, DELIVER, OTHER = 2269, 2271, 2272, 2270
@@ -49,6 +50,11 @@ class Bench:
                                  "deliver": f"{self.address}:{DELIVER}", "control": f"{self.address}:{CONTROL}",
                                  "discovery": f"{self.address}:{AMT_PORT}"}
         self.made = 0
+        self.idle_turn_s = loopback.idle_turn_s(command, self.file("relay"))
+
+    def turns(self, seconds):
+        """So many turns that idle ones take so long."""
+        return str(int(seconds / self.idle_turn_s))
 
     def file(self, kind, **changes):
         settings = dict(self.relay_settings if kind == "relay" else self.gateway_settings, **changes)
@@ -69,11 +75,11 @@ class Bench:
         have = self.ended(words, **how)
         expect(have == (status, "", line), f"{have}, and not {(status, '', line)}")
 
-    def relay(self, turns=LONG, **changes):
-        return End(self.words("relay", turns, **changes), self.address, [AMT_PORT, FEED])
+    def relay(self, **changes):
+        return End(self.words("relay", self.turns(LONG_S), **changes), self.address, [AMT_PORT, FEED])
 
-    def gateway(self, turns=LONG, **changes):
-        return End(self.words("gateway", turns, **changes), self.address, [OTHER, CONTROL])
+    def gateway(self, **changes):
+        return End(self.words("gateway", self.turns(LONG_S), **changes), self.address, [OTHER, CONTROL])
 
     def joined(self, host, port=0):
         """An endpoint that wants all of the group, and whose Update has been taken."""
@@ -220,7 +226,7 @@ def a_gateway_is_gone(bench):
 def handed_on(bench, unsent, **changes):
     """Three packets that a gateway hands on, at an address where nothing takes them."""
     relay = bench.relay()
-    words = bench.words("gateway", LONG, **changes)
+    words = bench.words("gateway", bench.turns(LONG_S), **changes)
     with open(words[-3], "a", encoding="ascii") as file:
         file.write(f'\n[[join]]\nname = "a"\ngroup = "{GROUP}"\nmode = "exclude"\nsources = []\n')
     gateway = End(words, bench.address, [OTHER, CONTROL])
@@ -243,7 +249,7 @@ def the_receiver_of_a_gateway_is_of_another_family(bench):
 
 
 def the_control_socket_has_noise(bench):
-    gateway = bench.gateway(turns="150")
+    gateway = bench.gateway()
     with bound(bench.address) as sender:
         for line in (b"", b"jump", b"\xff\x00", b"x" * 65_507, b"close nobody\n"):
             sender.sendto(line, (bench.address, CONTROL))
@@ -278,10 +284,18 @@ def traced(bench, kind, inject, turns="50", path=None, **changes):
     """A run in which a system call answers an error, or one about this file."""
     if shutil.which("strace") is None:
         raise Skipped("there is no strace")
-    # What strace writes goes nowhere; errors of its own would be on standard error.
-    words = ["strace", "-f", "--quiet=all", "-o", "/dev/null", "-e", f"inject={inject}"]
+    words = ["strace", "-f", "--quiet=all", "-o", trace_of(bench), "-e", f"inject={inject}"]
     words += ["-P", path] if path else []
     return [*words, *bench.words(kind, turns, **changes)]
+
+
+def trace_of(bench):
+    """What strace writes of the latest run: each call of the system. Errors of its own would be on standard error."""
+    return bench.folder / "trace"
+
+
+def expect_injected(bench, what):
+    expect("(INJECTED)" in trace_of(bench).read_text(errors="replace"), f"{what}: no call answered so")
 
 
 def ends_traced(bench, status, line, injects, kinds=("relay", "gateway")):
@@ -289,6 +303,7 @@ def ends_traced(bench, status, line, injects, kinds=("relay", "gateway")):
         for inject in injects:
             have = bench.ended(traced(bench, kind, inject))
             expect(have == (status, "", line), f"{kind}, {inject}: {have}")
+            expect_injected(bench, f"{kind}, {inject}")
 
 
 def goes_on_traced(bench, injects, path=None):
@@ -297,6 +312,7 @@ def goes_on_traced(bench, injects, path=None):
             status, out, err = bench.ended(traced(bench, kind, inject, path=path))
             expect((status, err) == (0, ""), f"{kind}, {inject}: status {status}, {err!r}")
             expect(counts_of(out)["turns"] == "50", f"{kind}, {inject}: {out}")
+            expect_injected(bench, f"{kind}, {inject}")
 
 
 def a_socket_cannot_be_made_or_set(bench):
@@ -332,7 +348,7 @@ def no_random_word_comes(bench):
 
 def sends_traced(bench, inject):
     """A relay with two endpoints that have a packet each time, of which some sends answer an error."""
-    words = traced(bench, "relay", inject, turns="200")
+    words = traced(bench, "relay", inject, bench.turns(LONG_S))
     relay = End(words, bench.address, [AMT_PORT, FEED])
     first, second = bench.joined(bench.address), bench.joined(bench.address)
     for number in range(3):
@@ -396,7 +412,7 @@ def shifted(bench, seconds):
     source, library = bench.folder / "clock.c", bench.folder / "clock.so"
     source.write_text(CLOCK)
     subprocess.run([compiler, "-O1", "-shared", "-fPIC", "-o", library, source], check=True, capture_output=True)
-    relay = End(bench.words("relay", LONG), bench.address, [AMT_PORT, FEED],
+    relay = End(bench.words("relay", bench.turns(LONG_S)), bench.address, [AMT_PORT, FEED],
                 env={**os.environ, "LD_PRELOAD": str(library), "CLOCK_SHIFT": str(seconds)})
     began = time.monotonic()
     endpoint = bench.joined(bench.address)

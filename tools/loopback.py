@@ -32,6 +32,13 @@ def expect(holds, what):
         raise Failed(what)
 
 
+def idle_turn_s(command, settings):
+    """How long a relay's idle turn takes here: some 8 ms, and 2 ms where the system ends sleeps on time."""
+    began = time.monotonic()
+    subprocess.run([*command, "relay", settings, "--turns", "100"], stdout=subprocess.DEVNULL, check=True)
+    return (time.monotonic() - began) / 100
+
+
 def command_of(words):
     """The binary of `amt`: the first of these words, or the one that `rt run` leaves."""
     command = (words[0] if words else AMT).split()

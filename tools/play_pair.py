@@ -39,13 +39,14 @@ KINDS = ["", "Discovery", "Advertisement", "Request", "Query", "Update", "Data",
 # Where the nonce and the MAC stand in a message of a type.
 NONCE_AT = {1: 4, 2: 4, 3: 4, 4: 8, 5: 8, 7: 8}
 MAC_AT = {4: 2, 5: 2, 7: 2}
-# How long an end has for what an event makes it send, and how long it has to be quiet after that. A turn takes
-# some 8 ms at most.
+# How long an end has for what an event makes it send, and how long it has to be quiet after that. An idle
+# turn takes some 8 ms.
 PATIENCE_S = 2.0
 QUIET_S = 0.03
-# An idle turn takes some 8 ms. The ends run for somewhat longer than the script.
-TURNS_A_SECOND = 125
+# The ends run for somewhat longer than the script.
 SPARE_S = 3
+# So many idle turns of a relay are timed: each takes some 8 ms, and 2 ms where the system ends sleeps on time.
+TIMED_TURNS = 100
 
 
 class Failed(Exception):
@@ -266,11 +267,18 @@ class Ends:
     """The running relay and gateways, and their reports."""
 
     def __init__(self, script, command, folder):
-        self.turns = int((last_moment(script) / 1000 + SPARE_S) * TURNS_A_SECOND)
+        self.seconds = last_moment(script) / 1000 + SPARE_S
         self.command, self.folder, self.running = command, folder, {}
         self.write_relay(script)
+        self.turns = int(self.seconds / self.idle_turn_s())
         for place, name in enumerate(script.gateways):
             self.write_gateway(script, name, place)
+
+    def idle_turn_s(self):
+        began = time.monotonic()
+        words = [*self.command, "relay", f"{self.folder}/relay.toml", "--turns", str(TIMED_TURNS)]
+        subprocess.run(words, stdout=subprocess.DEVNULL, check=True)
+        return (time.monotonic() - began) / TIMED_TURNS
 
     def write_relay(self, script):
         address = script.settings["relay"]
@@ -299,7 +307,7 @@ class Ends:
         """The counts of each end, once its turns are done."""
         found = {}
         for name, process in self.running.items():
-            said = process.communicate(timeout=20 * self.turns / TURNS_A_SECOND)[0]
+            said = process.communicate(timeout=20 * self.seconds)[0]
             if process.returncode:
                 raise Failed(f"{name} ended with {process.returncode}")
             found[name] = dict(line.split() for line in said.splitlines())

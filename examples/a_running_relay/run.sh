@@ -7,8 +7,8 @@ set -eu
 
 here=$(cd "$(dirname "$0")" && pwd)
 relay=${1:-$here/../../crates/amt/out/amt relay}
-# An idle turn takes some 8 ms, so these are some 7 s, and 2 s on a system that ends sleeps on time.
-turns=900
+# An idle turn takes some 8 ms, so these are some 6 s, and 1.5 s where the system ends sleeps on time.
+turns=700
 report=$(mktemp)
 process=
 

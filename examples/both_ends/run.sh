@@ -7,10 +7,10 @@ set -eu
 
 here=$(cd "$(dirname "$0")" && pwd)
 amt=${1:-$here/../../crates/amt/out/amt}
-# An idle turn takes some 8 ms, so these are some 7 s and some 6 s, and 2 s on a system that ends sleeps on time: the
-# relay goes on for longer than the gateway.
-relay_turns=900
-gateway_turns=800
+# An idle turn takes some 8 ms, so these are some 6.4 s and 5.5 s, and 1.6 s and 1.4 s where the system ends sleeps on
+# time: the relay goes on for longer than the gateway.
+relay_turns=750
+gateway_turns=650
 work=$(mktemp -d)
 trap 'kill $(jobs -p) 2> /dev/null || true; rm -rf "$work"' EXIT
 trap 'exit 1' INT TERM
