@@ -32,6 +32,8 @@ import sys
 import tempfile
 import time
 
+from loopback import idle_turn_s
+
 AMT_PORT = 2268
 # What the ends listen at, beside the port of AMT, at which this program does.
 RELAY_PORT, FEED_PORT, GATEWAY_PORT, CONTROL_PORT, DELIVER_PORT = 2267, 2269, 2300, 2400, 2500
@@ -45,8 +47,6 @@ PATIENCE_S = 2.0
 QUIET_S = 0.03
 # The ends run for somewhat longer than the script.
 SPARE_S = 3
-# So many idle turns of a relay are timed: each takes some 8 ms, and 2 ms where the system ends sleeps on time.
-TIMED_TURNS = 100
 
 
 class Failed(Exception):
@@ -270,15 +270,9 @@ class Ends:
         self.seconds = last_moment(script) / 1000 + SPARE_S
         self.command, self.folder, self.running = command, folder, {}
         self.write_relay(script)
-        self.turns = int(self.seconds / self.idle_turn_s())
+        self.turns = int(self.seconds / idle_turn_s(command, f"{folder}/relay.toml"))
         for place, name in enumerate(script.gateways):
             self.write_gateway(script, name, place)
-
-    def idle_turn_s(self):
-        began = time.monotonic()
-        words = [*self.command, "relay", f"{self.folder}/relay.toml", "--turns", str(TIMED_TURNS)]
-        subprocess.run(words, stdout=subprocess.DEVNULL, check=True)
-        return (time.monotonic() - began) / TIMED_TURNS
 
     def write_relay(self, script):
         address = script.settings["relay"]
