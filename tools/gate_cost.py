@@ -2,6 +2,7 @@
 
 usage: tools/gate-cost.sh [--anew | CRATE ..]
 
+A kit whose `rt ci` takes no words proves all from nothing each time: there --anew says nothing new, and a CRATE is refused.
 The gate runs one checker process a task. This reads the processor time of each from /proc, five times a
 second, so the last fifth of a second of each process is missed; the sum of all that the gate waited for,
 which the system keeps, stands below the table. The gate's own output goes to standard output as it comes.
@@ -34,14 +35,14 @@ def after(words, name):
     return words[words.index(name) + 1] if name in words[:-1] else ""
 
 
-def task_of(words):
-    """The crate, the kind of task and the number of the edit, of a checker's words."""
+def task_of(words, folder):
+    """The crate, the kind of task and the number of the edit, of a checker's words and the folder that it runs in."""
     crate, over = after(words, "--crate-name"), after(words, "--incremental")
-    if words[1] == "check" and "rt-edits-" in over:
+    if words[1] == "check" and ("rt-edits-" in over or "/rt-edit-" in folder):
         end = os.path.basename(over)
         if end == "seed":
             return crate, "seed", None
-        # (a kit that tries a crate's edits one after another has one folder for them all: they count as one)
+        # (a kit that tries a crate's edits one after another has one folder for them all, and the first pays the seed)
         return crate, "edits", int(end) if end.isdigit() else None
     if "--test" in words or after(words, "-o").endswith("_tests.o"):
         return crate, "tests", None
@@ -53,7 +54,7 @@ class Watch(threading.Thread):
 
     def __init__(self):
         super().__init__(daemon=True)
-        self.seen, self.ended = {}, threading.Event()
+        self.seen, self.tried, self.ended = {}, {}, threading.Event()
 
     def look(self):
         parents, seconds = {}, {}
@@ -70,12 +71,21 @@ class Watch(threading.Thread):
             if above != os.getpid() or pid == os.getpid():
                 continue
             try:
-                words = words_of(pid)
+                words, folder = words_of(pid), os.readlink(f"/proc/{pid}/cwd")
             except OSError:
                 continue
             if len(words) > 1 and os.path.basename(words[0]) == "rattle":
-                task, began, _, _ = self.seen.get(pid, (task_of(words), time.monotonic(), 0, 0))
-                self.seen[pid] = task, began, seconds[pid], time.monotonic()
+                task = self.seen[pid][0] if pid in self.seen else self.numbered(*task_of(words, folder), pid, parents)
+                self.seen[pid] = task, seconds[pid]
+
+    def numbered(self, crate, kind, number, pid, parents):
+        """The task, with the number of its edit where the kit gives none: they are tried in their order."""
+        if kind != "edits" or number is not None:
+            return crate, kind, number
+        if parents[pid] in self.seen:
+            return self.seen[parents[pid]][0]
+        self.tried[crate] = self.tried.get(crate, -1) + 1
+        return crate, kind, self.tried[crate]
 
     def run(self):
         while not self.ended.wait(0.2):
@@ -109,7 +119,7 @@ def longest_chain(seconds):
 
 def table(watch):
     seconds, edits = {}, {}
-    for (crate, kind, number), _, used, _ in watch.seen.values():
+    for (crate, kind, number), used in watch.seen.values():
         seconds[crate, kind] = seconds.get((crate, kind), 0) + used
         if kind == "edits":
             edits[crate, number] = edits.get((crate, number), 0) + used
@@ -122,7 +132,7 @@ def table(watch):
         print(f"{crate or 'other':<22}{parts[0]:>8.0f}{parts[1]:>8.0f}{parts[2]:>8.0f}{parts[3]:>8.0f}{mean:>16}{sum(parts):>8.0f}")
     parts = [sum(seconds.get((crate, kind), 0) for crate in crates) for kind in KINDS]
     print(f"{'all':<22}{parts[0]:>8.0f}{parts[1]:>8.0f}{parts[2]:>8.0f}{parts[3]:>8.0f}{f'({len(edits)})':>16}{sum(parts):>8.0f}")
-    name = lambda crate, number: f"edit {number}" if number is None or number >= len(edits_of(crate)) else edits_of(crate)[number][:-5]
+    name = lambda crate, number: "as it stands, after its edits" if number >= len(edits_of(crate)) else edits_of(crate)[number][:-5]
     tasks = [(used, f"{crate}: {kind}") for (crate, kind), used in seconds.items() if kind in ("proof", "tests", "seed")]
     tasks += [(used, f"{crate}: {name(crate, number)}") for (crate, number), used in edits.items()]
     print("\nthe dearest ten")
@@ -134,9 +144,11 @@ def table(watch):
 
 
 def main():
-    watch, began = Watch(), time.monotonic()
+    watch, began, words = Watch(), time.monotonic(), sys.argv[1:]
+    if words == ["--anew"] and "--anew" not in subprocess.run(["rt", "ci", "--help"], capture_output=True, text=True).stderr:
+        words = []
     watch.start()
-    status = subprocess.run(["rt", "ci", *sys.argv[1:]]).returncode
+    status = subprocess.run(["rt", "ci", *words]).returncode
     took = time.monotonic() - began
     watch.ended.set()
     watch.join()

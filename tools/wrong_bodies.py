@@ -1,0 +1,235 @@
+"""Tries the wrong bodies of the crates on a copy of the repository: the prover must refuse each.
+
+usage: tools/wrong-bodies.sh [--anew] [--times] [CRATE ..]
+
+A wrong body is an edit of a crate's sources, a file `crates/NAME/must-fail/X.edit` (which `rt ci` tries too) or
+`crates/NAME/wrong/X.edit` (which only this tries). Without CRATEs all are tried.
+
+The crates are proved first (tools/build.py). Each edit is then checked over what that left, so it costs what the edit
+opens and not a proof of its crate. What isn't refused is checked once more from nothing. At the end of a crate it is
+checked as it stands, over all that its edits left: where it isn't proved, the edits are tried again from nothing.
+
+It prints each wrong body that isn't refused, or that can't be applied or read; with --times what each took besides.
+What was refused is noted in .git/wrong-bodies by a sum of the kit, the edit and all sources that its crate reads, and
+isn't tried again while these stay the same; with --anew it is. The last line is `N refused, M not`, and the status is
+1 where M isn't 0.
+"""
+import hashlib
+import os
+import re
+import shutil
+import subprocess
+import sys
+import threading
+import time
+
+import build
+
+ROOT, NOTES = build.ROOT, f"{build.ROOT}/.git/wrong-bodies"
+LANES = f"{ROOT}/.git/wrong-lanes-{os.getpid()}"
+PARTS = ("src", "specs", "proofs")
+# What the checker says of a text that it can't read, where a wrong body is to be read and refused.
+UNREAD = re.compile(r"is not in scope|has no field|is no name|operand is missing|expected the end|cannot continue")
+
+
+def edits_of(crate):
+    found = []
+    for part in ("must-fail", "wrong"):
+        folder = f"{ROOT}/crates/{crate}/{part}"
+        if os.path.isdir(folder):
+            found += [f"{folder}/{it}" for it in sorted(os.listdir(folder)) if it.endswith(".edit")]
+    return found
+
+
+def text_of(path):
+    with open(path, encoding="utf-8") as it:
+        return it.read()
+
+
+def files_of(crate):
+    for part in PARTS:
+        for at, folders, names in os.walk(f"{ROOT}/crates/{crate}/{part}"):
+            folders.sort()
+            for it in sorted(names):
+                yield f"{at}/{it}"
+
+
+def sum_of(crate, direct):
+    """A sum of the kit and of all sources that a check of the crate reads."""
+    kit = subprocess.run(["rt", "version"], capture_output=True, check=True).stdout
+    whole = hashlib.sha256(kit)
+    for it in sorted([crate, *build.below(crate, direct)]):
+        for path in files_of(it):
+            with open(path, "rb") as text:
+                whole.update(repr((os.path.relpath(path, ROOT), text.read())).encode())
+    return whole.hexdigest()
+
+
+def changed_by(edit, crate):
+    """The texts of the files that the edit changes, by their paths in the crate, or why it can't be applied."""
+    path, old, texts = "", None, {}
+    for line in text_of(edit).split("\n"):
+        word, _, rest = line.partition(": ") if not line.startswith("new:") else ("new", "", line[4:].removeprefix(" "))
+        if word == "file":
+            path = rest.strip()
+            if not path.startswith(tuple(f"{it}/" for it in PARTS)) or not os.path.isfile(f"{ROOT}/crates/{crate}/{path}"):
+                return None, f"there is no file {path}"
+            texts.setdefault(path, text_of(f"{ROOT}/crates/{crate}/{path}"))
+        elif word == "old":
+            old = rest
+        elif word == "new":
+            if not old or texts.get(path, "").count(old) != 1:
+                return None, f"the text to change doesn't stand once in {path or 'any file'}"
+            texts[path], old = texts[path].replace(old, rest), None
+    return (texts, None) if texts else (None, "it changes nothing")
+
+
+class Lane:
+    """A copy of what one crate reads, in which its edits are checked one after another."""
+
+    def __init__(self, number, direct):
+        self.folder, self.direct, self.crate = f"{LANES}/{number}", direct, None
+        os.makedirs(f"{self.folder}/crates")
+
+    def take(self, crate):
+        shutil.rmtree(f"{self.folder}/crates/{self.crate}", ignore_errors=True)
+        shutil.rmtree(f"{self.folder}/crates/{crate}", ignore_errors=True)
+        self.crate, self.here = crate, f"{self.folder}/crates/{crate}"
+        build.lay(self.folder, crate, self.direct)
+        self.keep()
+
+    def keep(self):
+        """Lays what the proved crate left anew."""
+        shutil.rmtree(f"{self.here}/out", ignore_errors=True)
+        subprocess.run(["cp", "-a", "--reflink=auto", f"{ROOT}/crates/{self.crate}/out", f"{self.here}/out"], check=True)
+
+    def check(self, texts, anew=False):
+        """The status, what was said, and the processor seconds, of a check with these texts in place of the crate's."""
+        if anew:
+            shutil.rmtree(f"{self.here}/out/incremental", ignore_errors=True)
+        for path, text in texts.items():
+            with open(f"{self.here}/{path}", "w", encoding="utf-8") as it:
+                it.write(text)
+        with open(f"{self.folder}/said", "w+", encoding="utf-8", errors="replace") as said:
+            ran = subprocess.Popen(["rt", "check", "--jobs", "1"], cwd=self.here, stdin=subprocess.DEVNULL, stdout=said, stderr=said)
+            _, status, used = os.wait4(ran.pid, 0)
+            ran.returncode = os.waitstatus_to_exitcode(status)
+            said.seek(0)
+            text = said.read()
+        for path in texts:
+            shutil.copyfile(f"{ROOT}/crates/{self.crate}/{path}", f"{self.here}/{path}")
+        return ran.returncode, text, used.ru_utime + used.ru_stime
+
+    def verdict(self, edit, anew=False):
+        """Whether the prover refuses the edit, why not, and the processor seconds."""
+        texts, why = changed_by(edit, self.crate)
+        if why:
+            return False, f"BAD EDIT: {why}", 0
+        status, said, used = self.check(texts, anew)
+        lines = said.split("\n")
+        errors = [it for it in lines if re.match(r"(\./)?(src|specs)/\S+:\d+:\d+: error", it)]
+        unread = next((it for it in errors if UNREAD.search(re.sub(r"`[^`]*`", "", it))), None)
+        if unread:
+            return False, f"BAD EDIT: the prover can't read it: {unread[:160]}", used
+        if status == 1 and any(it.startswith("logic=not-proved") for it in lines):
+            return True, "", used
+        if status == 0:
+            return False, "NOT REFUSED: the crate is still proved", used
+        return False, f"BAD EDIT: it didn't reach the prover: {' / '.join(errors[:1] or lines[:3])[:300]}", used
+
+
+class Run:
+    """What is to be tried, and what was found, by all lanes."""
+
+    def __init__(self, left, sums, known, times):
+        self.left, self.sums, self.known, self.times = left, sums, known, times
+        self.refused, self.bad, self.lock = 0, [], threading.Lock()
+
+    def next_crate(self):
+        with self.lock:
+            crates = [it for it in self.left if self.left[it]]
+            return max(crates, key=lambda it: len(self.left[it]), default=None)
+
+    def next_edit(self, crate):
+        with self.lock:
+            return self.left[crate].pop(0) if self.left[crate] else None
+
+    def tell(self, crate, edit, used, why):
+        name = f"{crate}/{os.path.basename(edit)[:-5]}"
+        with self.lock:
+            if why:
+                self.bad.append(name)
+                print(f"{name}: {why}", flush=True)
+                return
+            self.refused += 1
+            if self.times:
+                print(f"{name}: refused after {used:.0f} processor seconds", flush=True)
+            with open(NOTES, "a", encoding="utf-8") as it:
+                it.write(f"{self.key(crate, edit)} {name}\n")
+
+    def key(self, crate, edit):
+        return hashlib.sha256((self.sums[crate] + text_of(edit)).encode()).hexdigest()
+
+    def work(self, lane):
+        while (crate := self.next_crate()) is not None:
+            lane.take(crate)
+            tried = []
+            while (edit := self.next_edit(crate)) is not None:
+                well, why, used = lane.verdict(edit)
+                if not well and why.startswith("NOT"):
+                    well, why, more = lane.verdict(edit, anew=True)
+                    used += more
+                    lane.keep()
+                tried.append((edit, used, why))
+            if tried and lane.check({})[0]:
+                tried = [(edit, used, lane.verdict(edit, anew=True)[1]) for edit, used, _ in tried]
+            for it in tried:
+                self.tell(crate, *it)
+
+
+def known_keys():
+    if not os.path.isfile(NOTES):
+        return set()
+    return {line.split()[0] for line in text_of(NOTES).split("\n") if line}
+
+
+def main():
+    words = sys.argv[1:]
+    anew, times = "--anew" in words, "--times" in words
+    named = [it for it in words if not it.startswith("--")]
+    direct, began = build.dependencies(), time.monotonic()
+    unknown = [it for it in named if it not in direct]
+    if unknown or any(it not in ("--anew", "--times") for it in words if it.startswith("--")):
+        print(__doc__.split("\n\n")[1] if not unknown else f"crates.txt lists no {unknown[0]}", file=sys.stderr)
+        return 2
+    crates = [it for it in named or direct if edits_of(it)]
+    run = Run({it: edits_of(it) for it in crates}, {it: sum_of(it, direct) for it in crates}, set() if anew else known_keys(), times)
+    count = sum(map(len, run.left.values()))
+    for crate, edits in run.left.items():
+        run.left[crate] = [it for it in edits if run.key(crate, it) not in run.known]
+    before = count - sum(map(len, run.left.values()))
+    wanted = {}
+    for crate in [it for it in crates if run.left[it]]:
+        build.below(crate, direct, wanted)
+        wanted[crate] = None
+    try:
+        if build.prove_all(wanted, direct):
+            return 1
+        lanes = [Lane(number, direct) for number in range(build.lanes_at_once())]
+        threads = [threading.Thread(target=run.work, args=(it,)) for it in lanes]
+        for it in threads:
+            it.start()
+        for it in threads:
+            it.join()
+    finally:
+        shutil.rmtree(LANES, ignore_errors=True)
+        shutil.rmtree(build.LANES, ignore_errors=True)
+    if before:
+        print(f"{before} of {count} were refused in an earlier run over the same sources")
+    print(f"{len(crates)} crates, {(time.monotonic() - began) / 60:.1f} minutes on {os.cpu_count()} processors")
+    print(f"{run.refused + before} refused, {len(run.bad)} not")
+    return 1 if run.bad else 0
+
+
+if __name__ == "__main__":
+    sys.exit(main())
