@@ -10,6 +10,8 @@ mod command;
 #[cfg(test)]
 mod gateway;
 #[cfg(test)]
+mod merging;
+#[cfg(test)]
 mod pair;
 #[cfg(test)]
 mod relay;
