@@ -12,6 +12,8 @@ mod gateway;
 #[cfg(test)]
 mod pair;
 #[cfg(test)]
+mod parts;
+#[cfg(test)]
 mod relay;
 #[cfg(test)]
 mod runs;
