@@ -22,6 +22,8 @@ pub struct Given {
 #[derive(Drop)]
 pub struct Wanted {
     pub output: Bytes,
+    /// Of the output, only lines with one of these texts are compared, where there is one.
+    pub compared_texts: Vec<String>,
     pub error: Bytes,
     pub status: u8,
 }
@@ -65,6 +67,7 @@ impl Case {
             },
             wanted: Wanted {
                 output: Bytes::new(alloc),
+                compared_texts: Vec::new(alloc),
                 error: Bytes::new(alloc),
                 status: 0,
             },
@@ -85,6 +88,7 @@ impl Case {
             "!\\" => append_escaped(&mut self.wanted.error, rest),
             "?" => self.wanted.take_status(rest),
             "*" => self.given.take_failing_call(rest),
+            "~" => self.wanted.take_compared_text(alloc, rest),
             _ => Err(LineFault::Malformed),
         }
     }
@@ -124,6 +128,13 @@ impl Given {
 }
 
 impl Wanted {
+    fn take_compared_text(&mut self, alloc: Global, text: &str) -> Result<(), LineFault> {
+        let text = String::from_str(alloc, text)?;
+        self.compared_texts
+            .push(text)
+            .map_err(|_| LineFault::Memory)
+    }
+
     fn take_status(&mut self, status: &str) -> Result<(), LineFault> {
         self.status = status.parse::<u8>().map_err(|_| LineFault::Malformed)?;
         Ok(())
