@@ -3,26 +3,36 @@
 mod arguments;
 mod escapes;
 
+use crate::failing::{FailingCall, read_failing_call};
+use crate::script::is_script;
 use amt_values::Bytes;
 use arguments::read_arguments;
-use escapes::append_escaped;
+pub use escapes::append_escaped;
 use std::alloc::{AllocError, Global};
 
-/// What a run of the command is given. Of each stream, the calls that fail are counted from 1.
+/// What a run of the command is given.
 #[derive(Drop)]
 pub struct Given {
     pub arguments: Vec<String>,
     pub input: Bytes,
-    pub failing_reads: Vec<u64>,
-    pub failing_writes: Vec<u64>,
-    pub failing_error_writes: Vec<u64>,
+    /// The settings file, where there is one.
+    pub has_settings: bool,
+    pub settings: Bytes,
+    /// What the devices do. Without a line there are none.
+    pub script: String,
+    pub failing: Vec<FailingCall>,
 }
 
 /// What the run is to come to.
 #[derive(Drop)]
 pub struct Wanted {
     pub output: Bytes,
+    /// Of the output, only lines with one of these texts are compared, where there is one.
+    pub compared_texts: Vec<String>,
     pub error: Bytes,
+    pub openings: Bytes,
+    /// As they stand in the case, those of all devices among one another.
+    pub sends: Bytes,
     pub status: u8,
 }
 
@@ -59,13 +69,17 @@ impl Case {
             given: Given {
                 arguments: Vec::new(alloc),
                 input: Bytes::new(alloc),
-                failing_reads: Vec::new(alloc),
-                failing_writes: Vec::new(alloc),
-                failing_error_writes: Vec::new(alloc),
+                has_settings: false,
+                settings: Bytes::new(alloc),
+                script: String::new(alloc),
+                failing: Vec::new(alloc),
             },
             wanted: Wanted {
                 output: Bytes::new(alloc),
+                compared_texts: Vec::new(alloc),
                 error: Bytes::new(alloc),
+                openings: Bytes::new(alloc),
+                sends: Bytes::new(alloc),
                 status: 0,
             },
         }
@@ -85,6 +99,13 @@ impl Case {
             "!\\" => append_escaped(&mut self.wanted.error, rest),
             "?" => self.wanted.take_status(rest),
             "*" => self.given.take_failing_call(rest),
+            "~" => self.wanted.take_compared_text(alloc, rest),
+            "@" => append_line(self.given.settings(), rest),
+            "@\\" => append_escaped(self.given.settings(), rest),
+            "%" => self.given.take_script(rest),
+            "%\\" => self.given.take_escaped_script(alloc, rest),
+            "&" => append_line(&mut self.wanted.openings, rest),
+            _ if is_of_out(mark) => append_line(&mut self.wanted.sends, line),
             _ => Err(LineFault::Malformed),
         }
     }
@@ -112,26 +133,55 @@ impl Given {
     }
 
     fn take_failing_call(&mut self, line: &str) -> Result<(), LineFault> {
-        let (stream, number) = line.split_once(' ').unwrap_or((line, ""));
-        let number = number.parse::<u64>().map_err(|_| LineFault::Malformed)?;
-        match stream {
-            "input" => push_number(&mut self.failing_reads, number),
-            "output" => push_number(&mut self.failing_writes, number),
-            "error" => push_number(&mut self.failing_error_writes, number),
-            _ => Err(LineFault::Malformed),
+        let Some(call) = read_failing_call(line) else {
+            return Err(LineFault::Malformed);
+        };
+        self.failing.push(call).map_err(|_| LineFault::Memory)
+    }
+
+    fn settings(&mut self) -> &mut Bytes {
+        self.has_settings = true;
+        &mut self.settings
+    }
+
+    fn take_script(&mut self, lines: &str) -> Result<(), LineFault> {
+        if !is_script(lines) {
+            return Err(LineFault::Malformed);
         }
+        self.script.push_str(lines)?;
+        self.script.push_str("\n")?;
+        Ok(())
+    }
+
+    fn take_escaped_script(&mut self, alloc: Global, escaped: &str) -> Result<(), LineFault> {
+        let mut lines = Bytes::new(alloc);
+        append_escaped(&mut lines, escaped)?;
+        let lines = String::from_utf8_lossy(alloc, lines.as_slice())?;
+        self.take_script(lines.as_str())
     }
 }
 
 impl Wanted {
+    fn take_compared_text(&mut self, alloc: Global, text: &str) -> Result<(), LineFault> {
+        let text = String::from_str(alloc, text)?;
+        self.compared_texts
+            .push(text)
+            .map_err(|_| LineFault::Memory)
+    }
+
     fn take_status(&mut self, status: &str) -> Result<(), LineFault> {
         self.status = status.parse::<u8>().map_err(|_| LineFault::Malformed)?;
         Ok(())
     }
 }
 
-fn push_number(numbers: &mut Vec<u64>, number: u64) -> Result<(), LineFault> {
-    numbers.push(number).map_err(|_| LineFault::Memory)
+// `=` for the link, and `=N` for the Nth link out.
+fn is_of_out(mark: &str) -> bool {
+    match mark.strip_prefix('=') {
+        Some("") => true,
+        Some(number) => matches!(number.parse::<u8>(), Ok(1..=64)),
+        None => false,
+    }
 }
 
 fn append_line(text: &mut Bytes, line: &str) -> Result<(), LineFault> {

@@ -8,9 +8,12 @@
 
 mod cases;
 mod devices;
+mod failing;
 mod files;
 mod place;
 mod runs;
+mod script;
+mod seen;
 mod tally;
 
 use cases::{Case, CaseFault, read_case};
@@ -20,10 +23,11 @@ use std::io;
 use std::process::ExitCode;
 use std::rt::Files;
 use std::sync::Wait;
+use std::thread::Threads;
 use tally::Tally;
 
 // The case's run differs from what it wants, and was printed, or no case stands there.
-fn differs<R: Print + Wait + AllocGlobal>(
+fn differs<R: Print + Threads + Wait + AllocGlobal + 'static>(
     rt: &R,
     place: Place<'_>,
     case: Result<Case, CaseFault<'_>>,
@@ -43,7 +47,7 @@ fn differs<R: Print + Wait + AllocGlobal>(
 }
 
 // A case is its name, to the end of the line, and its lines.
-fn run_case<R: Print + Wait + AllocGlobal>(
+fn run_case<R: Print + Threads + Wait + AllocGlobal + 'static>(
     rt: &R,
     file: &str,
     head: &str,
@@ -57,7 +61,7 @@ fn run_case<R: Print + Wait + AllocGlobal>(
     Ok(())
 }
 
-fn run_text<R: Print + Wait + AllocGlobal>(
+fn run_text<R: Print + Threads + Wait + AllocGlobal + 'static>(
     rt: &R,
     file: &str,
     text: &str,
@@ -73,7 +77,7 @@ fn run_text<R: Print + Wait + AllocGlobal>(
     Ok(())
 }
 
-fn run_file<R: Files + Print + Wait + AllocGlobal>(
+fn run_file<R: Files + Print + Threads + Wait + AllocGlobal + 'static>(
     rt: &R,
     file: &str,
     tally: &mut Tally,

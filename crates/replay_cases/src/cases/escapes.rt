@@ -47,6 +47,21 @@ fn read_range(range: &str) -> Option<(u64, u64)> {
     Some((from.parse::<u64>().ok()?, to.parse::<u64>().ok()?))
 }
 
+fn append_each(text: &mut Bytes, repeated: &str, from: u64, to: u64) -> Result<(), LineFault> {
+    for number in from..=to {
+        append_unescaped(text, repeated, Some(number))?;
+    }
+    Ok(())
+}
+
+// A text without escapes may stand there millions of times.
+fn append_copies(text: &mut Bytes, repeated: &str, from: u64, to: u64) -> Result<(), LineFault> {
+    for _ in from..=to {
+        text.append(repeated.as_bytes())?;
+    }
+    Ok(())
+}
+
 // `RANGE TEXT}` and what stands after it.
 fn append_repetition(text: &mut Bytes, part: &str) -> Result<(), LineFault> {
     let Some((repetition, rest)) = part.split_once('}') else {
@@ -58,8 +73,10 @@ fn append_repetition(text: &mut Bytes, part: &str) -> Result<(), LineFault> {
     let Some((from, to)) = read_range(range) else {
         return Err(LineFault::Malformed);
     };
-    for number in from..=to {
-        append_unescaped(text, repeated, Some(number))?;
+    if repeated.contains('\\') {
+        append_each(text, repeated, from, to)?;
+    } else {
+        append_copies(text, repeated, from, to)?;
     }
     append_unescaped(text, rest, None)
 }
