@@ -430,7 +430,7 @@ def shifted(bench, seconds):
 def the_clock_goes_back(bench):
     # Forward by an hour, so that the membership has expired: else this program doesn't reach the clock.
     if shifted(bench, 3600) != 0:
-        raise Skipped("`amt` takes no time from a C library; of serving_tests `time_ends_a_membership` has such a clock")
+        raise Skipped("`amt` takes no time from a C library; `relay_turns.cases` of replay_cases has such a clock")
     came = shifted(bench, -3600)
     expect(came == 3, f"{came} of 3 packets were copied")
     return "the run goes on, and the membership counts; after an hour forward it has expired"

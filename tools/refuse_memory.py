@@ -42,7 +42,7 @@ HERE = pathlib.Path(__file__).resolve().parent
 REPOSITORY = HERE.parent
 NAME = "refuse_memory"
 # The crate that has the same devices and makes the same calls: what it stands on is what the program needs.
-LIKE = "running_tests"
+LIKE = "replay_cases"
 REFUSED = 1_000
 # The tests take some tenths of a second each, and more on a busy machine.
 LONGEST_S = 3600

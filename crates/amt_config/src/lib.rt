@@ -22,6 +22,3 @@ pub use config::{GatewayConfig, Join, Joins, RelayConfig};
 pub use fault::{ConfigFault, KeyFault};
 pub use gateway::gateway_settings;
 pub use relay::relay_settings;
-
-#[cfg(test)]
-mod tests;

@@ -18,6 +18,3 @@ mod report_text;
 
 pub use dump::dump_lines;
 pub use script_lines::{Reason, ScriptError};
-
-#[cfg(test)]
-mod tests;

@@ -19,6 +19,3 @@ mod suite;
 pub use report::{Bad, SuiteReport};
 pub use script_lines::{Reason, ScriptError};
 pub use suite::run_suite;
-
-#[cfg(test)]
-mod tests;

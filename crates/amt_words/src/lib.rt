@@ -15,8 +15,6 @@ mod parsing;
 mod relay;
 mod replay;
 mod serving;
-#[cfg(test)]
-mod tests;
 mod words;
 
 pub use command::{Command, Replayable, WordsFault};

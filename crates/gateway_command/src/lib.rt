@@ -11,6 +11,3 @@ mod running;
 
 pub use report::report_text;
 pub use running::run_gateway;
-
-#[cfg(test)]
-mod tests;

@@ -14,6 +14,8 @@ mod merging;
 #[cfg(test)]
 mod pair;
 #[cfg(test)]
+mod parts;
+#[cfg(test)]
 mod relay;
 #[cfg(test)]
 mod runs;

@@ -12,6 +12,3 @@ mod running;
 
 pub use report::report_text;
 pub use running::run_relay;
-
-#[cfg(test)]
-mod tests;

@@ -14,8 +14,6 @@ mod reports;
 mod run;
 mod script;
 mod summary;
-#[cfg(test)]
-mod tests;
 mod updates;
 
 pub use run::{load, run_load};

@@ -16,6 +16,3 @@ pub use mac_key::MacKey;
 pub use response::mac;
 pub use secret::Secret;
 pub use secrets::Secrets;
-
-#[cfg(test)]
-mod tests;

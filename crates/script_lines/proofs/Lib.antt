@@ -10,7 +10,6 @@ mod OctetDigits
 pub mod Peers
 mod Plain
 pub mod Runs
-pub mod Sayings
 pub mod Splitting
 pub mod Taking
 pub mod Verdicts

@@ -7,5 +7,4 @@ pub mod Running
 pub mod Script
 pub mod Shape
 pub mod Texts
-pub mod Trial
 pub mod Writing

@@ -32,6 +32,3 @@ pub use values::{
     OctetsError, is_name, mode_word, read_address, read_address4, read_address6, read_family,
     read_group, read_mode, read_moment, read_nonce, read_number, read_octets, read_secret,
 };
-
-#[cfg(test)]
-mod tests;

@@ -17,6 +17,3 @@ pub use kinds::FromSettings;
 pub use reading::read_settings;
 pub use report::report_head;
 pub use settings::settings_line;
-
-#[cfg(test)]
-mod tests;

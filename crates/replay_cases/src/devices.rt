@@ -1,0 +1,184 @@
+//! The devices in memory that a case scripts. They must not know the command that they are opened for.
+
+mod arrivals;
+mod starters;
+
+use crate::failing::{Call, FailingCall, numbers_of};
+use crate::script::{Event, read_event};
+use amt_live::{DeviceSet, GatewayDevices, MemLive, RelayDevices};
+use amt_ports::{ListedSpawner, MemClock, MemFeed, MemLink, MemOut, MemWords, OutLink};
+use amt_values::{Ip, Moment, Peer};
+use arrivals::{feed_answers, link_answers};
+use replication_workers::Outs;
+use starters::Starter;
+use std::alloc::{AllocError, Global};
+use std::sync::Wait;
+use std::thread::Threads;
+
+/// Starts a relay's workers in threads.
+pub type Spawner<'a, R> = ListedSpawner<&'a R, Starter<'a, R>>;
+
+/// Where the case's set of devices is opened.
+pub type Sets<'a, R> = MemLive<MemLink, MemFeed, MemClock, MemWords, MemOut, Spawner<'a, R>>;
+
+pub type Set<'a, R> = DeviceSet<MemLink, MemFeed, MemClock, MemWords, MemOut, Spawner<'a, R>>;
+
+type OfRelay<'a, R> = RelayDevices<MemLink, MemFeed, MemClock, MemWords, MemOut, Spawner<'a, R>>;
+
+type OfGateway = GatewayDevices<MemLink, MemFeed, MemOut, MemClock, MemWords>;
+
+/// What the devices of a case do.
+#[derive(Clone, Copy)]
+pub struct Script<'a> {
+    pub lines: &'a str,
+    pub failing: &'a [FailingCall],
+}
+
+impl<'a> Script<'a> {
+    fn failing(&self, alloc: Global, call: Call) -> Result<Vec<u64>, AllocError> {
+        numbers_of(alloc, self.failing, call)
+    }
+
+    fn moments(&self, alloc: Global) -> Result<Vec<Moment>, AllocError> {
+        let mut moments = Vec::new(alloc);
+        for event in self.lines.lines().filter_map(read_event) {
+            if let Event::Turn(moment) | Event::Moment(moment) = event {
+                moments.push(moment)?;
+            }
+        }
+        Ok(moments)
+    }
+
+    fn words(&self, alloc: Global) -> Result<Vec<u64>, AllocError> {
+        let mut words = Vec::new(alloc);
+        for event in self.lines.lines().filter_map(read_event) {
+            if let Event::Word(word) = event {
+                words.push(word)?;
+            }
+        }
+        Ok(words)
+    }
+
+    // One, unless it says how many.
+    fn outs(&self) -> u8 {
+        let mut outs = 1;
+        for event in self.lines.lines().filter_map(read_event) {
+            if let Event::Outs(count) = event {
+                outs = count;
+            }
+        }
+        outs
+    }
+}
+
+fn link_of(alloc: Global, script: Script<'_>) -> Result<MemLink, AllocError> {
+    let answers = link_answers(alloc, script.lines)?;
+    let receivings = script.failing(alloc, Call::Receive)?;
+    let sends = script.failing(alloc, Call::Send)?;
+    Ok(MemLink::failing(alloc, answers, receivings, sends))
+}
+
+fn feed_of(alloc: Global, script: Script<'_>) -> Result<MemFeed, AllocError> {
+    let answers = feed_answers(alloc, script.lines)?;
+    Ok(MemFeed::failing(answers, script.failing(alloc, Call::Feed)?))
+}
+
+fn words_of(alloc: Global, script: Script<'_>) -> Result<MemWords, AllocError> {
+    let words = script.words(alloc)?;
+    Ok(MemWords::failing(words, script.failing(alloc, Call::Word)?))
+}
+
+/// The number of a link out: that of the port to which it sent before the run.
+pub fn number_of(out: &MemOut) -> u16 {
+    match out.tried().first() {
+        Some(mark) => mark.to.port,
+        None => 0,
+    }
+}
+
+// The send by which it is known again is no call of the case.
+fn out_of(alloc: Global, script: Script<'_>, number: u8) -> Result<MemOut, AllocError> {
+    let mut failing = script.failing(alloc, Call::Out)?;
+    for call in &mut failing {
+        *call = call.saturating_add(1);
+    }
+    let mut out = MemOut::failing(alloc, failing);
+    let mark = Peer {
+        ip: Ip::V4(0),
+        port: u16::from(number),
+    };
+    match out.send(&mark, &[]) {
+        Ok(()) => Ok(out),
+        Err(_) => Err(AllocError),
+    }
+}
+
+fn outs_of(alloc: Global, script: Script<'_>) -> Result<Outs<MemOut>, AllocError> {
+    let mut outs = Vec::new(alloc);
+    for number in 1..=script.outs() {
+        outs.push(out_of(alloc, script, number)?)?;
+    }
+    Ok(Outs::from(outs))
+}
+
+fn spawner_of<'a, R: Threads>(
+    rt: &'a R,
+    alloc: Global,
+    script: Script<'_>,
+) -> Result<Spawner<'a, R>, AllocError> {
+    let refused = script.failing(alloc, Call::Start)?;
+    Ok(ListedSpawner::new(rt, Starter { rt }, refused))
+}
+
+fn relay_of<'a, R: Threads + Wait + 'static>(
+    rt: &'a R,
+    alloc: Global,
+    script: Script<'_>,
+) -> Result<OfRelay<'a, R>, AllocError> {
+    Ok(RelayDevices {
+        link: link_of(alloc, script)?,
+        feed: feed_of(alloc, script)?,
+        clock: MemClock::new(script.moments(alloc)?),
+        words: words_of(alloc, script)?,
+        outs: outs_of(alloc, script)?,
+        spawner: spawner_of(rt, alloc, script)?,
+    })
+}
+
+fn gateway_of(alloc: Global, script: Script<'_>) -> Result<OfGateway, AllocError> {
+    Ok(GatewayDevices {
+        link: link_of(alloc, script)?,
+        control: feed_of(alloc, script)?,
+        out: out_of(alloc, script, 1)?,
+        clock: MemClock::new(script.moments(alloc)?),
+        words: words_of(alloc, script)?,
+    })
+}
+
+fn set_of<'a, R: Threads + Wait + 'static>(
+    rt: &'a R,
+    alloc: Global,
+    command: &str,
+    script: Script<'_>,
+) -> Result<Set<'a, R>, AllocError> {
+    if command == "gateway" {
+        Ok(DeviceSet::Gateway(gateway_of(alloc, script)?))
+    } else {
+        Ok(DeviceSet::Relay(relay_of(rt, alloc, script)?))
+    }
+}
+
+/// A place where one set is opened: a gateway's for that command, and else a relay's. Without a script there
+/// is none.
+pub fn sets_for<'a, R: Threads + Wait + 'static>(
+    rt: &'a R,
+    alloc: Global,
+    command: &str,
+    script: Script<'_>,
+) -> Result<Sets<'a, R>, AllocError> {
+    let mut sets = Vec::new(alloc);
+    if !script.lines.is_empty() {
+        sets.push(set_of(rt, alloc, command, script)?)?;
+    }
+    Ok(MemLive::failing(alloc, sets, script.failing(alloc, Call::Open)?))
+}

@@ -1,0 +1,220 @@
+//! A case's run, in memory. It must not know the lines of a case.
+
+mod compared;
+mod differences;
+mod sends;
+
+use crate::cases::{Case, Given, Wanted};
+use crate::devices::{Script, Sets, sets_for};
+use crate::failing::{Call, FailingCall, numbers_of};
+use crate::place::Place;
+use crate::seen::{openings_text, sends_text};
+use amt_command::amt;
+use amt_ports::{MemFile, MemFiles, MemSink, MemSource};
+use amt_values::Bytes;
+use compared::compared;
+use differences::{has_other_status, has_other_text};
+use sends::in_order_of_devices;
+use std::alloc::{AllocError, Global};
+use std::io;
+use std::sync::Wait;
+use std::thread::Threads;
+
+#[derive(Drop)]
+struct Ended {
+    output: MemSink,
+    error: MemSink,
+    openings: String,
+    sends: String,
+    status: u8,
+}
+
+// The streams of a run, as they are given and as it leaves them.
+#[derive(Drop)]
+struct Streams {
+    input: MemSource,
+    output: MemSink,
+    error: MemSink,
+}
+
+fn streams_of(alloc: Global, input: Bytes, failing: &[FailingCall]) -> Result<Streams, AllocError> {
+    let reads = numbers_of(alloc, failing, Call::Read)?;
+    let writes = numbers_of(alloc, failing, Call::Write)?;
+    let error_writes = numbers_of(alloc, failing, Call::ErrorWrite)?;
+    Ok(Streams {
+        input: MemSource::failing(input, reads),
+        output: MemSink::failing(alloc, writes),
+        error: MemSink::failing(alloc, error_writes),
+    })
+}
+
+// The settings file has the name that the command gives it, which ends so.
+fn push_settings(
+    files: &mut Vec<MemFile>,
+    arguments: &[String],
+    settings: Bytes,
+) -> Result<(), AllocError> {
+    match arguments.iter().find(|one| one.ends_with(".toml")) {
+        Some(name) => {
+            let name = name.clone()?;
+            files.push(MemFile {
+                name,
+                bytes: settings,
+            })?;
+            Ok(())
+        }
+        None => Ok(()),
+    }
+}
+
+fn files_of(
+    alloc: Global,
+    arguments: &[String],
+    has_settings: bool,
+    settings: Bytes,
+    failing: &[FailingCall],
+) -> Result<MemFiles, AllocError> {
+    let mut files = Vec::new(alloc);
+    if has_settings {
+        push_settings(&mut files, arguments, settings)?;
+    }
+    Ok(MemFiles::failing(files, numbers_of(alloc, failing, Call::File)?))
+}
+
+// A case has the command's name first.
+fn after_first(arguments: &[String]) -> &[String] {
+    match arguments.split_first() {
+        Some((_, arguments)) => arguments,
+        None => arguments,
+    }
+}
+
+fn status_of<R: Threads + Wait + 'static>(
+    rt: &R,
+    alloc: Global,
+    arguments: &[String],
+    streams: &mut Streams,
+    files: &mut MemFiles,
+    live: &mut Sets<'_, R>,
+) -> u8 {
+    let Streams {
+        input,
+        output,
+        error,
+    } = streams;
+    amt(rt, alloc, arguments, input, files, output, error, live)
+}
+
+// What a run leaves.
+fn leavings<R: Threads>(
+    alloc: Global,
+    streams: Streams,
+    live: &Sets<'_, R>,
+    status: u8,
+) -> Result<Ended, AllocError> {
+    let openings = openings_text(alloc, live)?;
+    let sends = sends_text(alloc, live)?;
+    Ok(Ended {
+        output: streams.output,
+        error: streams.error,
+        openings,
+        sends,
+        status,
+    })
+}
+
+fn run<R: Threads + Wait + 'static>(
+    rt: &R,
+    alloc: Global,
+    given: Given,
+) -> Result<Ended, AllocError> {
+    let Given {
+        arguments,
+        input,
+        has_settings,
+        settings,
+        script,
+        failing,
+    } = given;
+    let arguments = after_first(&arguments);
+    let mut streams = streams_of(alloc, input, &failing)?;
+    let mut files = files_of(alloc, arguments, has_settings, settings, &failing)?;
+    let command = arguments.first().map_or("", |command| command.as_str());
+    let script = Script {
+        lines: script.as_str(),
+        failing: &failing,
+    };
+    let mut live = sets_for(rt, alloc, command, script)?;
+    let status = status_of(rt, alloc, arguments, &mut streams, &mut files, &mut live);
+    leavings(alloc, streams, &live, status)
+}
+
+// What is wanted, and what came.
+#[derive(Clone, Copy)]
+struct Text<'a> {
+    name: &'a str,
+    wanted: &'a [u8],
+    got: &'a [u8],
+}
+
+fn differs_in_text<R: Print + AllocGlobal>(
+    rt: &R,
+    place: Place<'_>,
+    texts: &[Text<'_>],
+) -> io::Result<bool> {
+    let mut differs = false;
+    for text in texts {
+        if has_other_text(rt, place, text.name, text.wanted, text.got)? {
+            differs = true;
+        }
+    }
+    Ok(differs)
+}
+
+fn texts_differ<R: Print + AllocGlobal>(
+    rt: &R,
+    place: Place<'_>,
+    wanted: &Wanted,
+    ended: &Ended,
+) -> io::Result<bool> {
+    let output = ended.output.as_slice();
+    let output = compared(rt.alloc(), output, &wanted.compared_texts)?;
+    let sends = in_order_of_devices(rt.alloc(), wanted.sends.as_slice())?;
+    let texts = [
+        Text {
+            name: "output",
+            wanted: wanted.output.as_slice(),
+            got: output.as_slice(),
+        },
+        Text {
+            name: "error",
+            wanted: wanted.error.as_slice(),
+            got: ended.error.as_slice(),
+        },
+        Text {
+            name: "openings",
+            wanted: wanted.openings.as_slice(),
+            got: ended.openings.as_bytes(),
+        },
+        Text {
+            name: "sends",
+            wanted: sends.as_slice(),
+            got: ended.sends.as_bytes(),
+        },
+    ];
+    differs_in_text(rt, place, &texts)
+}
+
+/// Runs a case, and prints each way in which the run differs from what is wanted. It answers whether one
+/// does.
+pub fn differs<R: Print + Threads + Wait + AllocGlobal + 'static>(
+    rt: &R,
+    place: Place<'_>,
+    case: Case,
+) -> io::Result<bool> {
+    let Case { given, wanted } = case;
+    let ended = run(rt, rt.alloc(), given)?;
+    let texts = texts_differ(rt, place, &wanted, &ended)?;
+    let status = has_other_status(rt, place, wanted.status, ended.status)?;
+    Ok(texts || status)
+}

@@ -1,0 +1,90 @@
+//! The lines that script the devices of a case. They must not know any device.
+
+use amt_values::{Moment, Peer, parse_peer};
+
+/// What a line of a script says.
+#[derive(Clone, Copy)]
+pub enum Event<'a> {
+    /// The clock's next moment, in which a turn begins or not.
+    Turn(Moment),
+    Moment(Moment),
+    /// The next random word.
+    Word(u64),
+    /// The link gets a datagram, in hexadecimal digits.
+    Datagram(Peer, &'a str),
+    /// The link gets 64 datagrams of so many octets: the first octets are this one and the next 63, and all
+    /// others are 0.
+    Sweep(Peer, u8, u16),
+    /// The feed gets a packet, in hexadecimal digits.
+    Packet(&'a str),
+    /// The control feed gets a line, with escapes.
+    Line(&'a str),
+    LinkCloses,
+    FeedCloses,
+    /// A relay's set has so many links out.
+    Outs(u8),
+}
+
+// The most digits of a datagram, and more octets than any line of control has.
+const MOST_DIGITS: usize = 131_070;
+
+fn are_octets(digits: &str) -> bool {
+    digits.len() % 2 == 0
+        && digits.len() <= MOST_DIGITS
+        && digits.bytes().all(|digit| digit.is_ascii_hexdigit())
+}
+
+fn read_moment(text: &str) -> Option<Moment> {
+    Moment::new(text.parse::<u64>().ok()?)
+}
+
+fn read_datagram<'a>(rest: &'a str) -> Option<Event<'a>> {
+    let (peer, digits) = rest.split_once(' ').unwrap_or((rest, ""));
+    let peer = parse_peer(peer.as_bytes())?;
+    if are_octets(digits) {
+        Some(Event::Datagram(peer, digits))
+    } else {
+        None
+    }
+}
+
+// `PEER FIRST LENGTH`, of which the first octet is in hexadecimal digits.
+fn read_sweep<'a>(rest: &'a str) -> Option<Event<'a>> {
+    let (peer, rest) = rest.split_once(' ')?;
+    let (first, length) = rest.split_once(' ')?;
+    Some(Event::Sweep(
+        parse_peer(peer.as_bytes())?,
+        u8::from_str_radix(first, 16).ok()?,
+        length.parse::<u16>().ok()?,
+    ))
+}
+
+fn read_closing<'a>(device: &str) -> Option<Event<'a>> {
+    match device {
+        "link" => Some(Event::LinkCloses),
+        "feed" | "control" => Some(Event::FeedCloses),
+        _ => None,
+    }
+}
+
+/// What the line says, where it is one of a script.
+pub fn read_event<'a>(line: &'a str) -> Option<Event<'a>> {
+    let (word, rest) = line.split_once(' ').unwrap_or((line, ""));
+    match word {
+        "turn" => Some(Event::Turn(read_moment(rest)?)),
+        "moment" => Some(Event::Moment(read_moment(rest)?)),
+        "word" => Some(Event::Word(u64::from_str_radix(rest, 16).ok()?)),
+        "dg" => read_datagram(rest),
+        "sweep" => read_sweep(rest),
+        "mc" if are_octets(rest) => Some(Event::Packet(rest)),
+        "line" if rest.len() <= MOST_DIGITS => Some(Event::Line(rest)),
+        "closed" => read_closing(rest),
+        "outs" => Some(Event::Outs(rest.parse::<u8>().ok()?)),
+        _ => None,
+    }
+}
+
+/// Each line says something.
+pub fn is_script(lines: &str) -> bool {
+    lines.lines().all(|line| read_event(line).is_some())
+}

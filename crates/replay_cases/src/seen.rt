@@ -1,0 +1,119 @@
+//! What the devices of a case saw, as lines of a case. It must not know what was wanted of them.
+
+use crate::devices::{Set, Sets, number_of};
+use amt_live::{DeviceSet, Opening};
+use amt_ports::{MemOut, Tried};
+use replication_workers::Outs;
+use std::alloc::{AllocError, Global};
+use std::thread::Threads;
+
+// `MARK PEER OCTETS`, and whether the device didn't take it.
+fn append_send(
+    alloc: Global,
+    text: &mut String,
+    mark: &str,
+    tried: &Tried,
+) -> Result<(), AllocError> {
+    let octets = hex::encode(alloc, tried.bytes.as_slice())?;
+    let fate = if tried.sent { "" } else { " failed" };
+    write!(text, "{mark} {} {octets}{fate}\n", tried.to)
+}
+
+fn append_sends(
+    alloc: Global,
+    text: &mut String,
+    mark: &str,
+    tried: &[Tried],
+) -> Result<(), AllocError> {
+    for one in tried {
+        append_send(alloc, text, mark, one)?;
+    }
+    Ok(())
+}
+
+// What it has sent since its mark.
+fn append_out(alloc: Global, text: &mut String, out: &MemOut) -> Result<(), AllocError> {
+    let mark = format!(in alloc; "={}", number_of(out))?;
+    match out.tried().split_first() {
+        Some((_, tried)) => append_sends(alloc, text, mark.as_str(), tried),
+        None => Ok(()),
+    }
+}
+
+fn append_outs(alloc: Global, text: &mut String, outs: &[MemOut]) -> Result<(), AllocError> {
+    for out in outs {
+        append_out(alloc, text, out)?;
+    }
+    Ok(())
+}
+
+fn append_set<R>(alloc: Global, text: &mut String, set: &Set<'_, R>) -> Result<(), AllocError> {
+    match set {
+        DeviceSet::Relay(devices) => {
+            append_sends(alloc, text, "=", devices.link.tried())?;
+            append_outs(alloc, text, devices.outs.as_slice())
+        }
+        DeviceSet::Gateway(devices) => {
+            append_sends(alloc, text, "=", devices.link.tried())?;
+            append_out(alloc, text, &devices.out)
+        }
+    }
+}
+
+/// What each device that came back tried to send: the link first, and then the links out in order.
+pub fn sends_text<R>(alloc: Global, live: &Sets<'_, R>) -> Result<String, AllocError> {
+    let mut text = String::new(alloc);
+    for set in live.returned() {
+        append_set(alloc, &mut text, set)?;
+    }
+    Ok(text)
+}
+
+fn append_opening(text: &mut String, opening: &Opening) -> Result<(), AllocError> {
+    match opening {
+        Opening::Relay {
+            listen,
+            feed,
+            slots,
+        } => write!(text, "open relay {listen} {feed} {slots}\n"),
+        Opening::Gateway { listen, control } => write!(text, "open gateway {listen} {control}\n"),
+    }
+}
+
+fn append_numbers(text: &mut String, outs: &Outs<MemOut>) -> Result<(), AllocError> {
+    for out in outs.as_slice() {
+        write!(text, " {}", number_of(out))?;
+    }
+    text.push_str("\n")
+}
+
+fn append_return<R: Threads>(text: &mut String, set: &Set<'_, R>) -> Result<(), AllocError> {
+    match set {
+        DeviceSet::Relay(devices) => {
+            write!(
+                text,
+                "back relay, {} started, outs",
+                devices.spawner.starts()
+            )?;
+            append_numbers(text, &devices.outs)
+        }
+        DeviceSet::Gateway(_) => text.push_str("back gateway\n"),
+    }
+}
+
+fn append_returns<R: Threads>(text: &mut String, sets: &[Set<'_, R>]) -> Result<(), AllocError> {
+    for set in sets {
+        append_return(text, set)?;
+    }
+    Ok(())
+}
+
+/// The openings that were asked for, and the sets that came back.
+pub fn openings_text<R: Threads>(alloc: Global, live: &Sets<'_, R>) -> Result<String, AllocError> {
+    let mut text = String::new(alloc);
+    for opening in live.asked() {
+        append_opening(&mut text, opening)?;
+    }
+    append_returns(&mut text, live.returned())?;
+    Ok(text)
+}
