@@ -7,9 +7,6 @@
 //! It knows no socket of a system, clock or thread: datagrams, moments, nonces and socket calls come in as
 //! events, and datagrams and packets go out as steps.
 //! Standard: RFC 7450, section 5.2; RFC 3376, sections 4, 5.1, 5.2 and 8; RFC 3810, sections 5, 6 and 9.
-//!
-//! Its tests are in program_tests, as scripts and their texts: tests in this crate would
-//! prove all of it a second time.
 #![tactic(auto)]
 
 mod advertisement;

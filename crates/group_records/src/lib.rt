@@ -6,9 +6,6 @@
 //! A time has at most one code.
 //! It knows no datagram's layout, no tunnel or moment. The checksum it takes from inner_datagrams.
 //! Standard: RFC 3376, sections 4.1 and 4.2; RFC 3810, sections 5.1 and 5.2.
-//!
-//! Its tests are in record_tests, which calls each function here in either family: tests in this crate
-//! would prove all of it a second time.
 #![tactic(auto)]
 
 mod code;
