@@ -27,6 +27,8 @@ pub struct Given {
 #[derive(Drop)]
 pub struct Wanted {
     pub output: Bytes,
+    /// Of the output, only lines with one of these texts are compared, where there is one.
+    pub compared_texts: Vec<String>,
     pub error: Bytes,
     pub openings: Bytes,
     /// As they stand in the case, those of all devices among one another.
@@ -74,6 +76,7 @@ impl Case {
             },
             wanted: Wanted {
                 output: Bytes::new(alloc),
+                compared_texts: Vec::new(alloc),
                 error: Bytes::new(alloc),
                 openings: Bytes::new(alloc),
                 sends: Bytes::new(alloc),
@@ -96,6 +99,7 @@ impl Case {
             "!\\" => append_escaped(&mut self.wanted.error, rest),
             "?" => self.wanted.take_status(rest),
             "*" => self.given.take_failing_call(rest),
+            "~" => self.wanted.take_compared_text(alloc, rest),
             "@" => append_line(self.given.settings(), rest),
             "@\\" => append_escaped(self.given.settings(), rest),
             "%" => self.given.take_script(rest),
@@ -158,6 +162,13 @@ impl Given {
 }
 
 impl Wanted {
+    fn take_compared_text(&mut self, alloc: Global, text: &str) -> Result<(), LineFault> {
+        let text = String::from_str(alloc, text)?;
+        self.compared_texts
+            .push(text)
+            .map_err(|_| LineFault::Memory)
+    }
+
     fn take_status(&mut self, status: &str) -> Result<(), LineFault> {
         self.status = status.parse::<u8>().map_err(|_| LineFault::Malformed)?;
         Ok(())

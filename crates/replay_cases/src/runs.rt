@@ -1,5 +1,6 @@
 //! A case's run, in memory. It must not know the lines of a case.
 
+mod compared;
 mod differences;
 mod sends;
 
@@ -11,6 +12,7 @@ use crate::seen::{openings_text, sends_text};
 use amt_command::amt;
 use amt_ports::{MemFile, MemFiles, MemSink, MemSource};
 use amt_values::Bytes;
+use compared::compared;
 use differences::{has_other_status, has_other_text};
 use sends::in_order_of_devices;
 use std::alloc::{AllocError, Global};
@@ -175,12 +177,14 @@ fn texts_differ<R: Print + AllocGlobal>(
     wanted: &Wanted,
     ended: &Ended,
 ) -> io::Result<bool> {
+    let output = ended.output.as_slice();
+    let output = compared(rt.alloc(), output, &wanted.compared_texts)?;
     let sends = in_order_of_devices(rt.alloc(), wanted.sends.as_slice())?;
     let texts = [
         Text {
             name: "output",
             wanted: wanted.output.as_slice(),
-            got: ended.output.as_slice(),
+            got: output.as_slice(),
         },
         Text {
             name: "error",
