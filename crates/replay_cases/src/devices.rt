@@ -41,8 +41,8 @@ impl<'a> Script<'a> {
 
     fn moments(&self, alloc: Global) -> Result<Vec<Moment>, AllocError> {
         let mut moments = Vec::new(alloc);
-        for event in self.lines.lines().filter_map(read_event) {
-            if let Event::Turn(moment) | Event::Moment(moment) = event {
+        for line in self.lines.lines() {
+            if let Some(Event::Turn(moment) | Event::Moment(moment)) = read_event(line) {
                 moments.push(moment)?;
             }
         }
@@ -51,8 +51,8 @@ impl<'a> Script<'a> {
 
     fn words(&self, alloc: Global) -> Result<Vec<u64>, AllocError> {
         let mut words = Vec::new(alloc);
-        for event in self.lines.lines().filter_map(read_event) {
-            if let Event::Word(word) = event {
+        for line in self.lines.lines() {
+            if let Some(Event::Word(word)) = read_event(line) {
                 words.push(word)?;
             }
         }
@@ -62,8 +62,8 @@ impl<'a> Script<'a> {
     // One, unless it says how many.
     fn outs(&self) -> u8 {
         let mut outs = 1;
-        for event in self.lines.lines().filter_map(read_event) {
-            if let Event::Outs(count) = event {
+        for line in self.lines.lines() {
+            if let Some(Event::Outs(count)) = read_event(line) {
                 outs = count;
             }
         }

@@ -13,14 +13,6 @@ use std::sync::Wait;
 pub const SETTINGS: &str =
     "relay = \"192.0.2.1\"\nlisten = \"127.0.0.1:2268\"\nfeed = \"127.0.0.1:9000\"\n";
 
-/// What a settings file has.
-#[derive(Clone, Copy)]
-pub enum File<'a> {
-    Text(&'a str),
-    /// So many octets `#`.
-    Long(usize),
-}
-
 /// What a run of the command comes to.
 #[derive(Drop)]
 pub struct Ended {
@@ -35,14 +27,6 @@ fn words_of(alloc: Global, line: &str) -> Result<Vec<String>, AllocError> {
         words.push(String::from_str(alloc, word)?)?;
     }
     Ok(words)
-}
-
-/// The octets of a file.
-pub fn file_of(alloc: Global, file: &File) -> Result<Bytes, AllocError> {
-    match file {
-        File::Text(text) => Bytes::copied(alloc, text.as_bytes()),
-        File::Long(count) => Ok(Bytes::from(Vec::from_elem(alloc, b'#', *count)?)),
-    }
 }
 
 /// A file `F` with these octets; a reading of it fails where its number is this, counted from 1.

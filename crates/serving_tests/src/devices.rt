@@ -1,195 +1,145 @@
-//! The devices of a run in memory. It must not know what a relay does with them.
-ghost use Rattle.std.specs.Prelude.{All};
+//! Devices in memory that answer what is listed. They must not know whose they are.
+ghost use Rattle.std.specs.Prelude.{◌≤◌, All, IfOk, length};
 ghost use Rattle.amt_ports.specs.Arrivals.{IsShortAnswer, IsShortFeedAnswer};
 
-use crate::course::{Course, Failing, Fed, Heard, Turn, peer_of};
-use crate::octets::{WORDS, packet_octets};
-use amt_ports::{FeedAnswer, LinkAnswer, MemClock, MemFeed, MemLink, MemOut, MemWords, OutLink};
+use amt_ports::{FeedAnswer, LinkAnswer, MemClock, MemFeed, MemLink, MemWords};
 use amt_values::{Bytes, Moment, Peer};
-use replication_workers::Outs;
-use std::alloc::Global;
+use std::alloc::{AllocError, Global};
 use std::collections::VecDeque;
-use std::process::Abort;
 
-// After so many answers of a turn a device isn't asked again in it.
-const BURST: usize = 64;
+/// What a receiving finds: nothing, the octets of these digits, or those of this line.
+#[derive(Clone, Copy)]
+pub enum Answer<'a> {
+    Nothing,
+    Octets(&'a str),
+    Line(&'a str),
+}
 
-/// All devices of a run but its links out and its spawner.
+/// What the devices of a run do: what link and feed answer before they are closed, and the call of each that
+/// fails, counted from 1; 0 for none.
+#[derive(Clone, Copy)]
+pub struct Script<'a> {
+    /// Where all datagrams come from.
+    pub from: Peer,
+    pub heard: &'a [Answer<'a>],
+    pub fed: &'a [Answer<'a>],
+    pub moments: &'a [u64],
+    pub words: &'a [u64],
+    pub receiving: u64,
+    pub feeding: u64,
+    pub drawing: u64,
+}
+
+/// All devices of a run but its links out.
 #[derive(Drop)]
-pub struct Devices {
-    pub link: MemLink,
-    pub feed: MemFeed,
+pub struct Devices<L, F> {
+    pub link: L,
+    pub feed: F,
     pub clock: MemClock,
     pub words: MemWords,
 }
 
-fn hear(rt: &impl Abort, answers: &mut VecDeque<LinkAnswer>, answer: LinkAnswer)
-    requires answer { IsShortAnswer answer }
-    requires old { All IsShortAnswer answers.old.items }
-    ensures { All IsShortAnswer answers.new.items }
+// At most as many octets as a datagram may have.
+fn short(octets: Bytes) -> Result<Bytes, AllocError>
+    ensures { IfOk result (λ octets. length octets ≤ 65535) }
 {
-    let Ok(()) = answers.push_back(answer) else {
-        panic!(rt; "out of memory");
-    };
-}
-
-fn hear_each(rt: &impl Abort, alloc: Global, answers: &mut VecDeque<LinkAnswer>, heard: &Heard)
-    requires { All IsShortAnswer answers.old.items }
-    ensures { All IsShortAnswer answers.new.items }
-{
-    let from = peer_of(heard.host());
-    for number in 0..heard.count() {
-        let octets = heard.octets(rt, alloc, number);
-        hear(rt, answers, LinkAnswer::Datagram(from, octets));
+    if octets.len() <= 65_535 {
+        Ok(octets)
+    } else {
+        Err(AllocError)
     }
 }
 
-fn hear_list(rt: &impl Abort, alloc: Global, answers: &mut VecDeque<LinkAnswer>, list: &[Heard])
-    requires { All IsShortAnswer answers.old.items }
-    ensures { All IsShortAnswer answers.new.items }
+fn octets_of(alloc: Global, digits: &str) -> Result<Bytes, AllocError>
+    ensures { IfOk result (λ octets. length octets ≤ 65535) }
 {
-    for heard in list {
-        hear_each(rt, alloc, answers, heard);
+    match hex::decode(alloc, digits.as_bytes()) {
+        Ok(octets) => short(Bytes::from(octets)),
+        Err(_) => Err(AllocError),
     }
 }
 
-fn hear_turn(rt: &impl Abort, alloc: Global, answers: &mut VecDeque<LinkAnswer>, turn: &Turn)
-    requires { All IsShortAnswer answers.old.items }
-    ensures { All IsShortAnswer answers.new.items }
+fn line_octets(alloc: Global, line: &str) -> Result<Bytes, AllocError>
+    ensures { IfOk result (λ octets. length octets ≤ 65535) }
 {
-    let Some(list) = turn.heard else {
-        return;
-    };
-    let before = answers.len();
-    hear_list(rt, alloc, answers, list);
-    if answers.len().saturating_sub(before) < BURST {
-        hear(rt, answers, LinkAnswer::Nothing);
+    short(Bytes::copied(alloc, line.as_bytes())?)
+}
+
+fn link_answer(alloc: Global, from: Peer, answer: &Answer) -> Result<LinkAnswer, AllocError>
+    ensures { IfOk result (λ answer. IsShortAnswer answer) }
+{
+    match answer {
+        Answer::Nothing => Ok(LinkAnswer::Nothing),
+        Answer::Octets(digits) => Ok(LinkAnswer::Datagram(from, octets_of(alloc, digits)?)),
+        Answer::Line(line) => Ok(LinkAnswer::Datagram(from, line_octets(alloc, line)?)),
     }
 }
 
-fn link_answers(rt: &impl Abort, alloc: Global, turns: &[Turn]) -> VecDeque<LinkAnswer>
-    ensures { All IsShortAnswer result.items }
+fn link_answers(
+    alloc: Global,
+    from: Peer,
+    list: &[Answer],
+) -> Result<VecDeque<LinkAnswer>, AllocError>
+    ensures { IfOk result (λ answers. All IsShortAnswer answers.items) }
 {
     let mut answers = VecDeque::new(alloc);
-    for turn in turns {
-        hear_turn(rt, alloc, &mut answers, turn);
+    for one in list {
+        answers.push_back(link_answer(alloc, from, one)?)?;
     }
-    answers
+    Ok(answers)
 }
 
-fn feed(rt: &impl Abort, answers: &mut VecDeque<FeedAnswer>, answer: FeedAnswer)
-    requires answer { IsShortFeedAnswer answer }
-    requires old { All IsShortFeedAnswer answers.old.items }
-    ensures { All IsShortFeedAnswer answers.new.items }
+fn feed_answer(alloc: Global, answer: &Answer) -> Result<FeedAnswer, AllocError>
+    ensures { IfOk result (λ answer. IsShortFeedAnswer answer) }
 {
-    let Ok(()) = answers.push_back(answer) else {
-        panic!(rt; "out of memory");
-    };
-}
-
-fn feed_list(rt: &impl Abort, alloc: Global, answers: &mut VecDeque<FeedAnswer>, list: &[Fed])
-    requires { All IsShortFeedAnswer answers.old.items }
-    ensures { All IsShortFeedAnswer answers.new.items }
-{
-    for packet in list {
-        let octets = packet_octets(rt, alloc, packet);
-        feed(rt, answers, FeedAnswer::Packet(octets));
+    match answer {
+        Answer::Nothing => Ok(FeedAnswer::Nothing),
+        Answer::Octets(digits) => Ok(FeedAnswer::Packet(octets_of(alloc, digits)?)),
+        Answer::Line(line) => Ok(FeedAnswer::Packet(line_octets(alloc, line)?)),
     }
 }
 
-fn feed_turn(rt: &impl Abort, alloc: Global, answers: &mut VecDeque<FeedAnswer>, turn: &Turn)
-    requires { All IsShortFeedAnswer answers.old.items }
-    ensures { All IsShortFeedAnswer answers.new.items }
-{
-    let Some(list) = turn.fed else {
-        return;
-    };
-    feed_list(rt, alloc, answers, list);
-    if list.len() < BURST {
-        feed(rt, answers, FeedAnswer::Nothing);
-    }
-}
-
-fn feed_answers(rt: &impl Abort, alloc: Global, turns: &[Turn]) -> VecDeque<FeedAnswer>
-    ensures { All IsShortFeedAnswer result.items }
+fn feed_answers(alloc: Global, list: &[Answer]) -> Result<VecDeque<FeedAnswer>, AllocError>
+    ensures { IfOk result (λ answers. All IsShortFeedAnswer answers.items) }
 {
     let mut answers = VecDeque::new(alloc);
-    for turn in turns {
-        feed_turn(rt, alloc, &mut answers, turn);
+    for one in list {
+        answers.push_back(feed_answer(alloc, one)?)?;
     }
-    answers
+    Ok(answers)
 }
 
-fn moments(rt: &impl Abort, alloc: Global, turns: &[Turn]) -> Vec<Moment> {
+fn link_of(alloc: Global, script: &Script) -> Result<MemLink, AllocError> {
+    let answers = link_answers(alloc, script.from, script.heard)?;
+    let receivings = vec![in alloc; script.receiving]?;
+    Ok(MemLink::failing(alloc, answers, receivings, Vec::new(alloc)))
+}
+
+fn feed_of(alloc: Global, script: &Script) -> Result<MemFeed, AllocError> {
+    let answers = feed_answers(alloc, script.fed)?;
+    Ok(MemFeed::failing(answers, vec![in alloc; script.feeding]?))
+}
+
+fn clock_of(alloc: Global, list: &[u64]) -> Result<MemClock, AllocError> {
     let mut moments = Vec::new(alloc);
-    for turn in turns {
-        let moment = Moment::new(turn.at).expect(rt, "moments are below 2^62");
-        let Ok(()) = moments.push(moment) else {
-            panic!(rt; "out of memory");
-        };
+    for ms in list {
+        if let Some(moment) = Moment::new(*ms) {
+            moments.push(moment)?;
+        }
     }
-    moments
+    Ok(MemClock::new(moments))
 }
 
-fn listed(rt: &impl Abort, alloc: Global, numbers: &[u64]) -> Vec<u64> {
-    let Ok(list) = Vec::from_slice(alloc, numbers) else {
-        panic!(rt; "out of memory");
-    };
-    list
+fn words_of(alloc: Global, script: &Script) -> Result<MemWords, AllocError> {
+    let words = Vec::from_slice(alloc, script.words)?;
+    Ok(MemWords::failing(words, vec![in alloc; script.drawing]?))
 }
 
-/// The number of the call that fails, as a list.
-pub fn failing(rt: &impl Abort, alloc: Global, call: u64) -> Vec<u64> {
-    listed(rt, alloc, &[call])
-}
-
-fn link_of(rt: &impl Abort, alloc: Global, course: &Course) -> MemLink {
-    MemLink::failing(
-        alloc,
-        link_answers(rt, alloc, course.turns),
-        failing(rt, alloc, course.failing.receiving),
-        failing(rt, alloc, course.failing.answer),
-    )
-}
-
-fn feed_of(rt: &impl Abort, alloc: Global, course: &Course) -> MemFeed {
-    MemFeed::failing(
-        feed_answers(rt, alloc, course.turns),
-        failing(rt, alloc, course.failing.feeding),
-    )
-}
-
-fn words_of(rt: &impl Abort, alloc: Global, drawing: u64) -> MemWords {
-    MemWords::failing(listed(rt, alloc, &WORDS), failing(rt, alloc, drawing))
-}
-
-/// The devices that answer what happens in the run.
-pub fn devices_of(rt: &impl Abort, alloc: Global, course: &Course) -> Devices {
-    Devices {
-        link: link_of(rt, alloc, course),
-        feed: feed_of(rt, alloc, course),
-        clock: MemClock::new(moments(rt, alloc, course.turns)),
-        words: words_of(rt, alloc, course.failing.drawing),
-    }
-}
-
-// A link out that has sent one datagram, by which it is known again: to the host of its number.
-fn out_of(rt: &impl Abort, alloc: Global, number: u8, copy: u64) -> MemOut {
-    let fails = if copy == 0 { 0 } else { copy.saturating_add(1) };
-    let mut out = MemOut::failing(alloc, failing(rt, alloc, fails));
-    let Ok(()) = out.send(&peer_of(number), &[]) else {
-        panic!(rt; "the first send succeeds");
-    };
-    out
-}
-
-/// So many links out, each with a send to the host of its number, counted from 1.
-pub fn outs_of(rt: &impl Abort, alloc: Global, count: u8, copy: u64) -> Outs<MemOut> {
-    let mut outs = Outs::new(alloc);
-    for number in 1..=count {
-        let Ok(()) = outs.push(out_of(rt, alloc, number, copy)) else {
-            panic!(rt; "out of memory");
-        };
-    }
-    outs
+pub fn devices_of(alloc: Global, script: &Script) -> Result<Devices<MemLink, MemFeed>, AllocError> {
+    Ok(Devices {
+        link: link_of(alloc, script)?,
+        feed: feed_of(alloc, script)?,
+        clock: clock_of(alloc, script.moments)?,
+        words: words_of(alloc, script)?,
+    })
 }

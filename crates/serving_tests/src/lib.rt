@@ -1,28 +1,26 @@
-//! Tests of the running relay over devices in memory, by its public calls.
+//! Tests of the running relay and the running gateway that no case can show, by public calls.
 //!
 //! Contract: none; it is tests alone. They stand in a crate of their own since the tests of a crate prove
-//! all its functions once more.
-//! It must not know what a running relay keeps to itself.
+//! all its functions once more, and since some of them start threads.
+//! It must not know what either loop keeps to itself.
 //! No standard.
 #![tactic(auto)]
 
 #[cfg(test)]
-mod course;
-#[cfg(test)]
 mod devices;
 #[cfg(test)]
-mod ends;
+mod gateway;
 #[cfg(test)]
-mod hostile;
+mod gateway_ends;
 #[cfg(test)]
-mod machine;
+mod meeting;
 #[cfg(test)]
-mod octets;
+mod relay;
 #[cfg(test)]
-mod running;
-#[cfg(test)]
-mod secrets;
+mod relay_ends;
 #[cfg(test)]
 mod starters;
 #[cfg(test)]
-mod turns;
+mod timed;
+#[cfg(test)]
+mod unasked;

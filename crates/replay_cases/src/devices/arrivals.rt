@@ -83,19 +83,22 @@ fn hear(
     alloc: Global,
     answers: &mut VecDeque<LinkAnswer>,
     began: &mut Option<usize>,
-    event: &Event,
+    line: &str,
 ) -> Result<(), AllocError>
     requires { All IsShortAnswer answers.old.items }
     ensures { OnOk result (All IsShortAnswer answers.new.items) }
 {
+    let Some(event) = read_event(line) else {
+        return Ok(());
+    };
     if let Event::Turn(_) = event {
         if ends_in_nothing(*began, answers.len()) {
             answers.push_back(LinkAnswer::Nothing)?;
         }
         *began = Some(answers.len());
     }
-    for number in 0..heard(event) {
-        answers.push_back(link_answer(alloc, event, number)?)?;
+    for number in 0..heard(&event) {
+        answers.push_back(link_answer(alloc, &event, number)?)?;
     }
     Ok(())
 }
@@ -106,8 +109,8 @@ pub fn link_answers(alloc: Global, script: &str) -> Result<VecDeque<LinkAnswer>,
 {
     let mut answers = VecDeque::new(alloc);
     let mut began = None;
-    for event in script.lines().filter_map(read_event) {
-        hear(alloc, &mut answers, &mut began, &event)?;
+    for line in script.lines() {
+        hear(alloc, &mut answers, &mut began, line)?;
     }
     if ends_in_nothing(began, answers.len()) {
         answers.push_back(LinkAnswer::Nothing)?;
@@ -130,18 +133,21 @@ fn feed(
     alloc: Global,
     answers: &mut VecDeque<FeedAnswer>,
     began: &mut Option<usize>,
-    event: &Event,
+    line: &str,
 ) -> Result<(), AllocError>
     requires { All IsShortFeedAnswer answers.old.items }
     ensures { OnOk result (All IsShortFeedAnswer answers.new.items) }
 {
+    let Some(event) = read_event(line) else {
+        return Ok(());
+    };
     if let Event::Turn(_) = event {
         if ends_in_nothing(*began, answers.len()) {
             answers.push_back(FeedAnswer::Nothing)?;
         }
         *began = Some(answers.len());
     }
-    if let Some(answer) = feed_answer(alloc, event)? {
+    if let Some(answer) = feed_answer(alloc, &event)? {
         answers.push_back(answer)?;
     }
     Ok(())
@@ -153,8 +159,8 @@ pub fn feed_answers(alloc: Global, script: &str) -> Result<VecDeque<FeedAnswer>,
 {
     let mut answers = VecDeque::new(alloc);
     let mut began = None;
-    for event in script.lines().filter_map(read_event) {
-        feed(alloc, &mut answers, &mut began, &event)?;
+    for line in script.lines() {
+        feed(alloc, &mut answers, &mut began, line)?;
     }
     if ends_in_nothing(began, answers.len()) {
         answers.push_back(FeedAnswer::Nothing)?;

@@ -2,5 +2,5 @@ use Rattle.std.specs.List.{All}
 use Rattle.amt_ports.specs.Arrivals.{IsShortAnswer}
 use Rattle.serving_tests.proofs.devices.link_answers.Given as goal
 
-abbrev pub invariant-loop-turn : goal.invariant-loop-turn
-invariant-loop-turn g l = All IsShortAnswer l.answers.items
+abbrev pub invariant-loop-one : goal.invariant-loop-one
+invariant-loop-one l = All IsShortAnswer l.answers.items

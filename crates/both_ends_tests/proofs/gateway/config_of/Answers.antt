@@ -1,5 +1,0 @@
-use Rattle.gateway_serving.proofs.Lawful.{lawful_config}
-use Rattle.both_ends_tests.proofs.gateway.config_of.Goals as goal
-
-pub returns : goal.returns
-returns g c = lawful_config _ _ c.in-Ok.ensures.found
