@@ -1,108 +1,172 @@
-//! The command `amt replay gateway`: each row a script and its text. It knows public calls alone.
+//! Calls that no script shows: what a gateway is about and what it wants, and a step as text. It must not know how
+//! they are made.
 
-mod calls;
-mod faults;
-mod host;
-mod ignored;
-mod long;
-mod reports;
-mod sessions;
-mod settings;
-mod socket_lines;
-mod sockets;
-mod states;
-mod waits;
+ghost use Rattle.std.specs.Prelude.{◌≡◌, ◌≤◌, false, length, IfOk};
+ghost use Rattle.gateway_machine.specs.Events.{IsEventOf};
+ghost use Rattle.gateway_machine.specs.Runs.{settings_of};
+ghost use Rattle.gateway_machine.specs.declared.settings.GatewaySettings.{GatewaySettings as SettingsValue};
 
-use crate::runs::*;
+use crate::memory::is_out_of_memory;
+use amt_values::{Bytes, Ip, Moment, Peer};
+use gateway_machine::{
+    Gateway, GatewayEvent, GatewayOutcome, GatewaySettings, GatewayState, GatewayStep, PeerSend,
+    PeerSends,
+};
+use gateway_script::print_gateway_step;
+use source_filter::{Filter, Mode};
+use std::alloc::{AllocError, Global};
+use std::process::Abort;
+use std::test::Fail;
 
-const WHOLE: Start = ("replay gateway", "");
+const RELAY: Peer = Peer {
+    ip: Ip::V4(0xc000_0201),
+    port: 2268,
+};
 
-// An IPv4 gateway that has to find its relay, one that is given it, and the same of IPv6.
-const V4: Start = (
-    "replay gateway",
-    "set family v4\nset discovery 192.0.2.1:2268\nset source 10.0.0.2\n",
-);
+// Of IPv4, with 10.0.0.2 as its source.
+const SETTINGS: GatewaySettings = GatewaySettings {
+    v6: false,
+    discovery: RELAY,
+    relay: None,
+    port: 2268,
+    source: Ip::V4(0x0a00_0002),
+};
 
-const V4_WITH_RELAY: Start = (
-    "replay gateway",
-    "set family v4\nset discovery 192.0.2.1:2268\nset source 10.0.0.2\nset relay 192.0.2.1:2268\n",
-);
+// An Advertisement of 192.0.2.1 with the nonce 00000001, and a Query with the next one that is answered
+// with a General Query every 125 s.
+const ADVERTISEMENT: &[u8] = b"\x02\x00\x00\x00\x00\x00\x00\x01\xc0\x00\x02\x01";
 
-const V6: Start = (
-    "replay gateway",
-    "set family v6\nset discovery [2001:db8::1]:2268\nset source fe80::2\n",
-);
+const QUERY: &[u8] =
+    b"\x04\x00\xa1\xa2\xa3\xa4\xa5\xa6\x00\x00\x00\x02\x46\xc0\x00\x24\x00\x00\x00\x00\x01\x02\x82\x11\xc0\x00\x02\x01\xe0\x00\x00\x01\x94\x04\x00\x00\x11\x64\xec\x1e\x00\x00\x00\x00\x02\x7d\x00\x00";
 
-const V6_WITH_RELAY: Start = (
-    "replay gateway",
-    "set family v6\nset discovery [2001:db8::1]:2268\nset source fe80::2\nset relay [2001:db8::1]:2268\n",
-);
+// What happens; a datagram comes from the relay, and the socket wants all of 239.1.1.1.
+#[derive(Clone, Copy)]
+enum Given {
+    Time(u64),
+    Datagram(&'static [u8]),
+    Open,
+    LeaveAll,
+}
 
-// A datagram that comes while a Query is awaited, and is ignored.
-const IGNORED: Frame = (
+// What happens, what the gateway is about then, and whether it wants 10.0.0.1 of 239.1.1.1.
+const DAY: [(Given, GatewayState, bool); 6] = [
+    (Given::Open, GatewayState::Discovering, true),
     (
-        "replay gateway",
-        "set family v4\nset discovery 192.0.2.1:2268\nset source 10.0.0.2\nset relay 192.0.2.1:2268\nopen a 239.1.1.1 exclude\ndg ",
+        Given::Datagram(ADVERTISEMENT),
+        GatewayState::Requesting,
+        true,
     ),
-    "= 1 requesting 1\n> 192.0.2.1:2268 0300000000000001\n= 2 ignored ",
-    "\n. 2\n",
-);
+    (Given::Datagram(QUERY), GatewayState::Active, true),
+    (Given::Time(125_000), GatewayState::Requesting, true),
+    (Given::LeaveAll, GatewayState::Requesting, false),
+    (Given::Time(445_000), GatewayState::Idle, false),
+];
 
-const IGNORED6: Frame = (
-    (
-        "replay gateway",
-        "set family v6\nset discovery [2001:db8::1]:2268\nset source fe80::2\nset relay [2001:db8::1]:2268\nopen a ff3e::1 include 2001:db8::9\ndg ",
-    ),
-    "= 1 requesting 1\n> [2001:db8::1]:2268 0301000000000001\n= 2 ignored ",
-    "\n. 2\n",
-);
+fn payload(rt: &impl Abort, alloc: Global, octets: &[u8]) -> Result<Bytes, AllocError>
+    ensures { IfOk result (λ bytes. length bytes ≤ 65535) }
+{
+    assert!(rt; octets.len() <= 65535);
+    Bytes::copied(alloc, octets)
+}
 
-#[test]
-fn a_gateways_script_with_a_fault_takes_no_step(rt: HostRuntime) {
-    are_faults(&rt, rt.alloc(), V4, &faults::FAULTS);
-    are_faults(&rt, rt.alloc(), V6, &faults::FAULTS6);
-    are_faults(&rt, rt.alloc(), WHOLE, &faults::WHOLE);
+fn event_of(rt: &impl Abort, alloc: Global, given: Given) -> Result<GatewayEvent, AllocError>
+    ensures { (settings : SettingsValue) → settings.v6 ≡ false → IfOk result (IsEventOf settings) }
+{
+    match given {
+        Given::Time(ms) => Ok(GatewayEvent::Moment(Moment::new(ms).expect(rt, "a moment"))),
+        Given::Datagram(octets) => {
+            let bytes = payload(rt, alloc, octets)?;
+            Ok(GatewayEvent::Datagram { from: RELAY, bytes })
+        }
+        Given::Open => Ok(GatewayEvent::Open {
+            name: Bytes::copied(alloc, b"a")?,
+            group: Ip::V4(0xef01_0101),
+            filter: Filter::new(alloc, Mode::Exclude, &[])?,
+        }),
+        Given::LeaveAll => Ok(GatewayEvent::LeaveAll),
+    }
+}
+
+fn is_about(rt: &impl Abort, gateway: &Gateway, state: GatewayState, wants: bool) {
+    assert_eq!(rt; gateway.state(), state);
+    assert!(rt;
+        gateway.admits(&Ip::V4(0xef01_0101), &Ip::V4(0x0a00_0001)) == wants,
+        "{state:?}"
+    );
+    assert!(rt;
+        !gateway.admits(&Ip::V4(0xef01_0102), &Ip::V4(0x0a00_0001)),
+        "{state:?}"
+    );
+}
+
+fn take(
+    rt: &impl Abort,
+    alloc: Global,
+    gateway: &mut Gateway,
+    given: Given,
+) -> Result<(), AllocError>
+    requires { (settings_of gateway.old).v6 ≡ false }
+    ensures { (settings_of gateway.new).v6 ≡ false }
+{
+    let event = event_of(rt, alloc, given)?;
+    gateway.step(alloc, &event)?;
+    Ok(())
+}
+
+fn goes_through(
+    rt: &impl Abort,
+    alloc: Global,
+    gateway: &mut Gateway,
+    rows: &[(Given, GatewayState, bool)],
+) -> Result<(), AllocError>
+    requires { (settings_of gateway.old).v6 ≡ false }
+    ensures { (settings_of gateway.new).v6 ≡ false }
+{
+    for (given, state, wants) in rows {
+        take(rt, alloc, gateway, *given)?;
+        is_about(rt, gateway, *state, *wants);
+    }
+    Ok(())
 }
 
 #[test]
-fn a_datagram_is_ignored_for_the_first_cause(rt: HostRuntime) {
-    are_framed(&rt, rt.alloc(), IGNORED, &ignored::ROWS);
-    are_framed(&rt, rt.alloc(), IGNORED6, &ignored::ROWS6);
+fn a_gateway_shows_its_state_and_what_it_wants(rt: HostRuntime) -> Result<(), Fail> {
+    let mut gateway = Gateway::new(rt.alloc(), SETTINGS, 1)?;
+    is_about(&rt, &gateway, GatewayState::Idle, false);
+    goes_through(&rt, rt.alloc(), &mut gateway, &DAY)?;
+    Ok(())
+}
+
+fn has_no_cell<T: Sync>() {}
+
+// Contracts don't see what a cell holds, so one could hide what came. What threads may share has no
+// `Cell` and no `RefCell`.
+#[test]
+fn a_gateway_has_no_cell(_rt: HostRuntime) {
+    has_no_cell::<Gateway>();
+}
+
+fn step_text(alloc: Global) -> Result<Bytes, AllocError> {
+    let mut sends = PeerSends::new(alloc);
+    let bytes = Bytes::copied(alloc, b"\x0a\xff")?;
+    sends.push(PeerSend { to: RELAY, bytes })?;
+    let step = GatewayStep {
+        outcome: GatewayOutcome::Requesting(255),
+        sends,
+        deliver: Some(Bytes::copied(alloc, b"\x45")?),
+    };
+    print_gateway_step(alloc, 7, &step)
+}
+
+fn is_printed(rt: &impl Abort, printed: Result<Bytes, AllocError>, text: &str) {
+    match printed {
+        Ok(printed) => assert_eq!(rt; printed.as_slice(), text.as_bytes()),
+        Err(_) => is_out_of_memory(rt, text),
+    }
 }
 
 #[test]
-fn reports_say_what_the_sockets_want(rt: HostRuntime) {
-    are_texts(&rt, rt.alloc(), V4_WITH_RELAY, &reports::KNOWN);
-    are_texts(&rt, rt.alloc(), V6_WITH_RELAY, &reports::KNOWN6);
-}
-
-#[test]
-fn a_session_goes_from_a_discovery_to_farewells(rt: HostRuntime) {
-    are_texts(&rt, rt.alloc(), V4, &sessions::ROWS);
-    are_texts(&rt, rt.alloc(), V4_WITH_RELAY, &sessions::KNOWN);
-    are_texts(&rt, rt.alloc(), V6, &sessions::ROWS6);
-}
-
-#[test]
-fn settings_are_in_force_and_have_defaults(rt: HostRuntime) {
-    are_texts(&rt, rt.alloc(), WHOLE, &settings::ROWS);
-}
-
-#[test]
-fn a_refused_socket_call_changes_nothing(rt: HostRuntime) {
-    are_texts(&rt, rt.alloc(), V4, &sockets::ROWS);
-    are_framed(&rt, rt.alloc(), sockets::TEN, &sockets::AFTER_TEN);
-}
-
-#[test]
-fn each_state_has_its_answer_to_each_event(rt: HostRuntime) {
-    are_texts(&rt, rt.alloc(), V4, &states::ROWS);
-    are_texts(&rt, rt.alloc(), V4_WITH_RELAY, &states::KNOWN);
-}
-
-#[test]
-fn a_gateway_asks_again_until_it_is_answered_or_wants_nothing(rt: HostRuntime) {
-    are_texts(&rt, rt.alloc(), V4, &waits::ROWS);
-    are_texts(&rt, rt.alloc(), V4_WITH_RELAY, &waits::KNOWN);
-    are_texts(&rt, rt.alloc(), V6_WITH_RELAY, &waits::KNOWN6);
+fn a_gateways_step_has_its_number_its_sends_and_its_packet(rt: HostRuntime) {
+    let text = "= 7 requesting 255\n> 192.0.2.1:2268 0aff\n^ 45\n";
+    is_printed(&rt, step_text(rt.alloc()), text);
 }

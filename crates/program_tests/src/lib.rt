@@ -1,4 +1,4 @@
-//! Tests of the program, relay, gateway and both together, by the public calls of its crates.
+//! Tests of what no run of a command shows, by the public calls of the crates.
 //!
 //! Contract: none; it is tests alone. They stand in a crate of their own since the tests of a crate prove
 //! all its functions once more, which costs the gate as much again.
@@ -6,14 +6,18 @@
 #![tactic(auto)]
 
 #[cfg(test)]
-mod command;
+mod embedding;
 #[cfg(test)]
 mod gateway;
+#[cfg(test)]
+mod memory;
 #[cfg(test)]
 mod pair;
 #[cfg(test)]
 mod relay;
 #[cfg(test)]
-mod runs;
+mod scripts;
 #[cfg(test)]
 mod settings;
+#[cfg(test)]
+mod socket_lines;

@@ -1,49 +1,75 @@
-//! The command `amt replay pair`: each row a script and its text. It knows public calls alone.
+//! Calls of a pair that no script shows: gateways that are refused. A script with such a gateway is none. It
+//! must not know what a pair keeps.
 
-mod bounds;
-mod calls;
-mod faults;
-mod gateways;
-mod lossy;
-mod network;
-mod sessions;
+use crate::memory::is_out_of_memory;
+use amt_pair::{Pair, PairEvent, PairFault, PairStep, Part};
+use amt_values::{Ip, Moment, Peer};
+use relay_machine::Settings;
+use response_mac::Secret;
+use std::alloc::{AllocError, Global};
+use std::process::Abort;
 
-use crate::runs::*;
+// A gateway of this name, which the relay sees as 198.51.100.7 at this port, and what comes of adding it.
+const GATEWAYS: [(&[u8], u16, Result<(), PairFault>); 5] = [
+    (b"g", 5000, Ok(())),
+    (b"g", 5001, Err(PairFault::Taken)),
+    (b"h", 5000, Err(PairFault::Taken)),
+    (b"h", 5001, Ok(())),
+    (b"h", 5001, Err(PairFault::Taken)),
+];
 
-const WHOLE: Start = ("replay pair", "");
+fn is_added(
+    rt: &impl Abort,
+    alloc: Global,
+    pair: &mut Pair,
+    gateway: (&[u8], u16, Result<(), PairFault>),
+) {
+    let (name, port, answer) = gateway;
+    let peer = Peer {
+        ip: Ip::V4(0xc633_6407),
+        port,
+    };
+    let added = pair.add(alloc, name, peer, false, Ip::V4(0x0a00_0002));
+    assert_eq!(rt; added, answer, "{name:?} {port}");
+}
 
-// A relay with one IPv4 gateway; `ONE` without the IPv4 source of its General Queries.
-const ROW: Start = (
-    "replay pair",
-    "set relay 192.0.2.1\nset query4 192.0.2.1\ngateway g 198.51.100.7:5000 v4 10.0.0.2\n",
-);
+fn is_of(part: &Part, name: &[u8]) -> bool {
+    match part {
+        Part::Gateway { name: own, .. } => own.as_slice() == name,
+        _ => false,
+    }
+}
 
-const ONE: Start = (
-    "replay pair",
-    "set relay 192.0.2.1\ngateway g 198.51.100.7:5000 v4 10.0.0.2\n",
-);
+// A moment came to the relay, to g and to h.
+fn came_to_both(step: &PairStep) -> bool {
+    match step.parts.as_slice() {
+        [Part::Relay(_), first, second] => is_of(first, b"g") && is_of(second, b"h"),
+        _ => false,
+    }
+}
 
-// A relay with two gateways, g of IPv4 and h of IPv6.
-const TWO: Start = (
-    "replay pair",
-    "set relay 192.0.2.1\ngateway g 198.51.100.7:5000 v4 10.0.0.2\ngateway h [2001:db8::7]:5000 v6 fe80::2\n",
-);
+// The pair has the gateways g and h alone, no datagram was sent, and there is no membership.
+fn has_both(rt: &impl Abort, alloc: Global, pair: &mut Pair) -> Result<(), AllocError> {
+    let at = Moment::new(0).expect(rt, "a moment");
+    let step = pair.step(alloc, &PairEvent::Moment(at))?;
+    assert!(rt; came_to_both(&step) && step.up == 0 && step.down == 0);
+    let rows = pair.rows(alloc)?;
+    assert!(rt; rows.as_slice().is_empty());
+    Ok(())
+}
 
-#[test]
-fn a_pairs_script_with_a_fault_takes_no_step(rt: HostRuntime) {
-    are_faults(&rt, rt.alloc(), TWO, &faults::FAULTS);
-    are_faults(&rt, rt.alloc(), WHOLE, &faults::WHOLE);
+fn goes_on(rt: &impl Abort, alloc: Global) -> Result<(), AllocError> {
+    let settings = Settings::of_relay(Ip::V4(0xc000_0201));
+    let mut pair = Pair::new(alloc, settings, Secret([0; 32]))?;
+    for gateway in GATEWAYS {
+        is_added(rt, alloc, &mut pair, gateway);
+    }
+    has_both(rt, alloc, &mut pair)
 }
 
 #[test]
-fn a_session_of_both_ends_goes_as_its_script_delivers(rt: HostRuntime) {
-    are_texts(&rt, rt.alloc(), ROW, &sessions::ROWS);
-    are_texts(&rt, rt.alloc(), WHOLE, &gateways::ROWS);
-}
-
-// Each condition is needed: just past it the other one holds, and the last `show` has a group that no
-// socket wants.
-#[test]
-fn both_ends_agree_at_the_bounds_and_not_past_them(rt: HostRuntime) {
-    are_texts(&rt, rt.alloc(), ONE, &bounds::ROWS);
+fn a_gateway_of_a_taken_name_or_peer_is_refused_and_changes_nothing(rt: HostRuntime) {
+    if goes_on(&rt, rt.alloc()).is_err() {
+        is_out_of_memory(&rt, "a pair of two gateways");
+    }
 }

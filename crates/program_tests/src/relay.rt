@@ -1,16 +1,15 @@
-//! A relay, event by event: outcomes, entries that are handed out, and how much is sent.
+//! The entries that a relay gives out, event by event, for whoever keeps a copy of its memberships. It must not know
+//! scripts.
 ghost use Rattle.std.specs.Prelude.{◌≤◌, IfOk, length};
 ghost use Rattle.relay_machine.specs.EventSize.{IsEvent};
 
-use amt_values::{Bytes, Endpoint, Ip, Moment, Peer};
-use endpoint_membership::{Change, LimitFault, Limits, Row};
-use inner_datagrams::{HeadFault, InnerFault};
+use crate::memory::is_out_of_memory;
+use amt_values::{Bytes, Ip, Moment, Peer};
+use endpoint_membership::{Change, Limits};
 use relay_machine::*;
 use response_mac::Secret;
-use source_filter::Mode;
 use std::alloc::{AllocError, Global};
 use std::process::Abort;
-use std::test::Fail;
 
 // 198.51.100.7.
 const GATEWAY: u32 = 0xc633_6407;
@@ -53,11 +52,6 @@ const BAD_TEARDOWN: &[u8] =
 const PACKET: &[u8] =
     b"\x60\x00\x00\x00\x00\x00\x3b\x04\x20\x01\x0d\xb8\x00\x00\x00\x00\x00\x00\x00\x00\x00\x00\x00\x09\xff\x3e\x00\x00\x00\x00\x00\x00\x00\x00\x00\x00\x00\x00\x00\x01";
 
-// ff3e::1 and 2001:db8::9.
-const GROUP6: Ip = Ip::V6(0xff3e_0000_0000_0000_0000_0000_0000_0001);
-
-const SOURCE6: Ip = Ip::V6(0x2001_0db8_0000_0000_0000_0000_0000_0009);
-
 // What happens; a datagram comes from the gateway, at this port.
 #[derive(Clone, Copy)]
 enum Given {
@@ -77,101 +71,34 @@ enum Entry {
     Mark(u64),
 }
 
-// What is given, what it comes to, how many datagrams are sent, and the entry.
-type Wanted = (Given, Outcome, usize, Entry);
-
-// At moment 1000, where the limits are one endpoint, two groups and one source.
-const JOINING: [Wanted; 6] = [
-    (Given::Drawn(0), Outcome::Rotated, 0, Entry::None),
-    (
-        Given::Datagram(5000, DISCOVERY),
-        Outcome::Advertised,
-        1,
-        Entry::None,
-    ),
-    (
-        Given::Datagram(5000, REQUEST),
-        Outcome::Queried {
-            v6: false,
-            limited: false,
-        },
-        1,
-        Entry::None,
-    ),
-    (
-        Given::Datagram(5000, EMPTY),
-        Outcome::Unlawful(Unlawful::Inner(InnerFault::ShortHeader(20, 0))),
-        0,
-        Entry::None,
-    ),
+// What is given, and the entry: at moment 1000, where the limits are one endpoint, two groups and one source.
+const DAY: [(Given, Entry); 17] = [
+    (Given::Time(1000), Entry::Mark(1000)),
+    (Given::Time(500), Entry::Mark(1000)),
+    (Given::Drawn(0), Entry::None),
+    (Given::Datagram(5000, DISCOVERY), Entry::None),
+    (Given::Datagram(5000, REQUEST), Entry::None),
+    (Given::Datagram(5000, EMPTY), Entry::None),
     (
         Given::Datagram(5000, TWO_RECORDS),
-        Outcome::Updated,
-        0,
         Entry::Reported(0xc633_6407, 5000, 1, 1000),
     ),
     (
         Given::Datagram(5000, ONE_SOURCE6),
-        Outcome::Updated,
-        0,
         Entry::Reported(0xc633_6407, 5000, 1, 1000),
     ),
-];
-
-// Then two groups stand at the gateway's port 5000.
-const LEAVING: [Wanted; 9] = [
-    (
-        Given::Datagram(5000, ONE_GROUP),
-        Outcome::Over(LimitFault::Groups(3)),
-        0,
-        Entry::None,
-    ),
-    (
-        Given::Datagram(5001, ONE_GROUP),
-        Outcome::BadMac,
-        0,
-        Entry::None,
-    ),
-    (
-        Given::Datagram(5001, OF_ANOTHER),
-        Outcome::Over(LimitFault::Endpoints(2)),
-        0,
-        Entry::None,
-    ),
-    (
-        Given::Datagram(5001, REQUEST6),
-        Outcome::Queried {
-            v6: true,
-            limited: true,
-        },
-        1,
-        Entry::None,
-    ),
-    (Given::Packet(PACKET), Outcome::Copied(1), 1, Entry::None),
-    (
-        Given::Packet(b""),
-        Outcome::NotForwarded(NotForwarded::Head(HeadFault::ShortHeader(20, 0))),
-        0,
-        Entry::None,
-    ),
-    (
-        Given::Datagram(6000, BAD_TEARDOWN),
-        Outcome::BadMac,
-        0,
-        Entry::None,
-    ),
+    (Given::Datagram(5000, ONE_GROUP), Entry::None),
+    (Given::Datagram(5001, ONE_GROUP), Entry::None),
+    (Given::Datagram(5001, OF_ANOTHER), Entry::None),
+    (Given::Datagram(5001, REQUEST6), Entry::None),
+    (Given::Packet(PACKET), Entry::None),
+    (Given::Packet(b""), Entry::None),
+    (Given::Datagram(6000, BAD_TEARDOWN), Entry::None),
     (
         Given::Datagram(6000, TEARDOWN),
-        Outcome::TornDown,
-        0,
         Entry::Clear(0xc633_6407, 5000, 1000),
     ),
-    (
-        Given::Datagram(6000, TEARDOWN),
-        Outcome::NoTunnel,
-        0,
-        Entry::None,
-    ),
+    (Given::Datagram(6000, TEARDOWN), Entry::None),
 ];
 
 fn relay(rt: &impl Abort, alloc: Global) -> Result<Relay, AllocError> {
@@ -238,106 +165,32 @@ fn entry_of(change: &Option<Change>) -> Entry {
     }
 }
 
-fn is_step(rt: &impl Abort, step: &Step, wanted: &Wanted) {
-    let (_, outcome, sends, handed_out) = wanted;
-    assert_eq!(rt; step.outcome, *outcome);
-    assert!(rt;
-        step.sends.len() == *sends && entry_of(&step.change) == *handed_out,
-        "{outcome:?}"
-    );
-}
-
 fn gives(
     rt: &impl Abort,
     alloc: Global,
     relay: &mut Relay,
-    wanted: &Wanted,
+    given: Given,
+    entry: Entry,
 ) -> Result<(), AllocError> {
-    let (given, _, _, _) = wanted;
-    let step = step_of(rt, alloc, relay, *given)?;
-    is_step(rt, &step, wanted);
+    let step = step_of(rt, alloc, relay, given)?;
+    assert_eq!(rt; entry_of(&step.change), entry, "{:?}", step.outcome);
     Ok(())
 }
 
-// At this time; an earlier one changes nothing.
-fn is_time(
-    rt: &impl Abort,
-    alloc: Global,
-    relay: &mut Relay,
-    reported: u64,
-    ms: u64,
-) -> Result<(), AllocError> {
-    let now = Moment::new(ms).expect(rt, "a moment");
-    gives(
-        rt,
-        alloc,
-        relay,
-        &(
-            Given::Time(reported),
-            Outcome::Moved(now),
-            0,
-            Entry::Mark(ms),
-        ),
-    )?;
-    assert_eq!(rt; relay.now(), now);
-    Ok(())
-}
-
-fn is_row(rt: &impl Abort, row: &Row, group: Ip, mode: Mode, sources: &[Ip]) {
-    assert!(rt;
-        row.endpoint.peer()
-            == Peer {
-                ip: Ip::V4(GATEWAY),
-                port: 5000
-            },
-        "{group:?}"
-    );
-    assert!(rt;
-        row.group == group && row.filter.mode() == mode,
-        "{group:?}"
-    );
-    assert_eq!(rt; row.filter.sources(), sources, "{group:?}");
-}
-
-fn are_rows(rt: &impl Abort, rows: &[Row]) {
-    match rows {
-        [first, second] => {
-            is_row(rt, first, Ip::V4(0xe801_0101), Mode::Exclude, &[]);
-            is_row(rt, second, GROUP6, Mode::Include, &[SOURCE6]);
-        }
-        _ => assert!(rt; false, "two rows"),
+fn goes_through(rt: &impl Abort, alloc: Global) -> Result<(), AllocError> {
+    let mut relay = relay(rt, alloc)?;
+    for (given, entry) in DAY {
+        gives(rt, alloc, &mut relay, given, entry)?;
     }
-}
-
-fn are_members(rt: &impl Abort, alloc: Global, relay: &Relay) -> Result<(), AllocError> {
-    let rows = relay.rows(alloc)?;
-    are_rows(rt, rows.as_slice());
-    Ok(())
-}
-
-fn goes_through(
-    rt: &impl Abort,
-    alloc: Global,
-    relay: &mut Relay,
-    rows: &[Wanted],
-) -> Result<(), AllocError> {
-    for wanted in rows {
-        gives(rt, alloc, relay, wanted)?;
-    }
+    assert!(rt; relay.now().ms() == 1000 && relay.live_endpoints() == 0);
     Ok(())
 }
 
 #[test]
-fn each_event_has_its_outcome_and_its_entry(rt: HostRuntime) -> Result<(), Fail> {
-    let mut relay = relay(&rt, rt.alloc())?;
-    for (reported, ms) in [(1000, 1000), (500, 1000)] {
-        is_time(&rt, rt.alloc(), &mut relay, reported, ms)?;
+fn each_event_has_its_entry(rt: HostRuntime) {
+    if goes_through(&rt, rt.alloc()).is_err() {
+        is_out_of_memory(&rt, "a relay");
     }
-    goes_through(&rt, rt.alloc(), &mut relay, &JOINING)?;
-    assert_eq!(rt; relay.live_endpoints(), 1);
-    are_members(&rt, rt.alloc(), &relay)?;
-    goes_through(&rt, rt.alloc(), &mut relay, &LEAVING)?;
-    Ok(())
 }
 
 fn has_no_cell<T: Sync>() {}

@@ -20,6 +20,7 @@ use cases::{Case, CaseFault, read_case};
 use place::Place;
 use std::alloc::AllocError;
 use std::io;
+use std::io::Eprint;
 use std::process::ExitCode;
 use std::rt::Files;
 use std::sync::Wait;
@@ -27,7 +28,7 @@ use std::thread::Threads;
 use tally::Tally;
 
 // The case's run differs from what it wants, and was printed, or no case stands there.
-fn differs<R: Print + Threads + Wait + AllocGlobal + 'static>(
+fn differs<R: Eprint + Print + Threads + Wait + AllocGlobal + 'static>(
     rt: &R,
     place: Place<'_>,
     case: Result<Case, CaseFault<'_>>,
@@ -47,7 +48,7 @@ fn differs<R: Print + Threads + Wait + AllocGlobal + 'static>(
 }
 
 // A case is its name, to the end of the line, and its lines.
-fn run_case<R: Print + Threads + Wait + AllocGlobal + 'static>(
+fn run_case<R: Eprint + Print + Threads + Wait + AllocGlobal + 'static>(
     rt: &R,
     file: &str,
     head: &str,
@@ -61,7 +62,7 @@ fn run_case<R: Print + Threads + Wait + AllocGlobal + 'static>(
     Ok(())
 }
 
-fn run_text<R: Print + Threads + Wait + AllocGlobal + 'static>(
+fn run_text<R: Eprint + Print + Threads + Wait + AllocGlobal + 'static>(
     rt: &R,
     file: &str,
     text: &str,
@@ -77,7 +78,7 @@ fn run_text<R: Print + Threads + Wait + AllocGlobal + 'static>(
     Ok(())
 }
 
-fn run_file<R: Files + Print + Threads + Wait + AllocGlobal + 'static>(
+fn run_file<R: Eprint + Files + Print + Threads + Wait + AllocGlobal + 'static>(
     rt: &R,
     file: &str,
     tally: &mut Tally,

@@ -9,7 +9,7 @@ use crate::devices::{Script, Sets, sets_for};
 use crate::failing::{Call, FailingCall, numbers_of};
 use crate::place::Place;
 use crate::seen::{openings_text, sends_text};
-use amt_command::amt;
+use amt_command::{Exit, amt_exit};
 use amt_ports::{MemFile, MemFiles, MemSink, MemSource};
 use amt_values::Bytes;
 use compared::compared;
@@ -17,6 +17,8 @@ use differences::{has_other_status, has_other_text};
 use sends::in_order_of_devices;
 use std::alloc::{AllocError, Global};
 use std::io;
+use std::io::Eprint;
+use std::process::Termination;
 use std::sync::Wait;
 use std::thread::Threads;
 
@@ -26,7 +28,7 @@ struct Ended {
     error: MemSink,
     openings: String,
     sends: String,
-    status: u8,
+    exit: Exit,
 }
 
 // The streams of a run, as they are given and as it leaves them.
@@ -89,20 +91,20 @@ fn after_first(arguments: &[String]) -> &[String] {
     }
 }
 
-fn status_of<R: Threads + Wait + 'static>(
+fn exit_of<R: Threads + Wait + 'static>(
     rt: &R,
     alloc: Global,
     arguments: &[String],
     streams: &mut Streams,
     files: &mut MemFiles,
     live: &mut Sets<'_, R>,
-) -> u8 {
+) -> Exit {
     let Streams {
         input,
         output,
         error,
     } = streams;
-    amt(rt, alloc, arguments, input, files, output, error, live)
+    amt_exit(rt, alloc, arguments, input, files, output, error, live)
 }
 
 // What a run leaves.
@@ -110,7 +112,7 @@ fn leavings<R: Threads>(
     alloc: Global,
     streams: Streams,
     live: &Sets<'_, R>,
-    status: u8,
+    exit: Exit,
 ) -> Result<Ended, AllocError> {
     let openings = openings_text(alloc, live)?;
     let sends = sends_text(alloc, live)?;
@@ -119,7 +121,7 @@ fn leavings<R: Threads>(
         error: streams.error,
         openings,
         sends,
-        status,
+        exit,
     })
 }
 
@@ -145,8 +147,8 @@ fn run<R: Threads + Wait + 'static>(
         failing: &failing,
     };
     let mut live = sets_for(rt, alloc, command, script)?;
-    let status = status_of(rt, alloc, arguments, &mut streams, &mut files, &mut live);
-    leavings(alloc, streams, &live, status)
+    let exit = exit_of(rt, alloc, arguments, &mut streams, &mut files, &mut live);
+    leavings(alloc, streams, &live, exit)
 }
 
 // What is wanted, and what came.
@@ -207,7 +209,7 @@ fn texts_differ<R: Print + AllocGlobal>(
 
 /// Runs a case, and prints each way in which the run differs from what is wanted. It answers whether one
 /// does.
-pub fn differs<R: Print + Threads + Wait + AllocGlobal + 'static>(
+pub fn differs<R: Eprint + Print + Threads + Wait + AllocGlobal + 'static>(
     rt: &R,
     place: Place<'_>,
     case: Case,
@@ -215,6 +217,7 @@ pub fn differs<R: Print + Threads + Wait + AllocGlobal + 'static>(
     let Case { given, wanted } = case;
     let ended = run(rt, rt.alloc(), given)?;
     let texts = texts_differ(rt, place, &wanted, &ended)?;
-    let status = has_other_status(rt, place, wanted.status, ended.status)?;
+    let exit = ended.exit.report(rt);
+    let status = has_other_status(rt, place, wanted.status, exit)?;
     Ok(texts || status)
 }

@@ -3,6 +3,7 @@
 use crate::place::Place;
 use std::alloc::{AllocError, Global};
 use std::io;
+use std::process::ExitCode;
 
 // The first line that differs, from 1, where a text that is at its end has no line.
 #[derive(Clone, Copy)]
@@ -74,15 +75,16 @@ pub fn has_other_text<R: Print + AllocGlobal>(
     }
 }
 
-/// The status differs, and was printed.
+/// The process ends with another status, which was printed.
 pub fn has_other_status(
     rt: &impl Print,
     place: Place<'_>,
     wanted: u8,
-    got: u8,
+    got: ExitCode,
 ) -> io::Result<bool> {
-    if wanted != got {
-        println!(rt; "{place}: status: wanted {wanted}, got {got}")?;
+    let differs = got != ExitCode::from(wanted);
+    if differs {
+        println!(rt; "{place}: status: wanted {wanted}, got {got:?}")?;
     }
-    Ok(wanted != got)
+    Ok(differs)
 }

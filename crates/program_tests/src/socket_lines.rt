@@ -1,6 +1,7 @@
-//! Lines that make socket calls, one by one. It must not know how they are read.
+//! Lines that make socket calls, one by one. The reasons for which a call is none are those of scripts, which are cases;
+//! what else is none stands here. It must not know how they are read.
 
-use crate::runs::is_out_of_memory;
+use crate::memory::is_out_of_memory;
 use amt_values::Ip;
 use gateway_machine::GatewayEvent;
 use gateway_script::{Reason, ScriptError, read_socket_line};
@@ -33,7 +34,7 @@ const GROUP6: Ip = Ip::V6(0xff3e_0000_0000_0000_0000_0000_0000_0001);
 const SOURCES6: &[Ip] = &[Ip::V6(0x2001_0db8_0000_0000_0000_0000_0000_0009)];
 
 // Whether the gateway is of IPv6, the line, and what it is read as.
-const ROWS: [(bool, &str, Read); 36] = [
+const ROWS: [(bool, &str, Read); 24] = [
     (
         V4,
         "open a 239.1.1.1 include 10.0.0.2 10.0.0.1 10.0.0.2",
@@ -85,35 +86,7 @@ const ROWS: [(bool, &str, Read); 36] = [
     (V4, "dg 192.0.2.1:2268 -", Read::Fault(Reason::Word)),
     (V4, "set port 1", Read::Fault(Reason::Word)),
     (V4, "Leave", Read::Fault(Reason::Word)),
-    (V4, "leave a", Read::Fault(Reason::Count)),
-    (V4, "open A 239.1.1.1", Read::Fault(Reason::Count)),
-    (V4, "change a", Read::Fault(Reason::Count)),
-    (V4, "close A b", Read::Fault(Reason::Count)),
-    (
-        V4,
-        "open A 10.0.0.1 between 2001:db8::9",
-        Read::Fault(Reason::Address),
-    ),
-    (
-        V6,
-        "change A between 2001:db8::9 10.0.0.1",
-        Read::Fault(Reason::Address),
-    ),
-    (
-        V4,
-        "open A 10.0.0.1 between 10.0.0.1",
-        Read::Fault(Reason::Name),
-    ),
-    (
-        V4,
-        "close 0123456789abcdefghijklmnopqrstuvw",
-        Read::Fault(Reason::Name),
-    ),
-    (V6, "change a between", Read::Fault(Reason::Mode)),
     (V4, "open a 10.0.0.1 between", Read::Fault(Reason::Mode)),
-    (V4, "open a 224.0.0.251 exclude", Read::Fault(Reason::Group)),
-    (V4, "open a ff3e::1 exclude", Read::Fault(Reason::Group)),
-    (V6, "open a 239.1.1.1 exclude", Read::Fault(Reason::Group)),
 ];
 
 fn is_filter(filter: &Filter, mode: Mode, sources: &[Ip]) -> bool {

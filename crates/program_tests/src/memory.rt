@@ -1,0 +1,8 @@
+//! Calls that are to succeed, since there is enough memory. It must not know what they answer.
+
+use std::process::Abort;
+
+// It is called where memory ran out, since a test that returns a result is proved twice.
+pub fn is_out_of_memory(rt: &impl Abort, what: &str) {
+    assert!(rt; false, "out of memory: {what}");
+}
