@@ -5,147 +5,131 @@ use crate::gateway::{KNOWING, MESSAGE, OPENING, QUERY, SCRIPT, serve};
 use amt_ports::MemOut;
 use gateway_serving::GatewayServed;
 use serving_turns::End;
-use std::alloc::Global;
+use std::alloc::{AllocError, Global};
 use std::process::Abort;
 
+// The call that fails, counted from 1: a word, or a receiving of the link or of the control feed.
 #[derive(Clone, Copy)]
-struct Row<'a> {
-    what: &'a str,
-    script: Script<'a>,
-    report: GatewayServed,
+enum Call {
+    Word(u64),
+    Link(u64),
+    Control(u64),
 }
 
-// A run in which nothing happened.
-const NOTHING: GatewayServed = GatewayServed {
-    end: End::Turns,
-    turns: 0,
-    datagrams: 0,
-    controls: 0,
-    bad_controls: 0,
-    delivered: 0,
-    unsent: 0,
-    starved: 0,
-};
-
-// A run in whose second turn something ends it.
-const ONE_TURN: GatewayServed = GatewayServed {
-    turns: 1,
-    datagrams: 1,
-    controls: 1,
-    ..NOTHING
-};
-
-// A packet comes in the second turn too.
-const TWO_TURNS: Script<'static> = Script {
+// A packet comes in the second turn.
+const PACKET: Script<'static> = Script {
     heard: &[QUERY, Answer::Nothing, MESSAGE, Answer::Nothing],
     ..SCRIPT
 };
 
-const ROWS: [Row<'static>; 7] = [
-    Row {
-        what: "the first word isn't drawn",
-        script: Script {
-            drawing: 1,
-            ..SCRIPT
-        },
-        report: GatewayServed {
-            end: End::WordsFault,
-            ..NOTHING
-        },
-    },
-    Row {
-        what: "the first receiving from the link fails",
-        script: Script {
-            receiving: 1,
-            ..SCRIPT
-        },
-        report: GatewayServed {
-            end: End::LinkFault,
-            ..NOTHING
-        },
-    },
-    Row {
-        what: "in the second turn the link fails",
-        script: Script {
-            receiving: 3,
-            ..SCRIPT
-        },
-        report: GatewayServed {
-            end: End::LinkFault,
-            ..ONE_TURN
-        },
-    },
-    Row {
-        what: "the link fails after a packet was handed on",
-        script: Script {
-            receiving: 4,
-            ..TWO_TURNS
-        },
-        report: GatewayServed {
-            end: End::LinkFault,
-            datagrams: 2,
-            delivered: 1,
-            ..ONE_TURN
-        },
-    },
-    Row {
-        what: "the control feed fails",
-        script: Script {
-            feeding: 3,
-            ..TWO_TURNS
-        },
-        report: GatewayServed {
-            end: End::FeedFault,
-            datagrams: 2,
-            delivered: 1,
-            ..ONE_TURN
-        },
-    },
-    Row {
-        what: "the control feed fails after lines",
-        script: Script {
-            heard: &[QUERY, Answer::Nothing, Answer::Nothing],
-            fed: &[
-                OPENING,
-                Answer::Nothing,
-                Answer::Line("jump"),
-                Answer::Line("close a"),
-            ],
-            feeding: 5,
-            ..SCRIPT
-        },
-        report: GatewayServed {
-            end: End::FeedFault,
-            controls: 3,
-            bad_controls: 1,
-            ..ONE_TURN
-        },
-    },
-    Row {
-        what: "in the second turn a word isn't drawn",
-        script: Script {
-            drawing: 3,
-            ..SCRIPT
-        },
-        report: GatewayServed {
-            end: End::WordsFault,
-            ..ONE_TURN
-        },
-    },
+// Two lines come in the second turn, of which one makes no call.
+const LINES: Script<'static> = Script {
+    heard: &[QUERY, Answer::Nothing, Answer::Nothing],
+    fed: &[
+        OPENING,
+        Answer::Nothing,
+        Answer::Line("jump"),
+        Answer::Line("close a"),
+    ],
+    ..SCRIPT
+};
+
+// The numbers of turns, datagrams, lines, bad lines and packets.
+type Counts = [u64; 5];
+
+const ROWS: [(&str, Script<'static>, Call, End, Counts); 7] = [
+    (
+        "the first word",
+        SCRIPT,
+        Call::Word(1),
+        End::WordsFault,
+        [0; 5],
+    ),
+    (
+        "the link at once",
+        SCRIPT,
+        Call::Link(1),
+        End::LinkFault,
+        [0; 5],
+    ),
+    (
+        "the link in the second turn",
+        SCRIPT,
+        Call::Link(3),
+        End::LinkFault,
+        [1, 1, 1, 0, 0],
+    ),
+    (
+        "the link after a packet",
+        PACKET,
+        Call::Link(4),
+        End::LinkFault,
+        [1, 2, 1, 0, 1],
+    ),
+    (
+        "the control feed after a packet",
+        PACKET,
+        Call::Control(3),
+        End::FeedFault,
+        [1, 2, 1, 0, 1],
+    ),
+    (
+        "the control feed after lines",
+        LINES,
+        Call::Control(5),
+        End::FeedFault,
+        [1, 1, 3, 1, 0],
+    ),
+    (
+        "the word of the second turn",
+        SCRIPT,
+        Call::Word(3),
+        End::WordsFault,
+        [1, 1, 1, 0, 0],
+    ),
 ];
 
-fn assert_row(rt: &impl Abort, alloc: Global, row: &Row) {
-    let Ok(mut devices) = devices_of(alloc, &row.script) else {
-        panic!(rt; "out of memory");
-    };
+fn failing<'a>(script: Script<'a>, call: Call) -> Script<'a> {
+    match call {
+        Call::Word(drawing) => Script { drawing, ..script },
+        Call::Link(receiving) => Script {
+            receiving,
+            ..script
+        },
+        Call::Control(feeding) => Script { feeding, ..script },
+    }
+}
+
+fn report_of(end: End, counts: Counts) -> GatewayServed {
+    let [turns, datagrams, controls, bad_controls, delivered] = counts;
+    GatewayServed {
+        end,
+        turns,
+        datagrams,
+        controls,
+        bad_controls,
+        delivered,
+        unsent: 0,
+        starved: 0,
+    }
+}
+
+fn serve_over(
+    rt: &impl Abort,
+    alloc: Global,
+    script: &Script,
+) -> Result<GatewayServed, AllocError> {
+    let mut devices = devices_of(alloc, script)?;
     let mut out = MemOut::new(alloc);
-    let report = serve(rt, alloc, KNOWING, 3, &mut devices, &mut out);
-    assert_eq!(rt; report, row.report, "{}", row.what);
+    Ok(serve(rt, alloc, KNOWING, 3, &mut devices, &mut out))
 }
 
 #[test]
 fn a_gateway_that_a_device_ends_has_counted_what_was_before(rt: HostRuntime) {
-    for row in ROWS.as_slice() {
-        assert_row(&rt, rt.alloc(), row);
+    for (what, script, call, end, counts) in ROWS {
+        let Ok(report) = serve_over(&rt, rt.alloc(), &failing(script, call)) else {
+            panic!(rt; "out of memory");
+        };
+        assert_eq!(rt; report, report_of(end, counts), "{what}");
     }
 }

@@ -11,142 +11,105 @@ use std::process::Abort;
 use std::sync::Wait;
 use std::thread::Threads;
 
-// A run, the start that is refused, and what it comes to: the links out that come back, and the report.
+// The call that fails, counted from 1: a start, a word, a receiving of the link or of the feed. A new secret is
+// due in each turn where a word of one fails.
 #[derive(Clone, Copy)]
-struct Row<'a> {
-    what: &'a str,
-    rotate_ms: u64,
-    script: Script<'a>,
-    start: u64,
-    outs: usize,
-    report: ServeReport,
+enum Call {
+    Start(u64),
+    Word(u64),
+    NewWord(u64),
+    Link(u64),
+    Feed(u64),
 }
 
-// A run in which nothing happened.
-const NOTHING: ServeReport = ServeReport {
-    end: End::Turns,
-    turns: 0,
-    datagrams: 0,
-    packets: 0,
-    updated: 0,
-    torn: 0,
-    sent: 0,
-    unsent: 0,
-    inline: 0,
-    starved: 0,
-    late: 0,
-    owed: 0,
-    published: 0,
-    apart: 0,
-};
+// The numbers of turns, datagrams, packets, Updates, copies, and entries that are owed and published.
+type Counts = [u64; 7];
 
-// A run whose second turn is the last: its moment is published only after the link.
-const ONE_TURN: ServeReport = ServeReport {
-    turns: 1,
-    datagrams: 1,
-    packets: 2,
-    updated: 1,
-    sent: 2,
-    owed: 1,
-    published: 2,
-    ..NOTHING
-};
-
-const ROW: Row<'static> = Row {
-    what: "",
-    rotate_ms: 3_600_000,
-    script: SCRIPT,
-    start: 0,
-    outs: 2,
-    report: NOTHING,
-};
-
-const ROWS: [Row<'static>; 7] = [
-    Row {
-        what: "the first worker isn't started",
-        start: 1,
-        outs: 1,
-        report: ServeReport {
-            end: End::SpawnFault,
-            ..NOTHING
-        },
-        ..ROW
-    },
-    Row {
-        what: "the second worker isn't started",
-        start: 2,
-        outs: 1,
-        report: ServeReport {
-            end: End::SpawnFault,
-            ..NOTHING
-        },
-        ..ROW
-    },
-    Row {
-        what: "the first word of the first secret isn't drawn",
-        script: Script {
-            drawing: 1,
-            ..SCRIPT
-        },
-        report: ServeReport {
-            end: End::WordsFault,
-            ..NOTHING
-        },
-        ..ROW
-    },
-    Row {
-        what: "its last word isn't drawn",
-        script: Script {
-            drawing: 4,
-            ..SCRIPT
-        },
-        report: ServeReport {
-            end: End::WordsFault,
-            ..NOTHING
-        },
-        ..ROW
-    },
-    Row {
-        what: "in the second turn the link fails",
-        script: Script {
-            receiving: 3,
-            ..SCRIPT
-        },
-        report: ServeReport {
-            end: End::LinkFault,
-            ..ONE_TURN
-        },
-        ..ROW
-    },
-    Row {
-        what: "in the second turn the feed fails",
-        script: Script {
-            heard: &[UPDATE, Answer::Nothing, Answer::Nothing],
-            feeding: 4,
-            ..SCRIPT
-        },
-        report: ServeReport {
-            end: End::FeedFault,
-            owed: 0,
-            published: 3,
-            ..ONE_TURN
-        },
-        ..ROW
-    },
-    Row {
-        what: "in the second turn a word of a new secret isn't drawn",
-        rotate_ms: 1,
-        script: Script {
-            drawing: 7,
-            ..SCRIPT
-        },
-        report: ServeReport {
-            end: End::WordsFault,
-            ..ONE_TURN
-        },
-        ..ROW
-    },
+// The moment of the second turn is published only after the link.
+const ROWS: [(&str, Call, End, Counts); 7] = [
+    ("the first worker", Call::Start(1), End::SpawnFault, [0; 7]),
+    ("the second worker", Call::Start(2), End::SpawnFault, [0; 7]),
+    (
+        "the first word of the first secret",
+        Call::Word(1),
+        End::WordsFault,
+        [0; 7],
+    ),
+    ("its last word", Call::Word(4), End::WordsFault, [0; 7]),
+    (
+        "the link in the second turn",
+        Call::Link(3),
+        End::LinkFault,
+        [1, 1, 2, 1, 2, 1, 2],
+    ),
+    (
+        "the feed in the second turn",
+        Call::Feed(4),
+        End::FeedFault,
+        [1, 1, 2, 1, 2, 0, 3],
+    ),
+    (
+        "a word of a new secret",
+        Call::NewWord(7),
+        End::WordsFault,
+        [1, 1, 2, 1, 2, 1, 2],
+    ),
 ];
+
+const HEARD: Script<'static> = Script {
+    heard: &[UPDATE, Answer::Nothing, Answer::Nothing],
+    ..SCRIPT
+};
+
+fn script_of(call: Call) -> Script<'static> {
+    match call {
+        Call::Start(_) => SCRIPT,
+        Call::Word(drawing) | Call::NewWord(drawing) => Script { drawing, ..SCRIPT },
+        Call::Link(receiving) => Script {
+            receiving,
+            ..SCRIPT
+        },
+        Call::Feed(feeding) => Script { feeding, ..HEARD },
+    }
+}
+
+fn plan_of(call: Call) -> ServePlan {
+    match call {
+        Call::NewWord(_) => ServePlan {
+            rotate_ms: 1,
+            ..PLAN
+        },
+        _ => PLAN,
+    }
+}
+
+// The start that is refused, and how many links out are left.
+fn refused(call: Call) -> (u64, usize) {
+    match call {
+        Call::Start(number) => (number, 1),
+        _ => (0, 2),
+    }
+}
+
+fn report_of(end: End, counts: Counts) -> ServeReport {
+    let [turns, datagrams, packets, updated, sent, owed, published] = counts;
+    ServeReport {
+        end,
+        turns,
+        datagrams,
+        packets,
+        updated,
+        torn: 0,
+        sent,
+        unsent: 0,
+        inline: 0,
+        starved: 0,
+        late: 0,
+        owed,
+        published,
+        apart: 0,
+    }
+}
 
 fn two_outs(alloc: Global) -> Result<Outs<MemOut>, AllocError> {
     let mut outs = Vec::with_capacity(alloc, 2)?;
@@ -155,33 +118,25 @@ fn two_outs(alloc: Global) -> Result<Outs<MemOut>, AllocError> {
     Ok(Outs::from(outs))
 }
 
-fn serve_row<R: Threads + Wait + Abort + 'static>(
+fn serve_failing<R: Threads + Wait + Abort + 'static>(
     rt: &R,
     alloc: Global,
-    row: &Row,
+    call: Call,
 ) -> Result<Served<MemOut>, AllocError> {
-    let mut devices = devices_of(alloc, &row.script)?;
-    let refused = vec![in alloc; row.start]?;
+    let mut devices = devices_of(alloc, &script_of(call))?;
+    let starts = vec![in alloc; refused(call).0]?;
     let outs = two_outs(alloc)?;
-    let plan = ServePlan {
-        rotate_ms: row.rotate_ms,
-        ..PLAN
-    };
-    let mut spawner = ListedSpawner::new(rt, Starter { rt }, refused);
-    Ok(serve(rt, alloc, plan, &mut devices, outs, &mut spawner))
-}
-
-fn assert_row<R: Threads + Wait + Abort + 'static>(rt: &R, alloc: Global, row: &Row) {
-    let Ok(served) = serve_row(rt, alloc, row) else {
-        panic!(rt; "out of memory");
-    };
-    assert_eq!(rt; served.report, row.report, "{}", row.what);
-    assert_eq!(rt; served.outs.len(), row.outs, "{}", row.what);
+    let mut spawner = ListedSpawner::new(rt, Starter { rt }, starts);
+    Ok(serve(rt, alloc, plan_of(call), &mut devices, outs, &mut spawner))
 }
 
 #[test]
 fn a_relay_that_a_device_ends_has_counted_what_was_before(rt: HostRuntime) {
-    for row in ROWS.as_slice() {
-        assert_row(&rt, rt.alloc(), row);
+    for (what, call, end, counts) in ROWS {
+        let Ok(served) = serve_failing(&rt, rt.alloc(), call) else {
+            panic!(rt; "out of memory");
+        };
+        assert_eq!(rt; served.report, report_of(end, counts), "{what}");
+        assert_eq!(rt; served.outs.len(), refused(call).1, "{what}");
     }
 }
