@@ -96,19 +96,6 @@ pub fn run<V: Live>(
     run_over(rt, alloc, line, input, files, write, is_mute, live)
 }
 
-/// A run of `amt replay relay` or `amt replay gateway` over this script.
-pub fn replay<V: Live>(
-    rt: &impl Wait,
-    alloc: Global,
-    line: &str,
-    script: Bytes,
-    live: &mut V,
-) -> Result<Ended, AllocError> {
-    let input = MemSource::failing(script, Vec::new(alloc));
-    let mut files = MemFiles::new(alloc, Vec::new(alloc));
-    run_over(rt, alloc, line, input, &mut files, 0, false, live)
-}
-
 /// The run ended with this status, this output and this line on standard error.
 pub fn is_ended(
     rt: &impl Abort,
@@ -124,44 +111,4 @@ pub fn is_ended(
     assert_eq!(rt; ended.status, status, "{what}");
     assert_eq!(rt; ended.out.as_slice(), out.as_bytes(), "{what}");
     assert_eq!(rt; ended.err.as_slice(), err.as_bytes(), "{what}");
-}
-
-/// The run ended with status 0 and this output.
-pub fn is_written(rt: &impl Abort, what: &str, ended: &Result<Ended, AllocError>, out: &[u8]) {
-    let Ok(ended) = ended else {
-        panic!(rt; "out of memory: {what}");
-    };
-    assert_eq!(rt; ended.status, 0, "{what}");
-    assert_eq!(rt; ended.out.as_slice(), out, "{what}");
-    assert!(rt; ended.err.as_slice().is_empty(), "{what}");
-}
-
-/// A run by `SETTINGS` ends with status 0 and this output.
-pub fn assert_served<R: Wait + Abort, V: Live>(
-    rt: &R,
-    alloc: Global,
-    line: &str,
-    live: &mut V,
-    out: &str,
-) {
-    let Ok(settings) = Bytes::copied(alloc, SETTINGS.as_bytes()) else {
-        panic!(rt; "out of memory");
-    };
-    assert_served_by(rt, alloc, line, settings, live, out);
-}
-
-/// A run by a file of these settings ends with status 0 and this output.
-pub fn assert_served_by<R: Wait + Abort, V: Live>(
-    rt: &R,
-    alloc: Global,
-    line: &str,
-    settings: Bytes,
-    live: &mut V,
-    out: &str,
-) {
-    let Ok(mut files) = files_of(alloc, settings, 0) else {
-        panic!(rt; "out of memory");
-    };
-    let ended = run(rt, alloc, line, &mut files, 0, false, live);
-    is_ended(rt, line, &ended, 0, out, "");
 }

@@ -1,7 +1,7 @@
-//! Tests of `amt relay` and `amt gateway`, over devices in memory and over the loopback, by public calls.
+//! Tests of `amt relay` and `amt gateway`, over devices in memory, by public calls.
 //!
 //! Contract: none; it is tests alone. They stand in a crate of their own since the tests of a crate prove
-//! all its functions once more, and since some of them start threads and open sockets.
+//! all its functions once more, and since some of them start threads.
 //! It must not know what any crate keeps to itself.
 //! No standard.
 #![tactic(auto)]
@@ -17,17 +17,9 @@ mod failing;
 #[cfg(test)]
 mod gateway_devices;
 #[cfg(test)]
-mod gateway_loopback;
-#[cfg(test)]
 mod gateway_runs;
 #[cfg(test)]
 mod gateway_statuses;
-#[cfg(test)]
-mod host;
-#[cfg(test)]
-mod loopback;
-#[cfg(test)]
-mod meeting;
 #[cfg(test)]
 mod relay_runs;
 #[cfg(test)]

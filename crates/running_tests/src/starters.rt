@@ -1,7 +1,6 @@
 //! What starts the workers of the tests. It must not know what a worker does.
 
-use crate::meeting::MeetingOut;
-use amt_ports::{Failed, GivenBy, MemOut, Starts, UdpOut};
+use amt_ports::{Failed, GivenBy, MemOut, Starts};
 use replication_workers::{Worker, WorkerDone, start_worker};
 use std::sync::Wait;
 use std::thread::{PromisedHandle, Threads};
@@ -17,24 +16,6 @@ impl<'a, R: Threads + Wait + 'static> Starts<Worker<MemOut>> for Starter<'a, R> 
         &self,
         work: Worker<MemOut>,
     ) -> Result<PromisedHandle<WorkerDone<MemOut>, GivenBy<Worker<MemOut>>>, Failed> {
-        start_worker(self.rt, work)
-    }
-}
-
-impl<'a, R: Threads + Wait + 'static> Starts<Worker<UdpOut>> for Starter<'a, R> {
-    fn start_thread(
-        &self,
-        work: Worker<UdpOut>,
-    ) -> Result<PromisedHandle<WorkerDone<UdpOut>, GivenBy<Worker<UdpOut>>>, Failed> {
-        start_worker(self.rt, work)
-    }
-}
-
-impl<'a, R: Threads + Wait + 'static> Starts<Worker<MeetingOut>> for Starter<'a, R> {
-    fn start_thread(
-        &self,
-        work: Worker<MeetingOut>,
-    ) -> Result<PromisedHandle<WorkerDone<MeetingOut>, GivenBy<Worker<MeetingOut>>>, Failed> {
         start_worker(self.rt, work)
     }
 }
