@@ -1,101 +1,111 @@
-//! Devices in memory for the turns of a relay. It must not know what a relay does with them.
-ghost use Rattle.std.specs.Prelude.{All};
-ghost use Rattle.amt_ports.specs.Arrivals.{IsShortAnswer, IsShortFeedAnswer};
+//! The devices of a relay's turns. They must not know what a relay does with them.
+ghost use Rattle.std.specs.Prelude.{◌≡◌, ◌≤◌, length, None};
 
 use crate::packets::{ENDPOINT, OTHER_UPDATE, UPDATE, packet};
-use amt_ports::{FeedAnswer, LinkAnswer, MemClock, MemFeed, MemLink};
-use amt_values::{Bytes, Moment};
-use std::alloc::Global;
-use std::collections::VecDeque;
-use std::process::Abort;
+use amt_ports::{Clock, Failed, Feed, FeedGot, Got, Link};
+use amt_values::{Moment, Peer};
 
-// The link has this datagram.
-fn hear(rt: &impl Abort, alloc: Global, answers: &mut VecDeque<LinkAnswer>, datagram: &[u8; 52])
-    requires { All IsShortAnswer answers.old.items }
-    ensures { All IsShortAnswer answers.new.items }
+// Copies the octets to the start of the buffer.
+fn put(buf: &mut [u8], octets: &[u8])
+    requires { length octets.now ≤ length buf.old }
+    ensures { length buf.new ≡ length buf.old }
 {
-    let Ok(octets) = Bytes::copied(alloc, datagram.as_slice()) else {
-        panic!(rt; "out of memory");
-    };
-    let answer = LinkAnswer::Datagram(ENDPOINT, octets);
-    assert!(rt; answers.push_back(answer).is_ok());
+    let (start, _) = buf.split_at_mut(octets.len());
+    start.copy_from_slice(octets);
 }
 
-fn hear_nothing(rt: &impl Abort, answers: &mut VecDeque<LinkAnswer>, turns: u64)
-    requires { All IsShortAnswer answers.old.items }
-    ensures { All IsShortAnswer answers.new.items }
-{
-    for _ in 0..turns {
-        assert!(rt; answers.push_back(LinkAnswer::Nothing).is_ok());
+/// A link that has both Updates in the first turn, and nothing later.
+#[derive(Drop)]
+pub struct TwoUpdates {
+    asked: u64,
+}
+
+impl TwoUpdates {
+    pub fn new() -> TwoUpdates {
+        TwoUpdates { asked: 0 }
     }
 }
 
-/// A link that has both Updates in the first of so many turns.
-pub fn link_of(rt: &impl Abort, alloc: Global, turns: u64) -> MemLink {
-    let mut answers = VecDeque::new(alloc);
-    hear(rt, alloc, &mut answers, &UPDATE);
-    hear(rt, alloc, &mut answers, &OTHER_UPDATE);
-    hear_nothing(rt, &mut answers, turns);
-    MemLink::new(alloc, answers)
+impl Link for TwoUpdates {
+    ghost coming = { λ _. None };
+
+    ghost tried = { λ _. None };
+
+    ghost receive_faults = { λ _. 0 };
+
+    ghost send_faults = { λ _. 0 };
+
+    fn recv(&mut self, buf: &mut [u8], wait_ms: u32) -> Result<Got, Failed> {
+        self.asked = self.asked.saturating_add(1);
+        let octets = match self.asked {
+            1 => &UPDATE,
+            2 => &OTHER_UPDATE,
+            _ => return Ok(Got::Nothing),
+        };
+        put(buf, octets.as_slice());
+        Ok(Got::Datagram(ENDPOINT, 52))
+    }
+
+    fn send(&mut self, to: &Peer, bytes: &[u8]) -> Result<(), Failed> {
+        Ok(())
+    }
 }
 
-fn feed(rt: &impl Abort, answers: &mut VecDeque<FeedAnswer>, answer: FeedAnswer)
-    requires answer { IsShortFeedAnswer answer }
-    requires old { All IsShortFeedAnswer answers.old.items }
-    ensures { All IsShortFeedAnswer answers.new.items }
-{
-    assert!(rt; answers.push_back(answer).is_ok());
-}
-
-// The packet of this number, and nothing after the last one of its turn.
-fn feed_packet(
-    rt: &impl Abort,
-    alloc: Global,
-    answers: &mut VecDeque<FeedAnswer>,
+/// A feed that has so many packets in each turn but the first, at most 63.
+#[derive(Drop)]
+pub struct Packets {
     number: u16,
     in_turn: u16,
-)
-    requires { All IsShortFeedAnswer answers.old.items }
-    ensures { All IsShortFeedAnswer answers.new.items }
-{
-    let Ok(octets) = Bytes::copied(alloc, packet(number).as_slice()) else {
-        panic!(rt; "out of memory");
-    };
-    feed(rt, answers, FeedAnswer::Packet(octets));
-    if number.wrapping_add(1).checked_rem(in_turn) == Some(0) {
-        feed(rt, answers, FeedAnswer::Nothing);
+    left: u16,
+}
+
+impl Packets {
+    pub fn new(in_turn: u16) -> Packets {
+        Packets {
+            number: 0,
+            in_turn,
+            left: 0,
+        }
     }
 }
 
-fn feed_packets(
-    rt: &impl Abort,
-    alloc: Global,
-    answers: &mut VecDeque<FeedAnswer>,
-    count: u16,
-    in_turn: u16,
-)
-    requires { All IsShortFeedAnswer answers.old.items }
-    ensures { All IsShortFeedAnswer answers.new.items }
-{
-    for number in 0..count {
-        feed_packet(rt, alloc, answers, number, in_turn);
+impl Feed for Packets {
+    ghost coming = { λ _. None };
+
+    ghost faults = { λ _. 0 };
+
+    fn recv(&mut self, buf: &mut [u8], wait_ms: u32) -> Result<FeedGot, Failed> {
+        if self.left == 0 {
+            self.left = self.in_turn;
+            return Ok(FeedGot::Nothing);
+        }
+        self.left -= 1;
+        put(buf, packet(self.number).as_slice());
+        self.number = self.number.wrapping_add(1);
+        Ok(FeedGot::Packet(28))
     }
 }
 
-/// A feed that has so many packets in each turn but the first.
-pub fn feed_of(rt: &impl Abort, alloc: Global, count: u16, in_turn: u16) -> MemFeed {
-    let mut answers = VecDeque::new(alloc);
-    feed(rt, &mut answers, FeedAnswer::Nothing);
-    feed_packets(rt, alloc, &mut answers, count, in_turn);
-    MemFeed::new(alloc, answers)
+/// A clock whose moments are 0, 1 and so on, in milliseconds.
+#[derive(Drop)]
+pub struct Ticks {
+    next: u64,
 }
 
-/// A clock whose moments are 0, 1 and so on, in milliseconds, for so many turns.
-pub fn clock_of(rt: &impl Abort, alloc: Global, turns: u64) -> MemClock {
-    let mut moments = Vec::new(alloc);
-    for ms in 0..turns {
-        let moment = Moment::new(ms).expect(rt, "moments are below 2^62");
-        assert!(rt; moments.push(moment).is_ok());
+impl Ticks {
+    pub fn new() -> Ticks {
+        Ticks { next: 0 }
     }
-    MemClock::new(moments)
+}
+
+impl Clock for Ticks {
+    ghost given = { λ _. None };
+
+    ghost faults = { λ _. 0 };
+
+    fn now(&mut self) -> Moment {
+        let moment = Moment::new(self.next).unwrap_or(Moment::new(0).unwrap());
+        self.next = self.next.saturating_add(1);
+        moment
+    }
 }

@@ -107,10 +107,11 @@ fn copy_of(alloc: Global, signals: &Shared) -> Result<Meeting, AllocError>
     })
 }
 
-fn host_of(alloc: Global, signals: &Shared, guests: usize) -> Result<Host, AllocError> {
+// There is room for 64 doors.
+fn host_of(alloc: Global, signals: &Shared) -> Result<Host, AllocError> {
     let first = copy_of(alloc, signals)?;
     let second = copy_of(alloc, signals)?;
-    Writer::new(alloc, first, second, guests)
+    Writer::new(alloc, first, second, 64)
 }
 
 // Publishes the step.
@@ -172,7 +173,7 @@ fn assert_all_see<R: Wait + Abort>(
 #[test]
 fn door_on_one_thread(rt: HostRuntime) -> Result<(), AllocError> {
     let signals = signals_of(rt.alloc())?;
-    let mut host = host_of(rt.alloc(), &signals, 64)?;
+    let mut host = host_of(rt.alloc(), &signals)?;
     let done = assert_all_see(&rt, rt.alloc(), &mut host);
     host.take(&rt);
     done
@@ -216,7 +217,7 @@ fn assert_let_in<R: Threads + Wait + Abort + Sync>(
 #[test]
 fn door_beside_a_publishing(rt: HostRuntime) -> Result<(), AllocError> {
     let signals = signals_of(rt.alloc())?;
-    let mut host = host_of(rt.alloc(), &signals, 1)?;
+    let mut host = host_of(rt.alloc(), &signals)?;
     let done = assert_let_in(&rt, &mut host, &signals);
     host.take(&rt);
     done

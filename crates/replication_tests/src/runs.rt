@@ -1,6 +1,6 @@
 //! Runs of a relay, whose workers copy its packets beside its turns. It must not know what a worker is.
 
-use crate::devices::{clock_of, feed_of, link_of};
+use crate::devices::{Packets, Ticks, TwoUpdates};
 use crate::outs::{Starter, WaitingOut, outs_of};
 use crate::packets::{is_copy, slot_of};
 use amt_ports::{ListedSpawner, MemWords, Spawner, ThreadSpawner};
@@ -19,7 +19,7 @@ use std::thread::Threads;
 struct Run<'a> {
     what: &'a str,
     workers: u32,
-    // The packets, and how many of them come in each turn but the first.
+    // The packets, and how many of them come in each turn but the first, at most 63.
     count: u16,
     in_turn: u16,
     // So often each link out looks for another one before its first send.
@@ -52,7 +52,7 @@ impl<'a> Run<'a> {
             starved: 0,
             late: 0,
             owed: 0,
-            published: self.turns() + 2,
+            published: self.turns().saturating_add(2),
             apart: 0,
         }
     }
@@ -79,9 +79,9 @@ fn serve<R: Wait + Abort, P: Spawner<Worker<WaitingOut>>>(
         alloc,
         Settings::of_relay(Ip::V4(0xc000_0201)),
         &plan,
-        &mut link_of(rt, alloc, plan.turns),
-        &mut feed_of(rt, alloc, run.count, run.in_turn),
-        &mut clock_of(rt, alloc, plan.turns),
+        &mut TwoUpdates::new(),
+        &mut Packets::new(run.in_turn),
+        &mut Ticks::new(),
         &mut MemWords::new(alloc, Vec::new(alloc)),
         outs,
         spawner,
