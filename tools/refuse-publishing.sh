@@ -1,5 +1,5 @@
 #!/bin/sh
-# Refuses each allocation of the test what_a_refused_publishing_owes_goes_first, one at a time, and prints what
+# Refuses each allocation of the publishings of tools/refuse_publishing/publishing.rt.in, one at a time, and prints what
 # came out. It proves nothing, and works on a copy of the repository.
 #
 #     tools/refuse-publishing.sh [LAST]
@@ -17,26 +17,25 @@ top=$(cd "$(dirname "$0")/.." && pwd)
 copy=$(mktemp -d)
 trap 'rm -rf "$copy"' EXIT
 mkdir "$copy/crates"
-for name in contract_words amt_values amt_ports source_filter endpoint_membership published_table replication_tests; do
+libraries="contract_words amt_values amt_ports source_filter endpoint_membership published_table"
+for name in $libraries; do
     mkdir "$copy/crates/$name"
     for part in src specs proofs; do
         if [ -d "$top/crates/$name/$part" ]; then cp -r "$top/crates/$name/$part" "$copy/crates/$name/"; fi
     done
     grep "^$name[ :]" "$top/crates.txt" >>"$copy/crates.txt"
 done
+# What published_table stands on, and itself.
+below=$(sed -n 's/^published_table .*: //p' "$top/crates.txt")
+echo "refuse_publishing tests_may=Wait: $below published_table" >>"$copy/crates.txt"
 cp "$top/HANDLES" "$copy/"
-sed -i 's/ amt_messages\| inner_datagrams\| relay_machine\| replication_workers//g' "$copy/crates.txt"
-cd "$copy/crates/replication_tests"
-for file in src/*.rt; do
-    case $file in
-    src/lib.rt | src/fixtures.rt | src/refused.rt) ;;
-    *) rm "$file" ;;
-    esac
-done
-printf '%s\n' '#![tactic(auto)]' '#[cfg(test)] mod fixtures;' '#[cfg(test)] mod refused;' '#[cfg(test)] mod each;' >src/lib.rt
+mkdir -p "$copy/crates/refuse_publishing/src"
+cd "$copy/crates/refuse_publishing"
+cp "$top/tools/refuse_publishing/publishing.rt.in" src/publishing.rt
+printf '%s\n' '#![tactic(auto)]' '#[cfg(test)] mod publishing;' '#[cfg(test)] mod each;' >src/lib.rt
 {
     cat <<'END'
-use crate::refused::publishes_all;
+use crate::publishing::publishes_all;
 use std::alloc::{AllocError, Global};
 
 fn pad(alloc: Global, count: usize) -> Result<usize, AllocError> {

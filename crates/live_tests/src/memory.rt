@@ -1,291 +1,190 @@
-//! Sets of devices in memory. It knows public calls alone.
+//! Clocks, random words, feeds and links in memory. It knows public calls alone.
+ghost use Rattle.std.specs.Prelude.{◌≡◌, ◌≤◌, All, IfOk, length};
+ghost use Rattle.amt_ports.specs.Arrivals.{IsShortAnswer, IsShortFeedAnswer};
 
-ghost use Rattle.std.specs.Prelude.{None};
-
-use amt_live::{DeviceSet, GatewayDevices, Live, MemLive, OpenFault, Opening, RelayDevices};
-use amt_ports::{Failed, MemClock, MemFeed, MemLink, MemOut, MemWords, Spawner, Task};
-use amt_values::{Ip, Peer};
-use replication_workers::{Outs, Worker, WorkerDone};
+use amt_ports::*;
+use amt_values::{Bytes, Ip, Moment, Peer};
 use std::alloc::{AllocError, Global};
 use std::collections::VecDeque;
-use std::sync::Wait;
 
-const LISTEN: Peer = Peer {
-    ip: Ip::V4(0xc000_0201),
-    port: 2268,
-};
-
-const FEED: Peer = Peer {
-    ip: Ip::V4(0x7f00_0001),
-    port: 5000,
-};
-
-const CONTROL: Peer = Peer {
-    ip: Ip::V4(0x7f00_0001),
-    port: 5001,
-};
-
-// A spawner with no threads: a worker runs when it is joined.
-#[derive(Drop)]
-struct AtJoin<R> {
-    rt: R,
-}
-
-impl<R: Wait> Spawner<Worker<MemOut>> for AtJoin<R> {
-    type Started = Worker<MemOut>;
-
-    ghost task_of = { λ started. started };
-
-    ghost starts = { λ _. None };
-
-    ghost faults = { λ _. 0 };
-
-    fn start(&mut self, work: Worker<MemOut>) -> Result<Worker<MemOut>, Failed> {
-        Ok(work)
+// What three looks at a clock with these moments give.
+fn looks(alloc: Global, listed: &[u64]) -> Result<[u64; 3], AllocError> {
+    let mut moments = Vec::new(alloc);
+    for ms in listed {
+        if let Some(moment) = Moment::new(*ms) {
+            moments.push(moment)?;
+        }
     }
-
-    fn join(&mut self, started: Worker<MemOut>) -> WorkerDone<MemOut> {
-        started.run(&self.rt)
-    }
+    let mut clock = MemClock::new(moments);
+    Ok([clock.now().ms(), clock.now().ms(), clock.now().ms()])
 }
 
-type MemSet<R> = DeviceSet<MemLink, MemFeed, MemClock, MemWords, MemOut, AtJoin<R>>;
-
-type MemSets<R> = MemLive<MemLink, MemFeed, MemClock, MemWords, MemOut, AtJoin<R>>;
-
-fn outs_of(alloc: Global, count: usize) -> Result<Outs<MemOut>, AllocError> {
-    let mut outs = Vec::with_capacity(alloc, count)?;
-    for _ in 0..count {
-        outs.push(MemOut::new(alloc))?;
-    }
-    Ok(Outs::from(outs))
+// They may go back. A clock with no moment is at 0.
+#[test]
+fn a_clock_in_memory_gives_its_moments_and_then_the_last_one(rt: HostRuntime) {
+    assert!(rt; looks(rt.alloc(), &[9, 3]) == Ok([9, 3, 3]));
+    assert!(rt; looks(rt.alloc(), &[]) == Ok([0, 0, 0]));
 }
 
-fn relay_set<R: Drop>(rt: R, alloc: Global, outs: usize) -> Result<MemSet<R>, AllocError> {
-    let outs = outs_of(alloc, outs)?;
-    Ok(DeviceSet::Relay(RelayDevices {
-        link: MemLink::new(alloc, VecDeque::new(alloc)),
-        feed: MemFeed::new(alloc, VecDeque::new(alloc)),
-        clock: MemClock::new(Vec::new(alloc)),
-        words: MemWords::new(alloc, Vec::new(alloc)),
-        outs,
-        spawner: AtJoin { rt },
-    }))
+// What four draws answer.
+type Draws = [Result<u64, Failed>; 4];
+
+fn draws<W: Words>(words: &mut W) -> Draws {
+    [words.word(), words.word(), words.word(), words.word()]
 }
 
-fn gateway_set<R>(alloc: Global) -> MemSet<R> {
-    DeviceSet::Gateway(GatewayDevices {
-        link: MemLink::new(alloc, VecDeque::new(alloc)),
-        control: MemFeed::new(alloc, VecDeque::new(alloc)),
-        out: MemOut::new(alloc),
-        clock: MemClock::new(Vec::new(alloc)),
-        words: MemWords::new(alloc, Vec::new(alloc)),
-    })
-}
-
-// A relay's set with two links out, a gateway's, and a relay's with one link out.
-fn sets_of<R: Copy + Drop>(
-    rt: R,
+// What draws of these words answer where the listed ones fail, and how many failed.
+fn listed_draws(
     alloc: Global,
+    listed: &[u64],
     failing: &[u64],
-) -> Result<MemSets<R>, AllocError> {
-    let mut sets = Vec::with_capacity(alloc, 3)?;
-    sets.push(relay_set(rt, alloc, 2)?)?;
-    sets.push(gateway_set(alloc))?;
-    sets.push(relay_set(rt, alloc, 1)?)?;
-    if failing.is_empty() {
-        return Ok(MemLive::new(alloc, sets));
-    }
-    Ok(MemLive::failing(alloc, sets, Vec::from_slice(alloc, failing)?))
-}
-
-// A set that was handed out: a relay's with so many links out, or a gateway's.
-#[derive(Clone, Copy, PartialEq, Eq)]
-enum Handed {
-    Relay(usize),
-    Gateway,
-}
-
-type Answer = Result<Handed, OpenFault>;
-
-// What an opening for a relay hands out, which is given back.
-fn open_relay<V: Live>(live: &mut V, listen: &Peer, feed: &Peer, slots: u32) -> Answer {
-    match live.open_relay(listen, feed, slots) {
-        Ok(devices) => {
-            let outs = devices.outs.len();
-            live.return_relay(devices);
-            Ok(Handed::Relay(outs))
-        }
-        Err(fault) => Err(fault),
-    }
-}
-
-// What an opening for a gateway hands out, which is given back.
-fn open_gateway<V: Live>(live: &mut V, listen: &Peer, control: &Peer) -> Answer {
-    match live.open_gateway(listen, control) {
-        Ok(devices) => {
-            live.return_gateway(devices);
-            Ok(Handed::Gateway)
-        }
-        Err(fault) => Err(fault),
-    }
-}
-
-fn open<V: Live>(live: &mut V, opening: &Opening) -> Answer {
-    match opening {
-        Opening::Relay {
-            listen,
-            feed,
-            slots,
-        } => open_relay(live, listen, feed, *slots),
-        Opening::Gateway { listen, control } => open_gateway(live, listen, control),
-    }
-}
-
-const ONE_OUT: Opening = Opening::Relay {
-    listen: LISTEN,
-    feed: FEED,
-    slots: 1,
-};
-
-const TWO_OUTS: Opening = Opening::Relay {
-    listen: LISTEN,
-    feed: FEED,
-    slots: 2,
-};
-
-const THREE_OUTS: Opening = Opening::Relay {
-    listen: LISTEN,
-    feed: FEED,
-    slots: 3,
-};
-
-const GATEWAY: Opening = Opening::Gateway {
-    listen: LISTEN,
-    control: CONTROL,
-};
-
-const FAILED: Answer = Err(OpenFault::Failed);
-
-// The openings that fail, four that are asked, what they answer, how many fail, and the sets that are given
-// back.
-type Row = (
-    &'static str,
-    &'static [u64],
-    [Opening; 4],
-    [Answer; 4],
-    u64,
-    &'static [Handed],
-);
-
-const OPENINGS: [Row; 6] = [
-    (
-        "the sets are given in order, and after the last one an opening fails",
-        &[],
-        [TWO_OUTS, GATEWAY, ONE_OUT, GATEWAY],
-        [
-            Ok(Handed::Relay(2)),
-            Ok(Handed::Gateway),
-            Ok(Handed::Relay(1)),
-            FAILED,
-        ],
-        1,
-        &[Handed::Relay(2), Handed::Gateway, Handed::Relay(1)],
-    ),
-    (
-        "a listed opening for a relay fails and takes no set",
-        &[1],
-        [TWO_OUTS, TWO_OUTS, GATEWAY, ONE_OUT],
-        [
-            FAILED,
-            Ok(Handed::Relay(2)),
-            Ok(Handed::Gateway),
-            Ok(Handed::Relay(1)),
-        ],
-        1,
-        &[Handed::Relay(2), Handed::Gateway, Handed::Relay(1)],
-    ),
-    (
-        "a listed opening for a gateway fails and takes no set",
-        &[2],
-        [TWO_OUTS, GATEWAY, GATEWAY, ONE_OUT],
-        [
-            Ok(Handed::Relay(2)),
-            FAILED,
-            Ok(Handed::Gateway),
-            Ok(Handed::Relay(1)),
-        ],
-        1,
-        &[Handed::Relay(2), Handed::Gateway, Handed::Relay(1)],
-    ),
-    (
-        "a set of the other kind isn't given, and stays the first",
-        &[],
-        [GATEWAY, TWO_OUTS, ONE_OUT, GATEWAY],
-        [FAILED, Ok(Handed::Relay(2)), FAILED, Ok(Handed::Gateway)],
-        2,
-        &[Handed::Relay(2), Handed::Gateway],
-    ),
-    (
-        "a set with too many links out isn't given, and stays the first",
-        &[],
-        [ONE_OUT, TWO_OUTS, GATEWAY, ONE_OUT],
-        [
-            FAILED,
-            Ok(Handed::Relay(2)),
-            Ok(Handed::Gateway),
-            Ok(Handed::Relay(1)),
-        ],
-        1,
-        &[Handed::Relay(2), Handed::Gateway, Handed::Relay(1)],
-    ),
-    (
-        "a set with too few links out isn't given, and stays the first",
-        &[],
-        [THREE_OUTS, THREE_OUTS, TWO_OUTS, GATEWAY],
-        [FAILED, FAILED, Ok(Handed::Relay(2)), Ok(Handed::Gateway)],
-        2,
-        &[Handed::Relay(2), Handed::Gateway],
-    ),
-];
-
-fn kind_of<R: Drop>(set: &MemSet<R>) -> Handed {
-    match set {
-        DeviceSet::Relay(devices) => Handed::Relay(devices.outs.len()),
-        DeviceSet::Gateway(_) => Handed::Gateway,
-    }
-}
-
-fn are_returned<R: Drop>(returned: &[MemSet<R>], want: &[Handed]) -> bool {
-    returned.len() == want.len()
-        && returned
-            .iter()
-            .zip(want)
-            .all(|(set, want)| kind_of(set) == *want)
-}
-
-fn answers<V: Live>(live: &mut V, openings: &[Opening; 4], want: &[Answer; 4]) -> bool {
-    openings
-        .iter()
-        .zip(want)
-        .all(|(opening, want)| open(live, opening) == *want)
-}
-
-fn is_told<R: Wait + Copy + Drop>(rt: R, alloc: Global, row: &Row) -> Result<bool, AllocError> {
-    let (_, failing, openings, want, faults, returned) = row;
-    let mut live = sets_of(rt, alloc, failing)?;
-    Ok(
-        answers(&mut live, openings, want)
-            && live.faults() == *faults
-            && live.asked() == openings.as_slice()
-            && are_returned(live.returned(), returned),
-    )
+) -> Result<(Draws, u64), AllocError> {
+    let listed = Vec::from_slice(alloc, listed)?;
+    let mut words = MemWords::failing(listed, Vec::from_slice(alloc, failing)?);
+    Ok((draws(&mut words), words.faults()))
 }
 
 #[test]
-fn sets_in_memory_are_given_in_order_and_come_back(rt: HostRuntime) {
-    for row in OPENINGS.as_slice() {
-        let told = is_told(rt, rt.alloc(), row);
-        assert!(rt; told == Ok(true), "{}", row.0);
+fn words_in_memory_are_given_once_and_a_draw_that_fails_takes_none(rt: HostRuntime) {
+    let answers = [Ok(11), Err(Failed), Ok(11), Ok(0)];
+    assert!(rt; listed_draws(rt.alloc(), &[11, 11], &[2]) == Ok((answers, 1)));
+}
+
+// What three receivings of a feed answer: a packet of six octets is listed.
+type Feedings = [Result<FeedGot, Failed>; 3];
+
+fn feed_answers(alloc: Global) -> Result<VecDeque<FeedAnswer>, AllocError>
+    ensures { IfOk result (λ answers. All IsShortFeedAnswer answers.items) }
+{
+    let packet = Bytes::copied(alloc, b"packet")?;
+    let mut answers = VecDeque::new(alloc);
+    answers.push_back(FeedAnswer::Packet(packet))?;
+    Ok(answers)
+}
+
+fn feedings<F: Feed>(feed: &mut F, buf: &mut [u8]) -> Feedings
+    requires { 65536 ≤ length buf.old }
+{
+    [feed.recv(buf, 1), feed.recv(buf, 1), feed.recv(buf, 1)]
+}
+
+// What the receivings answer, where the packet comes.
+fn fed<F: Feed>(alloc: Global, feed: &mut F) -> Option<Feedings> {
+    let Ok(mut buf) = vec![in alloc; 0u8; 65_536] else {
+        return None;
+    };
+    let answers = feedings(feed, buf.as_mut_slice());
+    if !buf.as_slice().starts_with(b"packet") {
+        return None;
     }
+    Some(answers)
+}
+
+fn listed_feedings(alloc: Global, failing: &[u64]) -> Result<(Option<Feedings>, u64), AllocError> {
+    let mut feed = MemFeed::failing(feed_answers(alloc)?, Vec::from_slice(alloc, failing)?);
+    Ok((fed(alloc, &mut feed), feed.faults()))
+}
+
+#[test]
+fn a_feed_in_memory_is_closed_at_last_and_a_receiving_that_fails_takes_nothing(rt: HostRuntime) {
+    let answers = [Err(Failed), Ok(FeedGot::Packet(6)), Ok(FeedGot::Closed)];
+    assert!(rt; listed_feedings(rt.alloc(), &[1]) == Ok((Some(answers), 1)));
+}
+
+const PEER: Peer = Peer {
+    ip: Ip::V4(0xc633_6407),
+    port: 2268,
+};
+
+// What three receivings of a link answer: a datagram of five octets is listed.
+type Receivings = [Result<Got, Failed>; 3];
+
+fn link_answers(alloc: Global) -> Result<VecDeque<LinkAnswer>, AllocError>
+    ensures { IfOk result (λ answers. All IsShortAnswer answers.items) }
+{
+    let query = Bytes::copied(alloc, b"query")?;
+    let mut answers = VecDeque::new(alloc);
+    answers.push_back(LinkAnswer::Datagram(PEER, query))?;
+    Ok(answers)
+}
+
+fn link_of(alloc: Global, receivings: &[u64], sends: &[u64]) -> Result<MemLink, AllocError> {
+    let answers = link_answers(alloc)?;
+    let receivings = Vec::from_slice(alloc, receivings)?;
+    let sends = Vec::from_slice(alloc, sends)?;
+    Ok(MemLink::failing(alloc, answers, receivings, sends))
+}
+
+fn receivings<L: Link>(link: &mut L, buf: &mut [u8]) -> Receivings
+    requires { 65536 ≤ length buf.old }
+{
+    [link.recv(buf, 1), link.recv(buf, 1), link.recv(buf, 1)]
+}
+
+// What the receivings answer where these fail, where the datagram comes, and how many failed.
+fn received(alloc: Global, failing: &[u64]) -> Result<Option<(Receivings, u64)>, AllocError> {
+    let mut buf = vec![in alloc; 0u8; 65_536]?;
+    let mut link = link_of(alloc, failing, &[])?;
+    let answers = receivings(&mut link, buf.as_mut_slice());
+    if !buf.as_slice().starts_with(b"query") {
+        return Ok(None);
+    }
+    Ok(Some((answers, link.receive_faults())))
+}
+
+#[test]
+fn a_link_in_memory_is_closed_at_last_and_a_receiving_that_fails_takes_nothing(rt: HostRuntime) {
+    let answers = [Ok(Got::Datagram(PEER, 5)), Err(Failed), Ok(Got::Closed)];
+    assert!(rt; received(rt.alloc(), &[2]) == Ok(Some((answers, 1))));
+}
+
+fn is_tried(tried: &Tried, octets: &[u8], sent: bool) -> bool {
+    tried.to == PEER && tried.bytes.as_slice() == octets && tried.sent == sent
+}
+
+fn are_tried(tried: &[Tried], sent: &[bool; 3]) -> bool {
+    match tried {
+        [one, two, three] => {
+            is_tried(one, b"one", sent[0])
+                && is_tried(two, b"two", sent[1])
+                && is_tried(three, b"three", sent[2])
+        }
+        _ => false,
+    }
+}
+
+fn sends_by_link<L: Link>(link: &mut L) -> [bool; 3] {
+    [
+        link.send(&PEER, b"one").is_ok(),
+        link.send(&PEER, b"two").is_ok(),
+        link.send(&PEER, b"three").is_ok(),
+    ]
+}
+
+fn sends_by_out<O: OutLink>(out: &mut O) -> [bool; 3] {
+    [
+        out.send(&PEER, b"one").is_ok(),
+        out.send(&PEER, b"two").is_ok(),
+        out.send(&PEER, b"three").is_ok(),
+    ]
+}
+
+// Which sends of the link are sent, where it has kept all of them, and how many failed.
+fn sent_by_link(alloc: Global, failing: &[u64]) -> Result<([bool; 3], bool, u64), AllocError> {
+    let mut link = link_of(alloc, &[], failing)?;
+    let sent = sends_by_link(&mut link);
+    Ok((sent, are_tried(link.tried(), &sent), link.send_faults()))
+}
+
+fn sent_by_out(alloc: Global, failing: &[u64]) -> Result<([bool; 3], bool, u64), AllocError> {
+    let mut out = MemOut::failing(alloc, Vec::from_slice(alloc, failing)?);
+    let sent = sends_by_out(&mut out);
+    Ok((sent, are_tried(out.tried(), &sent), out.faults()))
+}
+
+#[test]
+fn links_in_memory_keep_what_was_tried_and_sent_or_not(rt: HostRuntime) {
+    let want = Ok(([false, true, false], true, 2));
+    assert!(rt; sent_by_link(rt.alloc(), &[1, 3]) == want);
+    assert!(rt; sent_by_out(rt.alloc(), &[1, 3]) == want);
 }

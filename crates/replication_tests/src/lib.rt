@@ -1,29 +1,18 @@
-//! Tests of the published table and of replicators, by their public calls.
+//! Tests of the published table and of the workers that copy packets by it, by public calls.
 //!
 //! Contract: none; it is tests alone. They stand in a crate of their own since the tests of a crate prove
-//! all its functions once more.
-//! It must not know what a publisher, a view or a replicator keeps to itself.
+//! all its functions once more, and since they start threads.
+//! It must not know what a door, a view, a worker or a running relay keeps to itself.
+//! No standard.
 #![tactic(auto)]
 
 #[cfg(test)]
-mod beside;
-#[cfg(test)]
-mod copies;
-#[cfg(test)]
-mod dispatching;
+mod devices;
 #[cfg(test)]
 mod doors;
 #[cfg(test)]
-mod fixtures;
-#[cfg(test)]
-mod notes;
+mod outs;
 #[cfg(test)]
 mod packets;
 #[cfg(test)]
-mod refused;
-#[cfg(test)]
-mod relay;
-#[cfg(test)]
-mod starters;
-#[cfg(test)]
-mod views;
+mod runs;

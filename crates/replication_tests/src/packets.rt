@@ -1,102 +1,63 @@
-//! Packets and the messages that carry them, and whether a link has tried these. It must not know who
-//! copies a packet.
-ghost use Rattle.std.specs.Prelude.{◌≡◌};
+//! Packets in order, and the Updates by which an endpoint wants them. It must not know who copies a packet.
 
-use crate::fixtures::moment;
-use amt_ports::{MemOut, Tried};
-use amt_values::{Bytes, Ip, Peer};
-use published_table::Note;
-use replication_workers::Job;
-use std::alloc::Global;
-use std::process::Abort;
+use amt_ports::Tried;
+use amt_values::{Ip, Peer};
 
-/// UDP of no octets from 198.51.100.9 to 239.1.1.1.
-pub const PACKET: [u8; 28] = [
+/// 198.51.100.7:5000, where both Updates come from.
+pub const ENDPOINT: Peer = Peer {
+    ip: Ip::V4(0xc633_6407),
+    port: 5000,
+};
+
+/// An Update of the endpoint with the nonce 0a0b0c0d, which wants all sources of 239.1.1.1. The octets of the secret
+/// are 0; the MAC was computed with Python's hmac module.
+pub const UPDATE: [u8; 52] = [
+    5, 0, 0x4d, 0xb7, 0x58, 0xa1, 0x75, 0x55, 0x0a, 0x0b, 0x0c, 0x0d, 0x46, 0xc0, 0, 0x28, 0, 0, 0,
+    0, 1, 2, 0x39, 0xf8, 0x0a, 0, 0, 2, 0xe0, 0, 0, 0x16, 0x94, 4, 0, 0, 0x22, 0, 0xeb, 0xfb, 0, 0,
+    0, 1, 2, 0, 0, 0, 0xef, 1, 1, 1,
+];
+
+/// The same for 239.1.1.2.
+pub const OTHER_UPDATE: [u8; 52] = [
+    5, 0, 0x4d, 0xb7, 0x58, 0xa1, 0x75, 0x55, 0x0a, 0x0b, 0x0c, 0x0d, 0x46, 0xc0, 0, 0x28, 0, 0, 0,
+    0, 1, 2, 0x39, 0xf8, 0x0a, 0, 0, 2, 0xe0, 0, 0, 0x16, 0x94, 4, 0, 0, 0x22, 0, 0xeb, 0xfa, 0, 0,
+    0, 1, 2, 0, 0, 0, 0xef, 1, 1, 2,
+];
+
+// UDP of no octets from 198.51.100.9 to 239.1.1.1.
+const PACKET: [u8; 28] = [
     0x45, 0, 0, 0x1c, 0, 0, 0, 0, 4, 0x11, 0x9c, 0x92, 0xc6, 0x33, 0x64, 9, 0xef, 1, 1, 1, 4, 0, 4,
     0, 0, 8, 0, 0,
 ];
 
-/// The Multicast Data message that carries it.
-pub const MESSAGE: [u8; 30] = [
-    6, 0, 0x45, 0, 0, 0x1c, 0, 0, 0, 0, 4, 0x11, 0x9c, 0x92, 0xc6, 0x33, 0x64, 9, 0xef, 1, 1, 1, 4,
-    0, 4, 0, 0, 8, 0, 0,
-];
-
-/// UDP of no octets from 198.51.100.9 to 239.1.1.2.
-pub const OTHER_PACKET: [u8; 28] = [
-    0x45, 0, 0, 0x1c, 0, 0, 0, 0, 4, 0x11, 0x9c, 0x91, 0xc6, 0x33, 0x64, 9, 0xef, 1, 1, 2, 4, 0, 4,
-    0, 0, 8, 0, 0,
-];
-
-/// The Multicast Data message that carries it.
-pub const OTHER_MESSAGE: [u8; 30] = [
-    6, 0, 0x45, 0, 0, 0x1c, 0, 0, 0, 0, 4, 0x11, 0x9c, 0x91, 0xc6, 0x33, 0x64, 9, 0xef, 1, 1, 2, 4,
-    0, 4, 0, 0, 8, 0, 0,
-];
-
-/// UDP of no octets to 224.0.0.5, which no router forwards.
-pub const LOCAL_PACKET: [u8; 28] = [
-    0x45, 0, 0, 0x1c, 0, 0, 0, 0, 4, 0x11, 0xac, 0x8f, 0xc6, 0x33, 0x64, 9, 0xe0, 0, 0, 5, 4, 0, 4,
-    0, 0, 8, 0, 0,
-];
-
-pub const OTHER_GROUP: Ip = Ip::V4(0xef01_0102);
-
-pub const LOCAL_GROUP: Ip = Ip::V4(0xe000_0005);
-
-/// The first octets of `PACKET`, one fewer than a header has.
-pub const CUT_PACKET: [u8; 19] = [
-    0x45, 0, 0, 0x1c, 0, 0, 0, 0, 4, 0x11, 0x9c, 0x92, 0xc6, 0x33, 0x64, 9, 0xef, 1, 1,
-];
-
-/// A send of the message to the endpoint of this host, and whether the device took it.
-pub type HostSend<'a> = (u8, &'a [u8], bool);
-
-/// A job with this packet, which is short enough for one.
-pub fn job_of(rt: &impl Abort, alloc: Global, packet: &[u8], ms: u64, note: Note) -> Job
-    ensures { result.note ≡ note }
-{
-    assert!(rt; packet.len() <= 65_535);
-    let Ok(packet) = Bytes::copied(alloc, packet) else {
-        panic!(rt; "out of memory");
-    };
-    Job {
-        packet,
-        at: moment(rt, ms),
-        note,
-    }
+/// The packet with this number for its identification: to 239.1.1.1, and one with an odd number to 239.1.1.2.
+pub fn packet(number: u16) -> [u8; 28] {
+    let odd = number & 1;
+    let [high, low] = number.to_be_bytes();
+    let sum = 0x9c92u16.wrapping_sub(number).wrapping_sub(odd);
+    let [sum_high, sum_low] = sum.to_be_bytes();
+    let mut packet = PACKET;
+    packet[4] = high;
+    packet[5] = low;
+    packet[10] = sum_high;
+    packet[11] = sum_low;
+    packet[19] = 1 + odd as u8;
+    packet
 }
 
-fn is_tried(tried: &Tried, send: &HostSend) -> bool {
-    let (host, message, sent) = send;
-    let to = Peer {
-        ip: Ip::V4(0xc633_6400 | u32::from(*host)),
-        port: 5000,
-    };
-    tried.to == to && tried.bytes.as_slice() == *message && tried.sent == *sent
+/// To which of so many slots it goes: by the sum of 239.1.1.1 and 198.51.100.9, which is 10 in its last six bits, and one
+/// more where the number is odd. This many slots divide 64.
+pub fn slot_of(number: u16, slots: usize) -> usize {
+    let sum = 10 + usize::from(number & 1);
+    sum.checked_rem(slots).unwrap_or(0)
 }
 
-fn are_tried(tried: &[Tried], sends: &[HostSend]) -> bool {
-    for (one, send) in tried.iter().zip(sends) {
-        if !is_tried(one, send) {
-            return false;
-        }
-    }
-    tried.len() == sends.len()
-}
-
-fn count_faults(sends: &[HostSend]) -> u64 {
-    let mut count = 0u64;
-    for (_, _, sent) in sends {
-        if !*sent {
-            count = count.saturating_add(1);
-        }
-    }
-    count
-}
-
-/// The link has tried exactly these sends, in order.
-pub fn assert_tried(rt: &impl Abort, out: &MemOut, sends: &[HostSend]) {
-    assert!(rt; are_tried(out.tried(), sends), "{out:?}");
-    assert_eq!(rt; out.faults(), count_faults(sends));
+/// Whether the Multicast Data message that carries the packet was sent to the endpoint.
+pub fn is_copy(tried: &Tried, number: u16) -> bool {
+    let octets = tried.bytes.as_slice();
+    tried.to == ENDPOINT
+        && tried.sent
+        && octets.len() == 30
+        && octets.starts_with(&[6, 0])
+        && octets.ends_with(&packet(number))
 }

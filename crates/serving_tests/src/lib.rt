@@ -13,8 +13,6 @@ mod gateway;
 #[cfg(test)]
 mod gateway_ends;
 #[cfg(test)]
-mod meeting;
-#[cfg(test)]
 mod relay;
 #[cfg(test)]
 mod relay_ends;

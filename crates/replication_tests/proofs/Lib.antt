@@ -1,2 +1,0 @@
-pub mod Dispatched
-pub mod Followed

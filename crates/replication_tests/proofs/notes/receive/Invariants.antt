@@ -1,6 +1,0 @@
-use Rattle.std.proofs.Common.{◌≡◌}
-use Rattle.rtrb.specs.Ring.{received}
-use Rattle.replication_tests.proofs.notes.receive.Given as goal
-
-abbrev pub invariant-loop : goal.invariant-loop
-invariant-loop g l = received l.receiver ≡ received l.initial.receiver
