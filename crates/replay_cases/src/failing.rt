@@ -5,6 +5,8 @@ use std::alloc::{AllocError, Global};
 /// A kind of call.
 #[derive(Clone, Copy, PartialEq, Eq)]
 pub enum Call {
+    /// What a process does before the command is called.
+    Arguments,
     Read,
     Write,
     ErrorWrite,
@@ -27,6 +29,7 @@ pub struct FailingCall {
 
 fn read_call(text: &str) -> Option<Call> {
     match text {
+        "arguments" => Some(Call::Arguments),
         "input" => Some(Call::Read),
         "output" => Some(Call::Write),
         "error" => Some(Call::ErrorWrite),
@@ -64,4 +67,9 @@ pub fn numbers_of(
         }
     }
     Ok(numbers)
+}
+
+/// Some call of a kind fails.
+pub fn some_fails(failing: &[FailingCall], call: Call) -> bool {
+    failing.iter().any(|one| one.call == call)
 }

@@ -6,10 +6,10 @@ mod sends;
 
 use crate::cases::{Case, Given, Wanted};
 use crate::devices::{Script, Sets, sets_for};
-use crate::failing::{Call, FailingCall, numbers_of};
+use crate::failing::{Call, FailingCall, numbers_of, some_fails};
 use crate::place::Place;
 use crate::seen::{openings_text, sends_text};
-use amt_command::{Exit, amt_exit};
+use amt_command::{Exit, amt_exit, exit_without_memory};
 use amt_ports::{MemFile, MemFiles, MemSink, MemSource};
 use amt_values::Bytes;
 use compared::compared;
@@ -95,6 +95,7 @@ fn exit_of<R: Threads + Wait + 'static>(
     rt: &R,
     alloc: Global,
     arguments: &[String],
+    failing: &[FailingCall],
     streams: &mut Streams,
     files: &mut MemFiles,
     live: &mut Sets<'_, R>,
@@ -104,6 +105,9 @@ fn exit_of<R: Threads + Wait + 'static>(
         output,
         error,
     } = streams;
+    if some_fails(failing, Call::Arguments) {
+        return exit_without_memory(error);
+    }
     amt_exit(rt, alloc, arguments, input, files, output, error, live)
 }
 
@@ -147,7 +151,15 @@ fn run<R: Threads + Wait + 'static>(
         failing: &failing,
     };
     let mut live = sets_for(rt, alloc, command, script)?;
-    let exit = exit_of(rt, alloc, arguments, &mut streams, &mut files, &mut live);
+    let exit = exit_of(
+        rt,
+        alloc,
+        arguments,
+        &failing,
+        &mut streams,
+        &mut files,
+        &mut live,
+    );
     leavings(alloc, streams, &live, exit)
 }
 
