@@ -13,6 +13,8 @@ mod commands;
 #[cfg(test)]
 mod devices;
 #[cfg(test)]
+mod exits;
+#[cfg(test)]
 mod gateway_devices;
 #[cfg(test)]
 mod gateway_loopback;
