@@ -34,6 +34,13 @@ pub struct Script<'a> {
     pub failing: &'a [FailingCall],
 }
 
+fn moment_of(line: &str) -> Option<Moment> {
+    match read_event(line) {
+        Some(Event::Turn(ms) | Event::Moment(ms)) => Moment::new(ms),
+        _ => None,
+    }
+}
+
 impl<'a> Script<'a> {
     fn failing(&self, alloc: Global, call: Call) -> Result<Vec<u64>, AllocError> {
         numbers_of(alloc, self.failing, call)
@@ -42,7 +49,7 @@ impl<'a> Script<'a> {
     fn moments(&self, alloc: Global) -> Result<Vec<Moment>, AllocError> {
         let mut moments = Vec::new(alloc);
         for line in self.lines.lines() {
-            if let Some(Event::Turn(moment) | Event::Moment(moment)) = read_event(line) {
+            if let Some(moment) = moment_of(line) {
                 moments.push(moment)?;
             }
         }
@@ -130,28 +137,55 @@ fn spawner_of<'a, R: Threads>(
     Ok(ListedSpawner::new(rt, Starter { rt }, refused))
 }
 
+// What comes in, and what tells moments and words.
+#[derive(Drop)]
+struct Givers {
+    link: MemLink,
+    feed: MemFeed,
+    clock: MemClock,
+    words: MemWords,
+}
+
+fn givers_of(alloc: Global, script: Script<'_>) -> Result<Givers, AllocError> {
+    let clock = MemClock::new(script.moments(alloc)?);
+    let words = words_of(alloc, script)?;
+    let feed = feed_of(alloc, script)?;
+    let link = link_of(alloc, script)?;
+    Ok(Givers {
+        link,
+        feed,
+        clock,
+        words,
+    })
+}
+
 fn relay_of<'a, R: Threads + Wait + 'static>(
     rt: &'a R,
     alloc: Global,
     script: Script<'_>,
 ) -> Result<OfRelay<'a, R>, AllocError> {
+    let spawner = spawner_of(rt, alloc, script)?;
+    let outs = outs_of(alloc, script)?;
+    let givers = givers_of(alloc, script)?;
     Ok(RelayDevices {
-        link: link_of(alloc, script)?,
-        feed: feed_of(alloc, script)?,
-        clock: MemClock::new(script.moments(alloc)?),
-        words: words_of(alloc, script)?,
-        outs: outs_of(alloc, script)?,
-        spawner: spawner_of(rt, alloc, script)?,
+        link: givers.link,
+        feed: givers.feed,
+        clock: givers.clock,
+        words: givers.words,
+        outs,
+        spawner,
     })
 }
 
 fn gateway_of(alloc: Global, script: Script<'_>) -> Result<OfGateway, AllocError> {
+    let out = out_of(alloc, script, 1)?;
+    let givers = givers_of(alloc, script)?;
     Ok(GatewayDevices {
-        link: link_of(alloc, script)?,
-        control: feed_of(alloc, script)?,
-        out: out_of(alloc, script, 1)?,
-        clock: MemClock::new(script.moments(alloc)?),
-        words: words_of(alloc, script)?,
+        link: givers.link,
+        control: givers.feed,
+        out,
+        clock: givers.clock,
+        words: givers.words,
     })
 }
 

@@ -5,9 +5,9 @@ use amt_values::{Moment, Peer, parse_peer};
 /// What a line of a script says.
 #[derive(Clone, Copy)]
 pub enum Event<'a> {
-    /// The clock's next moment, in which a turn begins or not.
-    Turn(Moment),
-    Moment(Moment),
+    /// The clock's next moment in milliseconds, in which a turn begins or not.
+    Turn(u64),
+    Moment(u64),
     /// The next random word.
     Word(u64),
     /// The link gets a datagram, in hexadecimal digits.
@@ -34,8 +34,13 @@ fn are_octets(digits: &str) -> bool {
         && digits.bytes().all(|digit| digit.is_ascii_hexdigit())
 }
 
-fn read_moment(text: &str) -> Option<Moment> {
-    Moment::new(text.parse::<u64>().ok()?)
+// The milliseconds of a moment.
+fn read_moment(text: &str) -> Option<u64> {
+    let ms = text.parse::<u64>().ok()?;
+    match Moment::new(ms) {
+        Some(_) => Some(ms),
+        None => None,
+    }
 }
 
 fn read_datagram<'a>(rest: &'a str) -> Option<Event<'a>> {

@@ -1,5 +1,5 @@
 //! What comes to the link and to the feed of a case, turn by turn. It must not know who receives it.
-ghost use Rattle.std.specs.Prelude.{◌≤◌, All, IfOk, OnOk, length};
+ghost use Rattle.std.specs.Prelude.{◌≤◌, All, IfOk, IfSome, OnOk, length};
 ghost use Rattle.amt_ports.specs.Arrivals.{IsShortAnswer, IsShortFeedAnswer};
 
 use crate::cases::append_escaped;

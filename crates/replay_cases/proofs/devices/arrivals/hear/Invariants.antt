@@ -3,4 +3,4 @@ use Rattle.amt_ports.specs.Arrivals.{IsShortAnswer}
 use Rattle.replay_cases.proofs.devices.arrivals.hear.Given as goal
 
 abbrev pub invariant-loop-number : goal.invariant-loop-number
-invariant-loop-number g l = All IsShortAnswer l.answers.items
+invariant-loop-number l = All IsShortAnswer l.answers.items
