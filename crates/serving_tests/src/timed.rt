@@ -1,7 +1,7 @@
-//! How long a receiving of either loop may wait.
+//! How long a receiving of either loop may wait, and that nothing is sent later than in the turn that it is due.
 ghost use Rattle.std.specs.Prelude.{◌≡◌};
 
-use crate::devices::{Devices, devices_of};
+use crate::devices::{Answer, Devices, Script, devices_of};
 use crate::gateway::{self, KNOWING};
 use crate::relay::{self, PLAN};
 use crate::starters::Starter;
@@ -14,12 +14,14 @@ use std::process::Abort;
 use std::sync::Wait;
 use std::thread::Threads;
 
-// A device, how often it was asked, and whether each time for 1 ms and no longer.
+// A device, how often it was asked, whether each time for 1 ms and no longer, and how often it was asked before its
+// last send.
 #[derive(Drop)]
 struct Timed<D> {
     device: D,
     asked: u64,
     is_timed: bool,
+    before_last: u64,
 }
 
 impl<D> Timed<D> {
@@ -30,6 +32,7 @@ impl<D> Timed<D> {
             device,
             asked: 0,
             is_timed: true,
+            before_last: 0,
         }
     }
 
@@ -58,6 +61,7 @@ impl<L: Link> Link for Timed<L> {
     }
 
     fn send(&mut self, to: &Peer, bytes: &[u8]) -> Result<(), Failed> {
+        self.before_last = self.asked;
         self.device.send(to, bytes)
     }
 }
@@ -94,16 +98,18 @@ fn assert_timed(
     assert_eq!(rt; devices.feed.asked, feed);
 }
 
-// One turn of a relay with no worker: its Update, two packets, and what has nothing more.
+// So many turns of a relay with no worker.
 fn relay_devices<R: Threads + Wait + Abort + 'static>(
     rt: &R,
     alloc: Global,
+    script: &Script,
+    turns: u64,
 ) -> Result<Devices<Timed<MemLink>, Timed<MemFeed>>, AllocError> {
-    let mut devices = with_timing(devices_of(alloc, &relay::SCRIPT)?);
+    let mut devices = with_timing(devices_of(alloc, script)?);
     let mut outs = Vec::with_capacity(alloc, 1)?;
     outs.push(MemOut::new(alloc))?;
     let plan = ServePlan {
-        turns: 1,
+        turns,
         workers: 0,
         ..PLAN
     };
@@ -119,21 +125,72 @@ fn relay_devices<R: Threads + Wait + Abort + 'static>(
     Ok(devices)
 }
 
+// Its Update, two packets, and what has nothing more.
 #[test]
 fn a_relay_waits_for_a_millisecond_at_most(rt: HostRuntime) {
-    let Ok(devices) = relay_devices(&rt, rt.alloc()) else {
+    let Ok(devices) = relay_devices(&rt, rt.alloc(), &relay::SCRIPT, 1) else {
         panic!(rt; "out of memory");
     };
     assert_timed(&rt, &devices, 2, 3);
 }
 
+// A Discovery is the first of two datagrams of two turns.
+const ASKED: Script<'static> = Script {
+    heard: &[
+        Answer::Octets("0100000001020304"),
+        relay::UPDATE,
+        Answer::Nothing,
+        Answer::Nothing,
+    ],
+    fed: &[Answer::Nothing, Answer::Nothing],
+    ..relay::SCRIPT
+};
+
 #[test]
-fn a_gateway_waits_for_a_millisecond_at_most(rt: HostRuntime) {
-    let Ok(devices) = devices_of(rt.alloc(), &gateway::SCRIPT) else {
+fn a_relay_answers_a_datagram_before_it_asks_for_the_next(rt: HostRuntime) {
+    let Ok(devices) = relay_devices(&rt, rt.alloc(), &ASKED, 2) else {
         panic!(rt; "out of memory");
     };
-    let mut devices = with_timing(devices);
-    let mut out = MemOut::new(rt.alloc());
-    let _ = gateway::serve(&rt, rt.alloc(), KNOWING, 1, &mut devices, &mut out);
+    assert_timed(&rt, &devices, 4, 2);
+    assert_eq!(rt; devices.link.device.tried().len(), 1);
+    assert_eq!(rt; devices.link.before_last, 1);
+}
+
+fn gateway_devices(
+    rt: &impl Abort,
+    alloc: Global,
+    script: &Script,
+    turns: u64,
+) -> Result<Devices<Timed<MemLink>, Timed<MemFeed>>, AllocError> {
+    let mut devices = with_timing(devices_of(alloc, script)?);
+    let mut out = MemOut::new(alloc);
+    let _ = gateway::serve(rt, alloc, KNOWING, turns, &mut devices, &mut out);
+    Ok(devices)
+}
+
+#[test]
+fn a_gateway_waits_for_a_millisecond_at_most(rt: HostRuntime) {
+    let Ok(devices) = gateway_devices(&rt, rt.alloc(), &gateway::SCRIPT, 1) else {
+        panic!(rt; "out of memory");
+    };
     assert_timed(&rt, &devices, 2, 2);
+}
+
+// The Query and the line of the first of two turns.
+const CALLED: Script<'static> = Script {
+    heard: &[gateway::QUERY, Answer::Nothing, Answer::Nothing],
+    fed: &[gateway::OPENING, Answer::Nothing, Answer::Nothing],
+    moments: &[0, 0, 1],
+    ..gateway::SCRIPT
+};
+
+// A Request, an Update, and two for the line: link and control feed are asked twice in the first turn.
+#[test]
+fn a_gateway_sends_what_a_line_asks_for_before_its_next_turn(rt: HostRuntime) {
+    let Ok(devices) = gateway_devices(&rt, rt.alloc(), &CALLED, 2) else {
+        panic!(rt; "out of memory");
+    };
+    assert_timed(&rt, &devices, 3, 3);
+    assert_eq!(rt; devices.link.device.tried().len(), 4);
+    assert_eq!(rt; devices.link.before_last, 2);
 }
