@@ -163,60 +163,42 @@ fn run<R: Threads + Wait + 'static>(
     leavings(alloc, streams, &live, exit)
 }
 
-// What is wanted, and what came.
-#[derive(Clone, Copy)]
-struct Text<'a> {
-    name: &'a str,
-    wanted: &'a [u8],
-    got: &'a [u8],
-}
-
-fn differs_in_text<R: Print + AllocGlobal>(
+fn has_other_output<R: Print + AllocGlobal>(
     rt: &R,
     place: Place<'_>,
-    texts: &[Text<'_>],
-) -> io::Result<bool> {
-    let mut differs = false;
-    for text in texts {
-        if has_other_text(rt, place, text.name, text.wanted, text.got)? {
-            differs = true;
-        }
-    }
-    Ok(differs)
-}
-
-fn texts_differ<'a, R: Print + AllocGlobal>(
-    rt: &R,
-    place: Place<'_>,
-    wanted: &'a Wanted,
-    ended: &'a Ended,
+    wanted: &Wanted,
+    ended: &Ended,
 ) -> io::Result<bool> {
     let output = ended.output.as_slice();
     let output = compared(rt.alloc(), output, &wanted.compared_texts)?;
+    let wanted = wanted.output.as_slice();
+    has_other_text(rt, place, "output", wanted, output.as_slice())
+}
+
+fn has_other_sends<R: Print + AllocGlobal>(
+    rt: &R,
+    place: Place<'_>,
+    wanted: &Wanted,
+    ended: &Ended,
+) -> io::Result<bool> {
     let sends = in_order_of_devices(rt.alloc(), wanted.sends.as_slice())?;
-    let texts = [
-        Text {
-            name: "output",
-            wanted: wanted.output.as_slice(),
-            got: output.as_slice(),
-        },
-        Text {
-            name: "error",
-            wanted: wanted.error.as_slice(),
-            got: ended.error.as_slice(),
-        },
-        Text {
-            name: "openings",
-            wanted: wanted.openings.as_slice(),
-            got: ended.openings.as_bytes(),
-        },
-        Text {
-            name: "sends",
-            wanted: sends.as_slice(),
-            got: ended.sends.as_bytes(),
-        },
-    ];
-    differs_in_text(rt, place, &texts)
+    let got = ended.sends.as_bytes();
+    has_other_text(rt, place, "sends", sends.as_slice(), got)
+}
+
+fn texts_differ<R: Print + AllocGlobal>(
+    rt: &R,
+    place: Place<'_>,
+    wanted: &Wanted,
+    ended: &Ended,
+) -> io::Result<bool> {
+    let error = ended.error.as_slice();
+    let openings = ended.openings.as_bytes();
+    let output = has_other_output(rt, place, wanted, ended)?;
+    let error = has_other_text(rt, place, "error", wanted.error.as_slice(), error)?;
+    let openings = has_other_text(rt, place, "openings", wanted.openings.as_slice(), openings)?;
+    let sends = has_other_sends(rt, place, wanted, ended)?;
+    Ok(output || error || openings || sends)
 }
 
 /// Runs a case, and prints each way in which the run differs from what is wanted. It answers whether one
