@@ -185,11 +185,11 @@ fn differs_in_text<R: Print + AllocGlobal>(
     Ok(differs)
 }
 
-fn texts_differ<R: Print + AllocGlobal>(
+fn texts_differ<'a, R: Print + AllocGlobal>(
     rt: &R,
     place: Place<'_>,
-    wanted: &Wanted,
-    ended: &Ended,
+    wanted: &'a Wanted,
+    ended: &'a Ended,
 ) -> io::Result<bool> {
     let output = ended.output.as_slice();
     let output = compared(rt.alloc(), output, &wanted.compared_texts)?;
