@@ -10,8 +10,8 @@ opens and not a proof of its crate. What isn't refused is checked once more from
 checked as it stands, over all that its edits left: where it isn't proved, the edits are tried again from nothing.
 
 It prints each wrong body that isn't refused, or that can't be applied or read; with --times what each took besides.
-What was refused is noted in .git/wrong-bodies by a sum of the kit, the edit and all sources that its crate reads, and
-isn't tried again while these stay the same; with --anew it is. The last line is `N refused, M not`, and the status is
+What was refused is noted in ~/.cache/nirvauda-wrong-bodies by a sum of the kit, the edit and all sources that its crate
+reads, and isn't tried again while these stay the same; with --anew it is. The last line is `N refused, M not`, and the status is
 1 where M isn't 0.
 """
 import hashlib
@@ -25,7 +25,8 @@ import time
 
 import build
 
-ROOT, NOTES = build.ROOT, f"{build.ROOT}/.git/wrong-bodies"
+ROOT = build.ROOT
+NOTES = os.path.join(os.environ.get("XDG_CACHE_HOME") or os.path.expanduser("~/.cache"), "nirvauda-wrong-bodies")
 LANES = f"{ROOT}/.git/wrong-lanes-{os.getpid()}"
 PARTS = ("src", "specs", "proofs")
 # What the checker says of a text that it can't read, where a wrong body is to be read and refused.
@@ -164,6 +165,7 @@ class Run:
             self.refused += 1
             if self.times:
                 print(f"{name}: refused after {used:.0f} processor seconds", flush=True)
+            os.makedirs(os.path.dirname(NOTES), exist_ok=True)
             with open(NOTES, "a", encoding="utf-8") as it:
                 it.write(f"{self.key(crate, edit)} {name}\n")
 

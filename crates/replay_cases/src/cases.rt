@@ -42,11 +42,13 @@ pub struct Case {
     pub wanted: Wanted,
 }
 
-/// Why lines are no case; the first that is malformed, before a missing command.
+/// Why lines are no case; the first that is malformed, before what the whole lacks.
 #[derive(Clone, Copy)]
 pub enum CaseFault<'a> {
     Malformed(&'a str),
     NoCommand,
+    /// Lines of a settings file or of devices, and a command that has neither.
+    Unused,
     Memory,
 }
 
@@ -89,7 +91,8 @@ impl Case {
     fn take_line(&mut self, alloc: Global, line: &str) -> Result<(), LineFault> {
         let (mark, rest) = line.split_once(' ').unwrap_or((line, ""));
         match mark {
-            "" | "//" => Ok(()),
+            "" if line.is_empty() => Ok(()),
+            "//" => Ok(()),
             "$" => self.given.take_command(alloc, rest),
             "<" => append_line(&mut self.given.input, rest),
             "<\\" => append_escaped(&mut self.given.input, rest),
@@ -105,7 +108,7 @@ impl Case {
             "%" => self.given.take_script(rest),
             "%\\" => self.given.take_escaped_script(alloc, rest),
             "&" => append_line(&mut self.wanted.openings, rest),
-            _ if is_of_out(mark) => append_line(&mut self.wanted.sends, line),
+            _ if is_of_out(mark) && !rest.is_empty() => append_line(&mut self.wanted.sends, line),
             _ => Err(LineFault::Malformed),
         }
     }
@@ -130,6 +133,13 @@ impl Given {
             Some(name) if name.as_str() == "amt" => Ok(()),
             _ => Err(LineFault::Malformed),
         }
+    }
+
+    // What is given to a file or to devices is for `amt relay` or `amt gateway`.
+    fn has_unused(&self) -> bool {
+        let command = self.arguments.get(1).map_or("", |command| command.as_str());
+        let runs = command == "relay" || command == "gateway";
+        (self.has_settings || !self.script.is_empty()) && !runs
     }
 
     fn take_failing_call(&mut self, line: &str) -> Result<(), LineFault> {
@@ -175,11 +185,13 @@ impl Wanted {
     }
 }
 
-// `=` for the link, and `=N` for the Nth link out.
+// `=` for the link, and `=N` for the Nth link out: a number that isn't written so would be that of none.
 fn is_of_out(mark: &str) -> bool {
     match mark.strip_prefix('=') {
         Some("") => true,
-        Some(number) => matches!(number.parse::<u8>(), Ok(1..=64)),
+        Some(number) => {
+            matches!(number.parse::<u8>(), Ok(1..=64)) && !number.starts_with(['0', '+'])
+        }
         None => false,
     }
 }
@@ -197,6 +209,9 @@ pub fn read_case<'a>(alloc: Global, head: &'a str, lines: &'a str) -> Result<Cas
     case.take_lines(alloc, lines)?;
     if case.given.arguments.is_empty() {
         return Err(CaseFault::NoCommand);
+    }
+    if case.given.has_unused() {
+        return Err(CaseFault::Unused);
     }
     Ok(case)
 }

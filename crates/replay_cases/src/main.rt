@@ -39,6 +39,10 @@ fn differs<R: Eprint + Print + Threads + Wait + AllocGlobal + 'static>(
             println!(rt; "{place}: no line begins with $ amt")?;
             Ok(true)
         }
+        Err(CaseFault::Unused) => {
+            println!(rt; "{place}: a command that has no settings file and no devices")?;
+            Ok(true)
+        }
         Err(CaseFault::Malformed(line)) => {
             println!(rt; "{place}: no line of a case: {line}")?;
             Ok(true)

@@ -7,12 +7,22 @@
 #![tactic(auto)]
 
 #[cfg(test)]
+mod copies;
+#[cfg(test)]
 mod devices;
 #[cfg(test)]
 mod doors;
+#[cfg(test)]
+mod fixtures;
+#[cfg(test)]
+mod messages;
 #[cfg(test)]
 mod outs;
 #[cfg(test)]
 mod packets;
 #[cfg(test)]
+mod relay;
+#[cfg(test)]
 mod runs;
+#[cfg(test)]
+mod views;
