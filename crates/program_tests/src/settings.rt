@@ -1,7 +1,7 @@
 //! What no script shows of a relay's settings. It must not know how they are read.
 
 use amt_values::Ip;
-use igmp_records::code_value4;
+use igmp_records::{code_value4, value_code4};
 use relay_machine::*;
 use std::process::Abort;
 
@@ -21,6 +21,12 @@ fn each_response_time_of_igmp_has_a_code_in_mld(rt: HostRuntime) {
     for code in 1..=255 {
         may_wait(&rt, code_value4(code));
     }
+}
+
+#[test]
+fn no_time_past_31744_has_a_code(rt: HostRuntime) {
+    assert_eq!(rt; value_code4(31_744), Some(255));
+    assert_eq!(rt; value_code4(31_745), None);
 }
 
 #[test]
