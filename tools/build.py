@@ -81,8 +81,9 @@ def prove(crate, lane, jobs, direct):
     lay(lane, crate, direct)
     here, out = f"{lane}/crates/{crate}", f"{ROOT}/crates/{crate}/out"
     if os.path.isdir(out):
+        # (a copy, and no links: the check writes here)
         shutil.rmtree(f"{here}/out", ignore_errors=True)
-        subprocess.run(["cp", "-al", out, f"{here}/out"], check=True)
+        subprocess.run(["cp", "-a", "--reflink=auto", out, f"{here}/out"], check=True)
     ran = subprocess.run(["rt", "lib", "--jobs", str(jobs)], cwd=here, stdin=subprocess.DEVNULL, stdout=subprocess.PIPE,
                          stderr=subprocess.STDOUT, text=True, errors="replace")
     said = ran.stdout.rstrip().split("\n")
@@ -90,8 +91,10 @@ def prove(crate, lane, jobs, direct):
     if ran.returncode:
         print("\n".join(said[-40:]), flush=True)
     else:
+        made = f"{LANES}/made-{crate}"
+        subprocess.run(["cp", "-al", f"{here}/out", made], check=True)
         shutil.rmtree(out, ignore_errors=True)
-        subprocess.run(["cp", "-al", f"{here}/out", out], check=True)
+        os.rename(made, out)
         shutil.rmtree(f"{here}/out/incremental", ignore_errors=True)
     return ran.returncode
 

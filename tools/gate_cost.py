@@ -127,7 +127,7 @@ def table(watch):
     print(f"\n{'crate':<22}{'proof':>8}{'tests':>8}{'seed':>8}{'edits':>8}{'(count, mean)':>16}{'sum':>8}")
     for crate in crates:
         parts = [seconds.get((crate, kind), 0) for kind in KINDS]
-        count = sum(it == crate for it, _ in edits)
+        count = sum(it == crate and number < len(edits_of(crate)) for it, number in edits)
         mean = f"({count}, {parts[3] / count:.0f})" if count else ""
         print(f"{crate or 'other':<22}{parts[0]:>8.0f}{parts[1]:>8.0f}{parts[2]:>8.0f}{parts[3]:>8.0f}{mean:>16}{sum(parts):>8.0f}")
     parts = [sum(seconds.get((crate, kind), 0) for crate in crates) for kind in KINDS]
@@ -138,6 +138,8 @@ def table(watch):
     print("\nthe dearest ten")
     for used, what in sorted(tasks, reverse=True)[:10]:
         print(f"{used:>8.0f}  {what}")
+    past = sorted(((used, f"{crate}/{name(crate, number)}") for (crate, number), used in edits.items() if used > 25), reverse=True)
+    print("\nedits past 25 s (the first of a crate may pay its seed): " + ", ".join(f"{what} {used:.0f}" for used, what in past))
     cost, chain = longest_chain(seconds)
     print(f"\nthe longest chain of proofs: {cost:.0f} s, {' '.join(chain)} (and the last one's tests)")
     return sum(parts)
@@ -145,7 +147,7 @@ def table(watch):
 
 def main():
     watch, began, words = Watch(), time.monotonic(), sys.argv[1:]
-    if words == ["--anew"] and "--anew" not in subprocess.run(["rt", "ci", "--help"], capture_output=True, text=True).stderr:
+    if words == ["--anew"] and "--anew" not in subprocess.run("rt ci --help 2>&1", shell=True, capture_output=True, text=True).stdout:
         words = []
     watch.start()
     status = subprocess.run(["rt", "ci", *words]).returncode

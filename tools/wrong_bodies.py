@@ -31,6 +31,9 @@ LANES = f"{ROOT}/.git/wrong-lanes-{os.getpid()}"
 PARTS = ("src", "specs", "proofs")
 # What the checker says of a text that it can't read, where a wrong body is to be read and refused.
 UNREAD = re.compile(r"is not in scope|has no field|is no name|operand is missing|expected the end|cannot continue")
+# An error in a text of ours: its place, the declaration that it is in, where it names one, and what it says.
+ERROR = re.compile(r"(?:\./)?((?:src|specs)/\S+?):\d+:\d+: error: (?:(`[^`]*`): )?(.*)")
+STALE = re.compile(r"the kept work of \S+ cannot be used")
 
 
 def edits_of(crate):
@@ -58,7 +61,7 @@ def files_of(crate):
 def sum_of(crate, direct):
     """A sum of the kit and of all sources that a check of the crate reads."""
     kit = subprocess.run(["rt", "version"], capture_output=True, check=True).stdout
-    whole = hashlib.sha256(kit)
+    whole = hashlib.sha256(kit + repr([(it, direct[it]) for it in sorted([crate, *build.below(crate, direct)])]).encode())
     for it in sorted([crate, *build.below(crate, direct)]):
         for path in files_of(it):
             with open(path, "rb") as text:
@@ -128,15 +131,18 @@ class Lane:
             return False, f"BAD EDIT: {why}", 0
         status, said, used = self.check(texts, anew)
         lines = said.split("\n")
-        errors = [it for it in lines if re.match(r"(\./)?(src|specs)/\S+:\d+:\d+: error", it)]
-        unread = next((it for it in errors if UNREAD.search(re.sub(r"`[^`]*`", "", it))), None)
+        errors = [it for it in map(ERROR.match, lines) if it]
+        unread = next((it for it in errors if not it[2] or UNREAD.search(re.sub(r"`[^`]*`", "", it[3]))), None)
         if unread:
-            return False, f"BAD EDIT: the prover can't read it: {unread[:160]}", used
-        if status == 1 and any(it.startswith("logic=not-proved") for it in lines):
+            return False, f"BAD EDIT: the prover can't read it: {unread[0][:160]}", used
+        if STALE.search(said):
+            return False, "NOT TRIED: the kept work of a library could not be used", used
+        verdict = next((it for it in reversed(lines) if it.startswith("logic=")), "")
+        if status == 1 and verdict.startswith("logic=not-proved"):
             return True, "", used
         if status == 0:
             return False, "NOT REFUSED: the crate is still proved", used
-        return False, f"BAD EDIT: it didn't reach the prover: {' / '.join(errors[:1] or lines[:3])[:300]}", used
+        return False, f"BAD EDIT: it didn't reach the prover: {' / '.join([it[0] for it in errors[:1]] or lines[:3])[:300]}", used
 
 
 class Run:
@@ -184,7 +190,10 @@ class Run:
                     lane.keep()
                 tried.append((edit, used, why))
             if tried and lane.check({})[0]:
-                tried = [(edit, used, lane.verdict(edit, anew=True)[1]) for edit, used, _ in tried]
+                # what was kept isn't sound: each is tried from nothing, if the crate itself is proved from nothing
+                well = lane.check({}, anew=True)[0] == 0
+                why = "NOT TRIED: the crate as it stands isn't proved"
+                tried = [(edit, used, lane.verdict(edit, anew=True)[1] if well else why) for edit, used, _ in tried]
             for it in tried:
                 self.tell(crate, *it)
 
@@ -229,8 +238,11 @@ def main():
     if before:
         print(f"{before} of {count} were refused in an earlier run over the same sources")
     print(f"{len(crates)} crates, {(time.monotonic() - began) / 60:.1f} minutes on {os.cpu_count()} processors")
-    print(f"{run.refused + before} refused, {len(run.bad)} not")
-    return 1 if run.bad else 0
+    lost = count - before - run.refused - len(run.bad)
+    if lost:
+        print(f"{lost} of {count} were not tried: a lane ended before them")
+    print(f"{run.refused + before} refused, {count - before - run.refused} not")
+    return 1 if run.bad or lost else 0
 
 
 if __name__ == "__main__":
