@@ -1,13 +1,13 @@
 """Tries the wrong bodies of the crates on a copy of the repository: the prover must refuse each.
 
-usage: tools/wrong-bodies.sh [--anew] [--times] [CRATE ..]
+usage: tools/wrong-bodies.sh [--anew] [--times] [--gate] [CRATE ..]
 
 A wrong body is an edit of a crate's sources, a file `crates/NAME/must-fail/X.edit` (which `rt ci` tries too) or
-`crates/NAME/wrong/X.edit` (which only this tries). Without CRATEs all are tried.
+`crates/NAME/wrong/X.edit` (which only this tries). Without CRATEs all are tried; with --gate those of must-fail/ alone.
 
 The crates are proved first (tools/build.py). Each edit is then checked over what that left, so it costs what the edit
-opens and not a proof of its crate. What isn't refused is checked once more from nothing. At the end of a crate it is
-checked as it stands, over all that its edits left: where it isn't proved, the edits are tried again from nothing.
+opens and not a proof of its crate. What isn't refused is checked once more from nothing. After some edits of a crate it is
+checked as it stands, over all that they left: where it isn't proved, they are tried again from nothing.
 
 It prints each wrong body that isn't refused, or that can't be applied or read; with --times what each took besides.
 What was refused is noted in ~/.cache/nirvauda-wrong-bodies by a sum of the kit, the edit and all sources that its crate
@@ -29,6 +29,8 @@ ROOT = build.ROOT
 NOTES = os.path.join(os.environ.get("XDG_CACHE_HOME") or os.path.expanduser("~/.cache"), "nirvauda-wrong-bodies")
 LANES = f"{ROOT}/.git/wrong-lanes-{os.getpid()}"
 PARTS = ("src", "specs", "proofs")
+# After so many edits of a crate a lane checks it as it stands, and notes what was refused.
+AT_ONCE = 8
 # What the checker says of a text that it can't read, where a wrong body is to be read and refused.
 UNREAD = re.compile(r"is not in scope|has no field|is no name|operand is missing|expected the end|cannot continue")
 # An error in a text of ours: its place, the declaration that it is in, where it names one, and what it says.
@@ -36,9 +38,9 @@ ERROR = re.compile(r"(?:\./)?((?:src|specs)/\S+?):\d+:\d+: error: (?:(`[^`]*`): 
 STALE = re.compile(r"the kept work of \S+ cannot be used")
 
 
-def edits_of(crate):
+def edits_of(crate, parts=("must-fail", "wrong")):
     found = []
-    for part in ("must-fail", "wrong"):
+    for part in parts:
         folder = f"{ROOT}/crates/{crate}/{part}"
         if os.path.isdir(folder):
             found += [f"{folder}/{it}" for it in sorted(os.listdir(folder)) if it.endswith(".edit")]
@@ -180,9 +182,10 @@ class Run:
 
     def work(self, lane):
         while (crate := self.next_crate()) is not None:
-            lane.take(crate)
+            if lane.crate != crate:
+                lane.take(crate)
             tried = []
-            while (edit := self.next_edit(crate)) is not None:
+            while len(tried) < AT_ONCE and (edit := self.next_edit(crate)) is not None:
                 well, why, used = lane.verdict(edit)
                 if not well and why.startswith("NOT"):
                     well, why, more = lane.verdict(edit, anew=True)
@@ -194,6 +197,7 @@ class Run:
                 well = lane.check({}, anew=True)[0] == 0
                 why = "NOT TRIED: the crate as it stands isn't proved"
                 tried = [(edit, used, lane.verdict(edit, anew=True)[1] if well else why) for edit, used, _ in tried]
+                lane.keep()
             for it in tried:
                 self.tell(crate, *it)
 
@@ -207,14 +211,15 @@ def known_keys():
 def main():
     words = sys.argv[1:]
     anew, times = "--anew" in words, "--times" in words
+    parts = ("must-fail",) if "--gate" in words else ("must-fail", "wrong")
     named = [it for it in words if not it.startswith("--")]
     direct, began = build.dependencies(), time.monotonic()
     unknown = [it for it in named if it not in direct]
-    if unknown or any(it not in ("--anew", "--times") for it in words if it.startswith("--")):
+    if unknown or any(it not in ("--anew", "--times", "--gate") for it in words if it.startswith("--")):
         print(__doc__.split("\n\n")[1] if not unknown else f"crates.txt lists no {unknown[0]}", file=sys.stderr)
         return 2
-    crates = [it for it in named or direct if edits_of(it)]
-    run = Run({it: edits_of(it) for it in crates}, {it: sum_of(it, direct) for it in crates}, set() if anew else known_keys(), times)
+    crates = [it for it in named or direct if edits_of(it, parts)]
+    run = Run({it: edits_of(it, parts) for it in crates}, {it: sum_of(it, direct) for it in crates}, set() if anew else known_keys(), times)
     count = sum(map(len, run.left.values()))
     for crate, edits in run.left.items():
         run.left[crate] = [it for it in edits if run.key(crate, it) not in run.known]
