@@ -2,6 +2,7 @@
 
 mod devices;
 mod loads;
+mod macs;
 mod records;
 mod reports;
 mod settings;

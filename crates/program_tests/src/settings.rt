@@ -2,6 +2,7 @@
 
 use amt_values::Ip;
 use igmp_records::{code_value4, value_code4};
+use mld_records::value_code6;
 use relay_machine::*;
 use std::process::Abort;
 
@@ -23,10 +24,36 @@ fn each_response_time_of_igmp_has_a_code_in_mld(rt: HostRuntime) {
     }
 }
 
+// Beside values that have one, and past the greatest.
+const WITHOUT_CODE_IN_IGMP: [u32; 4] = [129, 31_743, 31_745, u32::MAX];
+
+const WITHOUT_CODE_IN_MLD: [u32; 10] = [
+    32_769,
+    32_770,
+    32_775,
+    65_535,
+    65_537,
+    3_174_401,
+    8_387_583,
+    8_387_585,
+    8_388_608,
+    u32::MAX,
+];
+
 #[test]
-fn no_time_past_31744_has_a_code(rt: HostRuntime) {
+fn a_value_between_two_codes_has_none(rt: HostRuntime) {
+    for value in WITHOUT_CODE_IN_IGMP {
+        assert!(rt; value_code4(value).is_none(), "{value} in IGMP");
+    }
+    for value in WITHOUT_CODE_IN_MLD {
+        assert!(rt; value_code6(value).is_none(), "{value} in MLD");
+    }
+}
+
+#[test]
+fn the_greatest_code_is_that_of_the_greatest_value(rt: HostRuntime) {
     assert_eq!(rt; value_code4(31_744), Some(255));
-    assert_eq!(rt; value_code4(31_745), None);
+    assert_eq!(rt; value_code6(8_387_584), Some(0xffff));
 }
 
 #[test]

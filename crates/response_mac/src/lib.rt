@@ -13,6 +13,6 @@ mod secrets;
 
 pub use hmac::hmac_sha256;
 pub use mac_key::MacKey;
-pub use response::mac;
+pub use response::{leftmost_48_bits, mac};
 pub use secret::Secret;
 pub use secrets::Secrets;

@@ -28,8 +28,10 @@ pub fn authenticated_octets(endpoint: &Endpoint, nonce: u32) -> [u8; 22]
     octets
 }
 
-// RFC 2104, section 5, recommends half of the digest, which is 128 bits; the field of RFC 7450,
-// section 5.1.4.6, has 48.
+/// What a response MAC holds of a digest: its first 48 bits.
+///
+/// RFC 2104, section 5, recommends half of the digest, which is 128 bits; the field of RFC 7450,
+/// section 5.1.4.6, has 48.
 pub fn leftmost_48_bits(digest: &[u8; 32]) -> Mac48
     ensures { result ≡ leftmost_48_bits digest.now }
 {
