@@ -6,10 +6,14 @@ A wrong body is an edit of a crate's sources, a file `crates/NAME/must-fail/X.ed
 `crates/NAME/wrong/X.edit` (which only this tries). Without CRATEs all are tried; with --gate those of must-fail/ alone.
 
 The crates are proved first (tools/build.py). Each edit is then checked over what that left, so it costs what the edit
-opens and not a proof of its crate. What isn't refused is checked once more from nothing. After some edits of a crate it is
-checked as it stands, over all that they left: where it isn't proved, they are tried again from nothing.
+opens and not a proof of its crate. A function is proved from its own body and the contracts of others, so edits in the
+bodies of different functions are checked in one go: each is refused there if the prover refuses the very function that it
+changes. An edit of anything else, and one that isn't refused so, is checked by itself, and if it isn't refused then, once
+more from nothing. After that the crate is checked as it stands, over all that the edits left: where it isn't proved, they are
+tried again, each by itself and from nothing.
 
-It prints each wrong body that isn't refused, or that can't be applied or read; with --times what each took besides.
+It prints each wrong body that isn't refused, or that can't be applied or read; with --times each is checked by itself, and
+what it took is printed besides.
 What was refused is noted in ~/.cache/nirvauda-wrong-bodies by a sum of the kit, the edit and all sources that its crate
 reads, and isn't tried again while these stay the same; with --anew it is. The last line is `N refused, M not`, and the status is
 1 where M isn't 0.
@@ -29,12 +33,14 @@ ROOT = build.ROOT
 NOTES = os.path.join(os.environ.get("XDG_CACHE_HOME") or os.path.expanduser("~/.cache"), "nirvauda-wrong-bodies")
 LANES = f"{ROOT}/.git/wrong-lanes-{os.getpid()}"
 PARTS = ("src", "specs", "proofs")
-# After so many edits of a crate a lane checks it as it stands, and notes what was refused.
-AT_ONCE = 8
+# So many edits of a crate are checked in one go at most; after them a lane checks the crate as it stands, and notes what was refused.
+AT_ONCE = 12
+# The first line of a function, where `rt fmt` has laid it out, and its indentation.
+FUNCTION = re.compile(r"( *)(?:pub(?:\([^)]*\))? )?(?:[a-z]+ )*fn \w")
 # What the checker says of a text that it can't read, where a wrong body is to be read and refused.
 UNREAD = re.compile(r"is not in scope|has no field|is no name|operand is missing|expected the end|cannot continue")
 # An error in a text of ours: its place, the declaration that it is in, where it names one, and what it says.
-ERROR = re.compile(r"(?:\./)?((?:src|specs)/\S+?):\d+:\d+: error: (?:(`[^`]*`): )?(.*)")
+ERROR = re.compile(r"(?:\./)?((?:src|specs)/\S+?):(\d+):\d+: error: (?:(`[^`]*`): )?(.*)")
 STALE = re.compile(r"the kept work of \S+ cannot be used")
 
 
@@ -90,6 +96,48 @@ def changed_by(edit, crate):
     return (texts, None) if texts else (None, "it changes nothing")
 
 
+def functions_of(text):
+    """The functions of a text as `rt fmt` lays it out: the number of the first line, of the body's brace and of the last line."""
+    lines, found, at = text.split("\n"), [], 0
+    while at < len(lines):
+        begins = FUNCTION.match(lines[at])
+        margin = begins[1] if begins and not lines[at].endswith((";", "}")) else None
+        at += 1
+        if margin is None:
+            continue
+        beyond = next((it for it in range(at, len(lines)) if FUNCTION.match(lines[it])), len(lines))
+        body = next((it for it in range(at - 1, beyond) if lines[it].endswith("{") and lines[it][: len(margin) + 1].strip()), None)
+        end = next((it for it in range(body or at, len(lines)) if lines[it] == margin + "}"), None)
+        if body is not None and end is not None:
+            found.append((at, body + 1, end + 1))
+            at = end + 1
+    return found
+
+
+def place_of(edit, crate):
+    """The file, and the first line of the function, in whose body all lines stand that the edit changes; None if there is none."""
+    texts, why = changed_by(edit, crate)
+    if why or len(texts) != 1:
+        return None
+    [(path, new)] = texts.items()
+    text = text_of(f"{ROOT}/crates/{crate}/{path}")
+    before, after = text.split("\n"), new.split("\n")
+    changed = [at for at, (old, it) in enumerate(zip(before, after), 1) if old != it]
+    if len(before) != len(after):
+        return None
+    return next(((path, first) for first, body, last in functions_of(text) if all(body < at < last for at in changed)), None)
+
+
+def errors_in(said):
+    """The errors that the checker found in our texts, and the first of them that says a text can't be read."""
+    errors = [it for it in map(ERROR.match, said.split("\n")) if it]
+    return errors, next((it for it in errors if not it[3] or UNREAD.search(re.sub(r"`[^`]*`", "", it[4]))), None)
+
+
+def is_not_proved(said):
+    return next((it for it in reversed(said.split("\n")) if it.startswith("logic=")), "").startswith("logic=not-proved")
+
+
 class Lane:
     """A copy of what one crate reads, in which its edits are checked one after another."""
 
@@ -126,25 +174,40 @@ class Lane:
             shutil.copyfile(f"{ROOT}/crates/{self.crate}/{path}", f"{self.here}/{path}")
         return ran.returncode, text, used.ru_utime + used.ru_stime
 
+    def together(self, edits):
+        """Those of these edits, each in a function of its own, whose functions the prover refuses, and the processor seconds."""
+        texts, places = {}, {edit: place_of(edit, self.crate) for edit in edits}
+        for edit, (path, first) in places.items():
+            text = texts.get(path) or text_of(f"{ROOT}/crates/{self.crate}/{path}")
+            lines, new = text.split("\n"), changed_by(edit, self.crate)[0][path].split("\n")
+            _, body, last = next(it for it in functions_of(text) if it[0] == first)
+            lines[body:last] = new[body:last]
+            texts[path] = "\n".join(lines)
+        status, said, used = self.check(texts)
+        errors, unread = errors_in(said)
+        if status != 1 or unread or STALE.search(said) or not is_not_proved(said):
+            return set(), used
+        spans = {edit: (path, next(it for it in functions_of(texts[path]) if it[0] == first)) for edit, (path, first) in places.items()}
+        hit = {(it[1], int(it[2])) for it in errors}
+        return {edit for edit, (path, (first, _, last)) in spans.items() if any(file == path and first <= at <= last for file, at in hit)}, used
+
     def verdict(self, edit, anew=False):
         """Whether the prover refuses the edit, why not, and the processor seconds."""
         texts, why = changed_by(edit, self.crate)
         if why:
             return False, f"BAD EDIT: {why}", 0
         status, said, used = self.check(texts, anew)
-        lines = said.split("\n")
-        errors = [it for it in map(ERROR.match, lines) if it]
-        unread = next((it for it in errors if not it[2] or UNREAD.search(re.sub(r"`[^`]*`", "", it[3]))), None)
+        errors, unread = errors_in(said)
         if unread:
             return False, f"BAD EDIT: the prover can't read it: {unread[0][:160]}", used
         if STALE.search(said):
             return False, "NOT TRIED: the kept work of a library could not be used", used
-        verdict = next((it for it in reversed(lines) if it.startswith("logic=")), "")
-        if status == 1 and verdict.startswith("logic=not-proved"):
+        if status == 1 and is_not_proved(said):
             return True, "", used
         if status == 0:
             return False, "NOT REFUSED: the crate is still proved", used
-        return False, f"BAD EDIT: it didn't reach the prover: {' / '.join([it[0] for it in errors[:1]] or lines[:3])[:300]}", used
+        first = " / ".join([it[0] for it in errors[:1]] or said.split("\n")[:3])
+        return False, f"BAD EDIT: it didn't reach the prover: {first[:300]}", used
 
 
 class Run:
@@ -152,6 +215,7 @@ class Run:
 
     def __init__(self, left, sums, known, times):
         self.left, self.sums, self.known, self.times = left, sums, known, times
+        self.places = {edit: place_of(edit, crate) for crate, edits in left.items() for edit in edits}
         self.refused, self.bad, self.lock = 0, [], threading.Lock()
 
     def next_crate(self):
@@ -159,9 +223,15 @@ class Run:
             crates = [it for it in self.left if self.left[it]]
             return max(crates, key=lambda it: len(self.left[it]), default=None)
 
-    def next_edit(self, crate):
+    def next_edits(self, crate):
+        """Takes edits of different functions, and at most one of something else."""
         with self.lock:
-            return self.left[crate].pop(0) if self.left[crate] else None
+            taken = {}
+            for edit in self.left[crate]:
+                if len(taken) < AT_ONCE:
+                    taken.setdefault(self.places[edit], edit)
+            self.left[crate] = [it for it in self.left[crate] if it not in taken.values()]
+            return list(taken.values())
 
     def tell(self, crate, edit, used, why):
         name = f"{crate}/{os.path.basename(edit)[:-5]}"
@@ -180,18 +250,25 @@ class Run:
     def key(self, crate, edit):
         return hashlib.sha256((self.sums[crate] + text_of(edit)).encode()).hexdigest()
 
+    def tried(self, lane, edits):
+        """Each edit with the processor seconds that it took, and why it isn't refused."""
+        together = [] if self.times else [it for it in edits if self.places[it]]
+        refused, used = lane.together(together) if len(together) > 1 else (set(), 0)
+        found = [(it, used / len(together), "") for it in edits if it in refused]
+        for edit in [it for it in edits if it not in refused]:
+            well, why, used = lane.verdict(edit)
+            if not well and why.startswith("NOT"):
+                well, why, more = lane.verdict(edit, anew=True)
+                used += more
+                lane.keep()
+            found.append((edit, used, why))
+        return found
+
     def work(self, lane):
         while (crate := self.next_crate()) is not None:
             if lane.crate != crate:
                 lane.take(crate)
-            tried = []
-            while len(tried) < AT_ONCE and (edit := self.next_edit(crate)) is not None:
-                well, why, used = lane.verdict(edit)
-                if not well and why.startswith("NOT"):
-                    well, why, more = lane.verdict(edit, anew=True)
-                    used += more
-                    lane.keep()
-                tried.append((edit, used, why))
+            tried = self.tried(lane, self.next_edits(crate))
             if tried and lane.check({})[0]:
                 # what was kept isn't sound: each is tried from nothing, if the crate itself is proved from nothing
                 well = lane.check({}, anew=True)[0] == 0
