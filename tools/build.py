@@ -20,6 +20,8 @@ from concurrent.futures import FIRST_COMPLETED, ThreadPoolExecutor, wait
 ROOT = subprocess.run(["git", "rev-parse", "--show-toplevel"], capture_output=True, text=True, check=True,
                       cwd=os.path.dirname(os.path.abspath(__file__))).stdout.strip()
 LANES = f"{ROOT}/.git/build-lanes-{os.getpid()}"
+# `rt`, which reads each crate's sources once.
+RT = [sys.executable, os.path.join(os.path.dirname(os.path.abspath(__file__)), "rt_once.py")]
 # What a check of a large crate over all others takes, in octets.
 MEMORY = 5_500_000_000
 
@@ -76,7 +78,7 @@ def lay(lane, crate, direct):
         os.makedirs(f"{lane}/crates/{it}/src", exist_ok=True)
 
 
-def prove(crate, lane, jobs, direct):
+def prove(crate, lane, direct):
     began = time.monotonic()
     lay(lane, crate, direct)
     here, out = f"{lane}/crates/{crate}", f"{ROOT}/crates/{crate}/out"
@@ -84,10 +86,11 @@ def prove(crate, lane, jobs, direct):
         # (a copy, and no links: the check writes here)
         shutil.rmtree(f"{here}/out", ignore_errors=True)
         subprocess.run(["cp", "-a", "--reflink=auto", out, f"{here}/out"], check=True)
-    ran = subprocess.run(["rt", "lib", "--jobs", str(jobs)], cwd=here, stdin=subprocess.DEVNULL, stdout=subprocess.PIPE,
+    # (with more jobs each loads all libraries once more, which takes as long as is won)
+    ran = subprocess.run([*RT, "lib", "--jobs", "1"], cwd=here, stdin=subprocess.DEVNULL, stdout=subprocess.PIPE,
                          stderr=subprocess.STDOUT, text=True, errors="replace")
     said = ran.stdout.rstrip().split("\n")
-    print(f"{crate}: {'proved' if not ran.returncode else 'NOT PROVED'} in {time.monotonic() - began:.0f} s by {jobs} job(s)", flush=True)
+    print(f"{crate}: {'proved' if not ran.returncode else 'NOT PROVED'} in {time.monotonic() - began:.0f} s", flush=True)
     if ran.returncode:
         print("\n".join(said[-40:]), flush=True)
     else:
@@ -118,9 +121,7 @@ def prove_all(wanted, direct):
             while ready and free and not failed:
                 crate, lane = ready.pop(0), free.pop(0)
                 left.remove(crate)
-                # a crate beside which nothing can run gets all processors
-                jobs = max(1, (len(free) + 1) // (len(ready) + 1)) if not ready else 1
-                running[pool.submit(prove, crate, lane, jobs, direct)] = crate, lane
+                running[pool.submit(prove, crate, lane, direct)] = crate, lane
             for it in wait(running, return_when=FIRST_COMPLETED).done:
                 crate, lane = running.pop(it)
                 free.append(lane)
@@ -147,8 +148,9 @@ def main():
         shutil.rmtree(LANES, ignore_errors=True)
     if not status and not named:
         with open(f"{ROOT}/examples/discovery/script", "rb") as script:
-            status = subprocess.run(["rt", "run", "--", "replay", "relay"], cwd=f"{ROOT}/crates/amt", stdin=script).returncode
-    print(f"{'done' if not status else 'FAILED'} after {(time.monotonic() - began) / 60:.1f} minutes on {os.cpu_count()} processors")
+            status = subprocess.run([*RT, "run", "--", "replay", "relay"], cwd=f"{ROOT}/crates/amt", stdin=script).returncode
+    count = len(os.sched_getaffinity(0))
+    print(f"{'done' if not status else 'FAILED'} after {(time.monotonic() - began) / 60:.1f} minutes on {count} processors")
     return status
 
 

@@ -35,12 +35,16 @@ LANES = f"{ROOT}/.git/wrong-lanes-{os.getpid()}"
 PARTS = ("src", "specs", "proofs")
 # So many edits of a crate are checked in one go at most; after them a lane checks the crate as it stands, and notes what was refused.
 AT_ONCE = 12
+FUNCTION_NAME = re.compile(r"\bfn (\w+)")
 # The first line of a function, where `rt fmt` has laid it out, and its indentation.
 FUNCTION = re.compile(r"( *)(?:pub(?:\([^)]*\))? )?(?:[a-z]+ )*fn \w")
 # What the checker says of a text that it can't read, where a wrong body is to be read and refused.
 UNREAD = re.compile(r"is not in scope|has no field|is no name|operand is missing|expected the end|cannot continue")
 # An error in a text of ours: its place, the declaration that it is in, where it names one, and what it says.
 ERROR = re.compile(r"(?:\./)?((?:src|specs)/\S+?):(\d+):\d+: error: (?:(`[^`]*`): )?(.*)")
+# A goal of ours that is left, and its place; a function that has no proof.
+GOAL = re.compile(r"(?:note|error): (?:\./)?(src/\S+?):(\d+):\d+: it is not proved")
+UNPROVED = re.compile(r"fn (\S+): (?:no proof|not proved)(?!; it waits)")
 STALE = re.compile(r"the kept work of \S+ cannot be used")
 
 
@@ -114,6 +118,16 @@ def functions_of(text):
     return found
 
 
+def name_in(text, path, first, crate):
+    """What the prover may call the function at this line: none, where the file has another of its name."""
+    named = {at: FUNCTION_NAME.search(text.split("\n")[at - 1])[1] for at, _, _ in functions_of(text)}
+    name, module = named[first], "::".join([crate, *path.removeprefix("src/").removesuffix(".rt").split("/")])
+    if list(named.values()).count(name) > 1:
+        return set()
+    kinds = re.findall(r"^(?:impl|pub trait|trait)\b[^{;]*?(\w+)(?:<[^{;]*>)?\s*\{", text, re.M)
+    return {f"{module}::{name}", *(f"{module}::{kind}::{name}" for kind in kinds)}
+
+
 def place_of(edit, crate):
     """The file, and the first line of the function, in whose body all lines stand that the edit changes; None if there is none."""
     texts, why = changed_by(edit, crate)
@@ -165,7 +179,7 @@ class Lane:
             with open(f"{self.here}/{path}", "w", encoding="utf-8") as it:
                 it.write(text)
         with open(f"{self.folder}/said", "w+", encoding="utf-8", errors="replace") as said:
-            ran = subprocess.Popen(["rt", "check", "--jobs", "1"], cwd=self.here, stdin=subprocess.DEVNULL, stdout=said, stderr=said)
+            ran = subprocess.Popen([*build.RT, "check", "--jobs", "1"], cwd=self.here, stdin=subprocess.DEVNULL, stdout=said, stderr=said)
             _, status, used = os.wait4(ran.pid, 0)
             ran.returncode = os.waitstatus_to_exitcode(status)
             said.seek(0)
@@ -187,9 +201,15 @@ class Lane:
         errors, unread = errors_in(said)
         if status != 1 or unread or STALE.search(said) or not is_not_proved(said):
             return set(), used
-        spans = {edit: (path, next(it for it in functions_of(texts[path]) if it[0] == first)) for edit, (path, first) in places.items()}
-        hit = {(it[1], int(it[2])) for it in errors}
-        return {edit for edit, (path, (first, _, last)) in spans.items() if any(file == path and first <= at <= last for file, at in hit)}, used
+        lines = said.split("\n")
+        hits = {(it[1], int(it[2])) for it in [*errors, *filter(None, map(GOAL.match, lines))]}
+        unproved = {it[1] for it in map(UNPROVED.match, lines) if it}
+        refused = set()
+        for edit, (path, first) in places.items():
+            _, _, last = next(it for it in functions_of(texts[path]) if it[0] == first)
+            if any(file == path and first <= at <= last for file, at in hits) or name_in(texts[path], path, first, self.crate) & unproved:
+                refused.add(edit)
+        return refused, used
 
     def verdict(self, edit, anew=False):
         """Whether the prover refuses the edit, why not, and the processor seconds."""
@@ -319,7 +339,7 @@ def main():
         shutil.rmtree(build.LANES, ignore_errors=True)
     if before:
         print(f"{before} of {count} were refused in an earlier run over the same sources")
-    print(f"{len(crates)} crates, {(time.monotonic() - began) / 60:.1f} minutes on {os.cpu_count()} processors")
+    print(f"{len(crates)} crates, {(time.monotonic() - began) / 60:.1f} minutes on {len(os.sched_getaffinity(0))} processors")
     lost = count - before - run.refused - len(run.bad)
     if lost:
         print(f"{lost} of {count} were not tried: a lane ended before them")
