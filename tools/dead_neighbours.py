@@ -73,7 +73,8 @@ def run(command, folder, workers, gone, waiting):
             asking = bound(f"{LIVE_NET}.200")
         vanish(relay, hosts)
         offering = namespaces.offer(sender, RATE, SECONDS)
-        answers = namespaces.ask_for(asking, SECONDS - 0.5, lambda number: number == 10 and expect_unresolved(relay, gone))
+        answers = namespaces.ask_for(asking, SECONDS - 0.5)
+        expect_unresolved(relay, gone)
         namespaces.expect_in_time(offering, "packets")
         time.sleep(1.5)
         shares = [namespaces.share(it, RATE * SECONDS) for it in live]
@@ -102,7 +103,7 @@ def main():
             for gone in given.gone:
                 shares, answers = run(command, folder, workers, gone, given.waiting)
                 got = f"{100 * min(shares):8.1f} {100 * statistics.mean(shares):8.1f}"
-                print(f"{gone:4} {workers:7} {got} {namespaces.told(answers)}", flush=True)
+                print(f"{gone:4} {workers:7} {got} {namespaces.summed_up(answers)}", flush=True)
     return 0
 
 

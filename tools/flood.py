@@ -80,7 +80,7 @@ def main():
         for workers in given.workers:
             for updates in given.updates:
                 got, took, answers = run(command, folder, workers, updates, given)
-                print(f"{updates:9} {workers:7} {100 * got:7.1f} {took:10.2f} {namespaces.told(answers)}", flush=True)
+                print(f"{updates:9} {workers:7} {100 * got:7.1f} {took:10.2f} {namespaces.summed_up(answers)}", flush=True)
     return 0
 
 

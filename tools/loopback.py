@@ -213,3 +213,4 @@ def ended_by_signal(_number, _frame):
 
 atexit.register(stop_all)
 signal.signal(signal.SIGTERM, ended_by_signal)
+signal.signal(signal.SIGHUP, ended_by_signal)

@@ -8,6 +8,7 @@ import ctypes
 import os
 import pathlib
 import random
+import signal
 import statistics
 import struct
 import subprocess
@@ -52,7 +53,7 @@ def inside(name):
 
 @contextlib.contextmanager
 def network(waiting=None):
-    """The names of two namespaces with a veth pair between them. So many octets may wait for a neighbour's address."""
+    """The names of two namespaces with a veth pair between them; `waiting` is how many octets may wait for a neighbour's address."""
     relay, hosts = (f"amt-{part}-{os.getpid()}" for part in ("relay", "hosts"))
     made = []
     try:
@@ -72,9 +73,9 @@ def network(waiting=None):
                 pathlib.Path(f"/proc/sys/net/ipv4/neigh/{DEVICE}/unres_qlen_bytes").write_text(str(waiting), encoding="ascii")
         yield relay, hosts
     finally:
-        loopback.stop_all()
+        end_all()
         for name in made:
-            ip("netns", "del", name)
+            subprocess.run(["ip", "netns", "del", name], check=False)
 
 
 def start_relay(command, folder, name, workers):
@@ -96,18 +97,39 @@ def member(address):
     return made
 
 
+# The processes that send at a rate, and still may.
+SENDING = []
+
+
 def paced(rate, seconds, send):
-    """In a process of its own: so many calls a second, evenly. Its status is 0 where they were made in time."""
+    """In a process of its own: `rate` calls a second, evenly. Its status is 0 where they were made in time."""
     child = os.fork()
     if child:
+        SENDING.append(child)
         return child
-    began = time.monotonic()
-    for number in range(rate * seconds):
-        early = number / rate - (time.monotonic() - began)
-        if early > 0.001:
-            time.sleep(early)
-        send(number)
-    os._exit(0 if time.monotonic() - began < seconds + 1 else 1)
+    # (whatever happens here, what the parent has made is the parent's to take away)
+    status = 1
+    try:
+        signal.signal(signal.SIGINT, signal.SIG_IGN)
+        signal.signal(signal.SIGTERM, signal.SIG_DFL)
+        began = time.monotonic()
+        for number in range(rate * seconds):
+            early = number / rate - (time.monotonic() - began)
+            if early > 0.001:
+                time.sleep(early)
+            send(number)
+        status = 0 if time.monotonic() - began < seconds + 1 else 1
+    finally:
+        os._exit(status)
+
+
+def end_all():
+    """Ends the relay, and what sends at a rate."""
+    loopback.stop_all()
+    while SENDING:
+        child = SENDING.pop()
+        os.kill(child, signal.SIGKILL)
+        os.waitpid(child, 0)
 
 
 def offer(sender, rate, seconds):
@@ -117,11 +139,12 @@ def offer(sender, rate, seconds):
 
 
 def expect_in_time(child, what):
+    SENDING.remove(child)
     expect(os.waitpid(child, 0)[1] == 0, f"{what} were not sent in time")
 
 
 def share(endpoint, count):
-    """Which of so many numbered packets it got."""
+    """How large a share of `count` numbered packets it got."""
     got = set()
     endpoint.socket.settimeout(0.05)
     while (octets := endpoint.receive(DATA)) is not None:
@@ -144,17 +167,16 @@ def answered_ms(asking):
     return None
 
 
-def ask_for(asking, seconds, meanwhile=lambda number: None):
+def ask_for(asking, seconds):
     """A Request each 100 ms, and after how long each was answered."""
     answers, began = [], time.monotonic()
     while time.monotonic() < began + seconds:
         answers.append(answered_ms(asking))
-        meanwhile(len(answers))
         time.sleep(0.1)
     return answers
 
 
-def told(answers):
+def summed_up(answers):
     """How many Requests had no answer, and after how many milliseconds the others did: the median and the worst."""
     times = [it for it in answers if it is not None]
     figures = f"{statistics.median(times):9.1f} {max(times):8.1f}" if times else f"{'-':>9} {'-':>8}"

@@ -3,7 +3,7 @@
 `rt` knows a kept library by a sum over its sources and the sums of the crates below. It reckons such a sum once for each path to
 a crate in crates.txt, of which thousands lead down from the highest crates, and so reads them for minutes before and after
 each command. Here each sum below another is reckoned once while that one is: the same sum, in a fraction of a second.
-A kit that reckons in another way is run as it is.
+Where a kit has no such method, it is run as it is.
 """
 import importlib.machinery
 import importlib.util
@@ -34,7 +34,8 @@ def reckon_once(kind):
 
 def main():
     path = os.path.realpath(shutil.which("rt") or sys.exit("rt_once: there is no rt"))
-    sys.path.insert(0, os.path.dirname(path))
+    # (`rt` looks for its modules beside itself, and none of them is here)
+    sys.path[0] = os.path.dirname(path)
     sys.argv[0] = path
     loader = importlib.machinery.SourceFileLoader("rt", path)
     rt = importlib.util.module_from_spec(importlib.util.spec_from_loader("rt", loader))

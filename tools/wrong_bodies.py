@@ -9,7 +9,8 @@ The crates are proved first (tools/build.py). Each edit is then checked over wha
 opens and not a proof of its crate. A function is proved from its own body and the contracts of others, so edits in the
 bodies of different functions are checked in one go: each is refused there if the prover refuses the very function that it
 changes. An edit of anything else, and one that isn't refused so, is checked by itself, and if it isn't refused then, once
-more from nothing. After that the crate is checked as it stands, over all that the edits left: where it isn't proved, they are
+more from nothing. Functions of which one calls the other, by whatever way, don't go together: where what it calls has no
+proof, a function waits. After that the crate is checked as it stands, over all that the edits left: where it isn't proved, they are
 tried again, each by itself and from nothing.
 
 It prints each wrong body that isn't refused, or that can't be applied or read; with --times each is checked by itself, and
@@ -33,8 +34,9 @@ ROOT = build.ROOT
 NOTES = os.path.join(os.environ.get("XDG_CACHE_HOME") or os.path.expanduser("~/.cache"), "nirvauda-wrong-bodies")
 LANES = f"{ROOT}/.git/wrong-lanes-{os.getpid()}"
 PARTS = ("src", "specs", "proofs")
-# So many edits of a crate are checked in one go at most; after them a lane checks the crate as it stands, and notes what was refused.
-AT_ONCE = 12
+KIT = subprocess.run(["rt", "version"], capture_output=True, check=True).stdout
+# The most edits of a crate that are checked in one go, and how many a lane tries before it checks the crate as it stands.
+AT_ONCE, BETWEEN = 12, 16
 FUNCTION_NAME = re.compile(r"\bfn (\w+)")
 # The first line of a function, where `rt fmt` has laid it out, and its indentation.
 FUNCTION = re.compile(r"( *)(?:pub(?:\([^)]*\))? )?(?:[a-z]+ )*fn \w")
@@ -42,9 +44,10 @@ FUNCTION = re.compile(r"( *)(?:pub(?:\([^)]*\))? )?(?:[a-z]+ )*fn \w")
 UNREAD = re.compile(r"is not in scope|has no field|is no name|operand is missing|expected the end|cannot continue")
 # An error in a text of ours: its place, the declaration that it is in, where it names one, and what it says.
 ERROR = re.compile(r"(?:\./)?((?:src|specs)/\S+?):(\d+):\d+: error: (?:(`[^`]*`): )?(.*)")
-# A goal of ours that is left, and its place; a function that has no proof.
+# A goal of ours that is left, and its place; a function some of whose own goals are left, and not one that waits for another.
 GOAL = re.compile(r"(?:note|error): (?:\./)?(src/\S+?):(\d+):\d+: it is not proved")
-UNPROVED = re.compile(r"fn (\S+): (?:no proof|not proved)(?!; it waits)")
+UNPROVED = re.compile(r"fn (\S+): no proof: expected answers in ")
+CALL = re.compile(r"\b(\w+)(?:::<[^()]*>)?\(")
 STALE = re.compile(r"the kept work of \S+ cannot be used")
 
 
@@ -71,9 +74,11 @@ def files_of(crate):
 
 
 def sum_of(crate, direct):
-    """A sum of the kit and of all sources that a check of the crate reads."""
-    kit = subprocess.run(["rt", "version"], capture_output=True, check=True).stdout
-    whole = hashlib.sha256(kit + repr([(it, direct[it]) for it in sorted([crate, *build.below(crate, direct)])]).encode())
+    """A sum of the kit, of this tool, and of all sources that a check of the crate reads."""
+    whole = hashlib.sha256(KIT + text_of(os.path.abspath(__file__)).encode())
+    names = {crate, *build.below(crate, direct)}
+    lines = text_of(f"{ROOT}/crates.txt").split("\n")
+    whole.update(repr([line for line in lines if names & set(line.partition(":")[0].split()[:1])]).encode())
     for it in sorted([crate, *build.below(crate, direct)]):
         for path in files_of(it):
             with open(path, "rb") as text:
@@ -96,8 +101,14 @@ def changed_by(edit, crate):
         elif word == "new":
             if not old or texts.get(path, "").count(old) != 1:
                 return None, f"the text to change doesn't stand once in {path or 'any file'}"
+            if old == rest:
+                return None, "it changes nothing"
             texts[path], old = texts[path].replace(old, rest), None
     return (texts, None) if texts else (None, "it changes nothing")
+
+
+def is_left_of(margin, line):
+    return bool(line.strip()) and not line.startswith(margin)
 
 
 def functions_of(text):
@@ -109,8 +120,8 @@ def functions_of(text):
         at += 1
         if margin is None:
             continue
-        beyond = next((it for it in range(at, len(lines)) if FUNCTION.match(lines[it])), len(lines))
-        body = next((it for it in range(at - 1, beyond) if lines[it].endswith("{") and lines[it][: len(margin) + 1].strip()), None)
+        beyond = next((it for it in range(at, len(lines)) if FUNCTION.match(lines[it]) or is_left_of(margin, lines[it])), len(lines))
+        body = next((it for it in range(at - 1, beyond) if lines[it].endswith("{") and re.match(margin + r"\S", lines[it])), None)
         end = next((it for it in range(body or at, len(lines)) if lines[it] == margin + "}"), None)
         if body is not None and end is not None:
             found.append((at, body + 1, end + 1))
@@ -118,11 +129,16 @@ def functions_of(text):
     return found
 
 
+def span_of(text, first):
+    """Where the function's body begins, and its last line; that line alone, where no function begins there."""
+    return next(((body, last) for at, body, last in functions_of(text) if at == first), (first, first))
+
+
 def name_in(text, path, first, crate):
     """What the prover may call the function at this line: none, where the file has another of its name."""
     named = {at: FUNCTION_NAME.search(text.split("\n")[at - 1])[1] for at, _, _ in functions_of(text)}
-    name, module = named[first], "::".join([crate, *path.removeprefix("src/").removesuffix(".rt").split("/")])
-    if list(named.values()).count(name) > 1:
+    name, module = named.get(first), "::".join([crate, *path.removeprefix("src/").removesuffix(".rt").split("/")])
+    if list(named.values()).count(name) != 1:
         return set()
     kinds = re.findall(r"^(?:impl|pub trait|trait)\b[^{;]*?(\w+)(?:<[^{;]*>)?\s*\{", text, re.M)
     return {f"{module}::{name}", *(f"{module}::{kind}::{name}" for kind in kinds)}
@@ -140,6 +156,25 @@ def place_of(edit, crate):
     if len(before) != len(after):
         return None
     return next(((path, first) for first, body, last in functions_of(text) if all(body < at < last for at in changed)), None)
+
+
+def calls_in(crate):
+    """For each function of a crate, by its file and first line, those that it may call, by whatever way: all of the names in its body."""
+    names_in, named = {}, {}
+    for file in files_of(crate):
+        path, lines = os.path.relpath(file, f"{ROOT}/crates/{crate}"), text_of(file).split("\n")
+        for first, body, last in functions_of("\n".join(lines)) if path.endswith(".rt") else ():
+            names_in[path, first] = set(CALL.findall("\n".join(lines[body - 1:last])))
+            named.setdefault(FUNCTION_NAME.search(lines[first - 1])[1], set()).add((path, first))
+    direct = {place: set().union(*(named.get(it, ()) for it in names)) for place, names in names_in.items()}
+    reached = {}
+    for place in direct:
+        reached[place], left = set(), [place]
+        while left:
+            new = direct[left.pop()] - reached[place]
+            reached[place] |= new
+            left += new
+    return reached
 
 
 def errors_in(said):
@@ -194,7 +229,7 @@ class Lane:
         for edit, (path, first) in places.items():
             text = texts.get(path) or text_of(f"{ROOT}/crates/{self.crate}/{path}")
             lines, new = text.split("\n"), changed_by(edit, self.crate)[0][path].split("\n")
-            _, body, last = next(it for it in functions_of(text) if it[0] == first)
+            body, last = span_of(text, first)
             lines[body:last] = new[body:last]
             texts[path] = "\n".join(lines)
         status, said, used = self.check(texts)
@@ -206,7 +241,7 @@ class Lane:
         unproved = {it[1] for it in map(UNPROVED.match, lines) if it}
         refused = set()
         for edit, (path, first) in places.items():
-            _, _, last = next(it for it in functions_of(texts[path]) if it[0] == first)
+            _, last = span_of(texts[path], first)
             if any(file == path and first <= at <= last for file, at in hits) or name_in(texts[path], path, first, self.crate) & unproved:
                 refused.add(edit)
         return refused, used
@@ -233,9 +268,14 @@ class Lane:
 class Run:
     """What is to be tried, and what was found, by all lanes."""
 
-    def __init__(self, left, sums, known, times):
-        self.left, self.sums, self.known, self.times = left, sums, known, times
+    def __init__(self, left, direct, known, times):
+        self.left, self.direct, self.known, self.times = left, direct, known, times
+        self.sums = {crate: sum_of(crate, direct) for crate in left}
         self.places = {edit: place_of(edit, crate) for crate, edits in left.items() for edit in edits}
+        self.calls = {crate: calls_in(crate) for crate in left}
+        # (functions that reach as many others seldom call one another)
+        for crate, edits in left.items():
+            edits.sort(key=lambda it: len(self.calls[crate].get(self.places[it], ())))
         self.refused, self.bad, self.lock = 0, [], threading.Lock()
 
     def next_crate(self):
@@ -244,12 +284,14 @@ class Run:
             return max(crates, key=lambda it: len(self.left[it]), default=None)
 
     def next_edits(self, crate):
-        """Takes edits of different functions, and at most one of something else."""
+        """Takes edits of functions of which none calls another, and at most one of something else."""
         with self.lock:
-            taken = {}
+            taken, calls = {}, self.calls[crate]
             for edit in self.left[crate]:
-                if len(taken) < AT_ONCE:
-                    taken.setdefault(self.places[edit], edit)
+                place = self.places[edit]
+                meets = any(place in calls.get(it, ()) or it in calls.get(place, ()) for it in taken)
+                if len(taken) < AT_ONCE and not meets:
+                    taken.setdefault(place, edit)
             self.left[crate] = [it for it in self.left[crate] if it not in taken.values()]
             return list(taken.values())
 
@@ -263,9 +305,11 @@ class Run:
             self.refused += 1
             if self.times:
                 print(f"{name}: refused after {used:.0f} processor seconds", flush=True)
-            os.makedirs(os.path.dirname(NOTES), exist_ok=True)
-            with open(NOTES, "a", encoding="utf-8") as it:
-                it.write(f"{self.key(crate, edit)} {name}\n")
+            # (a source that was changed meanwhile has another sum)
+            if self.sums[crate] == sum_of(crate, self.direct):
+                os.makedirs(os.path.dirname(NOTES), exist_ok=True)
+                with open(NOTES, "a", encoding="utf-8") as it:
+                    it.write(f"{self.key(crate, edit)} {name}\n")
 
     def key(self, crate, edit):
         return hashlib.sha256((self.sums[crate] + text_of(edit)).encode()).hexdigest()
@@ -288,7 +332,9 @@ class Run:
         while (crate := self.next_crate()) is not None:
             if lane.crate != crate:
                 lane.take(crate)
-            tried = self.tried(lane, self.next_edits(crate))
+            tried = []
+            while len(tried) < BETWEEN and (edits := self.next_edits(crate)):
+                tried += self.tried(lane, edits)
             if tried and lane.check({})[0]:
                 # what was kept isn't sound: each is tried from nothing, if the crate itself is proved from nothing
                 well = lane.check({}, anew=True)[0] == 0
@@ -316,7 +362,7 @@ def main():
         print(__doc__.split("\n\n")[1] if not unknown else f"crates.txt lists no {unknown[0]}", file=sys.stderr)
         return 2
     crates = [it for it in named or direct if edits_of(it, parts)]
-    run = Run({it: edits_of(it, parts) for it in crates}, {it: sum_of(it, direct) for it in crates}, set() if anew else known_keys(), times)
+    run = Run({it: edits_of(it, parts) for it in crates}, direct, set() if anew else known_keys(), times)
     count = sum(map(len, run.left.values()))
     for crate, edits in run.left.items():
         run.left[crate] = [it for it in edits if run.key(crate, it) not in run.known]
@@ -327,6 +373,7 @@ def main():
         wanted[crate] = None
     try:
         if build.prove_all(wanted, direct):
+            print(f"{before} refused, {count - before} not")
             return 1
         lanes = [Lane(number, direct) for number in range(build.lanes_at_once())]
         threads = [threading.Thread(target=run.work, args=(it,)) for it in lanes]
