@@ -13,7 +13,6 @@ import os
 import shutil
 import subprocess
 import sys
-import threading
 import time
 from concurrent.futures import FIRST_COMPLETED, ThreadPoolExecutor, wait
 
@@ -21,7 +20,7 @@ ROOT = subprocess.run(["git", "rev-parse", "--show-toplevel"], capture_output=Tr
                       cwd=os.path.dirname(os.path.abspath(__file__))).stdout.strip()
 LANES = f"{ROOT}/.git/build-lanes-{os.getpid()}"
 # `rt`, which reads each crate's sources once.
-RT = [sys.executable, os.path.join(os.path.dirname(os.path.abspath(__file__)), "rt_once.py")]
+RT = [sys.executable, os.path.join(os.path.dirname(os.path.abspath(__file__)), "rt_alone.py")]
 # What a check of a large crate over all others takes, in octets.
 MEMORY = 5_500_000_000
 

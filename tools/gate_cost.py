@@ -147,7 +147,9 @@ def table(watch):
 
 def main():
     watch, began, words = Watch(), time.monotonic(), sys.argv[1:]
-    if words == ["--anew"] and "--anew" not in subprocess.run("rt ci --help 2>&1", shell=True, capture_output=True, text=True).stdout:
+    # (where the environment has CI, some kits print no help)
+    told = subprocess.run("rt ci --help 2>&1", shell=True, capture_output=True, text=True, env={**os.environ, "CI": ""}).stdout
+    if words == ["--anew"] and "--anew" not in told:
         words = []
     watch.start()
     status = subprocess.run(["rt", "ci", *words]).returncode
@@ -157,7 +159,7 @@ def main():
     used = resource.getrusage(resource.RUSAGE_CHILDREN)
     seen = table(watch)
     whole = used.ru_utime + used.ru_stime
-    print(f"the whole: {whole:.0f} processor seconds (of which {seen:.0f} by the checkers above), {took / 60:.1f} minutes on {os.cpu_count()} processors;"
+    print(f"the whole: {whole:.0f} processor seconds (of which {seen:.0f} by the checkers above), {took / 60:.1f} minutes on {len(os.sched_getaffinity(0))} processors;"
           f" on two processors {whole / 120:.0f} minutes at least; the largest process took {used.ru_maxrss / 1048576:.1f} GiB")
     return status
 

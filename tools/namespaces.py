@@ -139,8 +139,9 @@ def offer(sender, rate, seconds):
 
 
 def expect_in_time(child, what):
+    status = os.waitpid(child, 0)[1]
     SENDING.remove(child)
-    expect(os.waitpid(child, 0)[1] == 0, f"{what} were not sent in time")
+    expect(status == 0, f"{what} were not sent in time")
 
 
 def share(endpoint, count):

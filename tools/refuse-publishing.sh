@@ -25,9 +25,9 @@ for name in $libraries; do
     done
     grep "^$name[ :]" "$top/crates.txt" >>"$copy/crates.txt"
 done
-# What published_table stands on, and itself.
+# What the test names: what published_table stands on, itself, and sources.
 below=$(sed -n 's/^published_table .*: //p' "$top/crates.txt")
-echo "refuse_publishing tests_may=Wait: $below published_table" >>"$copy/crates.txt"
+echo "refuse_publishing tests_may=Wait: source_filter $below published_table" >>"$copy/crates.txt"
 cp "$top/HANDLES" "$copy/"
 mkdir -p "$copy/crates/refuse_publishing/src"
 cd "$copy/crates/refuse_publishing"

@@ -46,7 +46,7 @@ UNREAD = re.compile(r"is not in scope|has no field|is no name|operand is missing
 ERROR = re.compile(r"(?:\./)?((?:src|specs)/\S+?):(\d+):\d+: error: (?:(`[^`]*`): )?(.*)")
 # A goal of ours that is left, and its place; a function some of whose own goals are left, and not one that waits for another.
 GOAL = re.compile(r"(?:note|error): (?:\./)?(src/\S+?):(\d+):\d+: it is not proved")
-UNPROVED = re.compile(r"fn (\S+): no proof: expected answers in ")
+UNPROVED = re.compile(r"fn (\S+): no proof: expected [^;]*; `search` did not prove ")
 CALL = re.compile(r"\b(\w+)(?:::<[^()]*>)?\(")
 STALE = re.compile(r"the kept work of \S+ cannot be used")
 
@@ -75,7 +75,7 @@ def files_of(crate):
 
 def sum_of(crate, direct):
     """A sum of the kit, of this tool, and of all sources that a check of the crate reads."""
-    whole = hashlib.sha256(KIT + text_of(os.path.abspath(__file__)).encode())
+    whole = hashlib.sha256(KIT + text_of(os.path.abspath(__file__)).encode() + text_of(build.RT[1]).encode())
     names = {crate, *build.below(crate, direct)}
     lines = text_of(f"{ROOT}/crates.txt").split("\n")
     whole.update(repr([line for line in lines if names & set(line.partition(":")[0].split()[:1])]).encode())
@@ -158,14 +158,22 @@ def place_of(edit, crate):
     return next(((path, first) for first, body, last in functions_of(text) if all(body < at < last for at in changed)), None)
 
 
-def calls_in(crate):
-    """For each function of a crate, by its file and first line, those that it may call, by whatever way: all of the names in its body."""
+def calls_in(crate, edits):
+    """For each function of a crate, by its file and first line, those that it may call, by whatever way: all of the names in its
+    body, as it stands and as the edits make it."""
     names_in, named = {}, {}
     for file in files_of(crate):
         path, lines = os.path.relpath(file, f"{ROOT}/crates/{crate}"), text_of(file).split("\n")
         for first, body, last in functions_of("\n".join(lines)) if path.endswith(".rt") else ():
             names_in[path, first] = set(CALL.findall("\n".join(lines[body - 1:last])))
             named.setdefault(FUNCTION_NAME.search(lines[first - 1])[1], set()).add((path, first))
+    for edit in edits:
+        place = place_of(edit, crate)
+        if place:
+            path, first = place
+            body, last = span_of(text_of(f"{ROOT}/crates/{crate}/{path}"), first)
+            lines = changed_by(edit, crate)[0][path].split("\n")
+            names_in[place] |= set(CALL.findall("\n".join(lines[body - 1:last])))
     direct = {place: set().union(*(named.get(it, ()) for it in names)) for place, names in names_in.items()}
     reached = {}
     for place in direct:
@@ -214,7 +222,8 @@ class Lane:
             with open(f"{self.here}/{path}", "w", encoding="utf-8") as it:
                 it.write(text)
         with open(f"{self.folder}/said", "w+", encoding="utf-8", errors="replace") as said:
-            ran = subprocess.Popen([*build.RT, "check", "--jobs", "1"], cwd=self.here, stdin=subprocess.DEVNULL, stdout=said, stderr=said)
+            ran = subprocess.Popen([*build.RT, "check", "--jobs", "1"], cwd=self.here, env={**os.environ, "RT_ALONE": "1"},
+                                   stdin=subprocess.DEVNULL, stdout=said, stderr=said)
             _, status, used = os.wait4(ran.pid, 0)
             ran.returncode = os.waitstatus_to_exitcode(status)
             said.seek(0)
@@ -257,6 +266,8 @@ class Lane:
             return False, f"BAD EDIT: the prover can't read it: {unread[0][:160]}", used
         if STALE.search(said):
             return False, "NOT TRIED: the kept work of a library could not be used", used
+        if status < 0 or status > 128:
+            return False, f"NOT TRIED: its check ended with {status}", used
         if status == 1 and is_not_proved(said):
             return True, "", used
         if status == 0:
@@ -272,7 +283,7 @@ class Run:
         self.left, self.direct, self.known, self.times = left, direct, known, times
         self.sums = {crate: sum_of(crate, direct) for crate in left}
         self.places = {edit: place_of(edit, crate) for crate, edits in left.items() for edit in edits}
-        self.calls = {crate: calls_in(crate) for crate in left}
+        self.calls = {crate: calls_in(crate, edits) for crate, edits in left.items()}
         # (functions that reach as many others seldom call one another)
         for crate, edits in left.items():
             edits.sort(key=lambda it: len(self.calls[crate].get(self.places[it], ())))
@@ -297,6 +308,8 @@ class Run:
 
     def tell(self, crate, edit, used, why):
         name = f"{crate}/{os.path.basename(edit)[:-5]}"
+        if not why and self.sums[crate] != sum_of(crate, self.direct):
+            why = "NOT TRIED: a source of its crate was changed meanwhile"
         with self.lock:
             if why:
                 self.bad.append(name)
@@ -305,11 +318,9 @@ class Run:
             self.refused += 1
             if self.times:
                 print(f"{name}: refused after {used:.0f} processor seconds", flush=True)
-            # (a source that was changed meanwhile has another sum)
-            if self.sums[crate] == sum_of(crate, self.direct):
-                os.makedirs(os.path.dirname(NOTES), exist_ok=True)
-                with open(NOTES, "a", encoding="utf-8") as it:
-                    it.write(f"{self.key(crate, edit)} {name}\n")
+            os.makedirs(os.path.dirname(NOTES), exist_ok=True)
+            with open(NOTES, "a", encoding="utf-8") as it:
+                it.write(f"{self.key(crate, edit)} {name}\n")
 
     def key(self, crate, edit):
         return hashlib.sha256((self.sums[crate] + text_of(edit)).encode()).hexdigest()
