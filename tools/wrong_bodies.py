@@ -1,6 +1,7 @@
 """Tries the wrong bodies of the crates on a copy of the repository: the prover must refuse each.
 
 usage: tools/wrong-bodies.sh [--anew] [--times] [--gate] [CRATE ..]
+       tools/wrong-bodies.sh --due [--gate] [CRATE ..]
 
 A wrong body is an edit of a crate's sources, a file `crates/NAME/must-fail/X.edit` (which `rt ci` tries too) or
 `crates/NAME/wrong/X.edit` (which only this tries). Without CRATEs all are tried; with --gate those of must-fail/ alone.
@@ -15,10 +16,12 @@ tried again, each by itself and from nothing.
 
 It prints each wrong body that isn't refused, or that can't be applied or read; with --times each is checked by itself, and
 what it took is printed besides.
-What was refused is noted in ~/.cache/nirvauda-wrong-bodies by a sum of the kit, the edit and all sources that its crate
-reads, and isn't tried again while these stay the same; with --anew it is. The last line is `N refused, M not`, and the status is
-1 where M isn't 0.
+What was refused is noted in tools/refused.txt by a sum of the kit, the edit and all sources that its crate reads, and isn't
+tried again while these stay the same; with --anew it is. The file is committed with the sources, so that a try on another
+machine, or in an earlier session, isn't lost. --due tries nothing, and prints what isn't noted so. The last line is `N refused,
+M not`, and the status is 1 where M isn't 0.
 """
+import fcntl
 import hashlib
 import os
 import re
@@ -31,10 +34,13 @@ import time
 import build
 
 ROOT = build.ROOT
-NOTES = os.path.join(os.environ.get("XDG_CACHE_HOME") or os.path.expanduser("~/.cache"), "nirvauda-wrong-bodies")
+NOTES = f"{ROOT}/tools/refused.txt"
+NOTES_HEAD = "# The wrong bodies that the prover refused, each with a sum of kit, sources and edit. tools/wrong-bodies.sh writes this.\n"
 LANES = f"{ROOT}/.git/wrong-lanes-{os.getpid()}"
 PARTS = ("src", "specs", "proofs")
 KIT = subprocess.run(["rt", "version"], capture_output=True, check=True).stdout
+# Is one more whenever this tool takes something else for a refusal: what was noted before counts no more then.
+RULE = 1
 # The most edits of a crate that are checked in one go, and how many a lane tries before it checks the crate as it stands.
 AT_ONCE, BETWEEN = 12, 16
 FUNCTION_NAME = re.compile(r"\bfn (\w+)")
@@ -74,8 +80,8 @@ def files_of(crate):
 
 
 def sum_of(crate, direct):
-    """A sum of the kit, of this tool, and of all sources that a check of the crate reads."""
-    whole = hashlib.sha256(KIT + text_of(os.path.abspath(__file__)).encode() + text_of(build.RT[1]).encode())
+    """A sum of the kit, of what counts as a refusal, and of all sources that a check of the crate reads."""
+    whole = hashlib.sha256(KIT + str(RULE).encode())
     names = {crate, *build.below(crate, direct)}
     lines = text_of(f"{ROOT}/crates.txt").split("\n")
     whole.update(repr([line for line in lines if names & set(line.partition(":")[0].split()[:1])]).encode())
@@ -318,12 +324,10 @@ class Run:
             self.refused += 1
             if self.times:
                 print(f"{name}: refused after {used:.0f} processor seconds", flush=True)
-            os.makedirs(os.path.dirname(NOTES), exist_ok=True)
-            with open(NOTES, "a", encoding="utf-8") as it:
-                it.write(f"{self.key(crate, edit)} {name}\n")
+            note(name, self.key(crate, edit))
 
     def key(self, crate, edit):
-        return hashlib.sha256((self.sums[crate] + text_of(edit)).encode()).hexdigest()
+        return hashlib.sha256((self.sums[crate] + text_of(edit)).encode()).hexdigest()[:32]
 
     def tried(self, lane, edits):
         """Each edit with the processor seconds that it took, and why it isn't refused."""
@@ -356,20 +360,34 @@ class Run:
                 self.tell(crate, *it)
 
 
+def noted(text):
+    """The sums of a text of notes, by the names of the wrong bodies."""
+    return dict(line.split() for line in text.split("\n") if line and not line.startswith("#"))
+
+
+def note(name, key):
+    """Notes a refusal, also beside another run of this tool."""
+    with open(NOTES, "a+", encoding="utf-8") as it:
+        fcntl.flock(it, fcntl.LOCK_EX)
+        it.seek(0)
+        notes = {**noted(it.read()), name: key}
+        it.seek(0)
+        it.truncate()
+        it.write(NOTES_HEAD + "".join(f"{name} {key}\n" for name, key in sorted(notes.items())))
+
+
 def known_keys():
-    if not os.path.isfile(NOTES):
-        return set()
-    return {line.split()[0] for line in text_of(NOTES).split("\n") if line}
+    return set(noted(text_of(NOTES)).values()) if os.path.isfile(NOTES) else set()
 
 
 def main():
     words = sys.argv[1:]
-    anew, times = "--anew" in words, "--times" in words
+    anew, times, due = "--anew" in words, "--times" in words, "--due" in words
     parts = ("must-fail",) if "--gate" in words else ("must-fail", "wrong")
     named = [it for it in words if not it.startswith("--")]
     direct, began = build.dependencies(), time.monotonic()
     unknown = [it for it in named if it not in direct]
-    if unknown or any(it not in ("--anew", "--times", "--gate") for it in words if it.startswith("--")):
+    if unknown or any(it not in ("--anew", "--times", "--gate", "--due") for it in words if it.startswith("--")):
         print(__doc__.split("\n\n")[1] if not unknown else f"crates.txt lists no {unknown[0]}", file=sys.stderr)
         return 2
     crates = [it for it in named or direct if edits_of(it, parts)]
@@ -378,6 +396,12 @@ def main():
     for crate, edits in run.left.items():
         run.left[crate] = [it for it in edits if run.key(crate, it) not in run.known]
     before = count - sum(map(len, run.left.values()))
+    if due:
+        for crate, edits in run.left.items():
+            for edit in edits:
+                print(f"{crate}/{os.path.basename(edit)[:-5]}")
+        print(f"{before} refused, {count - before} not")
+        return 0 if before == count else 1
     wanted = {}
     for crate in [it for it in crates if run.left[it]]:
         build.below(crate, direct, wanted)
