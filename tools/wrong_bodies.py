@@ -16,7 +16,7 @@ tried again, each by itself and from nothing.
 
 It prints each wrong body that isn't refused, or that can't be applied or read; with --times each is checked by itself, and
 what it took is printed besides.
-What was refused is noted in tools/refused.txt by a sum of the kit, the edit and all sources that its crate reads, and isn't
+What was refused is noted in tools/refused.txt by a sum of the kit's logic, the edit and all sources that its crate reads, and isn't
 tried again while these stay the same; with --anew it is. The file is committed with the sources, so that a try on another
 machine, or in an earlier session, isn't lost. --due tries nothing, and prints what isn't noted so. The last line is `N refused,
 M not`, and the status is 1 where M isn't 0.
@@ -35,10 +35,11 @@ import build
 
 ROOT = build.ROOT
 NOTES = f"{ROOT}/tools/refused.txt"
-NOTES_HEAD = "# The wrong bodies that the prover refused, each with a sum of kit, sources and edit. tools/wrong-bodies.sh writes this.\n"
+NOTES_HEAD = "# The wrong bodies that the prover refused, each with a sum of logic, sources and edit. tools/wrong-bodies.sh writes this.\n"
 LANES = f"{ROOT}/.git/wrong-lanes-{os.getpid()}"
 PARTS = ("src", "specs", "proofs")
-KIT = subprocess.run(["rt", "version"], capture_output=True, check=True).stdout
+# The kit's logic, by its sum: kits of one logic differ in how long they search, and not in what they take for proved.
+LOGIC = subprocess.run(["rt", "version"], capture_output=True, check=True).stdout.partition(b" logic ")[2].strip()
 # Is one more whenever this tool takes something else for a refusal: what was noted before counts no more then.
 RULE = 1
 # The most edits of a crate that are checked in one go, and how many a lane tries before it checks the crate as it stands.
@@ -80,8 +81,8 @@ def files_of(crate):
 
 
 def sum_of(crate, direct):
-    """A sum of the kit, of what counts as a refusal, and of all sources that a check of the crate reads."""
-    whole = hashlib.sha256(KIT + str(RULE).encode())
+    """A sum of the kit's logic, of what counts as a refusal, and of all sources that a check of the crate reads."""
+    whole = hashlib.sha256(LOGIC + str(RULE).encode())
     names = {crate, *build.below(crate, direct)}
     lines = text_of(f"{ROOT}/crates.txt").split("\n")
     whole.update(repr([line for line in lines if names & set(line.partition(":")[0].split()[:1])]).encode())
