@@ -38,7 +38,7 @@ NOTES = f"{ROOT}/tools/refused.txt"
 NOTES_HEAD = "# The wrong bodies that the prover refused, each with a sum of logic, sources and edit. tools/wrong-bodies.sh writes this.\n"
 LANES = f"{ROOT}/.git/wrong-lanes-{os.getpid()}"
 PARTS = ("src", "specs", "proofs")
-# The kit's logic, by its sum: kits of one logic differ in how long they search, and not in what they take for proved.
+# The kit's logic, by its sum. Kits of one logic may still search differently: before a release all are tried with --anew.
 LOGIC = subprocess.run(["rt", "version"], capture_output=True, check=True).stdout.partition(b" logic ")[2].strip()
 # Is one more whenever this tool takes something else for a refusal: what was noted before counts no more then.
 RULE = 1
