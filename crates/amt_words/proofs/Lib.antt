@@ -1,7 +1,6 @@
 mod Digits
 mod Naming
 mod Numbers
-mod OddLines
 mod Optional
 mod PlainGateway
 mod PlainLines

@@ -13,7 +13,6 @@ pub mod NamedOnes
 pub mod RawOctets
 pub mod Refused
 pub mod Reports
-mod Rows
 pub mod Tallies
 pub mod WalkedGroups
 pub mod Wanted
