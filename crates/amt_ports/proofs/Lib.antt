@@ -1,3 +1,4 @@
 pub mod Given
 pub mod Taken
+pub mod Told
 pub mod Written

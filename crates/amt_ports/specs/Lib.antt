@@ -10,6 +10,7 @@ pub mod MemOut
 pub mod MemSink
 pub mod MemSource
 pub mod MemWords
+pub mod Outlets
 pub mod Peers
 pub mod Reading
 pub mod RealDevices

@@ -1,5 +1,5 @@
--- How often the real devices have failed.
-use Rattle.std.specs.Prelude.{ℕ}
+-- How often the real devices have failed, and whether their sends may wait.
+use Rattle.std.specs.Prelude.{ℕ, Bool}
 use Rattle.amt_ports.specs.declared.adapters.host_clock.HostClock.{HostClock}
 use Rattle.amt_ports.specs.declared.adapters.host_files.HostFiles.{HostFiles}
 use Rattle.amt_ports.specs.declared.adapters.host_words.HostWords.{HostWords}
@@ -21,6 +21,14 @@ feed_failed feed = feed.faults
 -- sends of a worker's end
 abbrev pub out_failed : UdpOut → ℕ
 out_failed out = out.faults
+
+-- whether the next answer that finds no room may wait for it
+abbrev pub answers_may_wait : UdpLink → Bool
+answers_may_wait link = link.answers.may_wait
+
+-- the same of the next copy
+abbrev pub copies_may_wait : UdpOut → Bool
+copies_may_wait out = out.outlet.may_wait
 
 -- readings of a clock
 abbrev pub readings_failed : {C : Type 0} → HostClock C → ℕ

@@ -1,5 +1,5 @@
 //! Where packets come from, one in a datagram. It must not know any device.
-ghost use Rattle.std.specs.Prelude.{◌≡◌, ◌≤◌, ℕ, List, Option, length, IfOk, OnErr};
+ghost use Rattle.std.specs.Prelude.{◌≡◌, ◌≤◌, ℕ, max, List, Option, length, IfOk, OnErr};
 ghost use Rattle.amt_ports.specs.Arrivals.{IsShortFeedGot, feed_answer};
 ghost use Rattle.amt_ports.specs.Causes.{HasCause};
 ghost use Rattle.amt_ports.specs.Told.{Answers};
@@ -37,6 +37,9 @@ pub trait Feed {
     /// How often the device has failed. A count at 2^64 - 1 stays there.
     ghost faults: { Self → ℕ };
 
+    /// The longest wait in milliseconds that a receiving was asked for; 0 where the device doesn't tell it.
+    ghost longest_wait: { Self → ℕ };
+
     /// Waits at most so many milliseconds for a packet, and writes its octets to the start of the buffer. A
     /// receiving that failed has taken none.
     fn recv(&mut self, buf: &mut [u8], wait_ms: u32) -> Result<FeedGot, Failed>
@@ -46,5 +49,6 @@ pub trait Feed {
         ensures buffer { length buf.new ≡ length buf.old }
         ensures answer { IfOk result (λ got. Answers ClosedFeed (coming self.old) (coming self.new) (feed_answer got buf.new)) }
         ensures kept { OnErr result (coming self.new ≡ coming self.old) }
-        ensures cause { HasCause (faults self.old) (faults self.new) result };
+        ensures cause { HasCause (faults self.old) (faults self.new) result }
+        ensures waits { longest_wait self.new ≤ max (longest_wait self.old) wait_ms };
 }

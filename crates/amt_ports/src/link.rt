@@ -1,6 +1,6 @@
 //! What a UDP socket is to a machine: datagrams come in, and datagrams go out. It must not know any
 //! device.
-ghost use Rattle.std.specs.Prelude.{◌≡◌, ◌≤◌, ℕ, IsSome, List, Option, length, IfOk, OnOk, OnErr};
+ghost use Rattle.std.specs.Prelude.{◌≡◌, ◌≤◌, ℕ, max, IsSome, List, Option, length, IfOk, OnOk, OnErr};
 ghost use Rattle.amt_ports.specs.Arrivals.{IsShortGot, link_answer};
 ghost use Rattle.amt_ports.specs.Causes.{HasCause};
 ghost use Rattle.amt_ports.specs.Sends.{TriedSend, tried_send};
@@ -45,6 +45,9 @@ pub trait Link {
     /// How often a send has failed. A count at 2^64 - 1 stays there.
     ghost send_faults: { Self → ℕ };
 
+    /// The longest wait in milliseconds that a receiving was asked for; 0 where the device doesn't tell it.
+    ghost longest_wait: { Self → ℕ };
+
     /// Waits at most so many milliseconds for a datagram, and writes its octets to the start of the buffer.
     /// A receiving that failed has taken none.
     fn recv(&mut self, buf: &mut [u8], wait_ms: u32) -> Result<Got, Failed>
@@ -56,7 +59,8 @@ pub trait Link {
         ensures kept { OnErr result (coming self.new ≡ coming self.old) }
         ensures sends { tried self.new ≡ tried self.old }
         ensures cause { HasCause (receive_faults self.old) (receive_faults self.new) result }
-        ensures apart { send_faults self.new ≡ send_faults self.old };
+        ensures apart { send_faults self.new ≡ send_faults self.old }
+        ensures waits { longest_wait self.new ≤ max (longest_wait self.old) wait_ms };
 
     /// Tries to send the octets to the peer, once.
     fn send(&mut self, to: &Peer, bytes: &[u8]) -> Result<(), Failed>
@@ -64,5 +68,6 @@ pub trait Link {
         ensures tells { OnOk result (IsSome (tried self.old) → IsSome (tried self.new)) }
         ensures cause { HasCause (send_faults self.old) (send_faults self.new) result }
         ensures apart { receive_faults self.new ≡ receive_faults self.old }
-        ensures coming { coming self.new ≡ coming self.old };
+        ensures coming { coming self.new ≡ coming self.old }
+        ensures waits { longest_wait self.new ≡ longest_wait self.old };
 }

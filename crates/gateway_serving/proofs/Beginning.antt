@@ -9,7 +9,7 @@ use Rattle.gateway_machine.specs.declared.event.GatewayEvent.TheVariants.{Moment
 use Rattle.serving_turns.specs.Answers.{refused, taken}
 use Rattle.serving_turns.specs.Devices.{LinkSeen, OutSeen}
 use Rattle.serving_turns.specs.declared.end.End.TheVariants.{WordsFault}
-use Rattle.serving_turns.proofs.Lists.{AppendsAll-none}
+use Rattle.amt_ports.proofs.Told.{AppendsAll-none}
 use Rattle.gateway_serving.specs.Events.{moments_in, nonce_of}
 use Rattle.gateway_serving.specs.Openings.{OpensSo}
 use Rattle.gateway_serving.specs.Servers.{AtWork, IsAlike, Takes, Tallies, at_work, counts_in, latest_in}

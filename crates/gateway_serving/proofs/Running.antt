@@ -20,7 +20,8 @@ use Rattle.serving_turns.specs.Causes.{IsCauseOf, IsCausedBy}
 use Rattle.serving_turns.specs.Devices.{AnswersAll}
 use Rattle.serving_turns.specs.declared.end.End.{End}
 use Rattle.serving_turns.specs.declared.end.End.TheVariants.{Turns, LinkFault, FeedFault, WordsFault}
-use Rattle.serving_turns.proofs.Lists.{AnswersAll-then, AppendsAll-none, AppendsAll-then}
+use Rattle.amt_ports.proofs.Told.{AppendsAll-none, AppendsAll-then}
+use Rattle.serving_turns.proofs.Lists.{AnswersAll-then}
 use Rattle.gateway_serving.specs.Counting.{bad_lines_taken, datagrams_heard, lines_taken, starved_in}
 use Rattle.gateway_serving.specs.Devices.{Devices}
 use Rattle.gateway_serving.specs.Events.{events_from, events_of_turn}

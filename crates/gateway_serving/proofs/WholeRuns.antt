@@ -19,7 +19,7 @@ use Rattle.serving_turns.specs.Devices.{AnswersAll, FeedSeen, LinkSeen, OutSeen,
 use Rattle.serving_turns.specs.Tried.{HasTried}
 use Rattle.serving_turns.specs.declared.end.End.{End}
 use Rattle.serving_turns.specs.declared.end.End.TheVariants.{LinkFault, FeedFault, WordsFault, Memory}
-use Rattle.serving_turns.proofs.Lists.{AppendsAll-none, AppendsAll-then}
+use Rattle.amt_ports.proofs.Told.{AppendsAll-none, AppendsAll-then}
 use Rattle.serving_turns.proofs.Trying.{HasTried-none}
 use Rattle.gateway_serving.specs.Counting.{bad_lines_taken, datagrams_heard, lines_taken, no_counts, starved_in}
 use Rattle.gateway_serving.specs.Devices.{Devices, devices_seen}

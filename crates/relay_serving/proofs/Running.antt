@@ -16,7 +16,8 @@ use Rattle.serving_turns.specs.Causes.{IsCauseOf, IsCausedBy}
 use Rattle.serving_turns.specs.Devices.{AnswersAll}
 use Rattle.serving_turns.specs.declared.end.End.{End}
 use Rattle.serving_turns.specs.declared.end.End.TheVariants.{Turns, LinkFault, FeedFault, WordsFault}
-use Rattle.serving_turns.proofs.Lists.{AnswersAll-then, AppendsAll-none, AppendsAll-then}
+use Rattle.amt_ports.proofs.Told.{AppendsAll-none, AppendsAll-then}
+use Rattle.serving_turns.proofs.Lists.{AnswersAll-then}
 use Rattle.relay_serving.specs.Counting.{HasAnswered, is_late, no_counts, starved_in}
 use Rattle.relay_serving.specs.Devices.{Devices}
 use Rattle.relay_serving.specs.Events.{happenings_from, happenings_of_turn}

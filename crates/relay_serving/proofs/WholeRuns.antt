@@ -25,7 +25,7 @@ use Rattle.serving_turns.specs.Causes.{IsCauseOf}
 use Rattle.serving_turns.specs.Devices.{FeedSeen, LinkSeen, OutSeen, WordsSeen}
 use Rattle.serving_turns.specs.declared.end.End.{End}
 use Rattle.serving_turns.specs.declared.end.End.TheVariants.{Turns, Closed, LinkFault, FeedFault, WordsFault, SpawnFault, Memory}
-use Rattle.serving_turns.proofs.Lists.{AppendsAll-none, AppendsAll-then}
+use Rattle.amt_ports.proofs.Told.{AppendsAll-none, AppendsAll-then}
 use Rattle.replication_workers.specs.Dispatchers.{is_threaded}
 use Rattle.serving_turns.specs.Tried.{HasTried}
 use Rattle.replication_workers.specs.Replicators.{out_of}

@@ -5,19 +5,6 @@ use Rattle.amt_ports.specs.Told.{Answers, AppendsAll}
 use Rattle.serving_turns.specs.Answers.{Taken}
 use Rattle.serving_turns.specs.Devices.{AnswersAll}
 
--- nothing was told
-pub AppendsAll-none : {X : Type 0} (told : Option (List X)) → AppendsAll told told []
-AppendsAll-none None = tt
-AppendsAll-none (Some all) = (all, refl, sym (append-nil all))
-
--- two lots in a row
-pub AppendsAll-then : {X : Type 0} (before now after : Option (List X)) (some more : List X) → AppendsAll before now some → AppendsAll now after more → AppendsAll before after (some ++ more)
-AppendsAll-then before now None some more first second = tt
-AppendsAll-then {X} before now (Some all) some more first second =
-    let earlier = second.0 in
-    let known = subst (λ (one : Option (List X)). AppendsAll before one some) second.1 first in
-    (known.0, known.1, second.2 ∙ ap (λ (list : List X). list ++ more) known.2 ∙ append_assoc known.0 some more)
-
 -- one answer
 pub one_answer : {X : Type 0} (closed : X) (before now after : Option (List X)) (answer : X) → Answers closed before now answer → after ≡ now → AnswersAll closed before after (answer ∷ [])
 one_answer closed before now after answer is same = (now, is, same)

@@ -10,7 +10,7 @@ use Rattle.amt_values.specs.declared.peer.Peer.{Peer}
 use Rattle.amt_ports.specs.Sends.{TriedSend, datagram_of, tried_send}
 use Rattle.amt_ports.specs.Told.{Appends}
 use Rattle.serving_turns.specs.Tried.{HasRisen, HasTried}
-use Rattle.serving_turns.proofs.Lists.{AppendsAll-none, AppendsAll-then}
+use Rattle.amt_ports.proofs.Told.{AppendsAll-none, AppendsAll-then}
 
 -- one more datagram that the device took
 pub HasTried-sent : (before now after : Option (List TriedSend)) (first middle last : ℕ) (wanted : List (Peer × List ℕ)) (sent unsent : ℕ) (to : Peer) (bytes : List ℕ) (result : Result (Unit {0}) Failed)

@@ -6,8 +6,10 @@
 mod feed;
 mod link;
 mod open;
+mod options;
 mod out;
-mod room;
+mod outlet;
+mod sharing;
 mod sources;
 mod watch;
 

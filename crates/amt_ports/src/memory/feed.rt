@@ -48,6 +48,8 @@ impl Feed for FaultlessFeed {
 
     ghost faults = { λ _. 0 };
 
+    ghost longest_wait = { λ _. 0 };
+
     fn recv(&mut self, buf: &mut [u8], wait_ms: u32) -> Result<FeedGot, Failed>
         requires room { 65536 ≤ length buf.old }
         ensures short { IfOk result IsShortFeedGot }
@@ -130,6 +132,8 @@ impl Feed for MemFeed {
     ghost coming = { λ feed. Some feed.coming };
 
     ghost faults = { λ feed. feed.tally.faults };
+
+    ghost longest_wait = { λ _. 0 };
 
     fn recv(&mut self, buf: &mut [u8], wait_ms: u32) -> Result<FeedGot, Failed>
         requires room { 65536 ≤ length buf.old }

@@ -106,6 +106,8 @@ impl Link for MemLink {
 
     ghost send_faults = { λ link. link.sends.faults };
 
+    ghost longest_wait = { λ _. 0 };
+
     fn recv(&mut self, buf: &mut [u8], wait_ms: u32) -> Result<Got, Failed>
         requires room { 65536 ≤ length buf.old }
         ensures short { IfOk result IsShortGot }

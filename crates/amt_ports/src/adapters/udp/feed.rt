@@ -48,6 +48,8 @@ impl Feed for UdpFeed {
 
     ghost faults = { feed_failed };
 
+    ghost longest_wait = { λ _. 0 };
+
     fn recv(&mut self, buf: &mut [u8], wait_ms: u32) -> Result<FeedGot, Failed>
         requires room { 65536 ≤ length buf.old }
         requires wait { 1 ≤ wait_ms }

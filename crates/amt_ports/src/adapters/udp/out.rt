@@ -1,26 +1,32 @@
-//! A worker's end of the listening socket. It must not know who else sends through it.
+//! A worker's end, at the address and port of the listening socket. It must not know who else sends through it.
 
-ghost use Rattle.std.specs.Prelude.{◌≡◌, None};
-ghost use Rattle.amt_ports.specs.RealDevices.{out_failed};
+ghost use Rattle.std.specs.Prelude.{◌≡◌, true, false, None, OnOk, OnErr};
+ghost use Rattle.amt_ports.specs.Causes.{HasCause};
+ghost use Rattle.amt_ports.specs.RealDevices.{copies_may_wait, out_failed};
 
-use super::room::send_whole;
+use super::outlet::Outlet;
 use crate::fault::count_fault;
 use crate::{Failed, OutLink};
 use amt_values::Peer;
 use std::net::UdpSocket;
 
-/// An end that sends through a link's socket: what it sends comes from the link's address and port.
+/// An end that sends beside a link: what it sends comes from the link's address and port.
+///
+/// A copy that finds no room waits for it once. After one that failed none waits until one was sent.
 #[derive(Debug, Drop)]
 pub struct UdpOut {
-    socket: UdpSocket,
+    outlet: Outlet<UdpSocket>,
     faults: u64,
 }
 
 impl UdpOut {
     pub(crate) fn new(socket: UdpSocket) -> Self
-        ensures { out_failed result ≡ 0 }
+        ensures { (out_failed result ≡ 0) × (copies_may_wait result ≡ true) }
     {
-        UdpOut { socket, faults: 0 }
+        UdpOut {
+            outlet: Outlet::new(socket),
+            faults: 0,
+        }
     }
 
     /// How often a send has failed.
@@ -36,10 +42,21 @@ impl OutLink for UdpOut {
 
     ghost faults = { out_failed };
 
-    fn send(&mut self, to: &Peer, bytes: &[u8]) -> Result<(), Failed> {
-        match send_whole(&self.socket, to, bytes) {
-            Ok(()) => Ok(()),
-            Err(_) => Err(count_fault(&mut self.faults)),
+    fn send(&mut self, to: &Peer, bytes: &[u8]) -> Result<(), Failed>
+        ensures cause { HasCause (out_failed self.old) (out_failed self.new) result }
+
+        ensures again { OnOk result (copies_may_wait self.new ≡ true) }
+        ensures spent { OnErr result (copies_may_wait self.new ≡ false) }
+    {
+        match self.outlet.send(to, bytes) {
+            Ok(true) => {
+                self.outlet.may_wait = true;
+                Ok(())
+            }
+            _ => {
+                self.outlet.may_wait = false;
+                Err(count_fault(&mut self.faults))
+            }
         }
     }
 }

@@ -1,6 +1,6 @@
 use Rattle.std.proofs.Common.{[], arith, ap, sym, ◌∙◌, refl, subst}
 use Rattle.std.specs.Prelude.{Some}
-use Rattle.serving_turns.proofs.Lists.{AppendsAll-none}
+use Rattle.amt_ports.proofs.Told.{AppendsAll-none}
 use Rattle.relay_machine.specs.declared.event.Event.TheVariants.{Rotate}
 use Rattle.relay_serving.specs.Servers.{HasEvents, counts_in}
 use Rattle.relay_serving.specs.Turns.{is_due, renewed_after, words_due}
