@@ -155,11 +155,6 @@ pub set_here : (key group : Ip) (group_record : Record) (moment : ℕ) (filters 
 set_here key group group_record moment filters old is = set_by (same_group key group) group_record moment old (get ip_order filters group)
     (λ same. is ∙ ap (get ip_order filters) (tells_apart ip_order-exact key group same))
 
--- what was taken out is put back
-pub put_back : (same : Bool) (renewed_filter absent before : Option RenewedFilter) → cond same renewed_filter (cond same absent before) ≡ cond same renewed_filter before
-put_back true renewed_filter absent before = refl
-put_back false renewed_filter absent before = refl
-
 its_endpoint_group : (endpoint : EndpointValue) (entry : Ip × RenewedFilter) (membership : Membership) → membership_of_entry endpoint entry ≡ Some membership → endpoint_group_of membership ≡ endpoint_group endpoint entry.0
 its_endpoint_group endpoint entry membership given =
     ap endpoint_group_of (sym (membership_by (wants_any entry.1.filter) (made endpoint entry.0 entry.1.filter entry.1.renewed) membership given))

@@ -34,6 +34,32 @@ pub struct RenewedFilter {
     pub renewed: Moment,
 }
 
+impl RenewedFilter {
+    ghost use Rattle.source_filter.specs.Filter.{filter_after, nothing};
+
+    // Of a group of which nothing is wanted.
+    fn new(alloc: Global, moment: Moment) -> Self
+        ensures { result ≡ record { filter = nothing; renewed = moment } }
+    {
+        RenewedFilter {
+            filter: MutableFilter::new(alloc),
+            renewed: moment,
+        }
+    }
+
+    // Applies a record on its group, which renews it.
+    fn apply(&mut self, group_record: &Record, moment: Moment) -> Result<(), AllocError>
+        ensures { OnOk result (self.new ≡ record {
+          filter = filter_after self.old.filter group_record.now;
+          renewed = moment;
+        }) }
+    {
+        self.filter.apply(group_record)?;
+        self.renewed = moment;
+        Ok(())
+    }
+}
+
 // Puts this filter in the place of the group's.
 pub fn set_filter(
     filters: &mut BTreeMap<Ip, RenewedFilter>,
@@ -49,8 +75,8 @@ pub fn set_filter(
     }
 }
 
-// Applies one record to the filter of its group, which is out of the map meanwhile: after an error
-// the filter is lost, and the map is of no more use.
+// Applies one record to the filter of its group, in its place in the map. A report may have thousands of
+// records on few groups, so a filter isn't taken out and put back for each.
 fn apply_record(
     alloc: Global,
     filters: &mut BTreeMap<Ip, RenewedFilter>,
@@ -61,16 +87,12 @@ fn apply_record(
         ≡ renewed_filter_after_all moment (on_group group (group_record.now ∷ []))
         (get ip_order filters.old group)) }
 {
-    let mut renewed_filter = match filters.remove(&group_record.group) {
-        Some(renewed_filter) => renewed_filter,
-        None => RenewedFilter {
-            filter: MutableFilter::new(alloc),
-            renewed: moment,
-        },
-    };
-    renewed_filter.filter.apply(group_record)?;
-    renewed_filter.renewed = moment;
-    set_filter(filters, group_record.group, renewed_filter)
+    if let Some(known) = filters.get_mut(&group_record.group) {
+        return known.apply(group_record, moment);
+    }
+    let mut first = RenewedFilter::new(alloc, moment);
+    first.apply(group_record, moment)?;
+    set_filter(filters, group_record.group, first)
 }
 
 // Applies records in their order.
