@@ -14,7 +14,7 @@ use std::process::Abort;
 use std::sync::Wait;
 
 // What is done with a relay and its replicator, and what comes of it.
-enum Step<'a> {
+enum Step {
     // The endpoint of this host wants all sources of the group from 0 on.
     Report(u8),
     // Time passes to the moment.
@@ -22,8 +22,6 @@ enum Step<'a> {
     Publish,
     // The packet of this moment comes to this: the length of the log, how many were sent, and how many not.
     Copies(u64, (u64, u32, u32)),
-    // The link has tried these sends.
-    Tried(&'a [HostSend<'a>]),
 }
 
 // A relay with one replicator of what it publishes. It isn't `Drop`: end it by `end`.
@@ -62,22 +60,30 @@ impl RelayWithReplicator {
             Step::Copies(ms, wanted) => {
                 assert_eq!(rt; self.copied(rt, *ms), *wanted, "at {ms}");
             }
-            Step::Tried(wanted) => assert_tried(rt, self.replicator.out(), wanted),
         }
     }
 
-    fn end<R: Wait>(self, rt: &R) {
+    // The link has tried these sends.
+    fn end<R: Wait + Abort>(self, rt: &R, tried: &[HostSend]) {
         let RelayWithReplicator {
             alloc: _,
             relay,
-            replicator: _replicator,
+            replicator,
         } = self;
+        let (_view, out) = replicator.into_parts();
+        assert_tried(rt, &out, tried);
         relay.end(rt);
     }
 }
 
-// Takes the steps in their order, with a link of which the sends of these numbers fail.
-fn take_all<R: Wait + Abort>(rt: &R, alloc: Global, failing: &[u64], steps: &[Step]) {
+// Takes the steps in their order, with a link of which the sends of these numbers fail. In the end these were tried.
+fn take_all<R: Wait + Abort>(
+    rt: &R,
+    alloc: Global,
+    failing: &[u64],
+    steps: &[Step],
+    tried: &[HostSend],
+) {
     let Ok(failing) = Vec::from_slice(alloc, failing) else {
         panic!(rt; "out of memory");
     };
@@ -86,36 +92,36 @@ fn take_all<R: Wait + Abort>(rt: &R, alloc: Global, failing: &[u64], steps: &[St
     for step in steps {
         one.take(rt, step);
     }
-    one.end(rt);
+    one.end(rt, tried);
 }
 
-const AT_THE_MARK: [Step<'static>; 5] = [
+const AT_THE_MARK: [Step; 4] = [
     Step::Report(7),
     Step::Mark(260_000),
     Step::Publish,
     Step::Copies(259_999, (2, 0, 0)),
-    Step::Tried(&[]),
 ];
 
 #[test]
 fn a_packet_is_copied_at_no_moment_before_that_of_the_log(rt: HostRuntime) {
-    take_all(&rt, rt.alloc(), &[], &AT_THE_MARK);
+    take_all(&rt, rt.alloc(), &[], &AT_THE_MARK, &[]);
 }
 
-const THREE_SENDS: [Step<'static>; 6] = [
+const THREE_SENDS: [Step; 5] = [
     Step::Report(7),
     Step::Report(8),
     Step::Report(9),
     Step::Publish,
     Step::Copies(0, (3, 2, 1)),
-    Step::Tried(&[
-        (7, &MESSAGE, true),
-        (8, &MESSAGE, false),
-        (9, &MESSAGE, true),
-    ]),
+];
+
+const TRIED: [HostSend<'static>; 3] = [
+    (7, &MESSAGE, true),
+    (8, &MESSAGE, false),
+    (9, &MESSAGE, true),
 ];
 
 #[test]
 fn a_failed_send_keeps_no_other_back(rt: HostRuntime) {
-    take_all(&rt, rt.alloc(), &[2], &THREE_SENDS);
+    take_all(&rt, rt.alloc(), &[2], &THREE_SENDS, &TRIED);
 }

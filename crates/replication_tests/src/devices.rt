@@ -35,6 +35,8 @@ impl Link for TwoUpdates {
 
     ghost send_faults = { λ _. 0 };
 
+    ghost longest_wait = { λ _. 0 };
+
     fn recv(&mut self, buf: &mut [u8], wait_ms: u32) -> Result<Got, Failed> {
         self.asked = self.asked.saturating_add(1);
         let octets = match self.asked {
@@ -73,6 +75,8 @@ impl Feed for Packets {
     ghost coming = { λ _. None };
 
     ghost faults = { λ _. 0 };
+
+    ghost longest_wait = { λ _. 0 };
 
     fn recv(&mut self, buf: &mut [u8], wait_ms: u32) -> Result<FeedGot, Failed> {
         if self.left == 0 {

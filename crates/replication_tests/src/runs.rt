@@ -166,7 +166,7 @@ const RUNS: [Run<'static>; 5] = [
         looks: 0,
     },
     Run {
-        what: "a queue has 257 places, and its worker is late with its first packet",
+        what: "a queue has 256 places, and its worker is late with its first packet",
         workers: 1,
         count: 600,
         in_turn: 60,

@@ -12,9 +12,9 @@ use std::alloc::{AllocError, Global};
 use std::snapshot::Snapshot;
 use std::sync::Wait;
 
-// The first item, which says whose jobs they are, and 256 jobs. Once it is taken there is room for one job
-// more.
-const PLACES: usize = 257;
+// As many jobs as may wait for a worker. The first item, which says whose jobs they are, has a place of one
+// until the worker takes it, and so has Stop at last.
+const PLACES: usize = 256;
 
 // Puts whose jobs the queue is for. There is room for it, but no clause of the queue says so: where it is
 // handed back, it is put again.
@@ -46,7 +46,7 @@ pub fn make_queue<R: Wait>(
         × (jobs_of (view made.1).put ≡ []) × ((view made.1).home ≡ home.now ∷ [])) }
     ensures taking { IfOk result (λ made. IsTaking (view made.3)
         × ((view made.3).taken ≡ []) × ((view made.3).home ≡ home.now ∷ [])) }
-    ensures places { IfOk result (λ made. ruled_capacity (sends_on made.0) ≡ 257) }
+    ensures places { IfOk result (λ made. ruled_capacity (sends_on made.0) ≡ 256) }
 {
     let (sender, receiver, mut pass) = bounded_with::<Item, End, InOrder, Global>(alloc, PLACES)?;
     settle(rt, &sender, &mut pass, Snapshot::of(home));

@@ -52,13 +52,6 @@ impl<O: OutLink> Replicator<O> {
         })
     }
 
-    /// The link that it sends to.
-    pub fn out(&self) -> &O
-        ensures { result.now ≡ out_of self.now }
-    {
-        &self.out
-    }
-
     /// The view by which it finds who wants a packet.
     pub fn view(&self) -> &View
         ensures { result.now ≡ view_of self.now }
