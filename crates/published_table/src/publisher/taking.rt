@@ -1,5 +1,5 @@
 //! What a publisher takes, and what is read of it. It must not know how it publishes.
-ghost use Rattle.std.specs.Prelude.{◌≡◌, ◌<◌, ◌+◌, ◌^◌, [], ◌∷◌, ◌++◌, length, OnOk};
+ghost use Rattle.std.specs.Prelude.{◌≡◌, ◌<◌, ◌+◌, ◌^◌, [], ◌∷◌, ◌++◌, length, OnOk, OnErr};
 ghost use Rattle.published_table.specs.Publishers.{IsSamePublisher, ShowsAlike, book_of, owing, published, reading_terms, spare};
 ghost use Rattle.published_table.specs.Terms.{Fits};
 ghost use Rattle.published_table.specs.Views.{named, note_publisher};
@@ -11,11 +11,12 @@ use std::alloc::AllocError;
 use std::snapshot::Snapshot;
 
 impl Publisher {
-    /// Makes room for an entry.
+    /// Makes room for an entry, where there is none.
     pub fn ready(&mut self) -> Result<(), AllocError>
         ensures same { IsSamePublisher self.old self.new }
         ensures logs { ShowsAlike self.old self.new }
         ensures room { OnOk result (0 < spare self.new) }
+        ensures sure { OnErr result (spare self.old ≡ 0) }
     {
         self.taken.reserve(1)
     }
