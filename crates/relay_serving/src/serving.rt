@@ -3,7 +3,7 @@
 ghost use Rattle.std.specs.Prelude.{◌≡◌, ◌≤◌, ◌<◌, ◌+◌, ◌^◌, [], IfOk, length, max};
 ghost use Rattle.published_table.specs.Views.{room_of, views_of};
 ghost use Rattle.relay_machine.specs.Settings.{AreLawfulSettings};
-ghost use Rattle.serving_turns.specs.Devices.{feed_seen, link_seen, words_seen};
+ghost use Rattle.serving_turns.specs.Devices.{WaitsBriefly, feed_seen, link_seen, words_seen};
 ghost use Rattle.relay_serving.specs.Devices.{devices_seen, outs_seen};
 ghost use Rattle.relay_serving.specs.Plans.{IsLawfulPlan};
 ghost use Rattle.relay_serving.specs.Reports.{report_of, unused_report};
@@ -147,6 +147,10 @@ pub fn serve_relay<
         (feed_seen (F.coming feed.new) (F.faults feed.new)) (P.starts spawner.new) (P.faults spawner.new))
         (outs_seen O.tried O.faults outs) (outs_seen O.tried O.faults result.outs)
         (views_of result.views) result.report ∥₁ }
+
+    // No receiving is asked to wait for longer: a turn isn't held up by a device that has nothing.
+    ensures link_waits { WaitsBriefly (L.longest_wait link.old) (L.longest_wait link.new) }
+    ensures feed_waits { WaitsBriefly (F.longest_wait feed.old) (F.longest_wait feed.new) }
 {
     let Ok(first) = draw_secret(words) else {
         return Served::unused(alloc, End::WordsFault, outs);

@@ -1,5 +1,5 @@
 //! How long a receiving of either loop may wait, and that nothing is sent later than in the turn that it is due.
-ghost use Rattle.std.specs.Prelude.{◌≡◌};
+ghost use Rattle.std.specs.Prelude.{◌≡◌, max};
 
 use crate::devices::{Answer, Devices, Script, devices_of};
 use crate::gateway::{self, KNOWING};
@@ -14,13 +14,12 @@ use std::process::Abort;
 use std::sync::Wait;
 use std::thread::Threads;
 
-// A device, how often it was asked, whether each time for 1 ms and no longer, and how often it was asked before its
-// last send.
+// A device, how often it was asked, its longest wait, and how often it was asked before its last send.
 #[derive(Drop)]
 struct Timed<D> {
     device: D,
     asked: u64,
-    is_timed: bool,
+    longest_wait: u32,
     before_last: u64,
 }
 
@@ -31,18 +30,17 @@ impl<D> Timed<D> {
         Timed {
             device,
             asked: 0,
-            is_timed: true,
+            longest_wait: 0,
             before_last: 0,
         }
     }
 
     fn look(&mut self, wait_ms: u32)
-        ensures { self.new.device ≡ self.old.device }
+        ensures device { self.new.device ≡ self.old.device }
+        ensures waits { self.new.longest_wait ≡ max self.old.longest_wait wait_ms }
     {
         self.asked = self.asked.saturating_add(1);
-        if wait_ms != 1 {
-            self.is_timed = false;
-        }
+        self.longest_wait = self.longest_wait.max(wait_ms);
     }
 }
 
@@ -54,6 +52,8 @@ impl<L: Link> Link for Timed<L> {
     ghost receive_faults = { λ timed. L.receive_faults timed.device };
 
     ghost send_faults = { λ timed. L.send_faults timed.device };
+
+    ghost longest_wait = { λ timed. timed.longest_wait };
 
     fn recv(&mut self, buf: &mut [u8], wait_ms: u32) -> Result<Got, Failed> {
         self.look(wait_ms);
@@ -70,6 +70,8 @@ impl<F: Feed> Feed for Timed<F> {
     ghost coming = { λ timed. F.coming timed.device };
 
     ghost faults = { λ timed. F.faults timed.device };
+
+    ghost longest_wait = { λ timed. timed.longest_wait };
 
     fn recv(&mut self, buf: &mut [u8], wait_ms: u32) -> Result<FeedGot, Failed> {
         self.look(wait_ms);
@@ -93,7 +95,7 @@ fn assert_timed(
     link: u64,
     feed: u64,
 ) {
-    assert!(rt; devices.link.is_timed && devices.feed.is_timed);
+    assert_eq!(rt; (devices.link.longest_wait, devices.feed.longest_wait), (1, 1));
     assert_eq!(rt; devices.link.asked, link);
     assert_eq!(rt; devices.feed.asked, feed);
 }

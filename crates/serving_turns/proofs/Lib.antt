@@ -3,3 +3,4 @@ pub mod Causes
 pub mod Lists
 pub mod SoFar
 pub mod Trying
+pub mod Waits

@@ -1,5 +1,5 @@
 -- What is seen of the devices of a run, before a call and after it.
-use Rattle.std.specs.Prelude.{◌≡◌, ℕ, List, [], ◌∷◌, Option}
+use Rattle.std.specs.Prelude.{◌≡◌, ◌≤◌, ℕ, max, List, [], ◌∷◌, Option}
 use Rattle.amt_ports.specs.Sends.{TriedSend}
 use Rattle.amt_ports.specs.Told.{Answers}
 use Rattle.amt_ports.specs.declared.feed.FeedAnswer.{FeedAnswer}
@@ -45,3 +45,7 @@ abbrev pub AnswersAll : {X : Type 0} → X → Option (List X) → Option (List 
 AnswersAll closed before after [] = after ≡ before
 AnswersAll {X} closed before after (answer ∷ later) =
     (middle : Option (List X)) × Answers closed before middle answer × AnswersAll closed middle after later
+
+-- no receiving in between was asked to wait for more than a millisecond, by the longest waits before and after
+abbrev pub WaitsBriefly : ℕ → ℕ → Type 0
+WaitsBriefly before after = after ≤ max before 1

@@ -3,7 +3,7 @@ ghost use Rattle.std.specs.Prelude.{◌≡◌, ◌≤◌, ◌<◌, ◌+◌, ◌^
 ghost use Rattle.relay_machine.specs.declared.event.Event.TheVariants.{Packet};
 ghost use Rattle.serving_turns.specs.Bursts.{AreAsked, IsNext};
 ghost use Rattle.serving_turns.specs.Causes.{IsCausedBy};
-ghost use Rattle.serving_turns.specs.Devices.{feed_seen};
+ghost use Rattle.serving_turns.specs.Devices.{WaitsBriefly, feed_seen};
 ghost use Rattle.relay_serving.specs.Counting.{with_packet};
 ghost use Rattle.relay_serving.specs.Servers.{FeedsSo, HasEvents, IsAsBefore, counts_in, tally_in};
 ghost use Rattle.relay_serving.specs.Turns.{from_feed};
@@ -59,6 +59,7 @@ impl<O: OutLink + Drop, T> Server<O, T> {
         ensures few { tally_in self.new ≤ tally_in self.old + 1 }
         ensures of_feed { IsErrOf result End.LinkFault → ⊥ }
         ensures cause { IsCausedBy result End.FeedFault (F.faults feed.old) (F.faults feed.new) }
+        ensures waits { WaitsBriefly (F.longest_wait feed.old) (F.longest_wait feed.new) }
         ensures buffer { length buf.new ≡ length buf.old }
     {
         match feed.recv(buf, WAIT_MS) {
@@ -92,6 +93,7 @@ impl<O: OutLink + Drop, T> Server<O, T> {
         ensures few { tally_in self.new ≤ tally_in self.old + 64 }
         ensures of_feed { IsErrOf result End.LinkFault → ⊥ }
         ensures cause { IsCausedBy result End.FeedFault (F.faults feed.old) (F.faults feed.new) }
+        ensures waits { WaitsBriefly (F.longest_wait feed.old) (F.longest_wait feed.new) }
         ensures buffer { length buf.new ≡ length buf.old }
     {
         for _ in 0..BURST {

@@ -4,7 +4,7 @@ ghost use Rattle.relay_machine.specs.Answers.{sends_of};
 ghost use Rattle.relay_machine.specs.declared.event.Event.TheVariants.{Datagram};
 ghost use Rattle.serving_turns.specs.Bursts.{AreAsked, IsNext};
 ghost use Rattle.serving_turns.specs.Causes.{IsCausedBy};
-ghost use Rattle.serving_turns.specs.Devices.{link_seen};
+ghost use Rattle.serving_turns.specs.Devices.{WaitsBriefly, link_seen};
 ghost use Rattle.replication_workers.specs.Replication.{to_peer};
 ghost use Rattle.relay_serving.specs.Counting.{CountsAlike, HasAnswered, HasRefused};
 ghost use Rattle.relay_serving.specs.Servers.{HasEvents, HearsSo, IsAsBefore, counts_in, events_in, first_in, settings_in, tally_in};
@@ -28,6 +28,7 @@ fn send_answers<L: Link>(link: &mut L, sends: &[OneSend], counts: &mut Counts)
         counts.old counts.new (map to_peer sends.now) }
     ensures coming { L.coming link.new ≡ L.coming link.old }
     ensures faults { L.receive_faults link.new ≡ L.receive_faults link.old }
+    ensures waits { L.longest_wait link.new ≡ L.longest_wait link.old }
     ensures others { CountsAlike counts.old counts.new }
 {
     for send in sends {
@@ -58,6 +59,7 @@ impl<O: OutLink + Drop, T> Server<O, T> {
             (map to_peer (sends_of (settings_in self.old) (first_in self.old) (events_in self.old) (Datagram bytes.now from)))) }
         ensures coming { L.coming link.new ≡ L.coming link.old }
         ensures faults { L.receive_faults link.new ≡ L.receive_faults link.old }
+        ensures waits { L.longest_wait link.new ≡ L.longest_wait link.old }
         ensures err { OnErr result (IsAsBefore self.old self.new) }
         ensures unsent { OnErr result (link.new ≡ link.old) }
     {
@@ -86,6 +88,7 @@ impl<O: OutLink + Drop, T> Server<O, T> {
         ensures few { tally_in self.new ≤ tally_in self.old + 1 }
         ensures of_link { IsErrOf result End.FeedFault → ⊥ }
         ensures cause { IsCausedBy result End.LinkFault (L.receive_faults link.old) (L.receive_faults link.new) }
+        ensures waits { WaitsBriefly (L.longest_wait link.old) (L.longest_wait link.new) }
         ensures buffer { length buf.new ≡ length buf.old }
     {
         match link.recv(buf, WAIT_MS) {
@@ -120,6 +123,7 @@ impl<O: OutLink + Drop, T> Server<O, T> {
         ensures few { tally_in self.new ≤ tally_in self.old + 64 }
         ensures of_link { IsErrOf result End.FeedFault → ⊥ }
         ensures cause { IsCausedBy result End.LinkFault (L.receive_faults link.old) (L.receive_faults link.new) }
+        ensures waits { WaitsBriefly (L.longest_wait link.old) (L.longest_wait link.new) }
         ensures buffer { length buf.new ≡ length buf.old }
     {
         for _ in 0..BURST {

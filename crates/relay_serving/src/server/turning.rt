@@ -1,7 +1,7 @@
 //! One turn of a running relay, and all of a run. It must not know how a relay is started or ended.
 ghost use Rattle.std.specs.Prelude.{◌≡◌, ◌≤◌, ◌<◌, ◌+◌, ◌^◌, [], length, None};
 ghost use Rattle.serving_turns.specs.Causes.{IsCausedBy};
-ghost use Rattle.serving_turns.specs.Devices.{feed_seen, link_seen, words_seen};
+ghost use Rattle.serving_turns.specs.Devices.{WaitsBriefly, feed_seen, link_seen, words_seen};
 ghost use Rattle.relay_serving.specs.Counting.{no_counts};
 ghost use Rattle.relay_serving.specs.Devices.{devices_seen};
 ghost use Rattle.relay_serving.specs.Plans.{IsLawfulPlan};
@@ -76,6 +76,8 @@ impl<O: OutLink + Drop, T> Server<O, T> {
             (devices_seen (C.given clock.new) (words_seen (W.given words.new) (W.faults words.new))
             (link_seen (L.coming link.new) (L.tried link.new) (L.receive_faults link.new) (L.send_faults link.new))
             (feed_seen (F.coming feed.new) (F.faults feed.new)) None 0) }
+        ensures link_waits { WaitsBriefly (L.longest_wait link.old) (L.longest_wait link.new) }
+        ensures feed_waits { WaitsBriefly (F.longest_wait feed.old) (F.longest_wait feed.new) }
         ensures buffer { length buf.new ≡ length buf.old }
         ensures few { tally_in self.new ≤ tally_in self.old + 131 }
         ensures few_packets { (counts_in self.new).packets ≤ (counts_in self.old).packets + 64 }
@@ -118,6 +120,8 @@ impl<O: OutLink + Drop, T> Server<O, T> {
             (devices_seen (C.given clock.new) (words_seen (W.given words.new) (W.faults words.new))
             (link_seen (L.coming link.new) (L.tried link.new) (L.receive_faults link.new) (L.send_faults link.new))
             (feed_seen (F.coming feed.new) (F.faults feed.new)) None 0) }
+        ensures link_waits { WaitsBriefly (L.longest_wait link.old) (L.longest_wait link.new) }
+        ensures feed_waits { WaitsBriefly (F.longest_wait feed.old) (F.longest_wait feed.new) }
     {
         let mut renewal = Renewal::new();
         for done in 0..plan.turns {

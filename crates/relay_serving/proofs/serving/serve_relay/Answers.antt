@@ -1,6 +1,7 @@
 use Rattle.std.proofs.Common.{◌∙◌, length, refl, sym, ap, subst, arith}
 use Rattle.std.proofs.Math.Logic.{∥∥₁_map}
 use Rattle.std.proofs.lemmas.List.{length-map}
+use Rattle.serving_turns.proofs.Waits.{no_waits}
 use Rattle.replication_workers.specs.Replicators.{out_of}
 use Rattle.replication_workers.specs.Starting.{HaveStarted}
 use Rattle.relay_serving.specs.Devices.{outs_seen}
@@ -15,6 +16,8 @@ returns-in_default g c =
     let seen = outs_seen g.O.OutLink.tried g.O.OutLink.faults in record {
       serves = ∣ reported _ _ _ _ _ _ _ _ _ _ _ (ap seen c.unused.ensures.outs) c.unused.ensures.views c.unused.ensures.report
           (serves_without_secret _ _ drawn.words _ _ _ _ _ _ _ _ drawn.given (few_words _ _ _ _ drawn c.in_default.is) (has_risen _ _ _ _ c.draw_secret.ensures.cause c.in_default.is)) ∣₁;
+      link_waits = no_waits _ _ refl;
+      feed_waits = no_waits _ _ refl;
     }
 
 pub returns-in_default-new : goal.returns-in_default-new
@@ -23,6 +26,8 @@ returns-in_default-new g c =
     let seen = outs_seen g.O.OutLink.tried g.O.OutLink.faults in record {
       serves = ∣ reported _ _ _ _ _ _ _ _ _ _ _ (ap seen c.unused-in_default-new.ensures.outs) c.unused-in_default-new.ensures.views c.unused-in_default-new.ensures.report
           (serves_unstarted _ _ _ drawn.words _ _ _ _ _ _ _ _ _ _ _ drawn.given (four_words _ _ _ _ drawn c.in-Ok.is).1 (is_quiet _ _ _ _ c.draw_secret.ensures.cause c.in-Ok.is) (refl, refl, refl) _ refl (λ _. refl)) ∣₁;
+      link_waits = no_waits _ _ refl;
+      feed_waits = no_waits _ _ refl;
     }
 
 pub returns-in-Err : goal.returns-in-Err
@@ -32,6 +37,8 @@ returns-in-Err g c =
       serves = ∣ reported _ _ _ _ _ _ _ _ _ _ _ (ap seen c.unused-in-Err.ensures.outs) c.unused-in-Err.ensures.views c.unused-in-Err.ensures.report
           (serves_unstarted _ _ c.in-Err.field-0.end drawn.words _ _ _ _ _ _ _ _ _ _ (seen c.in-Err.field-0.outs) drawn.given (four_words _ _ _ _ drawn c.in-Ok.is).1 (is_quiet _ _ _ _ c.draw_secret.ensures.cause c.in-Ok.is)
           c.in-Err.ensures.left _ refl c.in-Err.ensures.none_started) ∣₁;
+      link_waits = no_waits _ _ refl;
+      feed_waits = no_waits _ _ refl;
     }
 
 pub finish-ending-requires-clause-run : goal.finish-ending-requires-clause-run
@@ -63,4 +70,6 @@ returns g c =
           (λ threads. subst (HaveStarted (length c.args.outs) (g.P.Spawner.starts c.args.spawner.now)) (sym c.finish-ending.ensures.starts) (start.workers threads))
           (λ idle. c.finish-ending.ensures.starts ∙ start.none_started idle) _ _ (c.finish-ending.ensures.faults ∙ start.quiet))
           (λ serves. reported _ _ _ _ _ _ _ _ _ _ _ (ap seen c.of.ensures.outs) c.of.ensures.views c.of.ensures.report serves);
+      link_waits = c.run-end.ensures.link_waits;
+      feed_waits = c.run-end.ensures.feed_waits;
     }

@@ -2,6 +2,7 @@ use Rattle.std.proofs.Common.{refl, ◌∙◌, arith}
 use Rattle.std.proofs.lemmas.Result.{err_from_is_err_and}
 use Rattle.serving_turns.specs.declared.end.End.TheVariants.{FeedFault, LinkFault}
 use Rattle.serving_turns.proofs.Causes.{not_cause, other_end, same_cause}
+use Rattle.serving_turns.proofs.Waits.{no_waits, waits_then}
 use Rattle.serving_turns.proofs.SoFar.{all_asked, none_asked, one_more, then_ends, then_nothing}
 use Rattle.relay_serving.proofs.Events.{IsAsBefore-same}
 use Rattle.relay_serving.proofs.Hearing.{Feeds-none, feeds_on}
@@ -15,6 +16,7 @@ loop-init g c =
       faults = refl;
       counted = omega arith;
       few = omega arith;
+      waits = no_waits _ _ refl;
       buffer = refl;
     }
 
@@ -109,6 +111,7 @@ loop-preserved g c =
       faults = c.in_ok-feed_next.ensures.cause.calm (λ is. cc) ∙ c.loop.invariant.faults;
       counted = omega (arith, sofar_counted, next_counted);
       few = omega (arith, sofar_few, next_few);
+      waits = waits_then _ _ _ c.loop.invariant.waits c.feed_next.ensures.waits;
       buffer = c.feed_next.ensures.buffer ∙ c.loop.invariant.buffer;
     }
 
@@ -142,3 +145,9 @@ returns-clause-cause g c =
 pub returns-clause-buffer : goal.returns-clause-buffer
 returns-clause-buffer g c =
     c.loop.invariant.buffer
+
+pub returns-in_err-feed_next-clause-waits : goal.returns-in_err-feed_next-clause-waits
+returns-in_err-feed_next-clause-waits g c = waits_then _ _ _ c.loop.invariant.waits c.feed_next.ensures.waits
+
+pub returns-in-Nothing-clause-waits : goal.returns-in-Nothing-clause-waits
+returns-in-Nothing-clause-waits g c = waits_then _ _ _ c.loop.invariant.waits c.feed_next.ensures.waits

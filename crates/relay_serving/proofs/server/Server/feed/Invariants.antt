@@ -1,6 +1,6 @@
 -- Each asking so far found a packet.
 use Rattle.std.proofs.Common.{◌≡◌, ◌≤◌, ◌+◌, length}
-use Rattle.serving_turns.specs.Devices.{feed_seen}
+use Rattle.serving_turns.specs.Devices.{WaitsBriefly, feed_seen}
 use Rattle.serving_turns.proofs.SoFar.{SoFar}
 use Rattle.relay_serving.specs.Servers.{FeedsBy, counts_in, tally_in}
 use Rattle.relay_serving.specs.Turns.{from_feed}
@@ -14,5 +14,6 @@ invariant-loop g l = record {
   faults : g.F.Feed.faults l.feed ≡ g.F.Feed.faults l.initial.feed;
   counted : (counts_in l.self).packets ≤ (counts_in l.initial.self).packets + l.counter;
   few : tally_in l.self ≤ tally_in l.initial.self + l.counter;
+  waits : WaitsBriefly (g.F.Feed.longest_wait l.initial.feed) (g.F.Feed.longest_wait l.feed);
   buffer : length l.buf ≡ length l.initial.buf;
 }

@@ -2,6 +2,7 @@ use Rattle.std.proofs.Common.{refl, ◌∙◌, arith}
 use Rattle.std.proofs.lemmas.Result.{err_from_is_err_and}
 use Rattle.serving_turns.specs.declared.end.End.TheVariants.{FeedFault, LinkFault}
 use Rattle.serving_turns.proofs.Causes.{not_cause, other_end, same_cause}
+use Rattle.serving_turns.proofs.Waits.{no_waits, waits_then}
 use Rattle.serving_turns.proofs.SoFar.{all_asked, none_asked, one_more, then_ends, then_nothing}
 use Rattle.relay_serving.proofs.Events.{IsAsBefore-same}
 use Rattle.relay_serving.proofs.Hearing.{Hears-none, hears_on}
@@ -14,6 +15,7 @@ loop-init g c =
       heard = none_asked _ _ _ (Hears-none _ _ _ _ (IsAsBefore-same c.args.self.now) refl refl refl);
       faults = refl;
       few = omega arith;
+      waits = no_waits _ _ refl;
       buffer = refl;
     }
 
@@ -87,6 +89,7 @@ loop-preserved g c =
       heard = one_more _ _ hears_on _ _ _ _ _ _ refl c.in-Something.is c.loop.invariant.heard c.in_ok-hear_next.ensures.hears;
       faults = c.in_ok-hear_next.ensures.cause.calm (λ is. cc) ∙ c.loop.invariant.faults;
       few = omega (arith, sofar_few, next_few);
+      waits = waits_then _ _ _ c.loop.invariant.waits c.hear_next.ensures.waits;
       buffer = c.hear_next.ensures.buffer ∙ c.loop.invariant.buffer;
     }
 
@@ -114,3 +117,9 @@ returns-clause-cause g c =
 pub returns-clause-buffer : goal.returns-clause-buffer
 returns-clause-buffer g c =
     c.loop.invariant.buffer
+
+pub returns-in_err-hear_next-clause-waits : goal.returns-in_err-hear_next-clause-waits
+returns-in_err-hear_next-clause-waits g c = waits_then _ _ _ c.loop.invariant.waits c.hear_next.ensures.waits
+
+pub returns-in-Nothing-clause-waits : goal.returns-in-Nothing-clause-waits
+returns-in-Nothing-clause-waits g c = waits_then _ _ _ c.loop.invariant.waits c.hear_next.ensures.waits

@@ -1,6 +1,6 @@
 -- Each asking so far found a datagram.
 use Rattle.std.proofs.Common.{◌≡◌, ◌≤◌, ◌+◌, length}
-use Rattle.serving_turns.specs.Devices.{link_seen}
+use Rattle.serving_turns.specs.Devices.{WaitsBriefly, link_seen}
 use Rattle.serving_turns.proofs.SoFar.{SoFar}
 use Rattle.relay_serving.specs.Servers.{HearsBy, tally_in}
 use Rattle.relay_serving.specs.Turns.{from_link}
@@ -14,4 +14,5 @@ invariant-loop g l = record {
   faults : g.L.Link.receive_faults l.link ≡ g.L.Link.receive_faults l.initial.link;
   few : tally_in l.self ≤ tally_in l.initial.self + l.counter;
   buffer : length l.buf ≡ length l.initial.buf;
+  waits : WaitsBriefly (g.L.Link.longest_wait l.initial.link) (g.L.Link.longest_wait l.link);
 }

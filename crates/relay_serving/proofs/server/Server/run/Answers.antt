@@ -1,10 +1,13 @@
 use Rattle.std.proofs.Common.{refl, ◌∙◌, arith}
+use Rattle.serving_turns.proofs.Waits.{no_waits, waits_then}
 use Rattle.relay_serving.proofs.Running.{EndsIn-cut, IsRunning-none, IsRunning-then, RunsSo-all, RunsSo-cut}
 use Rattle.relay_serving.proofs.server.Server.run.Goals as goal
 
 pub loop-done-init : goal.loop-done-init
 loop-done-init g c = record {
   running = IsRunning-none _ _ c.args.self.now _ c.requires.fresh c.requires.uncounted c.new-renewal.ensures.latest c.new-renewal.ensures.renewed;
+  link_waits = no_waits _ _ refl;
+  feed_waits = no_waits _ _ refl;
   buffer = refl;
 }
 
@@ -18,6 +21,8 @@ returns-in-Err-clause-causes g c = EndsIn-cut _ _ _ _ c.loop-done.invariant.runn
 pub loop-done-preserved : goal.loop-done-preserved
 loop-done-preserved g c = record {
   running = IsRunning-then _ _ _ _ _ _ _ _ _ _ c.loop-done.invariant.running c.in-Ok.ensures.turns c.in-Ok.ensures.causes c.turn.ensures.few c.turn.ensures.few_packets;
+  link_waits = waits_then _ _ _ c.loop-done.invariant.link_waits c.turn.ensures.link_waits;
+  feed_waits = waits_then _ _ _ c.loop-done.invariant.feed_waits c.turn.ensures.feed_waits;
   buffer = c.turn.ensures.buffer ∙ c.loop-done.invariant.buffer;
 }
 
@@ -30,3 +35,9 @@ returns-clause-runs g c = RunsSo-all _ _ _ _ _ _ _ c.loop-done.invariant.running
 
 pub returns-clause-few : goal.returns-clause-few
 returns-clause-few g c = omega (arith, c.loop-done.invariant.running.few, c.loop-done.auto.done-end, c.requires.plan.few_turns)
+
+pub returns-in-Err-clause-link_waits : goal.returns-in-Err-clause-link_waits
+returns-in-Err-clause-link_waits g c = waits_then _ _ _ c.loop-done.invariant.link_waits c.turn.ensures.link_waits
+
+pub returns-in-Err-clause-feed_waits : goal.returns-in-Err-clause-feed_waits
+returns-in-Err-clause-feed_waits g c = waits_then _ _ _ c.loop-done.invariant.feed_waits c.turn.ensures.feed_waits

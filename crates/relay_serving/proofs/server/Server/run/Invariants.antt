@@ -1,5 +1,5 @@
 use Rattle.std.proofs.Common.{◌≡◌, length, None}
-use Rattle.serving_turns.specs.Devices.{feed_seen, link_seen, words_seen}
+use Rattle.serving_turns.specs.Devices.{WaitsBriefly, feed_seen, link_seen, words_seen}
 use Rattle.relay_serving.specs.Devices.{devices_seen}
 use Rattle.relay_serving.specs.Stages.{progress_in}
 use Rattle.relay_serving.proofs.Running.{IsRunning}
@@ -15,5 +15,7 @@ invariant-loop-done g l = record {
       (link_seen (g.L.Link.coming l.link) (g.L.Link.tried l.link) (g.L.Link.receive_faults l.link) (g.L.Link.send_faults l.link))
       (feed_seen (g.F.Feed.coming l.feed) (g.F.Feed.faults l.feed)) None 0)
       l.done;
+  link_waits : WaitsBriefly (g.L.Link.longest_wait l.initial.link) (g.L.Link.longest_wait l.link);
+  feed_waits : WaitsBriefly (g.F.Feed.longest_wait l.initial.feed) (g.F.Feed.longest_wait l.feed);
   buffer : length l.buf ≡ length l.initial.buf;
 }

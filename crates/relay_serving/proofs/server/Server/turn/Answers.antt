@@ -1,7 +1,8 @@
-use Rattle.std.proofs.Common.{arith}
+use Rattle.std.proofs.Common.{arith, refl}
 use Rattle.std.proofs.lemmas.Result.{err_from_is_err_and}
 use Rattle.serving_turns.specs.declared.end.End.TheVariants.{LinkFault, WordsFault}
 use Rattle.serving_turns.proofs.Causes.{not_cause}
+use Rattle.serving_turns.proofs.Waits.{no_waits}
 use Rattle.relay_serving.proofs.Cuts.{no_error, no_words_fed}
 use Rattle.relay_serving.proofs.Ways.{ends_begun, ends_fed, ends_heard, packets-kept}
 use Rattle.relay_serving.proofs.server.Server.turn.Goals as goal
@@ -50,3 +51,12 @@ returns-clause-few_packets g c =
     let begun = c.in_ok-begin_turn.ensures.begins.alike.same_packets in
     let kept = c.publish.ensures.publishes.alike.same_packets in
     omega (arith, heard, begun, kept, c.feed.ensures.counted)
+
+pub returns-in_err-begin_turn-clause-link_waits : goal.returns-in_err-begin_turn-clause-link_waits
+returns-in_err-begin_turn-clause-link_waits g c = no_waits _ _ refl
+
+pub returns-in_err-begin_turn-clause-feed_waits : goal.returns-in_err-begin_turn-clause-feed_waits
+returns-in_err-begin_turn-clause-feed_waits g c = no_waits _ _ refl
+
+pub returns-in_err-hear-clause-feed_waits : goal.returns-in_err-hear-clause-feed_waits
+returns-in_err-hear-clause-feed_waits g c = no_waits _ _ refl

@@ -12,7 +12,7 @@ pub loop-send-init : goal.loop-send-init
 loop-send-init g c =
     let link = c.args.link.now in
     let seen = link_seen (g.L.Link.coming link) (g.L.Link.tried link) (g.L.Link.receive_faults link) (g.L.Link.send_faults link) in
-    (record { same_datagrams = refl; same_packets = refl; same_updated = refl; same_torn = refl; same_starved = refl; same_late = refl }, HasAnswered-none seen seen c.args.counts.now refl refl, omega arith, refl, refl)
+    (record { same_datagrams = refl; same_packets = refl; same_updated = refl; same_torn = refl; same_starved = refl; same_late = refl }, HasAnswered-none seen seen c.args.counts.now refl refl, omega arith, refl, refl, refl)
 
 pub loop-send-preserved : goal.loop-send-preserved
 loop-send-preserved g c =
@@ -30,6 +30,7 @@ loop-send-preserved g c =
     let all = c.loop-send.invariant.2 in
     let same_coming = c.send.ensures.coming ∙ c.loop-send.invariant.3 in
     let same_faults = c.send.ensures.apart ∙ c.loop-send.invariant.4 in
+    let same_waits = c.send.ensures.waits ∙ c.loop-send.invariant.5 in
     let grown = answers_more sends place c.send-item.result c.peer.result c.as_slice.result.now c.loop-send-test.true c.send-item.is c.peer.ensures.value c.as_slice.ensures in
     let counts = c.match-send.counts in
     elim c.match-send.branch [
@@ -50,6 +51,7 @@ loop-send-preserved g c =
             omega (arith, sent, unsent, all),
             same_coming,
             same_faults,
+            same_waits,
           )
       | in-Err w ↦
           let sent = ap (λ (one : Counts). one.sent) w.counts-is in
@@ -68,5 +70,6 @@ loop-send-preserved g c =
             omega (arith, sent, unsent, all),
             same_coming,
             same_faults,
+            same_waits,
           )
     ]

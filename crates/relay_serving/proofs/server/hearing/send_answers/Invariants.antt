@@ -15,3 +15,4 @@ invariant-loop-send g l =
     × (l.counts.sent + l.counts.unsent ≡ l.initial.counts.sent + l.initial.counts.unsent + l.send-index)
     × (g.L.Link.coming l.link ≡ g.L.Link.coming l.initial.link)
     × (g.L.Link.receive_faults l.link ≡ g.L.Link.receive_faults l.initial.link)
+    × (g.L.Link.longest_wait l.link ≡ g.L.Link.longest_wait l.initial.link)
