@@ -379,10 +379,20 @@ def a_send_has_no_room_once(bench):
 
 
 def a_send_never_has_room(bench):
-    relay, came = sends_traced(bench, "sendto:error=EAGAIN:when=5..104")
-    bench.done(relay, packets=3, updated=2, unsent=1)
-    expect(came == 5, f"{came} copies came")
-    return "`unsent 1` after a hundred tries, and the five other copies come"
+    # The first copy is tried twice, the second, which doesn't wait any more, once, and the third is sent.
+    relay, came = sends_traced(bench, "sendto:error=EAGAIN:when=5..7")
+    bench.done(relay, packets=3, updated=2, sent=8, unsent=2)
+    expect(came == 4, f"{came} copies came")
+    return "`unsent 2`: the first waits once, the second not, and the four other copies come"
+
+
+def an_answer_has_no_room(bench):
+    # After two errors the first Query is lost, and the gateway asks again.
+    for errors, unsent in (("1", 0), ("1..2", 1)):
+        relay, came = sends_traced(bench, f"sendto:error=EAGAIN:when={errors}")
+        expect(came == 6, f"{came} copies came")
+        bench.done(relay, packets=3, updated=2, sent=10, unsent=unsent)
+    return "it is sent after a wait, or counted in `unsent`, and all copies come"
 
 
 # The monotonic clock is right for a second and a half from its first reading on, and then another one.
@@ -461,6 +471,7 @@ FAULTS = [
     a_send_fails,
     a_send_has_no_room_once,
     a_send_never_has_room,
+    an_answer_has_no_room,
     the_clock_goes_back,
 ]
 
