@@ -1,7 +1,7 @@
 #!/bin/sh
 # How fast a running relay is, over the loopback, with packets of 1,344 octets: lost packets at a quarter of the rate
 # of a bare `sendto` loop, copies a second at full rate, the processor time of a copy and Updates a second with 65,536
-# live endpoints, and what an idle relay takes. In the same run, each figure stands beside the bare loop and beside
+# live endpoints, the processor time of an Update of 8,000 records, and what an idle relay takes. In the same run, each figure stands beside the bare loop and beside
 # the least that a relay can do, a loop of `recv` and `sendto` in C. All else on the machine disturbs them: the load is
 # printed, and `chrt -f 1 bench/relay.sh` gives every program of the trial the same advantage over it; but an idle relay
 # has none, since by a real-time policy its sleeps would end on time, which isn't how it runs.
@@ -44,9 +44,12 @@ endpoints = $many
 groups = 4
 END
 
-# serve COMMAND WORKERS: the relay runs
+# With the limits as they are by default: a long report names more groups than the relay above allows.
+grep -v '^endpoints\|^groups' "$work/relay.toml" > "$work/long.toml"
+
+# serve COMMAND WORKERS [SETTINGS]: the relay runs
 serve() {
-    $1 "$work/relay.toml" --workers "$2" > "$work/report" &
+    $1 "$work/${3:-relay}.toml" --workers "$2" > "$work/report" &
     process=$!
 }
 
@@ -175,6 +178,14 @@ endpoints() {
     fi
 }
 
+# One run of Updates of 8,000 records.
+long_updates() {
+    serve "$relay" 0 long
+    "$work/trial" "$link" "$process" long 1 - > "$work/figures"
+    end
+    keep relay.long "$(figure long)"
+}
+
 # idle COMMAND WORKERS: a trial in which nothing comes for three seconds, and hundredths of a processor that it took, by
 # the scheduler's usual policy.
 idle() {
@@ -210,6 +221,7 @@ while [ $run -lt "$runs" ]; do
     quarter_rate
     full_rate
     endpoints
+    [ "$relay" = "$loop" ] || long_updates
 done
 
 echo
@@ -234,6 +246,10 @@ show "least processor us a copy, $many, of 16" "$(least relay.many)" "$(least lo
     "$share" 1.30 "$share <= 1.3"
 updates=$(median relay.updates %.0f)
 show "Updates/s, $many endpoints" "$updates" "$(median loop.updates %.0f)" '' '' 20000 "$updates >= 20000"
+if [ "$relay" != "$loop" ]; then
+    long=$(median relay.long %.0f)
+    show 'processor us an Update of 8,000 records' "$long" '' '' '' 1500 "$long <= 1500"
+fi
 idle "$loop" 0
 c=$idle
 for workers in 0 1; do

@@ -80,6 +80,32 @@ static void send_update(struct endpoints *all, int index) {
     send_from(all, index, update, sizeof update);
 }
 
+/* As many records as a datagram holds, TO_EX and TO_IN by turns of no source, on 60 groups over and over. */
+enum { RECORDS = 8000, GROUPS = 60, LONG = 44 + 8 * RECORDS };
+
+/* An Update of the longest report, with the Query's MAC: each of its groups is joined and left many times. */
+static void send_long_update(struct endpoints *all, int index) {
+    static uint8_t update[LONG];
+    static const uint8_t head[36] = {5, 0, 0, 0, 0, 0, 0, 0, 0, 0, 0, 0, 0x46, 0xc0, 0, 0, 0, 0, 0, 0, 1, 2, 0, 0, 10,
+        0, 0, 2, 224, 0, 0, 22, 0x94, 4, 0, 0};
+    memcpy(update, head, sizeof head);
+    memcpy(update + 2, all->mac[index], 6);
+    put32(update + 8, index);
+    put16(update + 14, LONG - 12);
+    put16(update + 22, checksum(update + 12, 24));
+    memset(update + 36, 0, 8);
+    update[36] = 0x22;
+    put16(update + 42, RECORDS);
+    for (int at = 0; at < RECORDS; at++) {
+        uint8_t *record = update + 44 + 8 * at;
+        memset(record, 0, 4);
+        record[0] = at / GROUPS % 2 ? 3 : 4;
+        put32(record + 4, group_of(at % GROUPS));
+    }
+    put16(update + 38, checksum(update + 36, LONG - 36));
+    send_from(all, index, update, sizeof update);
+}
+
 /* Waits for a Query at any socket, and gives its nonce; 0 with `none` where none came in time. */
 static uint32_t next_query(struct endpoints *all, uint8_t *query, int *none) {
     static struct pollfd waiting[64];
@@ -154,6 +180,15 @@ static double update_all(struct endpoints *all) {
     send_request(all, 0, ++barrier);
     await(all, barrier);
     return seconds_now() - begin;
+}
+
+/* So many long Updates of the first endpoint, one at a time. */
+static void update_at_length(struct endpoints *all, int count) {
+    for (int at = 0; at < count; at++) {
+        send_long_update(all, 0);
+        send_request(all, 0, BARRIER + LONG + at);
+        await(all, BARRIER + LONG + at);
+    }
 }
 
 static void join_all(struct endpoints *all, struct sockaddr_in relay) {

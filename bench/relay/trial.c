@@ -2,6 +2,7 @@
  *
  * usage: trial RELAY PROCESS shared|own COUNT COMMAND..
  *        trial - 0 shared COUNT COMMAND..     no relay: the receivers' addresses follow the words of the command
+ *        trial RELAY PROCESS long 1 -         no command: an endpoint sends Updates of 8,000 records
  *
  * PROCESS is the relay's, whose processor time is measured while the command runs; without a relay it's the command's.
  * What is printed, besides what the command prints:
@@ -14,6 +15,7 @@
  *   lasted       seconds, from the start of the command until all was quiet
  *   updates      Updates a second: each endpoint has joined, and renews its membership once
  *   full         1 where the relay then has no room for more endpoints
+ *   long         microseconds of processor time for each Update of 8,000 records, and a Request after it
  */
 #include "endpoints.h"
 #include <linux/sock_diag.h>
@@ -24,6 +26,9 @@ enum { BATCH = 64, HEAD = 8 };
 
 /* The trial is over where nothing has come for so many milliseconds, or so many seconds after the command. */
 enum { QUIET = 200, LIMIT_S = 5 };
+
+/* How many long Updates are sent. */
+enum { LONG_UPDATES = 500 };
 
 struct counts {
     long arrived, other;
@@ -156,6 +161,12 @@ int main(int count, char **words) {
         join_all(&all, address_of(words[1]));
         printf("updates %.0f\n", all.count / update_all(&all));
         printf("full %d\n", all.is_full);
+    }
+    if (!strcmp(words[3], "long")) {
+        double began = processor_of(relay);
+        update_at_length(&all, LONG_UPDATES);
+        printf("long %.0f\n", (processor_of(relay) - began) * 1e6 / LONG_UPDATES);
+        return 0;
     }
     fflush(stdout);
     long before = dropped(&all);
