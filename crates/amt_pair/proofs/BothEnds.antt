@@ -1,14 +1,12 @@
 -- What both ends agree on after a schedule, by what is proved of a tunnel's turns.
-use Rattle.std.proofs.Common.{◌≡◌, ◌≤◌, true, false, List, All, Contains, refl, sym, ap, ◌∙◌, inl, inr}
+use Rattle.std.proofs.Common.{◌≡◌, true, false, List, All, Contains, refl, sym, ap, ◌∙◌, inl, inr}
 use Rattle.std.proofs.lemmas.List.Elements.{All-contains}
 use Rattle.amt_values.specs.EndpointValue.{EndpointValue}
 use Rattle.amt_values.specs.declared.address.Ip.{Ip}
 use Rattle.source_filter.specs.Filter.{admits}
 use Rattle.source_filter.proofs.MergedFilters.{admits-merged}
-use Rattle.endpoint_membership.specs.Log.{latest, on_group}
+use Rattle.endpoint_membership.specs.Log.{on_group}
 use Rattle.gateway_machine.specs.Runs.{Run}
-use Rattle.relay_machine.specs.Accepted.{accepted_log}
-use Rattle.relay_machine.specs.Events.{now_of}
 use Rattle.relay_machine.specs.Settings.{membership_interval_ms}
 use Rattle.socket_merge.specs.History.{AcceptedCall, open_sockets}
 use Rattle.socket_merge.specs.Interface.{filters_on, interface, wants}
@@ -21,7 +19,7 @@ use Rattle.amt_pair.proofs.CourseSteps.{Stands, stands-after}
 use Rattle.amt_pair.proofs.Follows.{run_at}
 use Rattle.amt_pair.proofs.ListedHosts.{listed-after}
 use Rattle.amt_pair.proofs.MadeGood.{admits-unwanted, unnamed}
-use Rattle.amt_pair.proofs.ToldReports.{admits-same, log-early, member-is, told}
+use Rattle.amt_pair.proofs.ToldReports.{admits-same, member-is, told}
 use Rattle.amt_pair.proofs.Tunnel.{Tunnel, after}
 use Rattle.amt_pair.proofs.TunnelCurrent.{now_too}
 use Rattle.amt_pair.proofs.TunnelNamed.{named}
@@ -39,10 +37,6 @@ module _ (setup : PairSetup) (schedule : List PairEvent) (member : Member) (endp
   stands =
       let among = All-contains (λ (one : Member). Contains setup.hosts one.host) (course_of setup schedule).members member (listed-after setup schedule) heard.among in
       stands-after setup lawful member.host among endpoint heard.endpoint_is schedule may
-
-  -- no entry of the relay's log is later than its moment
-  pub no-later : latest (accepted_log setup.settings setup.secret (course_of setup schedule).relay) ≤ now_of (course_of setup schedule).relay
-  no-later = log-early setup schedule member endpoint (IsInTime setup schedule member.host.peer) heard.among stands
 
   -- of each group that the report names
   pub named-agree : (group source : Ip) → Names report group → relay_admits setup schedule endpoint group source ≡ wanted_then report group source

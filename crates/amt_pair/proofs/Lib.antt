@@ -1,5 +1,4 @@
 pub mod AcceptedCalls
-pub mod AdmittedRows
 pub mod AgreedRows
 pub mod Alone
 pub mod BothEnds

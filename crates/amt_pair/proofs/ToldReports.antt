@@ -11,11 +11,11 @@ use Rattle.endpoint_membership.specs.GroupFilter.{records_admit}
 use Rattle.endpoint_membership.specs.Log.{brought, latest, live_chain}
 use Rattle.endpoint_membership.specs.declared.change.Change.{Change}
 use Rattle.endpoint_membership.specs.declared.change.Change.TheVariants.{Reported}
-use Rattle.endpoint_membership.proofs.HoldsAfter.{latest-reverse}
 use Rattle.gateway_machine.specs.Laws.{last_of}
 use Rattle.relay_machine.specs.Accepted.{accepted_log}
 use Rattle.relay_machine.specs.Events.{now_of}
 use Rattle.relay_machine.specs.Settings.{membership_interval_ms}
+use Rattle.relay_machine.proofs.PublishedLog.{latest-accepted_log}
 use Rattle.amt_pair.specs.Agreement.{IsHeard, IsLastEntry, full_reports, is_of_endpoint, relay_admits, report_from}
 use Rattle.amt_pair.specs.Schedule.{Entry, Member, Upward, course_of}
 use Rattle.amt_pair.specs.Sent.{SentReport}
@@ -28,7 +28,7 @@ use Rattle.amt_pair.proofs.HeardQueries.{same_peer-itself}
 use Rattle.amt_pair.proofs.Listed.{last-passing, middle-cases, reverse-cons}
 use Rattle.amt_pair.proofs.PeerReports.{IsOther, reports_from}
 use Rattle.amt_pair.proofs.Tunnel.{IsTold, Made, Tunnel, admits_at, after, entries_of, last_by, last_made, latest_full}
-use Rattle.amt_pair.proofs.TunnelMade.{in_group, made_by_turns}
+use Rattle.amt_pair.proofs.TunnelMade.{in_group}
 
 -- ---- the latest full report
 
@@ -131,18 +131,6 @@ module _ (setup : PairSetup) (schedule : List PairEvent) (member : Member) (endp
       ∙ changes-reverse (course_of setup schedule).entries
       ∙ ap (λ (log : List Change). reverse log) stands.logged
 
-  -- no entry of the log is later than the relay's moment
-  pub log-early : latest (accepted_log setup.settings setup.secret (course_of setup schedule).relay) ≤ now_of (course_of setup schedule).relay
-  log-early =
-      let log = accepted_log setup.settings setup.secret (course_of setup schedule).relay in
-      let now = now_of (course_of setup schedule).relay in
-      let tunnel = shown member.host stands.events (course_of setup schedule) in
-      let made : latest (entries_of tunnel) ≤ tunnel.moment =
-      subst (λ (one : Tunnel). latest (entries_of one) ≤ one.moment) stands.follows.same (made_by_turns endpoint stands.follows.turns_are stands.follows.may).moments in
-      let newest : latest (entries_of tunnel) ≡ latest log = ap latest entries-are ∙ latest-reverse log in
-      let moment = stands.moment in
-      omega arith
-
   -- what the relay admits is what is admitted at the tunnel
   pub admits-same : (group source : Ip)
       → relay_admits setup schedule endpoint group source ≡ admits_at (membership_interval_ms setup.settings) endpoint (after endpoint stands.follows.turns_are) group source
@@ -152,7 +140,8 @@ module _ (setup : PairSetup) (schedule : List PairEvent) (member : Member) (endp
       let now = now_of (course_of setup schedule).relay in
       let tunnel = shown member.host stands.events (course_of setup schedule) in
       let moment = stands.moment in
-      let early : latest log ≤ now = log-early in
+      let newest = latest-accepted_log setup.settings setup.secret (course_of setup schedule).relay in
+      let early : latest log ≤ now = omega (arith, newest) in
       ap (λ (at : ℕ). records_admit (live_chain lifetime (in_group endpoint group) at (reverse log)) source) (latest-now now (latest log) early ∙ sym moment)
       ∙ ap (λ (entries : List Change). records_admit (live_chain lifetime (in_group endpoint group) tunnel.moment entries) source) (sym entries-are)
       ∙ ap (λ (one : Tunnel). admits_at lifetime endpoint one group source) (sym stands.follows.same)

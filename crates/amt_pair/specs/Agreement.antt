@@ -1,17 +1,14 @@
 -- What both ends agree on: what a gateway's sockets want, and what the relay forwards to its endpoint.
-use Rattle.std.specs.Prelude.{◌≡◌, ◌≢◌, ℕ, ◌+◌, ◌<◌, ◌≤◌, ◌&&◌, Bool, List, [], ◌∷◌, ◌++◌, Contains, Option, Some, None, if◌then◌else◌}
-use Rattle.std.specs.List.{filter, filter_map, list_any}
+use Rattle.std.specs.Prelude.{◌≡◌, ◌≢◌, ℕ, ◌+◌, ◌<◌, ◌≤◌, Bool, List, [], ◌∷◌, ◌++◌, Contains, Option, Some, None, if◌then◌else◌}
+use Rattle.std.specs.List.{filter, filter_map}
 use Rattle.amt_values.specs.Endpoint.{endpoint_of}
 use Rattle.amt_values.specs.EndpointValue.{EndpointValue}
 use Rattle.amt_values.specs.declared.address.Ip.{Ip}
 use Rattle.amt_values.specs.declared.peer.Peer.{Peer}
-use Rattle.source_filter.specs.Filter.{admits}
 use Rattle.source_filter.specs.declared.record.Record.{Record}
 use Rattle.endpoint_membership.specs.Admission.{is_admitted}
-use Rattle.endpoint_membership.specs.EndpointGroup.{same_endpoint, same_group}
 use Rattle.endpoint_membership.specs.Log.{on_group}
 use Rattle.endpoint_membership.specs.declared.change.Change.TheVariants.{Reported}
-use Rattle.endpoint_membership.specs.declared.row.Row.{Row}
 use Rattle.gateway_machine.specs.Answers.{same_peer}
 use Rattle.gateway_machine.specs.Laws.{last_of}
 use Rattle.gateway_machine.specs.declared.exchange.GatewayState.TheVariants.{Active}
@@ -88,8 +85,3 @@ wants_now member group source = wants (run_of_member member).history group sourc
 -- the gateway is Active
 abbrev pub IsActive : Member → Type 0
 IsActive member = (run_of_member member).exchange.state ≡ Active
-
--- some row is of the endpoint and the group, and its filter lets the source in
-abbrev pub rows_admit : List Row → EndpointValue → Ip → Ip → Bool
-rows_admit rows endpoint group source =
-    list_any (λ row. same_endpoint row.endpoint endpoint && same_group row.group group && admits row.filter source) rows

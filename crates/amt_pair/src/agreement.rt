@@ -2,9 +2,10 @@
 ghost use Rattle.std.specs.Prelude.{◌≡◌, false, List, All, map};
 ghost use Rattle.amt_values.specs.EndpointValue.{EndpointValue};
 ghost use Rattle.amt_values.specs.declared.address.Ip.{Ip};
+ghost use Rattle.endpoint_membership.specs.Admission.{rows_admit};
 ghost use Rattle.relay_machine.specs.Accepted.{accepted_log};
 ghost use Rattle.relay_machine.specs.Answers.{rows_after};
-ghost use Rattle.amt_pair.specs.Agreement.{CountsInTime, IsActive, IsHeard, IsInTime, Names, relay_admits, rows_admit, wanted_then, wants_now};
+ghost use Rattle.amt_pair.specs.Agreement.{CountsInTime, IsActive, IsHeard, IsInTime, Names, relay_admits, wanted_then, wants_now};
 ghost use Rattle.amt_pair.specs.Schedule.{IsPairEvent, Member, course_of};
 ghost use Rattle.amt_pair.specs.Sent.{SentReport};
 ghost use Rattle.amt_pair.specs.Setup.{IsLawfulSetup, PairSetup};
@@ -41,7 +42,7 @@ pub fn all_groups_agree()
 {}
 
 /// While the gateway is Active, what its sockets wanted then is what they want now: what is joined is what
-/// is forwarded. `shown` says it of the memberships that the relay shows.
+/// is forwarded.
 pub fn both_ends_agree()
     ensures forwarded { (setup : PairSetup) (schedule : List PairEvent) (member : Member)
         (endpoint : EndpointValue) (report : SentReport) (group source : Ip)
@@ -49,13 +50,13 @@ pub fn both_ends_agree()
         → CountsInTime setup → IsInTime setup schedule member.host.peer
         → IsHeard setup schedule member endpoint report → IsActive member
         → relay_admits setup schedule endpoint group source ≡ wants_now member group source }
-    ensures shown { (setup : PairSetup) (schedule : List PairEvent) (member : Member)
-        (endpoint : EndpointValue) (report : SentReport) (group source : Ip)
-        → IsLawfulSetup setup → All (IsPairEvent setup.hosts) schedule
-        → CountsInTime setup → IsInTime setup schedule member.host.peer
-        → IsHeard setup schedule member endpoint report → IsActive member
+
+    // After every schedule the memberships that the relay shows let in what it forwards, of each group at
+    // each endpoint. So this agreement and the two above hold of what is shown.
+    ensures shown { (setup : PairSetup) (schedule : List PairEvent) (endpoint : EndpointValue)
+        (group source : Ip)
         → rows_admit (rows_after setup.settings setup.secret (course_of setup schedule).relay) endpoint group source
-        ≡ wants_now member group source }
+        ≡ relay_admits setup schedule endpoint group source }
 {}
 
 /// The entries of a course are the accepted log of the relay's events: the last of an endpoint is the last

@@ -60,6 +60,7 @@ impl Pair {
     ghost use Rattle.std.specs.Prelude.{◌≡◌, ◌<◌, ◌↔◌, ◌++◌, ◌∷◌, [], true, false, List, Option, length, IfOk, IsErrOf, OnOk, OnErr};
     ghost use Rattle.amt_values.specs.EndpointValue.{EndpointValue};
     ghost use Rattle.amt_values.specs.declared.address.Ip.{Ip as IpValue};
+    ghost use Rattle.endpoint_membership.specs.Admission.{rows_admit};
     ghost use Rattle.group_records.specs.Written.{is_of_family};
     ghost use Rattle.gateway_machine.specs.Events.{IsEventOf};
     ghost use Rattle.relay_machine.specs.Answers.{rows_after};
@@ -68,7 +69,7 @@ impl Pair {
     ghost use Rattle.relay_machine.specs.declared.settings.Settings.{Settings as SettingsValue};
     ghost use Rattle.response_mac.specs.declared.secret.Secret.{Secret as SecretValue};
     ghost use Rattle.socket_merge.specs.FullReport.{family_by};
-    ghost use Rattle.amt_pair.specs.Agreement.{CountsInTime, IsActive, IsHeard, IsInTime, rows_admit, wants_now};
+    ghost use Rattle.amt_pair.specs.Agreement.{CountsInTime, IsActive, IsHeard, IsInTime, wants_now};
     ghost use Rattle.amt_pair.specs.Parts.{gateway_part, parts_of, relay_step};
     ghost use Rattle.amt_pair.specs.Schedule.{MayCome, Member, Upward, course_of, with_pair_event, with_relay_event};
     ghost use Rattle.amt_pair.specs.Sent.{SentReport};

@@ -1,3 +1,4 @@
+pub mod AdmittedRows
 pub mod AfterEntries
 pub mod AfterReport
 pub mod Clearings

@@ -49,7 +49,7 @@ only_by true false membership later test passed none = rw (passed, none refl) re
 only_by false true membership later test passed none = refl
 only_by false false membership later test passed none = refl
 
-membership_in-cond : (passes : Bool) (membership : Membership) (rest : List Membership) (endpoint_group : EndpointGroup)
+pub membership_in-cond : (passes : Bool) (membership : Membership) (rest : List Membership) (endpoint_group : EndpointGroup)
     → membership_in (cond passes (membership ∷ rest) rest) endpoint_group ≡ cond passes (cond (same_endpoint_group endpoint_group (endpoint_group_of membership)) (Some membership) (membership_in rest endpoint_group)) (membership_in rest endpoint_group)
 membership_in-cond true membership rest endpoint_group = refl
 membership_in-cond false membership rest endpoint_group = refl

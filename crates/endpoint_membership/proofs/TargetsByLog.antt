@@ -123,7 +123,7 @@ has-targets lifetime moment group source rows endpoint ascends =
     has-endpoints group (filter test rows) endpoint (AreOn-targets lifetime moment group source rows)
     ∙ ap (λ (found : Option Membership). is_some found) (membership_in-filter test rows (at endpoint group) ascends)
 
-is_some-cond : (test : Bool) (membership : Membership) → is_some (cond test (Some membership) None) ≡ test
+pub is_some-cond : (test : Bool) (membership : Membership) → is_some (cond test (Some membership) None) ≡ test
 is_some-cond true membership = refl
 is_some-cond false membership = refl
 

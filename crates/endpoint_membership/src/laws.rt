@@ -5,7 +5,7 @@ ghost use Rattle.amt_values.specs.Order.{endpoint_order};
 ghost use Rattle.amt_values.specs.EndpointValue.{EndpointValue};
 ghost use Rattle.source_filter.specs.Filter.{admits};
 ghost use Rattle.contract_words.specs.Ascending.{IsAscending};
-ghost use Rattle.endpoint_membership.specs.Admission.{HasNoMembership, is_admitted};
+ghost use Rattle.endpoint_membership.specs.Admission.{HasNoMembership, is_admitted, rows_admit};
 ghost use Rattle.endpoint_membership.specs.Chain.{IsLongestChain};
 ghost use Rattle.endpoint_membership.specs.Log.{latest, live_chain};
 ghost use Rattle.endpoint_membership.specs.EndpointGroup.{EndpointGroup};
@@ -27,7 +27,8 @@ pub fn live_chains_are_longest()
 
 /// A row lets in a source exactly where the newest record that applies to the source wants it (RFC
 /// 3376, section 4.2.12), so keeping a filter instead of the records loses nothing. Where there
-/// is no row, no source is wanted.
+/// is no row, no source is wanted. So the rows together let in, of an endpoint and a group, what the
+/// log admits.
 pub fn rows_admit_by_the_newest_record()
     ensures row { (lifetime : ℕ) (log : List Change) (endpoint_group : EndpointGroup)
         (source : Ip) (moment : ℕ)
@@ -40,6 +41,11 @@ pub fn rows_admit_by_the_newest_record()
         → latest log ≤ moment
         → membership_at lifetime moment (reverse log) endpoint_group ≡ None
         → is_admitted lifetime log endpoint_group source moment ≡ false }
+    ensures rows { (lifetime : ℕ) (log : List Change) (endpoint : EndpointValue) (group source : Ip)
+        (moment : ℕ)
+        → latest log ≤ moment
+        → rows_admit (rows_of lifetime moment log) endpoint group source
+        ≡ is_admitted lifetime log (record { endpoint = endpoint; group = group }) source moment }
 {}
 
 /// A packet is copied to an endpoint exactly where the newest record that applies to its source

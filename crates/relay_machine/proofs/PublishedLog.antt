@@ -114,7 +114,8 @@ latest_back settings first (Datagram bytes from ∷ earlier) =
     (datagram-made settings secrets now log (endpoint_of from) (message_of bytes))
     ∙ sym (ap now_of (reverse-append (Datagram bytes from ∷ []) earlier) ∙ now_of-other (reverse earlier) (Datagram bytes from) refl)
 
-latest-accepted_log : (settings : Settings) (first : Secret) (events : List Event) → latest (accepted_log settings first events) ≡ now_of events
+-- the newest entry is of the moment of the events
+pub latest-accepted_log : (settings : Settings) (first : Secret) (events : List Event) → latest (accepted_log settings first events) ≡ now_of events
 latest-accepted_log settings first events = latest_back settings first (reverse events) ∙ ap now_of (reverse-reverse events)
 
 -- a clearing is made at the moment of the events before it

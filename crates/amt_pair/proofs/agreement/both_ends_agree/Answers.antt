@@ -1,4 +1,4 @@
-use Rattle.amt_pair.proofs.AgreedRows.{shown-agree}
+use Rattle.amt_pair.proofs.AgreedRows.{rows-forwarded}
 use Rattle.amt_pair.proofs.BothEnds.{now-agree}
 use Rattle.amt_pair.proofs.agreement.both_ends_agree.Goals as goal
 
@@ -7,5 +7,4 @@ returns-clause-forwarded c = λ setup schedule member endpoint report group sour
     now-agree setup schedule member endpoint report lawful may heard short in_time group source active
 
 pub returns-clause-shown : goal.returns-clause-shown
-returns-clause-shown c = λ setup schedule member endpoint report group source lawful may short in_time heard active.
-    shown-agree setup schedule member endpoint report lawful may heard short in_time group source active
+returns-clause-shown c = rows-forwarded
