@@ -1,5 +1,5 @@
-//! What both ends of a tunnel agree on.
-ghost use Rattle.std.specs.Prelude.{◌≡◌, Bool, List, Ok};
+//! How a gateway reads the relay's Queries, and how a schedule goes on.
+ghost use Rattle.std.specs.Prelude.{◌≡◌, ◌++◌, ◌∷◌, [], Bool, List, Ok};
 ghost use Rattle.amt_messages.specs.Layout.{spelling_of};
 ghost use Rattle.amt_messages.specs.Messages.{IsGateway};
 ghost use Rattle.amt_values.specs.EndpointValue.{EndpointValue};
@@ -17,6 +17,11 @@ ghost use Rattle.response_mac.specs.declared.secret.Secret.{Secret};
 ghost use Rattle.socket_merge.specs.History.{AcceptedCall};
 ghost use Rattle.socket_merge.specs.FullReport.{family_by};
 ghost use Rattle.amt_pair.specs.Queries.{HasQuerySources, IsAsking, query_of_relay};
+ghost use Rattle.amt_pair.specs.Schedule.{FitsItsType, MayCome, course_of, with_pair_event};
+ghost use Rattle.amt_pair.specs.Setup.{PairSetup};
+ghost use Rattle.amt_pair.specs.State.{PairAt, StandsFor, hosts_of};
+ghost use Rattle.amt_pair.specs.declared.event.PairEvent.{PairEvent};
+ghost use Rattle.amt_pair.specs.declared.pair.Pair.{Pair};
 
 /// What a relay says in its General Queries, of either family, is what a gateway takes them to say
 /// (RFC 7450, section 5.1.4). Lawful settings have only times that codes stand for, and a
@@ -39,4 +44,13 @@ pub fn relays_queries_are_accepted()
         (spelling_of (query_for settings secret gateway.v6 limited source exchange.nonce)))
         ≡ query_accepted gateway exchange history
         (query_of_relay settings secret source exchange.nonce) }
+{}
+
+/// Where a schedule leads to a pair, the schedule with one more event leads to the pair after it: `next`
+/// and `fits` of `Pair::step` say of each step that isn't starved what is asked here.
+pub fn steps_extend_schedules()
+    ensures { (before after : Pair) (setup : PairSetup) (schedule : List PairEvent) (event : PairEvent)
+        → PairAt before setup schedule → MayCome (hosts_of before) event → FitsItsType event
+        → StandsFor after setup (with_pair_event setup (course_of setup schedule) event)
+        → PairAt after setup (schedule ++ event ∷ []) }
 {}

@@ -23,7 +23,7 @@ pub use agreement::{
     all_groups_agree, both_ends_agree, entries_are_the_accepted_log, named_groups_agree,
 };
 pub use event::PairEvent;
-pub use laws::relays_queries_are_accepted;
+pub use laws::{relays_queries_are_accepted, steps_extend_schedules};
 pub use pair::{Pair, PairFault};
 pub use silence::{farewells_are_kept, silent_entries_admit_nothing};
 pub use step::{PairStep, Part, Parts};

@@ -71,7 +71,7 @@ impl Pair {
     ghost use Rattle.socket_merge.specs.FullReport.{family_by};
     ghost use Rattle.amt_pair.specs.Agreement.{CountsInTime, IsActive, IsHeard, IsInTime, wants_now};
     ghost use Rattle.amt_pair.specs.Parts.{gateway_part, parts_of, relay_step};
-    ghost use Rattle.amt_pair.specs.Schedule.{MayCome, Member, Upward, course_of, with_pair_event, with_relay_event};
+    ghost use Rattle.amt_pair.specs.Schedule.{FitsItsType, MayCome, Member, Upward, course_of, with_pair_event, with_relay_event};
     ghost use Rattle.amt_pair.specs.Sent.{SentReport};
     ghost use Rattle.amt_pair.specs.Setup.{Host, has_taken, settings_of_host};
     ghost use Rattle.amt_pair.specs.State.{After, ForCourse, ForMember, HasStarved, PairAt, StandsFor, hosts_of, sent_down, sent_up, with_member_at};
@@ -180,14 +180,17 @@ impl Pair {
         requires { MayCome (hosts_of self.old) event.now }
         ensures parts { ForCourse self.old (λ setup course. IfOk result (λ step. step.starved ≡ false
             → step.parts ≡ parts_of setup course event.now)) }
-        ensures next { After self.old (λ setup schedule. IfOk result (λ step. step.starved ≡ false
-            → PairAt self.new setup (schedule ++ event.now ∷ []))) }
+        ensures next { ForCourse self.old (λ setup course. IfOk result (λ step. step.starved ≡ false
+            → StandsFor self.new setup (with_pair_event setup course event.now))) }
         ensures starved { ForCourse self.old (λ setup course. IfOk result (λ step. step.starved ≡ true
             → HasStarved setup course event.now self.new step.parts)) }
         ensures up { IfOk result (λ step. step.up ≡ sent_up self.new) }
         ensures down { IfOk result (λ step. step.down ≡ sent_down self.new) }
         ensures hosts { hosts_of self.new ≡ hosts_of self.old }
         ensures err { ForCourse self.old (λ setup course. OnErr result (self.new ≡ self.old)) }
+
+        // With `next` and `steps_extend_schedules` the schedule that led here goes on by the event.
+        ensures fits { FitsItsType event.now }
     {
         pair_event_fits(event);
         match event {

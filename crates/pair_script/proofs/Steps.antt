@@ -6,9 +6,9 @@ use Rattle.std.proofs.lemmas.List.Elements.{filter_map-append}
 use Rattle.relay_machine.specs.declared.sends.OneSend.{OneSend}
 use Rattle.amt_pair.specs.Members.{kept_upward}
 use Rattle.amt_pair.specs.Parts.{parts_of}
-use Rattle.amt_pair.specs.Schedule.{Course, MayCome, course_of}
+use Rattle.amt_pair.specs.Schedule.{Course, MayCome, course_of, with_pair_event}
 use Rattle.amt_pair.specs.Setup.{Host, PairSetup}
-use Rattle.amt_pair.specs.State.{PairAt, hosts_of, sent_down, sent_up}
+use Rattle.amt_pair.specs.State.{PairAt, StandsFor, hosts_of, sent_down, sent_up}
 use Rattle.amt_pair.specs.declared.datagrams.UpDatagram.{UpDatagram}
 use Rattle.amt_pair.specs.declared.event.PairEvent.{PairEvent}
 use Rattle.amt_pair.specs.declared.pair.Pair.{Pair}
@@ -21,63 +21,56 @@ use Rattle.pair_script.specs.declared.script.PairItem.TheVariants as items
 use Rattle.pair_script.proofs.Counts.{downs_counted, ups_counted}
 
 -- what was sent to the relay, by the course
-pub up_at : (pair : Pair) (setup : PairSetup) (schedule : List PairEvent) → PairAt pair setup schedule → sent_up pair ≡ length (course_of setup schedule).up
-up_at pair setup schedule at = ap (λ (all : List UpDatagram). length all) at.stands.up ∙ length-map (course_of setup schedule).up kept_upward
+pub up_at : (pair : Pair) (setup : PairSetup) (course : Course) → StandsFor pair setup course → sent_up pair ≡ length course.up
+up_at pair setup course at = ap (λ (all : List UpDatagram). length all) at.up ∙ length-map course.up kept_upward
 
-pub down_at : (pair : Pair) (setup : PairSetup) (schedule : List PairEvent) → PairAt pair setup schedule → sent_down pair ≡ length (course_of setup schedule).down
-down_at pair setup schedule at = ap (λ (all : List OneSend). length all) at.stands.down
+pub down_at : (pair : Pair) (setup : PairSetup) (course : Course) → StandsFor pair setup course → sent_down pair ≡ length course.down
+down_at pair setup course at = ap (λ (all : List OneSend). length all) at.down
 
 -- an event that may come to the gateways of the start may come to the pair
-pub may_come : (pair : Pair) (start : PairSetup) (schedule : List PairEvent) (event : PairEvent) → PairAt pair start schedule → MayCome start.hosts event
+pub may_come : (pair : Pair) (start : PairSetup) (schedule : List PairEvent) (event : PairEvent) → StandsFor pair start (course_of start schedule) → MayCome start.hosts event
     → MayCome (hosts_of pair) event
-may_come pair start schedule event at may = subst (λ (hosts : List Host). MayCome hosts event) (sym (pair_hosts pair start schedule at.stands)) may
+may_come pair start schedule event at may = subst (λ (hosts : List Host). MayCome hosts event) (sym (pair_hosts pair start schedule at)) may
 
 -- the datagrams before, and those of the parts
-pub ups_after : (pair after : Pair) (setup : PairSetup) (schedule : List PairEvent) (event : PairEvent) (parts : List Part) → PairAt pair setup schedule
-    → PairAt after setup (schedule ++ event ∷ []) → parts ≡ parts_of setup (course_of setup schedule) event → sent_up pair + sum_by ups_in parts ≡ sent_up after
-ups_after pair after setup schedule event parts at next are =
-    let course = course_of setup schedule in
-    let more = ap (λ (c : Course). length c.up) (course_of-more setup schedule event) in
-    omega (
-      arith,
-      up_at pair setup schedule at,
-      up_at after setup (schedule ++ event ∷ []) next,
-      more,
-      ups_counted setup course event,
-      ap (sum_by ups_in) are,
-    )
+pub ups_after : (pair after : Pair) (setup : PairSetup) (course : Course) (event : PairEvent) (parts : List Part) → StandsFor pair setup course
+    → StandsFor after setup (with_pair_event setup course event) → parts ≡ parts_of setup course event → sent_up pair + sum_by ups_in parts ≡ sent_up after
+ups_after pair after setup course event parts at next are = omega (
+  arith,
+  up_at pair setup course at,
+  up_at after setup (with_pair_event setup course event) next,
+  ups_counted setup course event,
+  ap (sum_by ups_in) are,
+)
 
-pub downs_after : (pair after : Pair) (setup : PairSetup) (schedule : List PairEvent) (event : PairEvent) (parts : List Part) → PairAt pair setup schedule
-    → PairAt after setup (schedule ++ event ∷ []) → parts ≡ parts_of setup (course_of setup schedule) event → sent_down pair + sum_by downs_in parts ≡ sent_down after
-downs_after pair after setup schedule event parts at next are =
-    let course = course_of setup schedule in
-    let more = ap (λ (c : Course). length c.down) (course_of-more setup schedule event) in
-    omega (
-      arith,
-      down_at pair setup schedule at,
-      down_at after setup (schedule ++ event ∷ []) next,
-      more,
-      downs_counted setup course event,
-      ap (sum_by downs_in) are,
-    )
+pub downs_after : (pair after : Pair) (setup : PairSetup) (course : Course) (event : PairEvent) (parts : List Part) → StandsFor pair setup course
+    → StandsFor after setup (with_pair_event setup course event) → parts ≡ parts_of setup course event → sent_down pair + sum_by downs_in parts ≡ sent_down after
+downs_after pair after setup course event parts at next are = omega (
+  arith,
+  down_at pair setup course at,
+  down_at after setup (with_pair_event setup course event) next,
+  downs_counted setup course event,
+  ap (sum_by downs_in) are,
+)
 
 -- the text of an event's parts is the event's
-pub text_is : (pair : Pair) (setup : PairSetup) (schedule : List PairEvent) (number up down : ℕ) (event : PairEvent) (parts : List Part) → PairAt pair setup schedule
-    → up ≡ sent_up pair → down ≡ sent_down pair → parts ≡ parts_of setup (course_of setup schedule) event
-    → parts_text number up down parts ≡ event_text setup (course_of setup schedule) number event
+pub text_is : (pair : Pair) (setup : PairSetup) (course : Course) (number up down : ℕ) (event : PairEvent) (parts : List Part) → StandsFor pair setup course
+    → up ≡ sent_up pair → down ≡ sent_down pair → parts ≡ parts_of setup course event → parts_text number up down parts ≡ event_text setup course number event
 unfolding event_text
-text_is pair setup schedule number up down event parts at up_is down_is are =
-    let is_up = up_is ∙ up_at pair setup schedule at in
-    let is_down = down_is ∙ down_at pair setup schedule at in
+text_is pair setup course number up down event parts at up_is down_is are =
+    let is_up = up_is ∙ up_at pair setup course at in
+    let is_down = down_is ∙ down_at pair setup course at in
     ap (λ (n : ℕ). parts_text number n down parts) is_up
-    ∙ (ap (λ (n : ℕ). parts_text number (length (course_of setup schedule).up) n parts) is_down
-    ∙ ap (parts_text number (length (course_of setup schedule).up) (length (course_of setup schedule).down)) are)
+    ∙ (ap (λ (n : ℕ). parts_text number (length course.up) n parts) is_down
+    ∙ ap (parts_text number (length course.up) (length course.down)) are)
 
 -- the pair after one more item
-pub one_more : (after : Pair) (up down : ℕ) (start : PairSetup) (before : List PairItem) (event : PairEvent) → PairAt after start (events_in before ++ event ∷ [])
-    → up ≡ sent_up after → down ≡ sent_down after → IsPairAfter after up down start (before ++ items.Event event ∷ [])
+pub one_more : (after : Pair) (up down : ℕ) (start : PairSetup) (before : List PairItem) (event : PairEvent)
+    → StandsFor after start (with_pair_event start (course_of start (events_in before)) event) → up ≡ sent_up after → down ≡ sent_down after
+    → IsPairAfter after up down start (before ++ items.Event event ∷ [])
 one_more after up down start before event at up_is down_is = record {
-  at = subst (PairAt after start) (sym (filter_map-append event_in before (items.Event event ∷ []))) at;
+  at = subst (λ (course : Course). StandsFor after start course)
+      (sym (ap (course_of start) (filter_map-append event_in before (items.Event event ∷ [])) ∙ course_of-more start (events_in before) event)) at;
   up_is = up_is;
   down_is = down_is;
 }
@@ -86,7 +79,8 @@ one_more after up down start before event at up_is down_is = record {
 pub shown_more : (pair : Pair) (up down : ℕ) (start : PairSetup) (before : List PairItem) → IsPairAfter pair up down start before
     → IsPairAfter pair up down start (before ++ items.Show ∷ [])
 shown_more pair up down start before at = record {
-  at = subst (PairAt pair start) (sym (filter_map-append event_in before (items.Show ∷ []) ∙ append-nil (events_in before))) at.at;
+  at = subst (λ (schedule : List PairEvent). StandsFor pair start (course_of start schedule))
+      (sym (filter_map-append event_in before (items.Show ∷ []) ∙ append-nil (events_in before))) at.at;
   up_is = at.up_is;
   down_is = at.down_is;
 }
@@ -94,9 +88,9 @@ shown_more pair up down start before at = record {
 -- no item yet
 pub at_start : (pair : Pair) (setup : PairSetup) → PairAt pair setup [] → IsPairAfter pair 0 0 setup []
 at_start pair setup at = record {
-  at = at;
-  up_is = sym (up_at pair setup [] at ∙ ap (λ (c : Course). length c.up) (course_of-none setup));
-  down_is = sym (down_at pair setup [] at ∙ ap (λ (c : Course). length c.down) (course_of-none setup));
+  at = at.stands;
+  up_is = sym (up_at pair setup (course_of setup []) at.stands ∙ ap (λ (c : Course). length c.up) (course_of-none setup));
+  down_is = sym (down_at pair setup (course_of setup []) at.stands ∙ ap (λ (c : Course). length c.down) (course_of-none setup));
 }
 
 pub on_any : {E P : Type 0} (result : Result (Unit {0}) E) → P → OnOk result P

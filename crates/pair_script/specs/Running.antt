@@ -3,9 +3,9 @@ use Rattle.std.specs.Prelude.{◌≡◌, ℕ, true, List, [], ◌∷◌, ◌++�
 use Rattle.std.specs.List.{AllByRecursion}
 use Rattle.group_records.specs.Written.{is_of_family}
 use Rattle.relay_machine.specs.Settings.{AreLawfulSettings}
-use Rattle.amt_pair.specs.Schedule.{MayCome}
+use Rattle.amt_pair.specs.Schedule.{MayCome, course_of}
 use Rattle.amt_pair.specs.Setup.{Host, PairSetup}
-use Rattle.amt_pair.specs.State.{PairAt, sent_down, sent_up}
+use Rattle.amt_pair.specs.State.{StandsFor, sent_down, sent_up}
 use Rattle.amt_pair.specs.declared.event.PairEvent.{PairEvent}
 use Rattle.amt_pair.specs.declared.pair.Pair.{Pair}
 use Rattle.pair_script.specs.Gateways.{IsNew, family_of}
@@ -36,7 +36,7 @@ pub record IsRunnable (script : PairScript) : Type 0 where
 
 -- from this start the items lead to the pair, and so many datagrams were sent to the relay and by it
 pub record IsPairAfter (pair : Pair) (up down : ℕ) (start : PairSetup) (items : List PairItem) : Type 0 where
-  pub at : PairAt pair start (events_in items)
+  pub at : StandsFor pair start (course_of start (events_in items))
   pub up_is : up ≡ sent_up pair
   pub down_is : down ≡ sent_down pair
 

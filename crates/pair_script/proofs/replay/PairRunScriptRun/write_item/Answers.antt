@@ -7,10 +7,10 @@ pub returns-in-Event-clause-begun : goal.returns-in-Event-clause-begun
 returns-in-Event-clause-begun g c = λ start before at. rw c.in-Event.is (c.write_event.ensures.begun start before at)
 
 pub returns-in-Show-clause-begun : goal.returns-in-Show-clause-begun
-returns-in-Show-clause-begun g c = λ start before at. rw c.in-Show.is (c.write_shown.ensures.begun start (course_of start (events_in before)) at.at.stands)
+returns-in-Show-clause-begun g c = λ start before at. rw c.in-Show.is (c.write_shown.ensures.begun start (course_of start (events_in before)) at.at)
 
 pub returns-in-Show-clause-done : goal.returns-in-Show-clause-done
-returns-in-Show-clause-done g c = λ start before at. rw c.in-Show.is (c.write_shown.ensures.done start (course_of start (events_in before)) at.at.stands)
+returns-in-Show-clause-done g c = λ start before at. rw c.in-Show.is (c.write_shown.ensures.done start (course_of start (events_in before)) at.at)
 
 pub returns-in-Show-clause-next : goal.returns-in-Show-clause-next
 returns-in-Show-clause-next g c = λ start before at.

@@ -1,0 +1,5 @@
+use Rattle.amt_pair.proofs.PairEvents.{pair_at_more}
+use Rattle.amt_pair.proofs.laws.steps_extend_schedules.Goals as goal
+
+pub returns : goal.returns
+returns c = pair_at_more
