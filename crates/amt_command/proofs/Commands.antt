@@ -27,7 +27,7 @@ pub one_value_of : (command : Command) → HasOneValue (work_of command)
 one_value_of (Replay Relay) = one_script relay_kind relay_kind_lawful
 one_value_of (Replay Gateway) = one_script gateway_kind gateway_kind_lawful
 one_value_of (Replay Pair) = one_script pair_kind pair_kind_lawful
-one_value_of Dump = one_dump (one_script dump_kind dump_kind_lawful)
+one_value_of Dump = one_dump
 one_value_of Vectors = report_unique
 one_value_of (Load seed count) = tt
 one_value_of (RelayServing file turns workers) = tt

@@ -1,5 +1,5 @@
 -- Lines of a dump are a lawful kind of script, and each says a datagram that UDP can carry.
-use Rattle.std.proofs.Common.{◌≡◌, ℕ, suc, ◌+◌, Bool, true, false, not, if◌then◌else◌, List, [], ◌∷◌, ◌++◌, length, refl, sym, ap, subst, ◌∙◌, inl, inr, arith}
+use Rattle.std.proofs.Common.{◌≡◌, ℕ, List, [], ◌∷◌, ◌++◌, length, refl, sym, ap, subst, ◌∙◌, inl, inr, arith}
 use Rattle.std.specs.List.{AllByRecursion}
 use Rattle.std.specs.Str.Lines.{lines}
 use Rattle.contract_words.specs.Conditions.{First}
@@ -7,12 +7,12 @@ use Rattle.script_lines.specs.declared.reason.Reason.{Reason}
 use Rattle.script_lines.specs.declared.reason.Reason.TheVariants.{Count, Hex}
 use Rattle.script_lines.specs.Form.{IsHexText, some_octets}
 use Rattle.script_lines.specs.Kind.{IsLawfulKind}
-use Rattle.script_lines.specs.Lines.{fields, lines_that_say, says_nothing}
-use Rattle.script_lines.specs.Script.{HasOneScript, Say, Spells}
+use Rattle.script_lines.specs.Lines.{lines_that_say}
+use Rattle.script_lines.specs.Script.{Say, Spells}
 use Rattle.script_lines.specs.Shape.{HasField, FailsIn}
 use Rattle.script_lines.proofs.Forms.{IsHexText-unique, hex_sized, octets_fit, one_field, one_fits}
 use Rattle.amt_dump.specs.Dump.{HasOneDump, IsDump, dump_text}
-use Rattle.amt_dump.specs.Lines.{IsDatagram, dump_kind, dump_shape, numbers_that_say}
+use Rattle.amt_dump.specs.Lines.{IsDatagram, dump_kind, dump_shape}
 
 no_statement : (one : List ℕ) (line : List (List ℕ)) (reason : Reason) → HasField [] (IsHexText one) line → FailsIn dump_shape line reason → ⊥
 no_statement one line reason says fails =
@@ -58,38 +58,8 @@ pub fails_by_digits : (first : List ℕ) (rest : List (List ℕ)) → rest ≡ [
 fails_by_digits first rest alone none =
     subst (λ (fs : List (List ℕ)). First (FailsIn dump_shape (first ∷ fs)) (Count ∷ Hex ∷ []) Hex) (sym alone) (hex_first first none)
 
-pub one_dump : HasOneScript dump_kind → HasOneDump
-one_dump unique bytes one other h k =
-    let same = unique bytes h.datagrams k.datagrams h.spelled k.spelled in
-    h.printed ∙ (ap (λ (datagrams : List (List ℕ)). dump_text (numbers_that_say 1 (lines bytes)) datagrams) same ∙ sym k.printed)
+pub one_dump : HasOneDump
+one_dump bytes one other h k = h.printed ∙ sym k.printed
 
--- a line that says something has a number, and any other has none
-one_number : (nothing : Bool) (number : ℕ) (line numbers : List ℕ) (ls : List (List ℕ)) → length numbers ≡ length ls
-    → length ((if nothing then [] else number ∷ []) ++ numbers) ≡ length (if not nothing then line ∷ ls else ls)
-one_number true number line numbers ls same = same
-one_number false number line numbers ls same = ap suc same
-
-numbers_of_lines : (number : ℕ) (ls : List (List ℕ)) → length (numbers_that_say number ls) ≡ length (lines_that_say ls)
-numbers_of_lines number [] = refl
-numbers_of_lines number (line ∷ ls) =
-    one_number (says_nothing (fields line)) number line (numbers_that_say (number + 1) ls) (lines_that_say ls) (numbers_of_lines (number + 1) ls)
-
--- a line that says something says one datagram
-datagrams_of_lines : (past said : List (List ℕ)) (ls : List (List ℕ)) → Say dump_kind past said ls → length said ≡ length ls
-datagrams_of_lines past [] [] each = refl
-datagrams_of_lines past [] (line ∷ ls) each = absurd each
-datagrams_of_lines past (one ∷ said) [] each = absurd each
-datagrams_of_lines past (one ∷ said) (line ∷ ls) each = ap suc (datagrams_of_lines (past ++ one ∷ []) said ls each.2)
-
--- so each datagram has a number
-spelled_numbered : (datagrams : List (List ℕ)) (bytes : List ℕ) → Spells dump_kind datagrams bytes
-    → length (numbers_that_say 1 (lines bytes)) ≡ length datagrams
-spelled_numbered datagrams bytes spelled =
-    numbers_of_lines 1 (lines bytes)
-    ∙ (sym (datagrams_of_lines [] spelled.said (lines_that_say (lines bytes)) spelled.all_lines.says)
-    ∙ ap (λ (ds : List (List ℕ)). length ds) (sym spelled.made))
-
-pub has_text : (text bytes : List ℕ) (datagrams : List (List ℕ)) → Spells dump_kind datagrams bytes
-    → text ≡ dump_text (numbers_that_say 1 (lines bytes)) datagrams → IsDump text bytes
-has_text text bytes datagrams spelled printed =
-    record { datagrams = datagrams; spelled = spelled; numbered = spelled_numbered datagrams bytes spelled; printed = printed }
+pub has_text : (text bytes : List ℕ) (datagrams : List (List ℕ)) → Spells dump_kind datagrams bytes → text ≡ dump_text 1 (lines bytes) → IsDump text bytes
+has_text text bytes datagrams spelled printed = record { datagrams = datagrams; spelled = spelled; printed = printed }

@@ -1,23 +1,32 @@
 -- The text of lines of datagrams.
-use Rattle.std.specs.Prelude.{◌≡◌, ℕ, List, [], ◌∷◌, ◌++◌, length}
+use Rattle.std.specs.Prelude.{◌≡◌, ℕ, ◌+◌, List, [], ◌∷◌, ◌++◌, if◌then◌else◌}
+use Rattle.std.specs.Result.{result_unwrap_or}
 use Rattle.std.specs.Str.Lines.{lines}
+use Rattle.hex.specs.Hex.{decode_of}
+use Rattle.script_lines.specs.Lines.{fields, says_nothing}
 use Rattle.script_lines.specs.Script.{Spells}
-use Rattle.amt_dump.specs.Lines.{dump_kind, numbers_that_say}
+use Rattle.amt_dump.specs.Lines.{dump_kind}
 use Rattle.amt_dump.specs.Texts.{datagram_lines}
 
--- these datagrams, each with the number of its line
-abbrev pub dump_text : List ℕ → List (List ℕ) → List ℕ
-dump_text [] datagrams = []
-dump_text (number ∷ numbers) [] = []
-dump_text (number ∷ numbers) (datagram ∷ datagrams) = datagram_lines number datagram ++ dump_text numbers datagrams
+-- the octets that the one field of a line encodes; a dash encodes none
+abbrev pub datagram_in : List (List ℕ) → List ℕ
+datagram_in [] = []
+datagram_in (field ∷ more) = result_unwrap_or (decode_of field) []
 
--- the bytes spell datagrams line by line, each has the number of a line, and this is their text; lines are counted
--- from 1, skipped ones too
+-- the text of the line of this number: its datagram's, or none where the line says nothing
+abbrev pub line_text : ℕ → List ℕ → List ℕ
+line_text number line = if says_nothing (fields line) then [] else datagram_lines number (datagram_in (fields line))
+
+-- the text of lines, of which the first has this number
+abbrev pub dump_text : ℕ → List (List ℕ) → List ℕ
+dump_text number [] = []
+dump_text number (line ∷ ls) = line_text number line ++ dump_text (number + 1) ls
+
+-- the bytes spell datagrams line by line, and this is their text; lines are counted from 1, skipped ones too
 pub record IsDump (text bytes : List ℕ) : Type 0 where
   pub datagrams : List (List ℕ)
   pub spelled : Spells dump_kind datagrams bytes
-  pub numbered : length (numbers_that_say 1 (lines bytes)) ≡ length datagrams
-  pub printed : text ≡ dump_text (numbers_that_say 1 (lines bytes)) datagrams
+  pub printed : text ≡ dump_text 1 (lines bytes)
 
 -- no bytes have two texts
 abbrev pub HasOneDump : Type 0

@@ -1,11 +1,12 @@
 //! The text of lines of hexadecimal digits. It must not know what a datagram says.
 
-ghost use Rattle.std.specs.Prelude.{◌≡◌, ◌≤◌, ◌++◌, length, IfOk, IfErr, OnOk};
-ghost use Rattle.std.specs.List.{AllByRecursion};
+ghost use Rattle.std.specs.Prelude.{◌≡◌, ◌≤◌, ◌++◌, flat_map, length, IfOk, IfErr, OnOk};
+ghost use Rattle.std.specs.List.{AllByRecursion, zip};
 ghost use Rattle.std.specs.Str.Lines.{lines};
-ghost use Rattle.script_lines.specs.Script.{IsErrorOf, RulesOutScripts, HasOneFault};
+ghost use Rattle.script_lines.specs.Script.{Spells, IsErrorOf, RulesOutScripts, HasOneFault};
 ghost use Rattle.amt_dump.specs.Dump.{HasOneDump, IsDump, dump_text};
-ghost use Rattle.amt_dump.specs.Lines.{IsDatagram, dump_kind, numbers_that_say};
+ghost use Rattle.amt_dump.specs.Lines.{IsDatagram, dump_kind};
+ghost use Rattle.amt_dump.specs.Texts.{datagram_lines};
 
 use crate::datagram_text::append_datagram;
 use crate::datagrams::read_datagrams;
@@ -22,7 +23,8 @@ fn append_datagrams(
     datagrams: &[Bytes],
 ) -> Result<(), AllocError>
     requires { AllByRecursion IsDatagram datagrams.now }
-    ensures { OnOk result (text.new ≡ text.old ++ dump_text numbers.now datagrams.now) }
+    ensures { OnOk result (text.new
+        ≡ text.old ++ flat_map (λ one. datagram_lines one.0 one.1) (zip numbers.now datagrams.now)) }
 {
     let mut left = datagrams;
     for number in numbers {
@@ -37,9 +39,9 @@ fn append_datagrams(
 
 fn print_datagrams(alloc: Global, bytes: &[u8], datagrams: &[Bytes]) -> Result<Bytes, AllocError>
     requires few { length bytes.now ≤ 16777216 }
+    requires spelled { Spells dump_kind datagrams.now bytes.now }
     requires sized { AllByRecursion IsDatagram datagrams.now }
-    ensures { IfOk result (λ text.
-        text ≡ dump_text (numbers_that_say 1 (lines bytes.now)) datagrams.now) }
+    ensures { IfOk result (λ text. text ≡ dump_text 1 (lines bytes.now)) }
 {
     let numbers = numbers_that_say(alloc, bytes)?;
     let mut text = Bytes::new(alloc);
