@@ -20,11 +20,10 @@ mod socket_line;
 mod statement;
 mod text;
 
-pub use kind::LineKind;
 pub use outcome_text::append_gateway_outcome;
 pub use reading::read_gateway_script;
 pub use replay::run_gateway_script;
 pub use script::{GatewayItems, GatewayScript};
 pub use script_lines::{Reason, RunFault, ScriptError};
 pub use socket_line::{read_socket_call, read_socket_line};
-pub use text::{append_delivery, print_gateway_step};
+pub use text::append_delivery;

@@ -1,6 +1,6 @@
 //! The texts of what an event came to. It knows no step.
 
-ghost use Rattle.std.specs.Prelude.{◌≡◌, ◌++◌, decimal, OnOk};
+ghost use Rattle.std.specs.Prelude.{◌≡◌, ◌++◌, decimal, OnOk, OnErr};
 ghost use Rattle.gateway_machine.specs.declared.outcome.Ignored.TheVariants.{Nonce as NonceCause};
 ghost use Rattle.gateway_script.specs.Texts.{ignored_text, outcome_text, socket_refusal_text};
 
@@ -8,7 +8,7 @@ use amt_values::Bytes;
 use fault_texts::{append_head_fault, append_inner_fault, append_refusal, append_report_fault};
 use gateway_machine::{GatewayOutcome, Ignored, SocketRefusal};
 use script_lines::{append_nonce, append_numbered};
-use std::alloc::AllocError;
+use std::alloc::{AllocError, Global};
 
 fn append_socket_refusal(text: &mut Bytes, refusal: SocketRefusal) -> Result<(), AllocError>
     ensures { OnOk result (text.new ≡ text.old ++ socket_refusal_text refusal) }
@@ -66,8 +66,7 @@ fn append_ignored(text: &mut Bytes, cause: &Ignored) -> Result<(), AllocError>
     }
 }
 
-/// Puts what an event came to at the end.
-pub fn append_gateway_outcome(text: &mut Bytes, outcome: &GatewayOutcome) -> Result<(), AllocError>
+fn append_outcome(text: &mut Bytes, outcome: &GatewayOutcome) -> Result<(), AllocError>
     ensures { OnOk result (text.new ≡ text.old ++ outcome_text outcome.now) }
 {
     match *outcome {
@@ -95,4 +94,19 @@ pub fn append_gateway_outcome(text: &mut Bytes, outcome: &GatewayOutcome) -> Res
             append_ignored(text, &cause)
         }
     }
+}
+
+/// Puts what an event came to at the end. The words are made apart, so that no part of them stands there
+/// where memory runs out: a printer that fails doesn't say what it has put.
+pub fn append_gateway_outcome(
+    alloc: Global,
+    text: &mut Bytes,
+    outcome: &GatewayOutcome,
+) -> Result<(), AllocError>
+    ensures ok { OnOk result (text.new ≡ text.old ++ outcome_text outcome.now) }
+    ensures err { OnErr result (text.new ≡ text.old) }
+{
+    let mut words = Bytes::new(alloc);
+    append_outcome(&mut words, outcome)?;
+    text.append(words.as_slice())
 }

@@ -43,7 +43,7 @@ fn write_step<O: Sink>(
     let Ok(step) = gateway.step(alloc, event) else {
         return Err(RunFault::Memory);
     };
-    let Ok(()) = append_gateway_step(held, number, &step) else {
+    let Ok(()) = append_gateway_step(alloc, held, number, &step) else {
         return Err(RunFault::Memory);
     };
     write_where_full(held, out)

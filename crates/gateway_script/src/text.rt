@@ -1,6 +1,6 @@
 //! The text of a gateway's step. It knows no script and no sink.
 
-ghost use Rattle.std.specs.Prelude.{◌≡◌, ◌++◌, flat_map, OnOk, IfOk};
+ghost use Rattle.std.specs.Prelude.{◌≡◌, ◌++◌, flat_map, Some, OnOk, OnErr};
 ghost use Rattle.gateway_script.specs.Texts.{answer_line, delivery_text, send_text, step_text};
 
 use crate::outcome_text::append_gateway_outcome;
@@ -9,26 +9,46 @@ use gateway_machine::{GatewayOutcome, GatewayStep, PeerSend};
 use script_lines::{append_hex, append_send};
 use std::alloc::{AllocError, Global};
 
-/// Puts the line of a packet at the end, where one was handed on.
-pub fn append_delivery(text: &mut Bytes, deliver: &Option<Bytes>) -> Result<(), AllocError>
-    ensures { OnOk result (text.new ≡ text.old ++ delivery_text deliver.now) }
+// The line of a packet.
+fn append_packet(text: &mut Bytes, packet: &[u8]) -> Result<(), AllocError>
+    ensures { OnOk result (text.new ≡ text.old ++ delivery_text (Some packet.now)) }
+{
+    text.append(b"^ ")?;
+    append_hex(text, packet)?;
+    text.append(b"\n")
+}
+
+/// Puts the line of a packet at the end, where one was handed on. It is made apart, so that no part of it
+/// stands there where memory runs out.
+pub fn append_delivery(
+    alloc: Global,
+    text: &mut Bytes,
+    deliver: &Option<Bytes>,
+) -> Result<(), AllocError>
+    ensures ok { OnOk result (text.new ≡ text.old ++ delivery_text deliver.now) }
+    ensures err { OnErr result (text.new ≡ text.old) }
 {
     let Some(packet) = deliver else {
         return Ok(());
     };
-    text.append(b"^ ")?;
-    append_hex(text, packet.as_slice())?;
-    text.append(b"\n")
+    let mut line = Bytes::new(alloc);
+    append_packet(&mut line, packet.as_slice())?;
+    text.append(line.as_slice())
 }
 
 // `= N OUTCOME`.
-fn append_answer(text: &mut Bytes, number: u64, outcome: &GatewayOutcome) -> Result<(), AllocError>
+fn append_answer(
+    alloc: Global,
+    text: &mut Bytes,
+    number: u64,
+    outcome: &GatewayOutcome,
+) -> Result<(), AllocError>
     ensures { OnOk result (text.new ≡ text.old ++ answer_line number outcome.now) }
 {
     text.append(b"= ")?;
     append_numeral(text, number)?;
     text.append(b" ")?;
-    append_gateway_outcome(text, outcome)?;
+    append_gateway_outcome(alloc, text, outcome)?;
     text.append(b"\n")
 }
 
@@ -45,6 +65,7 @@ fn append_sends(text: &mut Bytes, sends: &[PeerSend]) -> Result<(), AllocError>
 /// packet that was handed on.
 #[tactic(auto, unfolding(crate::specs::Texts::step_text))]
 pub fn append_gateway_step(
+    alloc: Global,
     text: &mut Bytes,
     number: u64,
     step: &GatewayStep,
@@ -52,21 +73,7 @@ pub fn append_gateway_step(
     ensures { OnOk result (text.new
         ≡ text.old ++ step_text number step.now.outcome step.now.sends step.now.deliver) }
 {
-    append_answer(text, number, &step.outcome)?;
+    append_answer(alloc, text, number, &step.outcome)?;
     append_sends(text, step.sends.as_slice())?;
-    append_delivery(text, &step.deliver)
-}
-
-/// The lines of one step.
-pub fn print_gateway_step(
-    alloc: Global,
-    number: u64,
-    step: &GatewayStep,
-) -> Result<Bytes, AllocError>
-    ensures { IfOk result (λ text.
-        text ≡ step_text number step.now.outcome step.now.sends step.now.deliver) }
-{
-    let mut text = Bytes::new(alloc);
-    append_gateway_step(&mut text, number, step)?;
-    Ok(text)
+    append_delivery(alloc, text, &step.deliver)
 }

@@ -59,7 +59,14 @@ impl PairRun {
         if step.starved {
             return Err(AllocError);
         }
-        append_parts(held, number, self.up, self.down, step.parts.as_slice())?;
+        append_parts(
+            alloc,
+            held,
+            number,
+            self.up,
+            self.down,
+            step.parts.as_slice(),
+        )?;
         self.up = step.up;
         self.down = step.down;
         Ok(())

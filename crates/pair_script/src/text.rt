@@ -11,7 +11,7 @@ use gateway_machine::{GatewayStep, PeerSend};
 use gateway_script::{append_delivery, append_gateway_outcome};
 use relay_machine::{OneSend, Step};
 use script_lines::{append_hex, append_numbered, append_peer};
-use std::alloc::AllocError;
+use std::alloc::{AllocError, Global};
 
 // `= N WHO `, with the space.
 fn append_who(text: &mut Bytes, number: u64, who: &[u8]) -> Result<(), AllocError>
@@ -89,6 +89,7 @@ fn append_relay_part(
 }
 
 fn append_gateway_part(
+    alloc: Global,
     text: &mut Bytes,
     number: u64,
     up: u64,
@@ -99,10 +100,10 @@ fn append_gateway_part(
     ensures { OnOk result (text.new ≡ text.old ++ part_text number up 0 (GatewayPart name.now step.now)) }
 {
     append_who(text, number, name)?;
-    append_gateway_outcome(text, &step.outcome)?;
+    append_gateway_outcome(alloc, text, &step.outcome)?;
     text.append(b"\n")?;
     append_ups(text, up, step.sends.as_slice())?;
-    append_delivery(text, &step.deliver)
+    append_delivery(alloc, text, &step.deliver)
 }
 
 fn append_absent(text: &mut Bytes, number: u64, datagram: u64) -> Result<(), AllocError>
@@ -134,6 +135,7 @@ fn downs_in(part: &Part) -> u64
 }
 
 fn append_part(
+    alloc: Global,
     text: &mut Bytes,
     number: u64,
     up: u64,
@@ -147,7 +149,7 @@ fn append_part(
     match part {
         Part::Relay(step) => append_relay_part(text, number, down, step),
         Part::Gateway { name, step } => {
-            append_gateway_part(text, number, up, name.as_slice(), step)
+            append_gateway_part(alloc, text, number, up, name.as_slice(), step)
         }
         Part::Absent(datagram) => append_absent(text, number, *datagram),
     }
@@ -156,6 +158,7 @@ fn append_part(
 /// Puts the lines of the parts of an event of this number at the end, where so many datagrams were sent to
 /// the relay and by it before.
 pub fn append_parts(
+    alloc: Global,
     text: &mut Bytes,
     number: u64,
     up: u64,
@@ -169,7 +172,7 @@ pub fn append_parts(
     let mut sent_up = up;
     let mut sent_down = down;
     for part in parts {
-        append_part(text, number, sent_up, sent_down, part)?;
+        append_part(alloc, text, number, sent_up, sent_down, part)?;
         sent_up += ups_in(part);
         sent_down += downs_in(part);
     }

@@ -1,18 +1,12 @@
-//! Calls that no script shows: what a gateway is about and what it wants, and a step as text. It must not know how
-//! they are made.
+//! Calls that no script shows: what a gateway is about and what it wants. It must not know how they are made.
 
 ghost use Rattle.std.specs.Prelude.{◌≡◌, ◌≤◌, false, length, IfOk};
 ghost use Rattle.gateway_machine.specs.Events.{IsEventOf};
 ghost use Rattle.gateway_machine.specs.Runs.{settings_of};
 ghost use Rattle.gateway_machine.specs.declared.settings.GatewaySettings.{GatewaySettings as SettingsValue};
 
-use crate::memory::is_out_of_memory;
 use amt_values::{Bytes, Ip, Moment, Peer};
-use gateway_machine::{
-    Gateway, GatewayEvent, GatewayOutcome, GatewaySettings, GatewayState, GatewayStep, PeerSend,
-    PeerSends,
-};
-use gateway_script::print_gateway_step;
+use gateway_machine::{Gateway, GatewayEvent, GatewaySettings, GatewayState};
 use source_filter::{Filter, Mode};
 use std::alloc::{AllocError, Global};
 use std::process::Abort;
@@ -144,29 +138,4 @@ fn has_no_cell<T: Sync>() {}
 #[test]
 fn a_gateway_has_no_cell(_rt: HostRuntime) {
     has_no_cell::<Gateway>();
-}
-
-fn step_text(alloc: Global) -> Result<Bytes, AllocError> {
-    let mut sends = PeerSends::new(alloc);
-    let bytes = Bytes::copied(alloc, b"\x0a\xff")?;
-    sends.push(PeerSend { to: RELAY, bytes })?;
-    let step = GatewayStep {
-        outcome: GatewayOutcome::Requesting(255),
-        sends,
-        deliver: Some(Bytes::copied(alloc, b"\x45")?),
-    };
-    print_gateway_step(alloc, 7, &step)
-}
-
-fn is_printed(rt: &impl Abort, printed: Result<Bytes, AllocError>, text: &str) {
-    match printed {
-        Ok(printed) => assert_eq!(rt; printed.as_slice(), text.as_bytes()),
-        Err(_) => is_out_of_memory(rt, text),
-    }
-}
-
-#[test]
-fn a_gateways_step_has_its_number_its_sends_and_its_packet(rt: HostRuntime) {
-    let text = "= 7 requesting 255\n> 192.0.2.1:2268 0aff\n^ 45\n";
-    is_printed(&rt, step_text(rt.alloc()), text);
 }

@@ -1,4 +1,4 @@
-use Rattle.gateway_script.proofs.outcome_text.append_gateway_outcome.Goals as goal
+use Rattle.gateway_script.proofs.outcome_text.append_outcome.Goals as goal
 
 pub returns-in-Discovering : goal.returns-in-Discovering
 returns-in-Discovering c = rw (c.in-Discovering.is, ← c.from.ensures) c.append_numbered.ensures
