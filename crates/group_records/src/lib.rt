@@ -11,6 +11,7 @@
 mod code;
 mod family;
 mod general;
+mod laws;
 mod query;
 mod record;
 mod report;
@@ -19,6 +20,7 @@ mod writing;
 pub use code::{code_value, value_code};
 pub use family::Family;
 pub use general::write_query;
+pub use laws::payloads_are_read_as_their_reports;
 pub use query::read_query;
 pub use report::read_report;
 pub use writing::{ITEM_LIMIT, REPORT_LIMIT, report_length, write_report};

@@ -1,13 +1,13 @@
 //! A membership report is read here. It must not know the datagram that carries it.
 
-ghost use Rattle.std.specs.Prelude.{◌≡◌, ◌↔◌, ◌≤◌, ◌%◌, [], ◌∷◌, List, length, IfOk, Ok, Err, MatchResult, None, Some, true};
+ghost use Rattle.std.specs.Prelude.{◌≡◌, ◌≤◌, ◌%◌, [], ◌∷◌, List, length, IfOk, Ok, Err, MatchResult, None, Some, true};
 ghost use Rattle.contract_words.specs.Answer.{Tells};
 ghost use Rattle.contract_words.specs.Conditions.{first_holding};
 ghost use Rattle.source_filter.specs.Record.{item_count};
 ghost use Rattle.source_filter.specs.declared.record.Record.{Record as RecordValue};
 ghost use Rattle.source_filter.specs.declared.fault.ReadFault.TheVariants.{Memory};
 ghost use Rattle.source_filter.specs.declared.fault.ReportFault.{ReportFault as ReportFaultValue};
-ghost use Rattle.group_records.specs.Report.{IsReport, IsSomeReport};
+ghost use Rattle.group_records.specs.Report.{IsReport};
 ghost use Rattle.group_records.specs.Reading.{AsksMemory, GivesRecords, asks_memory, report_fault_in, first_report_fault, kind_faults, records_reading, report_head_faults, report_of, wrong_sum};
 
 use crate::family::{Family, is_old_report, report_type};
@@ -139,17 +139,6 @@ pub fn read_report(
     ensures only { (records : List RecordValue)
         → IsReport family pseudo_header.now records payload.now
         → GivesRecords result (Ok records) }
-    ensures one { (records others : List RecordValue)
-        → IsReport family pseudo_header.now records payload.now
-        → IsReport family pseudo_header.now others payload.now
-        → records ≡ others }
-
-    // Of every payload, whatever is answered: also where memory ran out.
-    ensures spelled { (first_report_fault family pseudo_header.now payload.now ≡ None)
-        ↔ IsSomeReport family pseudo_header.now payload.now }
-    ensures reading { (records : List RecordValue)
-        → (report_of family pseudo_header.now payload.now ≡ Ok records)
-        ↔ IsReport family pseudo_header.now records payload.now }
 
     ensures refused { MatchResult result
         (λ _. first_report_fault family pseudo_header.now payload.now ≡ None)

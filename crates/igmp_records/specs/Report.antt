@@ -3,17 +3,13 @@ use Rattle.std.specs.Prelude.{ℕ, List, [], All, Option, Result}
 use Rattle.source_filter.specs.declared.record.Record.{Record}
 use Rattle.source_filter.specs.declared.fault.ReportFault.{ReportFault}
 use Rattle.group_records.specs.declared.family.Family.TheVariants.{V4}
-use Rattle.group_records.specs.Report.{IsReport, IsSomeReport}
+use Rattle.group_records.specs.Report.{IsReport}
 use Rattle.group_records.specs.Reading.{AsksMemory, first_report_fault, report_of}
 use Rattle.group_records.specs.Written.{IsOfFamily, report_length, written_report}
 
 -- a report of these records
 abbrev pub IsReport4 : List Record → List ℕ → Type 0
 IsReport4 records payload = IsReport V4 [] records payload
-
--- a report of some records
-abbrev pub IsSomeReport4 : List ℕ → Type 0
-IsSomeReport4 payload = IsSomeReport V4 [] payload
 
 -- the first fault of a payload, if any
 abbrev pub first_report_fault4 : List ℕ → Option ReportFault

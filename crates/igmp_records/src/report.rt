@@ -1,13 +1,13 @@
 //! Reports of IGMPv3, both ways. It must not know their layout or MLD.
 
-ghost use Rattle.std.specs.Prelude.{◌≡◌, ◌↔◌, ◌≤◌, List, length, IfOk, Ok, Err, MatchResult, None, Some};
+ghost use Rattle.std.specs.Prelude.{◌≡◌, ◌≤◌, List, length, IfOk, Ok, Err, MatchResult, None, Some};
 ghost use Rattle.source_filter.specs.Record.{item_count};
 ghost use Rattle.source_filter.specs.declared.record.Record.{Record as RecordValue};
 ghost use Rattle.source_filter.specs.declared.fault.ReadFault.TheVariants.{Memory};
 ghost use Rattle.source_filter.specs.declared.fault.ReportFault.{ReportFault as ReportFaultValue};
 ghost use Rattle.contract_words.specs.Answer.{Tells};
 ghost use Rattle.group_records.specs.Reading.{GivesRecords, report_fault_in};
-ghost use Rattle.igmp_records.specs.Report.{AreRecords4, AsksMemory4, IsReport4, IsSomeReport4, first_report_fault4, report4_of, report_length4, written_report4};
+ghost use Rattle.igmp_records.specs.Report.{AreRecords4, AsksMemory4, IsReport4, first_report_fault4, report4_of, report_length4, written_report4};
 
 use amt_values::{Bytes, INPUT_LIMIT};
 use group_records::{Family, REPORT_LIMIT, read_report, write_report};
@@ -25,13 +25,6 @@ pub fn read_report4(alloc: Global, payload: &[u8]) -> Result<Records, ReadFault>
     ensures found { IfOk result (λ records. IsReport4 records payload.now) }
     ensures only { (records : List RecordValue) → IsReport4 records payload.now
         → GivesRecords result (Ok records) }
-    ensures one { (records others : List RecordValue) → IsReport4 records payload.now
-        → IsReport4 others payload.now → records ≡ others }
-
-    // Of every payload, whatever is answered: also where memory ran out.
-    ensures spelled { (first_report_fault4 payload.now ≡ None) ↔ IsSomeReport4 payload.now }
-    ensures reading { (records : List RecordValue)
-        → (report4_of payload.now ≡ Ok records) ↔ IsReport4 records payload.now }
 
     ensures refused { MatchResult result
         (λ _. first_report_fault4 payload.now ≡ None)

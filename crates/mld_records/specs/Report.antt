@@ -3,7 +3,7 @@ use Rattle.std.specs.Prelude.{ℕ, List, length, All, Option, Result}
 use Rattle.source_filter.specs.declared.record.Record.{Record}
 use Rattle.source_filter.specs.declared.fault.ReportFault.{ReportFault}
 use Rattle.group_records.specs.declared.family.Family.TheVariants.{V6}
-use Rattle.group_records.specs.Report.{IsReport, IsSomeReport}
+use Rattle.group_records.specs.Report.{IsReport}
 use Rattle.group_records.specs.Reading.{AsksMemory, first_report_fault, report_of}
 use Rattle.group_records.specs.Written.{IsOfFamily, report_length, written_report}
 use Rattle.mld_records.specs.PseudoHeader.{pseudo_header}
@@ -12,11 +12,6 @@ use Rattle.mld_records.specs.PseudoHeader.{pseudo_header}
 abbrev pub IsReport6 : ℕ → ℕ → List Record → List ℕ → Type 0
 IsReport6 source destination records payload =
     IsReport V6 (pseudo_header source destination (length payload)) records payload
-
--- a report of some records
-abbrev pub IsSomeReport6 : ℕ → ℕ → List ℕ → Type 0
-IsSomeReport6 source destination payload =
-    IsSomeReport V6 (pseudo_header source destination (length payload)) payload
 
 -- the first fault of a payload, if any
 abbrev pub first_report_fault6 : ℕ → ℕ → List ℕ → Option ReportFault

@@ -1,13 +1,13 @@
 //! Reports of MLDv2, both ways. It must not know their layout or IGMP.
 
-ghost use Rattle.std.specs.Prelude.{◌≡◌, ◌↔◌, ◌≤◌, List, length, IfOk, Ok, Err, MatchResult, None, Some};
+ghost use Rattle.std.specs.Prelude.{◌≡◌, ◌≤◌, List, length, IfOk, Ok, Err, MatchResult, None, Some};
 ghost use Rattle.source_filter.specs.Record.{item_count};
 ghost use Rattle.source_filter.specs.declared.record.Record.{Record as RecordValue};
 ghost use Rattle.source_filter.specs.declared.fault.ReadFault.TheVariants.{Memory};
 ghost use Rattle.source_filter.specs.declared.fault.ReportFault.{ReportFault as ReportFaultValue};
 ghost use Rattle.contract_words.specs.Answer.{Tells};
 ghost use Rattle.group_records.specs.Reading.{GivesRecords, report_fault_in};
-ghost use Rattle.mld_records.specs.Report.{AreRecords6, AsksMemory6, IsReport6, IsSomeReport6, first_report_fault6, report6_of, report_length6, written_report6};
+ghost use Rattle.mld_records.specs.Report.{AreRecords6, AsksMemory6, IsReport6, first_report_fault6, report6_of, report_length6, written_report6};
 
 use crate::header::pseudo_header;
 use amt_values::{Bytes, INPUT_LIMIT};
@@ -33,17 +33,6 @@ pub fn read_report6(
     ensures only { (records : List RecordValue)
         → IsReport6 source destination records payload.now
         → GivesRecords result (Ok records) }
-    ensures one { (records others : List RecordValue)
-        → IsReport6 source destination records payload.now
-        → IsReport6 source destination others payload.now
-        → records ≡ others }
-
-    // Of every payload, whatever is answered: also where memory ran out.
-    ensures spelled { (first_report_fault6 source destination payload.now ≡ None)
-        ↔ IsSomeReport6 source destination payload.now }
-    ensures reading { (records : List RecordValue)
-        → (report6_of source destination payload.now ≡ Ok records)
-        ↔ IsReport6 source destination records payload.now }
 
     ensures refused { MatchResult result
         (λ _. first_report_fault6 source destination payload.now ≡ None)

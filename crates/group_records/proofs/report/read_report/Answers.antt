@@ -1,6 +1,6 @@
 use Rattle.std.proofs.Common.{rules}
 use Rattle.amt_values.specs.Octets.{AreOctets}
-use Rattle.group_records.proofs.ReportReadings.{answer_fault, answer_found, answer_only, answer_refused, first_report_fault-none, report_of-report, IsReport_once}
+use Rattle.group_records.proofs.ReportReadings.{answer_fault, answer_found, answer_only, answer_refused}
 use Rattle.group_records.proofs.ItemCounts.{answer_few}
 use Rattle.group_records.proofs.report.read_report.Goals as goal
 
@@ -11,19 +11,6 @@ returns-clause-found c =
 
 pub returns-clause-only : goal.returns-clause-only
 returns-clause-only c = answer_only c.args.family c.args.pseudo_header.now c.args.payload.now c.read.result c.read.ensures.value
-
-pub returns-clause-one : goal.returns-clause-one
-returns-clause-one c = IsReport_once c.args.family c.args.pseudo_header.now c.args.payload.now
-
-pub returns-clause-spelled : goal.returns-clause-spelled
-returns-clause-spelled c =
-    let small : AreOctets c.args.payload.now = search rules in
-    first_report_fault-none c.args.family c.args.pseudo_header.now c.args.payload.now small
-
-pub returns-clause-reading : goal.returns-clause-reading
-returns-clause-reading c =
-    let small : AreOctets c.args.payload.now = search rules in
-    report_of-report c.args.family c.args.pseudo_header.now c.args.payload.now small
 
 pub returns-clause-refused : goal.returns-clause-refused
 returns-clause-refused c = answer_refused c.args.family c.args.pseudo_header.now c.args.payload.now c.read.result c.read.ensures.value
