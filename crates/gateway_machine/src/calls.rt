@@ -1,8 +1,9 @@
 //! What socket calls come to. A call is made on a copy of the sockets, which takes their place where the
 //! reply is whole. It must not know datagrams.
 
-ghost use Rattle.std.specs.Prelude.{◌≡◌, ◌≤◌, true, length, IfOk};
+ghost use Rattle.std.specs.Prelude.{◌≡◌, ℕ, ◌≤◌, true, length, All, IfOk};
 ghost use Rattle.amt_values.specs.Group.{is_forwardable};
+ghost use Rattle.group_records.specs.Written.{IsOfFamily};
 ghost use Rattle.socket_merge.specs.History.{Change, Close, LeaveAll, Open, SocketCall, with_call};
 ghost use Rattle.socket_merge.specs.Sockets.{AreOfGroup, AreOfSocket, ForHistory, SocketsHold};
 ghost use Rattle.socket_merge.specs.Changes.{change_records};
@@ -23,7 +24,7 @@ use crate::step::PeerSends;
 use amt_values::{Ip, Moment};
 use group_records::ITEM_LIMIT;
 use socket_merge::{SocketFault, Sockets};
-use source_filter::Filter;
+use source_filter::{Filter, Records};
 use std::alloc::{AllocError, Global};
 
 /// Why no sockets came of a call.
@@ -123,6 +124,21 @@ pub fn leave_all(alloc: Global, sockets: &Sockets, at: &Moment) -> Result<Socket
     Ok(after)
 }
 
+// The records of what a call changed, from the sockets before it to those after it.
+fn call_changes(
+    alloc: Global,
+    settings: &GatewaySettings,
+    before: &Sockets,
+    after: &Sockets,
+) -> Result<Records, AllocError>
+    ensures records { ForHistory before.now (λ history. (at : ℕ) (call : SocketCall)
+        → SocketsHold after.now (with_call at call history) → IfOk result (λ records.
+        records ≡ change_records (family_by settings.now.v6) history (with_call at call history))) }
+    ensures family { IfOk result (All (IsOfFamily (family_by settings.now.v6))) }
+{
+    after.changes_since(alloc, before, settings.v6)
+}
+
 // What a call comes to in state Active: what it changed is reported.
 fn report_changes(
     alloc: Global,
@@ -140,7 +156,7 @@ fn report_changes(
         (change_records (family_by settings.now.v6) history (with_call exchange.now.moment call history))))) }
     ensures short { IfOk result (λ reply. AreShort reply.step.sends) }
 {
-    let changes = after.changes_since(alloc, before, settings.v6)?;
+    let changes = call_changes(alloc, settings, before, after)?;
     if changes.len() == 0 {
         return Ok(Reply::quiet(alloc, GatewayOutcome::Kept, *exchange));
     }

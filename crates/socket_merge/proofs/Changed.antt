@@ -1,18 +1,17 @@
--- The change records by the tallies: which groups give one, and whose they are.
-use Rattle.std.proofs.Common.{◌≡◌, ℕ, ◌+◌, ◌≤◌, Bool, true, false, not, cond, ltb, List, [], ◌∷◌, ◌++◌, Option, Some, None, refl, sym, ap, ◌∙◌, arith}
+-- The change records from some sockets to others: those of calls, and whose they are.
+use Rattle.std.proofs.Common.{◌≡◌, ℕ, ◌+◌, ◌≤◌, ◌<◌, Bool, true, false, not, ◌||◌, cond, ltb, List, [], ◌∷◌, ◌++◌, filter, length, map, refl, sym, ap, subst, ◌∙◌, arith}
 use Rattle.std.specs.List.{All, flat_map}
-use Rattle.std.specs.Map.{keys_of}
-use Rattle.std.proofs.lemmas.List.{append-nil}
-use Rattle.std.proofs.lemmas.List.Concat.{flat_map-append}
-use Rattle.std.proofs.lemmas.List.Elements.{All-append, All-cons, All-filter, All-head, All-nil, All-tail}
+use Rattle.std.proofs.lemmas.Bool.{ltb-false}
+use Rattle.std.proofs.lemmas.List.Elements.{All-append, All-cons, All-filter, All-head, All-map, All-nil, All-tail}
+use Rattle.std.proofs.lemmas.List.Sums.{sum_by-append, sum_by-cons}
 use Rattle.amt_values.specs.declared.address.Ip.{Ip}
 use Rattle.amt_values.specs.Group.{is_forwardable}
 use Rattle.amt_values.specs.Order.{ip_order}
 use Rattle.amt_values.proofs.Orders.{ip_order-total}
 use Rattle.contract_words.specs.Ascending.{ascending, difference, has}
-use Rattle.contract_words.proofs.AscendingLaws.{IsAscending-ascending, has-ascending}
+use Rattle.contract_words.proofs.AscendingLaws.{IsAscending-ascending, has-append, has-ascending}
 use Rattle.source_filter.specs.Changes.{changes_by, changes_on, record_of_some}
-use Rattle.source_filter.specs.Filter.{FilterValue, wants_any, wants_any_by}
+use Rattle.source_filter.specs.Filter.{FilterValue}
 use Rattle.source_filter.specs.Merging.{merged}
 use Rattle.source_filter.specs.declared.mode.Mode.{Mode}
 use Rattle.source_filter.specs.declared.mode.Mode.TheVariants.{Include, Exclude}
@@ -21,125 +20,134 @@ use Rattle.source_filter.specs.declared.record.RecordKind.{RecordKind}
 use Rattle.source_filter.specs.declared.record.RecordKind.TheVariants.{ToIn, ToEx, Allow, Block}
 use Rattle.group_records.specs.Written.{IsOfFamily, is_of_family}
 use Rattle.group_records.specs.declared.family.Family.{Family}
-use Rattle.socket_merge.specs.Changes.{change_records}
-use Rattle.socket_merge.specs.FullReport.{longest_farewell}
-use Rattle.socket_merge.specs.History.{AcceptedCall, Socket, groups_opened, open_sockets}
-use Rattle.socket_merge.specs.Interface.{filters_on, interface, is_wanted, left_at}
-use Rattle.socket_merge.specs.Kept.{AreNeeded, IsConsistent, is_blank, tally_at}
-use Rattle.socket_merge.specs.Sockets.{IsKept}
-use Rattle.socket_merge.specs.Walked.{changed_in, changed_on}
+use Rattle.socket_merge.specs.Changes.{change_records, changed_on, changes_between}
+use Rattle.socket_merge.specs.History.{AcceptedCall, Socket, SocketCall, group_opened, groups_opened, moment_read, open_sockets, with_call}
+use Rattle.socket_merge.specs.Interface.{filters_on, on_group, same_group}
+use Rattle.socket_merge.specs.Kept.{IsConsistent, tally_at}
+use Rattle.socket_merge.specs.Sockets.{SocketsHold, SocketsValue}
 use Rattle.socket_merge.specs.declared.stored.Tally.{Tally}
-use Rattle.socket_merge.proofs.ByGroup.{AreAt, AreAt-ordered, flat_map-same, tally_at-absent}
-use Rattle.socket_merge.proofs.Consistent.{IsOfOwnFamily}
-use Rattle.socket_merge.proofs.Counted.{Counts-of, is_wanted-counted, wanting_few}
-use Rattle.socket_merge.proofs.HoldsAfter.{Stands}
-use Rattle.socket_merge.proofs.RawOctets.{HasNone-unopened}
-use Rattle.socket_merge.proofs.Reports.{filters_of_family, flat_map-agree, flat_map-filter}
-use Rattle.socket_merge.proofs.Wanted.{All-merged}
+use Rattle.socket_merge.proofs.Amounts.{part}
+use Rattle.socket_merge.proofs.ByGroup.{flat_map-same}
+use Rattle.socket_merge.proofs.Consistent.{IsOfOwnFamily, not_blank}
+use Rattle.socket_merge.proofs.Counted.{Counts-of, amount, list_any-counted, number-is, one, own_part}
+use Rattle.socket_merge.proofs.RawOctets.{either_false, unopened}
+use Rattle.socket_merge.proofs.Reports.{filters_of_family, flat_map-filter}
+use Rattle.socket_merge.proofs.Wanted.{All-ascending, All-merged}
 
 -- ---- which groups give no record
 
--- from INCLUDE of nothing to INCLUDE of nothing, nothing changes
-no_change_by : (old new : Mode) (sources others : List Ip) (group : Ip) → wants_any_by old sources ≡ false → wants_any_by new others ≡ false → changes_by old new group sources others ≡ []
-no_change_by Include Include [] [] group first second = refl
-no_change_by Include Include [] (source ∷ more) group first second = absurd cc
-no_change_by Include Include (source ∷ more) others group first second = absurd cc
-no_change_by Include Exclude sources others group first second = absurd cc
-no_change_by Exclude new sources others group first second = absurd cc
+no_items : {X : Type 0} (xs : List X) → length xs ≡ 0 → xs ≡ []
+no_items [] none = refl
+no_items (x ∷ xs) none = absurd (omega (arith, none))
 
--- a group that was not wanted and isn't wanted gives none
-no_change : (old new : FilterValue) (group : Ip) → wants_any old ≡ false → wants_any new ≡ false → changes_on old new group ≡ []
-no_change old new group first second = no_change_by old.mode new.mode old.sources new.sources group first second
+pub none_on : (group : Ip) (sockets : List Socket) → amount one group sockets ≡ 0 → filters_on group sockets ≡ []
+none_on group sockets none = ap (map (λ (socket : Socket). socket.filter)) (no_items (on_group group sockets) (number-is group sockets ∙ none))
 
--- a farewell that begins with the newest call is kept, so without one the group wasn't wanted before
-unwanted_before_by : (wanted before : Bool) (moment : ℕ) (left : Option ℕ) → wanted ≡ false
-    → ((one : ℕ) → cond wanted None (cond before (Some moment) left) ≡ Some one → moment ≤ one + longest_farewell → None ≡ Some one) → before ≡ false
-unwanted_before_by true before moment left unwanted there = absurd cc
-unwanted_before_by false true moment left unwanted there = let kept = there moment refl (omega arith) in absurd cc
-unwanted_before_by false false moment left unwanted there = refl
+-- a group without a socket before or after gives none
+pub unchanged : (before after : List Socket) (group : Ip) → amount one group before ≡ 0 → amount one group after ≡ 0 → changed_on before after group ≡ []
+unchanged before after group first second =
+    ap (λ (filters : List FilterValue). changes_on (merged filters) (merged (filters_on group after)) group) (none_on group before first)
+    ∙ ap (λ (filters : List FilterValue). changes_on (merged []) (merged filters) group) (none_on group after second)
 
-unwanted_before : (newest : AcceptedCall) (history : List AcceptedCall) (group : Ip) (kept : Option ℕ) → kept ≡ None → is_wanted (newest ∷ history) group ≡ false
-    → IsKept (newest ∷ history) group kept → is_wanted history group ≡ false
-unwanted_before newest history group kept none unwanted is =
-    unwanted_before_by (is_wanted (newest ∷ history) group) (is_wanted history group) newest.moment (left_at history group) unwanted
-    (λ one left recent. sym none ∙ is.there one left recent)
+-- the group of a socket
+abbrev pub group_of : Socket → Ip
+group_of socket = socket.group
 
--- a group without a socket or a farewell after the call gives no record
-unchanged : (newest : AcceptedCall) (history : List AcceptedCall) (tally : Ip → Tally) (group : Ip) → Stands (newest ∷ history) tally → (tally group).wanting ≡ 0 → (tally group).left ≡ None
-    → changes_on (interface history group) (interface (newest ∷ history) group) group ≡ []
-unchanged newest history tally group stands none left =
-    let counted = is_wanted-counted (newest ∷ history) group (tally group) (Counts-of (tally group) group (open_sockets (newest ∷ history)) (stands.tallied group)) in
-    let unwanted : is_wanted (newest ∷ history) group ≡ false = counted ∙ ap (ltb 0) none in
-    no_change (interface history group) (interface (newest ∷ history) group) group
-    (unwanted_before newest history group (tally group).left left unwanted (stands.kept group)) unwanted
+-- a group that isn't listed has no socket
+pub none_listed : (sockets : List Socket) (group : Ip) → has ip_order (map group_of sockets) group ≡ false → amount one group sockets ≡ 0
+none_listed sockets group none =
+    let no = ltb-false 0 (amount one group sockets) (sym (list_any-counted (same_group group) group_of sockets) ∙ none) in omega arith
 
--- ---- what the kept groups give is what changed
+-- ---- the records of calls
 
-of_family_by : (of : Bool) (here : List Record) → cond (not of) [] here ≡ cond of here []
-of_family_by true here = refl
-of_family_by false here = refl
+nothing_in : (of : Bool) (here : List Record) → here ≡ [] → cond of here [] ≡ []
+nothing_in true here none = none
+nothing_in false here none = refl
 
-none_in : (of : Bool) (here : List Record) → here ≡ [] → cond (not of) [] here ≡ []
-none_in true here none = none
-none_in false here none = refl
+-- the groups are any that have each group with a socket
+pub changes-by : (family : Family) (before after : List Socket) (groups : List Ip)
+    → ((group : Ip) → has ip_order groups group ≡ false → (amount one group before ≡ 0) × (amount one group after ≡ 0))
+    → changes_between family before after ≡ flat_map (changed_on before after) (filter (is_of_family family) (ascending ip_order groups))
+unfolding changes_between
+changes-by family before after groups none =
+    let changed = changed_on before after in
+    let said : Ip → List Record = λ group. cond (is_of_family family group) (changed group) [] in
+    let listed = map group_of (before ++ after) in
+    flat_map-filter changed (is_of_family family) (ascending ip_order listed)
+    ∙ flat_map-same said (ascending ip_order listed) (ascending ip_order groups) (IsAscending-ascending ip_order-total listed) (IsAscending-ascending ip_order-total groups)
+    (λ group absent.
+    let all = none_listed (before ++ after) group (sym (has-ascending ip_order-total listed group) ∙ absent) in
+    let split = sum_by-append (part one group) before after in
+    nothing_in (is_of_family family group) (changed group) (unchanged before after group (omega (arith, all, split)) (omega (arith, all, split))))
+    (λ group absent.
+    let both = none group (sym (has-ascending ip_order-total groups group) ∙ absent) in
+    nothing_in (is_of_family family group) (changed group) (unchanged before after group both.0 both.1))
+    ∙ sym (flat_map-filter changed (is_of_family family) (ascending ip_order groups))
 
--- and neither does a group of another family
-pub no_change_of : (family : Family) (before after : List Socket) (done : List Ip) (group : Ip) → is_of_family family group ≡ false
-    → flat_map (changed_in family before after) done ≡ flat_map (changed_in family before after) (done ++ group ∷ [])
-no_change_of family before after done group other =
-    let changed = changed_in family before after in
-    let nothing : changed group ≡ [] = ap (λ (of : Bool). cond (not of) [] (changed_on before after group)) other in
-    sym (append-nil (flat_map changed done))
-    ∙ ap (λ (records : List Record). flat_map changed done ++ (records ++ [])) (sym nothing)
-    ∙ sym (flat_map-append changed done (group ∷ []))
+-- no socket was opened of the group before either
+unopened_before : (newer history : List AcceptedCall) (group : Ip) → has ip_order (groups_opened (newer ++ history)) group ≡ false → has ip_order (groups_opened history) group ≡ false
+unopened_before [] history group none = none
+unopened_before (newest ∷ newer) history group none =
+    let older = groups_opened (newer ++ history) in
+    unopened_before newer history group
+    (either_false (has ip_order (group_opened newest.call) group) (has ip_order older group) (sym (has-append ip_order (group_opened newest.call) older group) ∙ none)).1
 
--- the change records are those of the kept groups
-pub changes-are : (family : Family) (newest : AcceptedCall) (history : List AcceptedCall) (before after : List Socket) (tallies : List (Ip × Tally)) → AreNeeded tallies
-    → Stands (newest ∷ history) (tally_at tallies) → before ≡ open_sockets history → after ≡ open_sockets (newest ∷ history)
-    → flat_map (changed_in family before after) (keys_of tallies) ≡ change_records family history (newest ∷ history)
+-- from the sockets of a history to those after more calls
+pub changes-are : (family : Family) (history newer : List AcceptedCall) → changes_between family (open_sockets history) (open_sockets (newer ++ history)) ≡ change_records family history (newer ++ history)
 unfolding change_records
-changes-are family newest history before after tallies needed stands old new =
-    let now = newest ∷ history in
-    let changed : Ip → List Record = λ group. changes_on (interface history group) (interface now group) group in
-    let said : Ip → List Record = changed_in family (open_sockets history) (open_sockets now) in
-    let groups = ascending ip_order (groups_opened now) in
-    let in_keys : (group : Ip) → has ip_order (keys_of tallies) group ≡ false → said group ≡ [] = λ group absent.
-    let is = tally_at-absent tallies group absent in
-    none_in (is_of_family family group) (changed group)
-    (unchanged newest history (tally_at tallies) group stands (ap (λ (tally : Tally). tally.wanting) is) (ap (λ (tally : Tally). tally.left) is)) in
-    let in_groups : (group : Ip) → has ip_order groups group ≡ false → said group ≡ [] = λ group absent.
-    let unopened = sym (has-ascending ip_order-total (groups_opened now) group) ∙ absent in
-    let none = HasNone-unopened now (tally_at tallies) group stands unopened in
-    let few = wanting_few (tally_at tallies group) group (open_sockets now) (Counts-of (tally_at tallies group) group (open_sockets now) (stands.tallied group)) in
-    let number = none.sockets in
-    none_in (is_of_family family group) (changed group) (unchanged newest history (tally_at tallies) group stands (omega arith) none.left) in
-    ap (λ (sockets : List Socket). flat_map (changed_in family sockets after) (keys_of tallies)) old
-    ∙ ap (λ (sockets : List Socket). flat_map (changed_in family (open_sockets history) sockets) (keys_of tallies)) new
-    ∙ flat_map-same said (keys_of tallies) groups needed.ordered (IsAscending-ascending ip_order-total (groups_opened now)) in_keys in_groups
-    ∙ flat_map-agree said (λ group. cond (is_of_family family group) (changed group) []) groups (λ group. of_family_by (is_of_family family group) (changed group))
-    ∙ sym (flat_map-filter changed (is_of_family family) groups)
+changes-are family history newer =
+    let now = newer ++ history in
+    changes-by family (open_sockets history) (open_sockets now) (groups_opened now)
+    (λ group none. (unopened history group (unopened_before newer history group none), unopened now group none))
+
+-- from sockets to those after one call
+pub changes-of_call : (family : Family) (before after : SocketsValue) (history : List AcceptedCall) (at : ℕ) (call : SocketCall) → SocketsHold before history → SocketsHold after (with_call at call history)
+    → changes_between family before.sockets after.sockets ≡ change_records family history (with_call at call history)
+changes-of_call family before after history at call then now =
+    ap (λ (sockets : List Socket). changes_between family sockets after.sockets) then.sockets
+    ∙ ap (changes_between family (open_sockets history)) now.sockets
+    ∙ changes-are family history (record { moment = moment_read at history; call = call } ∷ [])
 
 -- ---- whose records they are
 
-All-kept : (P : Record → Type 0) (f : Ip → List Record) (tally : Ip → Tally) (tallies : List (Ip × Tally)) → AreAt tally tallies → All (λ entry. is_blank entry.1 ≡ false) tallies
-    → ((group : Ip) → is_blank (tally group) ≡ false → All P (f group)) → All P (flat_map f (keys_of tallies))
-All-kept P f tally [] are some each = All-nil P
-All-kept P f tally (entry ∷ rest) are some each =
-    let first : is_blank entry.1 ≡ false = All-head (λ one. is_blank one.1 ≡ false) entry rest some in
-    All-append P (f entry.0) (flat_map f (keys_of rest)) (each entry.0 (ap is_blank are.0 ∙ first))
-    (All-kept P f tally rest are.1 (All-tail (λ one. is_blank one.1 ≡ false) entry rest some) each)
+All-walked : (P : Record → Type 0) (Such : Ip → Type 0) (f : Ip → List Record) (groups : List Ip) → All Such groups → ((group : Ip) → Such group → All P (f group)) → All P (flat_map f groups)
+All-walked P Such f [] all each = All-nil P
+All-walked P Such f (group ∷ more) all each =
+    All-append P (f group) (flat_map f more) (each group (All-head Such group more all)) (All-walked P Such f more (All-tail Such group more all) each)
 
-All-of : (P : Record → Type 0) (of : Bool) (here : List Record) → (of ≡ true → All P here) → All P (cond (not of) [] here)
+All-of : (P : Record → Type 0) (of : Bool) (here : List Record) → (of ≡ true → All P here) → All P (cond of here [])
 All-of P true here each = each refl
 All-of P false here each = All-nil P
 
--- what holds of the records of each kept group of the family holds of all
-All-changed : (P : Record → Type 0) (family : Family) (before after : List Socket) (tallies : List (Ip × Tally)) → AreNeeded tallies
-    → ((group : Ip) → is_blank (tally_at tallies group) ≡ false → is_of_family family group ≡ true → All P (changed_on before after group))
-    → All P (flat_map (changed_in family before after) (keys_of tallies))
-All-changed P family before after tallies needed each =
-    All-kept P (changed_in family before after) (tally_at tallies) tallies (AreAt-ordered tallies needed) needed.some
-    (λ group some. All-of P (is_of_family family group) (changed_on before after group) (each group some))
+-- the sockets' groups are forwarded
+abbrev AreForwarded : List Socket → Type 0
+AreForwarded sockets = All (λ socket. is_forwardable socket.group ≡ true) sockets
+
+forwarded_some : (sockets some : List Socket) → ((group : Ip) → 0 < amount one group sockets → is_forwardable group ≡ true) → ((group : Ip) → amount one group some ≤ amount one group sockets)
+    → AreForwarded some
+forwarded_some sockets [] each less = All-nil (λ socket. is_forwardable socket.group ≡ true)
+forwarded_some sockets (socket ∷ more) each less =
+    All-cons (λ one. is_forwardable one.group ≡ true) socket more (each socket.group (omega (arith, less socket.group, sum_by-cons (part one socket.group) socket more, own_part one socket)))
+    (forwarded_some sockets more each (λ group. omega (arith, less group, sum_by-cons (part one group) socket more)))
+
+forwarded-of : (moment : ℕ) (sockets : List Socket) (tallies : List (Ip × Tally)) → IsConsistent moment sockets tallies → AreForwarded sockets
+forwarded-of moment sockets tallies consistent =
+    forwarded_some sockets sockets
+    (λ group some. let counts = Counts-of (tally_at tallies group) group sockets (consistent.tallied group) in consistent.forwarded group (not_blank (tally_at tallies group) (omega (arith, some, counts.number))))
+    (λ group. omega arith)
+
+-- what holds of the records of each forwarded group of the family holds of all
+All-changed : (P : Record → Type 0) (family : Family) (before after : List Socket) → AreForwarded before → AreForwarded after
+    → ((group : Ip) → is_forwardable group ≡ true → is_of_family family group ≡ true → All P (changed_on before after group)) → All P (changes_between family before after)
+unfolding changes_between
+All-changed P family before after first second each =
+    let Forwarded : Ip → Type 0 = λ group. is_forwardable group ≡ true in
+    let changed = changed_on before after in
+    let listed = map group_of (before ++ after) in
+    subst (All P) (sym (flat_map-filter changed (is_of_family family) (ascending ip_order listed)))
+    (All-walked P Forwarded (λ group. cond (is_of_family family group) (changed group) []) (ascending ip_order listed)
+    (All-ascending Forwarded listed (All-map Forwarded group_of (before ++ after) (All-append (λ socket. is_forwardable socket.group ≡ true) before after first second)))
+    (λ group is. All-of P (is_of_family family group) (changed group) (each group is)))
 
 module _ (P : Record → Type 0) (group : Ip) (Such : Ip → Type 0) (one : (kind : RecordKind) (sources : List Ip) → All Such sources → P (record { kind = kind; group = group; sources = sources })) where
   All-some : (kind : RecordKind) (sources : List Ip) → All Such sources → All P (record_of_some kind group sources)
@@ -168,25 +176,25 @@ All-any [] = All-nil (λ source. source ≡ source)
 All-any (source ∷ more) = All-cons (λ one. one ≡ one) source more refl (All-any more)
 
 -- each record's group is forwarded
-pub changes-forwarded : (family : Family) (moment : ℕ) (before after : List Socket) (tallies : List (Ip × Tally)) → IsConsistent moment after tallies
-    → All (λ one. is_forwardable one.group ≡ true) (flat_map (changed_in family before after) (keys_of tallies))
-changes-forwarded family moment before after tallies consistent =
+pub changes-forwarded : (family : Family) (moment earlier : ℕ) (before after : List Socket) (old new : List (Ip × Tally)) → IsConsistent earlier before old → IsConsistent moment after new
+    → All (λ one. is_forwardable one.group ≡ true) (changes_between family before after)
+changes-forwarded family moment earlier before after old new then now =
     let Forwarded : Record → Type 0 = λ one. is_forwardable one.group ≡ true in
     let Any : Ip → Type 0 = λ source. source ≡ source in
-    All-changed Forwarded family before after tallies consistent.needed
-    (λ group some of.
-    let old = merged (filters_on group before) in
-    let new = merged (filters_on group after) in
-    All-changes_on Forwarded group Any (λ kind sources all. consistent.forwarded group some) old new (All-any old.sources) (All-any new.sources))
+    All-changed Forwarded family before after (forwarded-of earlier before old then) (forwarded-of moment after new now)
+    (λ group is of.
+    let first = merged (filters_on group before) in
+    let second = merged (filters_on group after) in
+    All-changes_on Forwarded group Any (λ kind sources all. is) first second (All-any first.sources) (All-any second.sources))
 
 -- and it is of the family, as are its sources
-pub changes-of_family : (family : Family) (moment : ℕ) (before after : List Socket) (tallies : List (Ip × Tally)) → All IsOfOwnFamily before → IsConsistent moment after tallies
-    → All (IsOfFamily family) (flat_map (changed_in family before after) (keys_of tallies))
-changes-of_family family moment before after tallies all consistent =
+pub changes-of_family : (family : Family) (moment earlier : ℕ) (before after : List Socket) (old new : List (Ip × Tally)) → IsConsistent earlier before old → IsConsistent moment after new
+    → All (IsOfFamily family) (changes_between family before after)
+changes-of_family family moment earlier before after old new then now =
     let Own : Ip → Type 0 = λ source. is_of_family family source ≡ true in
-    All-changed (IsOfFamily family) family before after tallies consistent.needed
-    (λ group some of.
+    All-changed (IsOfFamily family) family before after (forwarded-of earlier before old then) (forwarded-of moment after new now)
+    (λ group is of.
     All-changes_on (IsOfFamily family) group Own (λ kind sources own. record { group = of; sources = own })
     (merged (filters_on group before)) (merged (filters_on group after))
-    (All-merged Own (filters_on group before) (filters_of_family family group before of all))
-    (All-merged Own (filters_on group after) (filters_of_family family group after of consistent.family)))
+    (All-merged Own (filters_on group before) (filters_of_family family group before of then.family))
+    (All-merged Own (filters_on group after) (filters_of_family family group after of now.family)))

@@ -51,7 +51,7 @@ replaced_by : (P : Tally → Tally → Type 0) (test : Bool) (group other : Ip) 
 replaced_by P true group other after tally is own same = subst (λ (at : Ip). P (tally at) after) (same_group-exact group other is) own
 replaced_by P false group other after tally is own same = same
 
-not_blank : (tally : Tally) → 0 < tally.sockets → is_blank tally ≡ false
+pub not_blank : (tally : Tally) → 0 < tally.sockets → is_blank tally ≡ false
 not_blank tally some =
     ap (λ (test : Bool). not test && (not (ltb 0 tally.wanting) && (not (ltb 0 tally.sources) && not (is_some tally.left)))) (lt-ltb 0 tally.sockets some)
 

@@ -49,7 +49,7 @@ pub record Counts (tally : Tally) (group : Ip) (sockets : List Socket) : Type 0 
   pub wanting : tally.wanting ≡ amount wanting group sockets
   pub sources : tally.sources ≡ amount listing group sockets
 
-number-is : (group : Ip) (sockets : List Socket) → length (on_group group sockets) ≡ amount one group sockets
+pub number-is : (group : Ip) (sockets : List Socket) → length (on_group group sockets) ≡ amount one group sockets
 number-is group sockets = length-as_sum (on_group group sockets) ∙ sum_by-on_group one group sockets
 
 wanting-is : (group : Ip) (sockets : List Socket) → count_by (λ socket. wants_any socket.filter) (on_group group sockets) ≡ amount wanting group sockets

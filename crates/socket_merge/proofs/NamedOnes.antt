@@ -137,6 +137,11 @@ module _ (name : List ℕ) where
     refiltered-written (e ∷ es) old distinct there =
         written_by (same_name name e.0.items) e es old refl distinct (refiltered-written es old (IsDistinct-tail same_key e.0 (keys_of es) distinct)) there
 
+-- the groups of the stored sockets
+pub groups-stored : (es : List (Vec ℕ × StoredSocket)) → map (λ (one : StoredSocket). one.group) (values_of es) ≡ map (λ (socket : Socket). socket.group) (map socket_of es)
+groups-stored [] = refl
+groups-stored (e ∷ es) = ap (λ groups. e.1.group ∷ groups) (groups-stored es)
+
 -- the filters of the stored sockets of a group
 abbrev pub filters_stored : Ip → List StoredSocket → List FilterValue
 filters_stored group stored = map (λ one. one.filter) (filter (λ one. same_group group one.group) stored)

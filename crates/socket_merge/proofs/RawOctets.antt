@@ -34,7 +34,7 @@ use Rattle.socket_merge.proofs.Farewells.{KeptBy, KeptBy-of, may_be_due-kept, no
 use Rattle.socket_merge.proofs.HoldsAfter.{Stands}
 use Rattle.socket_merge.proofs.Wanted.{same_group-itself}
 
-either_false : (first second : Bool) → (first || second) ≡ false → (first ≡ false) × (second ≡ false)
+pub either_false : (first second : Bool) → (first || second) ≡ false → (first ≡ false) × (second ≡ false)
 either_false true second is = absurd cc
 either_false false second is = (refl, is)
 

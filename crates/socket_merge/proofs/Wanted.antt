@@ -121,7 +121,7 @@ module _ (P : Ip → Type 0) where
   All-placed source (next ∷ more) first rest =
       All-placed_by (ip_order source next) source next more (placed ip_order source more) first rest (All-placed source more first (All-tail P next more rest))
 
-  All-ascending : (sources : List Ip) → All P sources → All P (ascending ip_order sources)
+  pub All-ascending : (sources : List Ip) → All P sources → All P (ascending ip_order sources)
   All-ascending [] all = all
   All-ascending (source ∷ more) all = All-placed source (ascending ip_order more) (All-head P source more all) (All-ascending more (All-tail P source more all))
 

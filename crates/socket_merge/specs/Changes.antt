@@ -1,12 +1,29 @@
--- The change records of a host: what a socket call changed of its groups' filters (RFC 3376, section 5.1).
-use Rattle.std.specs.Prelude.{List}
-use Rattle.std.specs.List.{flat_map}
+-- The change records of a host: what becomes of its groups' filters (RFC 3376, section 5.1; RFC 3810, section 6.1).
+use Rattle.std.specs.Prelude.{List, ◌++◌, map}
+use Rattle.std.specs.List.{filter, flat_map}
+use Rattle.amt_values.specs.declared.address.Ip.{Ip}
+use Rattle.amt_values.specs.Order.{ip_order}
+use Rattle.contract_words.specs.Ascending.{ascending}
 use Rattle.source_filter.specs.Changes.{changes_on}
+use Rattle.source_filter.specs.Merging.{merged}
 use Rattle.source_filter.specs.declared.record.Record.{Record}
+use Rattle.group_records.specs.Written.{is_of_family}
 use Rattle.group_records.specs.declared.family.Family.{Family}
 use Rattle.socket_merge.specs.FullReport.{groups_of}
-use Rattle.socket_merge.specs.History.{AcceptedCall}
-use Rattle.socket_merge.specs.Interface.{interface}
+use Rattle.socket_merge.specs.History.{AcceptedCall, Socket}
+use Rattle.socket_merge.specs.Interface.{filters_on, interface}
+
+-- the groups of the family that some of the sockets has, ascending
+abbrev pub groups_among : Family → List Socket → List Ip
+groups_among family sockets = filter (is_of_family family) (ascending ip_order (map (λ socket. socket.group) sockets))
+
+-- the change records of a group, from its one filter for the sockets before to that for those after
+abbrev pub changed_on : List Socket → List Socket → Ip → List Record
+changed_on before after group = changes_on (merged (filters_on group before)) (merged (filters_on group after)) group
+
+-- those of each group of the family that has a socket before or after, by group
+unfoldable pub changes_between : Family → List Socket → List Socket → List Record
+changes_between family before after = flat_map (changed_on before after) (groups_among family (before ++ after))
 
 -- the records of the changes from one history to a later one, by group, on the groups of the family that
 -- sockets were opened of; none where every filter is as before

@@ -5,4 +5,3 @@ pub mod Interface
 pub mod Kept
 pub mod Refusal
 pub mod Sockets
-pub mod Walked

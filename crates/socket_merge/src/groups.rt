@@ -9,7 +9,6 @@ use std::alloc::{AllocError, Global};
 use std::collections::BTreeMap;
 use std::marker::Model;
 
-mod changes;
 pub mod octets;
 mod report;
 

@@ -1,6 +1,6 @@
 //! Open sockets by name. They must not know moments, farewells or reports.
 
-ghost use Rattle.std.specs.Prelude.{◌≡◌, ◌<◌, ◌^◌, List, [], ◌∷◌, ◌++◌, ◌&&◌, None, length, IfOk, OnOk, OnErr};
+ghost use Rattle.std.specs.Prelude.{◌≡◌, ◌<◌, ◌^◌, List, [], ◌∷◌, ◌++◌, ◌&&◌, None, length, map, IfOk, OnOk, OnErr};
 ghost use Rattle.std.specs.Option.{option_map};
 ghost use Rattle.socket_merge.specs.History.{Change, Close, Socket, sockets_after, socket_named};
 ghost use Rattle.socket_merge.specs.FullReport.{is_empty};
@@ -124,6 +124,17 @@ impl NamedSockets {
             }
         }
         Ok(filters)
+    }
+
+    /// Puts the group of each socket at the end, in their order.
+    pub fn append_groups(&self, groups: &mut Vec<Ip>) -> Result<(), AllocError>
+        ensures { OnOk result (groups.new.items
+            ≡ groups.old.items ++ map (λ socket. socket.group) self.now) }
+    {
+        for socket in self.sockets.values() {
+            groups.push(socket.group)?;
+        }
+        Ok(())
     }
 
     /// Whether some socket of the group wants the source.

@@ -5,14 +5,15 @@ ghost use Rattle.amt_values.specs.Group.{is_forwardable};
 ghost use Rattle.amt_values.specs.declared.address.Ip.{Ip};
 ghost use Rattle.source_filter.specs.Filter.{admits};
 ghost use Rattle.group_records.specs.Written.{IsOfFamily, report_length};
-ghost use Rattle.socket_merge.specs.Changes.{change_records};
+ghost use Rattle.socket_merge.specs.Changes.{changes_between};
 ghost use Rattle.socket_merge.specs.FullReport.{family_by, full_report_of, is_quiet};
-ghost use Rattle.socket_merge.specs.History.{Change, Close, LeaveAll, Open, SocketCall, moment_read, socket_named, with_call};
+ghost use Rattle.socket_merge.specs.History.{Change, Close, LeaveAll, Open, moment_read, socket_named, with_call};
 ghost use Rattle.socket_merge.specs.Interface.{interface, wants};
 ghost use Rattle.socket_merge.specs.Kept.{AreNeeded, HasRoom, HasTally, share_of, tally_at, tally_with};
 ghost use Rattle.socket_merge.specs.Refusal.{FillsNoMore, IsWithinLimits, is_open, raw_report_length, refusal_of};
 ghost use Rattle.socket_merge.specs.Sockets.{AnswersRefusal, AreOfGroup, AreOfSocket, ForHistory, HasNoOldFarewell, KeepsFarewells, SocketsHold};
 
+use crate::changes::changes_between;
 use crate::fault::{NoSocket, SocketFault};
 use crate::groups::Groups;
 use crate::limit::limit_passed;
@@ -240,23 +241,21 @@ impl Sockets {
             .report(alloc, &self.named, family, moment, keep_ms)
     }
 
-    /// The records of what one call changed, by group: of each group of the family, from its filter
-    /// for the sockets before the call to its filter for these (RFC 3376, section 5.1).
+    /// The records of what changed since the sockets before, by group: of each group of the family, from
+    /// its filter for those sockets to its filter for these (RFC 3376, section 5.1).
     pub fn changes_since(
         &self,
         alloc: Global,
         before: &Sockets,
         v6: bool,
     ) -> Result<Records, AllocError>
-        ensures records { ForHistory before.now (λ history. (at : ℕ) (call : SocketCall)
-            → SocketsHold self.now (with_call at call history) → IfOk result (λ records.
-            records ≡ change_records (family_by v6) history (with_call at call history))) }
+        ensures records { IfOk result (λ records.
+            records ≡ changes_between (family_by v6) before.now.sockets self.now.sockets) }
         ensures forwarded { IfOk result (All (λ one. is_forwardable one.group ≡ true)) }
         ensures family { IfOk result (All (IsOfFamily (family_by v6))) }
     {
         let family = if v6 { Family::V6 } else { Family::V4 };
-        self.groups
-            .changes(alloc, &before.named, &self.named, family)
+        changes_between(alloc, &before.named, &self.named, family)
     }
 
     /// Whether no socket is open and no farewell lasts.
