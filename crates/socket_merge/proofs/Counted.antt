@@ -55,7 +55,7 @@ number-is group sockets = length-as_sum (on_group group sockets) ∙ sum_by-on_g
 wanting-is : (group : Ip) (sockets : List Socket) → count_by (λ socket. wants_any socket.filter) (on_group group sockets) ≡ amount wanting group sockets
 wanting-is group sockets = sum_by-on_group wanting group sockets
 
-sources-is : (group : Ip) (sockets : List Socket) → sum_by listing (on_group group sockets) ≡ amount listing group sockets
+pub sources-is : (group : Ip) (sockets : List Socket) → sum_by listing (on_group group sockets) ≡ amount listing group sockets
 sources-is group sockets = sum_by-on_group listing group sockets
 
 pub Counts-of : (tally : Tally) (group : Ip) (sockets : List Socket) → tally ≡ tally_of tally.left group sockets → Counts tally group sockets

@@ -13,6 +13,7 @@ pub mod NamedOnes
 pub mod RawOctets
 pub mod Refused
 pub mod Reports
+pub mod ShortChanges
 pub mod Tallies
 pub mod WalkedGroups
 pub mod Wanted

@@ -173,7 +173,7 @@ none_opened : (family : Family) (history : List AcceptedCall) (tally : Ip → Ta
 none_opened family history tally stands group none =
     octets_in-none family (latest history) group (tally group) (HasNone-unopened history tally group stands (sym (has-ascending ip_order-total (groups_opened history) group) ∙ none))
 
-none_absent : (family : Family) (moment : ℕ) (tallies : List (Ip × Tally)) (group : Ip) → has ip_order (keys_of tallies) group ≡ false → octets_in family moment (group, tally_at tallies group) ≡ 0
+pub none_absent : (family : Family) (moment : ℕ) (tallies : List (Ip × Tally)) (group : Ip) → has ip_order (keys_of tallies) group ≡ false → octets_in family moment (group, tally_at tallies group) ≡ 0
 none_absent family moment tallies group absent = octets_in-none family moment group (tally_at tallies group) (HasNone-absent tallies group absent)
 
 -- the octets by the tallies are those of the raw report
@@ -290,11 +290,11 @@ octets_less true true false after before place less = let none = place refl in a
 octets_less true false earlier after before place less = omega arith
 octets_less false later earlier after before place less = omega arith
 
-raw_octets-le : (family : Family) (after before : ℕ) → after ≤ before → raw_octets family after ≤ raw_octets family before
+pub raw_octets-le : (family : Family) (after before : ℕ) → after ≤ before → raw_octets family after ≤ raw_octets family before
 raw_octets-le V4 after before less = omega arith
 raw_octets-le V6 after before less = omega arith
 
-octets_in-le : (family : Family) (earlier later : ℕ) (group : Ip) (before after : Tally) → IsLess earlier later before after → octets_in family later (group, after) ≤ octets_in family earlier (group, before)
+pub octets_in-le : (family : Family) (earlier later : ℕ) (group : Ip) (before after : Tally) → IsLess earlier later before after → octets_in family later (group, after) ≤ octets_in family earlier (group, before)
 octets_in-le family earlier later group before after less =
     octets_less (is_of_family family group) (has_place_by later after) (has_place_by earlier before) (raw_octets family after.sources) (raw_octets family before.sources) less.place
     (raw_octets-le family after.sources before.sources less.sources)

@@ -234,10 +234,10 @@ said-of_family family moment at keep sockets tallies consistent =
     (All-flat_map (IsOfFamily family) (λ group. said_of family sockets at keep (group, tally_at tallies group)) (keys_of tallies) each)
 
 -- the octets of a record
-abbrev octets_of_record : Family → Record → ℕ
+abbrev pub octets_of_record : Family → Record → ℕ
 octets_of_record family one = head_length family + length one.sources * width family
 
-sum_by-flat_map : (f : Record → ℕ) (g : Ip → List Record) (groups : List Ip) → sum_by f (flat_map g groups) ≡ sum_by (λ group. sum_by f (g group)) groups
+pub sum_by-flat_map : (f : Record → ℕ) (g : Ip → List Record) (groups : List Ip) → sum_by f (flat_map g groups) ≡ sum_by (λ group. sum_by f (g group)) groups
 sum_by-flat_map f g [] = refl
 sum_by-flat_map f g (group ∷ more) = omega (arith, sum_by-append f (g group) (flat_map g more), sum_by-flat_map f g more, sum_by-cons (λ one. sum_by f (g one)) group more)
 
@@ -256,7 +256,7 @@ said_less family true false true place group filter sources few state left =
     omega (arith, here, sum_by-cons (octets_of_record family) (farewell group) [], record_less family 0 sources (omega arith))
 said_less family true false false place group filter sources few state left = omega arith
 
-sum_by-mapped : (f : FilterValue → ℕ) (sockets : List Socket) → sum_by f (map (λ (socket : Socket). socket.filter) sockets) ≡ sum_by (λ socket. f socket.filter) sockets
+pub sum_by-mapped : (f : FilterValue → ℕ) (sockets : List Socket) → sum_by f (map (λ (socket : Socket). socket.filter) sockets) ≡ sum_by (λ socket. f socket.filter) sockets
 sum_by-mapped f sockets = fold-map (λ (total : ℕ) (filter : FilterValue). total + f filter) (λ (socket : Socket). socket.filter) 0 sockets
 
 due_where_recent : (moment at keep : ℕ) (left : Option ℕ) → moment ≤ at → is_recent at keep left ≡ true → may_be_due moment left ≡ true

@@ -71,7 +71,7 @@ some_wanted (first ∷ more) =
 pub wants_any-merged : (filters : List FilterValue) → wants_any (merged filters) ≡ list_any wants_any filters
 wants_any-merged filters = wants_any-merged_by (exclude_lists filters) (include_lists filters) ∙ some_wanted filters
 
-length-filter_le : (test : Ip → Bool) (sources : List Ip) → length (filter test sources) ≤ length sources
+pub length-filter_le : (test : Ip → Bool) (sources : List Ip) → length (filter test sources) ≤ length sources
 length-filter_le test sources = omega (arith, length-filter_both test (λ source. not (test source)) (λ _. refl) sources)
 
 length-common_sources : (first : List Ip) (more : List (List Ip)) → length (common_sources first more) ≤ length first

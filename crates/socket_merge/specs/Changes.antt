@@ -1,5 +1,5 @@
 -- The change records of a host: what becomes of its groups' filters (RFC 3376, section 5.1; RFC 3810, section 6.1).
-use Rattle.std.specs.Prelude.{List, ◌++◌, map}
+use Rattle.std.specs.Prelude.{◌≡◌, List, ◌++◌, map}
 use Rattle.std.specs.List.{filter, flat_map}
 use Rattle.amt_values.specs.declared.address.Ip.{Ip}
 use Rattle.amt_values.specs.Order.{ip_order}
@@ -10,7 +10,7 @@ use Rattle.source_filter.specs.declared.record.Record.{Record}
 use Rattle.group_records.specs.Written.{is_of_family}
 use Rattle.group_records.specs.declared.family.Family.{Family}
 use Rattle.socket_merge.specs.FullReport.{groups_of}
-use Rattle.socket_merge.specs.History.{AcceptedCall, Socket}
+use Rattle.socket_merge.specs.History.{AcceptedCall, Socket, SocketCall, sockets_after}
 use Rattle.socket_merge.specs.Interface.{filters_on, interface}
 
 -- the groups of the family that some of the sockets has, ascending
@@ -24,6 +24,11 @@ changed_on before after group = changes_on (merged (filters_on group before)) (m
 -- those of each group of the family that has a socket before or after, by group
 unfoldable pub changes_between : Family → List Socket → List Socket → List Record
 changes_between family before after = flat_map (changed_on before after) (groups_among family (before ++ after))
+
+-- the sockets after are those before with one call made
+pub record IsOneCallAfter (before after : List Socket) : Type 0 where
+  pub call : SocketCall
+  pub made : after ≡ sockets_after call before
 
 -- the records of the changes from one history to a later one, by group, on the groups of the family that
 -- sockets were opened of; none where every filter is as before

@@ -5,9 +5,9 @@ ghost use Rattle.amt_values.specs.Group.{is_forwardable};
 ghost use Rattle.amt_values.specs.declared.address.Ip.{Ip};
 ghost use Rattle.source_filter.specs.Filter.{admits};
 ghost use Rattle.group_records.specs.Written.{IsOfFamily, report_length};
-ghost use Rattle.socket_merge.specs.Changes.{changes_between};
+ghost use Rattle.socket_merge.specs.Changes.{IsOneCallAfter, changes_between};
 ghost use Rattle.socket_merge.specs.FullReport.{family_by, full_report_of, is_quiet};
-ghost use Rattle.socket_merge.specs.History.{Change, Close, LeaveAll, Open, moment_read, socket_named, with_call};
+ghost use Rattle.socket_merge.specs.History.{Change, Close, LeaveAll, Open, moment_read, socket_named, sockets_after, with_call};
 ghost use Rattle.socket_merge.specs.Interface.{interface, wants};
 ghost use Rattle.socket_merge.specs.Kept.{AreNeeded, HasRoom, HasTally, share_of, tally_at, tally_with};
 ghost use Rattle.socket_merge.specs.Refusal.{FillsNoMore, IsWithinLimits, is_open, raw_report_length, refusal_of};
@@ -79,6 +79,8 @@ impl Sockets {
         requires items { length filter.now.sources ≤ ITEM_LIMIT }
         ensures stands { ForHistory self.old (λ history. OnOk result (SocketsHold self.new
             (with_call at.now (Open name.now group.now filter.now) history))) }
+        ensures sockets { OnOk result (self.new.sockets
+            ≡ sockets_after (Open name.now group.now filter.now) self.old.sockets) }
         ensures fits { OnOk result (ForHistory self.new IsWithinLimits) }
         ensures drops { OnOk result (HasNoOldFarewell self.new) }
 
@@ -123,6 +125,8 @@ impl Sockets {
         requires items { length filter.now.sources ≤ ITEM_LIMIT }
         ensures stands { ForHistory self.old (λ history. OnOk result (SocketsHold self.new
             (with_call at.now (Change name.now filter.now) history))) }
+        ensures sockets { OnOk result (self.new.sockets
+            ≡ sockets_after (Change name.now filter.now) self.old.sockets) }
         ensures fits { OnOk result (ForHistory self.new IsWithinLimits) }
         ensures keeps { ForHistory self.old (λ history. OnOk result (KeepsFarewells
             (with_call at.now (Change name.now filter.now) history) self.old self.new)) }
@@ -160,6 +164,8 @@ impl Sockets {
     pub fn close(&mut self, name: &[u8], at: &Moment) -> Result<(), NoSocket>
         ensures stands { ForHistory self.old (λ history. OnOk result (SocketsHold self.new
             (with_call at.now (Close name.now) history))) }
+        ensures sockets { OnOk result (self.new.sockets
+            ≡ sockets_after (Close name.now) self.old.sockets) }
         ensures fits { OnOk result (ForHistory self.new IsWithinLimits) }
         ensures shrinks { ForHistory self.old (λ history. OnOk result (FillsNoMore history
             (with_call at.now (Close name.now) history))) }
@@ -184,6 +190,7 @@ impl Sockets {
     pub fn leave_all(&mut self, at: &Moment)
         ensures stands { ForHistory self.old (λ history. SocketsHold self.new
             (with_call at.now LeaveAll history)) }
+        ensures sockets { self.new.sockets ≡ sockets_after LeaveAll self.old.sockets }
         ensures fits { ForHistory self.new IsWithinLimits }
         ensures shrinks { ForHistory self.old (λ history. FillsNoMore history
             (with_call at.now LeaveAll history)) }
@@ -251,6 +258,8 @@ impl Sockets {
     ) -> Result<Records, AllocError>
         ensures records { IfOk result (λ records.
             records ≡ changes_between (family_by v6) before.now.sockets self.now.sockets) }
+        ensures fits { IsOneCallAfter before.now.sockets self.now.sockets → IfOk result (λ records.
+            report_length (family_by v6) records ≤ REPORT_LIMIT) }
         ensures forwarded { IfOk result (All (λ one. is_forwardable one.group ≡ true)) }
         ensures family { IfOk result (All (IsOfFamily (family_by v6))) }
     {

@@ -1,16 +1,17 @@
-use Rattle.std.proofs.Common.{◌≡◌, true, List, sym, ap, subst, ◌∙◌}
+use Rattle.std.proofs.Common.{◌≡◌, ◌≤◌, true, List, sym, ap, subst, ◌∙◌}
 use Rattle.std.specs.List.{All}
 use Rattle.std.specs.Result.{IfOk}
 use Rattle.std.proofs.lemmas.Result.{IfOk-weaker}
 use Rattle.amt_values.specs.Group.{is_forwardable}
 use Rattle.source_filter.specs.declared.record.Record.{Record}
-use Rattle.group_records.specs.Written.{IsOfFamily}
+use Rattle.group_records.specs.Written.{IsOfFamily, report_length}
 use Rattle.group_records.specs.declared.family.Family.{Family}
-use Rattle.socket_merge.specs.Changes.{changes_between}
+use Rattle.socket_merge.specs.Changes.{IsOneCallAfter, changes_between}
 use Rattle.socket_merge.specs.FullReport.{family_by}
 use Rattle.socket_merge.specs.History.{Socket}
 use Rattle.socket_merge.specs.Sockets.{SocketsValue}
 use Rattle.socket_merge.proofs.Changed.{changes-forwarded, changes-of_family}
+use Rattle.socket_merge.proofs.ShortChanges.{short-kept}
 use Rattle.socket_merge.proofs.sockets.Sockets.changes_since.Goals as goal
 use Rattle.socket_merge.proofs.sockets.Sockets.changes_since.Goals.{After-changes_between, then-v6, else-v6}
 
@@ -50,4 +51,18 @@ returns-clause-family c =
     (λ records is. subst (All (IsOfFamily of)) (sym is)
     (changes-of_family of c.self.inside.moment c.before-2.inside.moment c.before-2.inside.named c.self.inside.named c.before-2.inside.groups c.self.inside.groups
     c.before-2.invariant.consistent c.self.invariant.consistent))
+    (says c)
+
+pub returns-clause-fits : goal.returns-clause-fits
+returns-clause-fits c =
+    let of = family_by c.args.v6 in
+    λ (is : IsOneCallAfter c.args.before.now.sockets c.args.self.now.sockets).
+    let old = ap (λ (value : SocketsValue). value.sockets) c.before-2.view_is in
+    let new = ap (λ (value : SocketsValue). value.sockets) c.self.view_is in
+    let kept : IsOneCallAfter c.before-2.inside.named c.self.inside.named =
+    subst (λ (sockets : List Socket). IsOneCallAfter sockets c.self.inside.named) (sym old) (subst (λ (sockets : List Socket). IsOneCallAfter c.args.before.now.sockets sockets) (sym new) is) in
+    IfOk-weaker c.changes_between.result (Says c) (λ records. report_length of records ≤ 1400)
+    (λ records same. subst (λ (all : List Record). report_length of all ≤ 1400) (sym same)
+    (short-kept of c.before-2.inside.moment c.self.inside.moment c.before-2.inside.named c.self.inside.named c.before-2.inside.groups c.self.inside.groups
+    c.before-2.invariant.consistent c.self.invariant.consistent kept))
     (says c)

@@ -16,6 +16,7 @@ invariant_of-self c =
 
 pub returns : goal.returns
 returns c = record {
+  sockets = c.clear.ensures;
   stands = λ (history : List AcceptedCall) holds.
       holds_left c.self.inside.moment c.later-self-inside.result c.args.at.now c.self.inside.named c.clear.new.self c.self.inside.groups c.leave_all.new.self history c.self.invariant.consistent
       c.later-self-inside.ensures (record { rest = c.clear.ensures; tallies = c.leave_all.ensures.left; ordered = c.leave_all.ensures.needed })
