@@ -1,6 +1,8 @@
 pub mod Authorized
 pub mod CallRefusals
 pub mod GeneralQueries
+pub mod Directed
+pub mod DueMoments
 mod Heard
 pub mod Onward
 pub mod OwnSockets

@@ -47,7 +47,7 @@ steady : (exchange : Exchange) (answer : Answer) → IsHeeded exchange answer �
 steady exchange answer is = record { moment = is.moment; refused = λ refused. absurd (is.heeded refused) }
 
 -- what both answers have
-either : (P : Answer → Type 0) (test : Bool) (one other : Answer) → P one → P other → P (if test then one else other)
+pub either : (P : Answer → Type 0) (test : Bool) (one other : Answer) → P one → P other → P (if test then one else other)
 either P true one other first second = first
 either P false one other first second = second
 

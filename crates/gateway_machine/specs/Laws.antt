@@ -104,3 +104,18 @@ HasQuery InIdle query = Unit {0}
 HasQuery InDiscovering query = Unit {0}
 HasQuery InRequesting query = Unit {0}
 HasQuery InActive query = (last : LastQuery) × (query ≡ Some last)
+
+-- Where a gateway with this relay sends a message: a Discovery to the relay discovery address (RFC 7450, section
+-- 5.2.3.4), a Request, an Update and a Teardown to its relay. It sends no other message.
+abbrev pub destination : Peer → Option Peer → Message → Option Peer
+destination discovery relay (Discovery nonce) = Some discovery
+destination discovery relay (Advertisement nonce named) = None
+destination discovery relay (Request v6 nonce) = relay
+destination discovery relay (Query limited mac nonce inner seen) = None
+destination discovery relay (Update mac nonce inner) = relay
+destination discovery relay (Multicast packet) = None
+destination discovery relay (Teardown mac nonce gateway) = relay
+
+-- the message goes there
+abbrev pub IsDirected : GatewaySettings → Option Peer → Sending → Type 0
+IsDirected settings relay sending = destination settings.discovery relay sending.message ≡ Some sending.to

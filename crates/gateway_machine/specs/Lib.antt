@@ -1,5 +1,6 @@
 pub mod Answers
 pub mod Calls
+pub mod Due
 pub mod Events
 pub mod Exchange
 pub mod General

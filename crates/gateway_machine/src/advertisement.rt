@@ -1,7 +1,8 @@
 //! What an Advertisement comes to.
 
-ghost use Rattle.std.specs.Prelude.{IfOk};
+ghost use Rattle.std.specs.Prelude.{IfOk, IsOk};
 ghost use Rattle.gateway_machine.specs.Answers.{advertisement_answer};
+ghost use Rattle.gateway_machine.specs.Outcomes.{IsRefused};
 ghost use Rattle.gateway_machine.specs.Sends.{AreShort};
 ghost use Rattle.gateway_machine.specs.State.{IsReply};
 
@@ -25,6 +26,8 @@ pub fn take_advertisement(
     ensures answers { IfOk result (IsReply
         (advertisement_answer exchange.now.state settings.now exchange.now nonce relay)) }
     ensures short { IfOk result (λ reply. AreShort reply.step.sends) }
+    ensures ignored { IsRefused
+        (advertisement_answer exchange.now.state settings.now exchange.now nonce relay).outcome → IsOk result }
 {
     if exchange.state != GatewayState::Discovering {
         return Ok(Reply::ignored(alloc, exchange, Ignored::State(2)));

@@ -1,7 +1,8 @@
 //! Discoveries and Requests. It must not know sockets.
 
-ghost use Rattle.std.specs.Prelude.{IfOk};
+ghost use Rattle.std.specs.Prelude.{IfOk, IsOk};
 ghost use Rattle.gateway_machine.specs.Answers.{ask, begin_with, discover, due_answer};
+ghost use Rattle.gateway_machine.specs.Outcomes.{IsAtRest};
 ghost use Rattle.gateway_machine.specs.Sends.{AreShort};
 ghost use Rattle.gateway_machine.specs.State.{IsReply};
 
@@ -58,6 +59,7 @@ pub fn begin(
 ) -> Result<Reply, AllocError>
     ensures answers { IfOk result (IsReply (begin_with known settings.now exchange.now)) }
     ensures short { IfOk result (λ reply. AreShort reply.step.sends) }
+    ensures rests { IsAtRest (begin_with known settings.now exchange.now).outcome → IsOk result }
 {
     match known {
         Some(_) => ask(alloc, settings, exchange.requesting()),
@@ -73,6 +75,7 @@ pub fn answer_due(
 ) -> Result<Reply, AllocError>
     ensures answers { IfOk result (IsReply (due_answer exchange.now.state settings.now exchange.now)) }
     ensures short { IfOk result (λ reply. AreShort reply.step.sends) }
+    ensures rests { IsAtRest (due_answer exchange.now.state settings.now exchange.now).outcome → IsOk result }
 {
     match exchange.state {
         // No moment comes to this: an idle gateway rests.

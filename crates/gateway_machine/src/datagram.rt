@@ -1,9 +1,11 @@
 //! What a datagram comes to: its octets, its type, and the message by its own file.
 
-ghost use Rattle.std.specs.Prelude.{◌≤◌, length, IfOk, Ok};
+ghost use Rattle.std.specs.Prelude.{◌≤◌, length, IfOk, IsOk, Ok};
 ghost use Rattle.amt_messages.specs.Messages.{IsSendable};
-ghost use Rattle.amt_messages.specs.Refusal.{message_of};
+ghost use Rattle.amt_messages.specs.Refusal.{TakesMemory, message_of};
+ghost use Rattle.socket_merge.specs.Sockets.{ForHistory};
 ghost use Rattle.gateway_machine.specs.Answers.{datagram_answer};
+ghost use Rattle.gateway_machine.specs.Outcomes.{IsRefused};
 ghost use Rattle.gateway_machine.specs.Sends.{AreShort};
 ghost use Rattle.gateway_machine.specs.Settings.{HasSourceOfFamily};
 ghost use Rattle.gateway_machine.specs.State.{IsAtMoment, Replies};
@@ -35,6 +37,9 @@ fn take_message(
     ensures answers { Replies sockets.now result (λ history.
         datagram_answer settings.now exchange.now history from.now (Ok message)) }
     ensures short { IfOk result (λ reply. AreShort reply.step.sends) }
+    ensures ignored { ForHistory sockets.now (λ history. IsRefused
+        (datagram_answer settings.now exchange.now history from.now (Ok message)).outcome
+        → (¬ TakesMemory (Ok message)) → IsOk result) }
 {
     match message {
         Message::Advertisement { nonce, relay } => {
@@ -75,6 +80,9 @@ pub fn take_datagram(
     ensures answers { Replies sockets.now result (λ history.
         datagram_answer settings.now exchange.now history from.now (message_of bytes.now)) }
     ensures short { IfOk result (λ reply. AreShort reply.step.sends) }
+    ensures ignored { ForHistory sockets.now (λ history. IsRefused
+        (datagram_answer settings.now exchange.now history from.now (message_of bytes.now)).outcome
+        → (¬ TakesMemory (message_of bytes.now)) → IsOk result) }
 {
     match decode(alloc, bytes) {
         Err(DecodeFault::Memory) => Err(AllocError),

@@ -7,10 +7,11 @@ ghost use Rattle.gateway_machine.specs.State.{AreOfSettings, HasHistory, IsAtMom
 
 use crate::event::GatewayEvent;
 use crate::exchange::{Exchange, GatewayState};
+use crate::moment::due_at;
 use crate::settings::GatewaySettings;
 use crate::step::GatewayStep;
 use crate::taken::{Taken, answer_event};
-use amt_values::Ip;
+use amt_values::{Ip, Moment};
 use socket_merge::Sockets;
 use std::alloc::{AllocError, Global};
 
@@ -48,10 +49,11 @@ pub struct Gateway {
 impl Gateway {
     ghost use Rattle.std.specs.Prelude.{◌≡◌, ◌≤◌, List, ℕ, [], ◌∷◌, ◌++◌, All, length, map, Some, IfOk, IsOk, OnErr};
     ghost use Rattle.socket_merge.specs.Interface.{wants};
+    ghost use Rattle.gateway_machine.specs.Due.{IsDueAt};
     ghost use Rattle.gateway_machine.specs.Events.{IsDraw, IsEventOf};
     ghost use Rattle.gateway_machine.specs.Laws.{AreAuthorized, IsWantedPacket};
     ghost use Rattle.gateway_machine.specs.Runs.{After, GatewayAt, answer_after, run_of, settings_of};
-    ghost use Rattle.gateway_machine.specs.Outcomes.{IsRefused};
+    ghost use Rattle.gateway_machine.specs.Outcomes.{IsRefused, NeedsNoMemory};
     ghost use Rattle.gateway_machine.specs.Sends.{datagram_of};
 
     /// A gateway at moment 0 that is idle, without sockets. Its first Discovery or Request has this
@@ -96,6 +98,15 @@ impl Gateway {
         self.sockets.admits(group, source)
     }
 
+    /// The earliest moment at which something is due, if there is one: until then a moment is `Quiet`, and
+    /// from then on it isn't. It changes with events, so a caller that sleeps asks again after each. Where
+    /// memory refused what was due, it has passed already.
+    pub fn due(&self) -> Option<Moment>
+        ensures { After self.now (λ settings first events. IsDueAt settings first events result) }
+    {
+        due_at(&self.exchange)
+    }
+
     /// Takes one event. Where memory ran out the gateway is as before, and the event may be given again.
     pub fn step(&mut self, alloc: Global, event: &GatewayEvent) -> Result<GatewayStep, AllocError>
         requires { IsEventOf (settings_of self.old) event.now }
@@ -132,6 +143,11 @@ impl Gateway {
 
         // A nonce takes no memory.
         ensures sure { IsDraw event.now → IsOk result }
+
+        // Neither does a moment at which nothing is sent, so time goes on whatever memory is left, nor a
+        // datagram that is ignored, but for a message of which octets are copied before it is judged.
+        ensures needs_none { After self.old (λ settings first events. NeedsNoMemory event.now
+            (answer_after settings first events event.now).outcome → IsOk result) }
     {
         let Taken {
             step,

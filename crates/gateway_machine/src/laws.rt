@@ -3,7 +3,7 @@ ghost use Rattle.std.specs.Prelude.{◌≡◌, ℕ, List, [], ◌∷◌, ◌++�
 ghost use Rattle.amt_values.specs.declared.peer.Peer.{Peer};
 ghost use Rattle.gateway_machine.specs.declared.event.GatewayEvent.{GatewayEvent};
 ghost use Rattle.gateway_machine.specs.declared.settings.GatewaySettings.{GatewaySettings};
-ghost use Rattle.gateway_machine.specs.Laws.{HasQuery, HasRelay, IsAuthorized, IsWantedPacket};
+ghost use Rattle.gateway_machine.specs.Laws.{HasQuery, HasRelay, IsAuthorized, IsDirected, IsWantedPacket};
 ghost use Rattle.gateway_machine.specs.Runs.{answer_after, run_of};
 
 /// Each Update and each Teardown carries the response MAC and the nonce of a Query that the gateway
@@ -40,4 +40,14 @@ pub fn queries_are_kept()
     ensures { (settings : GatewaySettings) (first : ℕ) (events : List GatewayEvent)
         → HasQuery (run_of settings first events).exchange.state
         (run_of settings first events).exchange.query }
+{}
+
+/// Each Discovery goes to the relay discovery address, and each Request, Update and Teardown to the relay that
+/// the gateway has after the event. It sends no other message, and none to anyone else: so it answers nobody but
+/// its relay.
+pub fn sends_go_to_the_relay()
+    ensures { (settings : GatewaySettings) (first : ℕ) (events : List GatewayEvent)
+        (event : GatewayEvent)
+        → All (IsDirected settings (run_of settings first (events ++ event ∷ [])).exchange.relay)
+        (answer_after settings first events event).sends }
 {}

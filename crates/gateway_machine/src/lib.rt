@@ -33,7 +33,10 @@ mod timing;
 pub use event::GatewayEvent;
 pub use exchange::GatewayState;
 pub use gateway::Gateway;
-pub use laws::{packets_are_wanted, queries_are_kept, states_have_relays, updates_answer_queries};
+pub use laws::{
+    packets_are_wanted, queries_are_kept, sends_go_to_the_relay, states_have_relays,
+    updates_answer_queries,
+};
 pub use outcome::{GatewayOutcome, Ignored, SocketRefusal};
 pub use settings::GatewaySettings;
 pub use step::{GatewayStep, PeerSend, PeerSends};

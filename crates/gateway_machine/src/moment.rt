@@ -1,7 +1,14 @@
 //! What a moment comes to. It must not know messages.
 
-ghost use Rattle.std.specs.Prelude.{◌≡◌, ◌||◌, nat_lt, IfOk};
+ghost use Rattle.std.specs.Prelude.{◌≡◌, ◌||◌, ◌<◌, ◌^◌, ◌↔◌, ℕ, List, max, nat_lt, IfOk, IsOk};
+ghost use Rattle.socket_merge.specs.Sockets.{ForHistory};
+ghost use Rattle.socket_merge.specs.History.{AcceptedCall};
 ghost use Rattle.gateway_machine.specs.Answers.{answer_at, is_idle};
+ghost use Rattle.gateway_machine.specs.Due.{IsBefore};
+ghost use Rattle.gateway_machine.specs.Exchange.{moved};
+ghost use Rattle.gateway_machine.specs.declared.outcome.GatewayOutcome.TheVariants.{Quiet};
+ghost use Rattle.gateway_machine.specs.declared.settings.GatewaySettings.{GatewaySettings as SettingsValue};
+ghost use Rattle.gateway_machine.specs.Outcomes.{IsAtRest};
 ghost use Rattle.gateway_machine.specs.Sends.{AreShort};
 ghost use Rattle.gateway_machine.specs.State.{IsAtMoment, Replies};
 
@@ -11,14 +18,34 @@ use crate::outcome::GatewayOutcome;
 use crate::reply::Reply;
 use crate::settings::GatewaySettings;
 use crate::timing::farewell_ms;
+use amt_values::Moment;
 use socket_merge::Sockets;
 use std::alloc::{AllocError, Global};
+
+fn is_idle(exchange: &Exchange) -> bool
+    ensures { result ≡ is_idle exchange.now.state }
+{
+    exchange.state == GatewayState::Idle
+}
+
+/// The earliest moment at which something is due, if there is one: never one before the exchange's own.
+pub fn due_at(exchange: &Exchange) -> Option<Moment>
+    ensures { (settings : SettingsValue) (history : List AcceptedCall) (at : ℕ) → at < 2 ^ 62
+        → ((answer_at settings (moved at exchange.now) history).outcome ≡ Quiet
+        ↔ IsBefore (max exchange.now.moment at) result) }
+{
+    if is_idle(exchange) {
+        return None;
+    }
+    let now = exchange.moment.ms();
+    Moment::new(exchange.due_ms.max(now))
+}
 
 // Nothing is due yet, or nothing is wanted.
 fn rests(exchange: &Exchange) -> bool
     ensures { result ≡ (nat_lt exchange.now.moment exchange.now.due_ms || is_idle exchange.now.state) }
 {
-    exchange.moment.ms() < exchange.due_ms || exchange.state == GatewayState::Idle
+    exchange.moment.ms() < exchange.due_ms || is_idle(exchange)
 }
 
 /// What the exchange's moment comes to.
@@ -31,6 +58,8 @@ pub fn answer_at(
     requires { IsAtMoment exchange.now sockets.now }
     ensures answers { Replies sockets.now result (answer_at settings.now exchange.now) }
     ensures short { IfOk result (λ reply. AreShort reply.step.sends) }
+    ensures rests { ForHistory sockets.now (λ history.
+        IsAtRest (answer_at settings.now exchange.now history).outcome → IsOk result) }
 {
     if rests(exchange) {
         return Ok(Reply::quiet(alloc, GatewayOutcome::Quiet, *exchange));

@@ -1,4 +1,6 @@
 //! What a gateway is set up with. It knows no script and no file that says it.
+ghost use Rattle.std.specs.Prelude.{◌↔◌, IsTrue};
+ghost use Rattle.gateway_machine.specs.Settings.{HasSourceOfFamily};
 
 use amt_values::{Ip, Peer};
 
@@ -15,4 +17,17 @@ pub struct GatewaySettings {
     pub port: u16,
     /// The source of the datagrams that carry reports: an address of the gateway's family.
     pub source: Ip,
+}
+
+impl GatewaySettings {
+    /// Whether a gateway may have these settings: its reports go out from an address of its family, as its
+    /// groups are.
+    pub fn lawful(&self) -> bool
+        ensures { IsTrue result ↔ HasSourceOfFamily self.now }
+    {
+        match self.source {
+            Ip::V4(_) => !self.v6,
+            Ip::V6(_) => self.v6,
+        }
+    }
 }

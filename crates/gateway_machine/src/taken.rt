@@ -3,9 +3,10 @@
 ghost use Rattle.std.specs.Prelude.{◌≡◌, None, IfOk, IsOk};
 ghost use Rattle.socket_merge.specs.History.{SocketCall};
 ghost use Rattle.socket_merge.specs.Sockets.{ForHistory};
-ghost use Rattle.gateway_machine.specs.Answers.{is_opening};
+ghost use Rattle.gateway_machine.specs.Answers.{event_answer, is_opening};
 ghost use Rattle.gateway_machine.specs.Calls.{AnswersCall};
 ghost use Rattle.gateway_machine.specs.Events.{IsDraw, IsEventOf};
+ghost use Rattle.gateway_machine.specs.Outcomes.{NeedsNoMemory};
 ghost use Rattle.gateway_machine.specs.Sends.{AreShort};
 ghost use Rattle.gateway_machine.specs.Settings.{HasSourceOfFamily};
 ghost use Rattle.gateway_machine.specs.State.{AreOfSettings, IsAtMoment, IsTaken, IsTakenCall};
@@ -97,6 +98,8 @@ pub fn answer_event(
 
     // A nonce takes no memory.
     ensures sure { IsDraw event.now → IsOk result }
+    ensures needs_none { ForHistory sockets.now (λ history. NeedsNoMemory event.now
+        (event_answer settings.now exchange.now history event.now).outcome → IsOk result) }
 {
     let at = &exchange.moment;
     match event {

@@ -1,0 +1,20 @@
+-- When something is due.
+use Rattle.std.specs.Prelude.{◌≡◌, ℕ, ◌<◌, ◌^◌, ◌↔◌, max, List, Option, Some, None}
+use Rattle.gateway_machine.specs.declared.event.GatewayEvent.{GatewayEvent}
+use Rattle.gateway_machine.specs.declared.event.GatewayEvent.TheVariants.{Moment}
+use Rattle.gateway_machine.specs.declared.outcome.GatewayOutcome.TheVariants.{Quiet}
+use Rattle.gateway_machine.specs.declared.settings.GatewaySettings.{GatewaySettings}
+use Rattle.gateway_machine.specs.Runs.{answer_after, run_of}
+
+-- a moment is before another one, if there is one
+abbrev pub IsBefore : ℕ → Option ℕ → Type 0
+IsBefore at None = Unit {0}
+IsBefore at (Some due) = at < due
+
+-- After these events this is the earliest moment at which something is due, if there is one: when a moment is
+-- told, nothing is due exactly where the later one of it and of the gateway's own is before that.
+abbrev pub IsDueAt : GatewaySettings → ℕ → List GatewayEvent → Option ℕ → Type 0
+IsDueAt settings first events due =
+    (at : ℕ) → at < 2 ^ 62
+    → ((answer_after settings first events (Moment at)).outcome ≡ Quiet
+    ↔ IsBefore (max (run_of settings first events).exchange.moment at) due)
