@@ -1,7 +1,6 @@
 //! Gateway scripts as a kind of script. It knows no line of theirs.
 
-ghost use Rattle.std.specs.Prelude.{◌≤◌, ◌↔◌, length, IfOk, IfErr, IsTrue};
-ghost use Rattle.gateway_machine.specs.Settings.{HasSourceOfFamily};
+ghost use Rattle.std.specs.Prelude.{◌≤◌, length, IfOk, IfErr};
 ghost use Rattle.script_lines.specs.Script.{IsErrorOf, RulesOutScripts, HasOneScript, HasOneFault};
 ghost use Rattle.gateway_script.specs.Running.{IsRunnable};
 ghost use Rattle.gateway_script.specs.Script.{IsGatewayScript, gateway_kind};
@@ -10,8 +9,6 @@ use crate::line::{GatewayStatement, read_statement};
 use crate::script::{GatewayItems, GatewayScript};
 use crate::setting::Setting;
 use crate::settling::settle;
-use amt_values::Ip;
-use gateway_machine::GatewaySettings;
 use script_lines::{LineError, Reason, ScriptError, ScriptKind, read_script};
 use std::alloc::Global;
 
@@ -20,16 +17,6 @@ use std::alloc::Global;
 struct GatewayLines {
     given: Vec<Setting>,
     items: GatewayItems,
-}
-
-// Reports may go out from the settings' source: it is of the gateway's family.
-fn has_source_of_family(settings: &GatewaySettings) -> bool
-    ensures { IsTrue result ↔ HasSourceOfFamily settings.now }
-{
-    match settings.source {
-        Ip::V4(_) => !settings.v6,
-        Ip::V6(_) => settings.v6,
-    }
 }
 
 impl ScriptKind for GatewayLines {
@@ -75,7 +62,7 @@ impl ScriptKind for GatewayLines {
         let Some(settled) = settle(self.given.as_slice()) else {
             return Err(Reason::Missing);
         };
-        if !has_source_of_family(&settled.settings) {
+        if !settled.settings.lawful() {
             return Err(Reason::Range);
         }
         Ok(GatewayScript {
