@@ -20,6 +20,7 @@ use Rattle.socket_merge.specs.History.{AcceptedCall, Socket, group_opened, group
 use Rattle.socket_merge.specs.Interface.{filters_on, interface, on_group, same_group}
 use Rattle.socket_merge.proofs.RawOctets.{unwanted}
 use Rattle.socket_merge.proofs.Wanted.{same_group-itself}
+use Rattle.socket_merge.proofs.ShortChanges.{changes-itself as changes-same}
 use Rattle.amt_pair.proofs.AcceptedCalls.{AreAccepted}
 use Rattle.amt_pair.proofs.OpenSockets.{HaveFilters, IsFilterOf, IsSocketOf, sockets-of}
 
@@ -96,34 +97,9 @@ unopened-before newest older group none =
 
 -- ---- filters by their change records
 
-or_first : (first rest : Bool) → first ≡ true → (first || rest) ≡ true
-or_first true rest is = refl
-or_first false rest is = absurd cc
-
-none-listed : (sources : List Ip) → ((source : Ip) → has ip_order sources source ≡ false) → sources ≡ []
-none-listed [] none = refl
-none-listed (first ∷ more) none =
-    let here = or_first (same_group first first) (has ip_order more first) (same_group-itself first) in
-    let absent = none first in absurd cc
-
-both_no : (test : Bool) → (test && not test) ≡ false
-both_no true = refl
-both_no false = refl
-
-difference-itself : (sources : List Ip) → difference ip_order sources sources ≡ []
-difference-itself sources =
-    none-listed (difference ip_order sources sources)
-    (λ source. has-difference ip_order-exact sources sources source ∙ both_no (has ip_order sources source))
-
-changes-itself_by : (mode : Mode) (sources : List Ip) (group : Ip) → changes_on (record { mode = mode; sources = sources }) (record { mode = mode; sources = sources }) group ≡ []
-changes-itself_by Include sources group =
-    ap (λ (none : List Ip). record_of_some Allow group none ++ record_of_some Block group none) (difference-itself sources)
-changes-itself_by Exclude sources group =
-    ap (λ (none : List Ip). record_of_some Allow group none ++ record_of_some Block group none) (difference-itself sources)
-
 -- where a filter stays, nothing is told of its change
 pub changes-itself : (filter : FilterValue) (group : Ip) → changes_on filter filter group ≡ []
-changes-itself filter group = changes-itself_by filter.mode filter.sources group
+changes-itself filter group = changes-same filter.mode filter.sources group
 
 -- where nothing is told of a change, the filter stays
 pub same-filter : (old new : FilterValue) (group : Ip) → IsAscending ip_order old.sources → IsAscending ip_order new.sources → changes_on old new group ≡ [] → old ≡ new

@@ -2,6 +2,7 @@ pub mod AcceptedCalls
 pub mod AgreedRows
 pub mod Alone
 pub mod BothEnds
+pub mod ChangeLimits
 pub mod CourseLog
 pub mod CourseSteps
 pub mod Courses

@@ -1,14 +1,11 @@
 -- The turns of a step of a gateway may come.
-use Rattle.std.proofs.Common.{◌≡◌, ℕ, ◌⊎◌, nat_le, Bool, true, false, List, [], ◌∷◌, Option, Some, None, if◌then◌else◌, inl, inr, refl, sym, ap, ◌∙◌}
+use Rattle.std.proofs.Common.{◌≡◌, ℕ, ◌⊎◌, Bool, true, false, List, [], ◌∷◌, Option, Some, None, inl, inr, refl, sym, ap, ◌∙◌}
 use Rattle.amt_values.specs.EndpointValue.{EndpointValue}
 use Rattle.amt_values.specs.declared.address.Ip.{Ip}
-use Rattle.source_filter.specs.Changes.{changes_on}
 use Rattle.source_filter.specs.declared.record.Record.{Record}
-use Rattle.group_records.specs.Written.{report_length}
 use Rattle.endpoint_membership.specs.Log.{on_group}
 use Rattle.socket_merge.specs.Changes.{change_records}
 use Rattle.socket_merge.specs.History.{AcceptedCall, Change, Close, LeaveAll, Open, SocketCall, with_call}
-use Rattle.socket_merge.specs.Interface.{interface}
 use Rattle.gateway_machine.specs.Answers.{refusal_at}
 use Rattle.gateway_machine.specs.Runs.{Run, answer_in}
 use Rattle.gateway_machine.specs.Settings.{family_of}
@@ -37,12 +34,6 @@ may-datagram endpoint settings exchange history reports made true lifetime accep
     (full-is (family_of settings) history exchange.moment (keep_of lifetime) accepted, tt)
 may-datagram endpoint settings exchange history reports made false lifetime accepted = tt
 
--- the records that fit, of a group, are all or none
-fitting-on : (group : Ip) (test : Bool) (records said : List Record) → on_group group records ≡ said
-    → (on_group group (if test then records else []) ≡ said) ⊎ (on_group group (if test then records else []) ≡ [])
-fitting-on group true records said is = inl is
-fitting-on group false records said is = inr refl
-
 module _ (endpoint : EndpointValue) (settings : GatewaySettings) (exchange : Exchange) (history : List AcceptedCall) (reports : List SentReport) (made : List Made) (call : SocketCall)
     (accepted : AreAccepted (family_of settings) (with_call exchange.moment call history)) (filters : HaveFilters (with_call exchange.moment call history)) where
   may-change : (records : List Record) → change_records (family_of settings) history (with_call exchange.moment call history) ≡ records → is_active exchange.state ≡ true
@@ -50,10 +41,7 @@ module _ (endpoint : EndpointValue) (settings : GatewaySettings) (exchange : Exc
   may-change [] are active = inr (unchanged (family_of settings) _ history accepted filters are)
   may-change (first ∷ more) are active = (
     active,
-    λ group.
-        fitting-on group (nat_le (report_length (family_of settings) (first ∷ more)) 1400) (first ∷ more)
-        (changes_on (interface history group) (interface (with_call exchange.moment call history) group) group)
-        (ap (on_group group) (sym are) ∙ changed-is (family_of settings) _ history accepted group),
+    λ group. inl (ap (on_group group) (sym are) ∙ changed-is (family_of settings) _ history accepted group),
     full-is (family_of settings) (with_call exchange.moment call history) exchange.moment (farewell_ms exchange.query) accepted,
     changed-some (family_of settings) history (with_call exchange.moment call history) first more are,
   )

@@ -1,11 +1,10 @@
 -- What the turns of a gateway's step leave as they are: they deliver nothing, and a Query among them is the
 -- relay's.
-use Rattle.std.proofs.Common.{◌≡◌, ℕ, max, nat_le, Bool, true, false, cond, if◌then◌else◌, List, [], ◌∷◌, ◌++◌, All, Option, Some, None, refl, ap, ◌∙◌}
-use Rattle.std.proofs.lemmas.List.Elements.{All-cons, All-head, All-nil, All-tail, All-weaker}
+use Rattle.std.proofs.Common.{◌≡◌, ℕ, max, Bool, true, false, cond, List, [], ◌∷◌, ◌++◌, All, Option, Some, None, refl, ap, ◌∙◌}
+use Rattle.std.proofs.lemmas.List.Elements.{All-cons, All-head, All-tail, All-weaker}
 use Rattle.amt_values.specs.EndpointValue.{EndpointValue}
 use Rattle.amt_values.specs.Group.{is_forwardable}
 use Rattle.source_filter.specs.declared.record.Record.{Record}
-use Rattle.group_records.specs.Written.{report_length}
 use Rattle.group_records.specs.declared.family.Family.{Family}
 use Rattle.socket_merge.specs.Changes.{change_records}
 use Rattle.socket_merge.specs.FullReport.{full_report_of}
@@ -104,10 +103,6 @@ forwarded-full : (family : Family) (history : List AcceptedCall) (at keep : ℕ)
 forwarded-full family history at keep accepted filters =
     All-weaker (MayStand family) IsForwarded (λ one is. is.forwarded) (full_report_of family history at keep) (full-may_stand family history at keep accepted filters)
 
-forwarded-if : (test : Bool) (records : List Record) → All IsForwarded records → All IsForwarded (if test then records else [])
-forwarded-if true records all = all
-forwarded-if false records all = All-nil IsForwarded
-
 own-datagram : (lifetime : ℕ) (accepted : Bool) (settings : GatewaySettings) (exchange : Exchange) (history : List AcceptedCall) (stated : ℕ)
     → (accepted ≡ true → stated ≡ lifetime) → AreAccepted (family_of settings) history → HaveFilters history
     → AreOwn lifetime (datagram_turns accepted settings exchange history stated)
@@ -119,7 +114,7 @@ own-changing : (lifetime : ℕ) (settings : GatewaySettings) (exchange : Exchang
     → All IsForwarded records → All IsForwarded (full_records settings exchange later) → IsOwn lifetime (changing_turn settings exchange later call records)
 own-changing lifetime settings exchange later call [] changed full = tt
 own-changing lifetime settings exchange later call (first ∷ more) changed full =
-    (forwarded-if (nat_le (report_length (family_of settings) (first ∷ more)) 1400) (first ∷ more) changed, full)
+    (changed, full)
 
 own-accepted : (lifetime : ℕ) (active : Bool) (settings : GatewaySettings) (exchange : Exchange) (before : List AcceptedCall) (call : SocketCall)
     → AreAccepted (family_of settings) (with_call exchange.moment call before) → HaveFilters (with_call exchange.moment call before)
@@ -227,7 +222,7 @@ moment-changing : (endpoint : EndpointValue) (tunnel : Tunnel) (settings : Gatew
     → (happens endpoint tunnel (changing_turn settings exchange later call records)).moment ≡ tunnel.moment
 moment-changing endpoint tunnel settings exchange later call [] = refl
 moment-changing endpoint tunnel settings exchange later call (first ∷ more) =
-    moment-send (send (called tunnel call) false _) true _ ∙ moment-send (called tunnel call) false _
+    moment-send (send (called tunnel call) false (first ∷ more)) true (full_records settings exchange later) ∙ moment-send (called tunnel call) false (first ∷ more)
 
 moment-accepted : (endpoint : EndpointValue) (tunnel : Tunnel) (active : Bool) (settings : GatewaySettings) (exchange : Exchange) (before later : List AcceptedCall) (call : SocketCall)
     → (happens endpoint tunnel (accepted_turn active settings exchange before later call)).moment ≡ tunnel.moment

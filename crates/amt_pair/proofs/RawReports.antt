@@ -25,8 +25,8 @@ use Rattle.socket_merge.specs.declared.stored.Tally.{Tally}
 use Rattle.socket_merge.proofs.Amounts.{has_name, part}
 use Rattle.socket_merge.proofs.Counted.{Counts, Counts-of, amount, is_wanted-counted, listing, one, wanting_few}
 use Rattle.socket_merge.proofs.HoldsAfter.{Stands, read_at}
-use Rattle.socket_merge.proofs.RawOctets.{IsLess, due_earlier, raw-by_groups}
-use Rattle.socket_merge.proofs.Reports.{flat_map-filter}
+use Rattle.socket_merge.proofs.RawOctets.{IsLess, due_earlier, raw-by_groups, raw_octets-le}
+use Rattle.socket_merge.proofs.Reports.{flat_map-filter, octets_of_record, sum_by-flat_map, sum_by-mapped}
 use Rattle.socket_merge.proofs.Wanted.{length-merged, source_number}
 
 -- what a group comes to by the history: its open sockets, and when it was left
@@ -54,18 +54,6 @@ raw-is family history = raw-by_groups family history (tally_in history) (Stands-
 pub raw-empty : (family : Family) → raw_report_length family [] ≡ 8
 raw-empty family = raw-is family []
 
--- the octets of a record
-abbrev octets_of_record : Family → Record → ℕ
-octets_of_record family said = head_length family + length said.sources * width family
-
-sum_by-flat_map : (f : Record → ℕ) (g : Ip → List Record) (groups : List Ip) → sum_by f (flat_map g groups) ≡ sum_by (λ group. sum_by f (g group)) groups
-sum_by-flat_map f g [] = refl
-sum_by-flat_map f g (group ∷ more) = omega (arith, sum_by-append f (g group) (flat_map g more), sum_by-flat_map f g more, sum_by-cons (λ other. sum_by f (g other)) group more)
-
-raw_octets-le : (family : Family) (fewer more : ℕ) → fewer ≤ more → raw_octets family fewer ≤ raw_octets family more
-raw_octets-le V4 fewer more less = omega arith
-raw_octets-le V6 fewer more less = omega arith
-
 -- what is said of a group of the family, by whether it is wanted, or left not long ago
 abbrev said_by : Bool → Bool → Bool → Ip → FilterValue → List Record
 said_by of wanted lasts group filter = cond of (cond wanted (states group filter ∷ []) (cond lasts (farewell group ∷ []) [])) []
@@ -80,9 +68,6 @@ said_less family true false true place group filter sources few state left =
     let here = ap {B = ℕ} (λ (test : Bool). cond test (raw_octets family sources) 0) (left refl) in
     omega (arith, here, sum_by-cons (octets_of_record family) (farewell group) [], raw_octets-le family 0 sources (omega arith))
 said_less family true false false place group filter sources few state left = omega arith
-
-sum_by-mapped : (f : FilterValue → ℕ) (sockets : List Socket) → sum_by f (map (λ (socket : Socket). socket.filter) sockets) ≡ sum_by (λ socket. f socket.filter) sockets
-sum_by-mapped f sockets = fold-map (λ (total : ℕ) (filter : FilterValue). total + f filter) (λ (socket : Socket). socket.filter) 0 sockets
 
 due_where_recent : (moment at keep : ℕ) (left : Option ℕ) → moment ≤ at → is_recent at keep left ≡ true → may_be_due moment left ≡ true
 due_where_recent moment at keep None onward recent = absurd cc

@@ -1,9 +1,8 @@
 -- The reports among what a gateway sends with an event.
-use Rattle.std.proofs.Common.{◌≡◌, ℕ, ◌≤◌, nat_le, Bool, true, false, List, [], ◌∷◌, ◌++◌, map, reverse, Option, Some, None, Ok, if◌then◌else◌, refl, ap, ◌∙◌, arith}
+use Rattle.std.proofs.Common.{◌≡◌, ℕ, ◌≤◌, Bool, true, false, List, [], ◌∷◌, ◌++◌, map, reverse, Option, Some, None, Ok, refl, ap, ◌∙◌}
 use Rattle.std.specs.List.{All, filter_map}
-use Rattle.std.proofs.lemmas.Bool.{leb-true}
 use Rattle.std.proofs.lemmas.List.{map-append}
-use Rattle.std.proofs.lemmas.List.Elements.{All-nil, All-weaker, filter_map-append}
+use Rattle.std.proofs.lemmas.List.Elements.{All-weaker, filter_map-append}
 use Rattle.amt_values.specs.EndpointValue.{EndpointValue}
 use Rattle.amt_values.specs.declared.mac.Mac48.{Mac48}
 use Rattle.amt_values.specs.declared.peer.Peer.{Peer}
@@ -13,7 +12,7 @@ use Rattle.group_records.specs.Written.{HasFittingAddresses, IsOfFamily, report_
 use Rattle.group_records.specs.declared.family.Family.{Family}
 use Rattle.socket_merge.specs.Changes.{change_records}
 use Rattle.socket_merge.specs.History.{AcceptedCall, latest}
-use Rattle.gateway_machine.specs.Reports.{full_records, if_they_fit, report_datagram, same_endpoint, teardown, teardown_by, teardown_if, update, update_by}
+use Rattle.gateway_machine.specs.Reports.{full_records, report_datagram, same_endpoint, teardown, teardown_by, teardown_if, update, update_by}
 use Rattle.gateway_machine.specs.Sends.{Sending, to_relay}
 use Rattle.gateway_machine.specs.Settings.{HasSourceOfFamily, family_of}
 use Rattle.gateway_machine.specs.Timing.{farewell_ms}
@@ -23,6 +22,7 @@ use Rattle.gateway_machine.specs.declared.settings.GatewaySettings.{GatewaySetti
 use Rattle.relay_machine.specs.Updates.{report_in}
 use Rattle.amt_pair.specs.Sent.{Sent, SentReport, report_of}
 use Rattle.amt_pair.proofs.AcceptedCalls.{AreAccepted}
+use Rattle.amt_pair.proofs.ChangeLimits.{short-change}
 use Rattle.amt_pair.proofs.OpenSockets.{HaveFilters}
 use Rattle.amt_pair.proofs.ReadReports.{report_in-report_datagram}
 use Rattle.amt_pair.proofs.ReportLimits.{short_reports}
@@ -55,19 +55,11 @@ pub record MayBeSent (family : Family) (records : List Record) : Type 0 where
 
 -- ---- which records are sent
 
-if_fitting : (family : Family) (test : Bool) (records : List Record) → All (MayStand family) records → (test ≡ true → report_length family records ≤ 1400)
-    → MayBeSent family (if test then records else [])
-if_fitting family true records each short = record { each = each; short = short refl }
-if_fitting family false records each short = record { each = All-nil (MayStand family); short = omega arith }
-
--- the change records of a call, where they fit
+-- the change records of a call
 pub changed-may_be_sent : (settings : GatewaySettings) (newest : AcceptedCall) (older : List AcceptedCall) → AreAccepted (family_of settings) (newest ∷ older) → HaveFilters (newest ∷ older)
-    → MayBeSent (family_of settings) (if_they_fit settings (change_records (family_of settings) older (newest ∷ older)))
+    → MayBeSent (family_of settings) (change_records (family_of settings) older (newest ∷ older))
 changed-may_be_sent settings newest older accepted filters =
-    let family = family_of settings in
-    let records = change_records family older (newest ∷ older) in
-    if_fitting family (nat_le (report_length family records) 1400) records (changed-may_stand family newest older accepted filters)
-    (leb-true (report_length family records) 1400)
+    record { each = changed-may_stand (family_of settings) newest older accepted filters; short = short-change (family_of settings) newest older accepted }
 
 -- the full records
 pub full-may_be_sent : (settings : GatewaySettings) (exchange : Exchange) (history : List AcceptedCall) → AreAccepted (family_of settings) history → HaveFilters history

@@ -17,7 +17,7 @@ use Rattle.socket_merge.specs.History.{AcceptedCall, Change, Close, LeaveAll, Op
 use Rattle.gateway_machine.specs.Answers.{Answer, accepted_answer, advertisement_answer, answer_at, ask, asked_relay, begin_with, call_answer, call_by, cause_heard, changed_answer, datagram_answer, due_answer, fields_heard, history_by, if_accepted, ignored, is_idle, is_opening, joined_relay, packet_by, query_accepted, query_by, query_kept, quiet, refusal_at}
 use Rattle.gateway_machine.specs.Exchange.{active, moved, relay_named, requesting, retried}
 use Rattle.gateway_machine.specs.Laws.{HasQuery, HasRelay}
-use Rattle.gateway_machine.specs.Reports.{full_records, full_report, if_they_fit, teardown, update}
+use Rattle.gateway_machine.specs.Reports.{full_records, full_report, teardown, update}
 use Rattle.gateway_machine.specs.Runs.{Run, with_event}
 use Rattle.gateway_machine.specs.Settings.{HasSourceOfFamily, family_of}
 use Rattle.gateway_machine.specs.Timing.{farewell_ms, last_lifetime}
@@ -251,7 +251,7 @@ record IsTelling (settings : GatewaySettings) (exchange : Exchange) (after : Lis
   own : HasSourceOfFamily settings
   relay : (peer : Peer) × (exchange.relay ≡ Some peer)
   query : (last : LastQuery) × (exchange.query ≡ Some last)
-  changed : MayBeSent (family_of settings) (if_they_fit settings records)
+  changed : MayBeSent (family_of settings) records
   full : MayBeSent (family_of settings) (full_records settings exchange after)
 
 called-changed : (settings : GatewaySettings) (exchange : Exchange) (before : List AcceptedCall) (call : SocketCall) (records : List Record)
@@ -260,7 +260,7 @@ called-changed : (settings : GatewaySettings) (exchange : Exchange) (before : Li
 called-changed settings exchange before call [] telling endpoint reports made = called-kept exchange before call endpoint reports made
 called-changed settings exchange before call (first ∷ more) telling endpoint reports made =
     let after = with_call exchange.moment call before in
-    let fitting = if_they_fit settings (first ∷ more) in
+    let fitting = first ∷ more in
     let full = full_records settings exchange after in
     let one = reported exchange after false fitting in
     let other = reported exchange after true full in

@@ -8,7 +8,7 @@ use Rattle.socket_merge.specs.FullReport.{full_report_of}
 use Rattle.socket_merge.specs.History.{AcceptedCall, Change, Close, LeaveAll, Open, SocketCall, latest, with_call}
 use Rattle.gateway_machine.specs.Answers.{refusal_at}
 use Rattle.gateway_machine.specs.Laws.{HasQuery, HasRelay}
-use Rattle.gateway_machine.specs.Reports.{full_records, if_they_fit}
+use Rattle.gateway_machine.specs.Reports.{full_records}
 use Rattle.gateway_machine.specs.Runs.{Run, answer_in}
 use Rattle.gateway_machine.specs.Settings.{family_of}
 use Rattle.gateway_machine.specs.Timing.{last_lifetime}
@@ -88,7 +88,7 @@ datagram_turns false settings exchange history lifetime = []
 abbrev pub changing_turn : GatewaySettings → Exchange → List AcceptedCall → SocketCall → List Record → Turn
 changing_turn settings exchange after call [] = Keeps call
 changing_turn settings exchange after call (first ∷ more) =
-    Changes call (if_they_fit settings (first ∷ more)) (full_records settings exchange after)
+    Changes call (first ∷ more) (full_records settings exchange after)
 
 -- the turn of an accepted call
 abbrev pub accepted_turn : Bool → GatewaySettings → Exchange → List AcceptedCall → List AcceptedCall → SocketCall → Turn

@@ -18,7 +18,7 @@ use Rattle.gateway_machine.specs.declared.settings.GatewaySettings.{GatewaySetti
 use Rattle.gateway_machine.specs.Answers.{accepted_answer, call_by, changed_answer, query_accepted}
 use Rattle.gateway_machine.specs.Exchange.{active}
 use Rattle.gateway_machine.specs.Laws.{last_of}
-use Rattle.gateway_machine.specs.Reports.{change_reports, full_records, full_report, if_they_fit, report_datagram, same_endpoint, teardown, teardown_by, teardown_if, update_by}
+use Rattle.gateway_machine.specs.Reports.{change_reports, full_records, full_report, report_datagram, same_endpoint, teardown, teardown_by, teardown_if, update_by}
 use Rattle.gateway_machine.specs.Sends.{Sending}
 use Rattle.gateway_machine.specs.Settings.{family_of}
 use Rattle.gateway_machine.proofs.Requests.{begin-sound, to_relay-carries}
@@ -42,8 +42,8 @@ module _ (Good : Mac48 → ℕ → Type 0) where
   changes-carry : (settings : GatewaySettings) (exchange : Exchange) (history : List AcceptedCall) (changes : List Record) → IsBy Good exchange.query
       → AllCarry Good (change_reports settings exchange history changes)
   changes-carry settings exchange history changes by =
-      both-carry (update_by exchange.query settings exchange false (if_they_fit settings changes)) (full_report settings exchange history)
-      (update-carries exchange.query settings exchange false (if_they_fit settings changes) by) (full-carries settings exchange history by)
+      both-carry (update_by exchange.query settings exchange false changes) (full_report settings exchange history)
+      (update-carries exchange.query settings exchange false changes by) (full-carries settings exchange history by)
 
   teardown_if-carries : (same : Bool) (exchange : Exchange) (last : LastQuery) (before : EndpointValue) → Good last.mac last.nonce
       → AllCarry Good (teardown_if same exchange last before)

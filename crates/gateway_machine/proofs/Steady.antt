@@ -39,9 +39,9 @@ record IsSteady (exchange : Exchange) (answer : Answer) : Type 0 where
   refused : IsRefused answer.outcome → answer.next ≡ exchange
 
 -- the answer keeps the moment, and refuses nothing
-record IsHeeded (exchange : Exchange) (answer : Answer) : Type 0 where
-  moment : answer.next.moment ≡ exchange.moment
-  heeded : IsRefused answer.outcome → ⊥
+pub record IsHeeded (exchange : Exchange) (answer : Answer) : Type 0 where
+  pub moment : answer.next.moment ≡ exchange.moment
+  pub heeded : IsRefused answer.outcome → ⊥
 
 steady : (exchange : Exchange) (answer : Answer) → IsHeeded exchange answer → IsSteady exchange answer
 steady exchange answer is = record { moment = is.moment; refused = λ refused. absurd (is.heeded refused) }
@@ -74,7 +74,7 @@ heeded_changed : (settings : GatewaySettings) (exchange : Exchange) (history : L
 heeded_changed settings exchange history [] = record { moment = refl; heeded = λ refused. refused }
 heeded_changed settings exchange history (first ∷ more) = record { moment = refl; heeded = λ refused. refused }
 
-heeded_accepted : (state : GatewayState) (opening : Bool) (settings : GatewaySettings) (exchange : Exchange) (before after : List AcceptedCall)
+pub heeded_accepted : (state : GatewayState) (opening : Bool) (settings : GatewaySettings) (exchange : Exchange) (before after : List AcceptedCall)
     → IsHeeded exchange (accepted_answer state opening settings exchange before after)
 heeded_accepted InIdle true settings exchange before after = heeded_begin exchange.relay settings exchange
 heeded_accepted InIdle false settings exchange before after = record { moment = refl; heeded = λ refused. refused }

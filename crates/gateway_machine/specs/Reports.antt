@@ -1,5 +1,5 @@
 -- The reports that a gateway sends (RFC 7450, section 5.1.5).
-use Rattle.std.specs.Prelude.{ℕ, nat_le, Bool, true, false, List, [], ◌∷◌, ◌++◌, Option, Some, None, if◌then◌else◌}
+use Rattle.std.specs.Prelude.{ℕ, Bool, true, false, List, [], ◌∷◌, ◌++◌, Option, Some, None}
 use Rattle.std.specs.Ordering.{eq_by_cmp}
 use Rattle.amt_values.specs.EndpointValue.{EndpointValue}
 use Rattle.amt_values.specs.Order.{endpoint_order}
@@ -8,7 +8,6 @@ use Rattle.amt_values.specs.declared.address.Ip.TheVariants.{V4, V6}
 use Rattle.amt_messages.specs.declared.message.Message.TheVariants.{Teardown, Update}
 use Rattle.inner_datagrams.specs.Written.{written_inner4, written_inner6}
 use Rattle.source_filter.specs.declared.record.Record.{Record}
-use Rattle.group_records.specs.Written.{report_length}
 use Rattle.igmp_records.specs.Report.{written_report4}
 use Rattle.mld_records.specs.Report.{written_report6}
 use Rattle.socket_merge.specs.FullReport.{full_report_of}
@@ -58,17 +57,11 @@ full_records settings exchange history =
 abbrev pub full_report : GatewaySettings → Exchange → List AcceptedCall → List Sending
 full_report settings exchange history = update settings exchange true (full_records settings exchange history)
 
--- the records, unless their report is longer than a datagram of the tunnel carries. No socket call comes to
--- more than 1,400 octets: one group changes by at most 64 sources, 1,072 octets, and leaving all is no longer
--- than the raw report
-abbrev pub if_they_fit : GatewaySettings → List Record → List Record
-if_they_fit settings records = if nat_le (report_length (family_of settings) records) 1400 then records else []
-
 -- the records of a change of filters (RFC 3376, section 5.1), and after them those of all that is wanted,
 -- so that one lost report is made good by the next
 abbrev pub change_reports : GatewaySettings → Exchange → List AcceptedCall → List Record → List Sending
 change_reports settings exchange history changes =
-    update settings exchange false (if_they_fit settings changes) ++ full_report settings exchange history
+    update settings exchange false changes ++ full_report settings exchange history
 
 -- the endpoints are one
 abbrev pub same_endpoint : EndpointValue → EndpointValue → Bool

@@ -3,10 +3,10 @@
 
 ghost use Rattle.std.specs.Prelude.{◌≡◌, ℕ, ◌≤◌, true, length, All, IfOk};
 ghost use Rattle.amt_values.specs.Group.{is_forwardable};
-ghost use Rattle.group_records.specs.Written.{IsOfFamily};
+ghost use Rattle.group_records.specs.Written.{IsOfFamily, report_length};
 ghost use Rattle.socket_merge.specs.History.{Change, Close, LeaveAll, Open, SocketCall, with_call};
 ghost use Rattle.socket_merge.specs.Sockets.{AreOfGroup, AreOfSocket, ForHistory, SocketsHold};
-ghost use Rattle.socket_merge.specs.Changes.{change_records};
+ghost use Rattle.socket_merge.specs.Changes.{IsOneCallAfter, change_records};
 ghost use Rattle.socket_merge.specs.FullReport.{family_by};
 ghost use Rattle.gateway_machine.specs.Answers.{accepted_answer, changed_answer};
 ghost use Rattle.gateway_machine.specs.Calls.{AnswersCall, call_fault};
@@ -22,7 +22,7 @@ use crate::report::push_change_reports;
 use crate::settings::GatewaySettings;
 use crate::step::PeerSends;
 use amt_values::{Ip, Moment};
-use group_records::ITEM_LIMIT;
+use group_records::{ITEM_LIMIT, REPORT_LIMIT};
 use socket_merge::{SocketFault, Sockets};
 use source_filter::{Filter, Records};
 use std::alloc::{AllocError, Global};
@@ -60,8 +60,10 @@ pub fn open_socket(
     requires forwarded { is_forwardable group.now ≡ true }
     requires family { AreOfGroup group.now filter.now }
     requires items { length filter.now.sources ≤ ITEM_LIMIT }
-    ensures { ForHistory sockets.now (λ history.
+    ensures answers { ForHistory sockets.now (λ history.
         AnswersCall at.now history (Open name.now group.now filter.now) result) }
+    ensures one_call { IfOk result (λ after.
+        IsOneCallAfter sockets.now.sockets after.sockets) }
 {
     let Ok(mut after) = sockets.copy_all(alloc) else {
         return Err(CallFault::Memory);
@@ -82,8 +84,10 @@ pub fn change_socket(
 ) -> Result<Sockets, CallFault>
     requires family { AreOfSocket name.now sockets.now filter.now }
     requires items { length filter.now.sources ≤ ITEM_LIMIT }
-    ensures { ForHistory sockets.now (λ history.
+    ensures answers { ForHistory sockets.now (λ history.
         AnswersCall at.now history (Change name.now filter.now) result) }
+    ensures one_call { IfOk result (λ after.
+        IsOneCallAfter sockets.now.sockets after.sockets) }
 {
     let Ok(mut after) = sockets.copy_all(alloc) else {
         return Err(CallFault::Memory);
@@ -101,8 +105,10 @@ pub fn close_socket(
     at: &Moment,
     name: &[u8],
 ) -> Result<Sockets, CallFault>
-    ensures { ForHistory sockets.now (λ history.
+    ensures answers { ForHistory sockets.now (λ history.
         AnswersCall at.now history (Close name.now) result) }
+    ensures one_call { IfOk result (λ after.
+        IsOneCallAfter sockets.now.sockets after.sockets) }
 {
     let Ok(mut after) = sockets.copy_all(alloc) else {
         return Err(CallFault::Memory);
@@ -115,7 +121,9 @@ pub fn close_socket(
 
 /// The sockets after all are closed.
 pub fn leave_all(alloc: Global, sockets: &Sockets, at: &Moment) -> Result<Sockets, CallFault>
-    ensures { ForHistory sockets.now (λ history. AnswersCall at.now history LeaveAll result) }
+    ensures answers { ForHistory sockets.now (λ history. AnswersCall at.now history LeaveAll result) }
+    ensures one_call { IfOk result (λ after.
+        IsOneCallAfter sockets.now.sockets after.sockets) }
 {
     let Ok(mut after) = sockets.copy_all(alloc) else {
         return Err(CallFault::Memory);
@@ -131,10 +139,13 @@ fn call_changes(
     before: &Sockets,
     after: &Sockets,
 ) -> Result<Records, AllocError>
+    requires { IsOneCallAfter before.now.sockets after.now.sockets }
     ensures records { ForHistory before.now (λ history. (at : ℕ) (call : SocketCall)
         → SocketsHold after.now (with_call at call history) → IfOk result (λ records.
         records ≡ change_records (family_by settings.now.v6) history (with_call at call history))) }
     ensures family { IfOk result (All (IsOfFamily (family_by settings.now.v6))) }
+    ensures most { IfOk result (λ records.
+        report_length (family_by settings.now.v6) records ≤ REPORT_LIMIT) }
 {
     after.changes_since(alloc, before, settings.v6)
 }
@@ -149,6 +160,7 @@ fn report_changes(
 ) -> Result<Reply, AllocError>
     requires source { HasSourceOfFamily settings.now }
     requires at { IsAtMoment exchange.now before.now }
+    requires one_call { IsOneCallAfter before.now.sockets after.now.sockets }
     ensures answers { ForHistory before.now (λ history. (call : SocketCall)
         → SocketsHold after.now (with_call exchange.now.moment call history)
         → IfOk result (IsReply (changed_answer settings.now exchange.now
@@ -176,6 +188,7 @@ pub fn answer_accepted(
 ) -> Result<Reply, AllocError>
     requires source { HasSourceOfFamily settings.now }
     requires at { IsAtMoment exchange.now before.now }
+    requires one_call { IsOneCallAfter before.now.sockets after.now.sockets }
     ensures answers { ForHistory before.now (λ history. (call : SocketCall)
         → SocketsHold after.now (with_call exchange.now.moment call history)
         → IfOk result (IsReply (accepted_answer exchange.now.state opening settings.now exchange.now

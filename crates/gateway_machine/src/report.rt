@@ -1,6 +1,6 @@
 //! The reports that a gateway sends, as messages to its relay. It must not know states or events.
 
-ghost use Rattle.std.specs.Prelude.{◌≡◌, ◌≤◌, ◌++◌, nat_le, length, map, Bool, All, IfOk, OnOk};
+ghost use Rattle.std.specs.Prelude.{◌≡◌, ◌≤◌, ◌++◌, length, map, Bool, All, IfOk, OnOk};
 ghost use Rattle.amt_messages.specs.Messages.{IsSendable};
 ghost use Rattle.group_records.specs.Written.{IsOfFamily, report_length};
 ghost use Rattle.socket_merge.specs.FullReport.{family_by};
@@ -119,27 +119,8 @@ pub fn push_full_report(
     push_update(sends, alloc, settings, exchange, &records)
 }
 
-// Whether the report of these records is one datagram of the tunnel. No socket call comes to more than
-// 1,400 octets: one group changes by at most 64 sources, 1,072 octets, and leaving all is no longer than
-// the raw report.
-fn fits(v6: bool, records: &Records) -> bool
-    ensures { result ≡ nat_le (report_length (family_by v6) records.now) 1400 }
-{
-    let width = if v6 { 16 } else { 4 };
-    let mut room = REPORT_LIMIT - 8;
-    for group_record in records.as_slice() {
-        // A list of more sources is too long alone, and its octets may be more than can be counted.
-        let octets = 4 + width + group_record.sources.len().min(REPORT_LIMIT) * width;
-        if octets > room {
-            return false;
-        }
-        room -= octets;
-    }
-    true
-}
-
-/// Puts the report of what changed at the end, if there is something and it fits, and then the one of
-/// all that is wanted.
+/// Puts the report of what changed at the end, if there is something, and then the one of all that is
+/// wanted.
 pub fn push_change_reports(
     sends: &mut PeerSends,
     alloc: Global,
@@ -150,14 +131,13 @@ pub fn push_change_reports(
 ) -> Result<(), AllocError>
     requires source { HasSourceOfFamily settings.now }
     requires family { All (IsOfFamily (family_by settings.now.v6)) changes.now }
+    requires most { report_length (family_by settings.now.v6) changes.now ≤ REPORT_LIMIT }
     ensures appended { IsAtMoment exchange.now sockets.now → ForHistory sockets.now (λ history. OnOk result
         (sends.new ≡ sends.old
         ++ map datagram_of (change_reports settings.now exchange.now history changes.now))) }
     ensures short { AreShort sends.old → OnOk result (AreShort sends.new) }
 {
-    if fits(settings.v6, changes) {
-        push_update(sends, alloc, settings, exchange, changes)?;
-    }
+    push_update(sends, alloc, settings, exchange, changes)?;
     push_full_report(sends, alloc, settings, exchange, sockets)
 }
 

@@ -1,6 +1,7 @@
 //! What an event comes to before it is taken: the step, and the exchange and the sockets after it.
 
 ghost use Rattle.std.specs.Prelude.{◌≡◌, None, IfOk, IsOk};
+ghost use Rattle.socket_merge.specs.Changes.{IsOneCallAfter};
 ghost use Rattle.socket_merge.specs.History.{SocketCall};
 ghost use Rattle.socket_merge.specs.Sockets.{ForHistory};
 ghost use Rattle.gateway_machine.specs.Answers.{event_answer, is_opening};
@@ -59,6 +60,7 @@ fn take_call(
 ) -> Result<Taken, AllocError>
     requires source { HasSourceOfFamily settings.now }
     requires at { IsAtMoment exchange.now before.now }
+    requires one_call { IfOk called (λ after. IsOneCallAfter before.now.sockets after.sockets) }
     ensures taken { ForHistory before.now (λ history. (call : SocketCall) → is_opening call ≡ opening
         → AnswersCall exchange.now.moment history call called
         → IfOk result (IsTakenCall settings.now exchange.now history call)) }

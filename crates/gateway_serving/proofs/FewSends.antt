@@ -16,7 +16,7 @@ use Rattle.socket_merge.specs.History.{AcceptedCall, SocketCall, Open, Change, C
 use Rattle.socket_merge.specs.Changes.{change_records}
 use Rattle.gateway_machine.specs.Answers.{Answer, accepted_answer, advertisement_answer, answer_at, ask, begin_with, call_answer, call_by, cause_heard, changed_answer, datagram_answer, due_answer, event_answer, fields_heard, ignored, is_idle, is_opening, asked_relay, joined_relay, packet_by, query_by, query_kept, quiet, refusal_at}
 use Rattle.gateway_machine.specs.Exchange.{active, idle, moved, relay_named, requesting, retried}
-use Rattle.gateway_machine.specs.Reports.{full_records, full_report, if_they_fit, same_endpoint, teardown, teardown_by, teardown_if, update, update_by, update_of}
+use Rattle.gateway_machine.specs.Reports.{full_records, full_report, same_endpoint, teardown, teardown_by, teardown_if, update, update_by, update_of}
 use Rattle.gateway_machine.specs.Runs.{answer_after, run_of}
 use Rattle.gateway_machine.specs.Sends.{Sending, to_relay}
 use Rattle.gateway_machine.specs.Settings.{family_of}
@@ -80,8 +80,8 @@ both-few one other few others = let all = length-append one other in omega (arit
 changed_answer-few : (settings : GatewaySettings) (exchange : Exchange) (history : List AcceptedCall) (records : List Record) → SendsFew (changed_answer settings exchange history records)
 changed_answer-few settings exchange history [] = omega arith
 changed_answer-few settings exchange history (first ∷ more) =
-    both-few (update settings exchange false (if_they_fit settings (first ∷ more))) (full_report settings exchange history)
-    (update_by-one exchange.query settings exchange false (if_they_fit settings (first ∷ more)))
+    both-few (update settings exchange false (first ∷ more)) (full_report settings exchange history)
+    (update_by-one exchange.query settings exchange false (first ∷ more))
     (update_by-one exchange.query settings exchange true (full_records settings exchange history))
 
 accepted_answer-few : (state : GatewayState) (opening : Bool) (settings : GatewaySettings) (exchange : Exchange) (before after : List AcceptedCall) → SendsFew (accepted_answer state opening settings exchange before after)

@@ -1,5 +1,5 @@
 -- The change records from some sockets to others: those of calls, and whose they are.
-use Rattle.std.proofs.Common.{◌≡◌, ℕ, ◌+◌, ◌≤◌, ◌<◌, Bool, true, false, not, ◌||◌, cond, ltb, List, [], ◌∷◌, ◌++◌, filter, length, map, refl, sym, ap, subst, ◌∙◌, arith}
+use Rattle.std.proofs.Common.{◌≡◌, ℕ, ◌≤◌, ◌<◌, Bool, true, false, not, cond, List, [], ◌∷◌, ◌++◌, filter, length, map, refl, sym, ap, subst, ◌∙◌, arith}
 use Rattle.std.specs.List.{All, flat_map}
 use Rattle.std.proofs.lemmas.Bool.{ltb-false}
 use Rattle.std.proofs.lemmas.List.Elements.{All-append, All-cons, All-filter, All-head, All-map, All-nil, All-tail}
@@ -28,7 +28,7 @@ use Rattle.socket_merge.specs.Sockets.{SocketsHold, SocketsValue}
 use Rattle.socket_merge.specs.declared.stored.Tally.{Tally}
 use Rattle.socket_merge.proofs.Amounts.{part}
 use Rattle.socket_merge.proofs.ByGroup.{flat_map-same}
-use Rattle.socket_merge.proofs.Consistent.{IsOfOwnFamily, not_blank}
+use Rattle.socket_merge.proofs.Consistent.{not_blank}
 use Rattle.socket_merge.proofs.Counted.{Counts-of, amount, list_any-counted, number-is, one, own_part}
 use Rattle.socket_merge.proofs.RawOctets.{either_false, unopened}
 use Rattle.socket_merge.proofs.Reports.{filters_of_family, flat_map-filter}

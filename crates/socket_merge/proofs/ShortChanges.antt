@@ -1,8 +1,8 @@
 -- The change records of one call make a report of at most 1,400 octets.
-use Rattle.std.proofs.Common.{◌≡◌, ℕ, ◌+◌, ◌*◌, ◌≤◌, Bool, true, false, not, ◌&&◌, ◌||◌, cond, ltb, List, [], ◌∷◌, ◌++◌, filter, length, map, Option, None, refl, sym, ap, subst, ◌∙◌, arith, append-nil}
+use Rattle.std.proofs.Common.{◌≡◌, ℕ, ◌+◌, ◌≤◌, Bool, true, false, not, ◌&&◌, ◌||◌, cond, ltb, List, [], ◌∷◌, ◌++◌, filter, length, map, Option, None, refl, sym, ap, subst, ◌∙◌, arith, append-nil}
 use Rattle.std.specs.List.{All, count_by, sum_by}
 use Rattle.std.specs.Map.{keys_of}
-use Rattle.std.proofs.lemmas.Bool.{lt-ltb, ltb-false, ltb-true}
+use Rattle.std.proofs.lemmas.Bool.{ltb-false, ltb-true}
 use Rattle.std.proofs.lemmas.List.Elements.{All-cons, All-head, All-nil, All-tail, filter-append}
 use Rattle.std.proofs.lemmas.List.Sums.{sum_by-append, sum_by-cons}
 use Rattle.amt_values.specs.declared.address.Ip.{Ip}
@@ -19,15 +19,13 @@ use Rattle.source_filter.specs.declared.mode.Mode.TheVariants.{Include, Exclude}
 use Rattle.source_filter.specs.declared.record.Record.{Record}
 use Rattle.source_filter.specs.declared.record.RecordKind.{RecordKind}
 use Rattle.source_filter.specs.declared.record.RecordKind.TheVariants.{ToIn, ToEx, Allow, Block}
-use Rattle.group_records.specs.Family.{width}
-use Rattle.group_records.specs.Reading.{head_length}
 use Rattle.group_records.specs.Written.{is_of_family, report_length}
 use Rattle.group_records.specs.declared.family.Family.{Family}
 use Rattle.group_records.specs.declared.family.Family.TheVariants.{V4, V6}
 use Rattle.socket_merge.specs.Changes.{IsOneCallAfter, changed_on, changes_between}
 use Rattle.socket_merge.specs.History.{Change, Close, LeaveAll, Open, Socket, SocketCall, refiltered, sockets_after}
 use Rattle.socket_merge.specs.Interface.{filters_on, on_group, same_group}
-use Rattle.socket_merge.specs.Kept.{IsConsistent, has_place_by, octets_in, raw_octets, tally_at, tally_of}
+use Rattle.socket_merge.specs.Kept.{IsConsistent, octets_in, raw_octets, tally_at, tally_of}
 use Rattle.socket_merge.specs.Refusal.{may_be_due}
 use Rattle.socket_merge.specs.declared.stored.Tally.{Tally}
 use Rattle.socket_merge.proofs.Amounts.{AreApart, has_name, with_filter}
@@ -142,7 +140,7 @@ both_no false = refl
 difference-itself : (sources : List Ip) → difference ip_order sources sources ≡ []
 difference-itself sources = none-has (difference ip_order sources sources) (λ source. has-difference ip_order-exact sources sources source ∙ both_no (has ip_order sources source))
 
-changes-itself : (mode : Mode) (sources : List Ip) (group : Ip) → changes_by mode mode group sources sources ≡ []
+pub changes-itself : (mode : Mode) (sources : List Ip) (group : Ip) → changes_by mode mode group sources sources ≡ []
 changes-itself Include sources group = ap (λ (none : List Ip). record_of_some Allow group none ++ record_of_some Block group none) (difference-itself sources)
 changes-itself Exclude sources group = ap (λ (none : List Ip). record_of_some Allow group none ++ record_of_some Block group none) (difference-itself sources)
 
