@@ -1,21 +1,17 @@
 -- How long full reports are, by the history alone: none is longer than the raw one, and the raw one doesn't
 -- grow by calls that close sockets.
-use Rattle.std.proofs.Common.{◌≡◌, ℕ, ◌+◌, ◌*◌, ◌≤◌, ◌<◌, min, Bool, true, false, not, ◌&&◌, ◌||◌, cond, ltb, List, [], ◌∷◌, filter, length, map, Option, Some, None, refl, sym, ap, ◌∙◌, arith}
-use Rattle.std.specs.List.{flat_map, sum_by}
+use Rattle.std.proofs.Common.{◌≡◌, ℕ, ◌+◌, ◌≤◌, ◌<◌, min, Bool, true, false, not, ◌&&◌, ◌||◌, cond, ltb, List, [], ◌∷◌, filter, length, Option, Some, None, refl, sym, ap, ◌∙◌, arith}
+use Rattle.std.specs.List.{sum_by}
 use Rattle.std.proofs.lemmas.Bool.{lt-ltb, ltb-true, le-leb}
 use Rattle.std.proofs.lemmas.List.Filters.{sum_by-filter_both}
-use Rattle.std.proofs.lemmas.List.Folds.{fold-map}
-use Rattle.std.proofs.lemmas.List.Sums.{sum_by-append, sum_by-cons, sum_by-le-sum_by}
+use Rattle.std.proofs.lemmas.List.Sums.{sum_by-cons, sum_by-le-sum_by}
 use Rattle.amt_values.specs.declared.address.Ip.{Ip}
 use Rattle.amt_values.specs.Order.{ip_order}
 use Rattle.contract_words.specs.Ascending.{ascending}
 use Rattle.source_filter.specs.Filter.{FilterValue}
 use Rattle.source_filter.specs.declared.record.Record.{Record}
-use Rattle.group_records.specs.Family.{width}
-use Rattle.group_records.specs.Reading.{head_length}
 use Rattle.group_records.specs.Written.{is_of_family, report_length}
 use Rattle.group_records.specs.declared.family.Family.{Family}
-use Rattle.group_records.specs.declared.family.Family.TheVariants.{V4, V6}
 use Rattle.socket_merge.specs.FullReport.{farewell, full_on, full_report_of, is_recent, longest_farewell, states}
 use Rattle.socket_merge.specs.History.{AcceptedCall, Close, LeaveAll, Socket, groups_opened, latest, open_sockets}
 use Rattle.socket_merge.specs.Interface.{filters_on, interface, is_wanted, left_at, on_group}
