@@ -7,6 +7,7 @@ use amt_values::Peer;
 use replication_workers::Outs;
 use std::alloc::Global;
 use std::io;
+use std::mem::replace;
 
 // Whether the feed takes what the far end sends to this peer.
 fn feed_is_at(alloc: Global, feed: &mut UdpFeed, at: &Peer, far: &FarEnd) -> bool {
@@ -33,21 +34,15 @@ fn sends_from<O: OutLink>(out: &mut O, at: &Peer, far: &FarEnd) -> bool {
 }
 
 // Whether there are so many links out, and what each sends comes from this peer.
-fn all_send_from<O: OutLink + Drop>(
-    outs: &mut Outs<O>,
-    slots: u32,
-    at: &Peer,
-    far: &FarEnd,
-) -> bool {
-    for _ in 0..slots {
-        let Some(mut out) = outs.pop() else {
-            return false;
-        };
+fn all_send_from<O: OutLink + Drop>(outs: Outs<O>, slots: u32, at: &Peer, far: &FarEnd) -> bool {
+    let mut sending = 0_u32;
+    for mut out in outs.into_items() {
         if !sends_from(&mut out, at, far) {
             return false;
         }
+        sending = sending.saturating_add(1);
     }
-    outs.len() == 0
+    sending == slots
 }
 
 // Where the link and the feed are asked for.
@@ -80,7 +75,8 @@ fn is_relay_at<V: Live<L = UdpLink, F = UdpFeed>>(
     };
     let link = link_is_at(&mut devices.link, &at.listen, far);
     let feed = feed_is_at(alloc, &mut devices.feed, &at.feed, far);
-    let outs = all_send_from(&mut devices.outs, slots, &at.listen, far);
+    let outs = replace(&mut devices.outs, Outs::new(alloc));
+    let outs = all_send_from(outs, slots, &at.listen, far);
     live.return_relay(devices);
     link && feed && outs
 }

@@ -19,7 +19,7 @@ impl<T> Model for Batch<T> {
 }
 
 impl<T: Drop> Batch<T> {
-    ghost use Rattle.std.specs.Prelude.{◌≡◌, [], ◌∷◌, ◌++◌, length, IfErr, IfNone, IfSome, OnErr, OnOk};
+    ghost use Rattle.std.specs.Prelude.{◌≡◌, [], ◌∷◌, ◌++◌, length, IfErr, OnErr, OnOk};
 
     /// No value. It takes no memory.
     pub fn new(alloc: Global) -> Self
@@ -52,14 +52,6 @@ impl<T: Drop> Batch<T> {
             Ok(()) => Ok(()),
             Err(failed) => Err(failed.value),
         }
-    }
-
-    /// Takes the last value out, if there is one.
-    pub fn pop(&mut self) -> Option<T>
-        ensures some { IfSome result (λ last. self.old ≡ self.new ++ last ∷ []) }
-        ensures none { IfNone result ((self.old ≡ []) × (self.new ≡ [])) }
-    {
-        self.items.pop()
     }
 
     /// The values with all their room.
