@@ -19,13 +19,15 @@ use std::net::UdpSocket;
 /// never closed.
 ///
 /// Its sends are answers to what was received, and have a send buffer of their own. One of them may wait
-/// for room, and then none does until a receiving finds nothing, so that a turn waits once.
+/// for room, and then none does until a receiving finds nothing: so that a relay's turn waits once, and a
+/// gateway's, which sends at its moment too, at most twice.
 #[derive(Debug, Drop)]
 pub struct UdpLink {
     socket: WatchedSocket,
     // The same socket.
     answers: Outlet<UdpSocket>,
-    // At the same address and port. Workers send through it, and nothing comes to it.
+    // At the same address and port. Workers send through it, and what comes to it is never read: no
+    // datagram to that address alone does, once the link's own socket is bound.
     copies: UdpSocket,
     receive_faults: u64,
     send_faults: u64,

@@ -2,7 +2,7 @@
 
 use super::feed::UdpFeed;
 use super::link::UdpLink;
-use super::options::ask_for_buffers;
+use super::options::{ask_for_buffers, ask_for_send_buffer};
 use super::sharing::socket_beside;
 use super::sources::std_peer;
 use amt_values::Peer;
@@ -13,7 +13,9 @@ use std::net::{Net, UdpSocket};
 ///
 /// The opening fails where a socket can't be bound, cloned or set.
 pub fn open_sockets<N: Net>(net: &N, listen: &Peer, feed: &Peer) -> io::Result<(UdpLink, UdpFeed)> {
-    let copies = set_up(UdpSocket::bind(net, std_peer(listen))?)?;
+    let copies = UdpSocket::bind(net, std_peer(listen))?;
+    copies.set_nonblocking(true)?;
+    ask_for_send_buffer(&copies)?;
     let link = set_up(socket_beside(&copies)?)?;
     let feed = set_up(UdpSocket::bind(net, std_peer(feed))?)?;
     let (beside_link, beside_feed) = (feed.try_clone()?, link.try_clone()?);

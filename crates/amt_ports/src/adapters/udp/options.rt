@@ -16,12 +16,18 @@ const RECEIVE_BUFFER: i32 = 4 << 20;
 // three seconds, and the usual one holds no more than what may wait for a single neighbour.
 const SEND_BUFFER: i32 = 4 << 20;
 
-/// Asks for large buffers. The system may grant less, and says nothing of it: a smaller buffer is no
-/// fault.
+/// Asks for large buffers, to receive and to send. The system may grant less, and says nothing of it: a
+/// smaller buffer is no fault.
 pub(crate) fn ask_for_buffers(socket: &UdpSocket) -> io::Result<()> {
-    let (receive, send) = (value_of(RECEIVE_BUFFER), value_of(SEND_BUFFER));
-    checked(unsafe { setsockopt(socket.as_raw_fd(), SOL_SOCKET, SO_RCVBUF, &receive, 4) })?;
-    checked(unsafe { setsockopt(socket.as_raw_fd(), SOL_SOCKET, SO_SNDBUF, &send, 4) })
+    let value = value_of(RECEIVE_BUFFER);
+    checked(unsafe { setsockopt(socket.as_raw_fd(), SOL_SOCKET, SO_RCVBUF, &value, 4) })?;
+    ask_for_send_buffer(socket)
+}
+
+/// The same of a socket that is never read.
+pub(crate) fn ask_for_send_buffer(socket: &UdpSocket) -> io::Result<()> {
+    let value = value_of(SEND_BUFFER);
+    checked(unsafe { setsockopt(socket.as_raw_fd(), SOL_SOCKET, SO_SNDBUF, &value, 4) })
 }
 
 /// Whether another socket that is set so may have the same address and port.

@@ -1,6 +1,6 @@
 //! A worker's end, at the address and port of the listening socket. It must not know who else sends through it.
 
-ghost use Rattle.std.specs.Prelude.{◌≡◌, true, false, None, OnOk, OnErr};
+ghost use Rattle.std.specs.Prelude.{◌≡◌, true, None, OnOk, OnErr};
 ghost use Rattle.amt_ports.specs.Causes.{HasCause};
 ghost use Rattle.amt_ports.specs.RealDevices.{copies_may_wait, out_failed};
 
@@ -12,7 +12,8 @@ use std::net::UdpSocket;
 
 /// An end that sends beside a link: what it sends comes from the link's address and port.
 ///
-/// A copy that finds no room waits for it once. After one that failed none waits until one was sent.
+/// A copy that finds no room waits for it once. After one that found none in that time none waits until one
+/// was sent.
 #[derive(Debug, Drop)]
 pub struct UdpOut {
     outlet: Outlet<UdpSocket>,
@@ -46,17 +47,12 @@ impl OutLink for UdpOut {
         ensures cause { HasCause (out_failed self.old) (out_failed self.new) result }
 
         ensures again { OnOk result (copies_may_wait self.new ≡ true) }
-        ensures spent { OnErr result (copies_may_wait self.new ≡ false) }
+        ensures spent { OnErr result
+            (copies_may_wait self.new ≡ true → copies_may_wait self.old ≡ true) }
     {
-        match self.outlet.send(to, bytes) {
-            Ok(true) => {
-                self.outlet.may_wait = true;
-                Ok(())
-            }
-            _ => {
-                self.outlet.may_wait = false;
-                Err(count_fault(&mut self.faults))
-            }
+        match self.outlet.send_copy(to, bytes) {
+            Ok(true) => Ok(()),
+            _ => Err(count_fault(&mut self.faults)),
         }
     }
 }

@@ -8,8 +8,8 @@ use std::net::{SocketAddr, UdpSocket};
 use std::os::fd::AsRawFd;
 
 /// One more socket at the address and port of this one. What comes there goes to the new one, which was
-/// bound last (socket(7), `SO_REUSEADDR`). Both may share them with others while this is done, and with
-/// nobody afterwards.
+/// bound last (socket(7), `SO_REUSEADDR`); what came before stays in the first one. Both may share them
+/// with others while this is done, and with nobody afterwards.
 pub(crate) fn socket_beside(first: &UdpSocket) -> io::Result<UdpSocket> {
     let second = new_socket(first.local_addr()?)?;
     let_share(first, true)?;
