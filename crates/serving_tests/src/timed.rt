@@ -95,7 +95,10 @@ fn assert_timed(
     link: u64,
     feed: u64,
 ) {
-    assert_eq!(rt; (devices.link.longest_wait, devices.feed.longest_wait), (1, 1));
+    assert_eq!(rt;
+        (devices.link.longest_wait, devices.feed.longest_wait),
+        (1, 1)
+    );
     assert_eq!(rt; devices.link.asked, link);
     assert_eq!(rt; devices.feed.asked, feed);
 }
