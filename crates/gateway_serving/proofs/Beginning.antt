@@ -2,8 +2,11 @@
 use Rattle.std.proofs.Common.{◌≡◌, ◌<◌, ℕ, ◌+◌, max, List, [], ◌∷◌, ◌++◌, length, get_or, map, take, drop, refl, sym, ap, subst, ◌∙◌, append-nil, arith}
 use Rattle.std.specs.Prelude.{Option, Result, Ok, Err}
 use Rattle.std.proofs.lemmas.List.{drop_more, map-append, take-append-drop, take_all, take_more}
+use Rattle.std.proofs.lemmas.List.Elements.{All-cons, All-nil}
 use Rattle.amt_config.specs.declared.config.Join.{Join}
 use Rattle.amt_ports.specs.Told.{Appends, AppendsAll}
+use Rattle.gateway_machine.specs.Outcomes.{IsAtRest}
+use Rattle.gateway_machine.specs.Runs.{answer_after}
 use Rattle.gateway_machine.specs.declared.event.GatewayEvent.{GatewayEvent}
 use Rattle.gateway_machine.specs.declared.event.GatewayEvent.TheVariants.{Moment, Nonce}
 use Rattle.serving_turns.specs.Answers.{refused, taken}
@@ -12,10 +15,12 @@ use Rattle.serving_turns.specs.declared.end.End.TheVariants.{WordsFault}
 use Rattle.amt_ports.proofs.Told.{AppendsAll-none}
 use Rattle.gateway_serving.specs.Events.{moments_in, nonce_of}
 use Rattle.gateway_serving.specs.Openings.{OpensSo}
-use Rattle.gateway_serving.specs.Servers.{AtWork, IsAlike, Takes, Tallies, at_work, counts_in, latest_in}
+use Rattle.gateway_serving.specs.Servers.{AtWork, IsAlike, Takes, Tallies, at_work, counts_in, events_in, first_in, latest_in, settings_in}
 use Rattle.gateway_serving.specs.Settings.{opening_of}
+use Rattle.gateway_serving.specs.Starving.{SendsAt}
 use Rattle.gateway_serving.specs.Stages.{BeginsTurn, BeginsWith, IsBegunBy, PassesMoment}
 use Rattle.gateway_serving.specs.declared.server.Server.{Server}
+use Rattle.gateway_serving.proofs.Starving.{SendsAt-same}
 use Rattle.gateway_serving.proofs.Taking.{Takes-from, Takes-then, Takes-to, Tallies-as, Tallies-none, Tallies-then, none_first, none_taken, seen_same}
 
 module _ (server moved : Server) (link : LinkSeen) (out : OutSeen) (after : AtWork) (clock clock' : Option (List ℕ)) (at answer : ℕ) (alike : IsAlike server moved)
@@ -29,18 +34,21 @@ module _ (server moved : Server) (link : LinkSeen) (out : OutSeen) (after : AtWo
         (Takes-from (at_work server link out) (at_work moved link out) after (Moment at ∷ []) alike (seen_same server moved link out) takes);
     tallies = tallies;
     latest = latest ∙ later;
+    starves = λ is rests. cc;
   }
 
-  -- memory refused it
+  -- memory refused it, since something was to be sent
   pub passes_starved : (last : Server) → Takes (at_work moved link out) after [] → latest_in last ≡ at → IsAlike after.server last → Tallies (counts_in after.server) (counts_in last) 0 0 0 1
+      → (IsAtRest (answer_after (settings_in server) (first_in server) (events_in server) (Moment at)).outcome → ⊥)
       → PassesMoment (at_work server link out) (at_work last after.link after.out) clock clock'
-  passes_starved last takes latest counted more = record {
+  passes_starved last takes latest counted more busy = record {
     given = refused answer;
     clock_gave = gave;
     takes = Takes-to (at_work server link out) after (at_work last after.link after.out) []
         (Takes-from (at_work server link out) (at_work moved link out) after [] alike (seen_same server moved link out) takes) counted (seen_same after.server last after.link after.out);
     tallies = Tallies-then (counts_in server) (counts_in after.server) (counts_in last) 0 0 0 0 0 0 0 1 tallies more;
     latest = latest ∙ later;
+    starves = λ _. subst (λ (moment : ℕ). IsAtRest (answer_after (settings_in server) (first_in server) (events_in server) (Moment moment)).outcome → ⊥) later busy;
   }
 
 -- no word was drawn
@@ -53,6 +61,7 @@ begins_lacking work clock words words' kept = record {
   takes = none_taken work;
   tallies = Tallies-none (counts_in work.server);
   latest = refl;
+  starve = All-nil (SendsAt (settings_in work.server) (first_in work.server) (events_in work.server ++ []) (latest_in work.server));
   is = (refl, refl);
 }
 
@@ -70,6 +79,12 @@ begins_so before middle after clock clock' words words' word unit gave draws tal
   tallies = Tallies-as (counts_in before.server) (counts_in after.server) _ _ _ _ 0 0 0 _ refl refl refl (none_first _)
       (Tallies-then (counts_in before.server) (counts_in middle.server) (counts_in after.server) 0 0 0 0 0 0 0 _ tallies passes.tallies);
   latest = passes.latest ∙ ap (λ (latest : ℕ). max latest passes.given.answer) same;
+  starve =
+      let Sends = SendsAt (settings_in before.server) (first_in before.server) (events_in before.server ++ Nonce (nonce_of word) ∷ []) (latest_in before.server) in
+      All-cons Sends passes.given []
+      (SendsAt-same (settings_in middle.server) (settings_in before.server) (first_in middle.server) (first_in before.server) (events_in middle.server) (events_in before.server ++ Nonce (nonce_of word) ∷ [])
+      (latest_in middle.server) (latest_in before.server) draws.events.same.same_settings draws.events.same.same_first draws.events.events same passes.given passes.starves)
+      (All-nil Sends);
   is = (refl, refl);
 }
 

@@ -6,6 +6,7 @@ mod Hearing
 mod Lines
 mod Running
 mod Sending
+mod Starving
 mod Stepping
 mod Taking
 mod ControlLines

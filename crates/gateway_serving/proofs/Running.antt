@@ -25,19 +25,15 @@ use Rattle.serving_turns.proofs.Lists.{AnswersAll-then}
 use Rattle.gateway_serving.specs.Counting.{bad_lines_taken, datagrams_heard, lines_taken, starved_in}
 use Rattle.gateway_serving.specs.Devices.{Devices}
 use Rattle.gateway_serving.specs.Events.{events_from, events_of_turn}
-use Rattle.gateway_serving.specs.Servers.{GrowsBy, Takes, counts_in, family_in, latest_in}
+use Rattle.gateway_serving.specs.Servers.{GrowsBy, Takes, counts_in, events_in, family_in, first_in, latest_in, settings_in}
 use Rattle.gateway_serving.specs.Stages.{AreCausesOf, EndsIn, Goes, RunsSo, TurnsSo, work_on}
 use Rattle.gateway_serving.specs.Runs.{IsCut}
 use Rattle.gateway_serving.specs.Turns.{IsWhole, ControlAnswer, Turn, moment_of_turn}
 use Rattle.gateway_serving.specs.declared.server.Server.{Server}
 use Rattle.gateway_serving.proofs.Few.{GrowsBy-none, GrowsBy-then}
+use Rattle.gateway_serving.proofs.Starving.{StarveWhereItSends-more, StarveWhereItSends-same, latest_after}
 use Rattle.gateway_serving.proofs.Taking.{Takes-then, Tallies-as, Tallies-none, Tallies-then, none_taken}
 use Rattle.gateway_serving.proofs.Turning.{no_error}
-
--- the latest moment after turns, if this was the latest before them
-abbrev latest_after : ℕ → List Turn → ℕ
-latest_after latest [] = latest
-latest_after latest (turn ∷ later) = latest_after (moment_of_turn latest turn) later
 
 latest_after-more : (latest : ℕ) (turns : List Turn) (turn : Turn) → latest_after latest (turns ++ turn ∷ []) ≡ moment_of_turn (latest_after latest turns) turn
 latest_after-more latest [] turn = refl
@@ -97,6 +93,7 @@ Goes-none server devices = record {
   link = refl;
   control = refl;
   tallies = Tallies-none (counts_in server);
+  starve = tt;
 }
 
 -- one turn more
@@ -121,6 +118,9 @@ Goes-then before now after devices devices' devices'' turns turn latest first se
           (AnswersAll-then FeedClosed devices.control.coming devices'.control.coming devices''.control.coming (flat_map lines turns) (flat_map lines (turn ∷ [])) first.control second.control);
       tallies = Tallies-as (counts_in before) (counts_in after) _ _ _ _ _ _ _ _ (sum datagrams_heard) (sum lines_taken) (sum bad_lines_taken) (sum starved_in)
           (Tallies-then (counts_in before) (counts_in now) (counts_in after) _ _ _ _ _ _ _ _ first.tallies second.tallies);
+      starve = StarveWhereItSends-more (settings_in before) (first_in before) (events_in before) (latest_in before) turns turn first.starve
+          (StarveWhereItSends-same (settings_in now) (settings_in before) (first_in now) (first_in before) (events_in now) (events_in before ++ events_from (latest_in before) turns)
+          (latest_in now) (latest_after (latest_in before) turns) first.takes.events.same.same_settings first.takes.events.same.same_first first.takes.events.events latest (turn ∷ []) second.starve);
     }
 
 -- a run after so many whole turns

@@ -6,6 +6,7 @@ use Rattle.std.proofs.Math.Logic.{∥∥₁_elim, ∥∥₁_map}
 use Rattle.std.proofs.Props.{props}
 use Rattle.std.proofs.lemmas.List.{length-map}
 use Rattle.amt_values.specs.declared.peer.Peer.{Peer}
+use Rattle.gateway_machine.specs.Outcomes.{NeedsNoMemory}
 use Rattle.gateway_machine.specs.Runs.{After, GatewayAt, answer_after, settings_of}
 use Rattle.gateway_machine.specs.Sends.{datagram_of}
 use Rattle.gateway_machine.specs.declared.event.GatewayEvent.{GatewayEvent}
@@ -50,6 +51,11 @@ module _ (server : Server) (event : GatewayEvent) where
       let same = ap length (sends_are sends known) in
       let all = length-map answer.sends datagram_of in
       let few = answer_after-few (settings_in server) (first_in server) (events_in server) event in omega (arith, same, all, few)
+
+  -- what holds by any events that may have left the gateway where it is holds by all the events before it
+  pub by_all : (Fact : Type 0) → IsProp Fact → After server.gateway (λ settings first events. NeedsNoMemory event (answer_after settings first events event).outcome → Fact)
+      → NeedsNoMemory event (answer_after (settings_in server) (first_in server) (events_in server) event).outcome → Fact
+  by_all Fact prop known needs = ∥∥₁_elim server.at prop (λ at. known (settings_in server) (first_in server) (events_in server) at needs)
 
 same_then : (before middle after : ℕ) (more : ℕ) → middle ≡ before → after ≡ middle + more → after ≡ before + more
 same_then before middle after more same is = omega (arith, same, is)

@@ -1,6 +1,6 @@
 -- What the stages of a turn come to together.
 use Rattle.std.proofs.Common.{◌≡◌, ℕ, ◌+◌, List, [], ◌∷◌, ◌++◌, map, Result, Ok, Err, refl, sym, ap, subst, ◌∙◌, arith}
-use Rattle.std.specs.Prelude.{IsErrOf, Option, count_by}
+use Rattle.std.specs.Prelude.{All, IsErrOf, Option, count_by}
 use Rattle.std.proofs.lemmas.List.{append-nil, append_assoc}
 use Rattle.amt_ports.specs.Told.{AppendsAll}
 use Rattle.amt_ports.specs.declared.feed.FeedAnswer.{FeedAnswer}
@@ -19,8 +19,9 @@ use Rattle.gateway_serving.specs.Counting.{bad_lines_taken, datagrams_heard, lin
 use Rattle.gateway_serving.specs.Devices.{Devices}
 use Rattle.gateway_serving.specs.Events.{calls_in, datagrams_in, moments_in, nonces_in}
 use Rattle.gateway_serving.specs.Runs.{IsCut, of_control, of_link}
-use Rattle.gateway_serving.specs.Servers.{AtWork, Hears, HearsControl, Takes, Tallies, at_control, counts_in, family_in, latest_in}
+use Rattle.gateway_serving.specs.Servers.{AtWork, Hears, HearsControl, Takes, Tallies, at_control, counts_in, events_in, family_in, first_in, latest_in, settings_in}
 use Rattle.gateway_serving.specs.Stages.{BeginsTurn, Goes, IsTurnBegun, IsTurnBy, TurnsSo, work_on}
+use Rattle.gateway_serving.specs.Starving.{SendsAt}
 use Rattle.gateway_serving.specs.Turns.{HasBegun, HasHeard, ControlAnswer, Turn, from_control, from_link}
 use Rattle.gateway_serving.specs.declared.server.Server.{Server}
 use Rattle.gateway_serving.proofs.Hearing.{Hears-none}
@@ -57,6 +58,7 @@ pub record HasStages (before after : Server) (devices devices' : Devices) (turn 
   pub hears : Hears began heard turn.heard
   pub lines : HearsControl (at_control heard devices.control) (at_control (work_on after devices') devices'.control) turn.lines
   pub coming_still : devices'.link.coming ≡ heard.link.coming
+  pub starve : All (SendsAt (settings_in before) (first_in before) (events_in before ++ nonces_in turn.drawn) (latest_in before)) turn.clock
 
 pub goes_of : (before after : Server) (devices devices' : Devices) (turn : Turn) → HasStages before after devices devices' turn → Goes (turn ∷ []) before after devices devices'
 goes_of before after devices devices' turn stages =
@@ -82,6 +84,7 @@ goes_of before after devices devices' turn stages =
           (all_three (count_by (λ one. one.starved) turn.clock) (count_by (λ one. one.starved) turn.heard) _)
           (Tallies-then (counts_in before) (counts_in heard.server) (counts_in after) _ _ _ _ _ _ _ _
           (Tallies-then (counts_in before) (counts_in began.server) (counts_in heard.server) _ _ _ _ _ _ _ _ stages.tallies stages.hears.tallies) stages.lines.tallies);
+      starve = (stages.starve, tt);
     }
 
 -- the gateway's family after the first stages
@@ -165,6 +168,7 @@ ends_begun before after devices devices' end same_link same_control begins =
         hears = Hears-none last;
         lines = HearsControl-failed last devices.control devices'.control same_control;
         coming_still = refl;
+        starve = begins.starve;
       });
       latest = begins.latest;
       is_turn = cut_begun (family_in before) begins.drawn begins.given end begins.is;
@@ -191,6 +195,7 @@ ends_heard before after began devices devices' end unit same_link same_control b
         hears = hears.goes;
         lines = HearsControl-failed last devices.control devices'.control same_control;
         coming_still = refl;
+        starve = begins.starve;
       });
       latest = same_latest ∙ begins.latest;
       is_turn = cut_heard (family_in before) begins.drawn begins.given end hears.answers (has_begun begins.drawn begins.given hears.answers [] unit begins.is) hears.ends other;
@@ -220,6 +225,7 @@ ends_control before after began heard devices devices' result unit unit' same_li
         hears = hears.goes;
         lines = lines.goes;
         coming_still = still;
+        starve = begins.starve;
       });
       latest = last_latest ∙ same_latest ∙ begins.latest;
       is_turn = turn_by_control (family_in before) begins.drawn begins.given result hears.answers lines.answers

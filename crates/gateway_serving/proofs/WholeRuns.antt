@@ -23,7 +23,7 @@ use Rattle.amt_ports.proofs.Told.{AppendsAll-none, AppendsAll-then}
 use Rattle.serving_turns.proofs.Trying.{HasTried-none}
 use Rattle.gateway_serving.specs.Counting.{bad_lines_taken, datagrams_heard, lines_taken, no_counts, starved_in}
 use Rattle.gateway_serving.specs.Devices.{Devices, devices_seen}
-use Rattle.gateway_serving.specs.Events.{events_from, events_of, first_of, nonce_of}
+use Rattle.gateway_serving.specs.Events.{events_from, events_of, first_moment, first_of, nonce_of}
 use Rattle.gateway_serving.specs.Openings.{OpensSo}
 use Rattle.gateway_serving.specs.Reports.{report_of}
 use Rattle.gateway_serving.specs.Runs.{HasEnded, MayGo, Run, control_answers, link_answers, moments_of, served, turns_of, undrawn, unmade, unopened, with_cut, words_of}
@@ -32,10 +32,12 @@ use Rattle.gateway_serving.specs.Servers.{Takes, Tallies, at_work, counts_in, de
 use Rattle.gateway_serving.specs.Serving.{Serves}
 use Rattle.gateway_serving.specs.Settings.{opening_of, settings_of}
 use Rattle.gateway_serving.specs.Stages.{EndsIn, RunsSo, work_on}
+use Rattle.gateway_serving.specs.Starving.{StarveWhereItSends}
 use Rattle.gateway_serving.specs.Turns.{IsWhole, Turn}
 use Rattle.gateway_serving.specs.declared.counts.Counts.{Counts}
 use Rattle.gateway_serving.specs.declared.served.GatewayServed.{GatewayServed}
 use Rattle.gateway_serving.specs.declared.server.Server.{Server}
+use Rattle.gateway_serving.proofs.Starving.{StarveWhereItSends-same}
 use Rattle.gateway_serving.proofs.Taking.{Takes-then, Tallies-as, Tallies-then, none_first}
 
 -- the same of what a call gave
@@ -65,6 +67,7 @@ not_run config turns end given clock words words' link control out drawn goes no
   out_tried = HasTried-none out.tried out.faults;
   turns_are = refl;
   counted = record { datagrams_are = refl; controls_are = refl; bad_are = refl; starved_are = refl };
+  starve = tt;
   delivered_are = refl;
   unsent_are = refl;
   link_cause = ((λ is. absurd (no_link is)), (λ other. refl));
@@ -109,8 +112,9 @@ serves_by : (config : GatewayConfig) (turns word done : ℕ) (end : End) (run : 
     → AnswersAll LinkClosed before.link.coming after.link.coming (link_answers run) → AnswersAll FeedClosed before.control.coming after.control.coming (control_answers run)
     → Takes (work_on fresh before) (work_on last after) (events_of run)
     → Tallies (counts_in fresh) (counts_in last) (sum_by datagrams_heard (turns_of run)) (sum_by lines_taken (turns_of run)) (sum_by bad_lines_taken (turns_of run)) (sum_by starved_in (turns_of run))
+    → StarveWhereItSends (settings_of config) (first_of run) run.begun (first_moment run.moments) (turns_of run)
     → EndsIn end before after → Serves config turns before after (report_of end done (counts_in last))
-serves_by config turns word done end run fresh last before after is goes first done_is words clock link control takes tallies ends =
+serves_by config turns word done end run fresh last before after is goes first done_is words clock link control takes tallies starve ends =
     let none : (count : Counts → ℕ) → count no_counts ≡ 0 → count (counts_in fresh) ≡ 0 = λ count zero. (ap count is.counts ∙ zero) in
     let nonce : first_in fresh ≡ first_of run = is.first ∙ sym first in record {
       run = run;
@@ -134,6 +138,7 @@ serves_by config turns word done end run fresh last before after is goes first d
         bad_are = from_none _ _ _ tallies.bad_are (none (λ counts. counts.bad_controls) refl);
         starved_are = from_none _ _ _ tallies.starved_are (none (λ counts. counts.starved) refl);
       };
+      starve = starve;
       delivered_are = from_none _ _ _ takes.delivered_are (none (λ counts. counts.delivered) refl);
       unsent_are = from_none _ _ _ takes.unsent_are (none (λ counts. counts.unsent) refl);
       link_cause = ends.link;
@@ -155,7 +160,7 @@ module _ (config : GatewayConfig) (turns word : ℕ) (fresh opened : Server) (cl
       serves_by config turns word 0 Memory run fresh opened (devices_seen clock words link control out) (devices_seen clock' words' link' control out') is
       (unopened refl refl (record { moment = opens.moment; given = refl; refused = begins.is.0; rest = begins.is.1; begun_is = events; no_turn = refl }))
       refl refl gave opens.clock_gave same_coming refl
-      (subst (Takes (at_work fresh link out) (at_work opened link' out')) (sym (append-nil begins.begun)) begins.takes) begins.tallies
+      (subst (Takes (at_work fresh link out) (at_work opened link' out')) (sym (append-nil begins.begun)) begins.takes) begins.tallies tt
       (record { link = ((λ end. cc end), (λ other. same_faults)); control = ((λ end. cc end), (λ other. refl)); words = ((λ end. cc end), (λ other. quiet)) })
 
   -- the turns began
@@ -185,6 +190,9 @@ module _ (config : GatewayConfig) (turns word : ℕ) (fresh opened : Server) (cl
       (Takes-then (work_on fresh before) (at_work opened link' out') (work_on last after) begins.begun (events_from (latest_in opened) all) begins.takes runs.goes.takes))
       (Tallies-as (counts_in fresh) (counts_in last) _ _ _ _ _ _ _ _ (none_first _) (none_first _) (none_first _) (none_first _)
       (Tallies-then (counts_in fresh) (counts_in opened) (counts_in last) _ _ _ _ _ _ _ _ begins.tallies runs.goes.tallies))
+      (StarveWhereItSends-same (settings_in opened) (settings_of config) (first_in opened) (nonce_of word) (events_in opened) begins.begun (latest_in opened) opens.moment
+      (begins.takes.events.same.same_settings ∙ is.settings) (begins.takes.events.same.same_first ∙ is.first)
+      (begins.takes.events.events ∙ ap (λ (list : List GatewayEvent). list ++ begins.begun) is.none) opens.latest all runs.goes.starve)
       (record {
         link = subst (λ (count : ℕ). IsCauseOf end LinkFault count after.link.receive_faults) same_faults ends.link;
         control = ends.control;

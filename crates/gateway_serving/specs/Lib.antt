@@ -11,5 +11,6 @@ pub mod Servers
 pub mod Serving
 pub mod Settings
 pub mod Stages
+pub mod Starving
 pub mod Taking
 pub mod Turns

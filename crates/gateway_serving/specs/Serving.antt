@@ -10,10 +10,11 @@ use Rattle.serving_turns.specs.Tried.{HasTried}
 use Rattle.serving_turns.specs.declared.end.End.TheVariants.{LinkFault, FeedFault, WordsFault}
 use Rattle.gateway_serving.specs.Counting.{AreCounted}
 use Rattle.gateway_serving.specs.Devices.{Devices}
-use Rattle.gateway_serving.specs.Events.{events_of, first_of}
+use Rattle.gateway_serving.specs.Events.{events_of, first_moment, first_of}
 use Rattle.gateway_serving.specs.Runs.{MayGo, Run, control_answers, link_answers, moments_of, turns_of, words_of}
 use Rattle.gateway_serving.specs.Sending.{delivered_after, sends_after}
 use Rattle.gateway_serving.specs.Settings.{settings_of}
+use Rattle.gateway_serving.specs.Starving.{StarveWhereItSends}
 use Rattle.gateway_serving.specs.declared.served.GatewayServed.{GatewayServed}
 
 -- A whole run: the devices gave exactly its answers; the link tried exactly what the machine sends in a run of
@@ -38,6 +39,7 @@ pub record Serves (config : GatewayConfig) (turns : ℕ) (before after : Devices
   -- the report
   pub turns_are : report.turns ≡ length run.whole
   pub counted : AreCounted (turns_of run) report.datagrams report.controls report.bad_controls report.starved
+  pub starve : StarveWhereItSends (settings_of config) (first_of run) run.begun (first_moment run.moments) (turns_of run)
   pub delivered_are : report.delivered ≡ out_sent + out_unsent
   pub unsent_are : report.unsent ≡ link_unsent + out_unsent
   -- the causes

@@ -15,7 +15,8 @@ use Rattle.gateway_serving.specs.Counting.{bad_lines_taken, datagrams_heard, lin
 use Rattle.gateway_serving.specs.Devices.{Devices}
 use Rattle.gateway_serving.specs.Events.{events_from, moments_in, nonces_in}
 use Rattle.gateway_serving.specs.Runs.{HasEnded, IsCut, with_cut}
-use Rattle.gateway_serving.specs.Servers.{AtWork, Takes, Tallies, at_work, counts_in, family_in, latest_in}
+use Rattle.gateway_serving.specs.Servers.{AtWork, Takes, Tallies, at_work, counts_in, events_in, family_in, first_in, latest_in, settings_in}
+use Rattle.gateway_serving.specs.Starving.{SendsAt, StarveWhereItSends}
 use Rattle.gateway_serving.specs.Turns.{IsWhole, Turn, latest_of}
 use Rattle.gateway_serving.specs.declared.server.Server.{Server}
 
@@ -38,6 +39,7 @@ pub record PassesMoment (before after : AtWork) (clock clock' : Option (List ℕ
   pub takes : Takes before after (moments_in (latest_in before.server) (given ∷ []))
   pub tallies : Tallies (counts_in before.server) (counts_in after.server) 0 0 0 (count_by (λ one. one.starved) (given ∷ []))
   pub latest : latest_in after.server ≡ max (latest_in before.server) given.answer
+  pub starves : SendsAt (settings_in before.server) (first_in before.server) (events_in before.server) (latest_in before.server) given
 
 -- a word was drawn and a moment given, or the word was lacking and the clock wasn't asked
 abbrev pub IsTurnBegun : Result (Unit {0}) End → List ℕ → List (Taken ℕ) → Type 0
@@ -59,6 +61,7 @@ pub record BeginsTurn (before after : AtWork) (clock clock' words words' : Optio
   pub takes : Takes before after (nonces_in drawn ++ moments_in (latest_in before.server) given)
   pub tallies : Tallies (counts_in before.server) (counts_in after.server) 0 0 0 (count_by (λ one. one.starved) given)
   pub latest : latest_in after.server ≡ latest_of (latest_in before.server) given
+  pub starve : All (SendsAt (settings_in before.server) (first_in before.server) (events_in before.server ++ nonces_in drawn) (latest_in before.server)) given
   pub is : IsTurnBegun result drawn given
 
 -- the turn is whole, or the run ended in it
@@ -79,6 +82,7 @@ pub record Goes (turns : List Turn) (before after : Server) (devices devices' : 
   pub control : AnswersAll FeedClosed devices.control.coming devices'.control.coming (flat_map (λ turn. map (λ one. one.answer) turn.lines) turns)
   pub tallies : Tallies (counts_in before) (counts_in after)
       (sum_by datagrams_heard turns) (sum_by lines_taken turns) (sum_by bad_lines_taken turns) (sum_by starved_in turns)
+  pub starve : StarveWhereItSends (settings_in before) (first_in before) (events_in before) (latest_in before) turns
 
 -- one turn, which was whole or ended the run
 pub record TurnsSo (before after : Server) (devices devices' : Devices) (result : Result (Unit {0}) End) : Type 0 where

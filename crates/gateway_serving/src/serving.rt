@@ -1,6 +1,6 @@
 //! A whole run of a gateway. It must not know which devices it is over.
 ghost use Rattle.std.specs.Prelude.{◌≡◌, ◌≤◌, length};
-ghost use Rattle.serving_turns.specs.Devices.{feed_seen, link_seen, out_seen, words_seen};
+ghost use Rattle.serving_turns.specs.Devices.{WaitsBriefly, feed_seen, link_seen, out_seen, words_seen};
 ghost use Rattle.gateway_serving.specs.Devices.{devices_seen};
 ghost use Rattle.gateway_serving.specs.Serving.{Serves};
 ghost use Rattle.gateway_serving.specs.Settings.{AreTurns, IsLawfulConfig};
@@ -39,6 +39,10 @@ pub fn serve_gateway<L: Link, F: Feed, O: OutLink, C: Clock, W: Words>(
         (link_seen (L.coming link.new) (L.tried link.new) (L.receive_faults link.new) (L.send_faults link.new))
         (feed_seen (F.coming control.new) (F.faults control.new)) (out_seen (O.tried out.new) (O.faults out.new)))
         result ∥₁ }
+
+    // No receiving is asked to wait for longer: a turn isn't held up by a device that has nothing.
+    ensures link_waits { WaitsBriefly (L.longest_wait link.old) (L.longest_wait link.new) }
+    ensures control_waits { WaitsBriefly (F.longest_wait control.old) (F.longest_wait control.new) }
 {
     let Ok(word) = words.word() else {
         return GatewayServed::unused(End::WordsFault);

@@ -2,7 +2,7 @@
 ghost use Rattle.std.specs.Prelude.{◌≡◌, ◌≤◌, ◌-◌, ◌^◌, length, IsErrOf};
 ghost use Rattle.serving_turns.specs.Bursts.{AreAsked, AskedSo, IsNext};
 ghost use Rattle.serving_turns.specs.Causes.{IsCausedBy};
-ghost use Rattle.serving_turns.specs.Devices.{feed_seen, link_seen, out_seen};
+ghost use Rattle.serving_turns.specs.Devices.{WaitsBriefly, feed_seen, link_seen, out_seen};
 ghost use Rattle.gateway_serving.specs.Hearing.{HearsControlLine};
 ghost use Rattle.gateway_serving.specs.Servers.{AreFew, GrowsBy, HearsControl, at_control, at_work, family_in, latest_in};
 ghost use Rattle.gateway_serving.specs.Turns.{from_control};
@@ -32,6 +32,7 @@ impl Server {
         ensures latest { latest_in self.new ≡ latest_in self.old }
         ensures coming { L.coming link.new ≡ L.coming link.old }
         ensures faults { L.receive_faults link.new ≡ L.receive_faults link.old }
+        ensures waits { L.longest_wait link.new ≡ L.longest_wait link.old }
     {
         self.counts.controls += 1;
         match read_socket_line(alloc, self.v6, line) {
@@ -68,8 +69,10 @@ impl Server {
         ensures latest { latest_in self.new ≡ latest_in self.old }
         ensures coming { L.coming link.new ≡ L.coming link.old }
         ensures faults { L.receive_faults link.new ≡ L.receive_faults link.old }
+        ensures waits { L.longest_wait link.new ≡ L.longest_wait link.old }
         ensures of_control { IsErrOf result End.LinkFault → ⊥ }
         ensures cause { IsCausedBy result End.FeedFault (F.faults control.old) (F.faults control.new) }
+        ensures control_waits { WaitsBriefly (F.longest_wait control.old) (F.longest_wait control.new) }
         ensures few { GrowsBy 1 self.old self.new }
         ensures buffer { length buf.new ≡ length buf.old }
     {
@@ -108,8 +111,10 @@ impl Server {
         ensures latest { latest_in self.new ≡ latest_in self.old }
         ensures coming { L.coming link.new ≡ L.coming link.old }
         ensures faults { L.receive_faults link.new ≡ L.receive_faults link.old }
+        ensures waits { L.longest_wait link.new ≡ L.longest_wait link.old }
         ensures of_control { IsErrOf result End.LinkFault → ⊥ }
         ensures cause { IsCausedBy result End.FeedFault (F.faults control.old) (F.faults control.new) }
+        ensures control_waits { WaitsBriefly (F.longest_wait control.old) (F.longest_wait control.new) }
         ensures few { GrowsBy 64 self.old self.new }
         ensures buffer { length buf.new ≡ length buf.old }
     {

@@ -3,7 +3,7 @@ ghost use Rattle.std.specs.Prelude.{◌≡◌, ◌≤◌, ◌-◌, ◌^◌, [], 
 ghost use Rattle.gateway_machine.specs.declared.event.GatewayEvent.TheVariants.{Datagram as DatagramEvent};
 ghost use Rattle.serving_turns.specs.Bursts.{AreAsked, AskedSo, IsNext};
 ghost use Rattle.serving_turns.specs.Causes.{IsCausedBy};
-ghost use Rattle.serving_turns.specs.Devices.{link_seen, out_seen};
+ghost use Rattle.serving_turns.specs.Devices.{WaitsBriefly, link_seen, out_seen};
 ghost use Rattle.gateway_serving.specs.Hearing.{HearsOne};
 ghost use Rattle.gateway_serving.specs.Servers.{AreFew, GrowsBy, Hears, Takes, Tallies, at_work, counts_in, latest_in};
 ghost use Rattle.gateway_serving.specs.Turns.{from_link};
@@ -42,6 +42,7 @@ impl Server {
         ensures latest { latest_in self.new ≡ latest_in self.old }
         ensures coming { L.coming link.new ≡ L.coming link.old }
         ensures faults { L.receive_faults link.new ≡ L.receive_faults link.old }
+        ensures waits { L.longest_wait link.new ≡ L.longest_wait link.old }
     {
         let event = GatewayEvent::Datagram {
             from,
@@ -69,6 +70,7 @@ impl Server {
         ensures latest { latest_in self.new ≡ latest_in self.old }
         ensures coming { L.coming link.new ≡ L.coming link.old }
         ensures faults { L.receive_faults link.new ≡ L.receive_faults link.old }
+        ensures waits { L.longest_wait link.new ≡ L.longest_wait link.old }
     {
         self.counts.datagrams += 1;
         match self.take_datagram(alloc, link, out, from, bytes) {
@@ -96,6 +98,7 @@ impl Server {
         ensures latest { latest_in self.new ≡ latest_in self.old }
         ensures of_link { IsErrOf result End.FeedFault → ⊥ }
         ensures cause { IsCausedBy result End.LinkFault (L.receive_faults link.old) (L.receive_faults link.new) }
+        ensures waits { WaitsBriefly (L.longest_wait link.old) (L.longest_wait link.new) }
         ensures few { GrowsBy 1 self.old self.new }
         ensures buffer { length buf.new ≡ length buf.old }
     {
@@ -129,6 +132,7 @@ impl Server {
         ensures latest { latest_in self.new ≡ latest_in self.old }
         ensures of_link { IsErrOf result End.FeedFault → ⊥ }
         ensures cause { IsCausedBy result End.LinkFault (L.receive_faults link.old) (L.receive_faults link.new) }
+        ensures waits { WaitsBriefly (L.longest_wait link.old) (L.longest_wait link.new) }
         ensures few { GrowsBy 64 self.old self.new }
         ensures buffer { length buf.new ≡ length buf.old }
     {

@@ -86,6 +86,7 @@ impl Server {
         ensures latest { latest_in self.new ≡ latest_in self.old }
         ensures coming { L.coming link.new ≡ L.coming link.old }
         ensures faults { L.receive_faults link.new ≡ L.receive_faults link.old }
+        ensures waits { L.longest_wait link.new ≡ L.longest_wait link.old }
     {
         let event = opening(alloc, join)?;
         self.take(alloc, &event, link, out)
@@ -109,6 +110,7 @@ impl Server {
         ensures latest { latest_in self.new ≡ latest_in self.old }
         ensures coming { L.coming link.new ≡ L.coming link.old }
         ensures faults { L.receive_faults link.new ≡ L.receive_faults link.old }
+        ensures waits { L.longest_wait link.new ≡ L.longest_wait link.old }
         ensures few { GrowsBy (length joins.now) self.old self.new }
     {
         for join in joins {
@@ -136,6 +138,7 @@ impl Server {
             (C.given clock.old) (C.given clock.new) result }
         ensures coming { L.coming link.new ≡ L.coming link.old }
         ensures faults { L.receive_faults link.new ≡ L.receive_faults link.old }
+        ensures waits { L.longest_wait link.new ≡ L.longest_wait link.old }
         ensures few { AreFew (2 ^ 60) self.new }
     {
         self.latest = clock.now();

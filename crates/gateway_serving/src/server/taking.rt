@@ -2,9 +2,11 @@
 //! the event comes from.
 ghost use Rattle.std.specs.Prelude.{◌≡◌, ◌≤◌, ◌<◌, ◌+◌, ◌^◌, [], ◌∷◌, length, map, IsOk, OnErr, OnOk};
 ghost use Rattle.gateway_machine.specs.Events.{IsDraw, IsEventOf};
+ghost use Rattle.gateway_machine.specs.Outcomes.{NeedsNoMemory};
+ghost use Rattle.gateway_machine.specs.Runs.{answer_after};
 ghost use Rattle.serving_turns.specs.Devices.{link_seen, out_seen};
 ghost use Rattle.gateway_serving.specs.Sending.{delivery_to, to_peer};
-ghost use Rattle.gateway_serving.specs.Servers.{AreFew, IsAlike, Takes, Tallies, at_work, counts_in, latest_in, settings_in};
+ghost use Rattle.gateway_serving.specs.Servers.{AreFew, IsAlike, Takes, Tallies, at_work, counts_in, events_in, first_in, latest_in, settings_in};
 ghost use Rattle.gateway_serving.specs.Taking.{HasHandedOn, HasSent};
 
 use super::Server;
@@ -23,6 +25,7 @@ fn send_all<L: Link>(link: &mut L, sends: &[PeerSend], counts: &mut Counts)
         counts.old counts.new (map to_peer sends.now) }
     ensures coming { L.coming link.new ≡ L.coming link.old }
     ensures faults { L.receive_faults link.new ≡ L.receive_faults link.old }
+    ensures waits { L.longest_wait link.new ≡ L.longest_wait link.old }
     ensures tallies { Tallies counts.old counts.new 0 0 0 0 }
     ensures few { counts.new.unsent ≤ counts.old.unsent + length sends.now }
 {
@@ -79,7 +82,10 @@ impl Server {
         ensures latest { latest_in self.new ≡ latest_in self.old }
         ensures coming { L.coming link.new ≡ L.coming link.old }
         ensures faults { L.receive_faults link.new ≡ L.receive_faults link.old }
+        ensures waits { L.longest_wait link.new ≡ L.longest_wait link.old }
         ensures sure { IsDraw event.now → IsOk result }
+        ensures needs_none { NeedsNoMemory event.now
+            (answer_after (settings_in self.old) (first_in self.old) (events_in self.old) event.now).outcome → IsOk result }
     {
         let GatewayStep {
             outcome: _,

@@ -1,7 +1,7 @@
 //! One turn of a running gateway, and all of a run. It must not know how a gateway begins.
 ghost use Rattle.std.specs.Prelude.{◌≡◌, ◌≤◌, ◌-◌, ◌^◌, [], ◌∷◌, length};
 ghost use Rattle.serving_turns.specs.Causes.{IsCausedBy};
-ghost use Rattle.serving_turns.specs.Devices.{feed_seen, link_seen, out_seen, words_seen};
+ghost use Rattle.serving_turns.specs.Devices.{WaitsBriefly, feed_seen, link_seen, out_seen, words_seen};
 ghost use Rattle.gateway_serving.specs.Devices.{devices_seen};
 ghost use Rattle.gateway_machine.specs.declared.event.GatewayEvent.TheVariants.{Nonce as NonceEvent};
 ghost use Rattle.gateway_serving.specs.Events.{nonce_of};
@@ -29,6 +29,7 @@ impl Server {
         ensures latest { latest_in self.new ≡ latest_in self.old }
         ensures coming { L.coming link.new ≡ L.coming link.old }
         ensures faults { L.receive_faults link.new ≡ L.receive_faults link.old }
+        ensures waits { L.longest_wait link.new ≡ L.longest_wait link.old }
     {
         let event = GatewayEvent::Nonce((word & 0xffff_ffff) as u32);
         match self.take(alloc, &event, link, out) {
@@ -38,7 +39,7 @@ impl Server {
         }
     }
 
-    // It has become as late as the clock says; memory may refuse that.
+    // It has become as late as the clock says; memory may refuse that where the machine sends something then.
     fn pass_moment<C: Clock, L: Link, O: OutLink>(
         &mut self,
         alloc: Global,
@@ -55,6 +56,7 @@ impl Server {
             (C.given clock.old) (C.given clock.new) }
         ensures coming { L.coming link.new ≡ L.coming link.old }
         ensures faults { L.receive_faults link.new ≡ L.receive_faults link.old }
+        ensures waits { L.longest_wait link.new ≡ L.longest_wait link.old }
     {
         self.latest = self.latest.later(&clock.now());
         let event = GatewayEvent::Moment(self.latest);
@@ -83,6 +85,7 @@ impl Server {
         ensures cause { IsCausedBy result End.WordsFault (W.faults words.old) (W.faults words.new) }
         ensures coming { L.coming link.new ≡ L.coming link.old }
         ensures faults { L.receive_faults link.new ≡ L.receive_faults link.old }
+        ensures waits { L.longest_wait link.new ≡ L.longest_wait link.old }
         ensures few { GrowsBy 2 self.old self.new }
     {
         let Ok(word) = words.word() else {
@@ -120,6 +123,8 @@ impl Server {
             (devices_seen (C.given clock.new) (words_seen (W.given words.new) (W.faults words.new))
             (link_seen (L.coming link.new) (L.tried link.new) (L.receive_faults link.new) (L.send_faults link.new))
             (feed_seen (F.coming control.new) (F.faults control.new)) (out_seen (O.tried out.new) (O.faults out.new))) }
+        ensures link_waits { WaitsBriefly (L.longest_wait link.old) (L.longest_wait link.new) }
+        ensures control_waits { WaitsBriefly (F.longest_wait control.old) (F.longest_wait control.new) }
         ensures few { GrowsBy 130 self.old self.new }
         ensures buffer { length buf.new ≡ length buf.old }
     {
@@ -157,6 +162,8 @@ impl Server {
             (devices_seen (C.given clock.new) (words_seen (W.given words.new) (W.faults words.new))
             (link_seen (L.coming link.new) (L.tried link.new) (L.receive_faults link.new) (L.send_faults link.new))
             (feed_seen (F.coming control.new) (F.faults control.new)) (out_seen (O.tried out.new) (O.faults out.new))) }
+        ensures link_waits { WaitsBriefly (L.longest_wait link.old) (L.longest_wait link.new) }
+        ensures control_waits { WaitsBriefly (F.longest_wait control.old) (F.longest_wait control.new) }
     {
         for done in 0..turns {
             match self.turn(alloc, clock, words, link, control, out, buf) {

@@ -1,6 +1,7 @@
 use Rattle.std.proofs.Common.{List, sym, ap, subst, ◌∙◌}
 use Rattle.std.specs.Prelude.{All}
 use Rattle.amt_config.specs.declared.config.Join.{Join}
+use Rattle.serving_turns.proofs.Waits.{no_waits, waits_then}
 use Rattle.gateway_machine.specs.Events.{IsEventOf}
 use Rattle.gateway_machine.specs.declared.settings.GatewaySettings.{GatewaySettings}
 use Rattle.gateway_serving.specs.Reports.{report_of}
@@ -11,16 +12,22 @@ use Rattle.gateway_serving.proofs.serving.serve_gateway.Goals as goal
 pub returns-in_default : goal.returns-in_default
 returns-in_default g c = record {
   serves = ∣ reported _ _ _ _ _ _ c.unused.ensures (serves_undrawn _ _ _ _ _ _ _ _ c.in_default.ensures.kept c.in_default.ensures.cause.failed) ∣₁;
+  link_waits = no_waits _ _ refl;
+  control_waits = no_waits _ _ refl;
 }
 
 pub returns-in_default-from_elem : goal.returns-in_default-from_elem
 returns-in_default-from_elem g c = record {
   serves = ∣ reported _ _ _ _ _ _ c.unused-in_default-from_elem.ensures (serves_unmade _ _ c.in-Ok.word _ _ _ _ _ _ c.in-Ok.ensures.given c.in-Ok.ensures.cause.quiet) ∣₁;
+  link_waits = no_waits _ _ refl;
+  control_waits = no_waits _ _ refl;
 }
 
 pub returns-in_default-start : goal.returns-in_default-start
 returns-in_default-start g c = record {
   serves = ∣ reported _ _ _ _ _ _ c.unused-in_default-start.ensures (serves_unmade _ _ c.in-Ok.word _ _ _ _ _ _ c.in-Ok.ensures.given c.in-Ok.ensures.cause.quiet) ∣₁;
+  link_waits = no_waits _ _ refl;
+  control_waits = no_waits _ _ refl;
 }
 
 pub open-requires-clause-joins : goal.open-requires-clause-joins
@@ -36,6 +43,8 @@ returns-in_default-open g c =
       serves = ∣ reported _ _ _ _ _ _ (c.of.ensures ∙ ap (report_of _ 0) c.counts.ensures)
           (serves_unopened c.args.config.now _ c.in-Ok.word c.in-Ok-start.server _ _ _ _ _ _ _ _ _ _ fresh c.in-Ok.ensures.given c.in-Ok.ensures.cause.quiet c.open.ensures.coming c.open.ensures.faults
           _ c.as_slice.result.now c.as_slice.ensures c.in_default-open.ensures.opens) ∣₁;
+      link_waits = no_waits _ _ c.open.ensures.waits;
+      control_waits = no_waits _ _ refl;
     }
 
 pub returns : goal.returns
@@ -46,4 +55,6 @@ returns g c =
       serves = ∣ reported _ _ _ _ _ _ (c.of-2.ensures ∙ ap (report_of _ _) c.counts-2.ensures)
           (serves_run c.args.config.now _ c.in-Ok.word c.in-Ok-start.server _ _ _ _ _ _ _ _ _ _ fresh c.in-Ok.ensures.given c.in-Ok.ensures.cause.quiet c.open.ensures.coming c.open.ensures.faults
           _ _ _ _ _ c.as_slice.result.now c.as_slice.ensures c.in-Ok-open.ensures.opens c.run-end.ensures.runs c.run-end.ensures.causes) ∣₁;
+      link_waits = waits_then _ _ _ (no_waits _ _ c.open.ensures.waits) c.run-end.ensures.link_waits;
+      control_waits = c.run-end.ensures.control_waits;
     }

@@ -1,6 +1,7 @@
 use Rattle.std.proofs.Common.{refl, ◌∙◌, ◌+◌, arith}
 use Rattle.std.proofs.lemmas.Result.{err_from_is_err_and}
 use Rattle.serving_turns.specs.declared.end.End.TheVariants.{FeedFault, LinkFault}
+use Rattle.serving_turns.proofs.Waits.{no_waits, waits_then}
 use Rattle.serving_turns.proofs.Causes.{not_cause, other_end, same_cause}
 use Rattle.serving_turns.proofs.SoFar.{all_asked, none_asked, one_more, then_ends, then_nothing}
 use Rattle.gateway_serving.proofs.Few.{AreFew-most, GrowsBy-none, GrowsBy-then}
@@ -12,6 +13,7 @@ loop-init g c = record {
   heard = none_asked _ _ _ (Hears-none _);
   latest = refl;
   faults = refl;
+  waits = no_waits _ _ refl;
   few = GrowsBy-none c.args.self.now;
   buffer = refl;
 }
@@ -81,6 +83,7 @@ loop-preserved g c = record {
   heard = one_more _ _ Hears-then _ _ _ _ _ _ refl c.in-Something.is c.loop.invariant.heard c.in_ok-hear_next.ensures.hears;
   latest = c.hear_next.ensures.latest ∙ c.loop.invariant.latest;
   faults = c.in_ok-hear_next.ensures.cause.calm (λ is. cc) ∙ c.loop.invariant.faults;
+  waits = waits_then _ _ _ c.loop.invariant.waits c.hear_next.ensures.waits;
   few = GrowsBy-then c.loop.counter 1 (c.loop.counter + 1) _ _ _ (omega arith) c.loop.invariant.few c.hear_next.ensures.few;
   buffer = c.hear_next.ensures.buffer ∙ c.loop.invariant.buffer;
 }
@@ -109,3 +112,12 @@ returns-clause-few g c =
 pub returns-clause-buffer : goal.returns-clause-buffer
 returns-clause-buffer g c =
     c.loop.invariant.buffer
+
+pub returns-in_err-hear_next-clause-waits : goal.returns-in_err-hear_next-clause-waits
+returns-in_err-hear_next-clause-waits g c = waits_then _ _ _ c.loop.invariant.waits c.hear_next.ensures.waits
+
+pub returns-in-Nothing-clause-waits : goal.returns-in-Nothing-clause-waits
+returns-in-Nothing-clause-waits g c = waits_then _ _ _ c.loop.invariant.waits c.hear_next.ensures.waits
+
+pub returns-clause-waits : goal.returns-clause-waits
+returns-clause-waits g c = c.loop.invariant.waits

@@ -1,6 +1,6 @@
 -- Each asking so far found a datagram.
 use Rattle.std.proofs.Common.{◌≡◌, length}
-use Rattle.serving_turns.specs.Devices.{link_seen, out_seen}
+use Rattle.serving_turns.specs.Devices.{WaitsBriefly, link_seen, out_seen}
 use Rattle.serving_turns.proofs.SoFar.{SoFar}
 use Rattle.gateway_serving.specs.Servers.{GrowsBy, Hears, at_work, latest_in}
 use Rattle.gateway_serving.specs.Turns.{from_link}
@@ -13,6 +13,7 @@ invariant-loop g l = record {
       (at_work l.self (link_seen (g.L.Link.coming l.link) (g.L.Link.tried l.link) (g.L.Link.receive_faults l.link) (g.L.Link.send_faults l.link)) (out_seen (g.O.OutLink.tried l.out) (g.O.OutLink.faults l.out))) l.counter;
   latest : latest_in l.self ≡ latest_in l.initial.self;
   faults : g.L.Link.receive_faults l.link ≡ g.L.Link.receive_faults l.initial.link;
+  waits : WaitsBriefly (g.L.Link.longest_wait l.initial.link) (g.L.Link.longest_wait l.link);
   few : GrowsBy l.counter l.initial.self l.self;
   buffer : length l.buf ≡ length l.initial.buf;
 }

@@ -2,6 +2,7 @@ use Rattle.std.proofs.Common.{refl, ◌∙◌, ◌+◌, arith}
 use Rattle.std.specs.Prelude.{Ok, Err}
 use Rattle.std.proofs.lemmas.Result.{err_from_is_err_and}
 use Rattle.serving_turns.specs.declared.end.End.TheVariants.{FeedFault, LinkFault}
+use Rattle.serving_turns.proofs.Waits.{no_waits, waits_then}
 use Rattle.serving_turns.proofs.Causes.{not_cause, other_end, same_cause}
 use Rattle.serving_turns.proofs.SoFar.{all_asked, none_asked, one_more, then_ends, then_nothing}
 use Rattle.gateway_serving.proofs.Few.{AreFew-most, GrowsBy-none, GrowsBy-then}
@@ -14,6 +15,8 @@ loop-init g c = record {
   latest = refl;
   coming = refl;
   faults = refl;
+  waits = refl;
+  control_waits = no_waits _ _ refl;
   calm = refl;
   few = GrowsBy-none c.args.self.now;
   buffer = refl;
@@ -85,6 +88,8 @@ loop-preserved g c = record {
   latest = c.hear_control_next.ensures.latest ∙ c.loop.invariant.latest;
   coming = c.hear_control_next.ensures.coming ∙ c.loop.invariant.coming;
   faults = c.hear_control_next.ensures.faults ∙ c.loop.invariant.faults;
+  waits = c.hear_control_next.ensures.waits ∙ c.loop.invariant.waits;
+  control_waits = waits_then _ _ _ c.loop.invariant.control_waits c.hear_control_next.ensures.control_waits;
   calm = c.in_ok-hear_control_next.ensures.cause.calm (λ is. cc) ∙ c.loop.invariant.calm;
   few = GrowsBy-then c.loop.counter 1 (c.loop.counter + 1) _ _ _ (omega arith) c.loop.invariant.few c.hear_control_next.ensures.few;
   buffer = c.hear_control_next.ensures.buffer ∙ c.loop.invariant.buffer;
@@ -132,3 +137,21 @@ returns-clause-coming g c = c.loop.invariant.coming
 
 pub returns-clause-faults : goal.returns-clause-faults
 returns-clause-faults g c = c.loop.invariant.faults
+
+pub returns-in_err-hear_control_next-clause-waits : goal.returns-in_err-hear_control_next-clause-waits
+returns-in_err-hear_control_next-clause-waits g c = c.hear_control_next.ensures.waits ∙ c.loop.invariant.waits
+
+pub returns-in_err-hear_control_next-clause-control_waits : goal.returns-in_err-hear_control_next-clause-control_waits
+returns-in_err-hear_control_next-clause-control_waits g c = waits_then _ _ _ c.loop.invariant.control_waits c.hear_control_next.ensures.control_waits
+
+pub returns-in-Nothing-clause-waits : goal.returns-in-Nothing-clause-waits
+returns-in-Nothing-clause-waits g c = c.hear_control_next.ensures.waits ∙ c.loop.invariant.waits
+
+pub returns-in-Nothing-clause-control_waits : goal.returns-in-Nothing-clause-control_waits
+returns-in-Nothing-clause-control_waits g c = waits_then _ _ _ c.loop.invariant.control_waits c.hear_control_next.ensures.control_waits
+
+pub returns-clause-waits : goal.returns-clause-waits
+returns-clause-waits g c = c.loop.invariant.waits
+
+pub returns-clause-control_waits : goal.returns-clause-control_waits
+returns-clause-control_waits g c = c.loop.invariant.control_waits

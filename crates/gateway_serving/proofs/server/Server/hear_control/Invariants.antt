@@ -1,6 +1,6 @@
 -- Each asking so far found a line.
 use Rattle.std.proofs.Common.{◌≡◌, length}
-use Rattle.serving_turns.specs.Devices.{feed_seen, link_seen, out_seen}
+use Rattle.serving_turns.specs.Devices.{WaitsBriefly, feed_seen, link_seen, out_seen}
 use Rattle.serving_turns.proofs.SoFar.{SoFar}
 use Rattle.gateway_serving.specs.Servers.{GrowsBy, HearsControl, at_control, at_work, family_in, latest_in}
 use Rattle.gateway_serving.specs.Turns.{from_control}
@@ -14,6 +14,8 @@ invariant-loop g l = record {
   latest : latest_in l.self ≡ latest_in l.initial.self;
   coming : g.L.Link.coming l.link ≡ g.L.Link.coming l.initial.link;
   faults : g.L.Link.receive_faults l.link ≡ g.L.Link.receive_faults l.initial.link;
+  waits : g.L.Link.longest_wait l.link ≡ g.L.Link.longest_wait l.initial.link;
+  control_waits : WaitsBriefly (g.F.Feed.longest_wait l.initial.control) (g.F.Feed.longest_wait l.control);
   calm : g.F.Feed.faults l.control ≡ g.F.Feed.faults l.initial.control;
   few : GrowsBy l.counter l.initial.self l.self;
   buffer : length l.buf ≡ length l.initial.buf;

@@ -11,6 +11,7 @@ loop-join-init g c = record {
   latest = refl;
   coming = refl;
   faults = refl;
+  waits = refl;
   few = GrowsBy-none c.args.self.now;
 }
 
@@ -36,6 +37,7 @@ loop-join-preserved g c =
       latest = c.open_join.ensures.latest ∙ invariant.latest;
       coming = c.open_join.ensures.coming ∙ invariant.coming;
       faults = c.open_join.ensures.faults ∙ invariant.faults;
+      waits = c.open_join.ensures.waits ∙ invariant.waits;
       few = GrowsBy-then c.loop-join.join-index 1 (c.loop-join.join-index + 1) _ _ _ (omega arith) invariant.few
           (GrowsBy-step 1 _ _ _ takes.events (omega arith) c.open_join.ensures.tallies);
     }

@@ -14,5 +14,6 @@ invariant-loop-join g l = record {
   latest : latest_in l.self ≡ latest_in l.initial.self;
   coming : g.L.Link.coming l.link ≡ g.L.Link.coming l.initial.link;
   faults : g.L.Link.receive_faults l.link ≡ g.L.Link.receive_faults l.initial.link;
+  waits : g.L.Link.longest_wait l.link ≡ g.L.Link.longest_wait l.initial.link;
   few : GrowsBy l.join-index l.initial.self l.self;
 }

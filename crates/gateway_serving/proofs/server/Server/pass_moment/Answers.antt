@@ -1,4 +1,5 @@
 use Rattle.std.proofs.Common.{refl, ◌∙◌}
+use Rattle.std.proofs.lemmas.Bool.{false≢true}
 use Rattle.gateway_serving.proofs.Beginning.{passes_starved, passes_taken}
 use Rattle.gateway_serving.proofs.server.Server.pass_moment.Goals as goal
 
@@ -11,4 +12,4 @@ pub returns-clause-passes : goal.returns-clause-passes
 returns-clause-passes g c =
     passes_starved c.args.self.now _ _ _ _ _ _ c.later-self.result c.now.result (record { same = record { same_settings = refl; same_first = refl; same_deliver = refl }; same_events = refl; same_delivered = refl; same_unsent = refl })
     c.later-self.ensures c.now.ensures.given c.take.ensures.tallies c.count_starved.new.self c.in-Err.ensures.none (c.count_starved.ensures.latest ∙ c.take.ensures.latest)
-    c.count_starved.ensures.alike c.count_starved.ensures.tallies
+    c.count_starved.ensures.alike c.count_starved.ensures.tallies (λ rests. false≢true (c.in-Err.ensures.needs_none rests))

@@ -1,4 +1,5 @@
 use Rattle.std.proofs.Common.{refl, ◌∙◌, arith}
+use Rattle.serving_turns.proofs.Waits.{no_waits, waits_then}
 use Rattle.gateway_serving.proofs.Few.{AreFew-most}
 use Rattle.gateway_serving.proofs.Running.{EndsIn-all, EndsIn-cut, IsRunning-none, IsRunning-then, RunsSo-all, RunsSo-cut}
 use Rattle.gateway_serving.proofs.server.Server.run.Goals as goal
@@ -7,6 +8,8 @@ pub loop-done-init : goal.loop-done-init
 loop-done-init g c = record {
   running = IsRunning-none c.args.self.now _;
   buffer = refl;
+  link_waits = no_waits _ _ refl;
+  control_waits = no_waits _ _ refl;
 }
 
 pub turn-requires-clause-room : goal.turn-requires-clause-room
@@ -31,6 +34,8 @@ pub loop-done-preserved : goal.loop-done-preserved
 loop-done-preserved g c = record {
   running = IsRunning-then _ _ _ _ _ _ _ _ _ c.loop-done.invariant.running c.in-Ok.ensures.turns c.in-Ok.ensures.causes c.turn.ensures.few;
   buffer = c.turn.ensures.buffer ∙ c.loop-done.invariant.buffer;
+  link_waits = waits_then _ _ _ c.loop-done.invariant.link_waits c.turn.ensures.link_waits;
+  control_waits = waits_then _ _ _ c.loop-done.invariant.control_waits c.turn.ensures.control_waits;
 }
 
 pub returns-clause-runs : goal.returns-clause-runs
@@ -38,3 +43,9 @@ returns-clause-runs g c = RunsSo-all _ _ _ _ _ _ c.loop-done.invariant.running (
 
 pub returns-clause-causes : goal.returns-clause-causes
 returns-clause-causes g c = EndsIn-all _ _ c.loop-done.invariant.running.calm
+
+pub returns-in-Err-clause-link_waits : goal.returns-in-Err-clause-link_waits
+returns-in-Err-clause-link_waits g c = waits_then _ _ _ c.loop-done.invariant.link_waits c.turn.ensures.link_waits
+
+pub returns-in-Err-clause-control_waits : goal.returns-in-Err-clause-control_waits
+returns-in-Err-clause-control_waits g c = waits_then _ _ _ c.loop-done.invariant.control_waits c.turn.ensures.control_waits

@@ -1,6 +1,6 @@
 -- Each turn so far was whole.
 use Rattle.std.proofs.Common.{◌≡◌, length}
-use Rattle.serving_turns.specs.Devices.{feed_seen, link_seen, out_seen, words_seen}
+use Rattle.serving_turns.specs.Devices.{WaitsBriefly, feed_seen, link_seen, out_seen, words_seen}
 use Rattle.gateway_serving.specs.Devices.{devices_seen}
 use Rattle.gateway_serving.proofs.Running.{IsRunning}
 use Rattle.gateway_serving.proofs.server.Server.run.Given as goal
@@ -16,4 +16,6 @@ invariant-loop-done g l = record {
       (feed_seen (g.F.Feed.coming l.control) (g.F.Feed.faults l.control)) (out_seen (g.O.OutLink.tried l.out) (g.O.OutLink.faults l.out)))
       l.done;
   buffer : length l.buf ≡ length l.initial.buf;
+  link_waits : WaitsBriefly (g.L.Link.longest_wait l.initial.link) (g.L.Link.longest_wait l.link);
+  control_waits : WaitsBriefly (g.F.Feed.longest_wait l.initial.control) (g.F.Feed.longest_wait l.control);
 }

@@ -1,9 +1,11 @@
 use Rattle.std.proofs.Common.{length, refl, ap, ◌∙◌, arith}
+use Rattle.std.proofs.Props.{props}
+use Rattle.std.proofs.lemmas.Bool.{false≢true}
 use Rattle.std.proofs.lemmas.List.{length_push}
 use Rattle.std.proofs.lemmas.Result.{err_from_is_err_and}
 use Rattle.gateway_machine.specs.declared.settings.GatewaySettings.{GatewaySettings}
 use Rattle.gateway_serving.specs.Servers.{events_in}
-use Rattle.gateway_serving.proofs.Stepping.{Takes-step, at_next, few_sent}
+use Rattle.gateway_serving.proofs.Stepping.{Takes-step, at_next, by_all, few_sent}
 use Rattle.gateway_serving.proofs.Taking.{Takes-none}
 use Rattle.gateway_serving.proofs.server.Server.take.Goals as goal
 
@@ -14,6 +16,10 @@ returns-in_err-sends-clause-none g c =
     (Takes-none _ _
     (record { same = record { same_settings = c.step.ensures.settings; same_first = refl; same_deliver = refl }; same_events = refl; same_delivered = refl; same_unsent = refl })
     (record { tried = refl; faults = refl; handed = refl; out_faults = refl }))
+
+pub returns-in_err-sends-clause-needs_none : goal.returns-in_err-sends-clause-needs_none
+returns-in_err-sends-clause-needs_none g c needs =
+    absurd (by_all c.args.self.now c.args.event.now ⊥ (hlevel props) (λ settings first events at nothing. false≢true (c.in_err-sends.ensures.needs_none settings first events at nothing)) needs)
 
 pub send_all-requires : goal.send_all-requires
 send_all-requires g c =

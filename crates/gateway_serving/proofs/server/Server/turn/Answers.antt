@@ -1,6 +1,7 @@
 use Rattle.std.proofs.Common.{◌∙◌, refl, arith}
 use Rattle.std.proofs.lemmas.Result.{err_from_is_err_and}
 use Rattle.serving_turns.specs.declared.end.End.TheVariants.{FeedFault, LinkFault, WordsFault}
+use Rattle.serving_turns.proofs.Waits.{no_waits, waits_then}
 use Rattle.serving_turns.proofs.Causes.{not_cause, same_cause}
 use Rattle.gateway_serving.proofs.Few.{AreFew-most, GrowsBy-none, GrowsBy-then}
 use Rattle.gateway_serving.proofs.Turning.{begun_other, ends_begun, ends_heard, ends_control, no_error, no_words_heard, no_words_in_lines}
@@ -71,3 +72,19 @@ returns-clause-few g c =
 
 pub returns-clause-buffer : goal.returns-clause-buffer
 returns-clause-buffer g c = c.hear_control.ensures.buffer ∙ c.hear.ensures.buffer
+
+pub returns-in_err-begin_turn-clause-link_waits : goal.returns-in_err-begin_turn-clause-link_waits
+returns-in_err-begin_turn-clause-link_waits g c = no_waits _ _ c.begin_turn.ensures.waits
+
+pub returns-in_err-begin_turn-clause-control_waits : goal.returns-in_err-begin_turn-clause-control_waits
+returns-in_err-begin_turn-clause-control_waits g c = no_waits _ _ refl
+
+pub returns-in_err-hear-clause-link_waits : goal.returns-in_err-hear-clause-link_waits
+returns-in_err-hear-clause-link_waits g c = waits_then _ _ _ (no_waits _ _ c.begin_turn.ensures.waits) c.hear.ensures.waits
+
+pub returns-in_err-hear-clause-control_waits : goal.returns-in_err-hear-clause-control_waits
+returns-in_err-hear-clause-control_waits g c = no_waits _ _ refl
+
+pub returns-clause-link_waits : goal.returns-clause-link_waits
+returns-clause-link_waits g c =
+    waits_then _ _ _ (waits_then _ _ _ (no_waits _ _ c.begin_turn.ensures.waits) c.hear.ensures.waits) (no_waits _ _ c.hear_control.ensures.waits)

@@ -17,6 +17,7 @@ loop-send-init g c =
       tallies = Tallies-none c.args.counts.now;
       coming = refl;
       faults = refl;
+      waits = refl;
     }
 
 pub overflow_add-counts : goal.overflow_add-counts
@@ -53,6 +54,7 @@ loop-send-preserved g c =
                 (ap (λ (one : Counts). one.bad_controls) w.counts-is) (ap (λ (one : Counts). one.starved) w.counts-is) invariant.tallies;
             coming = c.send.ensures.coming ∙ invariant.coming;
             faults = c.send.ensures.apart ∙ invariant.faults;
+            waits = c.send.ensures.waits ∙ invariant.waits;
           }
       | in-Err w ↦
           let unsent = ap (λ (one : Counts). one.unsent) w.counts-is in
@@ -65,5 +67,6 @@ loop-send-preserved g c =
                 (ap (λ (one : Counts). one.bad_controls) w.counts-is) (ap (λ (one : Counts). one.starved) w.counts-is) invariant.tallies;
             coming = c.send.ensures.coming ∙ invariant.coming;
             faults = c.send.ensures.apart ∙ invariant.faults;
+            waits = c.send.ensures.waits ∙ invariant.waits;
           }
     ]

@@ -16,4 +16,5 @@ invariant-loop-send g l = record {
   tallies : Tallies l.initial.counts l.counts 0 0 0 0;
   coming : g.L.Link.coming l.link ≡ g.L.Link.coming l.initial.link;
   faults : g.L.Link.receive_faults l.link ≡ g.L.Link.receive_faults l.initial.link;
+  waits : g.L.Link.longest_wait l.link ≡ g.L.Link.longest_wait l.initial.link;
 }
