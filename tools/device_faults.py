@@ -378,7 +378,7 @@ def a_send_has_no_room_once(bench):
     return "it is sent again: `unsent 0`, and all copies come; so after an interrupt"
 
 
-def a_send_never_has_room(bench):
+def copies_have_no_room(bench):
     # The first copy is tried twice, the second, which doesn't wait any more, once, and the third is sent.
     relay, came = sends_traced(bench, "sendto:error=EAGAIN:when=5..7")
     bench.done(relay, packets=3, updated=2, sent=8, unsent=2)
@@ -470,7 +470,7 @@ FAULTS = [
     no_random_word_comes,
     a_send_fails,
     a_send_has_no_room_once,
-    a_send_never_has_room,
+    copies_have_no_room,
     an_answer_has_no_room,
     the_clock_goes_back,
 ]
