@@ -1,4 +1,4 @@
-use Rattle.std.proofs.Common.{List, sym, ap, subst, ◌∙◌}
+use Rattle.std.proofs.Common.{List, refl, sym, ap, subst, ◌∙◌}
 use Rattle.std.specs.Prelude.{All}
 use Rattle.amt_config.specs.declared.config.Join.{Join}
 use Rattle.serving_turns.proofs.Waits.{no_waits, waits_then}
