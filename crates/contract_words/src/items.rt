@@ -45,6 +45,13 @@ impl<T: Drop> Items<T> {
         self.items.as_slice()
     }
 
+    /// The items alone.
+    pub fn into_vec(self) -> Vec<T>
+        ensures { result.items ≡ self }
+    {
+        self.items
+    }
+
     pub fn len(&self) -> usize
         ensures { result ≡ length self.now }
     {

@@ -8,6 +8,7 @@ pub mod CountedRows
 pub mod Drained
 pub mod EndpointGroupOrder
 pub mod EndpointRange
+pub mod EnoughRecords
 pub mod Expiry
 pub mod FewRows
 pub mod FilterByRecords

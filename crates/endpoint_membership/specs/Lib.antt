@@ -1,5 +1,6 @@
 pub mod Admission
 pub mod Chain
+pub mod Effective
 pub mod EndpointGroup
 pub mod EndpointMemberships
 pub mod Filters

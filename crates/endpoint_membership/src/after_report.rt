@@ -7,17 +7,19 @@ ghost use Rattle.std.specs.List.{filter_map};
 ghost use Rattle.amt_values.specs.declared.address.Ip.{Ip as Address};
 ghost use Rattle.amt_values.specs.Order.{ip_order};
 ghost use Rattle.endpoint_membership.specs.EndpointMemberships.{AreGone, AreOwn, gone_of_entry, membership_of_entry, renewed_filter_after_all};
+ghost use Rattle.endpoint_membership.specs.Effective.{lent};
 ghost use Rattle.endpoint_membership.specs.Log.{on_group};
 ghost use Rattle.source_filter.specs.Filter.{wants_any};
 ghost use Rattle.endpoint_membership.specs.EndpointGroup.{same_group};
 
+use crate::effective::effective_records;
 use crate::keys::EndpointGroup;
 use crate::parts::StoredMemberships;
 use crate::stored::OwnMembership;
 use amt_values::{Endpoint, Ip, Moment};
 use source_filter::{Filter, MutableFilter, Record, Records};
 use std::alloc::{AllocError, Global};
-use std::collections::BTreeMap;
+use std::collections::{BTreeMap, VecDeque};
 
 /// The memberships of an endpoint after its report, by group, and its pairs of which nothing is
 /// wanted any more.
@@ -96,6 +98,23 @@ fn apply_record(
 }
 
 // Applies records in their order.
+fn apply_each(
+    alloc: Global,
+    filters: &mut BTreeMap<Ip, RenewedFilter>,
+    mut records: VecDeque<&Record>,
+    moment: Moment,
+) -> Result<(), AllocError>
+    ensures { OnOk result ((group : Address) → get ip_order filters.new group
+        ≡ renewed_filter_after_all moment (on_group group (lent records.entry.items))
+        (get ip_order filters.old group)) }
+{
+    while let Some(group_record) = records.pop_front() {
+        apply_record(alloc, filters, group_record, moment)?;
+    }
+    Ok(())
+}
+
+// Applies records in their order, but for those that later ones leave without effect.
 fn apply_records(
     alloc: Global,
     filters: &mut BTreeMap<Ip, RenewedFilter>,
@@ -106,10 +125,8 @@ fn apply_records(
         ≡ renewed_filter_after_all moment (on_group group records.now)
         (get ip_order filters.old group)) }
 {
-    for group_record in records {
-        apply_record(alloc, filters, group_record, moment)?;
-    }
-    Ok(())
+    let effective = effective_records(alloc, records)?;
+    apply_each(alloc, filters, effective, moment)
 }
 
 fn wants_any(renewed_filter: &RenewedFilter) -> bool

@@ -8,6 +8,7 @@
 
 mod after_report;
 mod change;
+mod effective;
 mod filters;
 mod first_limit;
 mod keys;

@@ -11,8 +11,8 @@ abbrev pub IsBefore : ℕ → Option ℕ → Type 0
 IsBefore at None = Unit {0}
 IsBefore at (Some due) = at < due
 
--- After these events this is the earliest moment at which something is due, if there is one: when a moment is
--- told, nothing is due exactly where the later one of it and of the gateway's own is before that.
+-- this is the earliest moment at which something is due after these events, if there is one: a moment that is told
+-- finds nothing due exactly where both it and the gateway's own are before this one
 abbrev pub IsDueAt : GatewaySettings → ℕ → List GatewayEvent → Option ℕ → Type 0
 IsDueAt settings first events due =
     (at : ℕ) → at < 2 ^ 62

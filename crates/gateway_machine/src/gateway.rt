@@ -47,7 +47,7 @@ pub struct Gateway {
 }
 
 impl Gateway {
-    ghost use Rattle.std.specs.Prelude.{◌≡◌, ◌≤◌, List, ℕ, [], ◌∷◌, ◌++◌, All, length, map, Some, IfOk, IsOk, OnErr};
+    ghost use Rattle.std.specs.Prelude.{◌≡◌, ◌≤◌, List, ℕ, [], ◌∷◌, ◌++◌, All, length, map, Some, IfOk, IfSome, IsOk, OnErr};
     ghost use Rattle.socket_merge.specs.Interface.{wants};
     ghost use Rattle.gateway_machine.specs.Due.{IsDueAt};
     ghost use Rattle.gateway_machine.specs.Events.{IsDraw, IsEventOf};
@@ -99,10 +99,12 @@ impl Gateway {
     }
 
     /// The earliest moment at which something is due, if there is one: until then a moment is `Quiet`, and
-    /// from then on it isn't. It changes with events, so a caller that sleeps asks again after each. Where
-    /// memory refused what was due, it has passed already.
+    /// from then on it isn't. It changes with events, so a caller that sleeps asks again after each. It is never
+    /// before the latest moment that the gateway was told: where memory refused what was due, it is that one.
     pub fn due(&self) -> Option<Moment>
-        ensures { After self.now (λ settings first events. IsDueAt settings first events result) }
+        ensures due { After self.now (λ settings first events. IsDueAt settings first events result) }
+        ensures onward { After self.now (λ settings first events. IfSome result (λ due.
+            (run_of settings first events).exchange.moment ≤ due)) }
     {
         due_at(&self.exchange)
     }

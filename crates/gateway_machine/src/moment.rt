@@ -1,6 +1,6 @@
 //! What a moment comes to. It must not know messages.
 
-ghost use Rattle.std.specs.Prelude.{◌≡◌, ◌||◌, ◌<◌, ◌^◌, ◌↔◌, ℕ, List, max, nat_lt, IfOk, IsOk};
+ghost use Rattle.std.specs.Prelude.{◌≡◌, ◌||◌, ◌≤◌, ◌<◌, ◌^◌, ◌↔◌, ℕ, List, max, nat_lt, IfOk, IfSome, IsOk};
 ghost use Rattle.socket_merge.specs.Sockets.{ForHistory};
 ghost use Rattle.socket_merge.specs.History.{AcceptedCall};
 ghost use Rattle.gateway_machine.specs.Answers.{answer_at, is_idle};
@@ -30,9 +30,10 @@ fn is_idle(exchange: &Exchange) -> bool
 
 /// The earliest moment at which something is due, if there is one: never one before the exchange's own.
 pub fn due_at(exchange: &Exchange) -> Option<Moment>
-    ensures { (settings : SettingsValue) (history : List AcceptedCall) (at : ℕ) → at < 2 ^ 62
+    ensures due { (settings : SettingsValue) (history : List AcceptedCall) (at : ℕ) → at < 2 ^ 62
         → ((answer_at settings (moved at exchange.now) history).outcome ≡ Quiet
         ↔ IsBefore (max exchange.now.moment at) result) }
+    ensures onward { IfSome result (λ due. exchange.now.moment ≤ due) }
 {
     if is_idle(exchange) {
         return None;

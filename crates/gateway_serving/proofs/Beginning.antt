@@ -1,14 +1,16 @@
 -- How a running gateway begins, and how each turn does.
 use Rattle.std.proofs.Common.{◌≡◌, ◌<◌, ℕ, ◌+◌, max, List, [], ◌∷◌, ◌++◌, length, get_or, map, take, drop, refl, sym, ap, subst, ◌∙◌, append-nil, arith}
-use Rattle.std.specs.Prelude.{Option, Result, Ok, Err}
+use Rattle.std.specs.Prelude.{Option, Result, Ok, Err, nat_lt}
+use Rattle.std.proofs.Math.Bool.{or-true}
 use Rattle.std.proofs.lemmas.List.{drop_more, map-append, take-append-drop, take_all, take_more}
 use Rattle.std.proofs.lemmas.List.Elements.{All-cons, All-nil}
 use Rattle.amt_config.specs.declared.config.Join.{Join}
 use Rattle.amt_ports.specs.Told.{Appends, AppendsAll}
 use Rattle.gateway_machine.specs.Outcomes.{IsAtRest}
-use Rattle.gateway_machine.specs.Runs.{answer_after}
+use Rattle.gateway_machine.specs.Runs.{answer_after, run_of}
 use Rattle.gateway_machine.specs.declared.event.GatewayEvent.{GatewayEvent}
 use Rattle.gateway_machine.specs.declared.event.GatewayEvent.TheVariants.{Moment, Nonce}
+use Rattle.gateway_machine.specs.declared.settings.GatewaySettings.{GatewaySettings}
 use Rattle.serving_turns.specs.Answers.{refused, taken}
 use Rattle.serving_turns.specs.Devices.{LinkSeen, OutSeen}
 use Rattle.serving_turns.specs.declared.end.End.TheVariants.{WordsFault}
@@ -18,7 +20,7 @@ use Rattle.gateway_serving.specs.Openings.{OpensSo}
 use Rattle.gateway_serving.specs.Servers.{AtWork, IsAlike, Takes, Tallies, at_work, counts_in, events_in, first_in, latest_in, settings_in}
 use Rattle.gateway_serving.specs.Settings.{opening_of}
 use Rattle.gateway_serving.specs.Starving.{SendsAt}
-use Rattle.gateway_serving.specs.Stages.{BeginsTurn, BeginsWith, IsBegunBy, PassesMoment}
+use Rattle.gateway_serving.specs.Stages.{BeginsTurn, BeginsWith, PassesMoment}
 use Rattle.gateway_serving.specs.declared.server.Server.{Server}
 use Rattle.gateway_serving.proofs.Starving.{SendsAt-same}
 use Rattle.gateway_serving.proofs.Taking.{Takes-from, Takes-then, Takes-to, Tallies-as, Tallies-none, Tallies-then, none_first, none_taken, seen_same}
@@ -141,25 +143,14 @@ begins_all unit joins before now place all opened = record {
   is = ap (map opening_of) (take_all place joins (omega (arith, all)));
 }
 
--- memory refused the first moment
-pub opens_refused : {E : Type 0} (error : E) (joins : List Join) (server moved : Server) (link : LinkSeen) (out : OutSeen) (after : AtWork) (clock clock' : Option (List ℕ)) (at : ℕ) → IsAlike server moved
-    → Appends clock clock' at → Takes (at_work moved link out) after [] → Tallies (counts_in server) (counts_in after.server) 0 0 0 0 → latest_in after.server ≡ at
-    → OpensSo {E = E} joins (at_work server link out) after clock clock' (Err error)
-opens_refused error joins server moved link out after clock clock' at alike gave takes tallies latest = record {
-  moment = at;
-  clock_gave = gave;
-  latest = latest;
-  begins = record {
-    begun = [];
-    takes = Takes-from (at_work server link out) (at_work moved link out) after [] alike (seen_same server moved link out) takes;
-    tallies = tallies;
-    is = (Moment at, map opening_of joins, refl);
-  };
-}
+-- nothing is due before the first join, however late it is
+pub first_rests : (settings : GatewaySettings) (first at : ℕ) → IsAtRest (answer_after settings first [] (Moment at)).outcome
+unfolding run_of
+first_rests settings first at = rw (or-true (nat_lt (max 0 at) 0)) tt
 
-after_first : {E : Type 0} (result : Result (Unit {0}) E) (first : GatewayEvent) (events begun : List GatewayEvent) → IsBegunBy result events begun → IsBegunBy result (first ∷ events) (first ∷ begun)
-after_first (Ok unit) first events begun is = ap (λ (list : List GatewayEvent). first ∷ list) is
-after_first (Err error) first events begun is = (is.0, is.1, ap (λ (list : List GatewayEvent). first ∷ list) is.2)
+-- the same of a gateway to which nothing has happened
+pub rests_first : (settings : GatewaySettings) (first at : ℕ) (events : List GatewayEvent) → events ≡ [] → IsAtRest (answer_after settings first events (Moment at)).outcome
+rests_first settings first at events none = subst (λ (list : List GatewayEvent). IsAtRest (answer_after settings first list (Moment at)).outcome) (sym none) (first_rests settings first at)
 
 -- the first moment, and then joins
 pub opens_so : {E : Type 0} (result : Result (Unit {0}) E) (joins : List Join) (server moved : Server) (link : LinkSeen) (out : OutSeen) (middle after : AtWork) (clock clock' : Option (List ℕ)) (at : ℕ)
@@ -169,11 +160,9 @@ opens_so result joins server moved link out middle after clock clock' at alike g
   moment = at;
   clock_gave = gave;
   latest = still ∙ latest;
-  begins = record {
-    begun = Moment at ∷ begins.begun;
-    takes = Takes-then (at_work server link out) middle after (Moment at ∷ []) begins.begun
-        (Takes-from (at_work server link out) (at_work moved link out) middle (Moment at ∷ []) alike (seen_same server moved link out) takes) begins.takes;
-    tallies = Tallies-then (counts_in server) (counts_in middle.server) (counts_in after.server) 0 0 0 0 0 0 0 0 tallies begins.tallies;
-    is = after_first result (Moment at) (map opening_of joins) begins.begun begins.is;
-  };
+  opened = begins.begun;
+  takes = Takes-then (at_work server link out) middle after (Moment at ∷ []) begins.begun
+      (Takes-from (at_work server link out) (at_work moved link out) middle (Moment at ∷ []) alike (seen_same server moved link out) takes) begins.takes;
+  tallies = Tallies-then (counts_in server) (counts_in middle.server) (counts_in after.server) 0 0 0 0 0 0 0 0 tallies begins.tallies;
+  is = begins.is;
 }

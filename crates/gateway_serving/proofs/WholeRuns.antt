@@ -150,17 +150,25 @@ serves_by config turns word done end run fresh last before after is goes first d
 module _ (config : GatewayConfig) (turns word : ℕ) (fresh opened : Server) (clock clock' : Option (List ℕ)) (words words' : WordsSeen) (link link' : LinkSeen) (control : FeedSeen) (out out' : OutSeen)
     (is : IsFresh config word fresh) (gave : AppendsAll words.given words'.given (word ∷ [])) (quiet : words'.faults ≡ words.faults)
     (same_coming : link'.coming ≡ link.coming) (same_faults : link'.receive_faults ≡ link.receive_faults) where
-  -- memory refused the first moment or a join
+  -- memory refused a join
   pub serves_unopened : {E : Type 0} (error : E) (joins : List Join) → joins ≡ config.joins → OpensSo joins (at_work fresh link out) (at_work opened link' out') clock clock' (Err error)
       → Serves config turns (devices_seen clock words link control out) (devices_seen clock' words' link' control out') (report_of Memory 0 (counts_in opened))
   serves_unopened error joins same opens =
-      let begins = opens.begins in
-      let events = ap (λ (list : List Join). Moment opens.moment ∷ map opening_of list) (sym same) ∙ begins.is.2 in
-      let run = early (word ∷ []) (opens.moment ∷ []) begins.begun in
+      let begun = Moment opens.moment ∷ opens.opened in
+      let run = early (word ∷ []) (opens.moment ∷ []) begun in
       serves_by config turns word 0 Memory run fresh opened (devices_seen clock words link control out) (devices_seen clock' words' link' control out') is
-      (unopened refl refl (record { moment = opens.moment; given = refl; refused = begins.is.0; rest = begins.is.1; begun_is = events; no_turn = refl }))
+      (unopened refl refl (record {
+        moment = opens.moment;
+        given = refl;
+        opened = opens.opened;
+        begun_is = refl;
+        refused = opens.is.0;
+        rest = opens.is.1;
+        joins_are = ap (map opening_of) (sym same) ∙ opens.is.2;
+        no_turn = refl;
+      }))
       refl refl gave opens.clock_gave same_coming refl
-      (subst (Takes (at_work fresh link out) (at_work opened link' out')) (sym (append-nil begins.begun)) begins.takes) begins.tallies tt
+      (subst (Takes (at_work fresh link out) (at_work opened link' out')) (sym (append-nil begun)) opens.takes) opens.tallies tt
       (record { link = ((λ end. cc end), (λ other. same_faults)); control = ((λ end. cc end), (λ other. refl)); words = ((λ end. cc end), (λ other. quiet)) })
 
   -- the turns began
@@ -168,16 +176,16 @@ module _ (config : GatewayConfig) (turns word : ℕ) (fresh opened : Server) (cl
       → RunsSo turns opened last (devices_seen clock' words' link' control out') after end done → EndsIn end (devices_seen clock' words' link' control out') after
       → Serves config turns (devices_seen clock words link control out) after (report_of end done (counts_in last))
   serves_run unit last end done after joins same opens runs ends =
-      let begins = opens.begins in
+      let begun = Moment opens.moment ∷ opens.opened in
       let all = with_cut runs.whole runs.cut in
-      let run : Run = record { words = word ∷ []; moments = opens.moment ∷ []; begun = begins.begun; whole = runs.whole; cut = runs.cut } in
+      let run : Run = record { words = word ∷ []; moments = opens.moment ∷ []; begun = begun; whole = runs.whole; cut = runs.cut } in
       let before = devices_seen clock words link control out in
-      let family : family_in opened ≡ family_of (settings_of config) = ap family_of (begins.takes.events.same.same_settings ∙ is.settings) in
+      let family : family_in opened ≡ family_of (settings_of config) = ap family_of (opens.takes.events.same.same_settings ∙ is.settings) in
       serves_by config turns word done end run fresh last before after is
       (served refl (record {
         moment = opens.moment;
         given = refl;
-        begun_is = begins.is ∙ ap (λ (list : List Join). Moment opens.moment ∷ map opening_of list) same;
+        begun_is = ap (λ (list : List GatewayEvent). Moment opens.moment ∷ list) (opens.is ∙ ap (map opening_of) same);
         are_whole = subst (λ (one : Family). All (IsWhole one) runs.whole) family runs.are_whole;
         ended = subst (λ (one : Family). HasEnded one turns end (length runs.whole) runs.cut) family runs.ended;
       }))
@@ -186,13 +194,13 @@ module _ (config : GatewayConfig) (turns word : ℕ) (fresh opened : Server) (cl
       (AppendsAll-then clock clock' after.clock (opens.moment ∷ []) _ opens.clock_gave runs.goes.clock)
       (subst (λ (from : Option (List LinkAnswer)). AnswersAll LinkClosed from after.link.coming (link_answers run)) same_coming runs.goes.link)
       runs.goes.control
-      (subst (λ (latest : ℕ). Takes (work_on fresh before) (work_on last after) (begins.begun ++ events_from latest all)) opens.latest
-      (Takes-then (work_on fresh before) (at_work opened link' out') (work_on last after) begins.begun (events_from (latest_in opened) all) begins.takes runs.goes.takes))
+      (subst (λ (latest : ℕ). Takes (work_on fresh before) (work_on last after) (begun ++ events_from latest all)) opens.latest
+      (Takes-then (work_on fresh before) (at_work opened link' out') (work_on last after) begun (events_from (latest_in opened) all) opens.takes runs.goes.takes))
       (Tallies-as (counts_in fresh) (counts_in last) _ _ _ _ _ _ _ _ (none_first _) (none_first _) (none_first _) (none_first _)
-      (Tallies-then (counts_in fresh) (counts_in opened) (counts_in last) _ _ _ _ _ _ _ _ begins.tallies runs.goes.tallies))
-      (StarveWhereItSends-same (settings_in opened) (settings_of config) (first_in opened) (nonce_of word) (events_in opened) begins.begun (latest_in opened) opens.moment
-      (begins.takes.events.same.same_settings ∙ is.settings) (begins.takes.events.same.same_first ∙ is.first)
-      (begins.takes.events.events ∙ ap (λ (list : List GatewayEvent). list ++ begins.begun) is.none) opens.latest all runs.goes.starve)
+      (Tallies-then (counts_in fresh) (counts_in opened) (counts_in last) _ _ _ _ _ _ _ _ opens.tallies runs.goes.tallies))
+      (StarveWhereItSends-same (settings_in opened) (settings_of config) (first_in opened) (nonce_of word) (events_in opened) begun (latest_in opened) opens.moment
+      (opens.takes.events.same.same_settings ∙ is.settings) (opens.takes.events.same.same_first ∙ is.first)
+      (opens.takes.events.events ∙ ap (λ (list : List GatewayEvent). list ++ begun) is.none) opens.latest all runs.goes.starve)
       (record {
         link = subst (λ (count : ℕ). IsCauseOf end LinkFault count after.link.receive_faults) same_faults ends.link;
         control = ends.control;

@@ -6,11 +6,12 @@ use Rattle.amt_ports.specs.declared.feed.FeedAnswer.{FeedAnswer}
 use Rattle.amt_ports.specs.declared.link.LinkAnswer.{LinkAnswer}
 use Rattle.gateway_machine.specs.Settings.{family_of}
 use Rattle.gateway_machine.specs.declared.event.GatewayEvent.{GatewayEvent}
+use Rattle.gateway_machine.specs.declared.event.GatewayEvent.TheVariants.{Moment}
 use Rattle.group_records.specs.declared.family.Family.{Family}
 use Rattle.serving_turns.specs.Bursts.{IsBegun, IsClosed}
 use Rattle.serving_turns.specs.declared.end.End.{End}
 use Rattle.serving_turns.specs.declared.end.End.TheVariants.{Turns, Closed, LinkFault, FeedFault, WordsFault, SpawnFault, Memory}
-use Rattle.gateway_serving.specs.Settings.{first_events, settings_of}
+use Rattle.gateway_serving.specs.Settings.{first_events, opening_of, settings_of}
 use Rattle.gateway_serving.specs.Turns.{HasBegun, HasHeard, IsWhole, Turn, from_control, from_link}
 
 -- a word couldn't be drawn, and nothing else was asked
@@ -62,13 +63,15 @@ abbrev pub HasEnded : Family → ℕ → End → ℕ → Option Turn → Type 0
 HasEnded family turns end done None = (end ≡ Turns) × (done ≡ turns)
 HasEnded family turns end done (Some turn) = (done < turns) × IsCut end family turn
 
--- Memory refused one of the events before the first turn: those before that one happened.
+-- Memory refused a join: the first moment had passed, and the joins before that one were opened.
 pub record IsRefusedEarly (config : GatewayConfig) (run : Run) : Type 0 where
   pub moment : ℕ
   pub given : run.moments ≡ moment ∷ []
+  pub opened : List GatewayEvent
+  pub begun_is : run.begun ≡ Moment moment ∷ opened
   pub refused : GatewayEvent
   pub rest : List GatewayEvent
-  pub begun_is : first_events config moment ≡ run.begun ++ refused ∷ rest
+  pub joins_are : map opening_of config.joins ≡ opened ++ refused ∷ rest
   pub no_turn : turns_of run ≡ []
 
 -- All of them happened, and then the turns.
@@ -79,8 +82,8 @@ pub record HasTurns (config : GatewayConfig) (turns : ℕ) (end : End) (run : Ru
   pub are_whole : All (IsWhole (family_of (settings_of config))) run.whole
   pub ended : HasEnded (family_of (settings_of config)) turns end (length run.whole) run.cut
 
--- how a run may go: there is no first nonce; memory has no room for a gateway, or refuses one of the first
--- events; or the turns began
+-- how a run may go: there is no first nonce; memory has no room for a gateway, or refuses a join; or the turns
+-- began
 pub data MayGo (config : GatewayConfig) (turns : ℕ) (end : End) (run : Run) : Type 0 where
   undrawn : run.words ≡ [] → end ≡ WordsFault → IsStill run → MayGo config turns end run
   unmade : length run.words ≡ 1 → end ≡ Memory → IsStill run → MayGo config turns end run

@@ -10,8 +10,8 @@ use amt_values::{Ip, forwardable, wire16};
 use igmp_records::read_report4;
 use inner_datagrams::{Inner, read_inner};
 use mld_records::read_report6;
-use source_filter::{ReadFault, Records, copy_record};
-use std::alloc::{AllocError, Global};
+use source_filter::{ReadFault, Records};
+use std::alloc::Global;
 
 /// Why no records came of an Update.
 #[derive(Clone, Copy, Debug, PartialEq, Eq)]
@@ -53,15 +53,12 @@ pub fn read_report(alloc: Global, inner: &[u8]) -> Result<Records, Unread>
 }
 
 // The records on groups that are forwarded, in their order. No packet of the others is copied, so
-// what a host reports of them would take room in the table for nothing.
-pub fn forwardable_records(alloc: Global, records: &Records) -> Result<Records, AllocError>
-    ensures { IfOk result (λ kept. kept ≡ forwardable_records records.now) }
+// what a host reports of them would take room in the table for nothing. It takes no memory: a report may have
+// thousands of records.
+pub fn forwardable_records(records: Records) -> Records
+    ensures { result ≡ forwardable_records records }
 {
-    let mut kept = Records::new(alloc);
-    for group_record in records.as_slice() {
-        if forwardable(&group_record.group) {
-            kept.push(copy_record(alloc, group_record)?)?;
-        }
-    }
-    Ok(kept)
+    let mut kept = records.into_vec();
+    kept.retain(|group_record| forwardable(&group_record.group));
+    Records::from(kept)
 }

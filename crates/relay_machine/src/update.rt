@@ -74,6 +74,5 @@ pub fn take_update(
         Err(Unread::Unlawful(fault)) => return Ok(Step::quiet(alloc, Outcome::Unlawful(fault))),
         Err(Unread::Memory) => return Err(AllocError),
     };
-    let records = forwardable_records(alloc, &records)?;
-    accept(alloc, table, source, records)
+    accept(alloc, table, source, forwardable_records(records))
 }

@@ -119,7 +119,8 @@ impl Server {
         Ok(())
     }
 
-    /// The first moment of the run, and then the joins.
+    /// The first moment of the run, and then the joins. Nothing is due before the first join, so memory refuses no
+    /// moment here.
     pub(crate) fn open<C: Clock, L: Link, O: OutLink>(
         &mut self,
         alloc: Global,
@@ -130,6 +131,7 @@ impl Server {
     ) -> Result<(), AllocError>
         requires joins { All (λ join. IsEventOf (settings_in self.old) (opening_of join)) joins.now }
         requires few { AreFew 0 self.old }
+        requires none { events_in self.old ≡ [] }
         ensures opens { OpensSo joins.now
             (at_work self.old (link_seen (L.coming link.old) (L.tried link.old) (L.receive_faults link.old) (L.send_faults link.old))
             (out_seen (O.tried out.old) (O.faults out.old)))

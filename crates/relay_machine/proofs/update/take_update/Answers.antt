@@ -12,7 +12,7 @@ use Rattle.relay_machine.proofs.update.take_update.Goals as goal
 pub accept-requires-clause-items : goal.accept-requires-clause-items
 accept-requires-clause-items c =
     let few = c.in-Ok.ensures.few in
-    rw c.in_ok-records.ensures (omega (arith, item_count-forwardable c.in-Ok.records))
+    rw c.forwardable_records.ensures (omega (arith, item_count-forwardable c.in-Ok.records))
 
 pub returns-clause-answers : goal.returns-clause-answers
 returns-clause-answers c terms log holds =
@@ -20,5 +20,5 @@ returns-clause-answers c terms log holds =
     let read : report_in c.args.inner.now ≡ Ok c.in-Ok.records = ap report_in (sym c.as_slice.ensures) ∙ c.in-Ok.ensures.value in
     let passed : List Record → Option LimitFault = λ records. limit_passed terms log c.args.source records (latest log) in
     rw good (IfOk-weaker c.accept.result _ _
-    (λ step answered. answered-read terms _ _ log (report_in c.args.inner.now) c.in-Ok.records c.in_ok-records.records passed c.args.source (latest log) step read c.in_ok-records.ensures answered)
+    (λ step answered. answered-read terms _ _ log (report_in c.args.inner.now) c.in-Ok.records c.forwardable_records.result passed c.args.source (latest log) step read c.forwardable_records.ensures answered)
     (c.accept.ensures.answers terms log holds))

@@ -1,0 +1,17 @@
+use Rattle.std.proofs.Common.{◌≡◌}
+use Rattle.std.specs.BTreeMap.{get}
+use Rattle.amt_values.specs.declared.address.Ip.{Ip}
+use Rattle.amt_values.specs.Order.{ip_order}
+use Rattle.endpoint_membership.specs.Effective.{lent}
+use Rattle.endpoint_membership.specs.EndpointMemberships.{renewed_filter_after_all}
+use Rattle.endpoint_membership.specs.Log.{on_group}
+use Rattle.endpoint_membership.proofs.after_report.apply_each.Given as goal
+
+-- what is left to apply makes of the filters what all of it made of the first ones
+abbrev pub invariant-loop-group_record : goal.invariant-loop-group_record
+invariant-loop-group_record l = (group : Ip)
+    → renewed_filter_after_all l.moment (on_group group (lent l.records.items)) (get ip_order l.filters group)
+    ≡ renewed_filter_after_all l.moment (on_group group (lent l.fn.records.items)) (get ip_order l.initial.filters group)
+
+abbrev pub decreases-loop-group_record : goal.decreases-loop-group_record
+decreases-loop-group_record l = l.records.len
