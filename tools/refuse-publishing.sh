@@ -17,7 +17,7 @@ top=$(cd "$(dirname "$0")/.." && pwd)
 copy=$(mktemp -d)
 trap 'rm -rf "$copy"' EXIT
 mkdir "$copy/crates"
-libraries="contract_words amt_values amt_ports source_filter endpoint_membership published_table"
+libraries="amt_values amt_ports source_filter endpoint_membership published_table"
 for name in $libraries; do
     mkdir "$copy/crates/$name"
     for part in src specs proofs; do

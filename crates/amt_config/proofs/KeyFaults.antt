@@ -1,7 +1,7 @@
 -- A key's first fault, and keys that have none.
 use Rattle.std.proofs.Common.{◌≡◌, ℕ, Bool, true, false, List, [], ◌∷◌, Option, None, Some, ℤ, pos, inl, inr, refl, sym, subst, ap, ◌∙◌}
 use Rattle.std.specs.Int.{IsInRange}
-use Rattle.contract_words.specs.Conditions.{First}
+use Rattle.amt_values.specs.Conditions.{First}
 use Rattle.relay_machine.specs.declared.number_key.NumberRange.{NumberRange}
 use Rattle.script_lines.specs.declared.reason.Reason.{Reason}
 use Rattle.script_lines.specs.Form.{Fails as FailsAsForm, Form}

@@ -11,8 +11,8 @@ use Rattle.std.proofs.lemmas.List.Sums.{sum_by_push}
 use Rattle.amt_values.specs.declared.address.Ip.{Ip}
 use Rattle.amt_values.specs.Group.{is_forwardable}
 use Rattle.amt_values.specs.Order.{ip_order}
-use Rattle.contract_words.specs.Ascending.{placed}
-use Rattle.contract_words.proofs.ConditionLaws.{NoneHolds-of}
+use Rattle.amt_values.specs.Ascending.{placed}
+use Rattle.amt_values.proofs.ConditionLaws.{NoneHolds-of}
 use Rattle.group_records.specs.declared.family.Family.{Family}
 use Rattle.group_records.specs.Written.{is_of_family}
 use Rattle.source_filter.specs.Filter.{ascending_sources}

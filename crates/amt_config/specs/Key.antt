@@ -2,7 +2,7 @@
 use Rattle.std.specs.Prelude.{◌≡◌, ◌⊎◌, ℕ, Bool, true, false, List, [], ◌∷◌, ℤ, pos, Option, Some, None}
 use Rattle.std.specs.Int.{IsInRange}
 use Rattle.std.specs.List.{AllByRecursion}
-use Rattle.contract_words.specs.Conditions.{First}
+use Rattle.amt_values.specs.Conditions.{First}
 use Rattle.relay_machine.specs.declared.number_key.NumberRange.{NumberRange}
 use Rattle.script_lines.specs.declared.reason.Reason.{Reason}
 use Rattle.script_lines.specs.declared.reason.Reason.TheVariants as reasons

@@ -3,8 +3,7 @@
 ghost use Rattle.std.specs.Prelude.{◌≡◌};
 ghost use Rattle.amt_config.specs.Relay.{settings_of};
 
-use amt_values::{Bytes, Ip, Peer};
-use contract_words::Items;
+use amt_values::{Bytes, Ip, Items, Peer};
 use endpoint_membership::Limits;
 use relay_machine::Settings;
 use source_filter::Filter;

@@ -1,7 +1,7 @@
 //! The settings file of a relay.
 
 ghost use Rattle.std.specs.Prelude.{◌≡◌, ◌≤◌, ◌<◌, ◌*◌, ◌⊎◌, [], ◌∷◌, IfOk, IfErr, IfNone, IfSome, IsTrue, IsFalse, Ok, Err};
-ghost use Rattle.contract_words.specs.Conditions.{First};
+ghost use Rattle.amt_values.specs.Conditions.{First};
 ghost use Rattle.relay_machine.specs.declared.number_key.NumberKey.{NumberKey as AnyNumber};
 ghost use Rattle.relay_machine.specs.declared.number_key.NumberKey.TheVariants.{Endpoints, QuerySeconds, ResponseTenths};
 ghost use Rattle.relay_machine.specs.Settings.{AreLawfulSettings, IsInKeyRange, number_at as number_in};

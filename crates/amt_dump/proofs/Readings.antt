@@ -4,7 +4,7 @@ use Rattle.amt_values.specs.declared.address.Ip.{Ip}
 use Rattle.amt_messages.specs.Refusal.{message_of}
 use Rattle.amt_messages.specs.declared.message.Message.{Message}
 use Rattle.amt_messages.specs.declared.refusal.Refused.{Refused}
-use Rattle.contract_words.specs.Conditions.{unless}
+use Rattle.amt_values.specs.Conditions.{unless}
 use Rattle.inner_datagrams.specs.Fault.{first_inner_fault}
 use Rattle.inner_datagrams.specs.Reading.{inner_at, payload_in, payload_start}
 use Rattle.inner_datagrams.specs.declared.inner.Inner.{Inner as InnerPlace}

@@ -5,8 +5,7 @@ ghost use Rattle.std.specs.List.{AllByRecursion};
 ghost use Rattle.script_lines.specs.Script.{Spells, IsErrorOf, RulesOutScripts, HasOneScript, HasOneFault};
 ghost use Rattle.amt_dump.specs.Lines.{IsDatagram, dump_kind};
 
-use amt_values::Bytes;
-use contract_words::Items;
+use amt_values::{Bytes, Items};
 use script_lines::{
     LineError, OctetsError, Reason, ScriptError, ScriptKind, next_field, read_octets, read_script,
 };

@@ -4,7 +4,7 @@ ghost use Rattle.std.specs.Prelude.{◌≡◌, ◌≤◌, ◌++◌, length, IfOk
 ghost use Rattle.std.specs.Str.Lines.{lines};
 ghost use Rattle.amt_dump.specs.Lines.{number_that_says, numbers_that_say};
 
-use contract_words::Items;
+use amt_values::Items;
 use script_lines::{next_line, split_statement};
 use std::alloc::{AllocError, Global};
 

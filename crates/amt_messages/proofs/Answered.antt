@@ -8,8 +8,8 @@ use Rattle.amt_messages.specs.declared.refusal.DecodeFault.TheVariants.{Refused 
 use Rattle.amt_messages.specs.declared.refusal.Refused.{Refused}
 use Rattle.amt_messages.specs.Messages.{IsMessage, IsSendable}
 use Rattle.amt_messages.specs.Layout.{Spells, spelling_of}
-use Rattle.contract_words.specs.Answer.{Gives}
-use Rattle.contract_words.proofs.ConditionLaws.{unless-err}
+use Rattle.amt_values.specs.Answer.{Gives}
+use Rattle.amt_values.proofs.ConditionLaws.{unless-err}
 use Rattle.amt_messages.specs.Refusal.{TakesMemory, first_refusal, message_at, message_of, refusal_in}
 use Rattle.amt_messages.proofs.Spelled.{spelled_is_read}
 use Rattle.amt_messages.proofs.Unrefused.{read_is_spelled, read_is_unrefused, unrefused_is_spelled}

@@ -9,8 +9,8 @@ use Rattle.amt_messages.specs.declared.message.Message.{Message}
 use Rattle.amt_messages.specs.declared.message.Message.TheVariants.{Discovery, Advertisement, Request, Query, Update, Multicast, Teardown}
 use Rattle.amt_messages.specs.StatedLength.{inner_length_of}
 use Rattle.amt_messages.specs.Layout.{Spells, IsAdvertisement, IsQuery, has_flag, query_length, gateway_at}
-use Rattle.contract_words.specs.Conditions.{NoneHolds}
-use Rattle.contract_words.proofs.ConditionLaws.{first_holding-none, skips_same}
+use Rattle.amt_values.specs.Conditions.{NoneHolds}
+use Rattle.amt_values.proofs.ConditionLaws.{first_holding-none, skips_same}
 use Rattle.amt_messages.specs.Refusal.{first_refusal, refusals, length_refusals, advertisement_length, is_unknown, stated_inner, message_at, message_of, relay_at}
 use Rattle.amt_messages.proofs.InnerLength.{inner_length_of-least, inner_length_of-take}
 

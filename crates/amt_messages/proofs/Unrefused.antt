@@ -5,8 +5,8 @@ use Rattle.std.proofs.lemmas.List.{length-take-le}
 use Rattle.byteorder.specs.Endian.{big_number}
 use Rattle.amt_messages.specs.declared.message.Message.{Message}
 use Rattle.amt_messages.specs.Layout.{Spells, IsQuery, has_flag, query_length, gateway_at}
-use Rattle.contract_words.specs.Conditions.{NoneHolds}
-use Rattle.contract_words.proofs.ConditionLaws.{NoneHolds-of, holds_not, unless-ok}
+use Rattle.amt_values.specs.Conditions.{NoneHolds}
+use Rattle.amt_values.proofs.ConditionLaws.{NoneHolds-of, holds_not, unless-ok}
 use Rattle.amt_messages.specs.Refusal.{first_refusal, refusals, length_refusals, needed_length, query_need, stated_inner, advertisement_length, is_unknown, message_at, message_of, query_with}
 use Rattle.amt_messages.proofs.InnerLength.{inner_length_of-least, inner_length_of-take}
 

@@ -1,6 +1,6 @@
 -- Why octets are no message: the first refusal, in order; and the message where there is none.
 use Rattle.std.specs.Prelude.{ℕ, ◌/◌, ◌%◌, ◌==◌, nat_lt, nat_le, not, ◌||◌, ◌&&◌, Bool, List, [], ◌∷◌, length, drop, take, slice_index, Option, Some, None, is_none, unwrap_or, Result, Ok, Err, if◌then◌else◌}
-use Rattle.contract_words.specs.Conditions.{Conditions, first_holding, unless}
+use Rattle.amt_values.specs.Conditions.{Conditions, first_holding, unless}
 use Rattle.byteorder.specs.Endian.{big_number}
 use Rattle.amt_values.specs.EndpointValue.{EndpointValue}
 use Rattle.amt_values.specs.declared.address.Ip.{Ip}

@@ -1,7 +1,7 @@
 //! Multicast Data of octets, and its octets. It must not know what packet it carries.
 
 ghost use Rattle.std.specs.Prelude.{◌≡◌, ◌≤◌, length, Ok, IfOk};
-ghost use Rattle.contract_words.specs.Answer.{Gives};
+ghost use Rattle.amt_values.specs.Answer.{Gives};
 ghost use Rattle.amt_messages.specs.declared.message.Message.TheVariants.{Multicast};
 ghost use Rattle.amt_messages.specs.Layout.{IsCanonical, spelling_of};
 ghost use Rattle.amt_messages.specs.Refusal.{TakesMemory, multicast_at, refusal_in};

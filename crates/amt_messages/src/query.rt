@@ -1,7 +1,7 @@
 //! A Query of octets, and the octets of a Query. It must not know what its inner datagram carries.
 
 ghost use Rattle.std.specs.Prelude.{◌≡◌, ◌+◌, ◌≤◌, ◌++◌, length, Some, Ok, unwrap_or, IfOk, OnOk};
-ghost use Rattle.contract_words.specs.Answer.{Gives};
+ghost use Rattle.amt_values.specs.Answer.{Gives};
 ghost use Rattle.amt_messages.specs.Messages.{IsNamedGateway};
 ghost use Rattle.amt_messages.specs.StatedLength.{inner_length_of};
 ghost use Rattle.amt_messages.specs.Layout.{IsCanonical, has_flag, query_flags, query_length, named_gateway_octets, spelling_of};

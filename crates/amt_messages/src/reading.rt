@@ -1,7 +1,7 @@
 //! Octets read as a message. It must not know who sent them, or what an inner datagram carries.
 
 ghost use Rattle.std.specs.Prelude.{◌≡◌, ◌≤◌, ◌↔◌, ◌⊎◌, length, IfOk, Ok, MatchResult, None};
-ghost use Rattle.contract_words.specs.Answer.{Gives};
+ghost use Rattle.amt_values.specs.Answer.{Gives};
 ghost use Rattle.amt_messages.specs.declared.message.Message.{Message as MessageValue};
 ghost use Rattle.amt_messages.specs.Messages.{IsMessage, IsSendable};
 ghost use Rattle.amt_messages.specs.Layout.{Spells, spelling_of};

@@ -1,7 +1,7 @@
 //! Why octets are no message. It must not know of their fields more than the type and the lengths.
 
 ghost use Rattle.std.specs.Prelude.{◌≡◌, ◌≤◌, ◌/◌, length, IfSome};
-ghost use Rattle.contract_words.specs.Conditions.{first_holding};
+ghost use Rattle.amt_values.specs.Conditions.{first_holding};
 ghost use Rattle.amt_messages.specs.Layout.{query_length};
 ghost use Rattle.amt_messages.specs.Refusal.{advertisement_length, first_refusal, is_open, is_unknown, lacks_inner, length_refusals, needed_length, query_need, stated_inner};
 

@@ -1,7 +1,7 @@
 //! An Update of octets, and the octets of an Update. It must not know what its inner datagram carries.
 
 ghost use Rattle.std.specs.Prelude.{◌≡◌, ◌≤◌, length, Ok, IfOk};
-ghost use Rattle.contract_words.specs.Answer.{Gives};
+ghost use Rattle.amt_values.specs.Answer.{Gives};
 ghost use Rattle.amt_messages.specs.declared.message.Message.TheVariants.{Update};
 ghost use Rattle.amt_messages.specs.Layout.{IsCanonical, spelling_of};
 ghost use Rattle.amt_messages.specs.Refusal.{TakesMemory, refusal_in, update_at};

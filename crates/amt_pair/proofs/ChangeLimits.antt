@@ -3,10 +3,10 @@ use Rattle.std.proofs.Common.{◌≡◌, ℕ, ◌≤◌, Bool, true, false, not,
 use Rattle.amt_values.specs.Order.{ip_order}
 use Rattle.amt_values.specs.declared.address.Ip.{Ip}
 use Rattle.amt_values.proofs.Orders.{ip_order-total}
-use Rattle.contract_words.specs.Ascending.{ascending}
-use Rattle.contract_words.specs.Conditions.{first_holding}
-use Rattle.contract_words.proofs.AscendingLaws.{IsAscending-ascending, has-ascending}
-use Rattle.contract_words.proofs.ConditionLaws.{skipped}
+use Rattle.amt_values.specs.Ascending.{ascending}
+use Rattle.amt_values.specs.Conditions.{first_holding}
+use Rattle.amt_values.proofs.AscendingLaws.{IsAscending-ascending, has-ascending}
+use Rattle.amt_values.proofs.ConditionLaws.{skipped}
 use Rattle.source_filter.specs.Filter.{FilterValue}
 use Rattle.source_filter.specs.declared.record.Record.{Record}
 use Rattle.group_records.specs.Written.{report_length}

@@ -6,8 +6,8 @@ use Rattle.std.proofs.lemmas.List.Elements.{All-cons, All-filter, All-head, All-
 use Rattle.amt_values.specs.Order.{ip_order}
 use Rattle.amt_values.specs.declared.address.Ip.{Ip}
 use Rattle.amt_values.proofs.Orders.{ip_order-total}
-use Rattle.contract_words.specs.Ascending.{IsAscending, has, intersection}
-use Rattle.contract_words.proofs.AscendingLaws.{IsAscending-ascending, IsAscending-filter, has-append}
+use Rattle.amt_values.specs.Ascending.{IsAscending, has, intersection}
+use Rattle.amt_values.proofs.AscendingLaws.{IsAscending-ascending, IsAscending-filter, has-append}
 use Rattle.source_filter.specs.Changes.{changes_on}
 use Rattle.source_filter.specs.Filter.{FilterValue, nothing, wants_any_by}
 use Rattle.source_filter.specs.Merging.{all_sources, common_sources, exclude_list, exclude_lists, include_lists, intersection_of, merged, merged_by, union_of}

@@ -1,8 +1,8 @@
 -- A General Query that a relay writes is read as the fields that it wrote.
 use Rattle.std.proofs.Common.{◌≡◌, ℕ, ◌*◌, ◌%◌, ◌<◌, ◌≤◌, Bool, true, false, List, [], length, Option, None, Ok, refl, sym, ap, subst, ◌∙◌, arith, rules}
 use Rattle.std.proofs.lemmas.Bool.{le-ltb}
-use Rattle.contract_words.specs.Conditions.{unless}
-use Rattle.contract_words.proofs.ConditionLaws.{first_holding-none, skips_same}
+use Rattle.amt_values.specs.Conditions.{unless}
+use Rattle.amt_values.proofs.ConditionLaws.{first_holding-none, skips_same}
 use Rattle.amt_values.specs.Octets.{AreOctets}
 use Rattle.amt_values.specs.declared.address.Ip.{Ip}
 use Rattle.amt_values.specs.declared.address.Ip.TheVariants.{V4, V6}

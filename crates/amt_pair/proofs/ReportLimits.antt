@@ -2,8 +2,8 @@
 use Rattle.std.proofs.Common.{◌≡◌, ℕ, ◌≤◌, Bool, true, false, not, cond, List, [], ◌∷◌, length, map, Option, Some, None, refl, sym, subst, arith}
 use Rattle.std.specs.List.{All, find}
 use Rattle.std.proofs.lemmas.List.Elements.{All-append, All-cons, All-filter, All-head, All-nil, All-tail}
-use Rattle.contract_words.specs.Conditions.{first_holding}
-use Rattle.contract_words.proofs.ConditionLaws.{skipped}
+use Rattle.amt_values.specs.Conditions.{first_holding}
+use Rattle.amt_values.proofs.ConditionLaws.{skipped}
 use Rattle.amt_values.specs.declared.address.Ip.{Ip}
 use Rattle.source_filter.specs.Filter.{FilterValue}
 use Rattle.group_records.specs.declared.family.Family.{Family}

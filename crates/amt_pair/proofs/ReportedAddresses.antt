@@ -11,7 +11,7 @@ use Rattle.amt_values.specs.Group.{is_forwardable}
 use Rattle.amt_values.specs.Order.{ip_order}
 use Rattle.amt_values.specs.declared.address.Ip.{Ip}
 use Rattle.amt_values.specs.declared.address.Ip.TheVariants.{V4, V6}
-use Rattle.contract_words.specs.Ascending.{ascending, placed}
+use Rattle.amt_values.specs.Ascending.{ascending, placed}
 use Rattle.source_filter.specs.Changes.{changes_on}
 use Rattle.source_filter.specs.Filter.{FilterValue}
 use Rattle.source_filter.specs.declared.record.Record.{Record}

@@ -6,8 +6,8 @@ use Rattle.std.proofs.lemmas.List.Elements.{All-append, All-cons, All-filter, Al
 use Rattle.amt_values.specs.Order.{ip_order}
 use Rattle.amt_values.specs.declared.address.Ip.{Ip}
 use Rattle.amt_values.proofs.Orders.{ip_order-exact, ip_order-total}
-use Rattle.contract_words.specs.Ascending.{IsAscending, ascending, has}
-use Rattle.contract_words.proofs.AscendingLaws.{IsAscending-ascending, IsAscending-filter, has-ascending, has-filter}
+use Rattle.amt_values.specs.Ascending.{IsAscending, ascending, has}
+use Rattle.amt_values.proofs.AscendingLaws.{IsAscending-ascending, IsAscending-filter, has-ascending, has-filter}
 use Rattle.source_filter.specs.Changes.{changes_by, changes_on, record_of_some}
 use Rattle.source_filter.specs.Filter.{FilterValue, nothing}
 use Rattle.source_filter.specs.declared.mode.Mode.{Mode}

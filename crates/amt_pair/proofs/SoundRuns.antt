@@ -15,7 +15,7 @@ use Rattle.group_records.specs.declared.family.Family.{Family}
 use Rattle.socket_merge.specs.Changes.{change_records}
 use Rattle.socket_merge.specs.FullReport.{is_quiet}
 use Rattle.socket_merge.specs.History.{AcceptedCall, Change, Close, LeaveAll, Open, Socket, SocketCall, latest, open_sockets, socket_named, with_call}
-use Rattle.contract_words.specs.Conditions.{Conditions, first_holding}
+use Rattle.amt_values.specs.Conditions.{Conditions, first_holding}
 use Rattle.socket_merge.specs.Refusal.{change_conditions, conditions_of, refusal_of}
 use Rattle.socket_merge.proofs.Amounts.{some_is}
 use Rattle.socket_merge.specs.declared.fault.SocketFault.{SocketFault}

@@ -2,7 +2,7 @@
 use Rattle.std.specs.Prelude.{◌<◌, ◌^◌, List, All}
 use Rattle.amt_values.specs.Address.{IsAddress}
 use Rattle.amt_values.specs.Order.{ip_order}
-use Rattle.contract_words.specs.Ascending.{IsAscending}
+use Rattle.amt_values.specs.Ascending.{IsAscending}
 use Rattle.source_filter.specs.Filter.{FilterValue}
 use Rattle.gateway_machine.specs.Events.{IsEventOf}
 use Rattle.gateway_machine.specs.declared.event.GatewayEvent.{GatewayEvent}

@@ -1,7 +1,6 @@
 //! What one event came to at each end.
 
-use amt_values::Bytes;
-use contract_words::Items;
+use amt_values::{Bytes, Items};
 use gateway_machine::GatewayStep;
 use relay_machine::Step;
 

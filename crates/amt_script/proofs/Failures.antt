@@ -4,7 +4,7 @@ use Rattle.amt_values.specs.declared.peer.Peer.{Peer}
 use Rattle.amt_values.specs.Text.{IsPeerText}
 use Rattle.amt_script.specs.declared.kind.Kind.TheVariants.{Datagram, Packet}
 use Rattle.script_lines.specs.declared.reason.Reason.TheVariants as reasons
-use Rattle.contract_words.specs.Conditions.{First}
+use Rattle.amt_values.specs.Conditions.{First}
 use Rattle.amt_script.specs.Fault.{FailsAs, order_of_values}
 use Rattle.script_lines.specs.Form.{IsHexText}
 

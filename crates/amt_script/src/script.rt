@@ -1,6 +1,6 @@
 //! A relay's script as it was read. It knows no octets.
 
-use contract_words::Items;
+use amt_values::Items;
 use relay_machine::{Event, Settings};
 use response_mac::Secret;
 

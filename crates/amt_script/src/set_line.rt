@@ -1,7 +1,7 @@
 //! What a `set` line says after the settings and the items before it. It knows no kind of item.
 
 ghost use Rattle.std.specs.Prelude.{◌≡◌, ◌≢◌, [], ◌∷◌, ◌++◌, codes, IfOk, IfErr};
-ghost use Rattle.contract_words.specs.Conditions.{First};
+ghost use Rattle.amt_values.specs.Conditions.{First};
 ghost use Rattle.script_lines.specs.Lines.{fields};
 ghost use Rattle.amt_script.specs.declared.kind.Kind.TheVariants as kinds;
 ghost use Rattle.amt_script.specs.Fault.{order_of_reasons, order_of_values};

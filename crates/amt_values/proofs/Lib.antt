@@ -13,3 +13,7 @@ pub mod Segments
 pub mod ShortGroups
 pub mod Unique
 pub mod V6Texts
+pub mod AnswerLaws
+pub mod AscendingLaws
+pub mod ConditionLaws
+pub mod Sorting

@@ -9,3 +9,6 @@ pub mod Order
 pub mod Text
 pub mod EndpointValue
 pub mod IpHeader
+pub mod Answer
+pub mod Ascending
+pub mod Conditions

@@ -1,6 +1,6 @@
 //! Octets that own their memory, and how many an input has at most. It must not know what they spell.
 
-use contract_words::Items;
+use crate::items::Items;
 
 /// The most octets of one input, and of a slice that a call is handed, where it says so: 16 MiB.
 ///

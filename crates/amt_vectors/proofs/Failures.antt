@@ -1,7 +1,7 @@
 -- The first reason why the fields of a row fail.
 use Rattle.std.proofs.Common.{◌≡◌, ◌⊎◌, ℕ, List, [], ◌∷◌, Err, IsErrOf, inl, inr, refl, ◌↔◌, sym, subst, ap, arith}
 use Rattle.amt_values.specs.Numeral.{IsNumeral}
-use Rattle.contract_words.specs.Conditions.{First}
+use Rattle.amt_values.specs.Conditions.{First}
 use Rattle.script_lines.specs.declared.fault.LineError.{LineError}
 use Rattle.script_lines.specs.declared.fault.LineError.TheVariants.{Bad, Memory}
 use Rattle.script_lines.specs.declared.reason.Reason.{Reason}

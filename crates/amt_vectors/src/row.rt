@@ -1,7 +1,6 @@
 //! A row as it was read. It knows no line.
 
-use amt_values::Bytes;
-use contract_words::Items;
+use amt_values::{Bytes, Items};
 
 /// What a row asks.
 #[derive(Debug, Drop)]

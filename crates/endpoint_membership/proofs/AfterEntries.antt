@@ -13,9 +13,9 @@ use Rattle.amt_values.specs.declared.address.Ip.{Ip}
 use Rattle.amt_values.specs.Order.{endpoint_order}
 use Rattle.amt_values.specs.EndpointValue.{EndpointValue}
 use Rattle.amt_values.proofs.Orders.{endpoint_order-exact, endpoint_order-total}
-use Rattle.contract_words.specs.Ascending.{IsAscending}
+use Rattle.amt_values.specs.Ascending.{IsAscending}
 use Rattle.source_filter.specs.declared.record.Record.{Record}
-use Rattle.contract_words.proofs.AscendingLaws.{IsAscending-filter}
+use Rattle.amt_values.proofs.AscendingLaws.{IsAscending-filter}
 use Rattle.endpoint_membership.specs.declared.change.Change.{Change}
 use Rattle.endpoint_membership.specs.declared.change.Change.TheVariants.{Reported, Clear}
 use Rattle.endpoint_membership.specs.Membership.{Membership, is_fresh, membership_order, endpoint_group_of}

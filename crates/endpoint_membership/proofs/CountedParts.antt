@@ -10,8 +10,8 @@ use Rattle.std.proofs.lemmas.Map.Views.{tells_apart}
 use Rattle.amt_values.specs.Order.{endpoint_order}
 use Rattle.amt_values.specs.EndpointValue.{EndpointValue}
 use Rattle.amt_values.proofs.Orders.{endpoint_order-exact, endpoint_order-total}
-use Rattle.contract_words.specs.Ascending.{ascending, has}
-use Rattle.contract_words.proofs.AscendingLaws.{IsAscending-ascending, has-ascending, same_ascending}
+use Rattle.amt_values.specs.Ascending.{ascending, has}
+use Rattle.amt_values.proofs.AscendingLaws.{IsAscending-ascending, has-ascending, same_ascending}
 use Rattle.endpoint_membership.specs.EndpointGroup.{same_endpoint}
 use Rattle.endpoint_membership.specs.Limits.{group_count, live_count}
 use Rattle.endpoint_membership.specs.Membership.{Membership}

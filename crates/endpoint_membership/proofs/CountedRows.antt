@@ -11,8 +11,8 @@ use Rattle.std.proofs.lemmas.Map.Made.{length-le_from_is_member}
 use Rattle.amt_values.specs.Order.{endpoint_order}
 use Rattle.amt_values.specs.EndpointValue.{EndpointValue}
 use Rattle.amt_values.proofs.Orders.{endpoint_order-exact, endpoint_order-total}
-use Rattle.contract_words.specs.Ascending.{IsAscending, has, ascending}
-use Rattle.contract_words.proofs.AscendingLaws.{IsAscending-ascending, has-ascending}
+use Rattle.amt_values.specs.Ascending.{IsAscending, has, ascending}
+use Rattle.amt_values.proofs.AscendingLaws.{IsAscending-ascending, has-ascending}
 use Rattle.endpoint_membership.specs.Limits.{group_count, live_count}
 use Rattle.endpoint_membership.specs.EndpointGroup.{same_endpoint}
 use Rattle.endpoint_membership.specs.Membership.{Membership}

@@ -10,8 +10,8 @@ use Rattle.std.proofs.lemmas.Bool.{eq-eqb, eqb-true}
 use Rattle.std.proofs.lemmas.Bool.Decides.{nat_tests}
 use Rattle.std.proofs.lemmas.List.Filters.{length-filter_both}
 use Rattle.std.proofs.lemmas.Map.Keys.{le_from_not_gt, sorted_head, sorted_tail}
-use Rattle.contract_words.specs.Ascending.{IsAscending}
-use Rattle.contract_words.proofs.AscendingLaws.{IsAscending-filter}
+use Rattle.amt_values.specs.Ascending.{IsAscending}
+use Rattle.amt_values.proofs.AscendingLaws.{IsAscending-filter}
 use Rattle.endpoint_membership.specs.EndpointGroup.{EndpointGroup, endpoint_group_order, same_endpoint_group}
 use Rattle.endpoint_membership.specs.Filters.{AreOrdered, FiltersValue, filter_at}
 use Rattle.endpoint_membership.specs.Membership.{Membership, endpoint_group_of, is_fresh, membership_order}

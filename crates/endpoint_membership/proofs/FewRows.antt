@@ -8,8 +8,8 @@ use Rattle.std.proofs.lemmas.List.Sums.{sum_by-cons}
 use Rattle.amt_values.specs.Order.{endpoint_order}
 use Rattle.amt_values.specs.EndpointValue.{EndpointValue}
 use Rattle.amt_values.proofs.Orders.{endpoint_order-total}
-use Rattle.contract_words.specs.Ascending.{has, ascending}
-use Rattle.contract_words.proofs.AscendingLaws.{has-ascending}
+use Rattle.amt_values.specs.Ascending.{has, ascending}
+use Rattle.amt_values.proofs.AscendingLaws.{has-ascending}
 use Rattle.endpoint_membership.specs.Limits.{AreFew, IsWithin, group_count, live_count, size}
 use Rattle.endpoint_membership.specs.EndpointGroup.{same_endpoint}
 use Rattle.endpoint_membership.specs.Memberships.{row_of}

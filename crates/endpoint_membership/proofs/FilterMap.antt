@@ -17,7 +17,7 @@ use Rattle.amt_values.specs.Order.{ip_order}
 use Rattle.amt_values.specs.EndpointValue.{EndpointValue}
 use Rattle.amt_values.proofs.Orders.{ip_order-exact, ip_order-total, endpoint_order-total}
 use Rattle.source_filter.specs.Filter.{FilterValue}
-use Rattle.contract_words.specs.Ascending.{IsAscending}
+use Rattle.amt_values.specs.Ascending.{IsAscending}
 use Rattle.source_filter.specs.declared.record.Record.{Record}
 use Rattle.endpoint_membership.specs.Membership.{Membership, is_fresh, membership_order, endpoint_group_of}
 use Rattle.endpoint_membership.specs.Stored.{only}

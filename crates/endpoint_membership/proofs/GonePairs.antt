@@ -12,7 +12,7 @@ use Rattle.amt_values.specs.declared.address.Ip.{Ip}
 use Rattle.amt_values.specs.Order.{ip_order}
 use Rattle.amt_values.specs.EndpointValue.{EndpointValue}
 use Rattle.amt_values.proofs.Orders.{endpoint_order-exact, ip_order-exact}
-use Rattle.contract_words.specs.Ascending.{has}
+use Rattle.amt_values.specs.Ascending.{has}
 use Rattle.source_filter.specs.Filter.{wants_any}
 use Rattle.source_filter.specs.declared.record.Record.{Record}
 use Rattle.endpoint_membership.specs.EndpointGroup.{EndpointGroup, endpoint_group_order, same_endpoint, same_endpoint_group, same_group}

@@ -24,8 +24,8 @@ use Rattle.amt_values.specs.Order.{endpoint_order, ip_order}
 use Rattle.amt_values.specs.EndpointValue.{EndpointValue}
 use Rattle.amt_values.proofs.Orders.{both_tied, endpoint_order-exact, endpoint_order-total, ip_order-exact, ip_order-total}
 use Rattle.source_filter.specs.Filter.{admits}
-use Rattle.contract_words.specs.Ascending.{has, IsAscending}
-use Rattle.contract_words.proofs.AscendingLaws.{Equal-from_test, IsAscending-filter, has-filter, same_ascending}
+use Rattle.amt_values.specs.Ascending.{has, IsAscending}
+use Rattle.amt_values.proofs.AscendingLaws.{Equal-from_test, IsAscending-filter, has-filter, same_ascending}
 use Rattle.endpoint_membership.specs.EndpointGroup.{EndpointGroup, same_group}
 use Rattle.endpoint_membership.specs.Filters.{AreOrdered, FiltersValue, filter_at, group_member_order}
 use Rattle.endpoint_membership.specs.Membership.{Membership, membership_order}

@@ -14,7 +14,7 @@ use Rattle.std.proofs.lemmas.Bool.Decides.{nat_tests}
 use Rattle.std.proofs.lemmas.Cmp.{alike_right, eq_by_cmp_equiv}
 use Rattle.std.proofs.lemmas.List.Kept.{IsStrictlySortedBy-filter}
 use Rattle.std.proofs.lemmas.Map.Keys.{sorted_head, sorted_tail}
-use Rattle.contract_words.proofs.AscendingLaws.{Equal-from_test}
+use Rattle.amt_values.proofs.AscendingLaws.{Equal-from_test}
 
 kept_by : {K : Type 0} (test wider : K → Bool) (passes kept : Bool) (x : K) (xs : List K) → test x ≡ passes → (passes ≡ true → kept ≡ true) → filter test (filter wider xs) ≡ filter test xs
     → filter test (cond kept (x ∷ filter wider xs) (filter wider xs)) ≡ cond passes (x ∷ filter test xs) (filter test xs)

@@ -12,9 +12,9 @@ use Rattle.std.proofs.lemmas.List.Sums.{sum_by-cons}
 use Rattle.amt_values.specs.Order.{endpoint_order}
 use Rattle.amt_values.specs.EndpointValue.{EndpointValue}
 use Rattle.amt_values.proofs.Orders.{endpoint_order-exact, endpoint_order-total}
-use Rattle.contract_words.specs.Ascending.{IsAscending, has, placed, ascending}
+use Rattle.amt_values.specs.Ascending.{IsAscending, has, placed, ascending}
 use Rattle.source_filter.specs.declared.record.Record.{Record}
-use Rattle.contract_words.proofs.AscendingLaws.{IsAscending-placed, IsAscending-ascending, has-append, has-placed, has-ascending, same_ascending}
+use Rattle.amt_values.proofs.AscendingLaws.{IsAscending-placed, IsAscending-ascending, has-append, has-placed, has-ascending, same_ascending}
 use Rattle.endpoint_membership.specs.Membership.{Membership, is_fresh, membership_order}
 use Rattle.endpoint_membership.specs.declared.limits.Limits.{Limits}
 use Rattle.endpoint_membership.specs.Stored.{earlier, is_counted, later}

@@ -2,8 +2,8 @@
 use Rattle.std.proofs.Common.{◌≡◌, List, Option, ap, ◌∙◌}
 use Rattle.std.specs.List.{find}
 use Rattle.amt_values.specs.EndpointValue.{EndpointValue}
-use Rattle.contract_words.specs.Conditions.{first_holding, first_of}
-use Rattle.contract_words.proofs.ConditionLaws.{first_holding-append, first_holding-map}
+use Rattle.amt_values.specs.Conditions.{first_holding, first_of}
+use Rattle.amt_values.proofs.ConditionLaws.{first_holding-append, first_holding-map}
 use Rattle.source_filter.specs.declared.record.Record.{Record}
 use Rattle.endpoint_membership.specs.declared.limits.LimitFault.{LimitFault}
 use Rattle.endpoint_membership.specs.declared.limits.Limits.{Limits}

@@ -12,8 +12,8 @@ use Rattle.std.proofs.lemmas.Map.Keys.{sorted_head, sorted_tail}
 use Rattle.amt_values.specs.Order.{ip_order, endpoint_order}
 use Rattle.amt_values.specs.EndpointValue.{EndpointValue}
 use Rattle.amt_values.proofs.Orders.{endpoint_order-exact, endpoint_order-total}
-use Rattle.contract_words.specs.Ascending.{IsAscending, has, placed, ascending}
-use Rattle.contract_words.proofs.AscendingLaws.{IsAscending-filter, IsAscending-placed, IsAscending-ascending, has-append, has-placed, has-ascending, same_ascending}
+use Rattle.amt_values.specs.Ascending.{IsAscending, has, placed, ascending}
+use Rattle.amt_values.proofs.AscendingLaws.{IsAscending-filter, IsAscending-placed, IsAscending-ascending, has-append, has-placed, has-ascending, same_ascending}
 use Rattle.endpoint_membership.specs.Membership.{Membership, membership_order}
 use Rattle.endpoint_membership.specs.Stored.{ends_with, last_of}
 use Rattle.endpoint_membership.specs.Limits.{live_count}

@@ -9,7 +9,7 @@ use Rattle.std.proofs.lemmas.Cmp.{tied_itself}
 use Rattle.std.proofs.lemmas.List.Folds.{find-append}
 use Rattle.std.proofs.lemmas.Map.Keys.{sorted_head, sorted_tail}
 use Rattle.std.proofs.lemmas.Map.Views.{tells_apart}
-use Rattle.contract_words.specs.Ascending.{IsAscending}
+use Rattle.amt_values.specs.Ascending.{IsAscending}
 use Rattle.endpoint_membership.specs.Membership.{Membership, membership_order, endpoint_group_of}
 use Rattle.endpoint_membership.specs.Stored.{only}
 use Rattle.endpoint_membership.specs.EndpointGroup.{EndpointGroup, endpoint_group_order, same_endpoint_group}

@@ -7,9 +7,9 @@ use Rattle.std.specs.declared.cmp.Ordering.TheVariants.{Less}
 use Rattle.std.proofs.lemmas.Bool.{cases_Bool}
 use Rattle.amt_values.specs.EndpointValue.{EndpointValue}
 use Rattle.source_filter.specs.Filter.{FilterValue, nothing}
-use Rattle.contract_words.specs.Ascending.{IsAscending, has, ascending}
+use Rattle.amt_values.specs.Ascending.{IsAscending, has, ascending}
 use Rattle.source_filter.specs.declared.record.Record.{Record}
-use Rattle.contract_words.proofs.AscendingLaws.{IsAscending-ascending, has-append, has-ascending}
+use Rattle.amt_values.proofs.AscendingLaws.{IsAscending-ascending, has-append, has-ascending}
 use Rattle.endpoint_membership.specs.declared.change.Change.{Change}
 use Rattle.endpoint_membership.specs.declared.change.Change.TheVariants.{Reported, Clear, Mark}
 use Rattle.endpoint_membership.specs.Membership.{Membership, membership_order, endpoint_group_of}

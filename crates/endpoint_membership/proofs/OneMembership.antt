@@ -13,8 +13,8 @@ use Rattle.std.proofs.lemmas.Cmp.{eq_by_cmp_equiv, tied_itself}
 use Rattle.std.proofs.lemmas.Map.Steps.{list_any_congr}
 use Rattle.amt_values.specs.EndpointValue.{EndpointValue}
 use Rattle.amt_values.specs.Order.{endpoint_order}
-use Rattle.contract_words.specs.Ascending.{placed}
-use Rattle.contract_words.proofs.AscendingLaws.{IsAscending-filter}
+use Rattle.amt_values.specs.Ascending.{placed}
+use Rattle.amt_values.proofs.AscendingLaws.{IsAscending-filter}
 use Rattle.endpoint_membership.specs.EndpointGroup.{EndpointGroup, endpoint_group_order, same_endpoint, same_endpoint_group}
 use Rattle.endpoint_membership.specs.Filters.{AreOrdered, FiltersValue, IsSetAt, filter_at}
 use Rattle.endpoint_membership.specs.Limits.{group_count}

@@ -21,8 +21,8 @@ use Rattle.amt_values.specs.Order.{endpoint_order, ip_order}
 use Rattle.amt_values.specs.EndpointValue.{EndpointValue}
 use Rattle.amt_values.proofs.Orders.{endpoint_order-total}
 use Rattle.source_filter.specs.Filter.{nothing}
-use Rattle.contract_words.specs.Ascending.{IsAscending}
-use Rattle.contract_words.proofs.AscendingLaws.{IsAscending-filter}
+use Rattle.amt_values.specs.Ascending.{IsAscending}
+use Rattle.amt_values.proofs.AscendingLaws.{IsAscending-filter}
 use Rattle.endpoint_membership.specs.EndpointGroup.{EndpointGroup, endpoint_group_order, same_endpoint, same_endpoint_group, same_group}
 use Rattle.endpoint_membership.specs.Filters.{AreOrdered, FiltersValue, pairs_of}
 use Rattle.endpoint_membership.specs.EndpointMemberships.{renewed_filter_of}

@@ -9,7 +9,7 @@ use Rattle.std.proofs.lemmas.List.Elements.{filter-append, filter_map-append}
 use Rattle.std.proofs.lemmas.Map.Iter.{rest_so_far}
 use Rattle.std.proofs.lemmas.Map.Made.{is_some-lookup}
 use Rattle.amt_values.specs.EndpointValue.{EndpointValue}
-use Rattle.contract_words.specs.Ascending.{IsAscending, has}
+use Rattle.amt_values.specs.Ascending.{IsAscending, has}
 use Rattle.endpoint_membership.specs.EndpointGroup.{EndpointGroup, endpoint_group_order, same_endpoint_group}
 use Rattle.endpoint_membership.specs.Filters.{AreOrdered, FiltersValue, filter_at, pairs_of}
 use Rattle.endpoint_membership.specs.Limits.{live_count}

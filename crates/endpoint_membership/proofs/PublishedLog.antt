@@ -6,7 +6,7 @@ use Rattle.amt_values.specs.declared.address.Ip.{Ip}
 use Rattle.amt_values.specs.declared.address.Ip.TheVariants.{V4}
 use Rattle.amt_values.specs.EndpointValue.{EndpointValue}
 use Rattle.amt_values.proofs.Orders.{endpoint_order-exact, endpoint_order-total}
-use Rattle.contract_words.proofs.AscendingLaws.{same_ascending}
+use Rattle.amt_values.proofs.AscendingLaws.{same_ascending}
 use Rattle.source_filter.specs.Filter.{admits}
 use Rattle.endpoint_membership.specs.Admission.{is_admitted}
 use Rattle.endpoint_membership.specs.EndpointGroup.{EndpointGroup}

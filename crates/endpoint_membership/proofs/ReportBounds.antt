@@ -16,13 +16,13 @@ use Rattle.amt_values.specs.Order.{ip_order}
 use Rattle.amt_values.specs.EndpointValue.{EndpointValue}
 use Rattle.amt_values.proofs.Orders.{ip_order-total, endpoint_order-exact, endpoint_order-total}
 use Rattle.source_filter.specs.Filter.{FilterValue, filter_after, filter_after_all, sources_after}
-use Rattle.contract_words.specs.Ascending.{IsAscending, has, ascending}
+use Rattle.amt_values.specs.Ascending.{IsAscending, has, ascending}
 use Rattle.source_filter.specs.declared.mode.Mode.{Mode}
 use Rattle.source_filter.specs.declared.mode.Mode.TheVariants.{Include, Exclude}
 use Rattle.source_filter.specs.declared.record.Record.{Record}
 use Rattle.source_filter.specs.declared.record.RecordKind.{RecordKind}
 use Rattle.source_filter.specs.declared.record.RecordKind.TheVariants.{Allow, Block}
-use Rattle.contract_words.proofs.AscendingLaws.{has-append, length-ascending}
+use Rattle.amt_values.proofs.AscendingLaws.{has-append, length-ascending}
 use Rattle.endpoint_membership.specs.Limits.{group_count}
 use Rattle.endpoint_membership.specs.EndpointMemberships.{AreOf}
 use Rattle.endpoint_membership.specs.Log.{on_group}

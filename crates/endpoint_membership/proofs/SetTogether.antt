@@ -8,7 +8,7 @@ use Rattle.std.specs.declared.cmp.Ordering.TheVariants.{Less, Equal, Greater}
 use Rattle.std.proofs.lemmas.Cmp.{eq_by_cmp_equiv, tied_itself}
 use Rattle.std.proofs.lemmas.List.Folds.{list_any-append}
 use Rattle.std.proofs.lemmas.Map.Keys.{sorted_head, sorted_tail}
-use Rattle.contract_words.specs.Ascending.{IsAscending, has, placed}
+use Rattle.amt_values.specs.Ascending.{IsAscending, has, placed}
 use Rattle.endpoint_membership.specs.EndpointGroup.{EndpointGroup, endpoint_group_order, same_endpoint_group}
 use Rattle.endpoint_membership.specs.Membership.{Membership, endpoint_group_of, membership_order}
 use Rattle.endpoint_membership.specs.Memberships.{membership_in}

@@ -7,7 +7,7 @@ use Rattle.std.specs.Ordering.{is_eq}
 use Rattle.std.specs.declared.cmp.Ordering.TheVariants.{Less}
 use Rattle.std.proofs.lemmas.Map.Keys.{sorted_head, sorted_tail}
 use Rattle.std.specs.List.Sorted.{IsStrictlySortedBy}
-use Rattle.contract_words.specs.Ascending.{IsAscending}
+use Rattle.amt_values.specs.Ascending.{IsAscending}
 use Rattle.endpoint_membership.specs.EndpointGroup.{EndpointGroup, endpoint_group_order, same_endpoint_group}
 use Rattle.endpoint_membership.specs.Filters.{AreOrdered, FiltersValue, filter_at}
 use Rattle.endpoint_membership.specs.Membership.{Membership, endpoint_group_of, membership_order}

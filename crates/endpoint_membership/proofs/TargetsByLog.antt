@@ -14,9 +14,9 @@ use Rattle.amt_values.specs.Order.{ip_order, endpoint_order}
 use Rattle.amt_values.specs.EndpointValue.{EndpointValue}
 use Rattle.amt_values.proofs.Orders.{ip_order-exact, ip_order-total, endpoint_order-exact, endpoint_order-total}
 use Rattle.source_filter.specs.Filter.{admits}
-use Rattle.contract_words.specs.Ascending.{IsAscending, has, ascending}
+use Rattle.amt_values.specs.Ascending.{IsAscending, has, ascending}
 use Rattle.source_filter.specs.declared.record.Record.{Record}
-use Rattle.contract_words.proofs.AscendingLaws.{IsAscending-filter, IsAscending-ascending, has-append, has-filter, has-ascending, ascending-fixed, same_ascending}
+use Rattle.amt_values.proofs.AscendingLaws.{IsAscending-filter, IsAscending-ascending, has-append, has-filter, has-ascending, ascending-fixed, same_ascending}
 use Rattle.endpoint_membership.specs.declared.change.Change.{Change}
 use Rattle.endpoint_membership.specs.declared.change.Change.TheVariants.{Reported, Clear, Mark}
 use Rattle.endpoint_membership.specs.Membership.{Membership, is_fresh, membership_order, endpoint_group_of}

@@ -7,7 +7,7 @@ use Rattle.std.proofs.lemmas.Map.Keys.{sorted_head, sorted_tail}
 use Rattle.amt_values.specs.Order.{ip_order, endpoint_order}
 use Rattle.amt_values.specs.EndpointValue.{EndpointValue}
 use Rattle.amt_values.proofs.Orders.{endpoint_order-exact, endpoint_order-total}
-use Rattle.contract_words.specs.Ascending.{IsAscending}
+use Rattle.amt_values.specs.Ascending.{IsAscending}
 use Rattle.endpoint_membership.specs.Membership.{Membership, membership_order, endpoint_group_of}
 use Rattle.endpoint_membership.specs.Stored.{earlier, end_of, later, start_of}
 use Rattle.endpoint_membership.specs.EndpointMemberships.{AreOf}

@@ -8,9 +8,9 @@ use Rattle.std.proofs.lemmas.Map.Views.{tells_apart}
 use Rattle.amt_values.specs.declared.address.Ip.{Ip}
 use Rattle.amt_values.specs.EndpointValue.{EndpointValue}
 use Rattle.amt_values.proofs.Orders.{endpoint_order-exact, endpoint_order-total}
-use Rattle.contract_words.specs.Ascending.{IsAscending}
+use Rattle.amt_values.specs.Ascending.{IsAscending}
 use Rattle.source_filter.specs.declared.record.Record.{Record}
-use Rattle.contract_words.proofs.AscendingLaws.{IsAscending-filter}
+use Rattle.amt_values.proofs.AscendingLaws.{IsAscending-filter}
 use Rattle.endpoint_membership.specs.Stored.{only}
 use Rattle.endpoint_membership.specs.Limits.{IsWithin, first_limit, group_count, is_too_wide, live_count, size}
 use Rattle.endpoint_membership.specs.EndpointMemberships.{limit_by}

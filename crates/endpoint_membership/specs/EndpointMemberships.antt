@@ -5,8 +5,8 @@ use Rattle.std.specs.List.{AllByRecursion, list_any}
 use Rattle.std.specs.Option.{option_map}
 use Rattle.amt_values.specs.declared.address.Ip.{Ip}
 use Rattle.amt_values.specs.EndpointValue.{EndpointValue}
-use Rattle.contract_words.specs.Ascending.{IsAscending, has}
-use Rattle.contract_words.specs.Conditions.{first_holding, first_of}
+use Rattle.amt_values.specs.Ascending.{IsAscending, has}
+use Rattle.amt_values.specs.Conditions.{first_holding, first_of}
 use Rattle.source_filter.specs.Filter.{FilterValue, filter_after, nothing, wants_any}
 use Rattle.source_filter.specs.declared.record.Record.{Record}
 use Rattle.endpoint_membership.specs.EndpointGroup.{EndpointGroup, endpoint_group_order, same_endpoint, same_group}

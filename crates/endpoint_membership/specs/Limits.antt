@@ -3,8 +3,8 @@ use Rattle.std.specs.Prelude.{ℕ, ◌*◌, ◌≤◌, nat_lt, Bool, List, [], �
 use Rattle.std.specs.List.{list_any, count_by, AllByRecursion}
 use Rattle.amt_values.specs.Order.{endpoint_order}
 use Rattle.amt_values.specs.EndpointValue.{EndpointValue}
-use Rattle.contract_words.specs.Ascending.{ascending}
-use Rattle.contract_words.specs.Conditions.{Conditions, first_holding}
+use Rattle.amt_values.specs.Ascending.{ascending}
+use Rattle.amt_values.specs.Conditions.{Conditions, first_holding}
 use Rattle.source_filter.specs.declared.record.Record.{Record}
 use Rattle.endpoint_membership.specs.EndpointGroup.{same_endpoint, same_group}
 use Rattle.endpoint_membership.specs.Membership.{Membership}

@@ -1,7 +1,7 @@
 -- What a membership table stands for.
 use Rattle.std.specs.Prelude.{◌≡◌, ℕ, ◌≤◌, ◌++◌, ◌∷◌, [], List, Option, Result, Ok, Err, reverse}
 use Rattle.amt_values.specs.EndpointValue.{EndpointValue}
-use Rattle.contract_words.specs.Ascending.{IsAscending}
+use Rattle.amt_values.specs.Ascending.{IsAscending}
 use Rattle.source_filter.specs.declared.record.Record.{Record}
 use Rattle.endpoint_membership.specs.EndpointGroup.{EndpointGroup}
 use Rattle.endpoint_membership.specs.Limits.{IsWithin, first_limit}

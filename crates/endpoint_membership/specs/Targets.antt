@@ -4,7 +4,7 @@ use Rattle.std.specs.List.{filter}
 use Rattle.amt_values.specs.declared.address.Ip.{Ip}
 use Rattle.amt_values.specs.Order.{endpoint_order}
 use Rattle.amt_values.specs.EndpointValue.{EndpointValue}
-use Rattle.contract_words.specs.Ascending.{ascending}
+use Rattle.amt_values.specs.Ascending.{ascending}
 use Rattle.endpoint_membership.specs.Admission.{is_admitted}
 use Rattle.endpoint_membership.specs.declared.change.Change.{Change}
 use Rattle.endpoint_membership.specs.declared.change.Change.TheVariants.{Reported, Clear, Mark}

@@ -3,7 +3,7 @@
 ghost use Rattle.std.specs.Prelude.{◌≡◌, ◌<◌, ◌^◌, length};
 ghost use Rattle.std.specs.List.{AllByRecursion, find, list_any};
 ghost use Rattle.std.specs.Option.{option_copied};
-ghost use Rattle.contract_words.specs.Conditions.{first_holding};
+ghost use Rattle.amt_values.specs.Conditions.{first_holding};
 ghost use Rattle.endpoint_membership.specs.EndpointMemberships.{is_over, limit_by};
 ghost use Rattle.endpoint_membership.specs.Limits.{count_conditions, size};
 ghost use Rattle.endpoint_membership.specs.EndpointGroup.{same_group};

@@ -4,7 +4,7 @@ ghost use Rattle.amt_values.specs.declared.address.Ip.{Ip};
 ghost use Rattle.amt_values.specs.Order.{endpoint_order};
 ghost use Rattle.amt_values.specs.EndpointValue.{EndpointValue};
 ghost use Rattle.source_filter.specs.Filter.{admits};
-ghost use Rattle.contract_words.specs.Ascending.{IsAscending};
+ghost use Rattle.amt_values.specs.Ascending.{IsAscending};
 ghost use Rattle.endpoint_membership.specs.Admission.{HasNoMembership, is_admitted, rows_admit};
 ghost use Rattle.endpoint_membership.specs.Chain.{IsLongestChain};
 ghost use Rattle.endpoint_membership.specs.Log.{latest, live_chain};

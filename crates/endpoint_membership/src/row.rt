@@ -1,7 +1,6 @@
 //! Memberships as they are shown. It must not know how a table stores them.
 
-use amt_values::{Endpoint, Ip};
-use contract_words::Items;
+use amt_values::{Endpoint, Ip, Items};
 use source_filter::Filter;
 
 /// The membership of an endpoint in a group.

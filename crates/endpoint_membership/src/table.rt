@@ -5,7 +5,7 @@ ghost use Rattle.std.specs.List.{AllByRecursion, filter, find};
 ghost use Rattle.amt_values.specs.Order.{endpoint_order};
 ghost use Rattle.amt_values.specs.EndpointValue.{EndpointValue};
 ghost use Rattle.source_filter.specs.Record.{item_count};
-ghost use Rattle.contract_words.specs.Ascending.{IsAscending};
+ghost use Rattle.amt_values.specs.Ascending.{IsAscending};
 ghost use Rattle.endpoint_membership.specs.Admission.{is_admitted};
 ghost use Rattle.endpoint_membership.specs.Stored.{is_counted};
 ghost use Rattle.endpoint_membership.specs.Limits.{AreFew, IsWithin, live_count, size};
@@ -46,7 +46,7 @@ pub struct Table {
 }
 
 impl Model for Table {
-    ghost use Rattle.contract_words.specs.Ascending.{IsAscending};
+    ghost use Rattle.amt_values.specs.Ascending.{IsAscending};
     ghost use Rattle.endpoint_membership.specs.Membership.{membership_order};
     ghost use Rattle.endpoint_membership.specs.Table.{AreLawful, TableValue};
 

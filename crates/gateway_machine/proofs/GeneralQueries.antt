@@ -1,6 +1,6 @@
 -- What the inner octets of a Query are read as.
 use Rattle.std.proofs.Common.{◌≡◌, ℕ, Bool, List, drop, Some, None, Ok, Err, refl, sym, ap, ◌∙◌}
-use Rattle.contract_words.specs.Conditions.{unless}
+use Rattle.amt_values.specs.Conditions.{unless}
 use Rattle.inner_datagrams.specs.Fault.{first_inner_fault}
 use Rattle.inner_datagrams.specs.Reading.{inner_at, payload_in, payload_start}
 use Rattle.inner_datagrams.specs.declared.inner.Inner.{Inner as InnerPlace}

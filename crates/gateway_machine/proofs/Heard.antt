@@ -7,7 +7,7 @@ use Rattle.amt_values.specs.Order.{ip_order}
 use Rattle.amt_values.specs.declared.address.Ip.{Ip}
 use Rattle.amt_values.specs.declared.mac.Mac48.{Mac48}
 use Rattle.amt_values.specs.declared.peer.Peer.{Peer}
-use Rattle.contract_words.proofs.AscendingLaws.{Equal-from_test}
+use Rattle.amt_values.proofs.AscendingLaws.{Equal-from_test}
 use Rattle.amt_values.proofs.Orders.{ip_order-exact}
 use Rattle.amt_messages.specs.Refusal.{message_of}
 use Rattle.amt_messages.specs.declared.message.Message.{Message}

@@ -3,8 +3,7 @@
 ghost use Rattle.std.specs.Prelude.{◌≡◌, [], None};
 
 use crate::outcome::GatewayOutcome;
-use amt_values::{Bytes, Peer};
-use contract_words::Items;
+use amt_values::{Bytes, Items, Peer};
 use std::alloc::Global;
 
 /// A datagram to send.

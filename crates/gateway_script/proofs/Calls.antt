@@ -1,6 +1,6 @@
 -- The first reason why a line that opens a socket or changes its filter fails.
 use Rattle.std.proofs.Common.{◌≡◌, ℕ, List, [], ◌∷◌, Option, Some, inl, inr, refl, sym, subst, arith}
-use Rattle.contract_words.specs.Conditions.{First}
+use Rattle.amt_values.specs.Conditions.{First}
 use Rattle.amt_values.specs.declared.address.Ip.{Ip}
 use Rattle.source_filter.specs.declared.mode.Mode.{Mode}
 use Rattle.group_records.specs.declared.family.Family.{Family}

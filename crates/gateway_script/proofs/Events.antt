@@ -1,6 +1,6 @@
 -- What is read of a line of a kind, as one answer.
 use Rattle.std.proofs.Common.{◌≡◌, ℕ, List, [], ◌∷◌, ◌++◌, ◌≤◌, length, IsSome, Option, Result, Ok, Err, IfOk, IfErr, MatchResult, inl, inr, refl, sym, subst, arith}
-use Rattle.contract_words.specs.Conditions.{First}
+use Rattle.amt_values.specs.Conditions.{First}
 use Rattle.group_records.specs.declared.family.Family.{Family}
 use Rattle.gateway_machine.specs.declared.event.GatewayEvent.{GatewayEvent}
 use Rattle.script_lines.specs.declared.fault.LineError.{LineError}

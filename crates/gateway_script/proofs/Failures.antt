@@ -1,6 +1,6 @@
 -- The first reason why the fields of a line fail.
 use Rattle.std.proofs.Common.{◌≡◌, ℕ, ◌⊎◌, ◌↔◌, List, [], ◌∷◌, None, Some, Option, Bool, IsTrue, true, false, not, is_some, IfSome, IfNone, inl, inr, refl, sym, subst}
-use Rattle.contract_words.specs.Conditions.{First}
+use Rattle.amt_values.specs.Conditions.{First}
 use Rattle.amt_values.specs.declared.peer.Peer.{Peer}
 use Rattle.amt_values.specs.Text.{IsPeerText}
 use Rattle.group_records.specs.declared.family.Family.{Family}

@@ -1,7 +1,7 @@
 -- The first reason why a line is bad, by its kind and its fields.
 use Rattle.std.proofs.Common.{◌≡◌, ℕ, ◌⊎◌, ◌↔◌, List, [], ◌∷◌, ◌++◌, codes, Option, None, Some, IsSome, inl, inr, sym, subst, ◌∙◌}
 use Rattle.std.specs.List.{AllByRecursion}
-use Rattle.contract_words.specs.Conditions.{First}
+use Rattle.amt_values.specs.Conditions.{First}
 use Rattle.group_records.specs.declared.family.Family.{Family}
 use Rattle.gateway_machine.specs.declared.event.GatewayEvent.{GatewayEvent}
 use Rattle.script_lines.specs.declared.fault.LineError.{LineError}

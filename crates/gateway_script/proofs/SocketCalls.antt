@@ -1,6 +1,6 @@
 -- Lines that make socket calls, and lines that don't.
 use Rattle.std.proofs.Common.{◌≡◌, ◌↔◌, ℕ, true, is_some, List, ◌∷◌, ◌++◌, Some, inl, inr, refl, sym, subst, ◌∙◌}
-use Rattle.contract_words.specs.Conditions.{First}
+use Rattle.amt_values.specs.Conditions.{First}
 use Rattle.group_records.specs.declared.family.Family.{Family}
 use Rattle.gateway_machine.specs.declared.event.GatewayEvent.{GatewayEvent}
 use Rattle.gateway_machine.specs.declared.event.GatewayEvent.TheVariants as events

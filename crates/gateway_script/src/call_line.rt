@@ -1,7 +1,7 @@
 //! The lines that make socket calls, by the fields after their first word. It knows no line before.
 
 ghost use Rattle.std.specs.Prelude.{◌≡◌, ◌≤◌, ◌<◌, ◌∷◌, ◌++◌, length, Option, IfOk, IfErr, IfSome, IfNone};
-ghost use Rattle.contract_words.specs.Conditions.{First};
+ghost use Rattle.amt_values.specs.Conditions.{First};
 ghost use Rattle.group_records.specs.declared.family.Family.{Family as FamilyValue};
 ghost use Rattle.script_lines.specs.Lines.{fields};
 ghost use Rattle.script_lines.specs.Reading.{FailsFirst};

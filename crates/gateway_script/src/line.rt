@@ -1,7 +1,7 @@
 //! What a line of a gateway's script says after the lines before it. It knows no text.
 
 ghost use Rattle.std.specs.Prelude.{◌≡◌, ◌≤◌, ◌∷◌, ◌++◌, Option, Ok, Err, length, IfOk, IfErr, MatchResult};
-ghost use Rattle.contract_words.specs.Conditions.{First};
+ghost use Rattle.amt_values.specs.Conditions.{First};
 ghost use Rattle.script_lines.specs.Lines.{fields};
 ghost use Rattle.script_lines.specs.Reading.{FailsFirst};
 ghost use Rattle.gateway_script.specs.declared.kind.LineKind.TheVariants as kinds;

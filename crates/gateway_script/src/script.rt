@@ -1,6 +1,6 @@
 //! A gateway's script as it was read. It knows no octets.
 
-use contract_words::Items;
+use amt_values::Items;
 use gateway_machine::{GatewayEvent, GatewaySettings};
 
 /// Events, in order.

@@ -1,7 +1,7 @@
 //! The settings and events of lines, by their kind and the fields after its words. It knows no line before.
 
 ghost use Rattle.std.specs.Prelude.{◌≡◌, [], ◌∷◌, ◌++◌, ◌↔◌, Option, None, IfOk, IfErr, IsTrue};
-ghost use Rattle.contract_words.specs.Conditions.{First};
+ghost use Rattle.amt_values.specs.Conditions.{First};
 ghost use Rattle.group_records.specs.declared.family.Family.{Family as FamilyValue};
 ghost use Rattle.script_lines.specs.Lines.{fields};
 ghost use Rattle.script_lines.specs.Reading.{FailsFirst};

@@ -3,8 +3,8 @@ use Rattle.std.proofs.Common.{◌≡◌, ℕ, zero, suc, ◌+◌, ◌*◌, ◌�
 use Rattle.std.proofs.lemmas.List.{length-map}
 use Rattle.std.proofs.lemmas.List.Sums.{sum_by-append}
 use Rattle.std.specs.Result.{IfOk}
-use Rattle.contract_words.specs.Conditions.{first_holding}
-use Rattle.contract_words.proofs.ConditionLaws.{first_holding-both_none, unless-ok}
+use Rattle.amt_values.specs.Conditions.{first_holding}
+use Rattle.amt_values.proofs.ConditionLaws.{first_holding-both_none, unless-ok}
 use Rattle.source_filter.specs.declared.record.Record.{Record}
 use Rattle.source_filter.specs.declared.record.RecordKind.{RecordKind}
 use Rattle.source_filter.specs.declared.fault.ReadFault.{ReadFault}

@@ -8,8 +8,8 @@ use Rattle.amt_values.specs.Octets.{AreOctets}
 use Rattle.amt_values.specs.declared.address.Ip.{Ip}
 use Rattle.inner_datagrams.specs.Checksum.{words, ones_sum, internet_sum_of}
 use Rattle.inner_datagrams.proofs.Parts.{AreOctets-append, internet_sum_of-all_after, ones_sum-fits}
-use Rattle.contract_words.specs.Conditions.{first_holding, unless}
-use Rattle.contract_words.proofs.ConditionLaws.{first_holding-here, first_holding-later}
+use Rattle.amt_values.specs.Conditions.{first_holding, unless}
+use Rattle.amt_values.proofs.ConditionLaws.{first_holding-here, first_holding-later}
 use Rattle.source_filter.specs.declared.record.Record.{Record}
 use Rattle.source_filter.specs.declared.fault.ReportFault.{ReportFault}
 use Rattle.source_filter.specs.declared.fault.ReportFault.TheVariants.{Sum}

@@ -4,8 +4,8 @@ use Rattle.std.proofs.lemmas.List.Elements.{All-cons, All-head, All-tail}
 use Rattle.std.specs.List.{All, flat_map}
 use Rattle.amt_values.specs.Octets.{AreOctets}
 use Rattle.amt_values.proofs.NetworkOrder.{AreOctets-drop}
-use Rattle.contract_words.specs.Conditions.{Conditions, first_holding}
-use Rattle.contract_words.proofs.ConditionLaws.{first_holding-both_none, first_holding-later}
+use Rattle.amt_values.specs.Conditions.{Conditions, first_holding}
+use Rattle.amt_values.proofs.ConditionLaws.{first_holding-both_none, first_holding-later}
 use Rattle.source_filter.specs.declared.record.Record.{Record}
 use Rattle.source_filter.specs.declared.fault.ReportFault.{ReportFault}
 use Rattle.group_records.specs.declared.family.Family.{Family}

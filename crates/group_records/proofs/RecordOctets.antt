@@ -7,8 +7,8 @@ use Rattle.byteorder.specs.Endian.{big_number, big_bytes}
 use Rattle.byteorder.specs.Numbers.{big_from-lt, big_number-reads_back, length-bytes_high_first}
 use Rattle.amt_values.specs.Octets.{AreOctets}
 use Rattle.amt_values.proofs.NetworkOrder.{AreOctets-drop, AreOctets-take, bytes_high_first-take}
-use Rattle.contract_words.specs.Conditions.{first_holding}
-use Rattle.contract_words.proofs.ConditionLaws.{NoneHolds-of, first_holding-none}
+use Rattle.amt_values.specs.Conditions.{first_holding}
+use Rattle.amt_values.proofs.ConditionLaws.{NoneHolds-of, first_holding-none}
 use Rattle.group_records.specs.declared.family.Family.{Family}
 use Rattle.group_records.specs.CarriedRecord.{CarriedRecord, IsCarriedRecord, record_octets}
 use Rattle.group_records.specs.Family.{width}

@@ -5,10 +5,10 @@ use Rattle.std.specs.Result.{IfOk, MatchResult}
 use Rattle.amt_values.specs.Octets.{AreOctets}
 use Rattle.amt_values.proofs.NetworkOrder.{AreOctets-drop}
 use Rattle.inner_datagrams.specs.Checksum.{IsRight}
-use Rattle.contract_words.specs.Answer.{Tells}
-use Rattle.contract_words.specs.Conditions.{Conditions, first_holding, unless}
-use Rattle.contract_words.proofs.AnswerLaws.{answer_refused as refused_by}
-use Rattle.contract_words.proofs.ConditionLaws.{NoneHolds-of, first_holding-both_none, first_holding-later, first_holding-none, holds_not, skips_same, unless-ok}
+use Rattle.amt_values.specs.Answer.{Tells}
+use Rattle.amt_values.specs.Conditions.{Conditions, first_holding, unless}
+use Rattle.amt_values.proofs.AnswerLaws.{answer_refused as refused_by}
+use Rattle.amt_values.proofs.ConditionLaws.{NoneHolds-of, first_holding-both_none, first_holding-later, first_holding-none, holds_not, skips_same, unless-ok}
 use Rattle.source_filter.specs.declared.record.Record.{Record}
 use Rattle.source_filter.specs.declared.fault.ReportFault.{ReportFault}
 use Rattle.source_filter.specs.declared.fault.ReadFault.{ReadFault}

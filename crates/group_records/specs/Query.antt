@@ -2,7 +2,7 @@
 -- RFC 3810, section 5.1).
 use Rattle.std.specs.Prelude.{◌≡◌, ℕ, ◌+◌, ◌*◌, ◌/◌, ◌%◌, ◌≤◌, ◌==◌, nat_lt, not, ⊤, Bool, false, List, [], ◌∷◌, ◌++◌, length, drop, slice_index, Option, Result}
 use Rattle.byteorder.specs.Endian.{big_bytes, big_number}
-use Rattle.contract_words.specs.Conditions.{Conditions, first_holding, unless}
+use Rattle.amt_values.specs.Conditions.{Conditions, first_holding, unless}
 use Rattle.inner_datagrams.specs.Checksum.{internet_sum_of, IsRight}
 use Rattle.source_filter.specs.declared.fault.ReportFault.{ReportFault}
 use Rattle.source_filter.specs.declared.fault.ReportFault.TheVariants.{Short, Kind, OldReport, Sum, RecordShort, SourceShort}

@@ -1,8 +1,8 @@
 -- The first fault of a payload, its records where there is none, and what may be answered.
 use Rattle.std.specs.Prelude.{◌≡◌, ℕ, zero, suc, ◌+◌, ◌*◌, ◌==◌, nat_lt, nat_le, not, ◌&&◌, ◌||◌, Bool, true, false, is_some, List, [], ◌∷◌, ◌++◌, length, drop, take, slice_index, Option, Some, None, Result}
 use Rattle.byteorder.specs.Endian.{big_number}
-use Rattle.contract_words.specs.Answer.{Gives}
-use Rattle.contract_words.specs.Conditions.{Conditions, first_holding, unless}
+use Rattle.amt_values.specs.Answer.{Gives}
+use Rattle.amt_values.specs.Conditions.{Conditions, first_holding, unless}
 use Rattle.inner_datagrams.specs.Checksum.{internet_sum_of, has_right_sum}
 use Rattle.source_filter.specs.declared.record.Record.{Record}
 use Rattle.source_filter.specs.declared.fault.ReportFault.{ReportFault}

@@ -1,7 +1,7 @@
 //! One group record is read here. It must not know the report's head or its sum.
 
 ghost use Rattle.std.specs.Prelude.{◌≡◌, ◌≤◌, ◌*◌, ◌++◌, drop, length, map, slice_index, is_some, true, IfOk, OnOk, OnErr};
-ghost use Rattle.contract_words.specs.Conditions.{first_holding};
+ghost use Rattle.amt_values.specs.Conditions.{first_holding};
 ghost use Rattle.group_records.specs.Family.{address_in, kind_of, width};
 ghost use Rattle.group_records.specs.CarriedRecord.{known_record};
 ghost use Rattle.group_records.specs.Reading.{carried_record_at, head_length, numbers_at, record_faults, record_length, source_count};

@@ -3,7 +3,7 @@ use Rattle.std.proofs.Common.{◌≡◌, ℕ, ◌≤◌, List, ◌∷◌, ◌++�
 use Rattle.std.proofs.lemmas.Bool.{eqb-true, ne_eqb}
 use Rattle.amt_values.specs.declared.address.Ip.{Ip}
 use Rattle.amt_values.specs.declared.address.Ip.TheVariants.{V4, V6}
-use Rattle.contract_words.specs.Conditions.{Conditions, first_holding}
+use Rattle.amt_values.specs.Conditions.{Conditions, first_holding}
 use Rattle.amt_values.specs.IpHeader.{ip_version}
 use Rattle.inner_datagrams.specs.Inner.{IsInner, IsInner4, IsInner6}
 use Rattle.inner_datagrams.specs.Fault.{first_inner_fault, version_faults, faults4, faults6}
@@ -11,7 +11,7 @@ use Rattle.inner_datagrams.specs.Reading.{HasParts, inner_at, inner4_at, inner6_
 use Rattle.inner_datagrams.specs.declared.inner.Inner.{Inner}
 use Rattle.inner_datagrams.specs.declared.inner.InnerFault.{InnerFault}
 use Rattle.inner_datagrams.specs.declared.inner.InnerFault.TheVariants.{Version, ShortHeader}
-use Rattle.contract_words.proofs.ConditionLaws.{skipped}
+use Rattle.amt_values.proofs.ConditionLaws.{skipped}
 use Rattle.inner_datagrams.proofs.Lawful4.{inner4_of_no_fault, no_fault_of_inner4}
 use Rattle.inner_datagrams.proofs.Lawful6.{HasWholeHeaders-follows, inner6_of_no_fault, no_fault_of_inner6}
 use Rattle.inner_datagrams.proofs.Payloads.{payload_whole}

@@ -3,12 +3,12 @@ use Rattle.std.proofs.Common.{◌≡◌, inl, inr, ℕ, List, length, Bool, true
 use Rattle.std.proofs.lemmas.Bool.{le-ltb, ltb-false, eqb-true, ne_eqb}
 use Rattle.std.specs.Result.{IfOk}
 use Rattle.amt_values.specs.declared.address.Ip.{Ip}
-use Rattle.contract_words.specs.Conditions.{unless}
+use Rattle.amt_values.specs.Conditions.{unless}
 use Rattle.amt_values.specs.IpHeader.{ip_version}
 use Rattle.inner_datagrams.specs.Head.{IsHead, IsHead4, IsHead6, first_head_fault, head_at, head4_at, head6_at, head_faults, head_of}
 use Rattle.inner_datagrams.specs.declared.head.Head.{Head}
 use Rattle.inner_datagrams.specs.declared.head.HeadFault.{HeadFault}
-use Rattle.contract_words.proofs.ConditionLaws.{NoneHolds-of, unless-ok}
+use Rattle.amt_values.proofs.ConditionLaws.{NoneHolds-of, unless-ok}
 use Rattle.inner_datagrams.proofs.Faults.{version4}
 
 head_by_version : (six : Bool) (bytes : List ℕ) → eqb (ip_version bytes) 6 ≡ six

@@ -1,13 +1,13 @@
 -- IPv4: bytes have no fault after their version exactly where they are an inner datagram.
 use Rattle.std.proofs.Common.{◌≡◌, ℕ, List, length, ltb, false, None, refl, sym, arith}
 use Rattle.std.proofs.lemmas.Bool.{le-ltb, ltb-false}
-use Rattle.contract_words.specs.Conditions.{first_holding}
+use Rattle.amt_values.specs.Conditions.{first_holding}
 use Rattle.amt_values.specs.IpHeader.{ip_version}
 use Rattle.inner_datagrams.specs.Header.{header_octets, source_number, destination_number}
 use Rattle.inner_datagrams.specs.Inner.{IsInner4}
 use Rattle.inner_datagrams.specs.Fault.{faults4}
 use Rattle.inner_datagrams.specs.Reading.{payload_of}
-use Rattle.contract_words.proofs.ConditionLaws.{NoneHolds-of, first_holding-none, holds_not, skips_same}
+use Rattle.amt_values.proofs.ConditionLaws.{NoneHolds-of, first_holding-none, holds_not, skips_same}
 use Rattle.inner_datagrams.proofs.Payloads.{payload_whole}
 
 pub inner4_of_no_fault : (bytes : List ℕ) → ip_version bytes ≡ 4 → first_holding (faults4 bytes) ≡ None

@@ -2,7 +2,7 @@
 use Rattle.std.proofs.Common.{◌≡◌, ℕ, ◌≤◌, List, length, Bool, true, false, eqb, cond, Option, Some, None, Result, Ok, Err, refl, sym, subst, ap, ◌∙◌}
 use Rattle.std.specs.Result.{IfOk, IsOkAnd, MatchResult}
 use Rattle.amt_values.specs.declared.address.Ip.{Ip}
-use Rattle.contract_words.specs.Conditions.{unless}
+use Rattle.amt_values.specs.Conditions.{unless}
 use Rattle.amt_values.specs.IpHeader.{ip_version}
 use Rattle.inner_datagrams.specs.Inner.{IsInner}
 use Rattle.inner_datagrams.specs.Fault.{first_inner_fault}
@@ -10,7 +10,7 @@ use Rattle.inner_datagrams.specs.Reading.{HasParts, inner_at, inner4_at, inner6_
 use Rattle.inner_datagrams.specs.Written.{IsWrittenInner, written_headers}
 use Rattle.inner_datagrams.specs.declared.inner.Inner.{Inner}
 use Rattle.inner_datagrams.specs.declared.inner.InnerFault.{InnerFault}
-use Rattle.contract_words.proofs.ConditionLaws.{unless-ok, unless-err}
+use Rattle.amt_values.proofs.ConditionLaws.{unless-ok, unless-err}
 use Rattle.inner_datagrams.proofs.Faults.{IsInnerAt, inner_of_no_fault, IsLawful-inner}
 use Rattle.inner_datagrams.proofs.Payloads.{payload_whole}
 use Rattle.inner_datagrams.proofs.ReadBack.{IsInner-written, payload_start-written}

@@ -1,6 +1,6 @@
 -- The first fault of bytes that are no inner datagram.
 use Rattle.std.specs.Prelude.{ℕ, ◌==◌, ◌&&◌, ◌||◌, nat_lt, not, Bool, List, [], ◌∷◌, ◌++◌, length, Option, if◌then◌else◌}
-use Rattle.contract_words.specs.Conditions.{Conditions, first_holding}
+use Rattle.amt_values.specs.Conditions.{Conditions, first_holding}
 use Rattle.inner_datagrams.specs.Checksum.{internet_sum_of, has_right_sum}
 use Rattle.amt_values.specs.IpHeader.{ip_version, total_length}
 use Rattle.inner_datagrams.specs.Header.{header_words, header_octets, header_of, fragment_bits, protocol_number, header_sum, with_zero_sum}

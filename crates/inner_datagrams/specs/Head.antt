@@ -1,7 +1,7 @@
 -- The source and the group of a native multicast packet, of which nothing else is read.
 use Rattle.std.specs.Prelude.{◌≡◌, ◌⊎◌, ℕ, ◌≤◌, ◌==◌, ◌||◌, nat_lt, not, Bool, List, [], ◌∷◌, length, Option, Result, if◌then◌else◌}
 use Rattle.amt_values.specs.declared.address.Ip.TheVariants.{V4, V6}
-use Rattle.contract_words.specs.Conditions.{Conditions, first_holding, unless}
+use Rattle.amt_values.specs.Conditions.{Conditions, first_holding, unless}
 use Rattle.amt_values.specs.IpHeader.{ip_version}
 use Rattle.inner_datagrams.specs.Header.{source_number, destination_number}
 use Rattle.inner_datagrams.specs.Header6.{source_number6, destination_number6}

@@ -1,7 +1,7 @@
 //! The source and the group of a native packet. It must not know what the packet carries.
 
 ghost use Rattle.std.specs.Prelude.{◌≡◌, ◌≤◌, ◌∷◌, [], length, Err, IfNone, IfOk, MatchResult, None, Ok, Some};
-ghost use Rattle.contract_words.specs.Conditions.{first_holding, unless};
+ghost use Rattle.amt_values.specs.Conditions.{first_holding, unless};
 ghost use Rattle.inner_datagrams.specs.Head.{IsHead, first_head_fault, head4_at, head6_at, head_of, short_header};
 ghost use Rattle.inner_datagrams.specs.declared.head.Head.{Head as HeadValue};
 ghost use Rattle.inner_datagrams.specs.declared.head.HeadFault.{HeadFault as HeadFaultValue};

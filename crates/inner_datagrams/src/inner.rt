@@ -1,7 +1,7 @@
 //! What is read of an inner datagram, and its faults. It must not know how it is read.
 
 ghost use Rattle.std.specs.Prelude.{◌≡◌, ◌≤◌, ◌∷◌, [], length};
-ghost use Rattle.contract_words.specs.Conditions.{first_holding};
+ghost use Rattle.amt_values.specs.Conditions.{first_holding};
 ghost use Rattle.inner_datagrams.specs.Fault.{wrong_total};
 
 use amt_values::{INPUT_LIMIT, Ip};

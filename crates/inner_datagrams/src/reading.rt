@@ -2,7 +2,7 @@
 
 ghost use Rattle.std.specs.Prelude.{◌≡◌, ◌≤◌, ℕ, List, length, IfOk, IsOkAnd, MatchResult, None, Some};
 ghost use Rattle.amt_values.specs.declared.address.Ip.{Ip as IpValue};
-ghost use Rattle.contract_words.specs.Conditions.{unless};
+ghost use Rattle.amt_values.specs.Conditions.{unless};
 ghost use Rattle.inner_datagrams.specs.Fault.{first_inner_fault};
 ghost use Rattle.inner_datagrams.specs.Inner.{IsInner};
 ghost use Rattle.inner_datagrams.specs.Reading.{HasParts, inner_at, payload_in, payload_of, payload_start};

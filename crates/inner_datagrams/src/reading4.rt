@@ -1,7 +1,7 @@
 //! The header of an IPv4 datagram is read here. It must not know IPv6 or the payload.
 
 ghost use Rattle.std.specs.Prelude.{◌≡◌, ◌≤◌, ◌∷◌, ◌++◌, [], length, IfOk};
-ghost use Rattle.contract_words.specs.Conditions.{first_holding, unless};
+ghost use Rattle.amt_values.specs.Conditions.{first_holding, unless};
 ghost use Rattle.inner_datagrams.specs.Fault.{faults4, fragment, header_faults, header_length_faults, length_faults, other_protocol, wrong_header_sum};
 ghost use Rattle.inner_datagrams.specs.Header.{header_octets};
 ghost use Rattle.inner_datagrams.specs.Reading.{inner4_at};

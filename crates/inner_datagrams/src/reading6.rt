@@ -1,7 +1,7 @@
 //! The headers of an IPv6 datagram are read here. It must not know IPv4 or the payload.
 
 ghost use Rattle.std.specs.Prelude.{◌≡◌, ◌≤◌, length, IfOk};
-ghost use Rattle.contract_words.specs.Conditions.{first_holding, unless};
+ghost use Rattle.amt_values.specs.Conditions.{first_holding, unless};
 ghost use Rattle.inner_datagrams.specs.Fault.{faults6, hop_by_hop_faults, length_faults6, next_header_faults};
 ghost use Rattle.inner_datagrams.specs.Header6.{headers_end6, hop_by_hop_end, hop_by_hop_next, last_next_header};
 ghost use Rattle.inner_datagrams.specs.Reading.{inner6_at};

@@ -5,7 +5,7 @@ ghost use Rattle.source_filter.specs.Record.{item_count};
 ghost use Rattle.source_filter.specs.declared.record.Record.{Record as RecordValue};
 ghost use Rattle.source_filter.specs.declared.fault.ReadFault.TheVariants.{Memory};
 ghost use Rattle.source_filter.specs.declared.fault.ReportFault.{ReportFault as ReportFaultValue};
-ghost use Rattle.contract_words.specs.Answer.{Tells};
+ghost use Rattle.amt_values.specs.Answer.{Tells};
 ghost use Rattle.group_records.specs.Reading.{GivesRecords, report_fault_in};
 ghost use Rattle.mld_records.specs.Report.{AreRecords6, AsksMemory6, IsReport6, first_report_fault6, report6_of, report_length6, written_report6};
 

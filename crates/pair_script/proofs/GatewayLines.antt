@@ -6,7 +6,7 @@ use Rattle.amt_values.specs.Text.{IsPeerText}
 use Rattle.amt_values.specs.declared.address.Ip.{Ip}
 use Rattle.amt_values.specs.declared.peer.Peer.{Peer}
 use Rattle.amt_values.proofs.Unique.{IsPeerText-unique}
-use Rattle.contract_words.specs.Conditions.{First}
+use Rattle.amt_values.specs.Conditions.{First}
 use Rattle.group_records.specs.declared.family.Family.{Family}
 use Rattle.script_lines.specs.Form.{IsAddressText, IsFamilyText}
 use Rattle.script_lines.specs.Reading.{FailsFirst}

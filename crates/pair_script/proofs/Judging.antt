@@ -2,7 +2,7 @@
 use Rattle.std.proofs.Common.{◌≡◌, ◌↔◌, ℕ, List, [], ◌∷◌, Option, None, Some, inl, refl, sym, subst, ap, ◌∙◌}
 use Rattle.std.specs.List.{AllByRecursion}
 use Rattle.amt_script.specs.declared.setting.Setting.{Setting}
-use Rattle.contract_words.specs.Conditions.{First}
+use Rattle.amt_values.specs.Conditions.{First}
 use Rattle.script_lines.specs.Reading.{FailsFirst}
 use Rattle.script_lines.specs.declared.fault.LineError.{LineError}
 use Rattle.script_lines.specs.declared.fault.LineError.TheVariants.{Bad, Memory}

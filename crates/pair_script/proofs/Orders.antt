@@ -1,6 +1,6 @@
 -- The first reason of a line, where more reasons are tried that the line never has.
 use Rattle.std.proofs.Common.{◌≡◌, ◌≢◌, ℕ, List, [], ◌∷◌, ◌++◌, length, None, Option, Some, inl, inr, refl, sym, subst}
-use Rattle.contract_words.specs.Conditions.{First}
+use Rattle.amt_values.specs.Conditions.{First}
 use Rattle.amt_script.specs.Fault.{order_of_values as relay_order_of_values, order_of_reasons as relay_order_of_reasons}
 use Rattle.amt_script.specs.SetLine.{FailsToSet}
 use Rattle.amt_script.specs.Row.{form_of_key}

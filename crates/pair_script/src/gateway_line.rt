@@ -1,7 +1,7 @@
 //! The lines that give gateways. It knows no other line.
 
 ghost use Rattle.std.specs.Prelude.{◌≡◌, ◌≢◌, ◌↔◌, ◌∷◌, [], IsTrue, Some, length, codes, IfOk, IfErr, IfSome, IfNone};
-ghost use Rattle.contract_words.specs.Conditions.{First};
+ghost use Rattle.amt_values.specs.Conditions.{First};
 ghost use Rattle.script_lines.specs.Lines.{fields};
 ghost use Rattle.script_lines.specs.Reading.{FailsFirst};
 ghost use Rattle.script_lines.specs.Form.{IsAddressText, IsFamilyText};

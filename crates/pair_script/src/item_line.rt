@@ -2,7 +2,7 @@
 //! no gateway.
 
 ghost use Rattle.std.specs.Prelude.{◌∷◌, ℕ, List, IfOk, IfErr};
-ghost use Rattle.contract_words.specs.Conditions.{First};
+ghost use Rattle.amt_values.specs.Conditions.{First};
 ghost use Rattle.amt_script.specs.Fault.{FailsAs as RelayFails};
 ghost use Rattle.amt_script.specs.Says.{SaysItem as RelaySays};
 ghost use Rattle.amt_script.specs.declared.kind.Kind.TheVariants as kinds;

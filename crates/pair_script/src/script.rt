@@ -1,8 +1,7 @@
 //! A script of a pair as it was read. It knows no octets.
 
 use amt_pair::PairEvent;
-use amt_values::{Bytes, Ip, Peer};
-use contract_words::Items;
+use amt_values::{Bytes, Ip, Items, Peer};
 use relay_machine::Settings;
 use response_mac::Secret;
 

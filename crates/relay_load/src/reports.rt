@@ -5,8 +5,7 @@ ghost use Rattle.relay_load.specs.Reports.{AreReports, AreReportsOf, group_at};
 ghost use Rattle.relay_load.specs.Updates.{load_report, record_with};
 
 use crate::record::{Choice, GROUP_BASE, GROUPS, write_report};
-use amt_values::Bytes;
-use contract_words::Items;
+use amt_values::{Bytes, Items};
 use std::alloc::{AllocError, Global};
 
 /// A report of either kind to each group, in the order of the groups.

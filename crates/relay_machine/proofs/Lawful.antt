@@ -11,7 +11,7 @@ use Rattle.source_filter.specs.declared.fault.ReadFault.TheVariants.{Report}
 use Rattle.source_filter.specs.declared.fault.ReportFault.{ReportFault}
 use Rattle.inner_datagrams.specs.Fault.{first_inner_fault}
 use Rattle.inner_datagrams.specs.Inner.{IsInner}
-use Rattle.contract_words.specs.Conditions.{unless}
+use Rattle.amt_values.specs.Conditions.{unless}
 use Rattle.inner_datagrams.specs.Reading.{inner_at, payload_in, payload_start}
 use Rattle.inner_datagrams.specs.declared.inner.InnerFault.{InnerFault}
 use Rattle.inner_datagrams.proofs.Faults.{IsLawful-inner}

@@ -6,7 +6,7 @@ use Rattle.source_filter.specs.Record.{item_count}
 use Rattle.source_filter.specs.declared.fault.ReportFault.{ReportFault}
 use Rattle.amt_values.specs.Group.{is_forwardable}
 use Rattle.inner_datagrams.specs.Fault.{first_inner_fault}
-use Rattle.contract_words.specs.Conditions.{unless}
+use Rattle.amt_values.specs.Conditions.{unless}
 use Rattle.inner_datagrams.specs.Reading.{inner_at, payload_in, payload_start}
 use Rattle.inner_datagrams.specs.declared.inner.Inner.{Inner as InnerPlace}
 use Rattle.inner_datagrams.specs.declared.inner.InnerFault.{InnerFault}

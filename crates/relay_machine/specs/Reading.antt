@@ -1,6 +1,6 @@
 -- What may be answered of the octets in an Update.
 use Rattle.std.specs.Prelude.{List, Option, Some, None, Result}
-use Rattle.contract_words.specs.Answer.{Gives as GivesBy}
+use Rattle.amt_values.specs.Answer.{Gives as GivesBy}
 use Rattle.source_filter.specs.declared.record.Record.{Record}
 use Rattle.relay_machine.specs.declared.outcome.Unlawful.{Unlawful as Fault}
 use Rattle.relay_machine.specs.declared.report.Unread.{Unread}

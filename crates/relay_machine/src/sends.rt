@@ -6,8 +6,7 @@ ghost use Rattle.relay_machine.specs.Sends.{AreShort};
 
 use crate::outcome::Outcome;
 use amt_messages::{Message, encode};
-use amt_values::{Bytes, Endpoint};
-use contract_words::Items;
+use amt_values::{Bytes, Endpoint, Items};
 use endpoint_membership::Change;
 use std::alloc::{AllocError, Global};
 

@@ -6,7 +6,7 @@ use Rattle.std.proofs.Crossing.{crosses}
 use Rattle.std.proofs.MapsCrossing as maps
 use Rattle.amt_ports.specs.declared.out_link.OutLink.{Ghosts}
 use Rattle.core.proofs.option.Option.TheSendSync as option
-use Rattle.contract_words.proofs.items.Items.TheSendSync as items
+use Rattle.amt_values.proofs.items.Items.TheSendSync as items
 use Rattle.amt_values.proofs.moment.Moment.TheSendSync as moment
 use Rattle.amt_values.proofs.endpoint.Endpoint.TheSendSync as endpoint
 use Rattle.atomic_table.proofs.owned.Table.TheSendSync as cells

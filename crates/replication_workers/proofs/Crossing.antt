@@ -8,7 +8,7 @@ use Rattle.core.proofs.option.Option.TheSendSync as option
 use Rattle.core.proofs.rt.Memory.TheSendSync as memory
 use Rattle.core.proofs.atomic.AtomicUsize.TheSendSync as usizes
 use Rattle.core.proofs.atomic.AtomicU64.TheSendSync as u64s
-use Rattle.contract_words.proofs.items.Items.TheSendSync as items
+use Rattle.amt_values.proofs.items.Items.TheSendSync as items
 use Rattle.amt_values.proofs.moment.Moment.TheSendSync as moment
 use Rattle.atomic_table.proofs.badge.Badge.TheSendSync as badge
 use Rattle.atomic_table.proofs.owned.Table.TheSendSync as table

@@ -4,7 +4,7 @@ use Rattle.std.specs.Str.Lines.{lines}
 use Rattle.script_lines.specs.declared.fault.LineError.{LineError}
 use Rattle.script_lines.specs.declared.fault.LineError.TheVariants as line_errors
 use Rattle.script_lines.specs.declared.reason.Reason.{Reason}
-use Rattle.contract_words.specs.Conditions.{First}
+use Rattle.amt_values.specs.Conditions.{First}
 use Rattle.script_lines.specs.Kind.{Kind}
 use Rattle.script_lines.specs.Lines.{fields, says_nothing, IsShort, IsPlain}
 use Rattle.script_lines.specs.Reading.{HasBegun, FailsAfter, FailsOnLine}

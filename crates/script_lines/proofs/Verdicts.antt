@@ -4,7 +4,7 @@ use Rattle.std.specs.Str.Lines.{lines}
 use Rattle.script_lines.specs.declared.fault.ScriptError.{ScriptError}
 use Rattle.script_lines.specs.declared.fault.ScriptError.TheVariants as errors
 use Rattle.script_lines.specs.declared.reason.Reason.{Reason}
-use Rattle.contract_words.specs.Conditions.{First}
+use Rattle.amt_values.specs.Conditions.{First}
 use Rattle.script_lines.specs.Kind.{Kind, IsLawfulKind}
 use Rattle.script_lines.specs.Lines.{fields}
 use Rattle.script_lines.specs.Script.{Begins, Spells, IsWrong, IsBadLine, IsFaultAt, IsFaultInLine, IsFaultAtEnd, IsErrorOf, RulesOutScripts, HasOneScript, HasOneFault}

@@ -5,7 +5,7 @@ use Rattle.script_lines.specs.declared.fault.LineError.{LineError}
 use Rattle.script_lines.specs.declared.fault.LineError.TheVariants.{Bad, Memory}
 use Rattle.script_lines.specs.declared.fault.ScriptError.{ScriptError}
 use Rattle.script_lines.specs.declared.fault.ScriptError.TheVariants as errors
-use Rattle.contract_words.specs.Conditions.{First}
+use Rattle.amt_values.specs.Conditions.{First}
 use Rattle.script_lines.specs.Kind.{Kind}
 use Rattle.script_lines.specs.Script.{Begins, IsBadLine, IsFaultInLine}
 

@@ -6,7 +6,7 @@ use Rattle.script_lines.specs.declared.reason.Reason.{Reason}
 use Rattle.script_lines.specs.declared.reason.Reason.TheVariants.{Long, Word}
 use Rattle.script_lines.specs.declared.fault.ScriptError.{ScriptError}
 use Rattle.script_lines.specs.declared.fault.ScriptError.TheVariants as errors
-use Rattle.contract_words.specs.Conditions.{First}
+use Rattle.amt_values.specs.Conditions.{First}
 use Rattle.script_lines.specs.Kind.{Kind}
 use Rattle.script_lines.specs.Lines.{fields, says_nothing, lines_that_say, IsShort, IsPlain}
 

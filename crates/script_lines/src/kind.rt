@@ -1,7 +1,7 @@
 //! What a kind of script is to the reader of lines.
 
 ghost use Rattle.std.specs.Prelude.{List, ◌≤◌, length, ◌∷◌, [], OnOk, IfOk, IfErr};
-ghost use Rattle.contract_words.specs.Conditions.{First};
+ghost use Rattle.amt_values.specs.Conditions.{First};
 ghost use Rattle.script_lines.specs.Kind.{Kind, IsLawfulKind};
 ghost use Rattle.script_lines.specs.Lines.{fields};
 ghost use Rattle.script_lines.specs.Reading.{Hears, FailsAfter};

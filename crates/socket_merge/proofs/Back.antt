@@ -8,8 +8,8 @@ use Rattle.std.proofs.lemmas.List.Elements.{recursion_from_All}
 use Rattle.amt_values.specs.declared.address.Ip.{Ip}
 use Rattle.amt_values.specs.Order.{ip_order}
 use Rattle.amt_values.proofs.Orders.{ip_order-exact, ip_order-total}
-use Rattle.contract_words.specs.Ascending.{ascending, has}
-use Rattle.contract_words.proofs.AscendingLaws.{IsAscending-ascending, has-append, has-ascending, same_ascending}
+use Rattle.amt_values.specs.Ascending.{ascending, has}
+use Rattle.amt_values.proofs.AscendingLaws.{IsAscending-ascending, has-append, has-ascending, same_ascending}
 use Rattle.socket_merge.specs.History.{Socket}
 use Rattle.socket_merge.specs.Interface.{on_group, same_group}
 use Rattle.socket_merge.specs.Kept.{IsConsistent, IsSound, blank, farewells_in, is_blank, tallies_of, tally_at, tally_of}

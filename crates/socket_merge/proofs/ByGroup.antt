@@ -12,8 +12,8 @@ use Rattle.std.proofs.lemmas.Map.Keys.{sorted_head, sorted_tail}
 use Rattle.amt_values.specs.declared.address.Ip.{Ip}
 use Rattle.amt_values.specs.Order.{ip_order}
 use Rattle.amt_values.proofs.Orders.{ip_order-exact, ip_order-total}
-use Rattle.contract_words.specs.Ascending.{IsAscending, has}
-use Rattle.contract_words.proofs.AscendingLaws.{IsAscending-filter, has-filter, same_ascending}
+use Rattle.amt_values.specs.Ascending.{IsAscending, has}
+use Rattle.amt_values.proofs.AscendingLaws.{IsAscending-filter, has-filter, same_ascending}
 use Rattle.socket_merge.specs.Interface.{same_group}
 use Rattle.socket_merge.specs.Kept.{AreNeeded, blank, farewells_in, tally_at}
 use Rattle.socket_merge.specs.Sockets.{Farewell, left_in}

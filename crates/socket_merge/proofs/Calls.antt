@@ -6,7 +6,7 @@ use Rattle.std.proofs.lemmas.Bool.{leb-true, lt-ltb}
 use Rattle.std.proofs.lemmas.List.Elements.{All-cons, All-nil}
 use Rattle.amt_values.specs.Group.{is_forwardable}
 use Rattle.amt_values.specs.declared.address.Ip.{Ip}
-use Rattle.contract_words.specs.Conditions.{first_holding}
+use Rattle.amt_values.specs.Conditions.{first_holding}
 use Rattle.source_filter.specs.Filter.{FilterValue}
 use Rattle.socket_merge.specs.History.{AcceptedCall, Change, Close, LeaveAll, Open, Socket, latest, open_sockets, socket_named, sockets_after, with_call}
 use Rattle.socket_merge.specs.FullReport.{longest_farewell}

@@ -11,8 +11,8 @@ use Rattle.amt_values.specs.declared.address.Ip.{Ip}
 use Rattle.amt_values.specs.declared.address.Ip.TheVariants.{V4 as Address4, V6 as Address6}
 use Rattle.amt_values.specs.Order.{ip_order}
 use Rattle.amt_values.proofs.Orders.{ip_order-total}
-use Rattle.contract_words.specs.Ascending.{IsAscending, ascending, has}
-use Rattle.contract_words.proofs.AscendingLaws.{IsAscending-ascending, has-append, has-ascending}
+use Rattle.amt_values.specs.Ascending.{IsAscending, ascending, has}
+use Rattle.amt_values.proofs.AscendingLaws.{IsAscending-ascending, has-append, has-ascending}
 use Rattle.source_filter.specs.Filter.{FilterValue}
 use Rattle.source_filter.specs.declared.record.Record.{Record}
 use Rattle.group_records.specs.Family.{width}

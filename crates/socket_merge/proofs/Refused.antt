@@ -3,9 +3,9 @@ use Rattle.std.proofs.Common.{◌≡◌, ℕ, ◌+◌, ◌-◌, ◌≤◌, ◌<�
 use Rattle.std.proofs.lemmas.Bool.{ltb-false}
 use Rattle.amt_values.specs.declared.address.Ip.{Ip}
 use Rattle.amt_values.specs.Order.{ip_order}
-use Rattle.contract_words.specs.Ascending.{has}
-use Rattle.contract_words.specs.Conditions.{Conditions, first_holding}
-use Rattle.contract_words.proofs.ConditionLaws.{NoneHolds-of}
+use Rattle.amt_values.specs.Ascending.{has}
+use Rattle.amt_values.specs.Conditions.{Conditions, first_holding}
+use Rattle.amt_values.proofs.ConditionLaws.{NoneHolds-of}
 use Rattle.source_filter.specs.Filter.{FilterValue}
 use Rattle.socket_merge.specs.History.{AcceptedCall, Change, Open, Socket, groups_opened, latest, open_sockets, socket_named, with_call}
 use Rattle.socket_merge.specs.Kept.{AreNeeded, octets_besides, raw_octets, share_of, tally_at, tally_changed, tally_of, tally_with}

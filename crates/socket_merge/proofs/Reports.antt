@@ -10,8 +10,8 @@ use Rattle.amt_values.specs.declared.address.Ip.{Ip}
 use Rattle.amt_values.specs.Group.{is_forwardable}
 use Rattle.amt_values.specs.Order.{ip_order}
 use Rattle.amt_values.proofs.Orders.{ip_order-total}
-use Rattle.contract_words.specs.Ascending.{ascending, has}
-use Rattle.contract_words.proofs.AscendingLaws.{IsAscending-ascending, has-ascending}
+use Rattle.amt_values.specs.Ascending.{ascending, has}
+use Rattle.amt_values.proofs.AscendingLaws.{IsAscending-ascending, has-ascending}
 use Rattle.source_filter.specs.Filter.{FilterValue}
 use Rattle.source_filter.specs.Merging.{merged}
 use Rattle.source_filter.specs.declared.record.Record.{Record}

@@ -9,8 +9,8 @@ use Rattle.amt_values.specs.declared.address.Ip.{Ip}
 use Rattle.amt_values.specs.declared.address.Ip.TheVariants.{V4 as Address4}
 use Rattle.amt_values.specs.Order.{ip_order}
 use Rattle.amt_values.proofs.Orders.{ip_order-exact, ip_order-total}
-use Rattle.contract_words.specs.Ascending.{IsAscending, ascending, difference, has}
-use Rattle.contract_words.proofs.AscendingLaws.{IsAscending-ascending, has-ascending, has-difference}
+use Rattle.amt_values.specs.Ascending.{IsAscending, ascending, difference, has}
+use Rattle.amt_values.proofs.AscendingLaws.{IsAscending-ascending, has-ascending, has-difference}
 use Rattle.source_filter.specs.Changes.{changes_by, changes_on, record_of_some}
 use Rattle.source_filter.specs.Filter.{FilterValue}
 use Rattle.source_filter.specs.Merging.{merged}

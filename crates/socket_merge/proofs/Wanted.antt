@@ -14,8 +14,8 @@ use Rattle.std.proofs.lemmas.Map.Views.{tells_apart}
 use Rattle.amt_values.specs.declared.address.Ip.{Ip}
 use Rattle.amt_values.specs.Order.{ip_order}
 use Rattle.amt_values.proofs.Orders.{ip_order-exact, ip_order-total}
-use Rattle.contract_words.specs.Ascending.{ascending, has, intersection, placed}
-use Rattle.contract_words.proofs.AscendingLaws.{length-ascending}
+use Rattle.amt_values.specs.Ascending.{ascending, has, intersection, placed}
+use Rattle.amt_values.proofs.AscendingLaws.{length-ascending}
 use Rattle.source_filter.specs.Filter.{FilterValue, wants_any, wants_any_by}
 use Rattle.source_filter.specs.Merging.{all_sources, common_sources, exclude_list, exclude_lists, include_list, include_lists, intersection_of, merged, merged_by, union_of}
 use Rattle.source_filter.specs.declared.mode.Mode.{Mode}

@@ -3,7 +3,7 @@ use Rattle.std.specs.Prelude.{◌≡◌, List, ◌++◌, map}
 use Rattle.std.specs.List.{filter, flat_map}
 use Rattle.amt_values.specs.declared.address.Ip.{Ip}
 use Rattle.amt_values.specs.Order.{ip_order}
-use Rattle.contract_words.specs.Ascending.{ascending}
+use Rattle.amt_values.specs.Ascending.{ascending}
 use Rattle.source_filter.specs.Changes.{changes_on}
 use Rattle.source_filter.specs.Merging.{merged}
 use Rattle.source_filter.specs.declared.record.Record.{Record}

@@ -7,7 +7,7 @@ use Rattle.std.specs.Option.{option_map, unwrap_or}
 use Rattle.amt_values.specs.declared.address.Ip.{Ip}
 use Rattle.amt_values.specs.Group.{is_forwardable}
 use Rattle.amt_values.specs.Order.{ip_order}
-use Rattle.contract_words.specs.Ascending.{IsAscending, ascending}
+use Rattle.amt_values.specs.Ascending.{IsAscending, ascending}
 use Rattle.source_filter.specs.Filter.{FilterValue, wants_any}
 use Rattle.source_filter.specs.Merging.{merged}
 use Rattle.source_filter.specs.declared.record.Record.{Record}

@@ -4,7 +4,7 @@ use Rattle.std.specs.Prelude.{ℕ, ◌+◌, ◌≤◌, not, nat_le, nat_lt, ◌|
 use Rattle.std.specs.List.{filter, flat_map}
 use Rattle.amt_values.specs.declared.address.Ip.{Ip}
 use Rattle.amt_values.specs.declared.address.Ip.TheVariants.{V4 as Address4, V6 as Address6}
-use Rattle.contract_words.specs.Conditions.{Conditions, first_holding}
+use Rattle.amt_values.specs.Conditions.{Conditions, first_holding}
 use Rattle.source_filter.specs.declared.record.Record.{Record}
 use Rattle.source_filter.specs.declared.record.RecordKind.TheVariants.{IsIn}
 use Rattle.group_records.specs.declared.family.Family.{Family}

@@ -3,7 +3,7 @@ use Rattle.std.specs.Prelude.{◌≡◌, ℕ, ◌+◌, ◌≤◌, true, false, L
 use Rattle.std.specs.List.{find}
 use Rattle.std.specs.Option.{option_map}
 use Rattle.amt_values.specs.declared.address.Ip.{Ip}
-use Rattle.contract_words.specs.Answer.{TellsCause}
+use Rattle.amt_values.specs.Answer.{TellsCause}
 use Rattle.source_filter.specs.Filter.{FilterValue}
 use Rattle.group_records.specs.Written.{is_of_family}
 use Rattle.socket_merge.specs.History.{AcceptedCall, Socket, latest, open_sockets, socket_named}

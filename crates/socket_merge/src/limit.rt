@@ -1,7 +1,7 @@
 //! The first limit that a filter would pass. It must not know names or filters.
 
 ghost use Rattle.std.specs.Prelude.{◌≡◌, ◌+◌, ◌-◌, ◌≤◌};
-ghost use Rattle.contract_words.specs.Conditions.{first_holding};
+ghost use Rattle.amt_values.specs.Conditions.{first_holding};
 ghost use Rattle.socket_merge.specs.Kept.{octets_besides, raw_octets, tally_at};
 ghost use Rattle.socket_merge.specs.Refusal.{family_of, limit_conditions};
 

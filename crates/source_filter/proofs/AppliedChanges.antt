@@ -10,8 +10,8 @@ use Rattle.source_filter.specs.declared.mode.Mode.{Mode}
 use Rattle.source_filter.specs.declared.mode.Mode.TheVariants.{Include, Exclude}
 use Rattle.source_filter.specs.declared.record.Record.{Record}
 use Rattle.source_filter.specs.declared.record.RecordKind.TheVariants.{Allow, Block}
-use Rattle.contract_words.specs.Ascending.{IsAscending, ascending, difference, has, union}
-use Rattle.contract_words.proofs.AscendingLaws.{IsAscending-ascending, IsAscending-filter, ascending-fixed, has-difference, has-union, same_ascending}
+use Rattle.amt_values.specs.Ascending.{IsAscending, ascending, difference, has, union}
+use Rattle.amt_values.proofs.AscendingLaws.{IsAscending-ascending, IsAscending-filter, ascending-fixed, has-difference, has-union, same_ascending}
 use Rattle.source_filter.proofs.SourceSets.{listing}
 
 -- nothing is put in

@@ -12,8 +12,8 @@ use Rattle.source_filter.specs.Record.{lists}
 use Rattle.source_filter.specs.Merging.{exclude_list, exclude_lists, include_list, include_lists, intersection_of, all_sources, merged, merged_by, common_sources, union_of}
 use Rattle.source_filter.specs.declared.mode.Mode.{Mode}
 use Rattle.source_filter.specs.declared.mode.Mode.TheVariants.{Include, Exclude}
-use Rattle.contract_words.specs.Ascending.{intersection}
-use Rattle.contract_words.proofs.AscendingLaws.{has-append, has-ascending, has-difference, has-intersection}
+use Rattle.amt_values.specs.Ascending.{intersection}
+use Rattle.amt_values.proofs.AscendingLaws.{has-append, has-ascending, has-difference, has-intersection}
 
 -- some list has the source
 abbrev some_has : List (List Ip) → Ip → Bool

@@ -10,9 +10,9 @@ use Rattle.amt_values.specs.declared.address.Ip.TheVariants.{V4}
 use Rattle.amt_values.specs.Order.{ip_order}
 use Rattle.amt_values.proofs.Orders.{ip_order-exact, ip_order-total}
 use Rattle.source_filter.specs.Filter.{FilterValue, ascending_sources}
-use Rattle.contract_words.specs.Ascending.{IsAscending, difference, has, union}
+use Rattle.amt_values.specs.Ascending.{IsAscending, difference, has, union}
 use Rattle.source_filter.specs.declared.mode.Mode.{Mode}
-use Rattle.contract_words.proofs.AscendingLaws.{IsAscending-filter, IsAscending-ascending, has-append, has-difference, has-union, ascending-fixed, same_ascending}
+use Rattle.amt_values.proofs.AscendingLaws.{IsAscending-filter, IsAscending-ascending, has-append, has-difference, has-union, ascending-fixed, same_ascending}
 
 -- the set after some sources: whether it has one, by whether it was in the old ones, and is among those
 pub record IsHeld (keeps : Bool → Bool → Bool) (old done held : List Ip) : Type 0 where

@@ -4,7 +4,7 @@ use Rattle.std.specs.Prelude.{Bool, true, false, not, List, [], ◌∷◌}
 use Rattle.amt_values.specs.declared.address.Ip.{Ip}
 use Rattle.amt_values.specs.Order.{ip_order}
 use Rattle.source_filter.specs.Record.{lists}
-use Rattle.contract_words.specs.Ascending.{ascending, union, difference}
+use Rattle.amt_values.specs.Ascending.{ascending, union, difference}
 use Rattle.source_filter.specs.declared.mode.Mode.{Mode}
 use Rattle.source_filter.specs.declared.mode.Mode.TheVariants.{Include, Exclude}
 use Rattle.source_filter.specs.declared.record.Record.{Record}

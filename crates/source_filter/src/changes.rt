@@ -2,7 +2,7 @@
 
 ghost use Rattle.std.specs.Prelude.{◌≡◌, [], ◌∷◌, ◌++◌, IfOk, OnOk};
 ghost use Rattle.amt_values.specs.Order.{ip_order};
-ghost use Rattle.contract_words.specs.Ascending.{IsAscending, difference};
+ghost use Rattle.amt_values.specs.Ascending.{IsAscending, difference};
 ghost use Rattle.source_filter.specs.Changes.{changes_on, record_of_some};
 ghost use Rattle.source_filter.specs.Filter.{filter_after_all};
 ghost use Rattle.source_filter.specs.declared.record.RecordKind.TheVariants.{Allow, Block};

@@ -4,7 +4,7 @@ ghost use Rattle.std.specs.Prelude.{◌≡◌, true, false, IfOk};
 ghost use Rattle.amt_values.specs.Order.{ip_order};
 ghost use Rattle.amt_values.specs.declared.address.Ip.{Ip};
 ghost use Rattle.source_filter.specs.Record.{lists};
-ghost use Rattle.contract_words.specs.Ascending.{IsAscending};
+ghost use Rattle.amt_values.specs.Ascending.{IsAscending};
 
 use crate::ips::{Ips, ascending_ips, is_among};
 use crate::mode::Mode;
@@ -27,7 +27,7 @@ pub struct Filter {
 impl Model for Filter {
     ghost use Rattle.amt_values.specs.Order.{ip_order};
     ghost use Rattle.source_filter.specs.Filter.{FilterValue};
-    ghost use Rattle.contract_words.specs.Ascending.{IsAscending};
+    ghost use Rattle.amt_values.specs.Ascending.{IsAscending};
 
     ghost Value = { FilterValue };
 

@@ -2,11 +2,10 @@
 
 ghost use Rattle.std.specs.Prelude.{◌≡◌, IfOk};
 ghost use Rattle.amt_values.specs.Order.{ip_order};
-ghost use Rattle.contract_words.specs.Ascending.{IsAscending, difference, has, intersection};
+ghost use Rattle.amt_values.specs.Ascending.{IsAscending, difference, has, intersection};
 ghost use Rattle.source_filter.specs.Filter.{ascending_sources};
 
-use amt_values::Ip;
-use contract_words::Items;
+use amt_values::{Ip, Items};
 use std::alloc::{AllocError, Global};
 
 /// Addresses, in order.

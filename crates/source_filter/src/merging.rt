@@ -5,7 +5,7 @@ ghost use Rattle.std.specs.List.{list_any};
 ghost use Rattle.std.specs.Option.{option_to_list};
 ghost use Rattle.amt_values.specs.Order.{ip_order};
 ghost use Rattle.amt_values.specs.declared.address.Ip.{Ip};
-ghost use Rattle.contract_words.specs.Ascending.{IsAscending};
+ghost use Rattle.amt_values.specs.Ascending.{IsAscending};
 ghost use Rattle.source_filter.specs.Filter.{admits};
 ghost use Rattle.source_filter.specs.Merging.{exclude_list, exclude_lists, include_list, include_lists, intersection_of, all_sources, merged, union_of};
 

@@ -2,7 +2,7 @@
 
 ghost use Rattle.std.specs.Prelude.{◌≡◌, IfOk, OnOk, OnErr};
 ghost use Rattle.amt_values.specs.Order.{ip_order};
-ghost use Rattle.contract_words.specs.Ascending.{IsAscending, difference, union};
+ghost use Rattle.amt_values.specs.Ascending.{IsAscending, difference, union};
 
 use crate::filter::Filter;
 use crate::mode::Mode;
@@ -24,7 +24,7 @@ pub struct MutableFilter {
 
 impl Model for MutableFilter {
     ghost use Rattle.amt_values.specs.Order.{ip_order};
-    ghost use Rattle.contract_words.specs.Ascending.{IsAscending};
+    ghost use Rattle.amt_values.specs.Ascending.{IsAscending};
     ghost use Rattle.source_filter.specs.Filter.{FilterValue};
 
     ghost Value = { FilterValue };

@@ -4,7 +4,7 @@ ghost use Rattle.std.specs.Prelude.{◌≡◌, IfOk};
 
 use crate::ips::Ips;
 use crate::record::Record;
-use contract_words::Items;
+use amt_values::Items;
 use std::alloc::{AllocError, Global};
 
 /// Group records, in the order of their report.

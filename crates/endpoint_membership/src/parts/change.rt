@@ -4,7 +4,7 @@ ghost use Rattle.std.specs.Prelude.{◌≡◌, ◌<◌, ◌^◌, None, Some, OnO
 ghost use Rattle.std.specs.BTreeMap.{get, insert_entry, IsUnchanged};
 ghost use Rattle.std.specs.List.{filter};
 ghost use Rattle.std.specs.Map.{count_at};
-ghost use Rattle.contract_words.specs.Ascending.{placed};
+ghost use Rattle.amt_values.specs.Ascending.{placed};
 ghost use Rattle.amt_values.specs.Order.{endpoint_order};
 ghost use Rattle.endpoint_membership.specs.EndpointGroup.{endpoint_group_order};
 ghost use Rattle.endpoint_membership.specs.Filters.{AreOrdered, IsSetAt, filter_at};

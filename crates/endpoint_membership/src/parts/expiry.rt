@@ -2,7 +2,7 @@
 
 ghost use Rattle.std.specs.Prelude.{◌≡◌, ◌≤◌, IfSome, IfNone, IsSome, None};
 ghost use Rattle.std.specs.List.{filter};
-ghost use Rattle.contract_words.specs.Ascending.{IsAscending};
+ghost use Rattle.amt_values.specs.Ascending.{IsAscending};
 ghost use Rattle.endpoint_membership.specs.Membership.{is_fresh, membership_order};
 ghost use Rattle.endpoint_membership.specs.Memberships.{membership_in};
 ghost use Rattle.endpoint_membership.specs.Stored.{is_of_another, only};

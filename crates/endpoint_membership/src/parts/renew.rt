@@ -4,7 +4,7 @@ ghost use Rattle.std.specs.Prelude.{◌≡◌, [], true, not, ◌&&◌, ◌||◌
 ghost use Rattle.std.specs.BTreeSet.{contains};
 ghost use Rattle.std.specs.List.{AllByRecursion};
 ghost use Rattle.std.specs.Option.{option_or};
-ghost use Rattle.contract_words.specs.Ascending.{IsAscending};
+ghost use Rattle.amt_values.specs.Ascending.{IsAscending};
 ghost use Rattle.endpoint_membership.specs.EndpointGroup.{EndpointGroup as Pair};
 ghost use Rattle.endpoint_membership.specs.Filters.{IsSetAt, filter_at, pairs_of};
 ghost use Rattle.endpoint_membership.specs.Membership.{endpoint_group_of, membership_order};

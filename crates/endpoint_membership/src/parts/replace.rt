@@ -3,7 +3,7 @@
 ghost use Rattle.std.specs.Prelude.{◌≡◌, None, true, not, is_some, map, IfOk, OnOk, OnErr, if◌then◌else◌};
 ghost use Rattle.std.specs.List.{AllByRecursion, filter};
 ghost use Rattle.std.specs.Option.{option_or};
-ghost use Rattle.contract_words.specs.Ascending.{IsAscending, has};
+ghost use Rattle.amt_values.specs.Ascending.{IsAscending, has};
 ghost use Rattle.endpoint_membership.specs.EndpointGroup.{EndpointGroup as Pair, endpoint_group_order};
 ghost use Rattle.endpoint_membership.specs.Membership.{endpoint_group_of, membership_order};
 ghost use Rattle.endpoint_membership.specs.Memberships.{membership_in};

@@ -4,7 +4,7 @@ use Rattle.std.specs.List.{filter_map}
 use Rattle.amt_values.specs.declared.address.Ip.{Ip}
 use Rattle.amt_values.specs.Order.{ip_order}
 use Rattle.amt_values.specs.EndpointValue.{EndpointValue}
-use Rattle.contract_words.specs.Ascending.{IsAscending}
+use Rattle.amt_values.specs.Ascending.{IsAscending}
 use Rattle.source_filter.specs.declared.record.Record.{Record}
 use Rattle.endpoint_membership.specs.declared.after_report.OwnAfter.{OwnAfter}
 use Rattle.endpoint_membership.specs.declared.after_report.RenewedFilter.{RenewedFilter}

@@ -1,5 +1,5 @@
 use Rattle.std.proofs.Common.{◌≡◌, drop, Some, None, rules}
-use Rattle.contract_words.specs.Conditions.{first_holding}
+use Rattle.amt_values.specs.Conditions.{first_holding}
 use Rattle.group_records.specs.Reading.{record_faults, record_length}
 use Rattle.group_records.proofs.LoopSteps.{asks_here, asks_later, fault_here, fault_step, known_step, reading-err, reading-ok}
 use Rattle.group_records.proofs.RecordOctets.{whole_record}

@@ -1,5 +1,5 @@
 use Rattle.std.proofs.Common.{◌≡◌, true, ◌-◌, ◌++◌}
-use Rattle.contract_words.specs.Conditions.{first_holding}
+use Rattle.amt_values.specs.Conditions.{first_holding}
 use Rattle.group_records.specs.CarriedRecord.{known_records}
 use Rattle.group_records.specs.Reading.{carried_records_at, all_record_faults, asks_memory}
 use Rattle.group_records.proofs.report.read_records.Given as goal

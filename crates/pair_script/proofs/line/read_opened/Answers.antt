@@ -1,5 +1,5 @@
 use Rattle.std.proofs.Common.{sym, subst}
-use Rattle.contract_words.specs.Conditions.{First}
+use Rattle.amt_values.specs.Conditions.{First}
 use Rattle.script_lines.specs.Lines.{fields}
 use Rattle.script_lines.specs.Reading.{FailsFirst}
 use Rattle.pair_script.specs.Fault.{FailsAfterOpening, order_of_reasons}

@@ -4,8 +4,8 @@ use Rattle.std.proofs.lemmas.List.{map-append}
 use Rattle.amt_values.specs.declared.address.Ip.{Ip}
 use Rattle.amt_values.specs.Order.{ip_order}
 use Rattle.amt_values.proofs.Orders.{ip_order-exact, ip_order-total}
-use Rattle.contract_words.specs.Ascending.{ascending}
-use Rattle.contract_words.proofs.Sorting.{ascending-sorted}
+use Rattle.amt_values.specs.Ascending.{ascending}
+use Rattle.amt_values.proofs.Sorting.{ascending-sorted}
 use Rattle.source_filter.proofs.Compared.{compared, tied}
 use Rattle.group_records.specs.Written.{is_of_family}
 use Rattle.socket_merge.proofs.Changed.{group_of}

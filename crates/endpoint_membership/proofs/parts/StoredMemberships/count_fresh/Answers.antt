@@ -2,7 +2,7 @@ use Rattle.std.proofs.Common.{◌≡◌, Bool, List, Some, ◌+◌, ◌++◌, �
 use Rattle.std.specs.Map.Iter.{deref}
 use Rattle.std.proofs.lemmas.List.{length_push}
 use Rattle.amt_values.specs.EndpointValue.{EndpointValue}
-use Rattle.contract_words.specs.Ascending.{IsAscending}
+use Rattle.amt_values.specs.Ascending.{IsAscending}
 use Rattle.endpoint_membership.specs.EndpointGroup.{EndpointGroup}
 use Rattle.endpoint_membership.specs.Filters.{pairs_of}
 use Rattle.endpoint_membership.specs.Limits.{live_count}

@@ -2,7 +2,7 @@ use Rattle.std.proofs.Common.{◌≡◌, None, IsSome, List, sym, subst, filter,
 use Rattle.std.proofs.lemmas.Bool.Decides.{nat_tests}
 use Rattle.std.specs.BTreeSet as sorted
 use Rattle.std.specs.declared.cmp.Ordering.{Ordering}
-use Rattle.contract_words.specs.Ascending.{IsAscending}
+use Rattle.amt_values.specs.Ascending.{IsAscending}
 use Rattle.endpoint_membership.specs.Membership.{Membership, is_fresh, membership_order}
 use Rattle.endpoint_membership.specs.Memberships.{membership_in}
 use Rattle.endpoint_membership.specs.Stored.{only}

@@ -1,7 +1,7 @@
 use Rattle.std.proofs.Common.{map, ap, subst, true, false, ◌∙◌}
 use Rattle.std.specs.BTreeSet as sorted
 use Rattle.std.specs.declared.cmp.Ordering.{Ordering}
-use Rattle.contract_words.specs.Ascending.{placed}
+use Rattle.amt_values.specs.Ascending.{placed}
 use Rattle.endpoint_membership.specs.Membership.{membership_order}
 use Rattle.endpoint_membership.specs.Parts.{stored_membership}
 use Rattle.endpoint_membership.specs.declared.keys.LastRenewal.{LastRenewal}

@@ -1,6 +1,6 @@
 use Rattle.std.proofs.Common.{◌≡◌, None, Some, Option, if◌then◌else◌, List, sym, ap, subst, ◌∙◌}
-use Rattle.contract_words.specs.Ascending.{IsAscending, placed}
-use Rattle.contract_words.proofs.AscendingLaws.{IsAscending-placed}
+use Rattle.amt_values.specs.Ascending.{IsAscending, placed}
+use Rattle.amt_values.proofs.AscendingLaws.{IsAscending-placed}
 use Rattle.endpoint_membership.specs.EndpointGroup.{EndpointGroup, same_endpoint_group}
 use Rattle.endpoint_membership.specs.Membership.{Membership, endpoint_group_of, membership_order}
 use Rattle.endpoint_membership.specs.Memberships.{membership_in}

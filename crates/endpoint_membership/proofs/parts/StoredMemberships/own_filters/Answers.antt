@@ -1,7 +1,7 @@
 use Rattle.std.proofs.Common.{true, false, cond, List, ◌++◌, None, Some, sym, ap, subst, refl, ◌∙◌}
 use Rattle.std.specs.BTreeMap.{get}
 use Rattle.amt_values.specs.Order.{ip_order}
-use Rattle.contract_words.specs.Ascending.{IsAscending}
+use Rattle.amt_values.specs.Ascending.{IsAscending}
 use Rattle.endpoint_membership.specs.EndpointGroup.{EndpointGroup, same_endpoint, same_group}
 use Rattle.endpoint_membership.specs.Membership.{Membership, membership_order}
 use Rattle.endpoint_membership.specs.declared.after_report.RenewedFilter.{RenewedFilter}

@@ -1,5 +1,5 @@
 use Rattle.std.proofs.Common.{◌≡◌, None, take, if◌then◌else◌}
-use Rattle.contract_words.specs.Ascending.{IsAscending, has}
+use Rattle.amt_values.specs.Ascending.{IsAscending, has}
 use Rattle.endpoint_membership.specs.EndpointGroup.{EndpointGroup, endpoint_group_order}
 use Rattle.endpoint_membership.specs.Membership.{membership_order}
 use Rattle.endpoint_membership.specs.Memberships.{membership_in}

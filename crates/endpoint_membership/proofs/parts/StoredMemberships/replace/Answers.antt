@@ -1,8 +1,8 @@
 use Rattle.std.proofs.Common.{◌≡◌, true, not, filter, Option, None, if◌then◌else◌, List, sym, ap, subst, ◌∙◌}
 use Rattle.std.specs.List.{AllByRecursion}
 use Rattle.std.specs.Option.{option_or}
-use Rattle.contract_words.specs.Ascending.{IsAscending, has}
-use Rattle.contract_words.proofs.AscendingLaws.{IsAscending-filter}
+use Rattle.amt_values.specs.Ascending.{IsAscending, has}
+use Rattle.amt_values.proofs.AscendingLaws.{IsAscending-filter}
 use Rattle.endpoint_membership.specs.EndpointGroup.{endpoint_group_order}
 use Rattle.endpoint_membership.specs.Membership.{Membership, endpoint_group_of, membership_order}
 use Rattle.endpoint_membership.specs.Memberships.{membership_in}

@@ -1,5 +1,5 @@
 use Rattle.std.proofs.Common.{None, List, if◌then◌else◌, ap, ◌∙◌}
-use Rattle.contract_words.specs.Ascending.{has}
+use Rattle.amt_values.specs.Ascending.{has}
 use Rattle.endpoint_membership.specs.EndpointGroup.{EndpointGroup, endpoint_group_order}
 use Rattle.endpoint_membership.specs.Memberships.{membership_in}
 use Rattle.endpoint_membership.proofs.SetTogether.{undone}

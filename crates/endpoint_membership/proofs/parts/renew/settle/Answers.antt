@@ -2,7 +2,7 @@ use Rattle.std.proofs.Common.{List, option_map, sym, ap, subst, ◌∙◌}
 use Rattle.std.specs.Option.{option_or}
 use Rattle.std.specs.Vec.Iter.{into_iter_items}
 use Rattle.std.proofs.lemmas.Map.Keys.{sorted_tail}
-use Rattle.contract_words.specs.Ascending.{IsAscending}
+use Rattle.amt_values.specs.Ascending.{IsAscending}
 use Rattle.endpoint_membership.specs.Filters.{filter_at}
 use Rattle.endpoint_membership.specs.Membership.{Membership, endpoint_group_of, membership_order}
 use Rattle.endpoint_membership.specs.Memberships.{membership_in}

@@ -2,7 +2,7 @@ use Rattle.std.proofs.Common.{◌≡◌, true, is_some, option_map}
 use Rattle.std.specs.List.{AllByRecursion}
 use Rattle.std.specs.Option.{option_or}
 use Rattle.std.specs.Vec.Iter.{into_iter_items}
-use Rattle.contract_words.specs.Ascending.{IsAscending}
+use Rattle.amt_values.specs.Ascending.{IsAscending}
 use Rattle.endpoint_membership.specs.EndpointGroup.{EndpointGroup}
 use Rattle.endpoint_membership.specs.Filters.{filter_at, pairs_of}
 use Rattle.endpoint_membership.specs.Membership.{endpoint_group_of, membership_order}

@@ -1,6 +1,6 @@
 use Rattle.std.proofs.Common.{◌≡◌, List, None, if◌then◌else◌, refl, sym, ap, subst, ◌∙◌}
-use Rattle.contract_words.specs.Ascending.{IsAscending, has}
-use Rattle.contract_words.proofs.AscendingLaws.{IsAscending-filter}
+use Rattle.amt_values.specs.Ascending.{IsAscending, has}
+use Rattle.amt_values.proofs.AscendingLaws.{IsAscending-filter}
 use Rattle.endpoint_membership.specs.Membership.{is_fresh, membership_order}
 use Rattle.std.specs.Option.{option_or}
 use Rattle.endpoint_membership.specs.EndpointGroup.{EndpointGroup, endpoint_group_order}

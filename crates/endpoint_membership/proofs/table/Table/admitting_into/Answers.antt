@@ -1,7 +1,7 @@
 use Rattle.std.proofs.Common.{List, length, sym, ap, subst, ◌∙◌, arith}
 use Rattle.amt_values.specs.Order.{endpoint_order}
 use Rattle.amt_values.specs.EndpointValue.{EndpointValue}
-use Rattle.contract_words.specs.Ascending.{IsAscending, has}
+use Rattle.amt_values.specs.Ascending.{IsAscending, has}
 use Rattle.endpoint_membership.specs.Admission.{is_admitted}
 use Rattle.endpoint_membership.specs.Limits.{live_count}
 use Rattle.endpoint_membership.specs.Table.{Holds, TableValue}

@@ -1,6 +1,6 @@
 use Rattle.std.proofs.Common.{◌∙◌, sym, subst}
-use Rattle.contract_words.specs.Ascending.{IsAscending}
-use Rattle.contract_words.proofs.AscendingLaws.{IsAscending-filter}
+use Rattle.amt_values.specs.Ascending.{IsAscending}
+use Rattle.amt_values.proofs.AscendingLaws.{IsAscending-filter}
 use Rattle.endpoint_membership.specs.Membership.{is_fresh, membership_order}
 use Rattle.endpoint_membership.specs.Limits.{IsWithin}
 use Rattle.endpoint_membership.specs.Table.{Holds, IsWithinLimits, TableValue}

@@ -1,5 +1,5 @@
 use Rattle.std.proofs.Common.{List, ℕ, rules, sym, subst, ◌≡◌, []}
-use Rattle.contract_words.specs.Ascending.{IsAscending}
+use Rattle.amt_values.specs.Ascending.{IsAscending}
 use Rattle.endpoint_membership.specs.Membership.{Membership, membership_order}
 use Rattle.endpoint_membership.specs.Table.{Holds, TableSettings}
 use Rattle.endpoint_membership.proofs.HoldsAfter.{Holds-new, IsAscending-none, table_of}

@@ -1,7 +1,7 @@
 use Rattle.std.proofs.Common.{◌≡◌, ℕ, ◌+◌, ◌-◌, max, List, Option, None, Some, sym, ap, subst, ◌∙◌, arith}
 use Rattle.std.specs.Option.{option_map}
 use Rattle.amt_values.specs.declared.address.Ip.{Ip}
-use Rattle.contract_words.specs.Conditions.{first_holding}
+use Rattle.amt_values.specs.Conditions.{first_holding}
 use Rattle.source_filter.specs.Filter.{FilterValue}
 use Rattle.socket_merge.specs.History.{AcceptedCall, Change, Socket, socket_named, sockets_after, with_call}
 use Rattle.socket_merge.specs.Kept.{AreNeeded, HasTally, IsConsistent, share_of, tally_at, tally_changed}

@@ -4,7 +4,7 @@ use Rattle.std.proofs.Common.{◌≡◌, ℕ, List, [], ◌∷◌, ◌++◌, map
 use Rattle.std.specs.List.{find}
 use Rattle.std.specs.Option.{option_map}
 use Rattle.std.proofs.lemmas.Bool.{eqb-true, not-false}
-use Rattle.contract_words.specs.Conditions.{Conditions, NoneHolds, first_holding, first_of, unless}
+use Rattle.amt_values.specs.Conditions.{Conditions, NoneHolds, first_holding, first_of, unless}
 
 pub skipped : {Cause : Type 0} (holds : Bool) (cause : Cause) (rest : Conditions Cause) → first_holding ((holds, cause) ∷ rest) ≡ None
     → (holds ≡ false) × (first_holding rest ≡ None)

@@ -2,7 +2,7 @@ use Rattle.std.proofs.Common.{◌≡◌, ◌++◌, ℕ, List, Option, Some, None
 use Rattle.std.specs.Option.{IfSome}
 use Rattle.std.specs.Fmt.{WritesInCalls}
 use Rattle.std.proofs.lemmas.Fmt.{contents_after_writes}
-use Rattle.contract_words.proofs.items.Items+u8.write_fmt.Goals as goal
+use Rattle.amt_values.proofs.items.Items+u8.write_fmt.Goals as goal
 
 -- each call of a writer puts its text at the end
 abbrev puts : List ℕ → List ℕ → List ℕ → Type 0

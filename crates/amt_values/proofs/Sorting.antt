@@ -15,8 +15,8 @@ use Rattle.std.proofs.lemmas.List.Kept.{IsStrictlySortedBy-dedup}
 use Rattle.std.proofs.lemmas.List.Sorted.{list_any-IsPermutation, searchable_from_sorted}
 use Rattle.std.proofs.lemmas.Map.Keys.{Less-from_sorted}
 use Rattle.std.proofs.lemmas.Map.Lookups.{CmpEqualImpliesEq}
-use Rattle.contract_words.specs.Ascending.{has, IsAscending, ascending}
-use Rattle.contract_words.proofs.AscendingLaws.{Equal-from_test, has-ascending, IsAscending-ascending, same_ascending}
+use Rattle.amt_values.specs.Ascending.{has, IsAscending, ascending}
+use Rattle.amt_values.proofs.AscendingLaws.{Equal-from_test, has-ascending, IsAscending-ascending, same_ascending}
 
 either_again : (a b c : Bool) → a ≡ b → (a || c) ≡ (a || (b || c))
 either_again true b c same = refl

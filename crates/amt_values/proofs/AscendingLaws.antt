@@ -12,7 +12,7 @@ use Rattle.std.proofs.lemmas.List.Kept.{IsStrictlySortedBy-filter}
 use Rattle.std.proofs.lemmas.Map.Keys.{sorted_tail}
 use Rattle.std.proofs.lemmas.Map.Lookups.{CmpEqualImpliesEq, btree_set_from_contains}
 use Rattle.std.proofs.lemmas.Map.Views.{any-filter_same}
-use Rattle.contract_words.specs.Ascending.{has, IsAscending, placed, ascending, union, difference, intersection}
+use Rattle.amt_values.specs.Ascending.{has, IsAscending, placed, ascending, union, difference, intersection}
 
 twice : (a b c : Bool) → a ≡ b → (b || c) ≡ (a || (b || c))
 twice true b c same = ap (λ t. t || c) (sym same)

@@ -1,4 +1,0 @@
-pub mod AnswerLaws
-pub mod AscendingLaws
-pub mod ConditionLaws
-pub mod Sorting
