@@ -23,7 +23,7 @@ use Rattle.socket_merge.specs.Refusal.{family_of}
 use Rattle.relay_machine.specs.Updates.{report_in}
 use Rattle.relay_machine.specs.declared.outcome.Unlawful.{Unlawful}
 use Rattle.script_lines.specs.Texts.{hex_text, nonce_text}
-use Rattle.fault_texts.specs.Texts.{head_text, refusal_text}
+use Rattle.script_lines.specs.FaultTexts.{head_text, refusal_text}
 use Rattle.amt_script.specs.Texts.{sources_text, unlawful_text}
 use Rattle.amt_dump.specs.Queries.{query_in}
 

@@ -2,7 +2,7 @@
 
 ghost use Rattle.std.specs.Prelude.{◌≡◌, ◌≤◌, ◌++◌, codes, length, Ok, OnOk};
 ghost use Rattle.amt_messages.specs.Messages.{IsSendable};
-ghost use Rattle.fault_texts.specs.Texts.{refusal_text};
+ghost use Rattle.script_lines.specs.FaultTexts.{refusal_text};
 ghost use Rattle.amt_dump.specs.Texts.{carried_lines, datagram_lines, line_of, reading_lines};
 
 use crate::line::begin_line;
@@ -11,7 +11,7 @@ use crate::query_text::append_carried_query;
 use crate::report_text::append_carried_report;
 use amt_messages::{DecodeFault, Message, Refused, decode};
 use amt_values::Bytes;
-use fault_texts::append_refusal;
+use script_lines::append_refusal;
 use std::alloc::{AllocError, Global};
 
 fn append_refused(text: &mut Bytes, number: u32, refusal: &Refused) -> Result<(), AllocError>

@@ -8,9 +8,8 @@ ghost use Rattle.amt_dump.specs.Texts.{head_words, limited_words, line_of, mac_w
 use crate::line::begin_line;
 use amt_messages::Message;
 use amt_values::{Bytes, Endpoint, Ip, Mac48, append_numeral};
-use fault_texts::append_head_fault;
 use inner_datagrams::{Head, HeadFault, packet_head};
-use script_lines::{append_hex, append_ip, append_nonce, append_peer};
+use script_lines::{append_head_fault, append_hex, append_ip, append_nonce, append_peer};
 use std::alloc::AllocError;
 
 fn append_mac(text: &mut Bytes, mac: &Mac48, nonce: u32) -> Result<(), AllocError>

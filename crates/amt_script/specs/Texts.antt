@@ -22,7 +22,7 @@ use Rattle.relay_machine.specs.declared.settings.Settings.{Settings}
 use Rattle.relay_machine.specs.Answers.{outcome_of, rows_after, sends_of}
 use Rattle.script_lines.specs.Texts.{hex_text, mode_text, send_line}
 use Rattle.script_lines.specs.Running.{script_text}
-use Rattle.fault_texts.specs.Texts.{head_text, inner_text, refusal_text, report_text}
+use Rattle.script_lines.specs.FaultTexts.{head_text, inner_text, refusal_text, report_text}
 use Rattle.amt_script.specs.declared.script.RelayItem.{RelayItem}
 use Rattle.amt_script.specs.declared.script.RelayItem.TheVariants as items
 use Rattle.amt_script.specs.declared.script.RelayScript.{RelayScript}

@@ -8,8 +8,8 @@ ghost use Rattle.amt_script.specs.Texts.{limit_text, not_forwarded_text, unlawfu
 
 use amt_values::Bytes;
 use endpoint_membership::LimitFault;
-use fault_texts::{append_head_fault, append_inner_fault, append_report_fault};
 use relay_machine::{NotForwarded, Unlawful};
+use script_lines::{append_head_fault, append_inner_fault, append_report_fault};
 use std::alloc::AllocError;
 
 /// Puts at the end why an Update has no lawful report.

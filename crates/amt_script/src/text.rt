@@ -9,9 +9,8 @@ ghost use Rattle.amt_script.specs.Texts.{answer_line, outcome_text, event_line, 
 
 use crate::fault_text::{append_limit, append_not_forwarded, append_unlawful};
 use amt_values::{Bytes, Peer, append_numeral, print_peer};
-use fault_texts::append_refusal;
 use relay_machine::{Event, NotForwarded, Outcome, Step};
-use script_lines::{append_hex, append_numbered, append_send};
+use script_lines::{append_hex, append_numbered, append_refusal, append_send};
 use std::alloc::{AllocError, Global};
 
 fn append_queried(text: &mut Bytes, v6: bool, limited: bool) -> Result<(), AllocError>

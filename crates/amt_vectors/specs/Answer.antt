@@ -4,7 +4,7 @@ use Rattle.amt_messages.specs.declared.refusal.Refused.{Refused}
 use Rattle.amt_messages.specs.Refusal.{first_refusal}
 use Rattle.amt_values.specs.declared.address.Ip.{Ip as Address}
 use Rattle.amt_values.specs.Text.{IsIpText, ip_text}
-use Rattle.fault_texts.specs.Texts.{refusal_text, sum_text}
+use Rattle.script_lines.specs.FaultTexts.{refusal_text, sum_text}
 use Rattle.igmp_records.specs.Code.{code_value as code_value4}
 use Rattle.inner_datagrams.specs.Checksum.{internet_sum_of}
 use Rattle.mld_records.specs.Code.{code_value as code_value6}

@@ -9,12 +9,11 @@ ghost use Rattle.amt_vectors.specs.Reading.{CanBeAsked};
 use crate::row::Question;
 use amt_messages::{DecodeFault, decode};
 use amt_values::{Bytes, parse_ip, print_ip, print_numeral};
-use fault_texts::append_refusal;
 use igmp_records::code_value4;
 use inner_datagrams::internet_sum;
 use mld_records::code_value6;
 use response_mac::hmac_sha256;
-use script_lines::append_hex;
+use script_lines::{append_hex, append_refusal};
 use std::alloc::{AllocError, Global};
 
 // Octets in hexadecimal digits.

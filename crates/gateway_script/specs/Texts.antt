@@ -1,7 +1,7 @@
 -- What is written of a gateway's steps.
 use Rattle.std.specs.Prelude.{ℕ, List, [], ◌∷◌, ◌++◌, codes, decimal, flat_map, map, Option, Some, None}
 use Rattle.amt_values.specs.Text.{ip_text, peer_text}
-use Rattle.fault_texts.specs.Texts.{head_text, inner_text, refusal_text, report_text}
+use Rattle.script_lines.specs.FaultTexts.{head_text, inner_text, refusal_text, report_text}
 use Rattle.gateway_machine.specs.declared.event.GatewayEvent.{GatewayEvent}
 use Rattle.gateway_machine.specs.declared.outcome.GatewayOutcome.{GatewayOutcome}
 use Rattle.gateway_machine.specs.declared.outcome.GatewayOutcome.TheVariants.{Quiet, Drawn, Discovering, Requesting, Active, Idle, Changed, Kept, Delivered, SocketRefused, Ignored as IgnoredAs}

@@ -5,9 +5,11 @@ ghost use Rattle.gateway_machine.specs.declared.outcome.Ignored.TheVariants.{Non
 ghost use Rattle.gateway_script.specs.Texts.{ignored_text, outcome_text, socket_refusal_text};
 
 use amt_values::Bytes;
-use fault_texts::{append_head_fault, append_inner_fault, append_refusal, append_report_fault};
 use gateway_machine::{GatewayOutcome, Ignored, SocketRefusal};
-use script_lines::{append_nonce, append_numbered};
+use script_lines::{
+    append_head_fault, append_inner_fault, append_nonce, append_numbered, append_refusal,
+    append_report_fault,
+};
 use std::alloc::{AllocError, Global};
 
 fn append_socket_refusal(text: &mut Bytes, refusal: SocketRefusal) -> Result<(), AllocError>

@@ -1,4 +1,5 @@
 pub mod Counting
+pub mod FaultTexts
 pub mod Form
 pub mod Kind
 pub mod Lines

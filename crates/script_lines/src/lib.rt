@@ -1,8 +1,11 @@
-//! The lines of scripts, and what is said over every kind of script.
+//! The lines of scripts, what is said over every kind of script, and the texts of what is wrong with octets that
+//! come in, as the scripts of both ends print them.
 //!
 //! Contract: octets are read as a script of a kind exactly where their lines say its statements, else as the
 //! first bad line and the first reason in it; a kind says what a line says, and what is wrong with it.
-//! It knows no machine, no kind of script, and sinks by their trait alone.
+//! Each fault of octets has one text, which is put at the end of what was printed before.
+//! It knows no machine, no kind of script, of messages and datagrams their faults alone, and sinks by their trait
+//! alone.
 //! Standard: none of its own; the formats stand in docs/FORMATS.md.
 #![tactic(auto)]
 
@@ -12,6 +15,7 @@ mod fields;
 mod held;
 mod kind;
 mod lines;
+mod octet_faults;
 mod reading;
 mod reason;
 mod running;
@@ -24,6 +28,9 @@ pub use fields::{is_word, next_field, only_field, two_fields};
 pub use held::{HELD_SIZE, write_held, write_where_full};
 pub use kind::ScriptKind;
 pub use lines::{next_line, without_carriage_return};
+pub use octet_faults::{
+    append_head_fault, append_inner_fault, append_refusal, append_report_fault,
+};
 pub use reading::{MOST_OCTETS_OF_A_LINE, is_plain, read_script, split_statement};
 pub use reason::Reason;
 pub use running::{ScriptRun, run_script};

@@ -1,12 +1,12 @@
 //! What is wrong with octets that come in. It knows no machine and no script.
 
 ghost use Rattle.std.specs.Prelude.{◌≡◌, ◌++◌, OnOk};
-ghost use Rattle.fault_texts.specs.Texts.{head_text, inner_text, refusal_text, report_text, sum_text, sums_text};
+ghost use Rattle.script_lines.specs.FaultTexts.{head_text, inner_text, refusal_text, report_text, sum_text, sums_text};
 
+use crate::text::append_hex;
 use amt_messages::Refused;
 use amt_values::Bytes;
 use inner_datagrams::{HeadFault, InnerFault};
-use script_lines::append_hex;
 use source_filter::ReportFault;
 use std::alloc::AllocError;
 
