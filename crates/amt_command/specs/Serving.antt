@@ -13,8 +13,8 @@ use Rattle.serving_commands.specs.Reading.{Decides, TellsFault}
 use Rattle.serving_commands.specs.Texts.{settings_line}
 use Rattle.serving_commands.specs.declared.fault.ServingFault.{ServingFault}
 use Rattle.serving_commands.specs.declared.fault.ServingFault.TheVariants as faults
-use Rattle.serving_turns.specs.declared.end.End.{End}
-use Rattle.serving_turns.specs.declared.end.End.TheVariants as ends
+use Rattle.amt_ports.specs.declared.end.End.{End}
+use Rattle.amt_ports.specs.declared.end.End.TheVariants as ends
 use Rattle.script_lines.specs.Writing.{WritesPrefix}
 use Rattle.amt_command.specs.Ending.{line_of, status_of}
 use Rattle.amt_command.specs.declared.ending.Ending.{Ending}

@@ -16,11 +16,10 @@ ghost use Rattle.amt_command.specs.Serving.{ComesTo, Shows};
 use crate::ending::Ending;
 use crate::serving::{Report, ending_of_fault, write_report};
 use amt_live::Live;
-use amt_ports::{Files, Sink};
+use amt_ports::{End, Files, Sink};
 use amt_values::Bytes;
 use gateway_command::{report_text, run_gateway};
 use gateway_serving::GatewayServed;
-use serving_turns::End;
 use std::alloc::{AllocError, Global};
 
 impl Report for GatewayServed {

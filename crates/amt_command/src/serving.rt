@@ -11,10 +11,9 @@ ghost use Rattle.amt_command.specs.Serving.{HasLine, Reporting, Shows, ending_of
 use crate::ending::Ending;
 use crate::writing::write_text;
 use amt_config::ConfigFault;
-use amt_ports::Sink;
+use amt_ports::{End, Sink};
 use amt_values::Bytes;
 use serving_commands::{ServingFault, settings_line};
-use serving_turns::End;
 use std::alloc::{AllocError, Global};
 
 /// The report of a run.

@@ -1,4 +1,10 @@
+pub mod Bursts
+pub mod EndCauses
 pub mod Given
+pub mod Lists
+pub mod SoFar
 pub mod Taken
 pub mod Told
+pub mod Trying
+pub mod Waits
 pub mod Written

@@ -1,7 +1,11 @@
 pub mod AdaptedDevice
+pub mod Answers
 pub mod Arrivals
+pub mod Bursts
 pub mod Causes
 pub mod Contents
+pub mod Devices
+pub mod EndCauses
 pub mod ListedSpawner
 pub mod MemFeed
 pub mod MemFiles
@@ -19,3 +23,4 @@ pub mod Sends
 pub mod Starts
 pub mod Tally
 pub mod Told
+pub mod Tried

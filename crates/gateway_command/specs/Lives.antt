@@ -2,7 +2,7 @@
 use Rattle.amt_live.specs.declared.devices.GatewayDevices.{GatewayDevices}
 use Rattle.gateway_serving.specs.Devices.{Devices, devices_seen}
 use Rattle.serving_commands.specs.Lives.{Tells}
-use Rattle.serving_turns.specs.Devices.{feed_seen, link_seen, out_seen, words_seen}
+use Rattle.amt_ports.specs.Devices.{feed_seen, link_seen, out_seen, words_seen}
 
 module _ {V L F C W O P T : Type 0} where
   abbrev pub set_seen : Tells V L F C W O P T → GatewayDevices L F O C W → Devices

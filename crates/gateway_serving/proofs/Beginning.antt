@@ -11,9 +11,9 @@ use Rattle.gateway_machine.specs.Runs.{answer_after, run_of}
 use Rattle.gateway_machine.specs.declared.event.GatewayEvent.{GatewayEvent}
 use Rattle.gateway_machine.specs.declared.event.GatewayEvent.TheVariants.{Moment, Nonce}
 use Rattle.gateway_machine.specs.declared.settings.GatewaySettings.{GatewaySettings}
-use Rattle.serving_turns.specs.Answers.{refused, taken}
-use Rattle.serving_turns.specs.Devices.{LinkSeen, OutSeen}
-use Rattle.serving_turns.specs.declared.end.End.TheVariants.{WordsFault}
+use Rattle.amt_ports.specs.Answers.{refused, taken}
+use Rattle.amt_ports.specs.Devices.{LinkSeen, OutSeen}
+use Rattle.amt_ports.specs.declared.end.End.TheVariants.{WordsFault}
 use Rattle.amt_ports.proofs.Told.{AppendsAll-none}
 use Rattle.gateway_serving.specs.Events.{moments_in, nonce_of}
 use Rattle.gateway_serving.specs.Openings.{OpensSo}

@@ -7,11 +7,11 @@ use Rattle.amt_ports.specs.declared.feed.FeedAnswer.TheVariants.{Packet, Closed 
 use Rattle.gateway_machine.specs.declared.event.GatewayEvent.{GatewayEvent}
 use Rattle.gateway_machine.specs.Settings.{family_of}
 use Rattle.gateway_machine.specs.declared.settings.GatewaySettings.{GatewaySettings}
-use Rattle.serving_turns.specs.Bursts.{AskedSo, IsNext}
-use Rattle.serving_turns.specs.Devices.{FeedSeen}
-use Rattle.serving_turns.specs.declared.asked.Asked.{Asked}
-use Rattle.serving_turns.specs.declared.end.End.{End}
-use Rattle.serving_turns.proofs.Lists.{AnswersAll-of, one_answer}
+use Rattle.amt_ports.specs.Bursts.{AskedSo, IsNext}
+use Rattle.amt_ports.specs.Devices.{FeedSeen}
+use Rattle.amt_ports.specs.declared.asked.Asked.{Asked}
+use Rattle.amt_ports.specs.declared.end.End.{End}
+use Rattle.amt_ports.proofs.Lists.{AnswersAll-of, one_answer}
 use Rattle.gateway_serving.specs.Counting.{is_bad, is_line, is_starved_line}
 use Rattle.gateway_serving.specs.Events.{call_of, calls_in}
 use Rattle.gateway_serving.specs.Hearing.{HearsControlLine, one_if}

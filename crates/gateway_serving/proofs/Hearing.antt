@@ -8,9 +8,9 @@ use Rattle.amt_ports.specs.declared.link.LinkAnswer.{LinkAnswer}
 use Rattle.amt_ports.specs.declared.link.LinkAnswer.TheVariants.{Datagram as DatagramCame, Closed as LinkClosed}
 use Rattle.amt_values.specs.declared.peer.Peer.{Peer}
 use Rattle.gateway_machine.specs.declared.event.GatewayEvent.{GatewayEvent}
-use Rattle.serving_turns.specs.Answers.{Taken, unless_starved}
-use Rattle.serving_turns.specs.Devices.{LinkSeen, OutSeen}
-use Rattle.serving_turns.proofs.Lists.{AnswersAll-taken, one_answer}
+use Rattle.amt_ports.specs.Answers.{Taken, unless_starved}
+use Rattle.amt_ports.specs.Devices.{LinkSeen, OutSeen}
+use Rattle.amt_ports.proofs.Lists.{AnswersAll-taken, one_answer}
 use Rattle.gateway_serving.specs.Counting.{is_datagram}
 use Rattle.gateway_serving.specs.Events.{datagram_of, datagrams_in}
 use Rattle.gateway_serving.specs.Hearing.{HearsOne, one_if}

@@ -2,7 +2,7 @@
 use Rattle.std.proofs.Common.{ℕ, Bool, List, [], ◌∷◌, sym, subst}
 use Rattle.gateway_machine.specs.declared.event.GatewayEvent.{GatewayEvent}
 use Rattle.gateway_script.specs.SocketLine.{IsSocketLine}
-use Rattle.serving_turns.specs.Devices.{LinkSeen, OutSeen}
+use Rattle.amt_ports.specs.Devices.{LinkSeen, OutSeen}
 use Rattle.socket_merge.specs.FullReport.{family_by}
 use Rattle.gateway_serving.specs.Hearing.{HearsControlLine}
 use Rattle.gateway_serving.specs.Servers.{AtWork, IsAlike, Takes, Tallies, at_work, counts_in}

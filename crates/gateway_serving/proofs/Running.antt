@@ -15,13 +15,13 @@ use Rattle.amt_ports.specs.declared.link.LinkAnswer.TheVariants.{Closed as LinkC
 use Rattle.gateway_machine.specs.Settings.{family_of}
 use Rattle.gateway_machine.specs.declared.event.GatewayEvent.{GatewayEvent}
 use Rattle.group_records.specs.declared.family.Family.{Family}
-use Rattle.serving_turns.specs.Answers.{Taken}
-use Rattle.serving_turns.specs.Causes.{IsCauseOf, IsCausedBy}
-use Rattle.serving_turns.specs.Devices.{AnswersAll}
-use Rattle.serving_turns.specs.declared.end.End.{End}
-use Rattle.serving_turns.specs.declared.end.End.TheVariants.{Turns, LinkFault, FeedFault, WordsFault}
+use Rattle.amt_ports.specs.Answers.{Taken}
+use Rattle.amt_ports.specs.EndCauses.{IsCauseOf, IsCausedBy}
+use Rattle.amt_ports.specs.Devices.{AnswersAll}
+use Rattle.amt_ports.specs.declared.end.End.{End}
+use Rattle.amt_ports.specs.declared.end.End.TheVariants.{Turns, LinkFault, FeedFault, WordsFault}
 use Rattle.amt_ports.proofs.Told.{AppendsAll-none, AppendsAll-then}
-use Rattle.serving_turns.proofs.Lists.{AnswersAll-then}
+use Rattle.amt_ports.proofs.Lists.{AnswersAll-then}
 use Rattle.gateway_serving.specs.Counting.{bad_lines_taken, datagrams_heard, lines_taken, starved_in}
 use Rattle.gateway_serving.specs.Devices.{Devices}
 use Rattle.gateway_serving.specs.Events.{events_from, events_of_turn}

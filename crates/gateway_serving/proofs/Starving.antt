@@ -6,7 +6,7 @@ use Rattle.gateway_machine.specs.declared.event.GatewayEvent.{GatewayEvent}
 use Rattle.gateway_machine.specs.declared.event.GatewayEvent.TheVariants.{Moment}
 use Rattle.gateway_machine.specs.declared.outcome.GatewayOutcome.{GatewayOutcome}
 use Rattle.gateway_machine.specs.declared.settings.GatewaySettings.{GatewaySettings}
-use Rattle.serving_turns.specs.Answers.{Taken}
+use Rattle.amt_ports.specs.Answers.{Taken}
 use Rattle.gateway_serving.specs.Events.{events_from, events_of_turn}
 use Rattle.gateway_serving.specs.Starving.{SendsAt, StarveWhereItSends}
 use Rattle.gateway_serving.specs.Turns.{Turn, moment_of_turn}

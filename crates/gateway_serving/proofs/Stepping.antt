@@ -13,7 +13,7 @@ use Rattle.gateway_machine.specs.declared.event.GatewayEvent.{GatewayEvent}
 use Rattle.gateway_machine.specs.declared.gateway.Gateway.{Gateway}
 use Rattle.gateway_machine.specs.declared.settings.GatewaySettings.{GatewaySettings}
 use Rattle.gateway_machine.specs.declared.step.PeerSend.{PeerSend}
-use Rattle.serving_turns.specs.Tried.{HasTried}
+use Rattle.amt_ports.specs.Tried.{HasTried}
 use Rattle.gateway_serving.specs.Courses.{events_so_far}
 use Rattle.gateway_serving.specs.Sending.{delivered_to, delivery_to, sends_to, to_peer}
 use Rattle.gateway_serving.specs.Servers.{AtWork, IsSameRun, Takes, counts_in, deliver_in, events_in, first_in, settings_in, wanted_packets, wanted_sends}

@@ -4,9 +4,9 @@ use Rattle.std.specs.Prelude.{Option}
 use Rattle.amt_ports.specs.Sends.{TriedSend}
 use Rattle.amt_values.specs.declared.peer.Peer.{Peer}
 use Rattle.gateway_machine.specs.declared.event.GatewayEvent.{GatewayEvent}
-use Rattle.serving_turns.specs.Devices.{LinkSeen, OutSeen}
-use Rattle.serving_turns.specs.Tried.{HasTried}
-use Rattle.serving_turns.proofs.Trying.{HasTried-none, HasTried-then}
+use Rattle.amt_ports.specs.Devices.{LinkSeen, OutSeen}
+use Rattle.amt_ports.specs.Tried.{HasTried}
+use Rattle.amt_ports.proofs.Trying.{HasTried-none, HasTried-then}
 use Rattle.gateway_serving.specs.Sending.{delivered_after, sends_after}
 use Rattle.gateway_serving.specs.Servers.{AtWork, HasEvents, IsAlike, IsSameRun, Takes, Tallies, at_work, counts_in, deliver_in, events_in, first_in, settings_in, wanted_packets, wanted_sends}
 use Rattle.gateway_serving.specs.declared.counts.Counts.{Counts}

@@ -8,9 +8,9 @@ use Rattle.amt_ports.specs.Told.{Appends}
 use Rattle.amt_ports.specs.declared.fault.Failed.{Failed}
 use Rattle.amt_values.specs.declared.peer.Peer.{Peer}
 use Rattle.gateway_machine.specs.declared.step.PeerSend.{PeerSend}
-use Rattle.serving_turns.specs.Devices.{LinkSeen, OutSeen}
-use Rattle.serving_turns.specs.Tried.{HasTried}
-use Rattle.serving_turns.proofs.Trying.{HasTried-failed, HasTried-none, HasTried-sent}
+use Rattle.amt_ports.specs.Devices.{LinkSeen, OutSeen}
+use Rattle.amt_ports.specs.Tried.{HasTried}
+use Rattle.amt_ports.proofs.Trying.{HasTried-failed, HasTried-none, HasTried-sent}
 use Rattle.gateway_serving.specs.Sending.{delivery_to, to_peer}
 use Rattle.gateway_serving.specs.Servers.{Tallies}
 use Rattle.gateway_serving.specs.Taking.{HasHandedOn, HasSent}

@@ -10,11 +10,11 @@ use Rattle.amt_ports.specs.declared.link.LinkAnswer.TheVariants.{Closed as LinkC
 use Rattle.gateway_machine.specs.declared.event.GatewayEvent.{GatewayEvent}
 use Rattle.gateway_machine.specs.Settings.{family_of}
 use Rattle.group_records.specs.declared.family.Family.{Family}
-use Rattle.serving_turns.specs.Answers.{Taken}
-use Rattle.serving_turns.specs.Bursts.{AreAsked, AskedSo}
-use Rattle.serving_turns.specs.Devices.{AnswersAll}
-use Rattle.serving_turns.specs.declared.end.End.{End}
-use Rattle.serving_turns.specs.declared.end.End.TheVariants.{Turns, Closed, LinkFault, FeedFault, WordsFault, SpawnFault, Memory}
+use Rattle.amt_ports.specs.Answers.{Taken}
+use Rattle.amt_ports.specs.Bursts.{AreAsked, AskedSo}
+use Rattle.amt_ports.specs.Devices.{AnswersAll}
+use Rattle.amt_ports.specs.declared.end.End.{End}
+use Rattle.amt_ports.specs.declared.end.End.TheVariants.{Turns, Closed, LinkFault, FeedFault, WordsFault, SpawnFault, Memory}
 use Rattle.gateway_serving.specs.Counting.{bad_lines_taken, datagrams_heard, lines_taken}
 use Rattle.gateway_serving.specs.Devices.{Devices}
 use Rattle.gateway_serving.specs.Events.{calls_in, datagrams_in, moments_in, nonces_in}

@@ -14,13 +14,13 @@ use Rattle.gateway_machine.specs.Settings.{family_of}
 use Rattle.gateway_machine.specs.declared.event.GatewayEvent.{GatewayEvent}
 use Rattle.gateway_machine.specs.declared.event.GatewayEvent.TheVariants.{Moment}
 use Rattle.group_records.specs.declared.family.Family.{Family}
-use Rattle.serving_turns.specs.Causes.{IsCauseOf}
-use Rattle.serving_turns.specs.Devices.{AnswersAll, FeedSeen, LinkSeen, OutSeen, WordsSeen}
-use Rattle.serving_turns.specs.Tried.{HasTried}
-use Rattle.serving_turns.specs.declared.end.End.{End}
-use Rattle.serving_turns.specs.declared.end.End.TheVariants.{LinkFault, FeedFault, WordsFault, Memory}
+use Rattle.amt_ports.specs.EndCauses.{IsCauseOf}
+use Rattle.amt_ports.specs.Devices.{AnswersAll, FeedSeen, LinkSeen, OutSeen, WordsSeen}
+use Rattle.amt_ports.specs.Tried.{HasTried}
+use Rattle.amt_ports.specs.declared.end.End.{End}
+use Rattle.amt_ports.specs.declared.end.End.TheVariants.{LinkFault, FeedFault, WordsFault, Memory}
 use Rattle.amt_ports.proofs.Told.{AppendsAll-none, AppendsAll-then}
-use Rattle.serving_turns.proofs.Trying.{HasTried-none}
+use Rattle.amt_ports.proofs.Trying.{HasTried-none}
 use Rattle.gateway_serving.specs.Counting.{bad_lines_taken, datagrams_heard, lines_taken, no_counts, starved_in}
 use Rattle.gateway_serving.specs.Devices.{Devices, devices_seen}
 use Rattle.gateway_serving.specs.Events.{events_from, events_of, first_moment, first_of, nonce_of}

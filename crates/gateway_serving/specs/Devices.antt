@@ -1,6 +1,6 @@
 -- What is seen of the devices of a serving gateway, before a call and after it.
 use Rattle.std.specs.Prelude.{ℕ, List, Option}
-use Rattle.serving_turns.specs.Devices.{FeedSeen, LinkSeen, OutSeen, WordsSeen}
+use Rattle.amt_ports.specs.Devices.{FeedSeen, LinkSeen, OutSeen, WordsSeen}
 
 -- the moments that the clock gave, where it tells them, and the other devices
 pub record Devices : Type 0 where

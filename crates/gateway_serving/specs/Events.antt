@@ -6,7 +6,7 @@ use Rattle.amt_ports.specs.declared.link.LinkAnswer.{LinkAnswer}
 use Rattle.amt_ports.specs.declared.link.LinkAnswer.TheVariants.{Datagram as DatagramCame, Nothing as NothingCame, Closed as LinkClosed}
 use Rattle.gateway_machine.specs.declared.event.GatewayEvent.{GatewayEvent}
 use Rattle.gateway_machine.specs.declared.event.GatewayEvent.TheVariants.{Datagram, Moment, Nonce}
-use Rattle.serving_turns.specs.Answers.{Taken, unless_starved}
+use Rattle.amt_ports.specs.Answers.{Taken, unless_starved}
 use Rattle.gateway_serving.specs.Runs.{Run, turns_of}
 use Rattle.gateway_serving.specs.Turns.{Bad, Called, Line, Starved, ControlAnswer, Turn, moment_of_turn}
 

@@ -1,6 +1,6 @@
 -- What is reported of a run.
 use Rattle.std.specs.Prelude.{ℕ}
-use Rattle.serving_turns.specs.declared.end.End.{End}
+use Rattle.amt_ports.specs.declared.end.End.{End}
 use Rattle.gateway_serving.specs.declared.counts.Counts.{Counts}
 use Rattle.gateway_serving.specs.declared.served.GatewayServed.{GatewayServed}
 

@@ -8,9 +8,9 @@ use Rattle.gateway_machine.specs.Settings.{family_of}
 use Rattle.gateway_machine.specs.declared.event.GatewayEvent.{GatewayEvent}
 use Rattle.gateway_machine.specs.declared.event.GatewayEvent.TheVariants.{Moment}
 use Rattle.group_records.specs.declared.family.Family.{Family}
-use Rattle.serving_turns.specs.Bursts.{IsBegun, IsClosed}
-use Rattle.serving_turns.specs.declared.end.End.{End}
-use Rattle.serving_turns.specs.declared.end.End.TheVariants.{Turns, Closed, LinkFault, FeedFault, WordsFault, SpawnFault, Memory}
+use Rattle.amt_ports.specs.Bursts.{IsBegun, IsClosed}
+use Rattle.amt_ports.specs.declared.end.End.{End}
+use Rattle.amt_ports.specs.declared.end.End.TheVariants.{Turns, Closed, LinkFault, FeedFault, WordsFault, SpawnFault, Memory}
 use Rattle.gateway_serving.specs.Settings.{first_events, opening_of, settings_of}
 use Rattle.gateway_serving.specs.Turns.{HasBegun, HasHeard, IsWhole, Turn, from_control, from_link}
 

@@ -9,9 +9,9 @@ use Rattle.gateway_machine.specs.Settings.{family_of}
 use Rattle.gateway_machine.specs.declared.event.GatewayEvent.{GatewayEvent}
 use Rattle.gateway_machine.specs.declared.settings.GatewaySettings.{GatewaySettings}
 use Rattle.group_records.specs.declared.family.Family.{Family}
-use Rattle.serving_turns.specs.Answers.{Taken}
-use Rattle.serving_turns.specs.Devices.{AnswersAll, FeedSeen, LinkSeen, OutSeen}
-use Rattle.serving_turns.specs.Tried.{HasTried}
+use Rattle.amt_ports.specs.Answers.{Taken}
+use Rattle.amt_ports.specs.Devices.{AnswersAll, FeedSeen, LinkSeen, OutSeen}
+use Rattle.amt_ports.specs.Tried.{HasTried}
 use Rattle.gateway_serving.specs.Counting.{is_bad, is_datagram, is_line, is_starved_line}
 use Rattle.gateway_serving.specs.Courses.{events_so_far}
 use Rattle.gateway_serving.specs.Events.{calls_in, datagrams_in}

@@ -4,10 +4,10 @@ use Rattle.amt_config.specs.declared.config.GatewayConfig.{GatewayConfig}
 use Rattle.amt_ports.specs.Told.{AppendsAll}
 use Rattle.amt_ports.specs.declared.feed.FeedAnswer.TheVariants.{Closed as FeedClosed}
 use Rattle.amt_ports.specs.declared.link.LinkAnswer.TheVariants.{Closed as LinkClosed}
-use Rattle.serving_turns.specs.Causes.{IsCauseOf}
-use Rattle.serving_turns.specs.Devices.{AnswersAll}
-use Rattle.serving_turns.specs.Tried.{HasTried}
-use Rattle.serving_turns.specs.declared.end.End.TheVariants.{LinkFault, FeedFault, WordsFault}
+use Rattle.amt_ports.specs.EndCauses.{IsCauseOf}
+use Rattle.amt_ports.specs.Devices.{AnswersAll}
+use Rattle.amt_ports.specs.Tried.{HasTried}
+use Rattle.amt_ports.specs.declared.end.End.TheVariants.{LinkFault, FeedFault, WordsFault}
 use Rattle.gateway_serving.specs.Counting.{AreCounted}
 use Rattle.gateway_serving.specs.Devices.{Devices}
 use Rattle.gateway_serving.specs.Events.{events_of, first_moment, first_of}

@@ -5,11 +5,11 @@ use Rattle.amt_ports.specs.Told.{AppendsAll}
 use Rattle.amt_ports.specs.declared.feed.FeedAnswer.TheVariants.{Closed as FeedClosed}
 use Rattle.amt_ports.specs.declared.link.LinkAnswer.TheVariants.{Closed as LinkClosed}
 use Rattle.gateway_machine.specs.declared.event.GatewayEvent.{GatewayEvent}
-use Rattle.serving_turns.specs.Causes.{IsCauseOf, IsCausedBy}
-use Rattle.serving_turns.specs.Devices.{AnswersAll}
-use Rattle.serving_turns.specs.declared.end.End.{End}
-use Rattle.serving_turns.specs.declared.end.End.TheVariants.{Turns, Closed, LinkFault, FeedFault, WordsFault, SpawnFault, Memory}
-use Rattle.serving_turns.specs.Answers.{Taken}
+use Rattle.amt_ports.specs.EndCauses.{IsCauseOf, IsCausedBy}
+use Rattle.amt_ports.specs.Devices.{AnswersAll}
+use Rattle.amt_ports.specs.declared.end.End.{End}
+use Rattle.amt_ports.specs.declared.end.End.TheVariants.{Turns, Closed, LinkFault, FeedFault, WordsFault, SpawnFault, Memory}
+use Rattle.amt_ports.specs.Answers.{Taken}
 use Rattle.group_records.specs.declared.family.Family.{Family}
 use Rattle.gateway_serving.specs.Counting.{bad_lines_taken, datagrams_heard, lines_taken, starved_in}
 use Rattle.gateway_serving.specs.Devices.{Devices}

@@ -5,7 +5,7 @@ use Rattle.gateway_machine.specs.Runs.{answer_after}
 use Rattle.gateway_machine.specs.declared.event.GatewayEvent.{GatewayEvent}
 use Rattle.gateway_machine.specs.declared.event.GatewayEvent.TheVariants.{Moment}
 use Rattle.gateway_machine.specs.declared.settings.GatewaySettings.{GatewaySettings}
-use Rattle.serving_turns.specs.Answers.{Taken}
+use Rattle.amt_ports.specs.Answers.{Taken}
 use Rattle.gateway_serving.specs.Events.{events_of_turn, nonces_in}
 use Rattle.gateway_serving.specs.Turns.{Turn, moment_of_turn}
 

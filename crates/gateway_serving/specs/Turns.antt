@@ -7,8 +7,8 @@ use Rattle.amt_ports.specs.declared.link.LinkAnswer.TheVariants.{Nothing as Noth
 use Rattle.gateway_machine.specs.declared.event.GatewayEvent.{GatewayEvent}
 use Rattle.gateway_script.specs.SocketLine.{IsSocketLine}
 use Rattle.group_records.specs.declared.family.Family.{Family}
-use Rattle.serving_turns.specs.Answers.{IsDatagram, Taken, taken}
-use Rattle.serving_turns.specs.Bursts.{AnswerKinds, IsBurst}
+use Rattle.amt_ports.specs.Answers.{IsDatagram, Taken, taken}
+use Rattle.amt_ports.specs.Bursts.{AnswerKinds, IsBurst}
 
 -- What becomes of a line of the control feed: it makes this socket call, which is an event; it makes none; or
 -- memory refused to read it, or refused its event.

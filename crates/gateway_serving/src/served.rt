@@ -4,7 +4,7 @@ ghost use Rattle.gateway_serving.specs.Counting.{no_counts};
 ghost use Rattle.gateway_serving.specs.Reports.{report_of};
 
 use crate::counts::Counts;
-use serving_turns::End;
+use amt_ports::End;
 
 /// What a run came to, in numbers.
 #[derive(Clone, Copy, Debug, PartialEq, Eq)]

@@ -1,6 +1,6 @@
 //! A whole run of a gateway. It must not know which devices it is over.
 ghost use Rattle.std.specs.Prelude.{◌≡◌, ◌≤◌, length};
-ghost use Rattle.serving_turns.specs.Devices.{WaitsBriefly, feed_seen, link_seen, out_seen, words_seen};
+ghost use Rattle.amt_ports.specs.Devices.{WaitsBriefly, feed_seen, link_seen, out_seen, words_seen};
 ghost use Rattle.gateway_serving.specs.Devices.{devices_seen};
 ghost use Rattle.gateway_serving.specs.Serving.{Serves};
 ghost use Rattle.gateway_serving.specs.Settings.{AreTurns, IsLawfulConfig};
@@ -8,8 +8,7 @@ ghost use Rattle.gateway_serving.specs.Settings.{AreTurns, IsLawfulConfig};
 use crate::served::GatewayServed;
 use crate::server::Server;
 use amt_config::GatewayConfig;
-use amt_ports::{Clock, Feed, Link, OutLink, Words};
-use serving_turns::{BUFFER, End};
+use amt_ports::{BUFFER, Clock, End, Feed, Link, OutLink, Words};
 use std::alloc::Global;
 
 /// Runs a gateway over these devices (RFC 7450, section 4.1.2).

@@ -3,7 +3,7 @@ use Rattle.std.specs.Prelude.{List}
 use Rattle.amt_live.specs.declared.devices.RelayDevices.{RelayDevices}
 use Rattle.relay_serving.specs.Devices.{Devices, devices_seen, outs_seen}
 use Rattle.serving_commands.specs.Lives.{Tells}
-use Rattle.serving_turns.specs.Devices.{OutSeen, feed_seen, link_seen, words_seen}
+use Rattle.amt_ports.specs.Devices.{OutSeen, feed_seen, link_seen, words_seen}
 
 module _ {V L F C W O P T : Type 0} where
   -- of its devices but its links out

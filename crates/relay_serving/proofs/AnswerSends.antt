@@ -9,9 +9,9 @@ use Rattle.amt_ports.specs.declared.fault.Failed.{Failed}
 use Rattle.amt_values.specs.Endpoint.{peer_of}
 use Rattle.amt_values.specs.declared.peer.Peer.{Peer}
 use Rattle.relay_machine.specs.declared.sends.OneSend.{OneSend}
-use Rattle.serving_turns.specs.Devices.{LinkSeen}
+use Rattle.amt_ports.specs.Devices.{LinkSeen}
 use Rattle.replication_workers.specs.Replication.{to_peer}
-use Rattle.serving_turns.proofs.Trying.{HasTried-failed, HasTried-sent}
+use Rattle.amt_ports.proofs.Trying.{HasTried-failed, HasTried-sent}
 use Rattle.relay_serving.specs.Counting.{HasAnswered}
 use Rattle.relay_serving.specs.declared.counts.Counts.{Counts}
 

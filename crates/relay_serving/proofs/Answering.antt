@@ -9,9 +9,9 @@ use Rattle.response_mac.specs.declared.secret.Secret.{Secret}
 use Rattle.relay_machine.specs.Courses.{each_after}
 use Rattle.relay_machine.specs.declared.event.Event.{Event}
 use Rattle.relay_machine.specs.declared.settings.Settings.{Settings}
-use Rattle.serving_turns.specs.Devices.{LinkSeen}
-use Rattle.serving_turns.specs.Tried.{HasTried}
-use Rattle.serving_turns.proofs.Trying.{HasTried-none, HasTried-then}
+use Rattle.amt_ports.specs.Devices.{LinkSeen}
+use Rattle.amt_ports.specs.Tried.{HasTried}
+use Rattle.amt_ports.proofs.Trying.{HasTried-none, HasTried-then}
 use Rattle.relay_serving.specs.Counting.{HasAnswered}
 use Rattle.relay_serving.specs.Sending.{answers_after, answers_to}
 use Rattle.relay_serving.specs.declared.counts.Counts.{Counts}

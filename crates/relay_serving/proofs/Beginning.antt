@@ -4,7 +4,7 @@ use Rattle.amt_ports.specs.Told.{Appends, AppendsAll}
 use Rattle.amt_ports.specs.declared.out_link.OutLink.{Ghosts}
 use Rattle.response_mac.specs.declared.secret.Secret.{Secret}
 use Rattle.relay_machine.specs.declared.event.Event.TheVariants.{Rotate}
-use Rattle.serving_turns.specs.declared.end.End.{End}
+use Rattle.amt_ports.specs.declared.end.End.{End}
 use Rattle.relay_serving.specs.Counting.{HasRefused, one_if}
 use Rattle.relay_serving.specs.Events.{moment_event, rotation, secret_by}
 use Rattle.relay_serving.specs.Servers.{HasEvents, counts_in}

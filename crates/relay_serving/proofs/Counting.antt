@@ -33,7 +33,7 @@ use Rattle.relay_machine.specs.Events.{now_of, secrets_of}
 use Rattle.relay_machine.specs.Settings.{table_settings_of}
 use Rattle.relay_machine.specs.Updates.{forwardable_records, report_in}
 use Rattle.relay_machine.proofs.Courses.{each_more, sum_more}
-use Rattle.serving_turns.specs.Devices.{LinkSeen}
+use Rattle.amt_ports.specs.Devices.{LinkSeen}
 use Rattle.replication_workers.specs.Replication.{to_peer}
 use Rattle.relay_serving.specs.Counting.{CountsAlike, HasAnswered, IsCounted, is_datagram, is_packet, no_counts, one_if, with_late, with_outcome}
 use Rattle.relay_serving.specs.Happenings.{Happening, events_among}

@@ -2,10 +2,10 @@
 use Rattle.std.proofs.Common.{ℕ, List, Result, Ok, Err, refl, subst}
 use Rattle.std.specs.Prelude.{IsErrOf}
 use Rattle.amt_ports.specs.declared.feed.FeedAnswer.{FeedAnswer}
-use Rattle.serving_turns.specs.Answers.{Taken}
-use Rattle.serving_turns.specs.Bursts.{AreAsked}
-use Rattle.serving_turns.specs.declared.end.End.{End}
-use Rattle.serving_turns.specs.declared.end.End.TheVariants.{Turns, Closed, LinkFault, FeedFault, WordsFault, SpawnFault, Memory}
+use Rattle.amt_ports.specs.Answers.{Taken}
+use Rattle.amt_ports.specs.Bursts.{AreAsked}
+use Rattle.amt_ports.specs.declared.end.End.{End}
+use Rattle.amt_ports.specs.declared.end.End.TheVariants.{Turns, Closed, LinkFault, FeedFault, WordsFault, SpawnFault, Memory}
 use Rattle.relay_serving.specs.Runs.{IsCut, IsUnfed, IsUnheard, of_link, of_feed}
 use Rattle.relay_serving.specs.Stages.{IsBegunBy}
 use Rattle.relay_serving.specs.Turning.{IsTurnBy}

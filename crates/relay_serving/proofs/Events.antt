@@ -7,7 +7,7 @@ use Rattle.amt_ports.specs.declared.feed.FeedAnswer.{FeedAnswer}
 use Rattle.amt_ports.specs.declared.link.LinkAnswer.{LinkAnswer}
 use Rattle.amt_ports.specs.declared.out_link.OutLink.{Ghosts}
 use Rattle.relay_machine.specs.declared.event.Event.{Event}
-use Rattle.serving_turns.specs.Answers.{Taken, unless_starved}
+use Rattle.amt_ports.specs.Answers.{Taken, unless_starved}
 use Rattle.relay_serving.specs.Counting.{HasRefused, with_starved}
 use Rattle.relay_serving.specs.Events.{datagram_of, datagrams_in, packet_of, packets_in}
 use Rattle.relay_serving.specs.Happenings.{Happening, Took, events_among}

@@ -12,12 +12,12 @@ use Rattle.amt_values.specs.declared.peer.Peer.{Peer}
 use Rattle.relay_machine.specs.Answers.{sends_of}
 use Rattle.relay_machine.specs.declared.event.Event.{Event}
 use Rattle.relay_machine.specs.declared.event.Event.TheVariants.{Datagram, Packet}
-use Rattle.serving_turns.specs.Answers.{Taken, refused, taken}
-use Rattle.serving_turns.specs.Devices.{FeedSeen, LinkSeen}
-use Rattle.serving_turns.proofs.Lists.{AnswersAll-taken, one_answer}
-use Rattle.serving_turns.proofs.SoFar.{GoesOn}
+use Rattle.amt_ports.specs.Answers.{Taken, refused, taken}
+use Rattle.amt_ports.specs.Devices.{FeedSeen, LinkSeen}
+use Rattle.amt_ports.proofs.Lists.{AnswersAll-taken, one_answer}
+use Rattle.amt_ports.proofs.SoFar.{GoesOn}
 use Rattle.replication_workers.specs.Replication.{to_peer}
-use Rattle.serving_turns.specs.Tried.{HasTried}
+use Rattle.amt_ports.specs.Tried.{HasTried}
 use Rattle.relay_serving.specs.Counting.{HasAnswered, HasRefused, with_packet}
 use Rattle.relay_serving.specs.Events.{datagrams_in, packets_in}
 use Rattle.relay_serving.specs.Sending.{answers_after}

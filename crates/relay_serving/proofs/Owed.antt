@@ -7,7 +7,7 @@ use Rattle.response_mac.specs.declared.secret.Secret.{Secret}
 use Rattle.relay_machine.specs.Published.{published_log}
 use Rattle.relay_machine.specs.declared.settings.Settings.{Settings}
 use Rattle.relay_machine.proofs.PublishedLog.{published_log-none}
-use Rattle.serving_turns.specs.Answers.{Taken}
+use Rattle.amt_ports.specs.Answers.{Taken}
 use Rattle.relay_serving.specs.Events.{beginning_of, datagrams_in, happenings_from, happenings_of_turn, packets_in, publishing_in}
 use Rattle.relay_serving.specs.Happenings.{Happening, Took, Published, events_among, published_events_among}
 use Rattle.relay_serving.specs.Serving.{IsPrompt}

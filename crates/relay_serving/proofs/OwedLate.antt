@@ -8,7 +8,7 @@ use Rattle.response_mac.specs.declared.secret.Secret.{Secret}
 use Rattle.relay_machine.specs.Published.{published_log}
 use Rattle.relay_machine.specs.declared.event.Event.{Event}
 use Rattle.relay_machine.specs.declared.settings.Settings.{Settings}
-use Rattle.serving_turns.specs.Answers.{Taken}
+use Rattle.amt_ports.specs.Answers.{Taken}
 use Rattle.relay_serving.specs.Events.{happenings_from, packets_in, publishing_in}
 use Rattle.relay_serving.specs.Happenings.{Happening, Took, events_among, published_events_among}
 use Rattle.relay_serving.specs.Servers.{Happens, HasEvents, first_in, happenings_in, owing_in, published_in, settings_in}

@@ -28,7 +28,7 @@ use Rattle.relay_machine.specs.declared.relay.Relay.{Relay}
 use Rattle.relay_machine.specs.declared.settings.Settings.{Settings}
 use Rattle.relay_machine.proofs.Onward.{RelayAt-payload}
 use Rattle.relay_machine.proofs.PublishedLog.{published_log-next}
-use Rattle.serving_turns.specs.Answers.{Taken, unless_starved}
+use Rattle.amt_ports.specs.Answers.{Taken, unless_starved}
 use Rattle.relay_serving.specs.Counting.{with_outcome, with_packet}
 use Rattle.relay_serving.specs.Events.{packet_of, packets_in}
 use Rattle.relay_serving.specs.declared.counts.Counts.{Counts}

@@ -12,12 +12,12 @@ use Rattle.amt_ports.specs.declared.link.LinkAnswer.{LinkAnswer}
 use Rattle.amt_ports.specs.declared.link.LinkAnswer.TheVariants.{Closed as LinkClosed}
 use Rattle.amt_ports.specs.declared.out_link.OutLink.{Ghosts}
 use Rattle.amt_values.specs.declared.peer.Peer.{Peer}
-use Rattle.serving_turns.specs.Causes.{IsCauseOf, IsCausedBy}
-use Rattle.serving_turns.specs.Devices.{AnswersAll}
-use Rattle.serving_turns.specs.declared.end.End.{End}
-use Rattle.serving_turns.specs.declared.end.End.TheVariants.{Turns, LinkFault, FeedFault, WordsFault}
+use Rattle.amt_ports.specs.EndCauses.{IsCauseOf, IsCausedBy}
+use Rattle.amt_ports.specs.Devices.{AnswersAll}
+use Rattle.amt_ports.specs.declared.end.End.{End}
+use Rattle.amt_ports.specs.declared.end.End.TheVariants.{Turns, LinkFault, FeedFault, WordsFault}
 use Rattle.amt_ports.proofs.Told.{AppendsAll-none, AppendsAll-then}
-use Rattle.serving_turns.proofs.Lists.{AnswersAll-then}
+use Rattle.amt_ports.proofs.Lists.{AnswersAll-then}
 use Rattle.relay_serving.specs.Counting.{HasAnswered, is_late, no_counts, starved_in}
 use Rattle.relay_serving.specs.Devices.{Devices}
 use Rattle.relay_serving.specs.Events.{happenings_from, happenings_of_turn}

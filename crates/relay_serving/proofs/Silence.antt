@@ -7,7 +7,7 @@ use Rattle.response_mac.specs.declared.secret.Secret.{Secret}
 use Rattle.relay_machine.specs.declared.event.Event.{Event}
 use Rattle.relay_machine.specs.declared.event.Event.TheVariants.{Packet}
 use Rattle.relay_machine.specs.declared.settings.Settings.{Settings}
-use Rattle.serving_turns.specs.Answers.{Taken, unless_starved}
+use Rattle.amt_ports.specs.Answers.{Taken, unless_starved}
 use Rattle.relay_serving.specs.Events.{moment_event, packet_of, packets_in, rotation}
 use Rattle.relay_serving.specs.Sending.{answers_after}
 use Rattle.relay_serving.proofs.Answering.{answers_after-append}

@@ -20,7 +20,7 @@ use Rattle.published_table.specs.declared.terms.Terms.{Terms}
 use Rattle.published_table.specs.declared.view.View.{View}
 use Rattle.relay_machine.specs.Settings.{table_settings_of}
 use Rattle.relay_machine.specs.declared.settings.Settings.{Settings}
-use Rattle.serving_turns.specs.Devices.{OutSeen, out_seen}
+use Rattle.amt_ports.specs.Devices.{OutSeen, out_seen}
 use Rattle.replication_workers.specs.Dispatchers.{slot_by, slot_for}
 use Rattle.replication_workers.specs.Jobs.{Handled}
 use Rattle.replication_workers.specs.Replicators.{limit_of, out_of, view_of}

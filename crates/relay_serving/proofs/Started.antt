@@ -1,8 +1,8 @@
 -- Which workers a run started.
 use Rattle.std.proofs.Common.{◌≡◌, ◌≢◌, ℕ, zero, suc, ◌==◌, ◌≤◌, max, not, Bool, true, false, List, [], ◌∷◌, length, refl, sym, ap, subst, ◌∙◌, arith, length-append}
 use Rattle.std.specs.Prelude.{Option, None, Some}
-use Rattle.serving_turns.specs.declared.end.End.{End}
-use Rattle.serving_turns.specs.declared.end.End.TheVariants.{SpawnFault}
+use Rattle.amt_ports.specs.declared.end.End.{End}
+use Rattle.amt_ports.specs.declared.end.End.TheVariants.{SpawnFault}
 use Rattle.replication_workers.specs.Starting.{HaveStarted}
 use Rattle.relay_serving.specs.Runs.{HasEnded, with_cut}
 use Rattle.relay_serving.specs.Serving.{StartsWorkers}

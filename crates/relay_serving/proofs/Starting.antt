@@ -11,7 +11,7 @@ use Rattle.published_table.specs.Views.{IsNew, publisher_of, terms_of}
 use Rattle.published_table.specs.declared.terms.Terms.{Terms}
 use Rattle.published_table.specs.declared.view.View.{View}
 use Rattle.relay_machine.specs.declared.settings.Settings.{Settings}
-use Rattle.serving_turns.specs.Devices.{OutSeen}
+use Rattle.amt_ports.specs.Devices.{OutSeen}
 use Rattle.replication_workers.specs.Backs.{AreBack, IsBack, SlotBack}
 use Rattle.replication_workers.specs.Replicators.{limit_of, out_of, view_of}
 use Rattle.replication_workers.specs.SlotStates.{SlotState, new_slot}

@@ -13,8 +13,8 @@ use Rattle.amt_values.specs.declared.peer.Peer.{Peer}
 use Rattle.response_mac.specs.declared.secret.Secret.{Secret}
 use Rattle.relay_machine.specs.declared.event.Event.{Event}
 use Rattle.relay_machine.specs.declared.settings.Settings.{Settings}
-use Rattle.serving_turns.specs.Answers.{Taken}
-use Rattle.serving_turns.specs.Devices.{AnswersAll}
+use Rattle.amt_ports.specs.Answers.{Taken}
+use Rattle.amt_ports.specs.Devices.{AnswersAll}
 use Rattle.relay_serving.specs.Counting.{HasRefused, is_late, one_if, starved_in}
 use Rattle.relay_serving.specs.Devices.{Devices}
 use Rattle.relay_serving.specs.Events.{beginning_of, datagrams_in, happenings_from, happenings_of_turn, moment_event, packets_in, publishing_in, rotation}

@@ -8,11 +8,11 @@ use Rattle.amt_ports.specs.declared.link.LinkAnswer.{LinkAnswer}
 use Rattle.amt_ports.specs.declared.link.LinkAnswer.TheVariants.{Datagram as DatagramCame, Nothing as NothingCame, Closed as LinkClosed}
 use Rattle.amt_ports.specs.declared.out_link.OutLink.{Ghosts}
 use Rattle.relay_machine.specs.declared.event.Event.{Event}
-use Rattle.serving_turns.specs.Answers.{Taken, unless_starved}
-use Rattle.serving_turns.specs.Bursts.{AreAsked}
-use Rattle.serving_turns.specs.Devices.{FeedSeen, LinkSeen, words_seen}
-use Rattle.serving_turns.specs.declared.end.End.{End}
-use Rattle.serving_turns.specs.declared.end.End.TheVariants.{FeedFault, LinkFault}
+use Rattle.amt_ports.specs.Answers.{Taken, unless_starved}
+use Rattle.amt_ports.specs.Bursts.{AreAsked}
+use Rattle.amt_ports.specs.Devices.{FeedSeen, LinkSeen, words_seen}
+use Rattle.amt_ports.specs.declared.end.End.{End}
+use Rattle.amt_ports.specs.declared.end.End.TheVariants.{FeedFault, LinkFault}
 use Rattle.relay_serving.specs.Counting.{is_packet}
 use Rattle.relay_serving.specs.Devices.{devices_seen}
 use Rattle.relay_serving.specs.Events.{datagram_of, datagrams_in}

@@ -21,17 +21,17 @@ use Rattle.response_mac.specs.declared.secret.Secret.{Secret}
 use Rattle.relay_machine.specs.Published.{published_log}
 use Rattle.relay_machine.specs.declared.event.Event.{Event}
 use Rattle.relay_machine.specs.declared.settings.Settings.{Settings}
-use Rattle.serving_turns.specs.Causes.{IsCauseOf}
-use Rattle.serving_turns.specs.Devices.{FeedSeen, LinkSeen, OutSeen, WordsSeen}
-use Rattle.serving_turns.specs.declared.end.End.{End}
-use Rattle.serving_turns.specs.declared.end.End.TheVariants.{Turns, Closed, LinkFault, FeedFault, WordsFault, SpawnFault, Memory}
+use Rattle.amt_ports.specs.EndCauses.{IsCauseOf}
+use Rattle.amt_ports.specs.Devices.{FeedSeen, LinkSeen, OutSeen, WordsSeen}
+use Rattle.amt_ports.specs.declared.end.End.{End}
+use Rattle.amt_ports.specs.declared.end.End.TheVariants.{Turns, Closed, LinkFault, FeedFault, WordsFault, SpawnFault, Memory}
 use Rattle.amt_ports.proofs.Told.{AppendsAll-none, AppendsAll-then}
 use Rattle.replication_workers.specs.Dispatchers.{is_threaded}
-use Rattle.serving_turns.specs.Tried.{HasTried}
+use Rattle.amt_ports.specs.Tried.{HasTried}
 use Rattle.replication_workers.specs.Replicators.{out_of}
 use Rattle.replication_workers.specs.SlotStates.{jobs_in_all}
 use Rattle.replication_workers.specs.Starting.{HaveStarted}
-use Rattle.serving_turns.proofs.Trying.{HasTried-none}
+use Rattle.amt_ports.proofs.Trying.{HasTried-none}
 use Rattle.relay_serving.specs.Counting.{AreCounted, is_datagram}
 use Rattle.relay_serving.specs.Devices.{Devices, devices_seen, outs_seen}
 use Rattle.relay_serving.specs.Drawing.{DrawsSecret, IsDrawn}

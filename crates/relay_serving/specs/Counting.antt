@@ -7,8 +7,8 @@ use Rattle.relay_machine.specs.declared.event.Event.{Event}
 use Rattle.relay_machine.specs.declared.event.Event.TheVariants.{Moment, Datagram, Packet, Rotate}
 use Rattle.relay_machine.specs.declared.outcome.Outcome.{Outcome}
 use Rattle.relay_machine.specs.declared.settings.Settings.{Settings}
-use Rattle.serving_turns.specs.Devices.{LinkSeen}
-use Rattle.serving_turns.specs.Tried.{HasTried}
+use Rattle.amt_ports.specs.Devices.{LinkSeen}
+use Rattle.amt_ports.specs.Tried.{HasTried}
 use Rattle.relay_serving.specs.Turns.{Turn, is_refused}
 use Rattle.relay_serving.specs.declared.counts.Counts.{Counts}
 

@@ -10,7 +10,7 @@ use Rattle.amt_ports.specs.declared.link.LinkAnswer.TheVariants.{Datagram as Dat
 use Rattle.response_mac.specs.declared.secret.Secret.{Secret}
 use Rattle.relay_machine.specs.declared.event.Event.{Event}
 use Rattle.relay_machine.specs.declared.event.Event.TheVariants.{Moment, Datagram, Packet, Rotate}
-use Rattle.serving_turns.specs.Answers.{Taken, unless_starved}
+use Rattle.amt_ports.specs.Answers.{Taken, unless_starved}
 use Rattle.relay_serving.specs.Turns.{Publishing, Ahead, Refused, Done, Turn, moment_of_turn}
 use Rattle.relay_serving.specs.Happenings.{Happening, Took, Published, events_among, published_events_among}
 use Rattle.relay_serving.specs.Runs.{Run, turns_of}

@@ -1,6 +1,6 @@
 -- What a report says of what a running relay left.
 use Rattle.std.specs.Prelude.{ℕ, ◌+◌}
-use Rattle.serving_turns.specs.declared.end.End.{End}
+use Rattle.amt_ports.specs.declared.end.End.{End}
 use Rattle.relay_serving.specs.declared.plan.ServeReport.{ServeReport}
 use Rattle.relay_serving.specs.declared.server.ending.Ending.{Ending}
 

@@ -11,9 +11,9 @@ use Rattle.response_mac.specs.declared.secret.Secret.{Secret}
 use Rattle.relay_machine.specs.Answers.{settings_of}
 use Rattle.relay_machine.specs.declared.event.Event.{Event}
 use Rattle.relay_machine.specs.declared.settings.Settings.{Settings}
-use Rattle.serving_turns.specs.Answers.{Taken}
-use Rattle.serving_turns.specs.Bursts.{AskedSo}
-use Rattle.serving_turns.specs.Devices.{AnswersAll, FeedSeen, LinkSeen}
+use Rattle.amt_ports.specs.Answers.{Taken}
+use Rattle.amt_ports.specs.Bursts.{AskedSo}
+use Rattle.amt_ports.specs.Devices.{AnswersAll, FeedSeen, LinkSeen}
 use Rattle.replication_workers.specs.Dispatchers.{KeepsAllRun, is_threaded, slots_of}
 use Rattle.replication_workers.specs.SlotStates.{SlotState}
 use Rattle.relay_serving.specs.Courses.{events_so_far, happenings_so_far}

@@ -14,12 +14,12 @@ use Rattle.response_mac.specs.declared.secret.Secret.{Secret}
 use Rattle.relay_machine.specs.Published.{published_log}
 use Rattle.relay_machine.specs.Settings.{table_settings_of}
 use Rattle.relay_machine.specs.declared.settings.Settings.{Settings}
-use Rattle.serving_turns.specs.Causes.{IsCauseOf}
-use Rattle.serving_turns.specs.Devices.{AnswersAll, OutSeen}
-use Rattle.serving_turns.specs.declared.end.End.{End}
-use Rattle.serving_turns.specs.declared.end.End.TheVariants.{LinkFault, FeedFault, WordsFault, SpawnFault}
+use Rattle.amt_ports.specs.EndCauses.{IsCauseOf}
+use Rattle.amt_ports.specs.Devices.{AnswersAll, OutSeen}
+use Rattle.amt_ports.specs.declared.end.End.{End}
+use Rattle.amt_ports.specs.declared.end.End.TheVariants.{LinkFault, FeedFault, WordsFault, SpawnFault}
 use Rattle.replication_workers.specs.Jobs.{Handled}
-use Rattle.serving_turns.specs.Tried.{HasTried}
+use Rattle.amt_ports.specs.Tried.{HasTried}
 use Rattle.replication_workers.specs.Starting.{HaveStarted}
 use Rattle.replication_workers.specs.declared.job.Job.{Job}
 use Rattle.relay_serving.specs.Counting.{AreCounted, is_late, starved_in}

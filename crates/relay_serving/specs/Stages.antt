@@ -2,8 +2,8 @@
 use Rattle.std.specs.Prelude.{◌≡◌, ℕ, ◌<◌, Bool, true, max, List, ◌++◌, length, Option, Some, Result, Ok, Err}
 use Rattle.amt_ports.specs.Told.{Appends, AppendsAll}
 use Rattle.amt_ports.specs.declared.out_link.OutLink.{Ghosts}
-use Rattle.serving_turns.specs.declared.end.End.{End}
-use Rattle.serving_turns.specs.declared.end.End.TheVariants.{Turns, Closed, LinkFault, FeedFault, WordsFault, SpawnFault, Memory}
+use Rattle.amt_ports.specs.declared.end.End.{End}
+use Rattle.amt_ports.specs.declared.end.End.TheVariants.{Turns, Closed, LinkFault, FeedFault, WordsFault, SpawnFault, Memory}
 use Rattle.relay_serving.specs.Counting.{HasRefused, one_if}
 use Rattle.relay_serving.specs.Events.{moment_event, rotation}
 use Rattle.relay_serving.specs.Servers.{HasEvents, SendsAlike, counts_in}

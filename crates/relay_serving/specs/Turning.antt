@@ -4,10 +4,10 @@ use Rattle.amt_ports.specs.Told.{AppendsAll}
 use Rattle.amt_ports.specs.declared.feed.FeedAnswer.TheVariants.{Closed as FeedClosed}
 use Rattle.amt_ports.specs.declared.link.LinkAnswer.TheVariants.{Closed as LinkClosed}
 use Rattle.amt_ports.specs.declared.out_link.OutLink.{Ghosts}
-use Rattle.serving_turns.specs.Causes.{IsCauseOf, IsCausedBy}
-use Rattle.serving_turns.specs.Devices.{AnswersAll}
-use Rattle.serving_turns.specs.declared.end.End.{End}
-use Rattle.serving_turns.specs.declared.end.End.TheVariants.{LinkFault, FeedFault, WordsFault}
+use Rattle.amt_ports.specs.EndCauses.{IsCauseOf, IsCausedBy}
+use Rattle.amt_ports.specs.Devices.{AnswersAll}
+use Rattle.amt_ports.specs.declared.end.End.{End}
+use Rattle.amt_ports.specs.declared.end.End.TheVariants.{LinkFault, FeedFault, WordsFault}
 use Rattle.relay_serving.specs.Counting.{HasAnswered, HasRefused, is_late, starved_in}
 use Rattle.relay_serving.specs.Devices.{Devices}
 use Rattle.relay_serving.specs.Events.{happenings_from}

@@ -4,8 +4,8 @@ use Rattle.amt_ports.specs.declared.feed.FeedAnswer.{FeedAnswer}
 use Rattle.amt_ports.specs.declared.feed.FeedAnswer.TheVariants.{Nothing as NothingFed, Closed as FeedClosed}
 use Rattle.amt_ports.specs.declared.link.LinkAnswer.{LinkAnswer}
 use Rattle.amt_ports.specs.declared.link.LinkAnswer.TheVariants.{Nothing as NothingCame, Closed as LinkClosed}
-use Rattle.serving_turns.specs.Answers.{IsDatagram, IsPacket, Taken, taken}
-use Rattle.serving_turns.specs.Bursts.{AnswerKinds, IsBurst}
+use Rattle.amt_ports.specs.Answers.{IsDatagram, IsPacket, Taken, taken}
+use Rattle.amt_ports.specs.Bursts.{AnswerKinds, IsBurst}
 
 -- how far a turn's publishing went; it is done too where nothing was owed
 pub data Publishing : Type 0 where

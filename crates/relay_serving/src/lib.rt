@@ -16,6 +16,6 @@ mod secret;
 mod server;
 mod serving;
 
+pub use amt_ports::End;
 pub use plan::{ServePlan, ServeReport, Served};
 pub use serving::serve_relay;
-pub use serving_turns::End;

@@ -1,8 +1,8 @@
 //! What a run of a serving relay is told, and what it comes to. It must not know how it is run.
 
+use amt_ports::End;
 use published_table::Views;
 use replication_workers::Outs;
-use serving_turns::End;
 
 /// How a relay is to be run.
 #[derive(Clone, Copy, Debug, PartialEq, Eq)]

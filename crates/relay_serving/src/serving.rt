@@ -3,7 +3,7 @@
 ghost use Rattle.std.specs.Prelude.{◌≡◌, ◌≤◌, ◌<◌, ◌+◌, ◌^◌, [], IfOk, length, max};
 ghost use Rattle.published_table.specs.Views.{room_of, views_of};
 ghost use Rattle.relay_machine.specs.Settings.{AreLawfulSettings};
-ghost use Rattle.serving_turns.specs.Devices.{WaitsBriefly, feed_seen, link_seen, words_seen};
+ghost use Rattle.amt_ports.specs.Devices.{WaitsBriefly, feed_seen, link_seen, words_seen};
 ghost use Rattle.relay_serving.specs.Devices.{devices_seen, outs_seen};
 ghost use Rattle.relay_serving.specs.Plans.{IsLawfulPlan};
 ghost use Rattle.relay_serving.specs.Reports.{report_of, unused_report};
@@ -12,11 +12,10 @@ ghost use Rattle.relay_serving.specs.Serving.{Serves};
 use crate::plan::{ServePlan, ServeReport, Served};
 use crate::secret::draw_secret;
 use crate::server::{Ending, NotStarted, Server};
-use amt_ports::{Clock, Feed, Link, OutLink, Spawner, Words};
+use amt_ports::{BUFFER, Clock, End, Feed, Link, OutLink, Spawner, Words};
 use published_table::Views;
 use relay_machine::Settings;
 use replication_workers::{Outs, Worker};
-use serving_turns::{BUFFER, End};
 use std::alloc::{AllocError, Global};
 use std::sync::Wait;
 

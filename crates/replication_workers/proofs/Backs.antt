@@ -10,7 +10,7 @@ use Rattle.amt_ports.specs.Told.{AppendsAll}
 use Rattle.amt_ports.specs.declared.out_link.OutLink.{Ghosts}
 use Rattle.amt_values.specs.declared.peer.Peer.{Peer}
 use Rattle.published_table.specs.declared.view.View.{View}
-use Rattle.serving_turns.specs.Tried.{HasTried}
+use Rattle.amt_ports.specs.Tried.{HasTried}
 use Rattle.replication_workers.specs.Replicators.{out_of, view_of}
 use Rattle.replication_workers.specs.SlotStates.{HaveLeft, IsLeft, SlotLeft, SlotState, new_slot}
 use Rattle.replication_workers.specs.Backs.{AreBack, IsBack, SlotBack}

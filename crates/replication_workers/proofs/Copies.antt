@@ -15,7 +15,7 @@ use Rattle.published_table.specs.Terms.{settings_by}
 use Rattle.published_table.specs.declared.terms.Terms.{Terms}
 use Rattle.std.specs.Prelude.{Option}
 use Rattle.replication_workers.specs.Replication.{copies_by, to_peer, with_message}
-use Rattle.serving_turns.specs.Tried.{HasTried}
+use Rattle.amt_ports.specs.Tried.{HasTried}
 use Rattle.amt_ports.specs.Sends.{TriedSend}
 
 copies_with : (message : List ℕ) (targets : List EndpointValue) → map to_peer (map (λ endpoint. record { to = endpoint; bytes = message }) targets) ≡ map (with_message message) targets

@@ -14,7 +14,7 @@ use Rattle.published_table.specs.Terms.{settings_by}
 use Rattle.published_table.specs.Views.{named, publisher_of, seen, terms_of, told}
 use Rattle.published_table.specs.declared.view.View.{View}
 use Rattle.replication_workers.proofs.Queues.{jobs_of-append}
-use Rattle.serving_turns.proofs.Trying.{HasTried-none, HasTried-then}
+use Rattle.amt_ports.proofs.Trying.{HasTried-none, HasTried-then}
 use Rattle.replication_workers.specs.Jobs.{Handled, copies_of}
 use Rattle.replication_workers.specs.Queue.{HasTaken, jobs_of}
 use Rattle.replication_workers.specs.Replicators.{Tries, copies_due, limit_of, out_of, view_of}

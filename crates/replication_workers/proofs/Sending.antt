@@ -8,10 +8,10 @@ use Rattle.amt_values.specs.Endpoint.{peer_of}
 use Rattle.amt_values.specs.EndpointValue.{EndpointValue}
 use Rattle.amt_values.specs.declared.peer.Peer.{Peer}
 use Rattle.replication_workers.specs.Replication.{with_message}
-use Rattle.serving_turns.specs.Tried.{HasTried}
+use Rattle.amt_ports.specs.Tried.{HasTried}
 use Rattle.amt_ports.specs.Sends.{TriedSend, tried_send}
 use Rattle.amt_ports.specs.Told.{Appends}
-use Rattle.serving_turns.proofs.Trying.{HasTried-failed, HasTried-sent}
+use Rattle.amt_ports.proofs.Trying.{HasTried-failed, HasTried-sent}
 
 one_more : (message : List ℕ) (targets : List EndpointValue) (place : ℕ) (to : EndpointValue) (peer : Peer) → place < length targets → to ≡ get_or targets place to → peer ≡ peer_of to
     → map (with_message message) (take place targets) ++ (peer, message) ∷ [] ≡ map (with_message message) (take (place + 1) targets)

@@ -7,7 +7,7 @@ use Rattle.published_table.specs.Terms.{settings_by}
 use Rattle.published_table.specs.Views.{named, publisher_of, seen, terms_of}
 use Rattle.published_table.specs.declared.view.View.{View}
 use Rattle.replication_workers.specs.Replication.{copies_by, to_peer}
-use Rattle.serving_turns.specs.Tried.{HasTried}
+use Rattle.amt_ports.specs.Tried.{HasTried}
 use Rattle.amt_ports.specs.declared.out_link.OutLink.{Ghosts}
 use Rattle.replication_workers.specs.declared.job.Job.{Job}
 use Rattle.replication_workers.specs.declared.replicator.Replicator.{Replicator}

@@ -10,7 +10,7 @@ use Rattle.published_table.specs.Views.{publisher_of, seen, terms_of}
 use Rattle.published_table.specs.declared.view.View.{View}
 use Rattle.replication_workers.specs.Jobs.{Handled}
 use Rattle.replication_workers.specs.Queue.{HasEnded, jobs_of}
-use Rattle.serving_turns.specs.Tried.{HasTried}
+use Rattle.amt_ports.specs.Tried.{HasTried}
 use Rattle.replication_workers.specs.Replicators.{limit_of, out_of, view_of}
 use Rattle.replication_workers.specs.declared.job.Job.{Job}
 use Rattle.replication_workers.specs.declared.replicator.Replicator.{Replicator}

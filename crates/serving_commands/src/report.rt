@@ -2,8 +2,8 @@
 ghost use Rattle.std.specs.Prelude.{◌≡◌, IfOk};
 ghost use Rattle.serving_commands.specs.Texts.{IsDone, end_word, head_text};
 
+use amt_ports::End;
 use amt_values::Bytes;
-use serving_turns::End;
 use std::alloc::{AllocError, Global};
 
 fn end_word(end: End) -> &'static str

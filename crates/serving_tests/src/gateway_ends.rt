@@ -2,9 +2,8 @@
 
 use crate::devices::{Answer, Script, devices_of};
 use crate::gateway::{KNOWING, MESSAGE, OPENING, QUERY, SCRIPT, serve};
-use amt_ports::MemOut;
+use amt_ports::{End, MemOut};
 use gateway_serving::GatewayServed;
-use serving_turns::End;
 use std::alloc::{AllocError, Global};
 use std::process::Abort;
 

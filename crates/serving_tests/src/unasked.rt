@@ -2,8 +2,7 @@
 
 use crate::devices::{Devices, Script, devices_of};
 use crate::gateway::{KNOWING, SCRIPT, serve};
-use amt_ports::{Clock, Feed, FeedGot, Got, Link, MemFeed, MemLink, MemOut};
-use serving_turns::{BUFFER, WAIT_MS};
+use amt_ports::{BUFFER, Clock, Feed, FeedGot, Got, Link, MemFeed, MemLink, MemOut, WAIT_MS};
 use std::process::Abort;
 
 const WORDLESS: Script<'static> = Script {

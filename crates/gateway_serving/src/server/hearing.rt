@@ -1,18 +1,17 @@
 //! How a running gateway hears its link. It must not know turns.
 ghost use Rattle.std.specs.Prelude.{◌≡◌, ◌≤◌, ◌-◌, ◌^◌, [], ◌∷◌, length, IsErrOf, OnErr, OnOk};
 ghost use Rattle.gateway_machine.specs.declared.event.GatewayEvent.TheVariants.{Datagram as DatagramEvent};
-ghost use Rattle.serving_turns.specs.Bursts.{AreAsked, AskedSo, IsNext};
-ghost use Rattle.serving_turns.specs.Causes.{IsCausedBy};
-ghost use Rattle.serving_turns.specs.Devices.{WaitsBriefly, link_seen, out_seen};
+ghost use Rattle.amt_ports.specs.Bursts.{AreAsked, AskedSo, IsNext};
+ghost use Rattle.amt_ports.specs.EndCauses.{IsCausedBy};
+ghost use Rattle.amt_ports.specs.Devices.{WaitsBriefly, link_seen, out_seen};
 ghost use Rattle.gateway_serving.specs.Hearing.{HearsOne};
 ghost use Rattle.gateway_serving.specs.Servers.{AreFew, GrowsBy, Hears, Takes, Tallies, at_work, counts_in, latest_in};
 ghost use Rattle.gateway_serving.specs.Turns.{from_link};
 
 use super::Server;
-use amt_ports::{Got, Link, OutLink};
+use amt_ports::{Asked, BURST, End, Got, Link, OutLink, WAIT_MS};
 use amt_values::{Bytes, Peer};
 use gateway_machine::GatewayEvent;
-use serving_turns::{Asked, BURST, End, WAIT_MS};
 use std::alloc::{AllocError, Global};
 
 impl Server {

@@ -3,7 +3,7 @@
 ghost use Rattle.std.specs.Prelude.{◌≡◌, ◌≤◌, ◌<◌, ◌+◌, ◌^◌, [], ◌∷◌, All, IfOk, OnErr, OnOk, length, map};
 ghost use Rattle.amt_ports.specs.Told.{Appends};
 ghost use Rattle.gateway_machine.specs.Events.{IsEventOf};
-ghost use Rattle.serving_turns.specs.Devices.{link_seen, out_seen};
+ghost use Rattle.amt_ports.specs.Devices.{link_seen, out_seen};
 ghost use Rattle.gateway_serving.specs.Counting.{no_counts};
 ghost use Rattle.gateway_serving.specs.Events.{nonce_of};
 ghost use Rattle.gateway_serving.specs.Openings.{OpensSo};

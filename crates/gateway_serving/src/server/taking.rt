@@ -4,7 +4,7 @@ ghost use Rattle.std.specs.Prelude.{◌≡◌, ◌≤◌, ◌<◌, ◌+◌, ◌^
 ghost use Rattle.gateway_machine.specs.Events.{IsDraw, IsEventOf};
 ghost use Rattle.gateway_machine.specs.Outcomes.{NeedsNoMemory};
 ghost use Rattle.gateway_machine.specs.Runs.{answer_after};
-ghost use Rattle.serving_turns.specs.Devices.{link_seen, out_seen};
+ghost use Rattle.amt_ports.specs.Devices.{link_seen, out_seen};
 ghost use Rattle.gateway_serving.specs.Sending.{delivery_to, to_peer};
 ghost use Rattle.gateway_serving.specs.Servers.{AreFew, IsAlike, Takes, Tallies, at_work, counts_in, events_in, first_in, latest_in, settings_in};
 ghost use Rattle.gateway_serving.specs.Taking.{HasHandedOn, HasSent};

@@ -1,7 +1,7 @@
 //! One turn of a running gateway, and all of a run. It must not know how a gateway begins.
 ghost use Rattle.std.specs.Prelude.{◌≡◌, ◌≤◌, ◌-◌, ◌^◌, [], ◌∷◌, length};
-ghost use Rattle.serving_turns.specs.Causes.{IsCausedBy};
-ghost use Rattle.serving_turns.specs.Devices.{WaitsBriefly, feed_seen, link_seen, out_seen, words_seen};
+ghost use Rattle.amt_ports.specs.EndCauses.{IsCausedBy};
+ghost use Rattle.amt_ports.specs.Devices.{WaitsBriefly, feed_seen, link_seen, out_seen, words_seen};
 ghost use Rattle.gateway_serving.specs.Devices.{devices_seen};
 ghost use Rattle.gateway_machine.specs.declared.event.GatewayEvent.TheVariants.{Nonce as NonceEvent};
 ghost use Rattle.gateway_serving.specs.Events.{nonce_of};
@@ -10,9 +10,8 @@ ghost use Rattle.gateway_serving.specs.Settings.{AreTurns};
 ghost use Rattle.gateway_serving.specs.Stages.{AreCausesOf, BeginsTurn, EndsIn, PassesMoment, RunsSo, TurnsSo};
 
 use super::Server;
-use amt_ports::{Clock, Feed, Link, OutLink, Words};
+use amt_ports::{Clock, End, Feed, Link, OutLink, Words};
 use gateway_machine::GatewayEvent;
-use serving_turns::End;
 use std::alloc::Global;
 
 impl Server {

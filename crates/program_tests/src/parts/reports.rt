@@ -1,10 +1,10 @@
 //! The texts of the reports of runs. Each count is another number, so that none can stand for another. It knows
 //! public calls alone.
 
+use amt_ports::End;
 use amt_values::Bytes;
 use gateway_serving::GatewayServed;
 use relay_serving::ServeReport;
-use serving_turns::End;
 use std::alloc::AllocError;
 
 const RELAY: ServeReport = ServeReport {

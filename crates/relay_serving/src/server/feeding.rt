@@ -1,18 +1,17 @@
 //! How a running relay takes packets from its feed. It must not know turns.
 ghost use Rattle.std.specs.Prelude.{◌≡◌, ◌≤◌, ◌<◌, ◌+◌, ◌^◌, [], ◌∷◌, length, IsErrOf, OnOk, OnErr};
 ghost use Rattle.relay_machine.specs.declared.event.Event.TheVariants.{Packet};
-ghost use Rattle.serving_turns.specs.Bursts.{AreAsked, IsNext};
-ghost use Rattle.serving_turns.specs.Causes.{IsCausedBy};
-ghost use Rattle.serving_turns.specs.Devices.{WaitsBriefly, feed_seen};
+ghost use Rattle.amt_ports.specs.Bursts.{AreAsked, IsNext};
+ghost use Rattle.amt_ports.specs.EndCauses.{IsCausedBy};
+ghost use Rattle.amt_ports.specs.Devices.{WaitsBriefly, feed_seen};
 ghost use Rattle.relay_serving.specs.Counting.{with_packet};
 ghost use Rattle.relay_serving.specs.Servers.{FeedsSo, HasEvents, IsAsBefore, counts_in, tally_in};
 ghost use Rattle.relay_serving.specs.Turns.{from_feed};
 
 use super::Server;
-use amt_ports::{Feed, FeedGot, OutLink};
+use amt_ports::{Asked, BURST, End, Feed, FeedGot, OutLink, WAIT_MS};
 use amt_values::Bytes;
 use replication_workers::Job;
-use serving_turns::{Asked, BURST, End, WAIT_MS};
 use std::alloc::{AllocError, Global};
 use std::sync::Wait;
 

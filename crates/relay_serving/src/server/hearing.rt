@@ -2,9 +2,9 @@
 ghost use Rattle.std.specs.Prelude.{◌≡◌, ◌≤◌, ◌<◌, ◌+◌, ◌^◌, [], ◌∷◌, length, map, IsErrOf, OnOk, OnErr};
 ghost use Rattle.relay_machine.specs.Answers.{sends_of};
 ghost use Rattle.relay_machine.specs.declared.event.Event.TheVariants.{Datagram};
-ghost use Rattle.serving_turns.specs.Bursts.{AreAsked, IsNext};
-ghost use Rattle.serving_turns.specs.Causes.{IsCausedBy};
-ghost use Rattle.serving_turns.specs.Devices.{WaitsBriefly, link_seen};
+ghost use Rattle.amt_ports.specs.Bursts.{AreAsked, IsNext};
+ghost use Rattle.amt_ports.specs.EndCauses.{IsCausedBy};
+ghost use Rattle.amt_ports.specs.Devices.{WaitsBriefly, link_seen};
 ghost use Rattle.replication_workers.specs.Replication.{to_peer};
 ghost use Rattle.relay_serving.specs.Counting.{CountsAlike, HasAnswered, HasRefused};
 ghost use Rattle.relay_serving.specs.Servers.{HasEvents, HearsSo, IsAsBefore, counts_in, events_in, first_in, settings_in, tally_in};
@@ -12,10 +12,9 @@ ghost use Rattle.relay_serving.specs.Turns.{from_link};
 
 use super::Server;
 use crate::counts::Counts;
-use amt_ports::{Got, Link, OutLink};
+use amt_ports::{Asked, BURST, End, Got, Link, OutLink, WAIT_MS};
 use amt_values::{Bytes, Peer};
 use relay_machine::{Event, OneSend};
-use serving_turns::{Asked, BURST, End, WAIT_MS};
 use std::alloc::{AllocError, Global};
 
 // Tries to send each, in order, and counts them. One that the link doesn't take isn't tried again.

@@ -15,14 +15,13 @@ ghost use Rattle.relay_serving.specs.Starting.{AreLeftBy, AreReadBy, AreStarts, 
 use super::Server;
 use crate::counts::Counts;
 use crate::course::Course;
-use amt_ports::{OutLink, Spawner};
+use amt_ports::{End, OutLink, Spawner};
 use published_table::{Publisher, Terms, Views};
 use relay_machine::{Relay, Settings};
 use replication_workers::{
     Dispatcher, NewFault, Outs, Replicator, Replicators, StartFault, Worker,
 };
 use response_mac::Secret;
-use serving_turns::End;
 use std::alloc::{AllocError, Global};
 use std::snapshot::Snapshot;
 use std::sync::Wait;

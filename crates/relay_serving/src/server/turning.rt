@@ -1,7 +1,7 @@
 //! One turn of a running relay, and all of a run. It must not know how a relay is started or ended.
 ghost use Rattle.std.specs.Prelude.{◌≡◌, ◌≤◌, ◌<◌, ◌+◌, ◌^◌, [], length, None};
-ghost use Rattle.serving_turns.specs.Causes.{IsCausedBy};
-ghost use Rattle.serving_turns.specs.Devices.{WaitsBriefly, feed_seen, link_seen, words_seen};
+ghost use Rattle.amt_ports.specs.EndCauses.{IsCausedBy};
+ghost use Rattle.amt_ports.specs.Devices.{WaitsBriefly, feed_seen, link_seen, words_seen};
 ghost use Rattle.relay_serving.specs.Counting.{no_counts};
 ghost use Rattle.relay_serving.specs.Devices.{devices_seen};
 ghost use Rattle.relay_serving.specs.Plans.{IsLawfulPlan};
@@ -13,8 +13,7 @@ use super::Server;
 use crate::plan::ServePlan;
 use crate::renewal::Renewal;
 use crate::secret::draw_secret;
-use amt_ports::{Clock, Feed, Link, OutLink, Words};
-use serving_turns::End;
+use amt_ports::{Clock, End, Feed, Link, OutLink, Words};
 use std::alloc::Global;
 use std::sync::Wait;
 

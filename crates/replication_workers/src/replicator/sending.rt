@@ -3,7 +3,7 @@ ghost use Rattle.std.specs.Prelude.{◌≡◌, ◌≤◌, ◌∷◌, ◌+◌, le
 ghost use Rattle.amt_messages.specs.Layout.{spelling_of};
 ghost use Rattle.amt_messages.specs.declared.message.Message.TheVariants.{Multicast};
 ghost use Rattle.replication_workers.specs.Replication.{with_message};
-ghost use Rattle.serving_turns.specs.Tried.{HasTried};
+ghost use Rattle.amt_ports.specs.Tried.{HasTried};
 
 use amt_ports::OutLink;
 use amt_values::Endpoint;

@@ -1,7 +1,7 @@
 use Rattle.std.proofs.Common.{List, refl, sym, ap, subst, ◌∙◌}
 use Rattle.std.specs.Prelude.{All}
 use Rattle.amt_config.specs.declared.config.Join.{Join}
-use Rattle.serving_turns.proofs.Waits.{no_waits, waits_then}
+use Rattle.amt_ports.proofs.Waits.{no_waits, waits_then}
 use Rattle.gateway_machine.specs.Events.{IsEventOf}
 use Rattle.gateway_machine.specs.declared.settings.GatewaySettings.{GatewaySettings}
 use Rattle.gateway_serving.specs.Reports.{report_of}

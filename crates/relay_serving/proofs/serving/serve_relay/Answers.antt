@@ -1,7 +1,7 @@
 use Rattle.std.proofs.Common.{◌∙◌, length, refl, sym, ap, subst, arith}
 use Rattle.std.proofs.Math.Logic.{∥∥₁_map}
 use Rattle.std.proofs.lemmas.List.{length-map}
-use Rattle.serving_turns.proofs.Waits.{no_waits}
+use Rattle.amt_ports.proofs.Waits.{no_waits}
 use Rattle.replication_workers.specs.Replicators.{out_of}
 use Rattle.replication_workers.specs.Starting.{HaveStarted}
 use Rattle.relay_serving.specs.Devices.{outs_seen}

@@ -4,8 +4,8 @@ use Rattle.amt_ports.specs.Arrivals.{IsShortGot, link_answer}
 use Rattle.amt_ports.specs.Told.{Answers}
 use Rattle.amt_ports.specs.declared.link.Got.{Got}
 use Rattle.amt_ports.specs.declared.link.LinkAnswer.TheVariants.{Datagram as DatagramCame, Nothing as NothingCame, Closed as LinkClosed}
-use Rattle.serving_turns.specs.Answers.{taken}
-use Rattle.serving_turns.proofs.Causes.{not_cause}
+use Rattle.amt_ports.specs.Answers.{taken}
+use Rattle.amt_ports.proofs.EndCauses.{not_cause}
 use Rattle.gateway_serving.proofs.Few.{GrowsBy-none, GrowsBy-then}
 use Rattle.gateway_serving.proofs.Hearing.{HearsOne-grows, Hears-datagram, Hears-failed, Hears-quiet}
 use Rattle.gateway_serving.proofs.server.Server.hear_next.Goals as goal

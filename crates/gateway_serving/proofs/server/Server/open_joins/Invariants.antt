@@ -1,6 +1,6 @@
 -- The joins so far were opened.
 use Rattle.std.proofs.Common.{◌≡◌}
-use Rattle.serving_turns.specs.Devices.{link_seen, out_seen}
+use Rattle.amt_ports.specs.Devices.{link_seen, out_seen}
 use Rattle.gateway_serving.specs.Servers.{GrowsBy, at_work, latest_in, settings_in}
 use Rattle.gateway_serving.proofs.Beginning.{AreOpened}
 use Rattle.gateway_serving.proofs.server.Server.open_joins.Given as goal

@@ -1,6 +1,6 @@
 -- Each turn so far was whole.
 use Rattle.std.proofs.Common.{◌≡◌, length}
-use Rattle.serving_turns.specs.Devices.{WaitsBriefly, feed_seen, link_seen, out_seen, words_seen}
+use Rattle.amt_ports.specs.Devices.{WaitsBriefly, feed_seen, link_seen, out_seen, words_seen}
 use Rattle.gateway_serving.specs.Devices.{devices_seen}
 use Rattle.gateway_serving.proofs.Running.{IsRunning}
 use Rattle.gateway_serving.proofs.server.Server.run.Given as goal

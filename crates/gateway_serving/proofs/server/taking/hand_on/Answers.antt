@@ -1,5 +1,5 @@
 use Rattle.std.proofs.Common.{refl, sym, ap, subst}
-use Rattle.serving_turns.specs.Devices.{out_seen}
+use Rattle.amt_ports.specs.Devices.{out_seen}
 use Rattle.gateway_serving.specs.Sending.{delivery_to}
 use Rattle.gateway_serving.specs.Taking.{HasHandedOn}
 use Rattle.gateway_serving.proofs.Trying.{HasHandedOn-failed, HasHandedOn-none, HasHandedOn-taken, handed_to}

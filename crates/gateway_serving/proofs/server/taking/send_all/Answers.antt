@@ -1,5 +1,5 @@
 use Rattle.std.proofs.Common.{map, take, refl, ap, subst, ◌∙◌, arith}
-use Rattle.serving_turns.specs.Devices.{LinkSeen, link_seen}
+use Rattle.amt_ports.specs.Devices.{LinkSeen, link_seen}
 use Rattle.gateway_serving.specs.Sending.{to_peer}
 use Rattle.gateway_serving.specs.Taking.{HasSent}
 use Rattle.gateway_serving.specs.declared.counts.Counts.{Counts}

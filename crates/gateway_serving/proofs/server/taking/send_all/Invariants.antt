@@ -1,6 +1,6 @@
 -- What was tried so far is the sends so far, and nothing else was counted.
 use Rattle.std.proofs.Common.{◌≡◌, ◌≤◌, ◌+◌, map, take}
-use Rattle.serving_turns.specs.Devices.{link_seen}
+use Rattle.amt_ports.specs.Devices.{link_seen}
 use Rattle.gateway_serving.specs.Sending.{to_peer}
 use Rattle.gateway_serving.specs.Servers.{Tallies}
 use Rattle.gateway_serving.specs.Taking.{HasSent}

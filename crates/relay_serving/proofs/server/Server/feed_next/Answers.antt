@@ -5,9 +5,9 @@ use Rattle.amt_ports.specs.Told.{Answers}
 use Rattle.amt_ports.specs.declared.feed.FeedAnswer.TheVariants.{Packet as PacketFed, Nothing as NothingFed, Closed as FeedClosed}
 use Rattle.amt_ports.specs.declared.feed.FeedGot.{FeedGot}
 use Rattle.relay_machine.specs.declared.event.Event.TheVariants.{Packet}
-use Rattle.serving_turns.specs.Answers.{refused, taken}
-use Rattle.serving_turns.specs.Devices.{feed_seen}
-use Rattle.serving_turns.proofs.Causes.{not_cause}
+use Rattle.amt_ports.specs.Answers.{refused, taken}
+use Rattle.amt_ports.specs.Devices.{feed_seen}
+use Rattle.amt_ports.proofs.EndCauses.{not_cause}
 use Rattle.relay_serving.specs.Servers.{counts_in}
 use Rattle.relay_serving.specs.declared.counts.Counts.{Counts}
 use Rattle.relay_serving.proofs.Events.{HasRefused-none, IsAsBefore-same, IsStarved-then, tally_same, tally_starved, tally_took}

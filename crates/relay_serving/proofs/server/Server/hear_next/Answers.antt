@@ -5,9 +5,9 @@ use Rattle.amt_ports.specs.Told.{Answers}
 use Rattle.amt_ports.specs.declared.link.Got.{Got}
 use Rattle.amt_ports.specs.declared.link.LinkAnswer.TheVariants.{Datagram as DatagramCame, Nothing as NothingCame, Closed as LinkClosed}
 use Rattle.relay_machine.specs.declared.event.Event.TheVariants.{Datagram}
-use Rattle.serving_turns.specs.Answers.{refused, taken}
-use Rattle.serving_turns.specs.Devices.{link_seen}
-use Rattle.serving_turns.proofs.Causes.{not_cause}
+use Rattle.amt_ports.specs.Answers.{refused, taken}
+use Rattle.amt_ports.specs.Devices.{link_seen}
+use Rattle.amt_ports.proofs.EndCauses.{not_cause}
 use Rattle.relay_serving.proofs.Events.{IsAsBefore-same, IsStarved-then, tally_same, tally_starved, tally_took}
 use Rattle.relay_serving.proofs.Hearing.{Hears-datagram, Hears-none, Hears-quiet, Hears-starved}
 use Rattle.relay_serving.proofs.server.Server.hear_next.Goals as goal

@@ -1,5 +1,5 @@
 use Rattle.std.proofs.Common.{◌≡◌, length, None}
-use Rattle.serving_turns.specs.Devices.{WaitsBriefly, feed_seen, link_seen, words_seen}
+use Rattle.amt_ports.specs.Devices.{WaitsBriefly, feed_seen, link_seen, words_seen}
 use Rattle.relay_serving.specs.Devices.{devices_seen}
 use Rattle.relay_serving.specs.Stages.{progress_in}
 use Rattle.relay_serving.proofs.Running.{IsRunning}

@@ -1,8 +1,8 @@
 use Rattle.std.proofs.Common.{arith, refl}
 use Rattle.std.proofs.lemmas.Result.{err_from_is_err_and}
-use Rattle.serving_turns.specs.declared.end.End.TheVariants.{LinkFault, WordsFault}
-use Rattle.serving_turns.proofs.Causes.{not_cause}
-use Rattle.serving_turns.proofs.Waits.{no_waits}
+use Rattle.amt_ports.specs.declared.end.End.TheVariants.{LinkFault, WordsFault}
+use Rattle.amt_ports.proofs.EndCauses.{not_cause}
+use Rattle.amt_ports.proofs.Waits.{no_waits}
 use Rattle.relay_serving.proofs.Cuts.{no_error, no_words_fed}
 use Rattle.relay_serving.proofs.Ways.{ends_begun, ends_fed, ends_heard, packets-kept}
 use Rattle.relay_serving.proofs.server.Server.turn.Goals as goal

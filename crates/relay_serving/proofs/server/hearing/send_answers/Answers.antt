@@ -1,5 +1,5 @@
 use Rattle.std.proofs.Common.{map, take, refl, ap, subst, ◌∙◌, arith}
-use Rattle.serving_turns.specs.Devices.{LinkSeen, link_seen}
+use Rattle.amt_ports.specs.Devices.{LinkSeen, link_seen}
 use Rattle.replication_workers.specs.Replication.{to_peer}
 use Rattle.relay_serving.specs.Counting.{HasAnswered}
 use Rattle.relay_serving.specs.declared.counts.Counts.{Counts}

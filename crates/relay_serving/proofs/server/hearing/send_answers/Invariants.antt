@@ -1,6 +1,6 @@
 -- What was tried so far is the answers so far, and nothing else was counted.
 use Rattle.std.proofs.Common.{◌≡◌, ◌+◌, map, take}
-use Rattle.serving_turns.specs.Devices.{link_seen}
+use Rattle.amt_ports.specs.Devices.{link_seen}
 use Rattle.replication_workers.specs.Replication.{to_peer}
 use Rattle.relay_serving.specs.Counting.{CountsAlike, HasAnswered}
 use Rattle.relay_serving.proofs.server.hearing.send_answers.Given as goal

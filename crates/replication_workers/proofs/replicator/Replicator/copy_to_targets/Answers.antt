@@ -6,7 +6,7 @@ use Rattle.endpoint_membership.specs.Targets.{targets_of}
 use Rattle.published_table.specs.Terms.{settings_by}
 use Rattle.published_table.specs.Views.{seen, terms_of}
 use Rattle.published_table.specs.declared.view.View.{View}
-use Rattle.serving_turns.specs.Tried.{HasTried}
+use Rattle.amt_ports.specs.Tried.{HasTried}
 use Rattle.replication_workers.proofs.Copies.{copies_sent}
 use Rattle.replication_workers.proofs.replicator.Replicator.copy_to_targets.Goals as goal
 

@@ -1,7 +1,7 @@
 -- What was tried so far is the message to each endpoint so far.
 use Rattle.std.proofs.Common.{◌≡◌, ◌+◌, map, take}
 use Rattle.replication_workers.specs.Replication.{with_message}
-use Rattle.serving_turns.specs.Tried.{HasTried}
+use Rattle.amt_ports.specs.Tried.{HasTried}
 use Rattle.replication_workers.proofs.replicator.sending.send_all.Given as goal
 
 abbrev pub invariant-loop-to : goal.invariant-loop-to

@@ -1,7 +1,7 @@
 -- Brief waits: none, and some after others.
 use Rattle.std.proofs.Common.{◌≡◌, ℕ, arith}
 use Rattle.std.proofs.Math.Nat.{le-max_left, le-max_right, max-le}
-use Rattle.serving_turns.specs.Devices.{WaitsBriefly}
+use Rattle.amt_ports.specs.Devices.{WaitsBriefly}
 
 pub no_waits : (before after : ℕ) → after ≡ before → WaitsBriefly before after
 no_waits before after same = rw same (le-max_left before 1)

@@ -2,11 +2,11 @@
 -- another by some answers.
 use Rattle.std.proofs.Common.{◌≡◌, ◌+◌, ◌<◌, ℕ, List, [], ◌++◌, length, refl, sym, ap, subst, ◌∙◌}
 use Rattle.std.specs.Prelude.{Result, Ok, Err}
-use Rattle.serving_turns.specs.Bursts.{AnswerKinds, AreAsked, AskedSo, CameAll, IsNext}
-use Rattle.serving_turns.specs.declared.asked.Asked.{Asked}
-use Rattle.serving_turns.specs.declared.asked.Asked.TheVariants.{Something, Nothing}
-use Rattle.serving_turns.specs.declared.end.End.{End}
-use Rattle.serving_turns.proofs.Bursts.{came_more, ends_more, full_burst, nothing_more}
+use Rattle.amt_ports.specs.Bursts.{AnswerKinds, AreAsked, AskedSo, CameAll, IsNext}
+use Rattle.amt_ports.specs.declared.asked.Asked.{Asked}
+use Rattle.amt_ports.specs.declared.asked.Asked.TheVariants.{Something, Nothing}
+use Rattle.amt_ports.specs.declared.end.End.{End}
+use Rattle.amt_ports.proofs.Bursts.{came_more, ends_more, full_burst, nothing_more}
 
 -- so often the device was asked, and each time something came
 pub record SoFar {S A : Type 0} (Goes : S → S → List A → Type 0) (kinds : AnswerKinds A) (before after : S) (count : ℕ) : Type 0 where

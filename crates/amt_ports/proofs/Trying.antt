@@ -9,7 +9,7 @@ use Rattle.amt_ports.specs.declared.fault.Failed.{Failed}
 use Rattle.amt_values.specs.declared.peer.Peer.{Peer}
 use Rattle.amt_ports.specs.Sends.{TriedSend, datagram_of, tried_send}
 use Rattle.amt_ports.specs.Told.{Appends}
-use Rattle.serving_turns.specs.Tried.{HasRisen, HasTried}
+use Rattle.amt_ports.specs.Tried.{HasRisen, HasTried}
 use Rattle.amt_ports.proofs.Told.{AppendsAll-none, AppendsAll-then}
 
 -- one more datagram that the device took

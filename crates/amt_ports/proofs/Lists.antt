@@ -2,8 +2,8 @@
 use Rattle.std.proofs.Common.{◌≡◌, List, [], ◌∷◌, ◌++◌, map, Option, None, Some, refl, sym, ap, subst, ◌∙◌, append_assoc, append-nil}
 use Rattle.std.proofs.lemmas.List.{map-append}
 use Rattle.amt_ports.specs.Told.{Answers, AppendsAll}
-use Rattle.serving_turns.specs.Answers.{Taken}
-use Rattle.serving_turns.specs.Devices.{AnswersAll}
+use Rattle.amt_ports.specs.Answers.{Taken}
+use Rattle.amt_ports.specs.Devices.{AnswersAll}
 
 -- one answer
 pub one_answer : {X : Type 0} (closed : X) (before now after : Option (List X)) (answer : X) → Answers closed before now answer → after ≡ now → AnswersAll closed before after (answer ∷ [])

@@ -2,10 +2,10 @@
 -- it: with what became of it.
 use Rattle.std.specs.Prelude.{◌≡◌, ◌⊎◌, ◌<◌, List, [], ◌∷◌, ◌++◌, length, Result, Ok, Err}
 use Rattle.std.specs.List.{AllByRecursion}
-use Rattle.serving_turns.specs.declared.asked.Asked.{Asked}
-use Rattle.serving_turns.specs.declared.asked.Asked.TheVariants.{Something, Nothing}
-use Rattle.serving_turns.specs.declared.end.End.{End}
-use Rattle.serving_turns.specs.declared.end.End.TheVariants.{Turns, Closed, LinkFault, FeedFault, WordsFault, SpawnFault, Memory}
+use Rattle.amt_ports.specs.declared.asked.Asked.{Asked}
+use Rattle.amt_ports.specs.declared.asked.Asked.TheVariants.{Something, Nothing}
+use Rattle.amt_ports.specs.declared.end.End.{End}
+use Rattle.amt_ports.specs.declared.end.End.TheVariants.{Turns, Closed, LinkFault, FeedFault, WordsFault, SpawnFault, Memory}
 
 -- The answers of a device: those of which something came, after which the loop goes on, also where memory refused the
 -- event; that there is nothing; and that the device is closed.

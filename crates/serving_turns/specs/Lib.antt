@@ -1,5 +1,0 @@
-pub mod Answers
-pub mod Bursts
-pub mod Causes
-pub mod Devices
-pub mod Tried
