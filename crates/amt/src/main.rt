@@ -8,8 +8,8 @@
 #![tactic(auto)]
 
 use amt_command::{Exit, amt_exit, exit_without_memory};
-use amt_live::HostLive;
 use amt_ports::{HostFiles, ReaderSource, WriterSink};
+use serving_commands::HostLive;
 use std::io::ErrorKind;
 use std::rt::Env;
 use std::{env, io};

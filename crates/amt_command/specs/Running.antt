@@ -5,14 +5,14 @@ use Rattle.amt_config.specs.declared.config.RelayConfig.{RelayConfig}
 use Rattle.amt_ports.specs.declared.files.Files.{Ghosts as FilesTell}
 use Rattle.amt_words.specs.Line.{IsCommandLine}
 use Rattle.amt_words.specs.declared.command.Command.TheVariants.{Gateway as GatewayServing, Relay as RelayServing}
-use Rattle.gateway_command.specs.Openings as gateway_openings
-use Rattle.gateway_command.specs.Running as gateways
-use Rattle.gateway_command.specs.Texts as gateway_texts
+use Rattle.serving_commands.specs.GatewayOpenings as gateway_openings
+use Rattle.serving_commands.specs.GatewayRunning as gateways
+use Rattle.serving_commands.specs.GatewayTexts as gateway_texts
 use Rattle.gateway_serving.specs.declared.served.GatewayServed.{GatewayServed}
-use Rattle.relay_command.specs.Openings as relay_openings
-use Rattle.relay_command.specs.Plans.{plan_by}
-use Rattle.relay_command.specs.Running as relays
-use Rattle.relay_command.specs.Texts as relay_texts
+use Rattle.serving_commands.specs.RelayOpenings as relay_openings
+use Rattle.serving_commands.specs.RelayPlans.{plan_by}
+use Rattle.serving_commands.specs.RelayRunning as relays
+use Rattle.serving_commands.specs.RelayTexts as relay_texts
 use Rattle.relay_serving.specs.declared.plan.ServeReport.{ServeReport}
 use Rattle.serving_commands.specs.Kinds.{gateway_file, relay_file}
 use Rattle.serving_commands.specs.Lives.{Tells}

@@ -3,8 +3,8 @@ use Rattle.std.specs.Prelude.{◌≡◌, ◌≢◌, ◌⊎◌, ◌==◌, ℕ, Li
 use Rattle.std.specs.Io.KnownBytes.{Appends}
 use Rattle.std.specs.List.{list_any}
 use Rattle.amt_config.specs.declared.fault.ConfigFault.TheVariants.{Memory as ConfigMemory}
-use Rattle.amt_live.specs.declared.asked.Opening.{Opening}
-use Rattle.amt_live.specs.declared.live.Live.{Ghosts as LiveTells}
+use Rattle.serving_commands.specs.declared.opening.asked.Opening.{Opening}
+use Rattle.serving_commands.specs.declared.opening.live.Live.{Ghosts as LiveTells}
 use Rattle.amt_ports.specs.Causes.{Rose}
 use Rattle.amt_ports.specs.declared.files.Files.{Ghosts as FilesTell}
 use Rattle.serving_commands.specs.Kinds.{SettingsKind}

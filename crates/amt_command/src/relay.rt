@@ -15,11 +15,11 @@ ghost use Rattle.amt_command.specs.Serving.{ComesTo, Shows};
 
 use crate::ending::Ending;
 use crate::serving::{Report, ending_of_fault, write_report};
-use amt_live::Live;
 use amt_ports::{End, Files, Sink};
 use amt_values::Bytes;
-use relay_command::{report_text, run_relay};
 use relay_serving::ServeReport;
+use serving_commands::Live;
+use serving_commands::relay::{report_text, run_relay};
 use std::alloc::{AllocError, Global};
 use std::sync::Wait;
 

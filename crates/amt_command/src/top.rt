@@ -22,9 +22,9 @@ use crate::relay::serve_relay_file;
 use crate::running::{run_task, write_load};
 use crate::scripts::{GatewayReplay, PairReplay, RelayReplay};
 use crate::texts::{Dump, Vectors};
-use amt_live::Live;
 use amt_ports::{Files, Sink, Source, write_all_own};
 use amt_words::{Command, Replayable, WordsFault, read_words};
+use serving_commands::Live;
 use std::alloc::Global;
 use std::sync::Wait;
 

@@ -1,10 +1,10 @@
 //! Opening the devices of the machine and giving them back, over the loopback. It knows public calls alone.
 
 use crate::loopback::{ANY, FarEnd, WAIT_MS, buffer};
-use amt_live::{HostLive, Live, OpenFault};
 use amt_ports::{Feed, FeedGot, Link, OutLink, UdpFeed, UdpLink};
 use amt_values::Peer;
 use replication_workers::Outs;
+use serving_commands::{HostLive, Live, OpenFault};
 use std::alloc::Global;
 use std::io;
 use std::mem::replace;

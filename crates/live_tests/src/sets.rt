@@ -2,10 +2,10 @@
 
 ghost use Rattle.std.specs.Prelude.{None};
 
-use amt_live::{DeviceSet, GatewayDevices, Live, MemLive, OpenFault, RelayDevices};
 use amt_ports::{Failed, MemClock, MemFeed, MemLink, MemOut, MemWords, Spawner, Task};
 use amt_values::{Ip, Peer};
 use replication_workers::{Outs, Worker, WorkerDone};
+use serving_commands::{DeviceSet, GatewayDevices, Live, MemLive, OpenFault, RelayDevices};
 use std::alloc::{AllocError, Global};
 use std::collections::VecDeque;
 use std::sync::Wait;

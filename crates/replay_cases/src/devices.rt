@@ -5,11 +5,11 @@ mod starters;
 
 use crate::failing::{Call, FailingCall, numbers_of};
 use crate::script::{Event, read_event};
-use amt_live::{DeviceSet, GatewayDevices, MemLive, RelayDevices};
 use amt_ports::{ListedSpawner, MemClock, MemFeed, MemLink, MemOut, MemWords, OutLink};
 use amt_values::{Ip, Moment, Peer};
 use arrivals::{feed_answers, link_answers};
 use replication_workers::Outs;
+use serving_commands::{DeviceSet, GatewayDevices, MemLive, RelayDevices};
 use starters::Starter;
 use std::alloc::{AllocError, Global};
 use std::sync::Wait;

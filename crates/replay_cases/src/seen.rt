@@ -1,9 +1,9 @@
 //! What the devices of a case saw, as lines of a case. It must not know what was wanted of them.
 
 use crate::devices::{Set, Sets, number_of};
-use amt_live::{DeviceSet, Opening};
 use amt_ports::{MemOut, Tried};
 use replication_workers::Outs;
+use serving_commands::{DeviceSet, Opening};
 use std::alloc::{AllocError, Global};
 use std::thread::Threads;
 

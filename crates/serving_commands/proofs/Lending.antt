@@ -1,9 +1,9 @@
 -- Devices that were opened and given back, or refused, put together from what each call says.
 use Rattle.std.proofs.Common.{◌≡◌, ℕ, List, Option, None, Some, IsSome, sym, subst, ap, arith, ◌∙◌}
-use Rattle.amt_live.specs.Sets.{HasRoom, TakesFirst, less_room, more_room}
-use Rattle.amt_live.specs.declared.asked.Opening.{Opening}
-use Rattle.amt_live.specs.declared.devices.DeviceSet.{DeviceSet}
-use Rattle.amt_live.specs.declared.live.Live.{Ghosts as LiveTells}
+use Rattle.serving_commands.specs.Sets.{HasRoom, TakesFirst, less_room, more_room}
+use Rattle.serving_commands.specs.declared.opening.asked.Opening.{Opening}
+use Rattle.serving_commands.specs.declared.opening.devices.DeviceSet.{DeviceSet}
+use Rattle.serving_commands.specs.declared.opening.live.Live.{Ghosts as LiveTells}
 use Rattle.amt_ports.specs.Told.{Appends}
 use Rattle.serving_commands.specs.Openings.{IsLent}
 

@@ -1,5 +1,16 @@
+pub mod GatewayLives
+pub mod GatewayOpenings
+pub mod GatewayRunning
+pub mod GatewayTexts
 pub mod Kinds
 pub mod Lives
+pub mod MemLive
 pub mod Openings
 pub mod Reading
+pub mod RelayLives
+pub mod RelayOpenings
+pub mod RelayPlans
+pub mod RelayRunning
+pub mod RelayTexts
+pub mod Sets
 pub mod Texts

@@ -1,6 +1,6 @@
 -- What a place tells where devices are opened, and what each of its devices does.
 use Rattle.std.specs.Prelude.{ℕ, Option}
-use Rattle.amt_live.specs.declared.live.Live.{Ghosts as LiveTells}
+use Rattle.serving_commands.specs.declared.opening.live.Live.{Ghosts as LiveTells}
 use Rattle.amt_ports.specs.declared.clock.Clock.{Ghosts as ClockTells}
 use Rattle.amt_ports.specs.declared.feed.Feed.{Ghosts as FeedTells}
 use Rattle.amt_ports.specs.declared.link.Link.{Ghosts as LinkTells}

@@ -1,9 +1,9 @@
 -- How devices are opened for a run, and given back.
 use Rattle.std.specs.Prelude.{◌≡◌, ℕ, List, Option, IsSome}
-use Rattle.amt_live.specs.Sets.{TakesFirst}
-use Rattle.amt_live.specs.declared.asked.Opening.{Opening}
-use Rattle.amt_live.specs.declared.devices.DeviceSet.{DeviceSet}
-use Rattle.amt_live.specs.declared.live.Live.{Ghosts as LiveTells}
+use Rattle.serving_commands.specs.Sets.{TakesFirst}
+use Rattle.serving_commands.specs.declared.opening.asked.Opening.{Opening}
+use Rattle.serving_commands.specs.declared.opening.devices.DeviceSet.{DeviceSet}
+use Rattle.serving_commands.specs.declared.opening.live.Live.{Ghosts as LiveTells}
 use Rattle.amt_ports.specs.Told.{Appends}
 use Rattle.serving_commands.specs.Kinds.{SettingsKind}
 use Rattle.serving_commands.specs.Reading.{IsConfigured}

@@ -1,19 +1,27 @@
-//! What `amt relay` and `amt gateway` have in common: a settings file is read, devices are opened and given back, and a
-//! report is written.
+//! What runs by a settings file: a relay and a gateway, between the arguments of `amt relay` and `amt gateway` and
+//! their statuses, the opening of their devices, and what both runs have in common.
 //!
-//! Contract: a file is read as the settings that it says, or why not is told.
-//! It knows no run, and of devices and files no more than their traits.
+//! Contract: a file is read as the settings that it says, or why not is told; devices are opened once, as the file
+//! says, and what a run leaves of them is given back whatever its end.
+//! It knows no message and no status; runs know of devices and files no more than their traits.
 //! Standard: none of its own; the texts stand in docs/FORMATS.md.
 #![tactic(auto)]
 
 mod fault;
+pub mod gateway;
 mod kinds;
+mod opening;
 mod reading;
+pub mod relay;
 mod report;
 mod settings;
 
 pub use fault::ServingFault;
 pub use kinds::FromSettings;
+pub use opening::{
+    DeviceSet, GatewayDevices, HostLive, Live, MemLive, OpenFault, Opening, RelayDevices,
+    WorkerThreads,
+};
 pub use reading::read_settings;
 pub use report::report_head;
 pub use settings::settings_line;

@@ -44,14 +44,14 @@ fn is_text(written: Result<Bytes, AllocError>, text: &str) -> bool {
 
 #[test]
 fn a_report_has_a_line_for_each_count(rt: HostRuntime) {
-    let relay = relay_command::report_text(rt.alloc(), &RELAY);
+    let relay = serving_commands::relay::report_text(rt.alloc(), &RELAY);
     assert!(rt;
         is_text(
             relay,
             "end turns\nturns 1099511627776\ndatagrams 2\npackets 3\nupdated 4\ntorn 5\nsent 6\nunsent 7\ninline 8\nstarved 9\nlate 10\nowed 11\npublished 12\napart 13\n",
         )
     );
-    let gateway = gateway_command::report_text(rt.alloc(), &GATEWAY);
+    let gateway = serving_commands::gateway::report_text(rt.alloc(), &GATEWAY);
     assert!(rt;
         is_text(
             gateway,

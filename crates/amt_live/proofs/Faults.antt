@@ -1,6 +1,0 @@
--- A fault of an inner call that is handed on.
-use Rattle.std.proofs.Common.{Err, IsErrOf}
-use Rattle.amt_live.specs.declared.live.OpenFault.{OpenFault}
-
-pub same_fault : {S T : Type 0} (one fault : OpenFault) → IsErrOf {T = S} (Err one) fault → IsErrOf {T = T} (Err one) fault
-same_fault one fault is = cc

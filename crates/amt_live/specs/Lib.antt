@@ -1,2 +1,0 @@
-pub mod MemLive
-pub mod Sets

@@ -1,4 +1,0 @@
-pub mod Lives
-pub mod Openings
-pub mod Running
-pub mod Texts

@@ -1,2 +1,0 @@
-mod Planning
-mod Runs

@@ -1,0 +1,79 @@
+-- A run on devices that were opened and given back, put together.
+use Rattle.std.proofs.Common.{◌≡◌, ℕ, List, length, Option, IsSome, subst, ◌∙◌}
+use Rattle.amt_config.specs.Relay.{settings_of}
+use Rattle.amt_config.specs.declared.config.RelayConfig.{RelayConfig}
+use Rattle.serving_commands.specs.Sets.{TakesFirst, less_room, more_room}
+use Rattle.serving_commands.specs.declared.opening.asked.Opening.{Opening}
+use Rattle.serving_commands.specs.declared.opening.asked.Opening.TheVariants.{Relay as AskedRelay}
+use Rattle.serving_commands.specs.declared.opening.devices.DeviceSet.TheVariants.{Relay as RelaySet}
+use Rattle.serving_commands.specs.declared.opening.devices.RelayDevices.{RelayDevices}
+use Rattle.serving_commands.specs.declared.opening.live.Live.{Ghosts as LiveTells}
+use Rattle.amt_ports.specs.Told.{Appends}
+use Rattle.published_table.specs.declared.view.View.{View}
+use Rattle.relay_machine.specs.declared.settings.Settings.{Settings}
+use Rattle.relay_serving.specs.Serving.{Serves}
+use Rattle.relay_serving.specs.declared.plan.ServePlan.{ServePlan}
+use Rattle.relay_serving.specs.declared.plan.ServeReport.{ServeReport}
+use Rattle.serving_commands.specs.RelayLives.{links_out_seen, set_seen}
+use Rattle.serving_commands.specs.RelayOpenings.{IsRefusedBy, opening_by, slots_of}
+use Rattle.serving_commands.specs.RelayPlans.{plan_by}
+use Rattle.serving_commands.specs.RelayRunning.{Runs, RunsBy}
+use Rattle.serving_commands.specs.Kinds.{relay_file}
+use Rattle.serving_commands.specs.Lives.{Tells}
+use Rattle.serving_commands.specs.Openings.{IsRefused}
+use Rattle.serving_commands.specs.Reading.{IsConfigured}
+use Rattle.serving_commands.proofs.Lending.{lent}
+
+-- the opening that was asked for is the plan's
+asks : (before after : Option (List Opening)) (config : RelayConfig) (plan : ServePlan) (slots : ℕ) → slots ≡ slots_of plan
+    → Appends before after (AskedRelay config.listen config.feed slots) → Appends before after (opening_by config plan)
+asks before after config plan slots is asked = subst (λ (number : ℕ). Appends before after (AskedRelay config.listen config.feed number)) is asked
+
+module _ {V L F C W O P T : Type 0} (live : LiveTells V L F C W O P T) where
+  pub refused_by : (content : Option (List ℕ)) (config : RelayConfig) (turns : ℕ) (workers : Option ℕ) (before after : V) (plan : ServePlan)
+      → IsConfigured relay_file content config → plan ≡ plan_by config turns workers → IsRefused live (opening_by config plan) before after
+      → IsRefusedBy live content turns workers before after
+  refused_by content config turns workers before after plan configured is refused = record {
+    config = config;
+    configured = configured;
+    refused = subst (λ (one : ServePlan). IsRefused live (opening_by config one) before after) is refused;
+  }
+
+  pub refused : (config : RelayConfig) (plan : ServePlan) (before after : V) (slots : ℕ) → slots ≡ slots_of plan
+      → Appends (live.asked before) (live.asked after) (AskedRelay config.listen config.feed slots) → live.sets after ≡ live.sets before
+      → live.returned after ≡ live.returned before → live.room after ≡ live.room before → IsRefused live (opening_by config plan) before after
+  refused config plan before after slots is asked sets returned room = record {
+    asked = asks _ _ config plan slots is asked;
+    sets = sets;
+    returned = returned;
+    room = room;
+  }
+
+module _ {V L F C W O P T : Type 0} (told : Tells V L F C W O P T) where
+  pub ran : (config : RelayConfig) (plan : ServePlan) (before between after : V) (opened left : RelayDevices L F C W O P) (views : List View) (report : ServeReport)
+      (settings : Settings) (slots : ℕ) → settings ≡ settings_of config → slots ≡ slots_of plan → length opened.outs ≡ slots
+      → Appends (told.live.asked before) (told.live.asked between) (AskedRelay config.listen config.feed slots)
+      → TakesFirst (told.live.sets before) (told.live.sets between) (RelaySet opened) → (IsSome (told.live.asked before) → IsSome (told.live.asked between))
+      → told.live.returned between ≡ told.live.returned before → told.live.room between ≡ more_room (told.live.room before)
+      → Appends (told.live.returned between) (told.live.returned after) (RelaySet left) → (IsSome (told.live.returned between) → IsSome (told.live.returned after))
+      → told.live.room after ≡ less_room (told.live.room between) → told.live.sets after ≡ told.live.sets between → told.live.asked after ≡ told.live.asked between
+      → Serves settings plan (set_seen told opened) (set_seen told left) (links_out_seen told opened) (links_out_seen told left) views report
+      → RunsBy told config plan before after report
+  ran config plan before between after opened left views report settings slots settings_are slots_are outs asked first tells returned more back tells_back less sets asked_after serves = record {
+    opened = opened;
+    left = left;
+    lent = lent told.live (opening_by config plan) (RelaySet opened) (RelaySet left) before between after (asks _ _ config plan slots slots_are asked) first tells returned more
+        back tells_back less sets asked_after;
+    outs = outs ∙ slots_are;
+    views = views;
+    serves = subst (λ (one : Settings). Serves one plan (set_seen told opened) (set_seen told left) (links_out_seen told opened) (links_out_seen told left) views report) settings_are serves;
+  }
+
+  pub ran_by : (content : Option (List ℕ)) (config : RelayConfig) (turns : ℕ) (workers : Option ℕ) (before after : V) (plan : ServePlan) (report : ServeReport)
+      → IsConfigured relay_file content config → plan ≡ plan_by config turns workers → RunsBy told config plan before after report
+      → Runs told content turns workers before after report
+  ran_by content config turns workers before after plan report configured is runs = record {
+    config = config;
+    configured = configured;
+    runs = subst (λ (one : ServePlan). RunsBy told config one before after report) is runs;
+  }

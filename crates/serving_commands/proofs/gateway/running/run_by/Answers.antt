@@ -1,0 +1,28 @@
+use Rattle.std.proofs.Math.Logic.{∥∥₁_map}
+use Rattle.serving_commands.proofs.GatewayRuns.{ran}
+use Rattle.serving_commands.proofs.gateway.running.run_by.Goals as goal
+use Rattle.serving_commands.proofs.Lending.{has_room}
+
+pub returns-in-Err-clause-refused : goal.returns-in-Err-clause-refused
+returns-in-Err-clause-refused g c =
+    let opening = c.in-Err.ensures in
+    record { asked = c.open_gateway.ensures.asked; sets = opening.kept; returned = c.open_gateway.ensures.returned; room = opening.same_room }
+
+pub return_gateway-requires : goal.return_gateway-requires
+return_gateway-requires g c = has_room _ _ c.in-Ok.ensures.room
+
+pub returns-clause-ran : goal.returns-clause-ran
+returns-clause-ran g c =
+    let opening = c.in-Ok.ensures in
+    let back = c.return_gateway.ensures in
+    let served = c.serve_gateway-report in
+    ∥∥₁_map served.ensures.serves
+    (ran _ c.args.config.now c.args.turns c.args.live.now c.open_gateway.new.self c.return_gateway.new.self c.in-Ok.devices
+    (record {
+      link = served.new.link;
+      control = served.new.control;
+      out = served.new.out;
+      clock = served.new.clock;
+      words = served.new.words;
+    }) served.result c.open_gateway.ensures.asked opening.first opening.tells c.open_gateway.ensures.returned opening.room
+    back.returned back.tells back.room back.kept back.asked)

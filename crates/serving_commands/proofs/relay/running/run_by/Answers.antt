@@ -1,0 +1,32 @@
+use Rattle.std.proofs.Math.Logic.{∥∥₁_map}
+use Rattle.published_table.specs.Views.{views_of}
+use Rattle.serving_commands.proofs.RelayRuns.{ran, refused}
+use Rattle.serving_commands.proofs.relay.running.run_by.Goals as goal
+use Rattle.serving_commands.proofs.Lending.{has_room}
+
+pub returns-in-Err-clause-refused : goal.returns-in-Err-clause-refused
+returns-in-Err-clause-refused g c =
+    let opening = c.in-Err.ensures in
+    refused g.V.Live c.args.config.now c.args.plan.now c.args.live.now c.open_relay.new.self c.max-slots.result c.max-slots.ensures
+    c.open_relay.ensures.asked opening.kept c.open_relay.ensures.returned opening.same_room
+
+pub return_relay-requires : goal.return_relay-requires
+return_relay-requires g c = has_room _ _ c.in-Ok.ensures.room
+
+pub returns-clause-ran : goal.returns-clause-ran
+returns-clause-ran g c =
+    let opening = c.in-Ok.ensures in
+    let back = c.return_relay.ensures in
+    let served = c.serve_relay-outs in
+    ∥∥₁_map served.ensures.serves
+    (ran _ c.args.config.now c.args.plan.now c.args.live.now c.open_relay.new.self c.return_relay.new.self c.in-Ok.devices
+    (record {
+      link = served.new.link;
+      feed = served.new.feed;
+      clock = served.new.clock;
+      words = served.new.words;
+      outs = served.result.outs;
+      spawner = served.new.spawner;
+    }) (views_of served.result.views) served.result.report c.settings.result c.max-slots.result c.settings.ensures c.max-slots.ensures
+    opening.outs c.open_relay.ensures.asked opening.first opening.tells c.open_relay.ensures.returned opening.room
+    back.returned back.tells back.room back.kept back.asked)

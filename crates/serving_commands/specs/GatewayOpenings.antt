@@ -1,0 +1,16 @@
+-- How devices are opened for a run.
+use Rattle.std.specs.Prelude.{ℕ, List, Option}
+use Rattle.amt_config.specs.declared.config.GatewayConfig.{GatewayConfig}
+use Rattle.serving_commands.specs.declared.opening.asked.Opening.{Opening}
+use Rattle.serving_commands.specs.declared.opening.asked.Opening.TheVariants.{Gateway as AskedGateway}
+use Rattle.serving_commands.specs.declared.opening.live.Live.{Ghosts as LiveTells}
+use Rattle.serving_commands.specs.Kinds.{gateway_file}
+use Rattle.serving_commands.specs.Openings.{IsRefusedFor}
+
+-- what a run asks for: the link and the control feed are those of the settings
+abbrev pub opening_by : GatewayConfig → Opening
+opening_by config = AskedGateway config.listen config.control
+
+-- what the settings ask for was refused
+abbrev pub IsRefusedBy : {V L F C W O P T : Type 0} → LiveTells V L F C W O P T → Option (List ℕ) → V → V → Type 0
+IsRefusedBy live content before after = IsRefusedFor live gateway_file opening_by content before after

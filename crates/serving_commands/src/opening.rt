@@ -1,0 +1,17 @@
+//! Opening the devices of a run, and taking them back.
+//!
+//! Contract: an opening gives a whole set of devices, or fails where its count of faults rose; where the
+//! sets to come, the openings asked and the devices given back are told, each call is told.
+//! It knows no message, and of the devices nothing but which of them make up a set.
+mod asked;
+mod devices;
+mod host;
+mod live;
+mod memory;
+mod returns;
+
+pub use asked::Opening;
+pub use devices::{DeviceSet, GatewayDevices, RelayDevices};
+pub use host::{HostLive, WorkerThreads};
+pub use live::{Live, OpenFault};
+pub use memory::MemLive;

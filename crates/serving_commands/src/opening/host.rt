@@ -1,0 +1,220 @@
+//! The devices of the machine. It must not know what runs on them.
+ghost use Rattle.std.specs.Prelude.{◌≡◌, ◌≤◌, IfOk, IsErrOf, None, length};
+ghost use Rattle.amt_ports.specs.Causes.{Rose};
+
+use crate::opening::devices::{GatewayDevices, RelayDevices};
+use crate::opening::live::{Live, OpenFault};
+use amt_ports::{
+    Failed, GivenBy, HostClock, HostWords, Starts, ThreadSpawner, UdpFeed, UdpLink, UdpOut,
+    open_sockets,
+};
+use amt_values::Peer;
+use replication_workers::{Outs, Worker, WorkerDone, start_worker};
+use std::alloc::Global;
+use std::fs;
+use std::fs::Files;
+use std::net::Net;
+use std::random::RandomSource;
+use std::sync::Wait;
+use std::thread::{PromisedHandle, Threads};
+use std::time::Clock;
+
+// How late the system may end a sleep, in nanoseconds. A turn in which nothing comes sleeps twice, for a millisecond
+// each: on time that is some 900 wakings a second, and with this 250.
+const TIMER_SLACK: &str = "3000000";
+
+/// What starts workers that send through UDP sockets, each in a thread of its own.
+#[derive(Debug, Drop)]
+pub struct WorkerThreads<R> {
+    rt: R,
+}
+
+impl<R: Threads + Wait + 'static> Starts<Worker<UdpOut>> for WorkerThreads<R> {
+    fn start_thread(
+        &self,
+        work: Worker<UdpOut>,
+    ) -> Result<PromisedHandle<WorkerDone<UdpOut>, GivenBy<Worker<UdpOut>>>, Failed> {
+        start_worker(&self.rt, work)
+    }
+}
+
+type HostDevices<R> = RelayDevices<
+    UdpLink,
+    UdpFeed,
+    HostClock<R>,
+    HostWords<R>,
+    UdpOut,
+    ThreadSpawner<R, WorkerThreads<R>>,
+>;
+
+type HostGateway<R> = GatewayDevices<UdpLink, UdpFeed, UdpOut, HostClock<R>, HostWords<R>>;
+
+/// The sockets, clock, random words and threads of the machine.
+#[derive(Debug, Drop)]
+pub struct HostLive<R> {
+    rt: R,
+    alloc: Global,
+    faults: u64,
+}
+
+impl<R: Copy> HostLive<R> {
+    /// The devices of the machine that `rt` runs on, none of which is open yet.
+    pub fn new(rt: R, alloc: Global) -> Self
+        ensures { result.faults ≡ 0 }
+    {
+        HostLive {
+            rt,
+            alloc,
+            faults: 0,
+        }
+    }
+
+    /// How many openings failed.
+    pub fn faults(&self) -> u64
+        ensures { result ≡ self.now.faults }
+    {
+        self.faults
+    }
+
+    // Counts an opening that failed.
+    fn count<T>(&mut self, opened: &Result<T, OpenFault>)
+        ensures later { self.old.faults ≤ self.new.faults }
+        ensures failed { IsErrOf opened.now OpenFault.Failed → Rose self.old.faults self.new.faults }
+        ensures quiet { ¬ IsErrOf opened.now OpenFault.Failed → self.new.faults ≡ self.old.faults }
+    {
+        if matches!(opened, Err(OpenFault::Failed)) {
+            self.faults = self.faults.saturating_add(1);
+        }
+    }
+}
+
+// An end of the link's socket for each slot.
+fn open_outs(alloc: Global, link: &UdpLink, slots: u32) -> Result<Outs<UdpOut>, OpenFault>
+    ensures { IfOk result (λ outs. length outs ≡ slots) }
+{
+    let mut outs = Outs::new(alloc);
+    for slot in 0..slots {
+        let Ok(out) = link.worker_end() else {
+            return Err(OpenFault::Failed);
+        };
+        if outs.push(out).is_err() {
+            return Err(OpenFault::Memory);
+        }
+    }
+    Ok(outs)
+}
+
+impl<R> Live for HostLive<R>
+where
+    R: Net + Threads + Wait + Clock + RandomSource + Files + Copy + Drop + 'static,
+{
+    type L = UdpLink;
+
+    type F = UdpFeed;
+
+    type C = HostClock<R>;
+
+    type W = HostWords<R>;
+
+    type O = UdpOut;
+
+    type P = ThreadSpawner<R, WorkerThreads<R>>;
+
+    ghost sets = { λ _. None };
+
+    ghost asked = { λ _. None };
+
+    ghost returned = { λ _. None };
+
+    ghost room = { λ _. None };
+
+    ghost faults = { λ live. live.faults };
+
+    fn open_relay(
+        &mut self,
+        listen: &Peer,
+        feed: &Peer,
+        slots: u32,
+    ) -> Result<HostDevices<R>, OpenFault> {
+        let opened = open_relay_devices(self.rt, self.alloc, listen, feed, slots);
+        self.count(&opened);
+        opened
+    }
+
+    fn return_relay(&mut self, devices: HostDevices<R>)
+        ensures faults { self.new.faults ≡ self.old.faults }
+    {
+        // The sockets are closed here.
+        drop(devices);
+    }
+
+    fn open_gateway(&mut self, listen: &Peer, control: &Peer) -> Result<HostGateway<R>, OpenFault> {
+        let opened = open_gateway_devices(self.rt, listen, control);
+        self.count(&opened);
+        opened
+    }
+
+    fn return_gateway(&mut self, devices: HostGateway<R>)
+        ensures faults { self.new.faults ≡ self.old.faults }
+    {
+        // The sockets are closed here.
+        drop(devices);
+    }
+}
+
+// What comes in ends a sleep at once, whatever this says. A system that has no such file ends sleeps on time, and an
+// idle run takes more of a processor: that is no fault.
+fn let_sleeps_end_late<F: Files>(files: &F) {
+    let _ = fs::write(files, "/proc/self/timerslack_ns", TIMER_SLACK);
+}
+
+fn open_relay_devices<R>(
+    rt: R,
+    alloc: Global,
+    listen: &Peer,
+    feed: &Peer,
+    slots: u32,
+) -> Result<HostDevices<R>, OpenFault>
+where
+    R: Net + Threads + Wait + Clock + RandomSource + Files + Copy + Drop + 'static,
+    ensures { IfOk result (λ devices. length devices.outs ≡ slots) }
+{
+    let_sleeps_end_late(&rt);
+    let Ok((link, feed)) = open_sockets(&rt, listen, feed) else {
+        return Err(OpenFault::Failed);
+    };
+    let outs = open_outs(alloc, &link, slots)?;
+    Ok(RelayDevices {
+        link,
+        feed,
+        clock: HostClock::new(rt),
+        words: HostWords::new(rt),
+        outs,
+        spawner: ThreadSpawner::new(rt, WorkerThreads { rt }),
+    })
+}
+
+// What is handed on goes out through the link's socket, so it comes from the peer that the link listens at.
+fn open_gateway_devices<R>(
+    rt: R,
+    listen: &Peer,
+    control: &Peer,
+) -> Result<HostGateway<R>, OpenFault>
+where
+    R: Net + Clock + RandomSource + Files + Copy,
+{
+    let_sleeps_end_late(&rt);
+    let Ok((link, control)) = open_sockets(&rt, listen, control) else {
+        return Err(OpenFault::Failed);
+    };
+    let Ok(out) = link.worker_end() else {
+        return Err(OpenFault::Failed);
+    };
+    Ok(GatewayDevices {
+        link,
+        control,
+        out,
+        clock: HostClock::new(rt),
+        words: HostWords::new(rt),
+    })
+}

@@ -1,0 +1,127 @@
+//! What opens the devices of a run. It must not know what they are over.
+ghost use Rattle.std.specs.Prelude.{◌≡◌, ◌≤◌, ℕ, IfOk, IsErrOf, IsSome, List, OnErr, OnOk, Option, length};
+ghost use Rattle.amt_ports.specs.Causes.{Rose};
+ghost use Rattle.amt_ports.specs.Told.{Appends};
+ghost use Rattle.serving_commands.specs.Sets.{HasRoom, TakesFirst, less_room, more_room};
+ghost use Rattle.serving_commands.specs.declared.opening.asked.Opening.{Opening as Asked};
+ghost use Rattle.serving_commands.specs.declared.opening.asked.Opening.TheVariants.{Relay as AskedRelay, Gateway as AskedGateway};
+ghost use Rattle.serving_commands.specs.declared.opening.devices.DeviceSet.{DeviceSet as Set};
+ghost use Rattle.serving_commands.specs.declared.opening.devices.DeviceSet.TheVariants.{Relay as RelaySet, Gateway as GatewaySet};
+
+use crate::opening::asked::Opening;
+use crate::opening::devices::{GatewayDevices, RelayDevices};
+use amt_ports::{Clock, Feed, Link, OutLink, Spawner, Words};
+use amt_values::Peer;
+use replication_workers::Worker;
+
+/// Why devices were not opened.
+#[derive(Clone, Copy, Debug, PartialEq, Eq)]
+pub enum OpenFault {
+    /// One of them can't be had. The count of faults is the evidence.
+    Failed,
+    /// Memory was refused.
+    Memory,
+}
+
+/// A place where the devices of a run are opened, and where they are given back at its end.
+pub trait Live {
+    type L: Link;
+
+    type F: Feed;
+
+    type C: Clock;
+
+    type W: Words;
+
+    type O: OutLink + Drop;
+
+    type P: Spawner<Worker<Self::O>>;
+
+    /// The sets of devices that openings will give from here on, where it tells them.
+    ghost sets: { Self → Option (List (Set Self.L Self.F Self.C Self.W Self.O Self.P)) };
+
+    /// The openings that were asked for so far, in order, where it tells them.
+    ghost asked: { Self → Option (List Asked) };
+
+    /// The sets that were given back so far, in order, where it tells them.
+    ghost returned: { Self → Option (List (Set Self.L Self.F Self.C Self.W Self.O Self.P)) };
+
+    /// For how many sets it has kept room, so that they can be given back without memory. None is that it
+    /// needs no room.
+    ghost room: { Self → Option ℕ };
+
+    /// How often an opening has failed. A count at 2^64 - 1 stays there.
+    ghost faults: { Self → ℕ };
+
+    /// Opens what a relay runs on: the link at the first peer, the feed at the second, and one link out for
+    /// each slot.
+    fn open_relay(
+        &mut self,
+        listen: &Peer,
+        feed: &Peer,
+        slots: u32,
+    ) -> Result<RelayDevices<Self::L, Self::F, Self::C, Self::W, Self::O, Self::P>, OpenFault>
+        ensures outs { IfOk result (λ devices. length devices.outs ≡ slots) }
+        ensures first { IfOk result (λ devices. TakesFirst (sets self.old) (sets self.new) (RelaySet devices)) }
+        ensures room { OnOk result (room self.new ≡ more_room (room self.old)) }
+
+        ensures kept { OnErr result (sets self.new ≡ sets self.old) }
+        ensures same_room { OnErr result (room self.new ≡ room self.old) }
+
+        ensures asked { Appends (asked self.old) (asked self.new) (AskedRelay listen.now feed.now slots) }
+        ensures tells { OnOk result (IsSome (asked self.old) → IsSome (asked self.new)) }
+        ensures returned { returned self.new ≡ returned self.old }
+
+        ensures later { faults self.old ≤ faults self.new }
+        ensures failed { IsErrOf result OpenFault.Failed → Rose (faults self.old) (faults self.new) }
+        ensures quiet { ¬ IsErrOf result OpenFault.Failed → faults self.new ≡ faults self.old };
+
+    /// Takes back what a relay ran on. It takes no memory: the room was made at the opening.
+    fn return_relay(
+        &mut self,
+        devices: RelayDevices<Self::L, Self::F, Self::C, Self::W, Self::O, Self::P>,
+    )
+        requires { HasRoom (room self.old) }
+        ensures returned { Appends (returned self.old) (returned self.new) (RelaySet devices) }
+        ensures tells { IsSome (returned self.old) → IsSome (returned self.new) }
+        ensures room { room self.new ≡ less_room (room self.old) }
+
+        ensures kept { sets self.new ≡ sets self.old }
+        ensures asked { asked self.new ≡ asked self.old }
+        ensures faults { faults self.new ≡ faults self.old };
+
+    /// Opens what a gateway runs on: the link at the first peer, and the feed of its control lines at the
+    /// second, with one link out.
+    fn open_gateway(
+        &mut self,
+        listen: &Peer,
+        control: &Peer,
+    ) -> Result<GatewayDevices<Self::L, Self::F, Self::O, Self::C, Self::W>, OpenFault>
+        ensures first { IfOk result (λ devices. TakesFirst (sets self.old) (sets self.new) (GatewaySet devices)) }
+        ensures room { OnOk result (room self.new ≡ more_room (room self.old)) }
+
+        ensures kept { OnErr result (sets self.new ≡ sets self.old) }
+        ensures same_room { OnErr result (room self.new ≡ room self.old) }
+
+        ensures asked { Appends (asked self.old) (asked self.new) (AskedGateway listen.now control.now) }
+        ensures tells { OnOk result (IsSome (asked self.old) → IsSome (asked self.new)) }
+        ensures returned { returned self.new ≡ returned self.old }
+
+        ensures later { faults self.old ≤ faults self.new }
+        ensures failed { IsErrOf result OpenFault.Failed → Rose (faults self.old) (faults self.new) }
+        ensures quiet { ¬ IsErrOf result OpenFault.Failed → faults self.new ≡ faults self.old };
+
+    /// Takes back what a gateway ran on. It takes no memory: the room was made at the opening.
+    fn return_gateway(
+        &mut self,
+        devices: GatewayDevices<Self::L, Self::F, Self::O, Self::C, Self::W>,
+    )
+        requires { HasRoom (room self.old) }
+        ensures returned { Appends (returned self.old) (returned self.new) (GatewaySet devices) }
+        ensures tells { IsSome (returned self.old) → IsSome (returned self.new) }
+        ensures room { room self.new ≡ less_room (room self.old) }
+
+        ensures kept { sets self.new ≡ sets self.old }
+        ensures asked { asked self.new ≡ asked self.old }
+        ensures faults { faults self.new ≡ faults self.old };
+}

@@ -1,0 +1,375 @@
+//! Sets of devices in memory, for tests and callers. They must not know what the devices are.
+ghost use Rattle.std.specs.Prelude.{◌≡◌, ◌≤◌, ◌<◌, ◌⊎◌, [], ◌∷◌, Contains, IfOk, IsErr, IsErrOf, IsSome, OnErr, OnOk, Some, false, length, true};
+ghost use Rattle.amt_ports.specs.Causes.{HasCause, Rose, next_count};
+ghost use Rattle.amt_ports.specs.Tally.{fresh_tally, with_call, with_fault};
+ghost use Rattle.amt_ports.specs.Told.{Appends};
+ghost use Rattle.serving_commands.specs.MemLive.{with_room, with_set};
+ghost use Rattle.serving_commands.specs.Sets.{HasRoom, TakesFirst, fits_gateway, fits_relay, less_room, more_room};
+ghost use Rattle.serving_commands.specs.declared.opening.asked.Opening.TheVariants.{Relay as AskedRelay, Gateway as AskedGateway};
+ghost use Rattle.serving_commands.specs.declared.opening.devices.DeviceSet.TheVariants.{Relay as RelaySet, Gateway as GatewaySet};
+
+use crate::opening::asked::{AskedLog, Opening};
+use crate::opening::devices::{DeviceSet, GatewayDevices, RelayDevices};
+use crate::opening::live::{Live, OpenFault};
+use crate::opening::returns::Returns;
+use amt_ports::{CallTally, Clock, Failed, Feed, Link, OutLink, Spawner, Words};
+use amt_values::Peer;
+use replication_workers::Worker;
+use std::alloc::Global;
+use std::marker::Model;
+
+/// Sets of devices, which are handed out in order, and of which some openings may fail.
+///
+/// An opening fails where its number is listed, where no set is to come, and where the first one isn't what it
+/// asks for: of the other kind, or a relay's with another number of links out than there are slots. That set
+/// stays the first one. Where memory refuses to keep what was asked, the openings aren't told from then on.
+#[derive(Drop)]
+pub struct MemLive<L, F, C, W, O, P> {
+    sets: Vec<DeviceSet<L, F, C, W, O, P>>,
+    asked: AskedLog,
+    returned: Returns<DeviceSet<L, F, C, W, O, P>>,
+    calls: CallTally,
+}
+
+impl<L, F, C, W, O, P> Model for MemLive<L, F, C, W, O, P> {
+    ghost use Rattle.serving_commands.specs.MemLive.{OpenCalls};
+    ghost use Rattle.serving_commands.specs.declared.opening.devices.DeviceSet.{DeviceSet as Set};
+
+    ghost Value = { OpenCalls (Set L F C W O P) };
+
+    ghost view = { λ live. record { sets = live.sets.items; asked = live.asked; returned = live.returned; calls = live.calls } };
+}
+
+impl<L: Drop, F: Drop, C: Drop, W: Drop, O: Drop, P: Drop> MemLive<L, F, C, W, O, P> {
+    /// No opening fails while a set that fits it is to come.
+    pub fn new(alloc: Global, sets: Vec<DeviceSet<L, F, C, W, O, P>>) -> Self
+        ensures sets { result.sets ≡ sets.items }
+        ensures asked { result.asked ≡ Some [] }
+        ensures returned { result.returned.sets ≡ [] }
+        ensures room { result.returned.room ≡ 0 }
+        ensures calls { result.calls ≡ fresh_tally [] }
+    {
+        MemLive::failing(alloc, sets, Vec::new(alloc))
+    }
+
+    /// The openings of these numbers fail, counted from 1.
+    pub fn failing(alloc: Global, sets: Vec<DeviceSet<L, F, C, W, O, P>>, calls: Vec<u64>) -> Self
+        ensures sets { result.sets ≡ sets.items }
+        ensures asked { result.asked ≡ Some [] }
+        ensures returned { result.returned.sets ≡ [] }
+        ensures room { result.returned.room ≡ 0 }
+        ensures calls { result.calls ≡ fresh_tally calls.items }
+    {
+        MemLive {
+            sets,
+            asked: AskedLog::new(alloc),
+            returned: Returns::new(alloc),
+            calls: CallTally::new(calls),
+        }
+    }
+
+    /// The openings that were asked for, in order; all of them, unless memory ran out.
+    pub fn asked(&self) -> &[Opening]
+        ensures { IsSome self.now.asked → self.now.asked ≡ Some result.now }
+    {
+        self.asked.as_slice()
+    }
+
+    /// The sets that were given back, in order.
+    pub fn returned(&self) -> &[DeviceSet<L, F, C, W, O, P>]
+        ensures { result.now ≡ self.now.returned.sets }
+    {
+        self.returned.as_slice()
+    }
+
+    /// How many openings failed.
+    pub fn faults(&self) -> u64
+        ensures { result ≡ self.now.calls.faults }
+    {
+        self.calls.faults()
+    }
+}
+
+// Whether the first set to come is a relay's, with so many links out.
+fn fits_relay<L, F, C, W, O: Drop, P>(slots: u32, sets: &[DeviceSet<L, F, C, W, O, P>]) -> bool
+    ensures { result ≡ fits_relay slots sets.now }
+{
+    match sets.first() {
+        Some(DeviceSet::Relay(devices)) => devices.outs.len() == slots as usize,
+        _ => false,
+    }
+}
+
+// Whether the first set to come is a gateway's.
+fn fits_gateway<L, F, C, W, O, P>(sets: &[DeviceSet<L, F, C, W, O, P>]) -> bool
+    ensures { result ≡ fits_gateway sets.now }
+{
+    matches!(sets.first(), Some(DeviceSet::Gateway(_)))
+}
+
+// Counts an opening, and a fault where its number is listed or the first set to come doesn't fit it.
+fn count_opening(calls: &mut CallTally, fits: bool) -> Result<(), Failed>
+    ensures listed { Contains calls.old.failing (next_count calls.old.made) → IsErr result }
+    ensures unfit { fits ≡ false → IsErr result }
+    ensures only { OnErr result (Contains calls.old.failing (next_count calls.old.made)
+        ⊎ (fits ≡ false)) }
+    ensures ok { OnOk result (calls.new ≡ with_call calls.old) }
+    ensures err { OnErr result (calls.new ≡ with_fault (with_call calls.old)) }
+    ensures cause { HasCause calls.old.faults calls.new.faults result }
+{
+    calls.call()?;
+    if !fits {
+        return Err(calls.fail());
+    }
+    Ok(())
+}
+
+// Keeps what was asked, counts the opening, and makes room for the return of the set that it hands out.
+fn admit<T: Drop>(
+    asked: &mut AskedLog,
+    calls: &mut CallTally,
+    returned: &mut Returns<T>,
+    opening: Opening,
+    fits: bool,
+) -> Result<(), OpenFault>
+    ensures fits { OnOk result (fits ≡ true) }
+    ensures room { OnOk result (returned.new ≡ with_room returned.old) }
+    ensures same_room { OnErr result (returned.new ≡ returned.old) }
+
+    ensures asked { Appends asked.old asked.new opening }
+    ensures tells { OnOk result (IsSome asked.old → IsSome asked.new) }
+
+    ensures listed { Contains calls.old.failing (next_count calls.old.made)
+        → IsErrOf result OpenFault.Failed }
+    ensures unfit { fits ≡ false → IsErrOf result OpenFault.Failed }
+    ensures only { IsErrOf result OpenFault.Failed
+        → Contains calls.old.failing (next_count calls.old.made) ⊎ (fits ≡ false) }
+    ensures err { IsErrOf result OpenFault.Failed
+        → calls.new ≡ with_fault (with_call calls.old) }
+    ensures ok { ¬ IsErrOf result OpenFault.Failed → calls.new ≡ with_call calls.old }
+    ensures rose { IsErrOf result OpenFault.Failed → Rose calls.old.faults calls.new.faults }
+    ensures later { calls.old.faults ≤ calls.new.faults }
+{
+    let kept = asked.keep(opening);
+    let Ok(()) = count_opening(calls, fits) else {
+        return Err(OpenFault::Failed);
+    };
+    if kept.is_err() {
+        return Err(OpenFault::Memory);
+    }
+    match returned.make_room() {
+        Ok(()) => Ok(()),
+        Err(_) => Err(OpenFault::Memory),
+    }
+}
+
+// Takes the first set out.
+fn take_first<T>(sets: &mut Vec<T>) -> T
+    requires { 1 ≤ length sets.old.items }
+    ensures { sets.old.items ≡ result ∷ sets.new.items }
+{
+    sets.remove(0)
+}
+
+// Takes the first set out, which is a relay's.
+fn take_relay<L, F, C, W, O, P>(
+    slots: u32,
+    sets: &mut Vec<DeviceSet<L, F, C, W, O, P>>,
+) -> RelayDevices<L, F, C, W, O, P>
+    requires { fits_relay slots sets.old.items ≡ true }
+    ensures first { sets.old.items ≡ RelaySet result ∷ sets.new.items }
+    ensures outs { length result.outs ≡ slots }
+{
+    match take_first(sets) {
+        DeviceSet::Relay(devices) => devices,
+        DeviceSet::Gateway(_) => unreachable!(),
+    }
+}
+
+// Takes the first set out, which is a gateway's.
+fn take_gateway<L, F, C, W, O, P>(
+    sets: &mut Vec<DeviceSet<L, F, C, W, O, P>>,
+) -> GatewayDevices<L, F, O, C, W>
+    requires { fits_gateway sets.old.items ≡ true }
+    ensures first { sets.old.items ≡ GatewaySet result ∷ sets.new.items }
+{
+    match take_first(sets) {
+        DeviceSet::Gateway(devices) => devices,
+        DeviceSet::Relay(_) => unreachable!(),
+    }
+}
+
+impl<L, F, C, W, O, P> Live for MemLive<L, F, C, W, O, P>
+where
+    L: Link + Drop,
+    F: Feed + Drop,
+    C: Clock + Drop,
+    W: Words + Drop,
+    O: OutLink + Drop,
+    P: Spawner<Worker<O>> + Drop,
+{
+    type L = L;
+
+    type F = F;
+
+    type C = C;
+
+    type W = W;
+
+    type O = O;
+
+    type P = P;
+
+    ghost sets = { λ live. Some live.sets };
+
+    ghost asked = { λ live. live.asked };
+
+    ghost returned = { λ live. Some live.returned.sets };
+
+    ghost room = { λ live. Some live.returned.room };
+
+    ghost faults = { λ live. live.calls.faults };
+
+    fn open_relay(
+        &mut self,
+        listen: &Peer,
+        feed: &Peer,
+        slots: u32,
+    ) -> Result<RelayDevices<L, F, C, W, O, P>, OpenFault>
+        ensures outs { IfOk result (λ devices. length devices.outs ≡ slots) }
+        ensures first { IfOk result (λ devices. TakesFirst (Some self.old.sets)
+            (Some self.new.sets) (RelaySet devices)) }
+        ensures room { OnOk result
+            (Some self.new.returned.room ≡ more_room (Some self.old.returned.room)) }
+
+        ensures kept { OnErr result (Some self.new.sets ≡ Some self.old.sets) }
+        ensures same_room { OnErr result
+            (Some self.new.returned.room ≡ Some self.old.returned.room) }
+
+        ensures asked { Appends self.old.asked self.new.asked
+            (AskedRelay listen.now feed.now slots) }
+        ensures tells { OnOk result (IsSome self.old.asked → IsSome self.new.asked) }
+        ensures returned { Some self.new.returned.sets ≡ Some self.old.returned.sets }
+
+        ensures later { self.old.calls.faults ≤ self.new.calls.faults }
+        ensures failed { IsErrOf result OpenFault.Failed
+            → Rose self.old.calls.faults self.new.calls.faults }
+        ensures quiet { ¬ IsErrOf result OpenFault.Failed
+            → self.new.calls.faults ≡ self.old.calls.faults }
+
+        ensures listed { Contains self.old.calls.failing (next_count self.old.calls.made)
+            → IsErrOf result OpenFault.Failed }
+        ensures unfit { fits_relay slots self.old.sets ≡ false → IsErrOf result OpenFault.Failed }
+        ensures only { IsErrOf result OpenFault.Failed
+            → Contains self.old.calls.failing (next_count self.old.calls.made)
+            ⊎ (fits_relay slots self.old.sets ≡ false) }
+        ensures err { IsErrOf result OpenFault.Failed
+            → self.new.calls ≡ with_fault (with_call self.old.calls) }
+        ensures ok { ¬ IsErrOf result OpenFault.Failed
+            → self.new.calls ≡ with_call self.old.calls }
+    {
+        let opening = Opening::Relay {
+            listen: *listen,
+            feed: *feed,
+            slots,
+        };
+        let fits = fits_relay(slots, self.sets.as_slice());
+        match admit(
+            &mut self.asked,
+            &mut self.calls,
+            &mut self.returned,
+            opening,
+            fits,
+        ) {
+            Ok(()) => Ok(take_relay(slots, &mut self.sets)),
+            Err(fault) => Err(fault),
+        }
+    }
+
+    fn return_relay(&mut self, devices: RelayDevices<L, F, C, W, O, P>)
+        requires { HasRoom (Some self.old.returned.room) }
+        ensures returned { Appends (Some self.old.returned.sets) (Some self.new.returned.sets)
+            (RelaySet devices) }
+        ensures tells { IsSome (Some self.old.returned.sets)
+            → IsSome (Some self.new.returned.sets) }
+        ensures room { Some self.new.returned.room ≡ less_room (Some self.old.returned.room) }
+
+        ensures kept { Some self.new.sets ≡ Some self.old.sets }
+        ensures asked { self.new.asked ≡ self.old.asked }
+        ensures faults { self.new.calls.faults ≡ self.old.calls.faults }
+
+        ensures calls { self.new.calls ≡ self.old.calls }
+    {
+        self.returned.keep(DeviceSet::Relay(devices));
+    }
+
+    fn open_gateway(
+        &mut self,
+        listen: &Peer,
+        control: &Peer,
+    ) -> Result<GatewayDevices<L, F, O, C, W>, OpenFault>
+        ensures first { IfOk result (λ devices. TakesFirst (Some self.old.sets)
+            (Some self.new.sets) (GatewaySet devices)) }
+        ensures room { OnOk result
+            (Some self.new.returned.room ≡ more_room (Some self.old.returned.room)) }
+
+        ensures kept { OnErr result (Some self.new.sets ≡ Some self.old.sets) }
+        ensures same_room { OnErr result
+            (Some self.new.returned.room ≡ Some self.old.returned.room) }
+
+        ensures asked { Appends self.old.asked self.new.asked
+            (AskedGateway listen.now control.now) }
+        ensures tells { OnOk result (IsSome self.old.asked → IsSome self.new.asked) }
+        ensures returned { Some self.new.returned.sets ≡ Some self.old.returned.sets }
+
+        ensures later { self.old.calls.faults ≤ self.new.calls.faults }
+        ensures failed { IsErrOf result OpenFault.Failed
+            → Rose self.old.calls.faults self.new.calls.faults }
+        ensures quiet { ¬ IsErrOf result OpenFault.Failed
+            → self.new.calls.faults ≡ self.old.calls.faults }
+
+        ensures listed { Contains self.old.calls.failing (next_count self.old.calls.made)
+            → IsErrOf result OpenFault.Failed }
+        ensures unfit { fits_gateway self.old.sets ≡ false → IsErrOf result OpenFault.Failed }
+        ensures only { IsErrOf result OpenFault.Failed
+            → Contains self.old.calls.failing (next_count self.old.calls.made)
+            ⊎ (fits_gateway self.old.sets ≡ false) }
+        ensures err { IsErrOf result OpenFault.Failed
+            → self.new.calls ≡ with_fault (with_call self.old.calls) }
+        ensures ok { ¬ IsErrOf result OpenFault.Failed
+            → self.new.calls ≡ with_call self.old.calls }
+    {
+        let opening = Opening::Gateway {
+            listen: *listen,
+            control: *control,
+        };
+        let fits = fits_gateway(self.sets.as_slice());
+        match admit(
+            &mut self.asked,
+            &mut self.calls,
+            &mut self.returned,
+            opening,
+            fits,
+        ) {
+            Ok(()) => Ok(take_gateway(&mut self.sets)),
+            Err(fault) => Err(fault),
+        }
+    }
+
+    fn return_gateway(&mut self, devices: GatewayDevices<L, F, O, C, W>)
+        requires { HasRoom (Some self.old.returned.room) }
+        ensures returned { Appends (Some self.old.returned.sets) (Some self.new.returned.sets)
+            (GatewaySet devices) }
+        ensures tells { IsSome (Some self.old.returned.sets)
+            → IsSome (Some self.new.returned.sets) }
+        ensures room { Some self.new.returned.room ≡ less_room (Some self.old.returned.room) }
+
+        ensures kept { Some self.new.sets ≡ Some self.old.sets }
+        ensures asked { self.new.asked ≡ self.old.asked }
+        ensures faults { self.new.calls.faults ≡ self.old.calls.faults }
+
+        ensures calls { self.new.calls ≡ self.old.calls }
+    {
+        self.returned.keep(DeviceSet::Gateway(devices));
+    }
+}
