@@ -1,22 +1,7 @@
 -- What the status of a run says, by how the run of a work ends.
 use Rattle.std.proofs.Common.{◌≡◌, ◌⊎◌, ℕ, Option, List, Result, Ok, Err, IfErr, IsErrOf, inl, inr, refl, ap}
-use Rattle.amt_command.specs.declared.ending.Ending.{Ending}
-use Rattle.amt_command.specs.declared.ending.Ending.TheVariants.{Difference, Fault, LinkFault, Memory, RandomFault, ReadFault, TooLong, Usage, WriteFault}
-use Rattle.amt_command.specs.Ending.{EndsFor, LeavesDevices, TellsWhy, line_of, status_of, status_of_ending}
-use Rattle.amt_command.specs.Command.{IsReadingStatus}
-use Rattle.amt_command.specs.Status.{AnswersFor, IsDifferenceOf, IsFaultOf, IsLineOfStatus}
-use Rattle.amt_command.specs.Task.{HasOneValue, Task, Work, making, reading, serving}
-use Rattle.amt_command.proofs.Endings.{difference_of, done_of, fault_of, memory_of, on_done, on_error, other_line, read_of, too_long_of, write_of}
-use Rattle.amt_command.proofs.Undisturbed.{decided}
-
--- out of memory before anything was done
-pub ends_before : (work : Work) (left : Option (List ℕ)) (reads : ℕ) (written : Option (List ℕ)) (OutIsSame InputIsSame : Type 0) → OutIsSame → InputIsSame
-    → EndsFor work left left reads reads written written OutIsSame InputIsSame (Err Memory)
-ends_before (reading X task) left reads written OutIsSame InputIsSame out input =
-    record { done = tt; why = tt; read = λ is. cc is; too_long = λ is. cc is; begun = λ is. cc is; memory = λ is. inl out }
-ends_before (making text) left reads written OutIsSame InputIsSame out input =
-    record { done = tt; begun = λ is. cc is; memory = λ is. out; untouched = input; only = inr refl }
-ends_before serving left reads written OutIsSame InputIsSame out input = record { untouched = input; fault = λ line is. cc is; no_difference = λ line is. cc is }
+use Rattle.amt_command.specs.{declared.ending.Ending.{Ending, TheVariants.{Difference, Fault, LinkFault, Memory, RandomFault, ReadFault, TooLong, Usage, WriteFault}}, Ending.{EndsFor, LeavesDevices, TellsWhy, line_of, status_of, status_of_ending}, Command.{IsReadingStatus}}
+use Rattle.amt_command.{specs.{Status.{AnswersFor, IsDifferenceOf, IsFaultOf, IsLineOfStatus}, Task.{HasOneValue, Task, Work, making, reading, serving}}, proofs.{Endings.{difference_of, done_of, fault_of, memory_of, on_done, on_error, other_line, read_of, too_long_of, write_of}, Undisturbed.{decided}}}
 
 -- how a run without input ends that isn't done
 abbrev IsLate : Ending → Type 0

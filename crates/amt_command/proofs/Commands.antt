@@ -1,27 +1,14 @@
 -- The commands, by cases: what each reads, it reads in one way at most, and with one fault at most.
 use Rattle.std.proofs.Common.{◌≡◌, ◌⊎◌, ℕ, List, [], ◌∷◌, Option, Result, Ok, Err, IfErr, inl, inr, refl, subst, arith}
-use Rattle.script_lines.specs.Script.{IsErrorOf, RulesOutScripts}
-use Rattle.script_lines.specs.declared.fault.ScriptError.{ScriptError}
+use Rattle.script_lines.{specs.{Script.{IsErrorOf, RulesOutScripts}, declared.fault.ScriptError.{ScriptError}}, proofs.Verdicts.{one_fault, one_script}}
 use Rattle.script_lines.specs.declared.fault.ScriptError.TheVariants as errors
-use Rattle.script_lines.proofs.Verdicts.{one_fault, one_script}
-use Rattle.amt_dump.proofs.Lawful.{dump_kind_lawful, one_dump}
-use Rattle.amt_dump.specs.Lines.{dump_kind}
-use Rattle.amt_script.proofs.Lawful.{relay_kind_lawful}
-use Rattle.amt_script.specs.Script.{relay_kind}
-use Rattle.amt_vectors.proofs.Lawful.{vector_kind_lawful}
-use Rattle.amt_vectors.proofs.Reports.{report_unique}
-use Rattle.amt_vectors.specs.Kind.{vector_kind}
-use Rattle.gateway_script.proofs.Lawful.{gateway_kind_lawful}
-use Rattle.gateway_script.specs.Script.{gateway_kind}
-use Rattle.pair_script.proofs.Lawful.{pair_kind_lawful}
-use Rattle.pair_script.specs.Script.{pair_kind}
-use Rattle.amt_words.specs.declared.command.Command.{Command}
-use Rattle.amt_words.specs.declared.command.Command.TheVariants.{Dump, Load, Replay, Vectors, Gateway as GatewayServing, Relay as RelayServing}
-use Rattle.amt_words.specs.declared.command.Replayable.TheVariants.{Gateway, Pair, Relay}
-use Rattle.amt_words.specs.Line.{IsAccepted, IsCommandLine}
-use Rattle.amt_words.specs.Usage.{dump_usage, gateway_usage, load_usage, relay_usage, replay_usage, vectors_usage}
-use Rattle.amt_command.specs.Command.{dump_task, vectors_task, work_of}
-use Rattle.amt_command.specs.Task.{HasOneFaultFor, HasOneValue, IsErrorBy}
+use Rattle.amt_dump.{proofs.Lawful.{dump_kind_lawful, one_dump}, specs.Lines.{dump_kind}}
+use Rattle.amt_script.{proofs.Lawful.{relay_kind_lawful}, specs.Script.{relay_kind}}
+use Rattle.amt_vectors.{proofs.{Lawful.{vector_kind_lawful}, Reports.{report_unique}}, specs.Kind.{vector_kind}}
+use Rattle.gateway_script.{proofs.Lawful.{gateway_kind_lawful}, specs.Script.{gateway_kind}}
+use Rattle.pair_script.{proofs.Lawful.{pair_kind_lawful}, specs.Script.{pair_kind}}
+use Rattle.amt_words.specs.{declared.command.{Command.{Command, TheVariants.{Dump, Load, Replay, Vectors, Gateway as GatewayServing, Relay as RelayServing}}, Replayable.TheVariants.{Gateway, Pair, Relay}}, Line.{IsAccepted, IsCommandLine}, Usage.{dump_usage, gateway_usage, load_usage, relay_usage, replay_usage, vectors_usage}}
+use Rattle.amt_command.specs.{Command.{dump_task, vectors_task, work_of}, Task.{HasOneFaultFor, HasOneValue, IsErrorBy}}
 
 pub one_value_of : (command : Command) → HasOneValue (work_of command)
 one_value_of (Replay Relay) = one_script relay_kind relay_kind_lawful

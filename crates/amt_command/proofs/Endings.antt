@@ -1,9 +1,6 @@
 -- Endings by their statuses.
 use Rattle.std.proofs.Common.{◌≡◌, ◌⊎◌, ℕ, List, Result, Ok, Err, IsOk, OnOk, IfErr, IsErrOf, inl, inr, refl, subst, arith}
-use Rattle.amt_command.specs.declared.ending.Ending.{Ending}
-use Rattle.amt_command.specs.declared.ending.Ending.TheVariants.{Difference, Fault, LinkFault, Memory, RandomFault, ReadFault, TooLong, Usage, WriteFault}
-use Rattle.amt_command.specs.Command.{status_line}
-use Rattle.amt_command.specs.Ending.{line_of, status_of}
+use Rattle.amt_command.specs.{declared.ending.Ending.{Ending, TheVariants.{Difference, Fault, LinkFault, Memory, RandomFault, ReadFault, TooLong, Usage, WriteFault}}, Command.{status_line}, Ending.{line_of, status_of}}
 
 -- what follows of each ending follows
 pub by_ending : {P : Type 0} (r : Result (Unit {0}) Ending) → (IsOk r → P) → (IsErrOf r Usage → P) → ((line : List ℕ) → IsErrOf r (Fault line) → P)

@@ -1,13 +1,9 @@
 -- What a status and a line show of the answer of a run by a settings file.
 use Rattle.std.proofs.Common.{◌≡◌, ◌⊎◌, ℕ, List, Option, Result, Err, inl, inr, refl, sym, subst, ◌∙◌, arith}
 use Rattle.amt_config.specs.declared.fault.ConfigFault.{ConfigFault}
-use Rattle.serving_commands.specs.Texts.{settings_line}
-use Rattle.serving_commands.specs.declared.fault.ServingFault.{ServingFault}
+use Rattle.serving_commands.specs.{Texts.{settings_line}, declared.fault.ServingFault.{ServingFault}}
 use Rattle.serving_commands.specs.declared.fault.ServingFault.TheVariants as faults
-use Rattle.amt_command.specs.declared.ending.Ending.{Ending}
-use Rattle.amt_command.specs.declared.ending.Ending.TheVariants.{Fault, Memory}
-use Rattle.amt_command.specs.Ending.{line_of, line_of_ending, status_of, status_of_ending}
-use Rattle.amt_command.specs.Serving.{Reporting, Shows, TakesMemory, ending_of_answer, ending_of_fault}
+use Rattle.amt_command.specs.{declared.ending.Ending.{Ending, TheVariants.{Fault, Memory}}, Ending.{line_of, line_of_ending, status_of, status_of_ending}, Serving.{Reporting, Shows, TakesMemory, ending_of_answer, ending_of_fault}}
 
 -- the fault is told as it is, or memory ran out for the line of one of the settings
 abbrev pub IsToldAs : ServingFault → Ending → Type 0

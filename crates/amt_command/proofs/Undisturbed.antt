@@ -1,14 +1,8 @@
 -- Where nothing disturbs a run that reads its input, the octets alone decide how it ends, unless memory runs out.
 use Rattle.std.proofs.Common.{◌≡◌, ℕ, ◌≤◌, Option, Some, None, List, length, Result, IsOk, IsErrOf, inl, inr, sym, subst, ap, ◌∙◌, arith}
-use Rattle.amt_ports.specs.Reading.{TakesAll, TakesMore}
+use Rattle.amt_ports.{specs.Reading.{TakesAll, TakesMore}, proofs.Taken.{TakesAll-told, TakesMore-told}}
 use Rattle.amt_values.specs.declared.bytes.TheConstants.{INPUT_LIMIT}
-use Rattle.amt_ports.proofs.Taken.{TakesAll-told, TakesMore-told}
-use Rattle.amt_command.specs.declared.ending.Ending.{Ending}
-use Rattle.amt_command.specs.declared.ending.Ending.TheVariants.{Difference, Fault, LinkFault, RandomFault, ReadFault, Usage, WriteFault}
-use Rattle.amt_command.specs.Ending.{EndsReading, TellsWhy, status_of}
-use Rattle.amt_command.specs.Status.{Decides}
-use Rattle.amt_command.specs.Task.{HasOneValue, IsDifferenceText, IsFaultText, IsInput, Task, Writes, reading}
-use Rattle.amt_command.proofs.Endings.{by_ending, done_status, on_done, on_error}
+use Rattle.amt_command.{specs.{declared.ending.Ending.{Ending, TheVariants.{Difference, Fault, LinkFault, RandomFault, ReadFault, Usage, WriteFault}}, Ending.{EndsReading, TellsWhy, status_of}, Status.{Decides}, Task.{HasOneValue, IsDifferenceText, IsFaultText, IsInput, Task, Writes, reading}}, proofs.Endings.{by_ending, done_status, on_done, on_error}}
 
 -- an input that was read to its end, where it told its octets
 told_all : (left left' : Option (List ℕ)) (bytes read : List ℕ) → left ≡ Some bytes → TakesAll left left' read → read ≡ bytes

@@ -1,28 +1,13 @@
 -- The commands, by what each does, and the statuses of `amt`.
-use Rattle.std.specs.Prelude.{ℕ, ◌==◌, List, [], ◌∷◌, ◌++◌, None, IsTrue, codes, if◌then◌else◌}
-use Rattle.std.specs.List.{list_any}
-use Rattle.amt_dump.specs.Dump.{IsDump}
-use Rattle.amt_dump.specs.Lines.{dump_kind}
+use Rattle.std.specs.{Prelude.{ℕ, ◌==◌, List, [], ◌∷◌, ◌++◌, None, IsTrue, codes, if◌then◌else◌}, List.{list_any}}
+use Rattle.amt_dump.specs.{Dump.{IsDump}, Lines.{dump_kind}}
 use Rattle.amt_ports.specs.Causes.{Rose}
-use Rattle.amt_script.specs.Script.{relay_kind}
-use Rattle.amt_script.specs.Texts.{relay_script_text}
-use Rattle.amt_script.specs.declared.script.RelayScript.{RelayScript}
-use Rattle.amt_vectors.specs.Kind.{vector_kind}
-use Rattle.amt_vectors.specs.Report.{IsVectorsReport}
-use Rattle.amt_vectors.specs.Texts.{difference_of, suite_text}
-use Rattle.amt_vectors.specs.declared.report.SuiteReport.{SuiteReport}
-use Rattle.amt_words.specs.declared.command.Command.{Command}
-use Rattle.amt_words.specs.declared.command.Command.TheVariants.{Dump, Load, Replay, Vectors, Gateway as GatewayServing, Relay as RelayServing}
-use Rattle.amt_words.specs.declared.command.Replayable.TheVariants.{Gateway, Pair, Relay}
-use Rattle.gateway_script.specs.Script.{gateway_kind}
-use Rattle.gateway_script.specs.Texts.{gateway_script_text}
-use Rattle.gateway_script.specs.declared.script.GatewayScript.{GatewayScript}
-use Rattle.pair_script.specs.Script.{pair_kind}
-use Rattle.pair_script.specs.Texts.{pair_script_text}
-use Rattle.pair_script.specs.declared.script.PairScript.{PairScript}
-use Rattle.relay_load.specs.Counts.{summary_of}
-use Rattle.relay_load.specs.Script.{load_script_of}
-use Rattle.relay_load.specs.Texts.{load_text}
+use Rattle.amt_script.specs.{Script.{relay_kind}, Texts.{relay_script_text}, declared.script.RelayScript.{RelayScript}}
+use Rattle.amt_vectors.specs.{Kind.{vector_kind}, Report.{IsVectorsReport}, Texts.{difference_of, suite_text}, declared.report.SuiteReport.{SuiteReport}}
+use Rattle.amt_words.specs.declared.command.{Command.{Command, TheVariants.{Dump, Load, Replay, Vectors, Gateway as GatewayServing, Relay as RelayServing}}, Replayable.TheVariants.{Gateway, Pair, Relay}}
+use Rattle.gateway_script.specs.{Script.{gateway_kind}, Texts.{gateway_script_text}, declared.script.GatewayScript.{GatewayScript}}
+use Rattle.pair_script.specs.{Script.{pair_kind}, Texts.{pair_script_text}, declared.script.PairScript.{PairScript}}
+use Rattle.relay_load.specs.{Counts.{summary_of}, Script.{load_script_of}, Texts.{load_text}}
 use Rattle.script_lines.specs.Script.{IsFaultAt}
 use Rattle.amt_command.specs.Task.{Task, Work, making, reading, replay_task, serving}
 

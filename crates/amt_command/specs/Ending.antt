@@ -1,16 +1,11 @@
 -- The status and the line of each ending.
-use Rattle.std.specs.Prelude.{◌≡◌, ◌≢◌, ◌⊎◌, ℕ, List, [], Option, Result, Ok, Err, OnOk, IfErr, IsErrOf}
-use Rattle.std.specs.Io.KnownBytes.{Appends}
-use Rattle.amt_ports.specs.Causes.{Rose}
-use Rattle.amt_ports.specs.Reading.{TakesAtMost, TakesMore}
+use Rattle.std.specs.{Prelude.{◌≡◌, ◌≢◌, ◌⊎◌, ℕ, List, [], Option, Result, Ok, Err, OnOk, IfErr, IsErrOf}, Io.KnownBytes.{Appends}}
+use Rattle.amt_ports.specs.{Causes.{Rose}, Reading.{TakesAtMost, TakesMore}}
 use Rattle.amt_values.specs.declared.bytes.TheConstants.{INPUT_LIMIT}
 use Rattle.amt_config.specs.declared.fault.ConfigFault.{ConfigFault}
 use Rattle.serving_commands.specs.Texts.{settings_line}
 use Rattle.script_lines.specs.Writing.{WritesPrefix}
-use Rattle.amt_command.specs.declared.ending.Ending.{Ending}
-use Rattle.amt_command.specs.declared.ending.Ending.TheVariants.{Difference, Fault, LinkFault, Memory, RandomFault, ReadFault, TooLong, Usage, WriteFault}
-use Rattle.amt_command.specs.Command.{status_line}
-use Rattle.amt_command.specs.Task.{BeginsToWrite, IsDifferenceText, IsFaultText, Task, Work, Writes, making, reading, serving}
+use Rattle.amt_command.specs.{declared.ending.Ending.{Ending, TheVariants.{Difference, Fault, LinkFault, Memory, RandomFault, ReadFault, TooLong, Usage, WriteFault}}, Command.{status_line}, Task.{BeginsToWrite, IsDifferenceText, IsFaultText, Task, Work, Writes, making, reading, serving}}
 
 -- the status of an ending that isn't well
 abbrev pub status_of_ending : Ending → ℕ

@@ -1,21 +1,17 @@
 -- What is said of the commands `relay` and `gateway`, which serve by a settings file.
 use Rattle.std.specs.Prelude.{ℕ, List, Option}
-use Rattle.amt_config.specs.declared.config.GatewayConfig.{GatewayConfig}
-use Rattle.amt_config.specs.declared.config.RelayConfig.{RelayConfig}
+use Rattle.amt_config.specs.declared.config.{GatewayConfig.{GatewayConfig}, RelayConfig.{RelayConfig}}
 use Rattle.amt_ports.specs.declared.files.Files.{Ghosts as FilesTell}
-use Rattle.amt_words.specs.Line.{IsCommandLine}
-use Rattle.amt_words.specs.declared.command.Command.TheVariants.{Gateway as GatewayServing, Relay as RelayServing}
+use Rattle.amt_words.specs.{Line.{IsCommandLine}, declared.command.Command.TheVariants.{Gateway as GatewayServing, Relay as RelayServing}}
 use Rattle.serving_commands.specs.GatewayOpenings as gateway_openings
 use Rattle.serving_commands.specs.GatewayRunning as gateways
 use Rattle.serving_commands.specs.GatewayTexts as gateway_texts
 use Rattle.gateway_serving.specs.declared.served.GatewayServed.{GatewayServed}
 use Rattle.serving_commands.specs.RelayOpenings as relay_openings
-use Rattle.serving_commands.specs.RelayPlans.{plan_by}
+use Rattle.serving_commands.specs.{RelayPlans.{plan_by}, Kinds.{gateway_file, relay_file}, Lives.{Tells}}
 use Rattle.serving_commands.specs.RelayRunning as relays
 use Rattle.serving_commands.specs.RelayTexts as relay_texts
 use Rattle.relay_serving.specs.declared.plan.ServeReport.{ServeReport}
-use Rattle.serving_commands.specs.Kinds.{gateway_file, relay_file}
-use Rattle.serving_commands.specs.Lives.{Tells}
 use Rattle.amt_command.specs.Serving.{Reporting, Serves, Service}
 
 -- the arguments are those of `relay`

@@ -1,24 +1,12 @@
 -- What is said of a command that serves by a settings file: what it comes to, and how that is shown.
-use Rattle.std.specs.Prelude.{◌≡◌, ◌≢◌, ◌⊎◌, ◌==◌, ℕ, List, [], ◌∷◌, Option, Some, Result, Ok, Err, IfErr, IfOk, IsErrOf, IsTrue}
-use Rattle.std.specs.Io.KnownBytes.{Appends}
-use Rattle.std.specs.List.{list_any}
+use Rattle.std.specs.{Prelude.{◌≡◌, ◌≢◌, ◌⊎◌, ◌==◌, ℕ, List, [], ◌∷◌, Option, Some, Result, Ok, Err, IfErr, IfOk, IsErrOf, IsTrue}, Io.KnownBytes.{Appends}, List.{list_any}}
 use Rattle.amt_config.specs.declared.fault.ConfigFault.TheVariants.{Memory as ConfigMemory}
-use Rattle.serving_commands.specs.declared.opening.asked.Opening.{Opening}
-use Rattle.serving_commands.specs.declared.opening.live.Live.{Ghosts as LiveTells}
-use Rattle.amt_ports.specs.Causes.{Rose}
-use Rattle.amt_ports.specs.declared.files.Files.{Ghosts as FilesTell}
-use Rattle.serving_commands.specs.Kinds.{SettingsKind}
-use Rattle.serving_commands.specs.Openings.{ComesFirst, IsRefusedFor}
-use Rattle.serving_commands.specs.Reading.{Decides, TellsFault}
-use Rattle.serving_commands.specs.Texts.{settings_line}
-use Rattle.serving_commands.specs.declared.fault.ServingFault.{ServingFault}
+use Rattle.serving_commands.specs.{declared.{opening.{asked.Opening.{Opening}, live.Live.{Ghosts as LiveTells}}, fault.ServingFault.{ServingFault}}, Kinds.{SettingsKind}, Openings.{ComesFirst, IsRefusedFor}, Reading.{Decides, TellsFault}, Texts.{settings_line}}
+use Rattle.amt_ports.specs.{Causes.{Rose}, declared.{files.Files.{Ghosts as FilesTell}, end.End.{End}}}
 use Rattle.serving_commands.specs.declared.fault.ServingFault.TheVariants as faults
-use Rattle.amt_ports.specs.declared.end.End.{End}
 use Rattle.amt_ports.specs.declared.end.End.TheVariants as ends
 use Rattle.script_lines.specs.Writing.{WritesPrefix}
-use Rattle.amt_command.specs.Ending.{line_of, status_of}
-use Rattle.amt_command.specs.declared.ending.Ending.{Ending}
-use Rattle.amt_command.specs.declared.ending.Ending.TheVariants.{Fault, LinkFault, Memory, RandomFault, ReadFault, TooLong}
+use Rattle.amt_command.specs.{Ending.{line_of, status_of}, declared.ending.Ending.{Ending, TheVariants.{Fault, LinkFault, Memory, RandomFault, ReadFault, TooLong}}}
 
 -- how the command ends where its run has this end
 abbrev pub ending_of_end : End → Result (Unit {0}) Ending

@@ -1,16 +1,12 @@
 -- What a status says of a run, and what its run writes to standard error.
-use Rattle.std.specs.Prelude.{◌≡◌, ◌≢◌, ◌⊎◌, ℕ, ◌<◌, ◌≤◌, List, length, Option, None, Some}
-use Rattle.std.specs.Io.KnownBytes.{Appends}
-use Rattle.amt_ports.specs.Causes.{Rose}
-use Rattle.amt_ports.specs.Reading.{TakesAtMost, TakesMore}
+use Rattle.std.specs.{Prelude.{◌≡◌, ◌≢◌, ◌⊎◌, ℕ, ◌<◌, ◌≤◌, List, length, Option, None, Some}, Io.KnownBytes.{Appends}}
+use Rattle.amt_ports.specs.{Causes.{Rose}, Reading.{TakesAtMost, TakesMore}}
 use Rattle.amt_values.specs.declared.bytes.TheConstants.{INPUT_LIMIT}
 use Rattle.amt_config.specs.declared.fault.ConfigFault.{ConfigFault}
 use Rattle.serving_commands.specs.Texts.{settings_line}
-use Rattle.amt_words.specs.Line.{IsAccepted, IsCommandLine}
-use Rattle.amt_words.specs.declared.command.Command.{Command}
+use Rattle.amt_words.specs.{Line.{IsAccepted, IsCommandLine}, declared.command.Command.{Command}}
 use Rattle.script_lines.specs.Writing.{WritesPrefix}
-use Rattle.amt_command.specs.Command.{IsQuiet, IsReadingStatus, IsStatus, IsUndisturbed, status_line, work_of}
-use Rattle.amt_command.specs.Task.{BeginsToWrite, IsDifferenceText, IsFaultText, Task, Work, Writes, making, reading, serving}
+use Rattle.amt_command.specs.{Command.{IsQuiet, IsReadingStatus, IsStatus, IsUndisturbed, status_line, work_of}, Task.{BeginsToWrite, IsDifferenceText, IsFaultText, Task, Work, Writes, making, reading, serving}}
 
 -- where nothing disturbs a run that reads its input, the octets of the input alone decide how it ends, unless
 -- memory runs out: these octets, which the input tells

@@ -1,15 +1,9 @@
 -- What a command makes of its input, and what it reads and writes of it.
-use Rattle.std.specs.Prelude.{◌≡◌, ℕ, ◌≤◌, List, [], ◌∷◌, ◌++◌, length, Option, None, Some, codes, decimal}
-use Rattle.std.specs.Io.KnownBytes.{Appends}
+use Rattle.std.specs.{Prelude.{◌≡◌, ℕ, ◌≤◌, List, [], ◌∷◌, ◌++◌, length, Option, None, Some, codes, decimal}, Io.KnownBytes.{Appends}}
 use Rattle.amt_ports.specs.Reading.{TakesAll}
 use Rattle.amt_values.specs.declared.bytes.TheConstants.{INPUT_LIMIT}
-use Rattle.script_lines.specs.declared.reason.Reason.{Reason}
-use Rattle.script_lines.specs.declared.fault.ScriptError.{ScriptError}
+use Rattle.script_lines.specs.{declared.{reason.Reason.{Reason}, fault.ScriptError.{ScriptError}}, Kind.{Kind}, Script.{Spells, IsFaultAt}, Texts.{reason_word}, Writing.{WritesPrefix}}
 use Rattle.script_lines.specs.declared.fault.ScriptError.TheVariants as errors
-use Rattle.script_lines.specs.Kind.{Kind}
-use Rattle.script_lines.specs.Script.{Spells, IsFaultAt}
-use Rattle.script_lines.specs.Texts.{reason_word}
-use Rattle.script_lines.specs.Writing.{WritesPrefix}
 
 -- What a command makes of its input.
 -- `Reads value bytes`: the octets are read as this value.

@@ -1,7 +1,6 @@
 //! The status that a process ends with. No call outside makes one.
 
-ghost use Rattle.std.specs.Prelude.{◌≡◌};
-ghost use Rattle.std.specs.Process.{exit_status};
+ghost use Rattle.std.specs.{Prelude.{◌≡◌}, Process.{exit_status}};
 ghost use Rattle.amt_command.specs.Exit.{status_in};
 
 use std::io::Eprint;

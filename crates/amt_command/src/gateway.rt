@@ -6,12 +6,8 @@ ghost use Rattle.amt_config.specs.declared.fault.ConfigFault.{ConfigFault as Fau
 ghost use Rattle.amt_ports.specs.Causes.{Rose};
 ghost use Rattle.amt_words.specs.Line.{IsTurns};
 ghost use Rattle.gateway_serving.specs.declared.served.GatewayServed.{GatewayServed as AnswerReport};
-ghost use Rattle.serving_commands.specs.Lives.{tells};
-ghost use Rattle.serving_commands.specs.Texts.{settings_line};
-ghost use Rattle.serving_commands.specs.declared.fault.ServingFault.{ServingFault as AnswerFault};
-ghost use Rattle.amt_command.specs.Ending.{line_of, status_of};
-ghost use Rattle.amt_command.specs.Running.{gateway_reporting, gateway_service};
-ghost use Rattle.amt_command.specs.Serving.{ComesTo, Shows};
+ghost use Rattle.serving_commands.specs.{Lives.{tells}, Texts.{settings_line}, declared.fault.ServingFault.{ServingFault as AnswerFault}};
+ghost use Rattle.amt_command.specs.{Ending.{line_of, status_of}, Running.{gateway_reporting, gateway_service}, Serving.{ComesTo, Shows}};
 
 use crate::ending::Ending;
 use crate::serving::{Report, ending_of_fault, write_report};

@@ -1,14 +1,10 @@
 //! Runs a command's work over its devices. It knows no arguments and no status.
 
 ghost use Rattle.std.specs.Prelude.{◌≡◌, ◌⊎◌, ℕ, ◌≤◌, List, OnOk, Some, None, IsErrOf, IfErr, IfOk};
-ghost use Rattle.amt_ports.specs.Causes.{Rose};
-ghost use Rattle.amt_ports.specs.Reading.{TakesAtMost, TakesMore};
+ghost use Rattle.amt_ports.specs.{Causes.{Rose}, Reading.{TakesAtMost, TakesMore}};
 ghost use Rattle.amt_values.specs.declared.bytes.TheConstants.{INPUT_LIMIT};
-ghost use Rattle.relay_load.specs.Counts.{summary_of};
-ghost use Rattle.relay_load.specs.Script.{load_script_of};
-ghost use Rattle.relay_load.specs.Texts.{load_text};
-ghost use Rattle.amt_command.specs.Task.{IsInput, difference_line, making, reading};
-ghost use Rattle.amt_command.specs.Ending.{EndsFor, LeavesDevices, TellsWhy};
+ghost use Rattle.relay_load.specs.{Counts.{summary_of}, Script.{load_script_of}, Texts.{load_text}};
+ghost use Rattle.amt_command.specs.{Task.{IsInput, difference_line, making, reading}, Ending.{EndsFor, LeavesDevices, TellsWhy}};
 
 use crate::ending::Ending;
 use crate::fault::{ending_of_difference, ending_of_fault};

@@ -1,12 +1,10 @@
 //! How a run by a settings file ends, and what is written of it. It knows no arguments, no status and no device.
 
-ghost use Rattle.std.specs.Prelude.{◌≡◌, ◌≢◌, ◌⊎◌, List, ℕ, IfErr, IfOk, IsErrOf, Ok, OnOk};
+ghost use Rattle.std.specs.{Prelude.{◌≡◌, ◌≢◌, ◌⊎◌, List, ℕ, IfErr, IfOk, IsErrOf, Ok, OnOk}, Io.KnownBytes.{Appends}};
 ghost use Rattle.amt_ports.specs.Causes.{Rose};
 ghost use Rattle.serving_commands.specs.Texts.{IsDone, settings_line};
-ghost use Rattle.std.specs.Io.KnownBytes.{Appends};
 ghost use Rattle.script_lines.specs.Writing.{WritesPrefix};
-ghost use Rattle.amt_command.specs.Ending.{line_of, status_of, status_of_ending};
-ghost use Rattle.amt_command.specs.Serving.{HasLine, Reporting, Shows, ending_of_end, ending_of_fault};
+ghost use Rattle.amt_command.specs.{Ending.{line_of, status_of, status_of_ending}, Serving.{HasLine, Reporting, Shows, ending_of_end, ending_of_fault}};
 
 use crate::ending::Ending;
 use crate::writing::write_text;

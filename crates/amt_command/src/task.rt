@@ -1,7 +1,6 @@
 //! What a command makes of its input: it is read, judged, and a text of it is written. It knows no device.
 
-ghost use Rattle.std.specs.Prelude.{◌≡◌, ◌≤◌, length, OnOk, OnErr, IfOk, IfErr, IsErrOf};
-ghost use Rattle.std.specs.Io.KnownBytes.{Appends};
+ghost use Rattle.std.specs.{Prelude.{◌≡◌, ◌≤◌, length, OnOk, OnErr, IfOk, IfErr, IsErrOf}, Io.KnownBytes.{Appends}};
 ghost use Rattle.amt_ports.specs.Causes.{Rose};
 ghost use Rattle.script_lines.specs.Writing.{WritesPrefix};
 ghost use Rattle.amt_command.specs.Task.{IsErrorBy, Task};

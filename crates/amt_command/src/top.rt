@@ -1,19 +1,11 @@
 //! The command: arguments in, status out. It knows devices by their traits alone.
 
-ghost use Rattle.std.specs.Prelude.{◌≡◌, ◌⊎◌, ℕ, List, Option, map, string_bytes, IsOk, IsErrOf};
-ghost use Rattle.std.specs.Io.KnownBytes.{Appends};
+ghost use Rattle.std.specs.{Prelude.{◌≡◌, ◌⊎◌, ℕ, List, Option, map, string_bytes, IsOk, IsErrOf}, Io.KnownBytes.{Appends}};
 ghost use Rattle.amt_ports.specs.Causes.{Rose};
-ghost use Rattle.amt_words.specs.Line.{IsAccepted, IsCommandLine, IsWithinLimits};
-ghost use Rattle.amt_words.specs.declared.command.Command.{Command as CommandValue};
+ghost use Rattle.amt_words.specs.{Line.{IsAccepted, IsCommandLine, IsWithinLimits}, declared.command.Command.{Command as CommandValue}};
 ghost use Rattle.script_lines.specs.Writing.{WritesPrefix};
 ghost use Rattle.serving_commands.specs.Lives.{tells};
-ghost use Rattle.amt_command.specs.Command.{work_of};
-ghost use Rattle.amt_command.specs.Ending.{EndsFor, LeavesDevices, status_of, line_of};
-ghost use Rattle.amt_command.specs.Exit.{status_in};
-ghost use Rattle.amt_command.specs.Running.{Gateways, IsGatewayLine, IsRelayLine, Relays};
-ghost use Rattle.amt_command.specs.Serving.{ServesAndTells};
-ghost use Rattle.amt_command.specs.Status.{Answers, Reports, ReportsMemory};
-ghost use Rattle.amt_command.specs.Task.{HasOneFaultFor, HasOneValue};
+ghost use Rattle.amt_command.specs.{Command.{work_of}, Ending.{EndsFor, LeavesDevices, status_of, line_of}, Exit.{status_in}, Running.{Gateways, IsGatewayLine, IsRelayLine, Relays}, Serving.{ServesAndTells}, Status.{Answers, Reports, ReportsMemory}, Task.{HasOneFaultFor, HasOneValue}};
 
 use crate::ending::Ending;
 use crate::exit::Exit;

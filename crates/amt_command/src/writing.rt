@@ -1,7 +1,6 @@
 //! A text is written as it stands. It knows no command.
 
-ghost use Rattle.std.specs.Prelude.{◌≡◌, OnOk, OnErr, IsErrOf};
-ghost use Rattle.std.specs.Io.KnownBytes.{Appends};
+ghost use Rattle.std.specs.{Prelude.{◌≡◌, OnOk, OnErr, IsErrOf}, Io.KnownBytes.{Appends}};
 ghost use Rattle.amt_ports.specs.Causes.{Rose};
 ghost use Rattle.script_lines.specs.Writing.{WritesPrefix};
 

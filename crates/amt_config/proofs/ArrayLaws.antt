@@ -1,10 +1,7 @@
 -- Arrays that were read, as the texts or the tables in them.
 use Rattle.std.proofs.Common.{◌≡◌, ℕ, true, false, List, [], ◌∷◌, Option, Some, Bor, Vec, Global, option_map, refl, sym, ap, ◌∙◌}
-use Rattle.toml.specs.Data.{Data, Items, Members, array, as_array, boolean, datetime, float, integer, item, no_items, string, table}
-use Rattle.toml.specs.View.{array_view, items_view}
-use Rattle.toml.specs.declared.value.Value.{Value}
-use Rattle.amt_config.specs.Arrays.{array_of_tables, array_of_texts, items_of_tables, items_of_texts}
-use Rattle.amt_config.specs.Scanned.{are_tables, are_texts, tables_in, texts_in}
+use Rattle.toml.specs.{Data.{Data, Items, Members, array, as_array, boolean, datetime, float, integer, item, no_items, string, table}, View.{array_view, items_view}, declared.value.Value.{Value}}
+use Rattle.amt_config.specs.{Arrays.{array_of_tables, array_of_texts, items_of_tables, items_of_texts}, Scanned.{are_tables, are_texts, tables_in, texts_in}}
 
 pub array_of : (value : Data) (items : Items) → as_array value ≡ Some items → value ≡ array items
 array_of (string s) items is = cc is

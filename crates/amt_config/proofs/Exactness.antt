@@ -1,10 +1,7 @@
 -- Octets are one file, or have one first fault.
-use Rattle.std.proofs.Common.{◌≡◌, ◌⊎◌, ℕ, List, Some, Result, Ok, Err, inl, inr, sym, subst, ap, ◌∙◌}
-use Rattle.std.specs.Prelude.{IfOk, IfErr}
+use Rattle.std.{proofs.Common.{◌≡◌, ◌⊎◌, ℕ, List, Some, Result, Ok, Err, inl, inr, sym, subst, ap, ◌∙◌}, specs.Prelude.{IfOk, IfErr}}
 use Rattle.toml.specs.Data.{Members}
-use Rattle.amt_config.specs.declared.fault.ConfigFault.{ConfigFault}
-use Rattle.amt_config.specs.declared.fault.ConfigFault.TheVariants.{Memory}
-use Rattle.amt_config.specs.Table.{IsFirstFaultOfFile, IsFile, IsTableOf}
+use Rattle.amt_config.specs.{declared.fault.ConfigFault.{ConfigFault, TheVariants.{Memory}}, Table.{IsFirstFaultOfFile, IsFile, IsTableOf}}
 
 pub one_table : (bytes : List ℕ) (table other : Members) → IsTableOf table bytes → IsTableOf other bytes → table ≡ other
 one_table bytes table other h k = let both : Some table ≡ Some other = sym h.1 ∙ k.1 in cc

@@ -2,8 +2,7 @@
 use Rattle.std.proofs.Common.{◌≡◌, ℕ, List, [], ◌∷◌, ◌++◌, inl, inr, sym, ◌∙◌}
 use Rattle.script_lines.proofs.Firsts.{First-holds, First-unique}
 use Rattle.toml.specs.Data.{Members}
-use Rattle.amt_config.specs.declared.fault.KeyFault.{KeyFault}
-use Rattle.amt_config.specs.Key.{HaveNoFault, Fails, FailsFirst, FailsFirstAt, HasNoFault, Key, fault_order}
+use Rattle.amt_config.specs.{declared.fault.KeyFault.{KeyFault}, Key.{HaveNoFault, Fails, FailsFirst, FailsFirstAt, HasNoFault, Key, fault_order}}
 
 -- a fault of the first keys is the first of all
 pub first_in_front : (table : Members) (front back : List Key) (word : List ℕ) (fault : KeyFault)

@@ -1,33 +1,16 @@
 -- A gateway's table has one configuration, or one first fault.
-use Rattle.std.proofs.Common.{◌≡◌, ℕ, Bool, true, false, List, [], ◌∷◌, Option, Some, None, codes, inl, inr, refl, sym, subst, ap, ◌∙◌}
-use Rattle.std.specs.Option.{option_and_then}
-use Rattle.amt_values.specs.declared.address.Ip.{Ip}
-use Rattle.amt_values.specs.declared.peer.Peer.{Peer}
-use Rattle.amt_values.specs.Text.{IsPeerText}
-use Rattle.amt_values.proofs.Unique.{IsPeerText-unique}
-use Rattle.group_records.specs.declared.family.Family.{Family}
-use Rattle.group_records.specs.declared.family.Family.TheVariants.{V4, V6}
-use Rattle.script_lines.specs.Form.{IsAddressText, IsFamilyText, a_family, a_peer, an_address_of}
-use Rattle.script_lines.specs.Texts.{family_text}
+use Rattle.std.{proofs.Common.{◌≡◌, ℕ, Bool, true, false, List, [], ◌∷◌, Option, Some, None, codes, inl, inr, refl, sym, subst, ap, ◌∙◌}, specs.Option.{option_and_then}}
+use Rattle.amt_values.{specs.{declared.{address.Ip.{Ip}, peer.Peer.{Peer}}, Text.{IsPeerText}}, proofs.Unique.{IsPeerText-unique}}
+use Rattle.group_records.specs.declared.family.Family.{Family, TheVariants.{V4, V6}}
+use Rattle.script_lines.{specs.{Form.{IsAddressText, IsFamilyText, a_family, a_peer, an_address_of}, Texts.{family_text}}, proofs.Forms.{peer_fits}}
 use Rattle.socket_merge.specs.FullReport.{family_by}
 use Rattle.gateway_script.proofs.Fields.{IsAddressText-unique, IsFamilyText-unique, address_fits, family_fits}
 use Rattle.toml.specs.Data.{Data, Members, as_array, as_str, get_member, string}
-use Rattle.amt_config.specs.declared.config.GatewayConfig.{GatewayConfig}
-use Rattle.amt_config.specs.declared.config.Join.{Join}
-use Rattle.amt_config.specs.declared.fault.ConfigFault.{ConfigFault}
-use Rattle.amt_config.specs.declared.fault.KeyFault.TheVariants.{Missing, Kind, Address, Range}
-use Rattle.amt_config.specs.Arrays.{array_of_tables, items_of_tables}
-use Rattle.amt_config.specs.Scanned.{tables_in}
+use Rattle.amt_config.specs.declared.{config.{GatewayConfig.{GatewayConfig}, Join.{Join}}, fault.ConfigFault.{ConfigFault}}
+use Rattle.amt_config.specs.{declared.fault.KeyFault.TheVariants.{Missing, Kind, Address, Range}, Arrays.{array_of_tables, items_of_tables}, Scanned.{tables_in}}
 use Rattle.amt_config.specs.Gateway.{GatewayConfigOf, HasGatewayValues, HasJoins, HasPeer, IsFaultInJoins, IsGatewayTableFault, table_family, family_of_text, gateway_keys, port_range}
-use Rattle.amt_config.specs.Join.{AreJoins, FailsInJoins}
-use Rattle.amt_config.specs.Key.{HaveNoFault, HasTables, HasText, HasNoFault, a_text, optional, required, some_tables}
-use Rattle.amt_config.specs.Table.{IsValueFault}
-use Rattle.amt_config.proofs.FirstFaults.{none_fails}
-use Rattle.amt_config.proofs.JoinLaws.{joins_or_fault, one_fault_in_joins, same_joins}
-use Rattle.amt_config.proofs.KeyFaults.{no_value, right_absent, right_number, some_value}
-use Rattle.amt_config.proofs.SharedLaws.{right_in_text, right_peer, same_in_number, same_in_text}
-use Rattle.amt_config.proofs.TableFaults.{one_table_fault}
-use Rattle.script_lines.proofs.Forms.{peer_fits}
+use Rattle.amt_config.specs.{Join.{AreJoins, FailsInJoins}, Key.{HaveNoFault, HasTables, HasText, HasNoFault, a_text, optional, required, some_tables}, Table.{IsValueFault}}
+use Rattle.amt_config.proofs.{FirstFaults.{none_fails}, JoinLaws.{joins_or_fault, one_fault_in_joins, same_joins}, KeyFaults.{no_value, right_absent, right_number, some_value}, SharedLaws.{right_in_text, right_peer, same_in_number, same_in_text}, TableFaults.{one_table_fault}}
 
 by_text : (family : Family) → family_of_text (family_text family) ≡ Some family
 by_text V4 = refl

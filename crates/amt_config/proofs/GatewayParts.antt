@@ -1,36 +1,15 @@
 -- The parts of a gateway's file, and its first fault from theirs.
-use Rattle.std.proofs.Common.{◌≡◌, ◌≤◌, ◌⊎◌, ℕ, List, [], ◌∷◌, Option, Some, None, codes, inl, inr, refl, sym, subst, arith, drop}
-use Rattle.amt_values.specs.declared.address.Ip.{Ip}
-use Rattle.amt_values.specs.declared.peer.Peer.{Peer}
-use Rattle.amt_values.specs.Text.{IsPeerText}
-use Rattle.group_records.specs.declared.family.Family.{Family}
-use Rattle.group_records.specs.declared.family.Family.TheVariants.{V4, V6}
+use Rattle.std.proofs.Common.{◌≡◌, ◌⊎◌, ℕ, List, [], ◌∷◌, Option, Some, None, codes, inl, inr, refl, sym, subst, drop}
+use Rattle.amt_values.specs.{declared.{address.Ip.{Ip}, peer.Peer.{Peer}}, Text.{IsPeerText}}
+use Rattle.group_records.specs.declared.family.Family.{Family, TheVariants.{V4, V6}}
 use Rattle.script_lines.specs.Form.{IsAddressText, IsFamilyText, a_family, a_peer, an_address_of}
 use Rattle.socket_merge.specs.FullReport.{family_by}
 use Rattle.gateway_script.specs.Settling.{is_v6}
 use Rattle.toml.specs.Data.{Members}
-use Rattle.amt_config.specs.declared.config.GatewayConfig.{GatewayConfig}
-use Rattle.amt_config.specs.declared.config.Join.{Join}
-use Rattle.amt_config.specs.declared.fault.ConfigFault.{ConfigFault}
+use Rattle.amt_config.specs.declared.{config.{GatewayConfig.{GatewayConfig}, Join.{Join}}, fault.{ConfigFault.{ConfigFault}, JoinFault.{JoinFault, TheVariants.{Unknown, Bad, Memory}}, KeyFault.{KeyFault}}, gateway.AllButJoins.{AllButJoins}}
+use Rattle.amt_config.specs.{Gateway.{HasGatewayValues, HasPeer, IsFaultInJoins, IsGatewayFault, IsGatewayFile, table_family, gateway_keys, port_range}, Join.{AreJoins, FailsInJoins}, Key.{HaveNoFault, FailsAt, FailsFirstAt, HasTables, HasText, Key, a_text, a_whole, optional, required, some_tables}}
+use Rattle.amt_config.{specs.{Reading.{HasAllButJoins, IsFaultInTables, config_of, keys_but_joins, told_in_join}, Table.{AreKnown, HasNoTable, IsTableOf, IsUnknownFault, IsValueFault, told, key_words}}, proofs.{FirstFaults.{right_both, first_in_back, first_in_front}, GatewayLaws.{family_is, right_family, right_relay, right_source, right_tables}, KeyFaults.{right_number}, SharedLaws.{right_peer}}}
 use Rattle.amt_config.specs.declared.fault.ConfigFault.TheVariants as faults
-use Rattle.amt_config.specs.declared.fault.JoinFault.{JoinFault}
-use Rattle.amt_config.specs.declared.fault.JoinFault.TheVariants.{Unknown, Bad, Memory}
-use Rattle.amt_config.specs.declared.fault.KeyFault.{KeyFault}
-use Rattle.amt_config.specs.declared.gateway.AllButJoins.{AllButJoins}
-use Rattle.amt_config.specs.Gateway.{HasGatewayValues, HasPeer, IsFaultInJoins, IsGatewayFault, IsGatewayFile, table_family, gateway_keys, port_range}
-use Rattle.amt_config.specs.Join.{AreJoins, FailsInJoins}
-use Rattle.amt_config.specs.Key.{HaveNoFault, FailsAt, FailsFirstAt, HasWholeNumber, HasTables, HasText, Key, a_text, a_whole, optional, required, some_tables}
-use Rattle.amt_config.specs.Reading.{HasAllButJoins, IsFaultInTables, config_of, keys_but_joins, told_in_join}
-use Rattle.amt_config.specs.Table.{AreKnown, HasNoTable, IsTableOf, IsUnknownFault, IsValueFault, told, key_words}
-use Rattle.amt_config.proofs.FirstFaults.{right_both, first_in_back, first_in_front}
-use Rattle.amt_config.proofs.GatewayLaws.{family_is, right_family, right_relay, right_source, right_tables}
-use Rattle.amt_config.proofs.KeyFaults.{right_number}
-use Rattle.amt_config.proofs.SharedLaws.{right_peer}
-
--- a port fits
-pub port_fits : (table : Members) (number : ℕ) → HasWholeNumber (codes "port") port_range table number → number ≤ 65535
-port_fits table number (inl absent) = omega (arith, absent.1)
-port_fits table number (inr there) = there.1.1
 
 abbrev tables_key : List Key
 tables_key = optional (codes "join") some_tables ∷ []

@@ -1,13 +1,7 @@
 -- The items of an array one after another, as the texts or the tables among them.
-use Rattle.std.proofs.Common.{◌≡◌, ℕ, suc, ◌+◌, ◌<◌, ◌≤◌, List, [], ◌∷◌, Option, Some, None, Bor, BTreeMap, String, Global, length, get_or, drop, option_map, refl, sym, ap, ◌∙◌, add-one}
-use Rattle.std.proofs.Math.Seq.{drop-cons}
-use Rattle.std.proofs.lemmas.List.{drop_all}
-use Rattle.std.specs.Option.{option_copied}
-use Rattle.toml.specs.Data.{Data, Items, Members, array, as_str, as_table, boolean, datetime, float, integer, item, string, table as table_value}
-use Rattle.toml.specs.View.{items_view, table_view, view}
-use Rattle.toml.specs.declared.value.Value.{Value}
-use Rattle.amt_config.specs.Scanned.{tables_in, texts_in}
-use Rattle.amt_config.proofs.ReadTexts.{no_text_read, text_read}
+use Rattle.std.{proofs.{Common.{◌≡◌, ℕ, suc, ◌+◌, ◌<◌, ◌≤◌, List, [], ◌∷◌, Option, Some, None, Bor, BTreeMap, String, Global, length, get_or, drop, option_map, refl, sym, ap, ◌∙◌, add-one}, Math.Seq.{drop-cons}, lemmas.List.{drop_all}}, specs.Option.{option_copied}}
+use Rattle.toml.specs.{Data.{Data, Items, Members, array, as_str, as_table, boolean, datetime, float, integer, item, string, table as table_value}, View.{items_view, table_view, view}, declared.value.Value.{Value}}
+use Rattle.amt_config.{specs.Scanned.{tables_in, texts_in}, proofs.ReadTexts.{no_text_read, text_read}}
 
 next_item : {X : Type 0} (items : List X) (i : ℕ) (one : X) → i < length items → one ≡ get_or items i one → drop i items ≡ one ∷ drop (i + 1) items
 next_item items i one within is =

@@ -3,25 +3,12 @@ use Rattle.std.proofs.Common.{◌≡◌, ℕ, true, List, [], ◌∷◌, Option,
 use Rattle.amt_values.specs.declared.address.Ip.{Ip}
 use Rattle.group_records.specs.declared.family.Family.{Family}
 use Rattle.source_filter.specs.Filter.{ascending_sources}
-use Rattle.script_lines.specs.Form.{IsGroupText, IsModeText, IsNameText, a_group, a_mode, a_name, an_address_of}
-use Rattle.script_lines.specs.Shape.{SomeFails}
+use Rattle.script_lines.specs.{Form.{IsGroupText, IsModeText, IsNameText, a_group, a_mode, a_name, an_address_of}, Shape.{SomeFails}}
 use Rattle.socket_merge.specs.History.{AcceptedCall}
-use Rattle.gateway_script.specs.Says.{AreAddressTexts}
-use Rattle.gateway_script.proofs.Fields.{AreAddressTexts-unique, IsAddressText-unique, IsModeText-unique, IsNameText-unique, addresses_fit, group_fits, mode_fits, name_fits}
+use Rattle.gateway_script.{specs.Says.{AreAddressTexts}, proofs.Fields.{AreAddressTexts-unique, IsAddressText-unique, IsModeText-unique, IsNameText-unique, addresses_fit, group_fits, mode_fits, name_fits}}
 use Rattle.toml.specs.Data.{Data, Members, as_array, get_member}
-use Rattle.amt_config.specs.declared.config.Join.{Join}
-use Rattle.amt_config.specs.declared.fault.ConfigFault.{ConfigFault}
-use Rattle.amt_config.specs.declared.fault.KeyFault.{KeyFault}
-use Rattle.amt_config.specs.declared.fault.KeyFault.TheVariants.{Missing, Kind, Address, Range}
-use Rattle.amt_config.specs.Arrays.{array_of_texts, items_of_texts}
-use Rattle.amt_config.specs.Scanned.{texts_in}
-use Rattle.amt_config.specs.Join.{AreJoins, FailsInJoins, HasSources, IsJoinFault, JoinOf, MayOpen, in_join, join_keys, with_join}
-use Rattle.amt_config.specs.Key.{HaveNoFault, IsUnfitAmong, HasNoFault, required, some_texts}
-use Rattle.amt_config.specs.Table.{IsFirstFault}
-use Rattle.amt_config.proofs.FirstFaults.{none_fails}
-use Rattle.amt_config.proofs.KeyFaults.{no_value, some_value}
-use Rattle.amt_config.proofs.SharedLaws.{right_in_text, same_in_text}
-use Rattle.amt_config.proofs.TableFaults.{one_table_fault}
+use Rattle.amt_config.specs.{declared.{config.Join.{Join}, fault.{ConfigFault.{ConfigFault}, KeyFault.{KeyFault, TheVariants.{Missing, Kind, Address, Range}}}}, Arrays.{array_of_texts, items_of_texts}, Scanned.{texts_in}}
+use Rattle.amt_config.{specs.{Join.{AreJoins, FailsInJoins, HasSources, IsJoinFault, JoinOf, MayOpen, in_join, join_keys, with_join}, Key.{HaveNoFault, IsUnfitAmong, HasNoFault, required, some_texts}, Table.{IsFirstFault}}, proofs.{FirstFaults.{none_fails}, KeyFaults.{no_value, some_value}, SharedLaws.{right_in_text, same_in_text}, TableFaults.{one_table_fault}}}
 
 texts_back : (texts : List (List ℕ)) → texts_in (items_of_texts texts) ≡ texts
 texts_back [] = refl

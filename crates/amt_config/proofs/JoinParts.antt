@@ -4,22 +4,10 @@ use Rattle.amt_values.specs.declared.address.Ip.{Ip}
 use Rattle.group_records.specs.declared.family.Family.{Family}
 use Rattle.source_filter.specs.declared.mode.Mode.{Mode}
 use Rattle.script_lines.specs.declared.reason.Reason.TheVariants as reasons
-use Rattle.script_lines.specs.Form.{IsGroupText, IsModeText, IsNameText, a_group, a_mode, a_name, an_address_of}
-use Rattle.script_lines.specs.Shape.{SomeFails}
+use Rattle.script_lines.specs.{Form.{IsGroupText, IsModeText, IsNameText, a_group, a_mode, a_name, an_address_of}, Shape.{SomeFails}}
 use Rattle.gateway_script.proofs.Fields.{group_fits, mode_fits, name_fits}
 use Rattle.toml.specs.Data.{Members, get_member}
-use Rattle.amt_config.specs.declared.config.Join.{Join}
-use Rattle.amt_config.specs.declared.fault.JoinFault.{JoinFault}
-use Rattle.amt_config.specs.declared.fault.JoinFault.TheVariants.{Unknown, Bad, Memory}
-use Rattle.amt_config.specs.declared.fault.KeyFault.{KeyFault}
-use Rattle.amt_config.specs.declared.fault.KeyFault.TheVariants.{Address}
-use Rattle.amt_config.specs.Arrays.{array_of_texts}
-use Rattle.amt_config.specs.Join.{JoinOf, join_keys}
-use Rattle.amt_config.specs.Key.{FailsAt, FailsFirst, HasText, HasNoFault, a_text, required, some_texts}
-use Rattle.amt_config.specs.Reading.{FailsInSources, HasJoin, IsBadAmong, IsFaultOfJoin, filter_keys}
-use Rattle.amt_config.specs.Table.{AreKnown, key_words}
-use Rattle.amt_config.proofs.KeyFaults.{no_value, some_value}
-use Rattle.amt_config.proofs.SharedLaws.{right_in_text}
+use Rattle.amt_config.{specs.{declared.fault.{JoinFault.{JoinFault, TheVariants.{Unknown, Bad, Memory}}, KeyFault.{KeyFault, TheVariants.{Address}}}, Arrays.{array_of_texts}, Join.{join_keys}, Key.{FailsAt, FailsFirst, HasText, HasNoFault, a_text, required, some_texts}, Reading.{FailsInSources, IsBadAmong, filter_keys}}, proofs.{KeyFaults.{no_value, some_value}, SharedLaws.{right_in_text}}}
 
 right_mode : (table : Members) (mode : Mode) → HasText (codes "mode") table (IsModeText mode) → HasNoFault table (required (codes "mode") (a_text a_mode))
 right_mode table mode h = right_in_text (IsModeText mode) a_mode (mode_fits mode) (codes "mode") true table h
@@ -79,13 +67,3 @@ bad_filter family table name group Unknown named grouped fails = fails
 bad_filter family table name group (Bad fault) named grouped fails =
     (fails.0, inr (right_name table name named, inr (right_group family table group grouped, fails.1)))
 bad_filter family table name group Memory named grouped fails = tt
-
--- a join, from what its keys say and that they are known
-pub join_of : (family : Option Family) (table : Members) (join : Join) → AreKnown (key_words (join_keys family)) table → HasJoin family table join → JoinOf family table join
-join_of family table join known h = record { known = known; name = h.name; group = h.group; mode = h.filter.mode; sources = h.filter.sources }
-
-pub bad_join : (family : Option Family) (table : Members) (fault : JoinFault) → AreKnown (key_words (join_keys family)) table → IsBadAmong (join_keys family) table fault
-    → IsFaultOfJoin family table fault
-bad_join family table Unknown known fails = absurd fails
-bad_join family table (Bad fault) known fails = (known, fails)
-bad_join family table Memory known fails = (known, fails)

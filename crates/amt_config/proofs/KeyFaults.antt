@@ -1,14 +1,10 @@
 -- A key's first fault, and keys that have none.
-use Rattle.std.proofs.Common.{◌≡◌, ℕ, Bool, true, false, List, [], ◌∷◌, Option, None, Some, ℤ, pos, inl, inr, refl, sym, subst, ap, ◌∙◌}
-use Rattle.std.specs.Int.{IsInRange}
+use Rattle.std.{proofs.Common.{◌≡◌, ℕ, Bool, true, false, List, [], ◌∷◌, Option, None, Some, ℤ, pos, inl, inr, refl, sym, subst, ap, ◌∙◌}, specs.Int.{IsInRange}}
 use Rattle.amt_values.specs.Conditions.{First}
 use Rattle.relay_machine.specs.declared.number_key.NumberRange.{NumberRange}
-use Rattle.script_lines.specs.declared.reason.Reason.{Reason}
-use Rattle.script_lines.specs.Form.{Fails as FailsAsForm, Form}
+use Rattle.script_lines.specs.{declared.reason.Reason.{Reason}, Form.{Fails as FailsAsForm, Form}}
 use Rattle.toml.specs.Data.{Data, Members, as_integer, as_str, get_member, integer, string}
-use Rattle.amt_config.specs.declared.fault.KeyFault.{KeyFault}
-use Rattle.amt_config.specs.declared.fault.KeyFault.TheVariants.{Missing, Kind, Address, Range}
-use Rattle.amt_config.specs.Key.{Fails, FailsFirst, HasWholeNumber, IsUnfitText, IsOutside, Refuses, HasNoFault, Key, Want, a_text, a_whole, fault_of, optional, required}
+use Rattle.amt_config.specs.{declared.fault.KeyFault.{KeyFault, TheVariants.{Missing, Kind, Address, Range}}, Key.{Fails, FailsFirst, HasWholeNumber, IsUnfitText, IsOutside, Refuses, HasNoFault, Key, Want, a_text, a_whole, fault_of, optional, required}}
 
 pub some_value : (found : Option Data) (one other : Data) → found ≡ Some one → found ≡ Some other → one ≡ other
 some_value found one other h k = let both : Some one ≡ Some other = sym h ∙ k in cc

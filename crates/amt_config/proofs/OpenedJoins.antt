@@ -1,42 +1,16 @@
 -- Joins that are opened one after another, and the first that can't be.
-use Rattle.std.proofs.Common.{◌≡◌, ℕ, ◌≤◌, ◌<◌, true, List, [], ◌∷◌, ◌++◌, length, Option, Some, None, Ok, Err, codes, inl, inr, refl, sym, subst, ap, append-nil, append_assoc, arith}
-use Rattle.std.specs.List.{All}
-use Rattle.std.specs.Ordering.{match_ordering}
-use Rattle.std.specs.declared.cmp.Ordering.{Ordering}
-use Rattle.std.specs.declared.cmp.Ordering.TheVariants.{Less, Equal, Greater}
-use Rattle.std.proofs.lemmas.Bool.{ltb-false}
-use Rattle.std.proofs.lemmas.List.Concat.{length-flat_map}
-use Rattle.std.proofs.lemmas.List.Elements.{All-cons, All-head, All-nil, All-same, All-tail}
-use Rattle.std.proofs.lemmas.List.Sums.{sum_by_push}
-use Rattle.amt_values.specs.declared.address.Ip.{Ip}
-use Rattle.amt_values.specs.Group.{is_forwardable}
-use Rattle.amt_values.specs.Order.{ip_order}
-use Rattle.amt_values.specs.Ascending.{placed}
-use Rattle.amt_values.proofs.ConditionLaws.{NoneHolds-of}
-use Rattle.group_records.specs.declared.family.Family.{Family}
-use Rattle.group_records.specs.Written.{is_of_family}
+use Rattle.std.proofs.{Common.{◌≡◌, ℕ, ◌≤◌, ◌<◌, true, List, [], ◌∷◌, ◌++◌, length, Option, Some, None, Err, codes, inl, inr, refl, sym, subst, ap, append-nil, append_assoc, arith}, lemmas.{Bool.{ltb-false}, List.Concat.{length-flat_map}}}
+use Rattle.std.{proofs.lemmas.List.{Elements.{All-cons, All-head, All-nil, All-same, All-tail}, Sums.{sum_by_push}}, specs.{List.{All}, Ordering.{match_ordering}, declared.cmp.Ordering.{Ordering, TheVariants.{Less, Equal, Greater}}}}
+use Rattle.amt_values.{specs.{declared.address.Ip.{Ip}, Group.{is_forwardable}, Order.{ip_order}, Ascending.{placed}}, proofs.ConditionLaws.{NoneHolds-of}}
+use Rattle.group_records.specs.{declared.family.Family.{Family}, Written.{is_of_family}}
 use Rattle.source_filter.specs.Filter.{ascending_sources}
-use Rattle.socket_merge.specs.History.{AcceptedCall, Socket, open_sockets}
-use Rattle.socket_merge.specs.Refusal.{conditions_of, raw_sources, refusal_of}
-use Rattle.socket_merge.specs.Sockets.{AnswersRefusal, AreOfGroup, ForHistory, SocketsHold, SocketsValue}
-use Rattle.socket_merge.specs.declared.fault.SocketFault.{SocketFault}
+use Rattle.socket_merge.{specs.{History.{AcceptedCall, Socket, open_sockets}, Refusal.{conditions_of, raw_sources, refusal_of}, Sockets.{AnswersRefusal, AreOfGroup, ForHistory, SocketsHold, SocketsValue}, declared.fault.SocketFault.{SocketFault}, Interface.{on_group}}, proofs.{Amounts.{part, sum_by-on_group}, Counted.{listing, own_part}, RawOctets.{family_is}}}
 use Rattle.socket_merge.specs.declared.fault.SocketFault.TheVariants as socket_faults
-use Rattle.socket_merge.proofs.Amounts.{part, sum_by-on_group}
-use Rattle.socket_merge.proofs.Counted.{listing, own_part}
-use Rattle.socket_merge.proofs.RawOctets.{family_is}
-use Rattle.socket_merge.specs.Interface.{on_group}
 use Rattle.gateway_script.specs.Says.{AreAddressTexts}
 use Rattle.toml.specs.Data.{Members}
-use Rattle.amt_config.specs.declared.config.Join.{Join}
-use Rattle.amt_config.specs.declared.fault.ConfigFault.{ConfigFault}
+use Rattle.amt_config.specs.declared.{config.Join.{Join}, fault.{ConfigFault.{ConfigFault}, JoinFault.{JoinFault, TheVariants.{Unknown, Bad, Memory}}, KeyFault.{KeyFault, TheVariants.{Missing, Kind, Address, Range}}}}
+use Rattle.amt_config.specs.{Join.{AreJoins, FailsInJoins, IsJoinFault, JoinOf, MayOpen, call_of, in_join, with_join}, Reading.{AreOpened, IsFaultInTables, IsFaultOfJoin, IsReading, IsRefusedAfter, told_in_join}, Table.{told}}
 use Rattle.amt_config.specs.declared.fault.ConfigFault.TheVariants as faults
-use Rattle.amt_config.specs.declared.fault.JoinFault.{JoinFault}
-use Rattle.amt_config.specs.declared.fault.JoinFault.TheVariants.{Unknown, Bad, Memory}
-use Rattle.amt_config.specs.declared.fault.KeyFault.{KeyFault}
-use Rattle.amt_config.specs.declared.fault.KeyFault.TheVariants.{Missing, Kind, Address, Range}
-use Rattle.amt_config.specs.Join.{AreJoins, FailsInJoins, IsJoinFault, JoinOf, MayOpen, call_of, in_join, with_join}
-use Rattle.amt_config.specs.Reading.{AreOpened, IsFaultInTables, IsFaultOfJoin, IsReading, IsRefusedAfter, told_in_join}
-use Rattle.amt_config.specs.Table.{told}
 
 -- the sources of a join are counted among those that its group's sockets list
 listed_by_group : (sockets : List Socket) (one : Socket) → length one.filter.sources ≤ length (raw_sources one.group (sockets ++ one ∷ []))
@@ -55,25 +29,10 @@ more_refused history join more may =
     let few = ltb-false 32 _ each.1.0 in
     omega (arith, few, listed_by_group (open_sockets history) (record { name = join.name; group = join.group; filter = join.filter }))
 
--- a socket that was opened might be, and one that was refused might not
-accepted : (refusal : Option SocketFault) → AnswersRefusal {A = Unit {0}} refusal (Ok tt) → refusal ≡ None
-accepted None answers = refl
-accepted (Some cause) answers = cc answers
-
+-- a socket that was refused might not be opened
 refused : (refusal : Option SocketFault) (fault : SocketFault) → AnswersRefusal {A = Unit {0}} refusal (Err fault) → (fault ≡ socket_faults.Memory → ⊥) → refusal ≡ None → ⊥
 refused None fault answers other none = other answers
 refused (Some cause) fault answers other none = cc none
-
-pub may_open : (at : ℕ) (history : List AcceptedCall) (join : Join) → at ≡ 0 → AnswersRefusal {A = Unit {0}} (refusal_of at (call_of join) history) (Ok tt) → MayOpen history join
-may_open at history join zero answers =
-    accepted (refusal_of 0 (call_of join) history)
-    (subst (λ (n : ℕ). AnswersRefusal {A = Unit {0}} (refusal_of n (call_of join) history) (Ok tt)) zero answers)
-
-pub may_not_open : (at : ℕ) (history : List AcceptedCall) (join : Join) (fault : SocketFault) → at ≡ 0
-    → AnswersRefusal {A = Unit {0}} (refusal_of at (call_of join) history) (Err fault) → (fault ≡ socket_faults.Memory → ⊥) → MayOpen history join → ⊥
-may_not_open at history join fault zero answers other =
-    refused (refusal_of 0 (call_of join) history) fault
-    (subst (λ (n : ℕ). AnswersRefusal {A = Unit {0}} (refusal_of n (call_of join) history) (Err fault)) zero answers) other
 
 -- what holds of addresses holds of them in ascending order
 module _ (P : Ip → Type 0) where

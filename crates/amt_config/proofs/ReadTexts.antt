@@ -1,21 +1,10 @@
 -- Values that are texts or numbers, as they were read, and texts that are of their forms.
-use Rattle.std.proofs.Common.{◌≡◌, ℕ, List, Option, Some, None, Bor, BTreeMap, String, Global, ℤ, option_map, string_bytes, nat_cmp, sym, subst, ap, ◌∙◌}
-use Rattle.std.specs.BTreeMap.{is_at}
-use Rattle.std.specs.Cmp.Lexicographic.{slice_cmp}
-use Rattle.std.specs.Map.{lookup}
-use Rattle.std.specs.Option.{option_copied}
-use Rattle.toml.proofs.Views.{table_get}
-use Rattle.amt_values.specs.declared.address.Ip.{Ip}
-use Rattle.amt_values.specs.declared.peer.Peer.{Peer}
-use Rattle.amt_values.specs.Text.{IsIpText, IsPeerText}
-use Rattle.script_lines.specs.declared.reason.Reason.{Reason}
+use Rattle.std.{proofs.Common.{◌≡◌, ℕ, List, Option, Some, None, Bor, BTreeMap, String, Global, ℤ, option_map, string_bytes, nat_cmp, sym, subst, ap, ◌∙◌}, specs.{BTreeMap.{is_at}, Cmp.Lexicographic.{slice_cmp}, Map.{lookup}, Option.{option_copied}}}
+use Rattle.toml.{proofs.Views.{table_get}, specs.{Data.{Data, array, as_integer, as_str, boolean, datetime, float, get_member, integer, string, table as table_value}, View.{table_view, view}, declared.value.Value.{Value}}}
+use Rattle.amt_values.specs.{declared.{address.Ip.{Ip}, peer.Peer.{Peer}}, Text.{IsIpText, IsPeerText}}
+use Rattle.script_lines.specs.{declared.reason.Reason.{Reason}, Form.{Fails, a_family, a_mode, a_name, a_peer, an_address}}
 use Rattle.script_lines.specs.declared.reason.Reason.TheVariants as reasons
-use Rattle.script_lines.specs.Form.{Fails, a_family, a_mode, a_name, a_peer, an_address}
-use Rattle.toml.specs.Data.{Data, array, as_integer, as_str, boolean, datetime, float, get_member, integer, string, table as table_value}
-use Rattle.toml.specs.View.{table_view, view}
-use Rattle.toml.specs.declared.value.Value.{Value}
-use Rattle.amt_config.specs.declared.fault.KeyFault.TheVariants.{Address}
-use Rattle.amt_config.specs.Key.{fault_of}
+use Rattle.amt_config.specs.{declared.fault.KeyFault.TheVariants.{Address}, Key.{fault_of}}
 
 pub text_of : (value : Data) (text : List ℕ) → as_str value ≡ Some text → value ≡ string text
 text_of (string s) text is = let same : s ≡ text = cc is in ap string same

@@ -1,32 +1,15 @@
 -- A relay's table has one configuration, or one first fault.
 use Rattle.std.proofs.Common.{◌≡◌, ◌≤◌, ◌<◌, ◌*◌, ℕ, true, false, List, codes, inl, inr, sym, subst, ap, ◌∙◌, arith}
-use Rattle.amt_values.specs.declared.address.Ip.{Ip}
-use Rattle.amt_values.specs.declared.address.Ip.TheVariants.{V4, V6}
-use Rattle.amt_values.specs.Text.{IsIpText, IsPeerText}
-use Rattle.amt_values.proofs.Unique.{IsIpText-unique, IsPeerText-unique}
-use Rattle.amt_values.specs.Conditions.{First}
-use Rattle.relay_machine.specs.declared.number_key.NumberKey.{NumberKey}
-use Rattle.relay_machine.specs.declared.number_key.NumberKey.TheVariants.{Robustness, QuerySeconds, ResponseTenths, Endpoints, Groups, Sources, PacketLimit}
-use Rattle.relay_machine.specs.declared.settings.Settings.{Settings}
-use Rattle.relay_machine.specs.Settings.{AreLawfulSettings, HasCode, IsInKeyRange, number_at, number_row}
-use Rattle.script_lines.proofs.Forms.{address4_fits, address6_fits, address_fits}
-use Rattle.script_lines.proofs.Firsts.{First-holds, First-unique}
-use Rattle.script_lines.specs.declared.reason.Reason.{Reason}
-use Rattle.script_lines.specs.Form.{Fails as FailsAsForm, Form, an_address, an_address4, an_address6}
+use Rattle.amt_values.{specs.{declared.address.Ip.{Ip, TheVariants.{V4, V6}}, Text.{IsIpText, IsPeerText}, Conditions.{First}}, proofs.Unique.{IsIpText-unique, IsPeerText-unique}}
+use Rattle.relay_machine.specs.{declared.{number_key.NumberKey.{NumberKey, TheVariants.{Robustness, QuerySeconds, ResponseTenths, Endpoints, Groups, Sources, PacketLimit}}, settings.Settings.{Settings}}, Settings.{AreLawfulSettings, HasCode, IsInKeyRange, number_at, number_row}}
+use Rattle.script_lines.{proofs.{Forms.{address4_fits, address6_fits, address_fits}, Firsts.{First-holds, First-unique}}, specs.{declared.reason.Reason.{Reason}, Form.{Fails as FailsAsForm, Form, an_address, an_address4, an_address6}}}
 use Rattle.amt_script.specs.declared.kind.Key.TheVariants as words
 use Rattle.amt_script.specs.Row.{key_word, number_word}
 use Rattle.toml.specs.Data.{Members, string}
-use Rattle.amt_config.specs.declared.config.RelayConfig.{RelayConfig}
-use Rattle.amt_config.specs.declared.fault.ConfigFault.{ConfigFault}
+use Rattle.amt_config.specs.{declared.{config.RelayConfig.{RelayConfig}, fault.ConfigFault.{ConfigFault}}, Key.{HaveNoFault, HasWholeNumber, HasText, HasTextOr, HasNoFault, a_text, optional, required}}
+use Rattle.amt_config.specs.{Parts.{number_keys, serving_keys}, Relay.{FailsTogether, HasValues, IsFaultTogether, RelayConfigOf, number_key, range_of, relay_keys, rotate_range, settings_of, together_order, workers_range}}
+use Rattle.amt_config.{specs.Table.{IsFirstFault, IsValueFault}, proofs.{FirstFaults.{none_fails, right_both}, KeyFaults.{no_value, right_absent, right_number}, SharedLaws.{right_in_text, right_peer, same_in_number, same_in_text}, TableFaults.{one_table_fault}}}
 use Rattle.amt_config.specs.declared.fault.ConfigFault.TheVariants as faults
-use Rattle.amt_config.specs.Key.{HaveNoFault, HasWholeNumber, HasText, HasTextOr, HasNoFault, a_text, optional, required}
-use Rattle.amt_config.specs.Parts.{number_keys, serving_keys}
-use Rattle.amt_config.specs.Relay.{FailsTogether, HasValues, IsFaultTogether, RelayConfigOf, number_key, range_of, relay_keys, rotate_range, settings_of, together_order, workers_range}
-use Rattle.amt_config.specs.Table.{IsFirstFault, IsValueFault}
-use Rattle.amt_config.proofs.FirstFaults.{none_fails, right_both}
-use Rattle.amt_config.proofs.KeyFaults.{no_value, right_absent, right_number}
-use Rattle.amt_config.proofs.SharedLaws.{right_in_text, right_peer, same_in_number, same_in_text}
-use Rattle.amt_config.proofs.TableFaults.{one_table_fault}
 
 same_in_text_or : {V : Type 0} (Names : V → List ℕ → Type 0) (unique : (one other : V) (text : List ℕ) → Names one text → Names other text → one ≡ other)
     (word : List ℕ) (table : Members) (default one other : V) → HasTextOr word table (Names one) (one ≡ default) → HasTextOr word table (Names other) (other ≡ default) → one ≡ other
@@ -184,9 +167,6 @@ default_in_range PacketLimit = record { least = omega arith; most = omega arith 
 in_range : (key : NumberKey) (table : Members) (number : ℕ) → HasWholeNumber (number_word key) (range_of key) table number → IsInKeyRange key number
 in_range key table number (inl absent) = subst (IsInKeyRange key) (sym absent.1) (default_in_range key)
 in_range key table number (inr there) = record { least = there.1.0; most = there.1.1 }
-
-pub values_in_range : (table : Members) (config : RelayConfig) → HasValues table config → (key : NumberKey) → IsInKeyRange key (number_at (settings_of config) key)
-values_in_range table config h key = in_range key table _ (h.numbers key)
 
 -- limits within what a relay keeps don't fail
 pub too_many : (config : RelayConfig) → config.endpoints * config.groups * config.sources ≤ 16777216 → FailsTogether config Endpoints → ⊥

@@ -1,28 +1,13 @@
 -- The parts of a relay's file, and all of it from them.
 use Rattle.std.proofs.Common.{◌≡◌, ◌⊎◌, ℕ, List, [], ◌∷◌, ◌++◌, codes, inl, inr, sym, subst}
-use Rattle.amt_values.specs.declared.address.Ip.{Ip}
-use Rattle.amt_values.specs.declared.address.Ip.TheVariants.{V4, V6}
-use Rattle.amt_values.specs.Text.{IsIpText}
+use Rattle.amt_values.specs.{declared.address.Ip.{Ip, TheVariants.{V4, V6}}, Text.{IsIpText}}
 use Rattle.endpoint_membership.specs.declared.limits.Limits.{Limits}
-use Rattle.relay_machine.specs.declared.number_key.NumberKey.{NumberKey}
-use Rattle.relay_machine.specs.declared.number_key.NumberKey.TheVariants.{Robustness, QuerySeconds, ResponseTenths, Endpoints, Groups, Sources, PacketLimit}
-use Rattle.relay_machine.specs.declared.number_key.NumberRange.{NumberRange}
-use Rattle.relay_machine.specs.declared.settings.Settings.{Settings}
-use Rattle.relay_machine.specs.Settings.{number_at, number_row}
+use Rattle.relay_machine.specs.{declared.{number_key.{NumberKey.{NumberKey, TheVariants.{Robustness, QuerySeconds, ResponseTenths, Endpoints, Groups, Sources, PacketLimit}}, NumberRange.{NumberRange}}, settings.Settings.{Settings}}, Settings.{number_at, number_row}}
 use Rattle.amt_script.specs.declared.kind.Key.TheVariants as words
 use Rattle.amt_script.specs.Row.{key_word, number_word}
 use Rattle.toml.specs.Data.{Members}
-use Rattle.amt_config.specs.declared.fault.ConfigFault.{ConfigFault}
-use Rattle.amt_config.specs.declared.fault.ConfigFault.TheVariants.{Memory}
-use Rattle.amt_config.specs.declared.fault.KeyFault.{KeyFault}
-use Rattle.amt_config.specs.declared.relay.Places.{Places}
-use Rattle.amt_config.specs.Key.{HaveNoFault, FailsAt, FailsFirstAt, HasWholeNumber, HasTextOr}
-use Rattle.amt_config.specs.Parts.{HasLimits, HasPlaces, HasSettings, limit_keys, place_keys, serving_keys, setting_keys, number_keys}
-use Rattle.amt_config.specs.Relay.{IsFaultTogether, IsRelayFault, number_key, range_of, relay_keys}
-use Rattle.amt_config.specs.Table.{AreKnown, IsTableOf, IsValueFault, key_words}
-use Rattle.amt_config.proofs.FirstFaults.{first_in_back, first_in_front}
-use Rattle.amt_config.proofs.RelayLaws.{right_numbers, right_ip, right_ip4, right_ip6, right_of_key}
-use Rattle.amt_config.proofs.SharedLaws.{right_peer}
+use Rattle.amt_config.specs.{declared.{fault.{ConfigFault.{ConfigFault, TheVariants.{Memory}}, KeyFault.{KeyFault}}, relay.Places.{Places}}, Key.{HaveNoFault, FailsAt, FailsFirstAt, HasWholeNumber, HasTextOr}, Parts.{HasLimits, HasPlaces, HasSettings, limit_keys, place_keys, serving_keys, setting_keys, number_keys}}
+use Rattle.amt_config.{specs.{Relay.{IsFaultTogether, IsRelayFault, number_key, range_of, relay_keys}, Table.{AreKnown, IsTableOf, IsValueFault, key_words}}, proofs.{FirstFaults.{first_in_back, first_in_front}, RelayLaws.{right_numbers, right_ip, right_ip4, right_ip6, right_of_key}, SharedLaws.{right_peer}}}
 
 pub same_range : (range : NumberRange) (key : NumberKey) → range.least ≡ (number_row key).least → range.most ≡ (number_row key).most → range.default ≡ (number_row key).default → range ≡ range_of key
 same_range range key least most default = λ i. record { least = least i; most = most i; default = default i }
@@ -84,9 +69,6 @@ pub after_settings : (table : Members) (places : Places) (relay : Ip) (settings 
 after_settings table places relay settings word fault h k fails =
     first_in_back table place_keys (setting_keys ++ serving_keys) word fault (right_places table places h)
     (first_in_back table setting_keys serving_keys word fault (right_settings table relay settings k) fails)
-
-pub in_places : (table : Members) (word : List ℕ) (fault : KeyFault) → FailsFirstAt table place_keys word fault → FailsFirstAt table relay_keys word fault
-in_places table word fault fails = first_in_front table place_keys (setting_keys ++ serving_keys) word fault fails
 
 -- the first fault of the settings' keys after those of the queries' sources
 pub after_queries : (table : Members) (query4 query6 : ℕ) (Default4 Default6 : Type 0) (word : List ℕ) (fault : KeyFault)

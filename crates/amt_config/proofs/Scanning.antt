@@ -1,20 +1,8 @@
 -- The keys of a table, one after another: the first that is unknown is the least.
-use Rattle.std.proofs.Common.{◌≡◌, ◌≢◌, ◌⊎◌, ℕ, true, List, [], ◌∷◌, map, Option, Some, String, Global, string_bytes, inl, inr, refl, sym, subst, ap, ◌∙◌}
-use Rattle.std.proofs.lemmas.Cmp.{nat_list_cmp_total, tied_itself}
-use Rattle.std.proofs.lemmas.Map.Lookups.{exact_bytes}
-use Rattle.std.specs.Cmp.Lexicographic.{slice_cmp}
-use Rattle.std.specs.List.{AllByRecursion}
-use Rattle.std.specs.List.Sorted.{IsStrictlySortedBy}
-use Rattle.std.specs.Map.{keys_of}
-use Rattle.std.specs.Ordering.{match_ordering, nat_cmp, ordering_reverse}
-use Rattle.std.specs.Prelude.{IsSome}
-use Rattle.std.specs.String.{string_cmp}
-use Rattle.std.specs.declared.cmp.Ordering.{Ordering}
-use Rattle.std.specs.declared.cmp.Ordering.TheVariants.{Less, Equal, Greater}
-use Rattle.toml.specs.Data.{Data, Members, get_member, member}
-use Rattle.toml.specs.View.{members_view, view}
-use Rattle.toml.specs.declared.value.Value.{Value}
-use Rattle.amt_config.specs.Table.{AreKnown, IsLeastUnknown, IsUnknownKey, is_among}
+use Rattle.std.{proofs.{Common.{◌≡◌, ◌≢◌, ◌⊎◌, ℕ, true, List, [], ◌∷◌, map, Option, Some, String, Global, string_bytes, inl, inr, refl, sym, subst, ap, ◌∙◌}, lemmas.{Cmp.{nat_list_cmp_total, tied_itself}, Map.Lookups.{exact_bytes}}}, specs.Cmp.Lexicographic.{slice_cmp}}
+use Rattle.std.specs.{List.{AllByRecursion, Sorted.{IsStrictlySortedBy}}, Map.{keys_of}, Ordering.{match_ordering, nat_cmp, ordering_reverse}, Prelude.{IsSome}, String.{string_cmp}, declared.cmp.Ordering.{Ordering, TheVariants.{Less, Equal, Greater}}}
+use Rattle.toml.specs.{Data.{Data, Members, get_member, member}, View.{members_view, view}, declared.value.Value.{Value}}
+use Rattle.amt_config.specs.Table.{IsLeastUnknown, IsUnknownKey, is_among}
 
 abbrev Entry : Type 0
 Entry = String Global × Value
@@ -127,9 +115,6 @@ scan_found words table key rest unknown before = record {
   unknown = record { there = before.there.0; unknown = unknown };
   least = λ other is. in_all_not_less key rest other before.ordered.0 (before.unknown other is);
 }
-
-pub scan_end : (words : List (List ℕ)) (table : Members) (left : List (List ℕ)) → left ≡ [] → IsScanned words table left → AreKnown words table
-scan_end words table left none before word is = subst (IsIn word) none (before.unknown word is)
 
 one_by_order : (o : Ordering) (one other : List ℕ) → slice_cmp nat_cmp other one ≡ o → o ≢ Less → slice_cmp nat_cmp one other ≢ Less → one ≡ other
 one_by_order Less one other is not_one not_other = absurd (not_one refl)

@@ -1,14 +1,10 @@
 -- Texts and numbers of either file: each names one value, and a key that has it is right.
 use Rattle.std.proofs.Common.{◌≡◌, ℕ, Bool, true, List, pos, inl, inr, sym, subst, ◌∙◌}
-use Rattle.amt_values.specs.declared.peer.Peer.{Peer}
-use Rattle.amt_values.specs.Text.{IsPeerText}
+use Rattle.amt_values.specs.{declared.peer.Peer.{Peer}, Text.{IsPeerText}}
 use Rattle.relay_machine.specs.declared.number_key.NumberRange.{NumberRange}
-use Rattle.script_lines.proofs.Forms.{peer_fits}
-use Rattle.script_lines.specs.declared.reason.Reason.{Reason}
-use Rattle.script_lines.specs.Form.{Fails as FailsAsForm, Form, a_peer}
+use Rattle.script_lines.{proofs.Forms.{peer_fits}, specs.{declared.reason.Reason.{Reason}, Form.{Fails as FailsAsForm, Form, a_peer}}}
 use Rattle.toml.specs.Data.{Members, integer}
-use Rattle.amt_config.specs.Key.{HasWholeNumber, HasText, HasNoFault, a_text, required}
-use Rattle.amt_config.proofs.KeyFaults.{no_value, one_number, one_text, right_text}
+use Rattle.amt_config.{specs.Key.{HasWholeNumber, HasText, HasNoFault, a_text, required}, proofs.KeyFaults.{no_value, one_number, one_text, right_text}}
 
 -- a text names one value
 pub same_in_text : {V : Type 0} (Names : V → List ℕ → Type 0) (unique : (one other : V) (text : List ℕ) → Names one text → Names other text → one ≡ other)

@@ -1,13 +1,7 @@
 -- A table has one first fault.
 use Rattle.std.proofs.Common.{◌≡◌, ℕ, List, inl, inr, sym, ap, ◌∙◌}
 use Rattle.toml.specs.Data.{Members}
-use Rattle.amt_config.specs.declared.fault.ConfigFault.{ConfigFault}
-use Rattle.amt_config.specs.declared.fault.ConfigFault.TheVariants.{Unknown}
-use Rattle.amt_config.specs.declared.fault.KeyFault.{KeyFault}
-use Rattle.amt_config.specs.Key.{HaveNoFault, Key}
-use Rattle.amt_config.specs.Table.{IsFirstFault, IsKeyFault, IsUnknownFault, IsValueFault, told}
-use Rattle.amt_config.proofs.FirstFaults.{none_fails, one_first_fault}
-use Rattle.amt_config.proofs.Scanning.{one_unknown}
+use Rattle.amt_config.{specs.{declared.fault.{ConfigFault.{ConfigFault, TheVariants.{Unknown}}, KeyFault.{KeyFault}}, Key.{HaveNoFault, Key}, Table.{IsFirstFault, IsKeyFault, IsUnknownFault, IsValueFault, told}}, proofs.{FirstFaults.{none_fails, one_first_fault}, Scanning.{one_unknown}}}
 
 same_told : (word word' : List ℕ) (cause cause' : KeyFault) → word ≡ word' → cause ≡ cause' → told word cause ≡ told word' cause'
 same_told word word' cause cause' same_word same_cause = λ i. told (same_word i) (same_cause i)

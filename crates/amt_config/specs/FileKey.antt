@@ -4,8 +4,7 @@ use Rattle.amt_script.specs.declared.kind.Key.TheVariants as set
 use Rattle.amt_script.specs.Row.{key_word}
 use Rattle.gateway_script.specs.declared.kind.Key.TheVariants as set_of_gateway
 use Rattle.gateway_script.specs.Row.{key_word as gateway_word}
-use Rattle.amt_config.specs.declared.key.FileKey.{FileKey}
-use Rattle.amt_config.specs.declared.key.FileKey.TheVariants.{Relay, Listen, Feed, Query4, Query6, Number, RotateSeconds, Workers, Family, Deliver, Control, Discovery, Source, Port, Join, Name, Group, Mode, Sources}
+use Rattle.amt_config.specs.declared.key.FileKey.{FileKey, TheVariants.{Relay, Listen, Feed, Query4, Query6, Number, RotateSeconds, Workers, Family, Deliver, Control, Discovery, Source, Port, Join, Name, Group, Mode, Sources}}
 
 abbrev pub word_of : FileKey → List ℕ
 word_of Relay = key_word set.Relay

@@ -1,25 +1,14 @@
 -- The settings file of a gateway.
-use Rattle.std.specs.Prelude.{◌≡◌, ℕ, List, [], ◌∷◌, codes, Option, Some, None, if◌then◌else◌}
-use Rattle.std.specs.Option.{option_and_then}
-use Rattle.std.specs.Str.{bytes_eq}
-use Rattle.amt_values.specs.declared.peer.Peer.{Peer}
-use Rattle.amt_values.specs.Text.{IsPeerText}
-use Rattle.group_records.specs.declared.family.Family.{Family}
-use Rattle.group_records.specs.declared.family.Family.TheVariants.{V4, V6}
+use Rattle.std.specs.{Prelude.{◌≡◌, ℕ, List, [], ◌∷◌, codes, Option, Some, None, if◌then◌else◌}, Option.{option_and_then}, Str.{bytes_eq}}
+use Rattle.amt_values.specs.{declared.peer.Peer.{Peer}, Text.{IsPeerText}}
+use Rattle.group_records.specs.declared.family.Family.{Family, TheVariants.{V4, V6}}
 use Rattle.relay_machine.specs.declared.number_key.NumberRange.{NumberRange}
-use Rattle.script_lines.specs.Form.{IsAddressText, IsFamilyText, a_family, a_peer, an_address_of}
-use Rattle.script_lines.specs.Texts.{family_text}
+use Rattle.script_lines.specs.{Form.{IsAddressText, IsFamilyText, a_family, a_peer, an_address_of}, Texts.{family_text}}
 use Rattle.socket_merge.specs.FullReport.{family_by}
 use Rattle.gateway_script.specs.declared.kind.Key.TheVariants as words
-use Rattle.gateway_script.specs.Row.{key_word}
-use Rattle.gateway_script.specs.Settling.{port_in}
+use Rattle.gateway_script.specs.{Row.{key_word}, Settling.{port_in}}
 use Rattle.toml.specs.Data.{Members, as_str, get_member}
-use Rattle.amt_config.specs.declared.config.GatewayConfig.{GatewayConfig}
-use Rattle.amt_config.specs.declared.config.Join.{Join}
-use Rattle.amt_config.specs.declared.fault.ConfigFault.{ConfigFault}
-use Rattle.amt_config.specs.Join.{AreJoins, FailsInJoins}
-use Rattle.amt_config.specs.Key.{HasWholeNumber, HasTables, HasText, Key, a_text, a_whole, optional, required, some_tables}
-use Rattle.amt_config.specs.Table.{AreKnown, IsFirstFaultOfFile, IsFile, IsFirstFault, key_words}
+use Rattle.amt_config.specs.{declared.{config.{GatewayConfig.{GatewayConfig}, Join.{Join}}, fault.ConfigFault.{ConfigFault}}, Join.{AreJoins, FailsInJoins}, Key.{HasWholeNumber, HasTables, HasText, Key, a_text, a_whole, optional, required, some_tables}, Table.{AreKnown, IsFirstFaultOfFile, IsFile, IsFirstFault, key_words}}
 
 -- AMT's own port is the default (RFC 7450, section 7.2)
 abbrev pub port_range : NumberRange

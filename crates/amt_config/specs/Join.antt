@@ -3,17 +3,12 @@ use Rattle.std.specs.Prelude.{◌≡◌, ◌⊎◌, ℕ, List, [], ◌∷◌, co
 use Rattle.amt_values.specs.declared.address.Ip.{Ip}
 use Rattle.group_records.specs.declared.family.Family.{Family}
 use Rattle.script_lines.specs.Form.{IsGroupText, IsModeText, IsNameText, a_group, a_mode, a_name, an_address_of}
-use Rattle.socket_merge.specs.History.{AcceptedCall, Open, SocketCall, with_call}
-use Rattle.socket_merge.specs.Refusal.{refusal_of}
+use Rattle.socket_merge.specs.{History.{AcceptedCall, Open, SocketCall, with_call}, Refusal.{refusal_of}}
 use Rattle.source_filter.specs.Filter.{ascending_sources}
 use Rattle.gateway_script.specs.Says.{AreAddressTexts}
 use Rattle.toml.specs.Data.{Members, get_member}
-use Rattle.amt_config.specs.declared.config.Join.{Join}
-use Rattle.amt_config.specs.declared.fault.ConfigFault.{ConfigFault}
+use Rattle.amt_config.specs.{declared.{config.Join.{Join}, fault.ConfigFault.{ConfigFault}}, Arrays.{array_of_texts}, Key.{HasText, Key, a_text, required, some_texts}, Table.{AreKnown, IsFirstFault, key_words}}
 use Rattle.amt_config.specs.declared.fault.ConfigFault.TheVariants as faults
-use Rattle.amt_config.specs.Arrays.{array_of_texts}
-use Rattle.amt_config.specs.Key.{HasText, Key, a_text, required, some_texts}
-use Rattle.amt_config.specs.Table.{AreKnown, IsFirstFault, key_words}
 
 -- the keys of a join, for a gateway of the family
 abbrev pub join_keys : Option Family → List Key

@@ -1,17 +1,11 @@
 -- The keys of a settings file: what each wants of its value, and why a value is refused.
-use Rattle.std.specs.Prelude.{◌≡◌, ◌⊎◌, ℕ, Bool, true, false, List, [], ◌∷◌, ℤ, pos, Option, Some, None}
-use Rattle.std.specs.Int.{IsInRange}
-use Rattle.std.specs.List.{AllByRecursion}
+use Rattle.std.specs.{Prelude.{◌≡◌, ◌⊎◌, ℕ, Bool, true, false, List, [], ◌∷◌, ℤ, pos, Option, Some, None}, Int.{IsInRange}, List.{AllByRecursion}}
 use Rattle.amt_values.specs.Conditions.{First}
 use Rattle.relay_machine.specs.declared.number_key.NumberRange.{NumberRange}
-use Rattle.script_lines.specs.declared.reason.Reason.{Reason}
+use Rattle.script_lines.specs.{declared.reason.Reason.{Reason}, Form.{Fails as FailsAsForm, Form}, Shape.{SomeFails}}
 use Rattle.script_lines.specs.declared.reason.Reason.TheVariants as reasons
-use Rattle.script_lines.specs.Form.{Fails as FailsAsForm, Form}
-use Rattle.script_lines.specs.Shape.{SomeFails}
 use Rattle.toml.specs.Data.{Data, Members, as_integer, as_str, get_member, integer, string}
-use Rattle.amt_config.specs.Arrays.{array_of_tables, array_of_texts}
-use Rattle.amt_config.specs.declared.fault.KeyFault.{KeyFault}
-use Rattle.amt_config.specs.declared.fault.KeyFault.TheVariants.{Missing, Kind, Address, Range}
+use Rattle.amt_config.specs.{Arrays.{array_of_tables, array_of_texts}, declared.fault.KeyFault.{KeyFault, TheVariants.{Missing, Kind, Address, Range}}}
 
 -- what a key wants: a text of a form, a whole number of a range, an array of texts, or one of tables
 pub data Want : Type 0 where

@@ -1,20 +1,12 @@
 -- The parts of a relay's file that are read one after another. No public contract says these words.
 use Rattle.std.specs.Prelude.{◌≡◌, List, take, drop, codes}
-use Rattle.amt_values.specs.declared.address.Ip.{Ip}
-use Rattle.amt_values.specs.declared.address.Ip.TheVariants.{V4, V6}
-use Rattle.amt_values.specs.Text.{IsIpText, IsPeerText}
+use Rattle.amt_values.specs.{declared.address.Ip.{Ip, TheVariants.{V4, V6}}, Text.{IsIpText, IsPeerText}}
 use Rattle.endpoint_membership.specs.declared.limits.Limits.{Limits}
-use Rattle.relay_machine.specs.declared.number_key.NumberKey.{NumberKey}
-use Rattle.relay_machine.specs.declared.number_key.NumberKey.TheVariants.{Endpoints, Groups, Sources}
-use Rattle.relay_machine.specs.declared.settings.Settings.{Settings}
-use Rattle.relay_machine.specs.Settings.{AreLawfulSettings, default_settings, number_at}
+use Rattle.relay_machine.specs.{declared.{number_key.NumberKey.{NumberKey, TheVariants.{Endpoints, Groups, Sources}}, settings.Settings.{Settings}}, Settings.{AreLawfulSettings, default_settings, number_at}}
 use Rattle.amt_script.specs.declared.kind.Key.TheVariants as words
 use Rattle.amt_script.specs.Row.{key_word, number_word}
 use Rattle.toml.specs.Data.{Members}
-use Rattle.amt_config.specs.declared.config.RelayConfig.{RelayConfig}
-use Rattle.amt_config.specs.declared.relay.Places.{Places}
-use Rattle.amt_config.specs.Key.{HasWholeNumber, HasText, HasTextOr, Key}
-use Rattle.amt_config.specs.Relay.{HasValues, range_of, relay_keys, settings_of}
+use Rattle.amt_config.specs.{declared.{config.RelayConfig.{RelayConfig}, relay.Places.{Places}}, Key.{HasWholeNumber, HasText, HasTextOr, Key}, Relay.{HasValues, range_of, relay_keys, settings_of}}
 
 -- the keys that a file must have
 abbrev pub place_keys : List Key

@@ -2,28 +2,16 @@
 use Rattle.std.specs.Prelude.{◌≡◌, ℕ, List, [], ◌∷◌, ◌++◌, take, codes, Option, Some}
 use Rattle.amt_values.specs.Text.{IsPeerText}
 use Rattle.group_records.specs.declared.family.Family.{Family}
-use Rattle.script_lines.specs.Form.{IsAddressText, IsFamilyText, IsGroupText, IsModeText, IsNameText, a_mode, an_address_of}
-use Rattle.script_lines.specs.Shape.{SomeFails}
+use Rattle.script_lines.specs.{Form.{IsAddressText, IsFamilyText, IsGroupText, IsModeText, IsNameText, a_mode, an_address_of}, Shape.{SomeFails}}
 use Rattle.script_lines.specs.declared.reason.Reason.TheVariants as reasons
-use Rattle.socket_merge.specs.History.{AcceptedCall}
-use Rattle.socket_merge.specs.Sockets.{SocketsHold, SocketsValue}
+use Rattle.socket_merge.specs.{History.{AcceptedCall}, Sockets.{SocketsHold, SocketsValue}}
 use Rattle.source_filter.specs.Filter.{FilterValue}
 use Rattle.gateway_script.specs.declared.kind.Key.TheVariants as words
-use Rattle.gateway_script.specs.Row.{key_word}
-use Rattle.gateway_script.specs.Settling.{is_v6}
+use Rattle.gateway_script.specs.{Row.{key_word}, Settling.{is_v6}}
 use Rattle.toml.specs.Data.{Members}
-use Rattle.amt_config.specs.declared.fault.ConfigFault.{ConfigFault}
+use Rattle.amt_config.specs.declared.{fault.{ConfigFault.{ConfigFault}, JoinFault.{JoinFault, TheVariants.{Unknown, Bad, Memory}}, KeyFault.TheVariants.{Address, Range}}, config.{Join.{Join}, GatewayConfig.{GatewayConfig}}, gateway.AllButJoins.{AllButJoins}}
+use Rattle.amt_config.specs.{Gateway.{HasPeer, gateway_keys, port_range}, Join.{AreJoins, FailsInJoins, HasSources, MayOpen, join_keys}, Key.{FailsFirstAt, HasWholeNumber, HasText, Key, a_text, required, some_texts}, Table.{AreKnown, IsLeastUnknown, told, key_words}}
 use Rattle.amt_config.specs.declared.fault.ConfigFault.TheVariants as faults
-use Rattle.amt_config.specs.declared.fault.JoinFault.{JoinFault}
-use Rattle.amt_config.specs.declared.fault.JoinFault.TheVariants.{Unknown, Bad, Memory}
-use Rattle.amt_config.specs.declared.fault.KeyFault.TheVariants.{Address, Range}
-use Rattle.amt_config.specs.declared.config.Join.{Join}
-use Rattle.amt_config.specs.declared.config.GatewayConfig.{GatewayConfig}
-use Rattle.amt_config.specs.declared.gateway.AllButJoins.{AllButJoins}
-use Rattle.amt_config.specs.Gateway.{HasPeer, gateway_keys, port_range}
-use Rattle.amt_config.specs.Join.{AreJoins, FailsInJoins, HasSources, MayOpen, join_keys}
-use Rattle.amt_config.specs.Key.{FailsFirstAt, HasWholeNumber, HasText, Key, a_text, required, some_texts}
-use Rattle.amt_config.specs.Table.{AreKnown, IsLeastUnknown, told, key_words}
 
 -- the fault of a join, as it is told
 abbrev pub told_in_join : JoinFault → ConfigFault

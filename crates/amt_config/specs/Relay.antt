@@ -1,22 +1,13 @@
 -- The settings file of a relay.
 use Rattle.std.specs.Prelude.{◌≡◌, ◌*◌, ◌<◌, ℕ, List, [], ◌∷◌, codes}
-use Rattle.amt_values.specs.declared.address.Ip.TheVariants.{V4, V6}
-use Rattle.amt_values.specs.Text.{IsIpText, IsPeerText}
-use Rattle.amt_values.specs.Conditions.{First}
-use Rattle.relay_machine.specs.declared.number_key.NumberKey.{NumberKey}
-use Rattle.relay_machine.specs.declared.number_key.NumberKey.TheVariants.{Robustness, QuerySeconds, ResponseTenths, Endpoints, Groups, Sources, PacketLimit}
-use Rattle.relay_machine.specs.declared.number_key.NumberRange.{NumberRange}
-use Rattle.relay_machine.specs.declared.settings.Settings.{Settings}
-use Rattle.relay_machine.specs.Settings.{AreLawfulSettings, HasCode, HasMldCode, default_settings, number_at, number_row}
+use Rattle.amt_values.specs.{declared.address.Ip.TheVariants.{V4, V6}, Text.{IsIpText, IsPeerText}, Conditions.{First}}
+use Rattle.relay_machine.specs.{declared.{number_key.{NumberKey.{NumberKey, TheVariants.{Robustness, QuerySeconds, ResponseTenths, Endpoints, Groups, Sources, PacketLimit}}, NumberRange.{NumberRange}}, settings.Settings.{Settings}}, Settings.{AreLawfulSettings, HasCode, HasMldCode, default_settings, number_at, number_row}}
 use Rattle.script_lines.specs.Form.{a_peer, an_address, an_address4, an_address6}
 use Rattle.amt_script.specs.declared.kind.Key.TheVariants as words
 use Rattle.amt_script.specs.Row.{key_word, number_word}
 use Rattle.toml.specs.Data.{Members}
-use Rattle.amt_config.specs.declared.config.RelayConfig.{RelayConfig}
-use Rattle.amt_config.specs.declared.fault.ConfigFault.{ConfigFault}
+use Rattle.amt_config.specs.{declared.{config.RelayConfig.{RelayConfig}, fault.ConfigFault.{ConfigFault}}, Key.{HasWholeNumber, HasText, HasTextOr, Key, a_text, a_whole, optional, required}, Table.{AreKnown, IsFirstFaultOfFile, IsFile, IsFirstFault, key_words}}
 use Rattle.amt_config.specs.declared.fault.ConfigFault.TheVariants as faults
-use Rattle.amt_config.specs.Key.{HasWholeNumber, HasText, HasTextOr, Key, a_text, a_whole, optional, required}
-use Rattle.amt_config.specs.Table.{AreKnown, IsFirstFaultOfFile, IsFile, IsFirstFault, key_words}
 
 -- the row of one of the relay's numbers
 abbrev pub range_of : NumberKey → NumberRange

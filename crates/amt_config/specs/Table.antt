@@ -1,17 +1,8 @@
 -- The table of a settings file, and its first fault.
-use Rattle.std.specs.Prelude.{◌≡◌, ◌≢◌, ◌⊎◌, ℕ, Bool, true, List, map, IsSome, Some, IsUtf8}
-use Rattle.std.specs.Cmp.Lexicographic.{slice_cmp}
-use Rattle.std.specs.List.{list_any}
-use Rattle.std.specs.Ordering.{nat_cmp}
-use Rattle.std.specs.Str.{bytes_eq}
-use Rattle.std.specs.declared.cmp.Ordering.TheVariants.{Less}
-use Rattle.toml.specs.Data.{Members, get_member}
-use Rattle.toml.specs.Parse.{parse_document}
-use Rattle.amt_config.specs.declared.fault.ConfigFault.{ConfigFault}
+use Rattle.std.specs.{Prelude.{◌≡◌, ◌≢◌, ◌⊎◌, ℕ, Bool, true, List, map, IsSome, Some, IsUtf8}, Cmp.Lexicographic.{slice_cmp}, List.{list_any}, Ordering.{nat_cmp}, Str.{bytes_eq}, declared.cmp.Ordering.TheVariants.{Less}}
+use Rattle.toml.specs.{Data.{Members, get_member}, Parse.{parse_document}}
+use Rattle.amt_config.specs.{declared.fault.{ConfigFault.{ConfigFault}, KeyFault.{KeyFault, TheVariants.{Missing, Kind, Address, Range}}}, Key.{HaveNoFault, FailsFirstAt, Key}}
 use Rattle.amt_config.specs.declared.fault.ConfigFault.TheVariants as faults
-use Rattle.amt_config.specs.declared.fault.KeyFault.{KeyFault}
-use Rattle.amt_config.specs.declared.fault.KeyFault.TheVariants.{Missing, Kind, Address, Range}
-use Rattle.amt_config.specs.Key.{HaveNoFault, FailsFirstAt, Key}
 
 -- the octets are text, which TOML reads as the table
 abbrev pub IsTableOf : Members → List ℕ → Type 0

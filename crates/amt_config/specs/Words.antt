@@ -1,11 +1,6 @@
 -- The keys of each kind of table.
 use Rattle.std.specs.Prelude.{ℕ, List, None}
-use Rattle.amt_config.specs.declared.table.TableKind.{TableKind}
-use Rattle.amt_config.specs.declared.table.TableKind.TheVariants.{Relay, Gateway, Join}
-use Rattle.amt_config.specs.Gateway.{gateway_keys}
-use Rattle.amt_config.specs.Join.{join_keys}
-use Rattle.amt_config.specs.Relay.{relay_keys}
-use Rattle.amt_config.specs.Table.{key_words}
+use Rattle.amt_config.specs.{declared.table.TableKind.{TableKind, TheVariants.{Relay, Gateway, Join}}, Gateway.{gateway_keys}, Join.{join_keys}, Relay.{relay_keys}, Table.{key_words}}
 
 abbrev pub words_in : TableKind → List (List ℕ)
 words_in Relay = key_words relay_keys

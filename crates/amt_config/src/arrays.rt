@@ -2,12 +2,8 @@
 
 ghost use Rattle.std.specs.Prelude.{◌≡◌, ℕ, List, IfOk, IfErr, IfSome, IfNone, Some};
 ghost use Rattle.script_lines.specs.Form.{Form};
-ghost use Rattle.toml.specs.Data.{Members, get_member};
-ghost use Rattle.toml.specs.View.{items_view, table_view, view};
-ghost use Rattle.amt_config.specs.Arrays.{array_of_tables, array_of_texts};
-ghost use Rattle.amt_config.specs.Scanned.{are_tables, are_texts, tables_in, texts_in};
-ghost use Rattle.amt_config.specs.FileKey.{word_of};
-ghost use Rattle.amt_config.specs.Key.{FailsAt, HasTables, optional, required, some_tables, some_texts};
+ghost use Rattle.toml.specs.{Data.{Members, get_member}, View.{items_view, table_view, view}};
+ghost use Rattle.amt_config.specs.{Arrays.{array_of_tables, array_of_texts}, Scanned.{are_tables, are_texts, tables_in, texts_in}, FileKey.{word_of}, Key.{FailsAt, HasTables, optional, required, some_tables, some_texts}};
 
 use crate::fault::{BadKey, KeyFault};
 use crate::key::FileKey;

@@ -1,9 +1,7 @@
 //! Why a settings file isn't read. It knows no key but `join`.
 
 ghost use Rattle.std.specs.Prelude.{◌≡◌, ◌⊎◌};
-ghost use Rattle.amt_config.specs.FileKey.{word_of};
-ghost use Rattle.amt_config.specs.Reading.{told_in_join};
-ghost use Rattle.amt_config.specs.Table.{told};
+ghost use Rattle.amt_config.specs.{FileKey.{word_of}, Reading.{told_in_join}, Table.{told}};
 
 use crate::key::FileKey;
 use amt_values::Bytes;

@@ -2,13 +2,7 @@
 
 ghost use Rattle.std.specs.Prelude.{◌≡◌, ◌⊎◌, IfOk, IfErr, Ok, Err};
 ghost use Rattle.toml.specs.View.{table_view};
-ghost use Rattle.amt_config.specs.declared.config.GatewayConfig.{GatewayConfig as Config};
-ghost use Rattle.amt_config.specs.declared.fault.ConfigFault.{ConfigFault as Fault};
-ghost use Rattle.amt_config.specs.FileKey.{word_of};
-ghost use Rattle.amt_config.specs.Gateway.{HasGatewayValues, IsFaultInJoins, IsGatewayFault, IsGatewayFile, table_family, gateway_keys};
-ghost use Rattle.amt_config.specs.Key.{FailsFirstAt};
-ghost use Rattle.amt_config.specs.Reading.{HasAllButJoins, config_of, keys_but_joins};
-ghost use Rattle.amt_config.specs.Table.{IsValueFault};
+ghost use Rattle.amt_config.specs.{declared.{config.GatewayConfig.{GatewayConfig as Config}, fault.ConfigFault.{ConfigFault as Fault}}, FileKey.{word_of}, Gateway.{HasGatewayValues, IsFaultInJoins, IsGatewayFault, IsGatewayFile, table_family, gateway_keys}, Key.{FailsFirstAt}, Reading.{HasAllButJoins, config_of, keys_but_joins}, Table.{IsValueFault}};
 
 use crate::arrays::tables_at;
 use crate::config::{GatewayConfig, Joins};

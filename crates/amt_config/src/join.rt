@@ -3,9 +3,7 @@
 ghost use Rattle.std.specs.Prelude.{IfOk, IfErr, Some};
 ghost use Rattle.gateway_script.specs.Says.{AreAddressTexts};
 ghost use Rattle.toml.specs.View.{items_view, table_view};
-ghost use Rattle.amt_config.specs.Scanned.{texts_in};
-ghost use Rattle.amt_config.specs.Join.{JoinOf, join_keys};
-ghost use Rattle.amt_config.specs.Reading.{FailsInSources, HasFilter, HasJoin, IsBadAmong, IsFaultOfJoin, filter_keys};
+ghost use Rattle.amt_config.specs.{Scanned.{texts_in}, Join.{JoinOf, join_keys}, Reading.{FailsInSources, HasFilter, HasJoin, IsBadAmong, IsFaultOfJoin, filter_keys}};
 
 use crate::arrays::texts_at;
 use crate::config::Join;

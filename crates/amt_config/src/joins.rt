@@ -4,9 +4,7 @@ ghost use Rattle.std.specs.Prelude.{◌≡◌, [], IfOk, IfErr, OnOk, Some, true
 ghost use Rattle.amt_values.specs.Group.{is_forwardable};
 ghost use Rattle.socket_merge.specs.Sockets.{AreOfGroup, ForHistory, SocketsHold};
 ghost use Rattle.toml.specs.View.{items_view};
-ghost use Rattle.amt_config.specs.Scanned.{tables_in};
-ghost use Rattle.amt_config.specs.Join.{AreJoins, FailsInJoins, MayOpen, with_join};
-ghost use Rattle.amt_config.specs.Reading.{IsFaultInTables, IsRefusedAfter};
+ghost use Rattle.amt_config.specs.{Scanned.{tables_in}, Join.{AreJoins, FailsInJoins, MayOpen, with_join}, Reading.{IsFaultInTables, IsRefusedAfter}};
 
 use crate::config::{Join, Joins};
 use crate::fault::{JoinFault, KeyFault};

@@ -1,11 +1,8 @@
 //! Keys whose values are whole numbers. It knows no key.
 
-ghost use Rattle.std.specs.Prelude.{◌≡◌, IfOk, IfErr, IfSome, IfNone, pos};
-ghost use Rattle.std.specs.Int.{IsInRange};
-ghost use Rattle.toml.specs.Data.{integer};
-ghost use Rattle.toml.specs.View.{table_view};
-ghost use Rattle.amt_config.specs.FileKey.{word_of};
-ghost use Rattle.amt_config.specs.Key.{FailsAt, HasWholeNumber, IsOutside, a_whole, optional};
+ghost use Rattle.std.specs.{Prelude.{◌≡◌, IfOk, IfErr, IfSome, IfNone, pos}, Int.{IsInRange}};
+ghost use Rattle.toml.specs.{Data.{integer}, View.{table_view}};
+ghost use Rattle.amt_config.specs.{FileKey.{word_of}, Key.{FailsAt, HasWholeNumber, IsOutside, a_whole, optional}};
 
 use crate::fault::{BadKey, KeyFault};
 use crate::key::FileKey;

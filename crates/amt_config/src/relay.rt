@@ -2,18 +2,11 @@
 
 ghost use Rattle.std.specs.Prelude.{◌≡◌, ◌≤◌, ◌<◌, ◌*◌, ◌⊎◌, [], ◌∷◌, IfOk, IfErr, IfNone, IfSome, IsTrue, IsFalse, Ok, Err};
 ghost use Rattle.amt_values.specs.Conditions.{First};
-ghost use Rattle.relay_machine.specs.declared.number_key.NumberKey.{NumberKey as AnyNumber};
-ghost use Rattle.relay_machine.specs.declared.number_key.NumberKey.TheVariants.{Endpoints, QuerySeconds, ResponseTenths};
-ghost use Rattle.relay_machine.specs.Settings.{AreLawfulSettings, IsInKeyRange, number_at as number_in};
+ghost use Rattle.relay_machine.specs.{declared.number_key.NumberKey.{NumberKey as AnyNumber, TheVariants.{Endpoints, QuerySeconds, ResponseTenths}}, Settings.{AreLawfulSettings, IsInKeyRange, number_at as number_in}};
 ghost use Rattle.amt_script.specs.Row.{number_word};
 ghost use Rattle.toml.specs.View.{table_view};
-ghost use Rattle.amt_config.specs.declared.config.RelayConfig.{RelayConfig as Config};
-ghost use Rattle.amt_config.specs.declared.fault.ConfigFault.{ConfigFault as Fault};
-ghost use Rattle.amt_config.specs.FileKey.{word_of};
-ghost use Rattle.amt_config.specs.Key.{FailsAt, FailsFirstAt, HasWholeNumber};
-ghost use Rattle.amt_config.specs.Parts.{HasLimits, HasPlaces, HasSettings, IsMadeOf, limit_keys, place_keys, setting_keys};
-ghost use Rattle.amt_config.specs.Relay.{FailsTogether, HasValues, IsFaultTogether, IsRelayFault, IsRelayFile, number_key, range_of, relay_keys, settings_of, together_order};
-ghost use Rattle.amt_config.specs.Table.{IsValueFault, told};
+ghost use Rattle.amt_config.specs.{declared.{config.RelayConfig.{RelayConfig as Config}, fault.ConfigFault.{ConfigFault as Fault}}, FileKey.{word_of}, Key.{FailsAt, FailsFirstAt, HasWholeNumber}};
+ghost use Rattle.amt_config.specs.{Parts.{HasLimits, HasPlaces, HasSettings, IsMadeOf, limit_keys, place_keys, setting_keys}, Relay.{FailsTogether, HasValues, IsFaultTogether, IsRelayFault, IsRelayFile, number_key, range_of, relay_keys, settings_of, together_order}, Table.{IsValueFault, told}};
 
 use crate::config::RelayConfig;
 use crate::fault::{BadKey, ConfigFault, KeyFault, told};

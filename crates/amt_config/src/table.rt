@@ -2,8 +2,7 @@
 
 ghost use Rattle.std.specs.Prelude.{◌≡◌, ◌⊎◌, IfOk, IfErr, IfSome, IfNone, OnOk};
 ghost use Rattle.toml.specs.View.{table_view};
-ghost use Rattle.amt_config.specs.Table.{AreKnown, HasNoTable, IsLeastUnknown, IsTableOf, IsUnknownFault, is_among};
-ghost use Rattle.amt_config.specs.Words.{words_in};
+ghost use Rattle.amt_config.specs.{Table.{AreKnown, HasNoTable, IsLeastUnknown, IsTableOf, IsUnknownFault, is_among}, Words.{words_in}};
 
 use crate::fault::ConfigFault;
 use amt_values::Bytes;
@@ -21,8 +20,7 @@ pub enum TableKind {
 
 impl TableKind {
     ghost use Rattle.std.specs.Prelude.{◌≡◌};
-    ghost use Rattle.amt_config.specs.Table.{is_among};
-    ghost use Rattle.amt_config.specs.Words.{words_in};
+    ghost use Rattle.amt_config.specs.{Table.{is_among}, Words.{words_in}};
 
     fn has_key(self, name: &str) -> bool
         ensures { result ≡ is_among (words_in self) name.now }

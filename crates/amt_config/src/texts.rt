@@ -1,14 +1,10 @@
 //! Keys whose values are texts, by what they want. It knows no key.
 
 ghost use Rattle.std.specs.Prelude.{◌≡◌, IfOk, IfErr, IfSome, Ok, None, Some};
-ghost use Rattle.amt_values.specs.declared.address.Ip.TheVariants.{V4, V6};
-ghost use Rattle.amt_values.specs.Text.{IsIpText, IsPeerText};
+ghost use Rattle.amt_values.specs.{declared.address.Ip.TheVariants.{V4, V6}, Text.{IsIpText, IsPeerText}};
 ghost use Rattle.script_lines.specs.Form.{Form, IsAddressText, IsFamilyText, IsGroupText, IsModeText, IsNameText, a_family, a_group, a_mode, a_name, a_peer, an_address, an_address4, an_address6, an_address_of};
-ghost use Rattle.toml.specs.Data.{get_member, string};
-ghost use Rattle.toml.specs.View.{table_view};
-ghost use Rattle.amt_config.specs.Gateway.{HasPeer};
-ghost use Rattle.amt_config.specs.FileKey.{word_of};
-ghost use Rattle.amt_config.specs.Key.{FailsAt, FailsFirst, HasText, HasTextOr, a_text, optional, required};
+ghost use Rattle.toml.specs.{Data.{get_member, string}, View.{table_view}};
+ghost use Rattle.amt_config.specs.{Gateway.{HasPeer}, FileKey.{word_of}, Key.{FailsAt, FailsFirst, HasText, HasTextOr, a_text, optional, required}};
 
 use crate::fault::{BadKey, KeyFault};
 use crate::key::FileKey;

@@ -1,18 +1,8 @@
 -- Lines of a dump are a lawful kind of script, and each says a datagram that UDP can carry.
-use Rattle.std.proofs.Common.{◌≡◌, ℕ, List, [], ◌∷◌, ◌++◌, length, refl, sym, ap, subst, ◌∙◌, inl, inr, arith}
-use Rattle.std.specs.List.{AllByRecursion}
-use Rattle.std.specs.Str.Lines.{lines}
+use Rattle.std.{proofs.Common.{◌≡◌, ℕ, List, [], ◌∷◌, ◌++◌, length, refl, sym, ap, subst, ◌∙◌, inl, inr, arith}, specs.{List.{AllByRecursion}, Str.Lines.{lines}}}
 use Rattle.amt_values.specs.Conditions.{First}
-use Rattle.script_lines.specs.declared.reason.Reason.{Reason}
-use Rattle.script_lines.specs.declared.reason.Reason.TheVariants.{Count, Hex}
-use Rattle.script_lines.specs.Form.{IsHexText, some_octets}
-use Rattle.script_lines.specs.Kind.{IsLawfulKind}
-use Rattle.script_lines.specs.Lines.{lines_that_say}
-use Rattle.script_lines.specs.Script.{Say, Spells}
-use Rattle.script_lines.specs.Shape.{HasField, FailsIn}
-use Rattle.script_lines.proofs.Forms.{IsHexText-unique, hex_sized, octets_fit, one_field, one_fits}
-use Rattle.amt_dump.specs.Dump.{HasOneDump, IsDump, dump_text}
-use Rattle.amt_dump.specs.Lines.{IsDatagram, dump_kind, dump_shape}
+use Rattle.script_lines.{specs.{declared.reason.Reason.{Reason, TheVariants.{Count, Hex}}, Form.{IsHexText, some_octets}, Kind.{IsLawfulKind}, Lines.{lines_that_say}, Script.{Say, Spells}, Shape.{HasField, FailsIn}}, proofs.Forms.{IsHexText-unique, hex_sized, octets_fit, one_field, one_fits}}
+use Rattle.amt_dump.specs.{Dump.{HasOneDump, IsDump, dump_text}, Lines.{IsDatagram, dump_kind, dump_shape}}
 
 no_statement : (one : List ℕ) (line : List (List ℕ)) (reason : Reason) → HasField [] (IsHexText one) line → FailsIn dump_shape line reason → ⊥
 no_statement one line reason says fails =

@@ -1,6 +1,5 @@
 -- The numbers of the lines that were read so far.
-use Rattle.std.proofs.Common.{◌≡◌, ℕ, ◌+◌, ◌<◌, ◌≤◌, List, [], ◌∷◌, ◌++◌, length, sym, ap, ◌∙◌, append_assoc, append-nil, arith}
-use Rattle.std.specs.Str.Lines.{lines}
+use Rattle.std.{proofs.Common.{◌≡◌, ℕ, ◌+◌, ◌<◌, ◌≤◌, List, [], ◌∷◌, ◌++◌, length, sym, ap, ◌∙◌, append_assoc, arith}, specs.Str.Lines.{lines}}
 use Rattle.amt_dump.specs.Lines.{number_that_says, numbers_that_say}
 
 -- with the numbers of the lines that are left they are those of all lines
@@ -21,7 +20,3 @@ noting_more text left line rest numbers after number noting cut shorter next = r
       ∙ (ap (λ (ls : List (List ℕ)). numbers ++ numbers_that_say number ls) (sym cut) ∙ noting.all_numbers));
   room = omega (arith, noting.room, shorter);
 }
-
-pub noted_all : (text left numbers : List ℕ) (number : ℕ) → IsNoting text left numbers number → left ≡ [] → numbers ≡ numbers_that_say 1 (lines text)
-noted_all text left numbers number noting none =
-    sym (append-nil numbers) ∙ (ap (λ (t : List ℕ). numbers ++ numbers_that_say number (lines t)) (sym none) ∙ noting.all_numbers)

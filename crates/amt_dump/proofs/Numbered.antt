@@ -1,14 +1,7 @@
 -- Datagrams beside the numbers of their lines have the text of the lines.
-use Rattle.std.proofs.Common.{◌≡◌, ℕ, ◌+◌, Bool, true, false, not, if◌then◌else◌, List, [], ◌∷◌, ◌++◌, refl, sym, ap, ◌∙◌, inl, inr}
-use Rattle.std.specs.Str.Lines.{lines}
-use Rattle.script_lines.specs.Form.{IsHexText}
-use Rattle.script_lines.specs.Lines.{fields, lines_that_say, says_nothing}
-use Rattle.script_lines.specs.Script.{Say, Spells}
-use Rattle.script_lines.specs.Shape.{HasField}
-use Rattle.amt_dump.specs.Dump.{datagram_in, dump_text}
-use Rattle.amt_dump.specs.Lines.{dump_kind, numbers_that_say}
-use Rattle.amt_dump.specs.Texts.{datagram_lines}
-use Rattle.amt_dump.proofs.Printing.{numbered_text}
+use Rattle.std.{proofs.Common.{◌≡◌, ℕ, ◌+◌, Bool, true, false, not, if◌then◌else◌, List, [], ◌∷◌, ◌++◌, refl, sym, ap, ◌∙◌, inl, inr}, specs.Str.Lines.{lines}}
+use Rattle.script_lines.specs.{Form.{IsHexText}, Lines.{fields, lines_that_say, says_nothing}, Script.{Say, Spells}, Shape.{HasField}}
+use Rattle.amt_dump.{specs.{Dump.{datagram_in, dump_text}, Lines.{dump_kind, numbers_that_say}, Texts.{datagram_lines}}, proofs.Printing.{numbered_text}}
 
 octets_of_field : (octets field : List ℕ) → IsHexText octets field → datagram_in (field ∷ []) ≡ octets
 octets_of_field octets field (inl h) = rw (h.0, h.1) refl

@@ -1,31 +1,14 @@
 -- What a datagram, and the inner octets of a Query, are read as.
 use Rattle.std.proofs.Common.{◌≡◌, ◌<◌, ℕ, List, drop, Some, None, Ok, Err, refl, sym, ap, subst, ◌∙◌, slice_index}
-use Rattle.amt_values.specs.declared.address.Ip.{Ip}
-use Rattle.amt_messages.specs.Refusal.{message_of}
-use Rattle.amt_messages.specs.declared.message.Message.{Message}
-use Rattle.amt_messages.specs.declared.refusal.Refused.{Refused}
-use Rattle.amt_values.specs.Conditions.{unless}
-use Rattle.inner_datagrams.specs.Fault.{first_inner_fault}
-use Rattle.inner_datagrams.specs.Reading.{inner_at, payload_in, payload_start}
-use Rattle.inner_datagrams.specs.declared.inner.Inner.{Inner as InnerPlace}
-use Rattle.inner_datagrams.specs.declared.inner.InnerFault.{InnerFault}
-use Rattle.source_filter.specs.declared.fault.ReportFault.{ReportFault}
-use Rattle.source_filter.specs.declared.query.QueryRead.{QueryRead}
+use Rattle.amt_values.specs.{declared.address.Ip.{Ip}, Conditions.{unless}}
+use Rattle.inner_datagrams.specs.{Fault.{first_inner_fault}, Reading.{inner_at, payload_in, payload_start}, declared.inner.{Inner.{Inner as InnerPlace}, InnerFault.{InnerFault}}}
+use Rattle.source_filter.specs.declared.{fault.ReportFault.{ReportFault}, query.QueryRead.{QueryRead}}
 use Rattle.relay_machine.specs.declared.outcome.Unlawful.TheVariants.{Inner, Report}
 use Rattle.group_records.specs.Code.{code_count}
 use Rattle.igmp_records.specs.Query.{IsQuery4}
 use Rattle.mld_records.specs.Query.{IsQuery6}
 use Rattle.socket_merge.specs.Refusal.{family_of}
 use Rattle.amt_dump.specs.Queries.{carried_query, query_by, query_in}
-use Rattle.amt_dump.specs.Texts.{datagram_lines, reading_lines}
-
-pub lines_of_message : (number : ℕ) (bytes : List ℕ) (message : Message) → message_of bytes ≡ Ok message → reading_lines number (Ok message) ≡ datagram_lines number bytes
-unfolding datagram_lines
-lines_of_message number bytes message read = ap (reading_lines number) (sym read)
-
-pub lines_of_refusal : (number : ℕ) (bytes : List ℕ) (refusal : Refused) → message_of bytes ≡ Err refusal → reading_lines number (Err refusal) ≡ datagram_lines number bytes
-unfolding datagram_lines
-lines_of_refusal number bytes refusal read = ap (reading_lines number) (sym read)
 
 -- the code of the response time is one of its family's
 pub code_of_query4 : (query : QueryRead) (payload : List ℕ) → slice_index payload 1 < 256 → IsQuery4 query payload

@@ -1,12 +1,8 @@
 -- The text of lines of datagrams.
-use Rattle.std.specs.Prelude.{◌≡◌, ℕ, ◌+◌, List, [], ◌∷◌, ◌++◌, if◌then◌else◌}
-use Rattle.std.specs.Result.{result_unwrap_or}
-use Rattle.std.specs.Str.Lines.{lines}
+use Rattle.std.specs.{Prelude.{◌≡◌, ℕ, ◌+◌, List, [], ◌∷◌, ◌++◌, if◌then◌else◌}, Result.{result_unwrap_or}, Str.Lines.{lines}}
 use Rattle.hex.specs.Hex.{decode_of}
-use Rattle.script_lines.specs.Lines.{fields, says_nothing}
-use Rattle.script_lines.specs.Script.{Spells}
-use Rattle.amt_dump.specs.Lines.{dump_kind}
-use Rattle.amt_dump.specs.Texts.{datagram_lines}
+use Rattle.script_lines.specs.{Lines.{fields, says_nothing}, Script.{Spells}}
+use Rattle.amt_dump.specs.{Lines.{dump_kind}, Texts.{datagram_lines}}
 
 -- the octets that the one field of a line encodes; a dash encodes none
 abbrev pub datagram_in : List (List ℕ) → List ℕ

@@ -1,10 +1,6 @@
 -- The lines of a dump, as a kind of script: each is one field of hexadecimal digits.
 use Rattle.std.specs.Prelude.{◌≡◌, ◌≤◌, ◌+◌, ℕ, List, [], ◌∷◌, ◌++◌, length, None, if◌then◌else◌}
-use Rattle.script_lines.specs.declared.reason.Reason.TheVariants.{Count, Hex}
-use Rattle.script_lines.specs.Form.{IsHexText, some_octets}
-use Rattle.script_lines.specs.Kind.{Kind}
-use Rattle.script_lines.specs.Lines.{fields, says_nothing}
-use Rattle.script_lines.specs.Shape.{HasField, Shape, FailsIn}
+use Rattle.script_lines.specs.{declared.reason.Reason.TheVariants.{Count, Hex}, Form.{IsHexText, some_octets}, Kind.{Kind}, Lines.{fields, says_nothing}, Shape.{HasField, Shape, FailsIn}}
 
 -- one field, of octets
 abbrev pub dump_shape : Shape

@@ -1,17 +1,11 @@
 -- The membership query that the inner octets of a Query carry (RFC 7450, section 5.1.4), of either family.
 use Rattle.std.specs.Prelude.{ℕ, List, Option, Some, None, Result, Ok, Err}
-use Rattle.amt_values.specs.Address.{number_of}
-use Rattle.amt_values.specs.declared.address.Ip.{Ip}
-use Rattle.amt_values.specs.declared.address.Ip.TheVariants.{V4, V6}
-use Rattle.inner_datagrams.specs.Fault.{first_inner_fault}
-use Rattle.inner_datagrams.specs.Reading.{inner_at, payload_in}
-use Rattle.inner_datagrams.specs.declared.inner.InnerFault.{InnerFault}
-use Rattle.source_filter.specs.declared.fault.ReportFault.{ReportFault}
-use Rattle.source_filter.specs.declared.query.QueryRead.{QueryRead}
+use Rattle.amt_values.specs.{Address.{number_of}, declared.address.Ip.{Ip, TheVariants.{V4, V6}}}
+use Rattle.inner_datagrams.specs.{Fault.{first_inner_fault}, Reading.{inner_at, payload_in}, declared.inner.InnerFault.{InnerFault}}
+use Rattle.source_filter.specs.declared.{fault.ReportFault.{ReportFault}, query.QueryRead.{QueryRead}}
 use Rattle.igmp_records.specs.Query.{query4_of}
 use Rattle.mld_records.specs.Query.{query6_of}
-use Rattle.relay_machine.specs.declared.outcome.Unlawful.{Unlawful}
-use Rattle.relay_machine.specs.declared.outcome.Unlawful.TheVariants.{Inner, Report}
+use Rattle.relay_machine.specs.declared.outcome.Unlawful.{Unlawful, TheVariants.{Inner, Report}}
 
 -- the query in a datagram, unless the one or the other has a fault
 abbrev pub query_by : Option InnerFault → Result QueryRead ReportFault → Result QueryRead Unlawful

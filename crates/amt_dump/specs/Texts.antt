@@ -1,29 +1,13 @@
 -- What is written of a datagram: a line for its message, and lines for the query or the records in it.
 use Rattle.std.specs.Prelude.{ℕ, ◌==◌, Bool, false, true, List, [], ◌∷◌, ◌++◌, length, codes, decimal, flat_map, Option, Some, None, Result, Ok, Err, if◌then◌else◌}
-use Rattle.amt_values.specs.Address.{number_of}
-use Rattle.amt_values.specs.Endpoint.{peer_of}
-use Rattle.amt_values.specs.EndpointValue.{EndpointValue}
-use Rattle.amt_values.specs.Text.{ip_text, peer_text}
-use Rattle.amt_values.specs.declared.address.Ip.{Ip}
-use Rattle.amt_values.specs.declared.mac.Mac48.{Mac48}
-use Rattle.amt_messages.specs.Refusal.{message_of}
-use Rattle.amt_messages.specs.declared.message.Message.{Message}
-use Rattle.amt_messages.specs.declared.message.Message.TheVariants.{Discovery, Advertisement, Request, Query, Update, Multicast, Teardown}
-use Rattle.amt_messages.specs.declared.refusal.Refused.{Refused}
-use Rattle.inner_datagrams.specs.Head.{head_of}
-use Rattle.inner_datagrams.specs.declared.head.Head.{Head}
-use Rattle.inner_datagrams.specs.declared.head.HeadFault.{HeadFault}
-use Rattle.source_filter.specs.declared.query.QueryRead.{QueryRead}
-use Rattle.source_filter.specs.declared.record.Record.{Record}
-use Rattle.source_filter.specs.declared.record.RecordKind.{RecordKind}
-use Rattle.source_filter.specs.declared.record.RecordKind.TheVariants.{IsIn, IsEx, ToIn, ToEx, Allow, Block}
-use Rattle.group_records.specs.Code.{code_value}
-use Rattle.group_records.specs.declared.family.Family.TheVariants.{V4}
+use Rattle.amt_values.specs.{Address.{number_of}, Endpoint.{peer_of}, EndpointValue.{EndpointValue}, Text.{ip_text, peer_text}, declared.{address.Ip.{Ip}, mac.Mac48.{Mac48}}}
+use Rattle.amt_messages.specs.{Refusal.{message_of}, declared.{message.Message.{Message, TheVariants.{Discovery, Advertisement, Request, Query, Update, Multicast, Teardown}}, refusal.Refused.{Refused}}}
+use Rattle.inner_datagrams.specs.{Head.{head_of}, declared.head.{Head.{Head}, HeadFault.{HeadFault}}}
+use Rattle.source_filter.specs.{declared.query.QueryRead.{QueryRead}, declared.record.{Record.{Record}, RecordKind.{RecordKind, TheVariants.{IsIn, IsEx, ToIn, ToEx, Allow, Block}}}}
+use Rattle.group_records.specs.{Code.{code_value}, declared.family.Family.TheVariants.{V4}}
 use Rattle.socket_merge.specs.Refusal.{family_of}
-use Rattle.relay_machine.specs.Updates.{report_in}
-use Rattle.relay_machine.specs.declared.outcome.Unlawful.{Unlawful}
-use Rattle.script_lines.specs.Texts.{hex_text, nonce_text}
-use Rattle.script_lines.specs.FaultTexts.{head_text, refusal_text}
+use Rattle.relay_machine.specs.{Updates.{report_in}, declared.outcome.Unlawful.{Unlawful}}
+use Rattle.script_lines.specs.{Texts.{hex_text, nonce_text}, FaultTexts.{head_text, refusal_text}}
 use Rattle.amt_script.specs.Texts.{sources_text, unlawful_text}
 use Rattle.amt_dump.specs.Queries.{query_in}
 

@@ -1,7 +1,6 @@
 //! Datagrams, read from lines of hexadecimal digits. It must not know what they spell.
 
-ghost use Rattle.std.specs.Prelude.{◌≤◌, length, IfOk, IfErr};
-ghost use Rattle.std.specs.List.{AllByRecursion};
+ghost use Rattle.std.specs.{Prelude.{◌≤◌, length, IfOk, IfErr}, List.{AllByRecursion}};
 ghost use Rattle.script_lines.specs.Script.{Spells, IsErrorOf, RulesOutScripts, HasOneScript, HasOneFault};
 ghost use Rattle.amt_dump.specs.Lines.{IsDatagram, dump_kind};
 

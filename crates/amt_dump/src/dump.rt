@@ -1,12 +1,8 @@
 //! The text of lines of hexadecimal digits. It must not know what a datagram says.
 
-ghost use Rattle.std.specs.Prelude.{◌≡◌, ◌≤◌, ◌++◌, flat_map, length, IfOk, IfErr, OnOk};
-ghost use Rattle.std.specs.List.{AllByRecursion, zip};
-ghost use Rattle.std.specs.Str.Lines.{lines};
+ghost use Rattle.std.specs.{Prelude.{◌≡◌, ◌≤◌, ◌++◌, flat_map, length, IfOk, IfErr, OnOk}, List.{AllByRecursion, zip}, Str.Lines.{lines}};
 ghost use Rattle.script_lines.specs.Script.{Spells, IsErrorOf, RulesOutScripts, HasOneFault};
-ghost use Rattle.amt_dump.specs.Dump.{HasOneDump, IsDump, dump_text};
-ghost use Rattle.amt_dump.specs.Lines.{IsDatagram, dump_kind};
-ghost use Rattle.amt_dump.specs.Texts.{datagram_lines};
+ghost use Rattle.amt_dump.specs.{Dump.{HasOneDump, IsDump, dump_text}, Lines.{IsDatagram, dump_kind}, Texts.{datagram_lines}};
 
 use crate::datagram_text::append_datagram;
 use crate::datagrams::read_datagrams;

@@ -1,7 +1,6 @@
 //! The numbers of the lines that say something. It must not know what they say.
 
-ghost use Rattle.std.specs.Prelude.{◌≡◌, ◌≤◌, ◌++◌, length, IfOk, OnOk};
-ghost use Rattle.std.specs.Str.Lines.{lines};
+ghost use Rattle.std.specs.{Prelude.{◌≡◌, ◌≤◌, ◌++◌, length, IfOk, OnOk}, Str.Lines.{lines}};
 ghost use Rattle.amt_dump.specs.Lines.{number_that_says, numbers_that_say};
 
 use amt_values::Items;

@@ -2,12 +2,10 @@
 
 ghost use Rattle.std.specs.Prelude.{◌≡◌, ◌≤◌, ◌<◌, ◌==◌, ◌++◌, length, Ok, OnOk};
 ghost use Rattle.amt_values.specs.Address.{number_of};
-ghost use Rattle.group_records.specs.Code.{code_count, code_value};
-ghost use Rattle.group_records.specs.declared.family.Family.TheVariants.{V4};
+ghost use Rattle.group_records.specs.{Code.{code_count, code_value}, declared.family.Family.TheVariants.{V4}};
 ghost use Rattle.socket_merge.specs.Refusal.{family_of};
 ghost use Rattle.amt_script.specs.Texts.{unlawful_text};
-ghost use Rattle.amt_dump.specs.Queries.{query_in};
-ghost use Rattle.amt_dump.specs.Texts.{general_words, group_lines, line_of, query_lines};
+ghost use Rattle.amt_dump.specs.{Queries.{query_in}, Texts.{general_words, group_lines, line_of, query_lines}};
 
 use crate::line::begin_line;
 use crate::query::read_query;

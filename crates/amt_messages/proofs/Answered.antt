@@ -1,19 +1,8 @@
 -- From what was answered by the reading of octets to what it says of their spelling.
-use Rattle.std.proofs.Common.{◌≡◌, ◌≤◌, ◌↔◌, ℕ, List, length, arith, Some, None, Result, Ok, Err, refl, sym, subst, ◌∙◌}
-use Rattle.std.specs.Result.{IfOk, MatchResult}
-use Rattle.amt_messages.specs.declared.message.Message.{Message}
-use Rattle.amt_messages.specs.declared.message.Message.TheVariants.{Discovery, Advertisement, Request, Query, Update, Multicast, Teardown}
-use Rattle.amt_messages.specs.declared.refusal.DecodeFault.{DecodeFault}
-use Rattle.amt_messages.specs.declared.refusal.DecodeFault.TheVariants.{Refused as RefusedBy, Memory}
-use Rattle.amt_messages.specs.declared.refusal.Refused.{Refused}
-use Rattle.amt_messages.specs.Messages.{IsMessage, IsSendable}
-use Rattle.amt_messages.specs.Layout.{Spells, spelling_of}
-use Rattle.amt_values.specs.Answer.{Gives}
-use Rattle.amt_values.proofs.ConditionLaws.{unless-err}
-use Rattle.amt_messages.specs.Refusal.{TakesMemory, first_refusal, message_at, message_of, refusal_in}
-use Rattle.amt_messages.proofs.Spelled.{spelled_is_read}
-use Rattle.amt_messages.proofs.Unrefused.{read_is_spelled, read_is_unrefused, unrefused_is_spelled}
-use Rattle.amt_messages.proofs.Written.{spelling_is_canonical}
+use Rattle.std.{proofs.Common.{◌≡◌, ◌≤◌, ◌↔◌, ℕ, List, length, arith, Some, None, Result, Ok, Err, refl, sym, subst, ◌∙◌}, specs.Result.{IfOk, MatchResult}}
+use Rattle.amt_messages.specs.{declared.{message.Message.{Message, TheVariants.{Discovery, Advertisement, Request, Query, Update, Multicast, Teardown}}, refusal.{DecodeFault.{DecodeFault, TheVariants.{Refused as RefusedBy, Memory}}, Refused.{Refused}}}, Messages.{IsMessage, IsSendable}}
+use Rattle.amt_messages.{specs.{Layout.{Spells, spelling_of}, Refusal.{TakesMemory, first_refusal, message_at, message_of, refusal_in}}, proofs.{Spelled.{spelled_is_read}, Unrefused.{read_is_spelled, read_is_unrefused, unrefused_is_spelled}, Written.{spelling_is_canonical}}}
+use Rattle.amt_values.{specs.Answer.{Gives}, proofs.ConditionLaws.{unless-err}}
 
 pub answer_found : (answer : Result Message DecodeFault) (bytes : List ℕ) → Gives refusal_in TakesMemory answer (message_of bytes) → IfOk answer (λ message. Spells message bytes)
 answer_found (Ok message) bytes gives = read_is_spelled bytes message gives

@@ -1,19 +1,8 @@
 -- A message has one canonical spelling.
-use Rattle.std.proofs.Common.{◌≡◌, ℕ, ◌+◌, ◌/◌, ◌<◌, ◌≤◌, Bool, true, false, cond, eqb, List, [], ◌∷◌, ◌++◌, length, take, drop, slice_index, Option, Some, None, refl, sym, ap, ◌∙◌, arith, append_assoc, take-append-drop, length-drop, rules}
-use Rattle.std.proofs.lemmas.List.{append-nil, drop-drop, drop_all, take_all}
-use Rattle.std.proofs.lemmas.Nat.Bits.{bit_at-lt, bit_at_lowest}
-use Rattle.std.specs.Int.{bit_at}
-use Rattle.std.specs.Option.{is_some}
+use Rattle.std.{proofs.{Common.{◌≡◌, ℕ, ◌+◌, ◌/◌, ◌<◌, ◌≤◌, Bool, true, false, cond, eqb, List, [], ◌∷◌, ◌++◌, length, take, drop, slice_index, Option, Some, None, refl, sym, ap, ◌∙◌, arith, append_assoc, take-append-drop, length-drop, rules}, lemmas.{List.{append-nil, drop-drop, drop_all, take_all}, Nat.Bits.{bit_at-lt, bit_at_lowest}}}, specs.{Int.{bit_at}, Option.{is_some}}}
 use Rattle.byteorder.specs.Endian.{big_number, big_bytes}
-use Rattle.amt_values.proofs.NetworkOrder.{AreOctets-drop, bytes_high_first-big_from, bytes_high_first-take}
-use Rattle.amt_values.specs.Octets.{AreOctets}
-use Rattle.amt_values.specs.Address.{is_mapped}
-use Rattle.amt_values.specs.EndpointValue.{EndpointValue}
-use Rattle.amt_values.specs.declared.address.Ip.TheVariants.{V4, V6}
-use Rattle.amt_values.specs.declared.mac.Mac48.{Mac48}
-use Rattle.amt_messages.specs.declared.message.Message.{Message}
-use Rattle.amt_messages.specs.declared.message.Message.TheVariants.{Discovery, Advertisement, Request, Query, Update, Multicast, Teardown}
-use Rattle.amt_messages.specs.Layout.{IsCanonical, IsAdvertisement, IsQuery, gateway_address, gateway_port, gateway_at, gateway_octets, named_gateway_octets, query_flags, request_flags, spelling_of}
+use Rattle.amt_values.{proofs.NetworkOrder.{AreOctets-drop, bytes_high_first-big_from, bytes_high_first-take}, specs.{Octets.{AreOctets}, Address.{is_mapped}, EndpointValue.{EndpointValue}, declared.{address.Ip.TheVariants.{V4, V6}, mac.Mac48.{Mac48}}}}
+use Rattle.amt_messages.specs.{declared.message.Message.{Message, TheVariants.{Discovery, Advertisement, Request, Query, Update, Multicast, Teardown}}, Layout.{IsCanonical, IsAdvertisement, IsQuery, gateway_address, gateway_port, gateway_at, gateway_octets, named_gateway_octets, query_flags, request_flags, spelling_of}}
 
 -- the first octet, three more, and the rest
 first_four : (kind : ℕ) (bytes : List ℕ) → 4 ≤ length bytes → slice_index bytes 0 ≡ kind → take 3 (drop 1 bytes) ≡ 0 ∷ 0 ∷ 0 ∷ []

@@ -1,11 +1,7 @@
 -- The length that an inner datagram states is in its first octets.
-use Rattle.std.proofs.Common.{◌≡◌, ℕ, zero, suc, ◌+◌, ◌<◌, ◌≤◌, List, [], ◌∷◌, length, take, drop, Some, None, refl, arith}
-use Rattle.std.proofs.lemmas.Bool.{le-ltb}
-use Rattle.std.proofs.lemmas.List.{drop_all, length-take-le, get_or-take}
-use Rattle.byteorder.specs.Numbers.{big_from-take}
-use Rattle.byteorder.specs.Endian.{big_number}
-use Rattle.amt_messages.specs.StatedLength.{inner_length_of}
-use Rattle.amt_messages.specs.Refusal.{stated_inner}
+use Rattle.std.proofs.{Common.{◌≡◌, ℕ, zero, suc, ◌+◌, ◌<◌, ◌≤◌, List, [], ◌∷◌, length, take, drop, Some, None, refl, arith}, lemmas.{Bool.{le-ltb}, List.{drop_all, length-take-le, get_or-take}}}
+use Rattle.byteorder.specs.{Numbers.{big_from-take}, Endian.{big_number}}
+use Rattle.amt_messages.specs.{StatedLength.{inner_length_of}, Refusal.{stated_inner}}
 
 -- two octets from a place on are those of a prefix that reaches past them
 number_in_prefix : (n place : ℕ) (octets : List ℕ) → place + 2 ≤ n → big_number 2 (drop place (take n octets)) ≡ big_number 2 (drop place octets)

@@ -1,18 +1,8 @@
 -- Reading by the refusals and the places of fields is the relation between octets and messages.
-use Rattle.std.proofs.Common.{◌≡◌, ℕ, ◌+◌, ◌/◌, ◌%◌, ◌<◌, ◌≤◌, List, length, take, drop, slice_index, Bool, true, false, ◌&&◌, eqb, leb, ltb, Option, Some, None, Ok, refl, sym, subst, ap, ap₂, ◌∙◌, arith, length-drop, cond}
-use Rattle.std.proofs.lemmas.Bool.{le-ltb, ne_eqb}
-use Rattle.amt_values.specs.EndpointValue.{EndpointValue}
-use Rattle.amt_values.specs.declared.address.Ip.{Ip}
-use Rattle.amt_values.specs.declared.address.Ip.TheVariants.{V4, V6}
-use Rattle.amt_values.specs.declared.mac.Mac48.{Mac48}
-use Rattle.amt_messages.specs.declared.message.Message.{Message}
-use Rattle.amt_messages.specs.declared.message.Message.TheVariants.{Discovery, Advertisement, Request, Query, Update, Multicast, Teardown}
-use Rattle.amt_messages.specs.StatedLength.{inner_length_of}
-use Rattle.amt_messages.specs.Layout.{Spells, IsAdvertisement, IsQuery, has_flag, query_length, gateway_at}
-use Rattle.amt_values.specs.Conditions.{NoneHolds}
-use Rattle.amt_values.proofs.ConditionLaws.{first_holding-none, skips_same}
-use Rattle.amt_messages.specs.Refusal.{first_refusal, refusals, length_refusals, advertisement_length, is_unknown, stated_inner, message_at, message_of, relay_at}
-use Rattle.amt_messages.proofs.InnerLength.{inner_length_of-least, inner_length_of-take}
+use Rattle.std.proofs.{Common.{◌≡◌, ℕ, ◌+◌, ◌/◌, ◌%◌, ◌<◌, ◌≤◌, List, length, take, drop, slice_index, Bool, true, false, ◌&&◌, eqb, leb, ltb, Option, Some, None, Ok, refl, sym, subst, ap, ap₂, ◌∙◌, arith, length-drop, cond}, lemmas.Bool.{le-ltb, ne_eqb}}
+use Rattle.amt_values.{specs.{EndpointValue.{EndpointValue}, declared.{address.Ip.{Ip, TheVariants.{V4, V6}}, mac.Mac48.{Mac48}}, Conditions.{NoneHolds}}, proofs.ConditionLaws.{first_holding-none, skips_same}}
+use Rattle.amt_messages.specs.{declared.message.Message.{Message, TheVariants.{Discovery, Advertisement, Request, Query, Update, Multicast, Teardown}}, StatedLength.{inner_length_of}}
+use Rattle.amt_messages.{specs.{Layout.{Spells, IsAdvertisement, IsQuery, has_flag, query_length, gateway_at}, Refusal.{first_refusal, refusals, length_refusals, advertisement_length, is_unknown, stated_inner, message_at, message_of, relay_at}}, proofs.InnerLength.{inner_length_of-least, inner_length_of-take}}
 
 -- octets of version 0 and a known type are refused by their length alone
 unrefused_by : (kind : ℕ) (bytes : List ℕ) → kind < 16 → 0 < length bytes → slice_index bytes 0 ≡ kind → is_unknown kind ≡ false

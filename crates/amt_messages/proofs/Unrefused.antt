@@ -1,14 +1,8 @@
 -- Octets that nothing refuses spell the message that stands at the places of its fields.
-use Rattle.std.proofs.Common.{◌≡◌, ℕ, zero, suc, ◌+◌, ◌/◌, ◌%◌, ◌<◌, ◌≤◌, ◌⊎◌, inl, inr, List, length, take, drop, slice_index, Bool, true, false, ◌&&◌, eqb, leb, ltb, is_none, unwrap_or, Option, Some, None, Ok, refl, sym, subst, ap, ◌∙◌, arith, length-drop}
-use Rattle.std.proofs.lemmas.Bool.{ltb-false}
-use Rattle.std.proofs.lemmas.List.{length-take-le}
+use Rattle.std.proofs.{Common.{◌≡◌, ℕ, zero, suc, ◌+◌, ◌/◌, ◌%◌, ◌<◌, ◌≤◌, ◌⊎◌, inl, inr, List, length, take, drop, slice_index, Bool, true, false, ◌&&◌, eqb, leb, ltb, is_none, unwrap_or, Option, Some, None, Ok, refl, sym, subst, ap, ◌∙◌, arith, length-drop}, lemmas.{Bool.{ltb-false}, List.{length-take-le}}}
 use Rattle.byteorder.specs.Endian.{big_number}
-use Rattle.amt_messages.specs.declared.message.Message.{Message}
-use Rattle.amt_messages.specs.Layout.{Spells, IsQuery, has_flag, query_length, gateway_at}
-use Rattle.amt_values.specs.Conditions.{NoneHolds}
-use Rattle.amt_values.proofs.ConditionLaws.{NoneHolds-of, holds_not, unless-ok}
-use Rattle.amt_messages.specs.Refusal.{first_refusal, refusals, length_refusals, needed_length, query_need, stated_inner, advertisement_length, is_unknown, message_at, message_of, query_with}
-use Rattle.amt_messages.proofs.InnerLength.{inner_length_of-least, inner_length_of-take}
+use Rattle.amt_messages.{specs.{declared.message.Message.{Message}, Layout.{Spells, IsQuery, has_flag, query_length, gateway_at}, Refusal.{first_refusal, refusals, length_refusals, needed_length, query_need, stated_inner, advertisement_length, is_unknown, message_at, message_of, query_with}}, proofs.InnerLength.{inner_length_of-least, inner_length_of-take}}
+use Rattle.amt_values.{specs.Conditions.{NoneHolds}, proofs.ConditionLaws.{NoneHolds-of, holds_not, unless-ok}}
 
 pub length_fits : (need have : ℕ) → ltb have need ≡ false → ltb need have ≡ false → have ≡ need
 length_fits need have short long = grind arith

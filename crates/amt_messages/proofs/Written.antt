@@ -1,20 +1,8 @@
 -- What is written of a message spells it.
-use Rattle.std.proofs.Common.{◌≡◌, ℕ, ◌+◌, ◌/◌, ◌<◌, ◌^◌, Bool, true, false, eqb, List, [], ◌∷◌, ◌++◌, length, take, drop, Option, Some, None, refl, sym, subst, ap, ◌∙◌, arith, append_assoc, length-append}
-use Rattle.std.proofs.lemmas.List.{append-nil, drop-drop, drop_at, take_at}
-use Rattle.std.specs.Int.{bit_at}
-use Rattle.byteorder.specs.Endian.{big_number, big_bytes}
-use Rattle.byteorder.specs.Numbers.{big_number-reads_back}
-use Rattle.amt_values.proofs.NetworkOrder.{big_from-bytes_high_first}
-use Rattle.amt_values.specs.Address.{is_mapped}
-use Rattle.amt_values.specs.Endpoint.{endpoint_named}
-use Rattle.amt_values.specs.EndpointValue.{EndpointValue}
-use Rattle.amt_values.specs.declared.address.Ip.TheVariants.{V4, V6}
-use Rattle.amt_values.specs.declared.mac.Mac48.{Mac48}
-use Rattle.amt_messages.specs.declared.message.Message.{Message}
-use Rattle.amt_messages.specs.declared.message.Message.TheVariants.{Discovery, Advertisement, Request, Query, Update, Multicast, Teardown}
-use Rattle.amt_messages.specs.Messages.{IsGateway, IsMessage, IsNamedGateway, IsSendable}
-use Rattle.amt_messages.specs.StatedLength.{inner_length_of}
-use Rattle.amt_messages.specs.Layout.{IsCanonical, IsQuery, IsUpdate, gateway_octets, query_flags, query_length, request_flags, spelling_of}
+use Rattle.std.{proofs.{Common.{◌≡◌, ℕ, ◌+◌, ◌/◌, ◌<◌, ◌^◌, Bool, true, false, eqb, List, [], ◌∷◌, ◌++◌, length, take, drop, Option, Some, None, refl, sym, subst, ap, ◌∙◌, arith, append_assoc, length-append}, lemmas.List.{append-nil, drop-drop, drop_at, take_at}}, specs.Int.{bit_at}}
+use Rattle.byteorder.specs.{Endian.{big_number, big_bytes}, Numbers.{big_number-reads_back}}
+use Rattle.amt_values.{proofs.NetworkOrder.{big_from-bytes_high_first}, specs.{Address.{is_mapped}, Endpoint.{endpoint_named}, EndpointValue.{EndpointValue}, declared.{address.Ip.TheVariants.{V4, V6}, mac.Mac48.{Mac48}}}}
+use Rattle.amt_messages.specs.{declared.message.Message.{Message, TheVariants.{Discovery, Advertisement, Request, Query, Update, Multicast, Teardown}}, Messages.{IsGateway, IsMessage, IsNamedGateway, IsSendable}, StatedLength.{inner_length_of}, Layout.{IsCanonical, IsQuery, IsUpdate, gateway_octets, query_flags, query_length, request_flags, spelling_of}}
 
 -- octets that are a canonical spelling
 spelled_so : (message : Message) (bytes : List ℕ) → bytes ≡ spelling_of message → IsCanonical message (spelling_of message) → IsCanonical message bytes

@@ -1,16 +1,8 @@
 -- Which octets spell which message. Reserved bits are not spoken of, so a reader ignores them.
-use Rattle.std.specs.Prelude.{◌≡◌, ℕ, ◌+◌, ◌/◌, ◌==◌, Bool, true, false, List, [], ◌∷◌, ◌++◌, length, drop, take, slice_index, Option, Some, None, is_some, if◌then◌else◌}
-use Rattle.std.specs.Int.{bit_at}
-use Rattle.amt_values.specs.Address.{is_mapped}
-use Rattle.amt_values.specs.Endpoint.{endpoint_named}
-use Rattle.amt_values.specs.EndpointValue.{EndpointValue}
-use Rattle.amt_values.specs.declared.address.Ip.{Ip}
-use Rattle.amt_values.specs.declared.address.Ip.TheVariants.{V4, V6}
-use Rattle.amt_values.specs.declared.mac.Mac48.{Mac48}
+use Rattle.std.specs.{Prelude.{◌≡◌, ℕ, ◌+◌, ◌/◌, ◌==◌, Bool, true, false, List, [], ◌∷◌, ◌++◌, length, drop, take, slice_index, Option, Some, None, is_some, if◌then◌else◌}, Int.{bit_at}}
+use Rattle.amt_values.specs.{Address.{is_mapped}, Endpoint.{endpoint_named}, EndpointValue.{EndpointValue}, declared.{address.Ip.{Ip, TheVariants.{V4, V6}}, mac.Mac48.{Mac48}}}
 use Rattle.byteorder.specs.Endian.{big_number, big_bytes}
-use Rattle.amt_messages.specs.StatedLength.{inner_length_of}
-use Rattle.amt_messages.specs.declared.message.Message.{Message}
-use Rattle.amt_messages.specs.declared.message.Message.TheVariants.{Discovery, Advertisement, Request, Query, Update, Multicast, Teardown}
+use Rattle.amt_messages.specs.{StatedLength.{inner_length_of}, declared.message.Message.{Message, TheVariants.{Discovery, Advertisement, Request, Query, Update, Multicast, Teardown}}}
 
 -- so many octets, of which the first has this type and version 0 (RFC 7450, section 5.1)
 pub record IsOfKind (kind size : ℕ) (bytes : List ℕ) : Type 0 where

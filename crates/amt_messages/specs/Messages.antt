@@ -1,13 +1,7 @@
 -- Which messages there are, and which may be written.
 use Rattle.std.specs.Prelude.{◌≡◌, ◌+◌, ◌<◌, ◌≤◌, ◌^◌, false, length, Option, Some, None}
-use Rattle.amt_values.specs.Octets.{AreOctets}
-use Rattle.amt_values.specs.Address.{IsAddress, is_mapped}
-use Rattle.amt_values.specs.EndpointValue.{EndpointValue}
-use Rattle.amt_values.specs.declared.mac.Mac48.{Mac48}
-use Rattle.amt_messages.specs.StatedLength.{inner_length_of}
-use Rattle.amt_messages.specs.Layout.{named_gateway_octets}
-use Rattle.amt_messages.specs.declared.message.Message.{Message}
-use Rattle.amt_messages.specs.declared.message.Message.TheVariants.{Discovery, Advertisement, Request, Query, Update, Multicast, Teardown}
+use Rattle.amt_values.specs.{Octets.{AreOctets}, Address.{IsAddress, is_mapped}, EndpointValue.{EndpointValue}, declared.mac.Mac48.{Mac48}}
+use Rattle.amt_messages.specs.{StatedLength.{inner_length_of}, Layout.{named_gateway_octets}, declared.message.Message.{Message, TheVariants.{Discovery, Advertisement, Request, Query, Update, Multicast, Teardown}}}
 
 -- a response MAC has six octets
 abbrev pub IsMac : Mac48 → Type 0

@@ -1,18 +1,8 @@
 -- Why octets are no message: the first refusal, in order; and the message where there is none.
 use Rattle.std.specs.Prelude.{ℕ, ◌/◌, ◌%◌, ◌==◌, nat_lt, nat_le, not, ◌||◌, ◌&&◌, Bool, List, [], ◌∷◌, length, drop, take, slice_index, Option, Some, None, is_none, unwrap_or, Result, Ok, Err, if◌then◌else◌}
-use Rattle.amt_values.specs.Conditions.{Conditions, first_holding, unless}
+use Rattle.amt_values.specs.{Conditions.{Conditions, first_holding, unless}, EndpointValue.{EndpointValue}, declared.address.Ip.{Ip, TheVariants.{V4, V6}}}
 use Rattle.byteorder.specs.Endian.{big_number}
-use Rattle.amt_values.specs.EndpointValue.{EndpointValue}
-use Rattle.amt_values.specs.declared.address.Ip.{Ip}
-use Rattle.amt_values.specs.declared.address.Ip.TheVariants.{V4, V6}
-use Rattle.amt_messages.specs.StatedLength.{inner_length_of}
-use Rattle.amt_messages.specs.Layout.{has_flag, query_length, gateway_at}
-use Rattle.amt_messages.specs.declared.message.Message.{Message}
-use Rattle.amt_messages.specs.declared.message.Message.TheVariants.{Discovery, Advertisement, Request, Query, Update, Multicast, Teardown}
-use Rattle.amt_messages.specs.declared.refusal.DecodeFault.{DecodeFault}
-use Rattle.amt_messages.specs.declared.refusal.DecodeFault.TheVariants.{Refused as RefusedBy, Memory}
-use Rattle.amt_messages.specs.declared.refusal.Refused.{Refused}
-use Rattle.amt_messages.specs.declared.refusal.Refused.TheVariants.{Empty, Version, Kind, NoInner, Short, Long}
+use Rattle.amt_messages.specs.{StatedLength.{inner_length_of}, Layout.{has_flag, query_length, gateway_at}, declared.{message.Message.{Message, TheVariants.{Discovery, Advertisement, Request, Query, Update, Multicast, Teardown}}, refusal.{DecodeFault.{DecodeFault, TheVariants.{Refused as RefusedBy, Memory}}, Refused.{Refused, TheVariants.{Empty, Version, Kind, NoInner, Short, Long}}}}}
 
 -- the high half of the first octet (RFC 7450, section 5.1)
 abbrev pub version_of : List ℕ → ℕ

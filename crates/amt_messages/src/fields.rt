@@ -1,8 +1,7 @@
 //! Fields by their places. It must not know whether the octets are a message.
 
 ghost use Rattle.std.specs.Prelude.{◌≡◌, ◌+◌, ◌<◌, ◌≤◌, ◌⊎◌, drop, take, length};
-ghost use Rattle.amt_messages.specs.Layout.{gateway_at, has_flag};
-ghost use Rattle.amt_messages.specs.Refusal.{relay_at};
+ghost use Rattle.amt_messages.specs.{Layout.{gateway_at, has_flag}, Refusal.{relay_at}};
 
 use amt_values::{Endpoint, Ip, Mac48, u16_at, u32_at, u128_at};
 

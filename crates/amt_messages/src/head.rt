@@ -2,8 +2,7 @@
 
 ghost use Rattle.std.specs.Prelude.{◌≡◌, ◌∷◌, ◌++◌, length, IfOk, OnOk};
 ghost use Rattle.byteorder.specs.Endian.{big_bytes};
-ghost use Rattle.amt_messages.specs.Messages.{IsGateway};
-ghost use Rattle.amt_messages.specs.Layout.{gateway_octets};
+ghost use Rattle.amt_messages.specs.{Messages.{IsGateway}, Layout.{gateway_octets}};
 
 use amt_values::{Bytes, Endpoint, Mac48, octets_of_address};
 use std::alloc::{AllocError, Global};

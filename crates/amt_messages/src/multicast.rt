@@ -2,9 +2,7 @@
 
 ghost use Rattle.std.specs.Prelude.{◌≡◌, ◌≤◌, length, Ok, IfOk};
 ghost use Rattle.amt_values.specs.Answer.{Gives};
-ghost use Rattle.amt_messages.specs.declared.message.Message.TheVariants.{Multicast};
-ghost use Rattle.amt_messages.specs.Layout.{IsCanonical, spelling_of};
-ghost use Rattle.amt_messages.specs.Refusal.{TakesMemory, multicast_at, refusal_in};
+ghost use Rattle.amt_messages.specs.{declared.message.Message.TheVariants.{Multicast}, Layout.{IsCanonical, spelling_of}, Refusal.{TakesMemory, multicast_at, refusal_in}};
 
 use crate::message::Message;
 use crate::refusal::DecodeFault;

@@ -2,11 +2,7 @@
 
 ghost use Rattle.std.specs.Prelude.{◌≡◌, ◌+◌, ◌≤◌, ◌++◌, length, Some, Ok, unwrap_or, IfOk, OnOk};
 ghost use Rattle.amt_values.specs.Answer.{Gives};
-ghost use Rattle.amt_messages.specs.Messages.{IsNamedGateway};
-ghost use Rattle.amt_messages.specs.StatedLength.{inner_length_of};
-ghost use Rattle.amt_messages.specs.Layout.{IsCanonical, has_flag, query_flags, query_length, named_gateway_octets, spelling_of};
-ghost use Rattle.amt_messages.specs.Refusal.{TakesMemory, query_at, query_with, refusal_in, named_gateway_at, stated_inner};
-ghost use Rattle.amt_messages.specs.declared.message.Message.TheVariants.{Query};
+ghost use Rattle.amt_messages.specs.{Messages.{IsNamedGateway}, StatedLength.{inner_length_of}, Layout.{IsCanonical, has_flag, query_flags, query_length, named_gateway_octets, spelling_of}, Refusal.{TakesMemory, query_at, query_with, refusal_in, named_gateway_at, stated_inner}, declared.message.Message.TheVariants.{Query}};
 
 use crate::fields::{gateway_at, is_limited, mac_at, names_gateway};
 use crate::head::{append_gateway, write_head};

@@ -2,10 +2,7 @@
 
 ghost use Rattle.std.specs.Prelude.{◌≡◌, ◌≤◌, ◌↔◌, ◌⊎◌, length, IfOk, Ok, MatchResult, None};
 ghost use Rattle.amt_values.specs.Answer.{Gives};
-ghost use Rattle.amt_messages.specs.declared.message.Message.{Message as MessageValue};
-ghost use Rattle.amt_messages.specs.Messages.{IsMessage, IsSendable};
-ghost use Rattle.amt_messages.specs.Layout.{Spells, spelling_of};
-ghost use Rattle.amt_messages.specs.Refusal.{TakesMemory, advertisement_at, discovery_at, first_refusal, message_at, message_of, refusal_in, request_at};
+ghost use Rattle.amt_messages.specs.{declared.message.Message.{Message as MessageValue}, Messages.{IsMessage, IsSendable}, Layout.{Spells, spelling_of}, Refusal.{TakesMemory, advertisement_at, discovery_at, first_refusal, message_at, message_of, refusal_in, request_at}};
 
 use crate::fields::{asks_for_ipv6, relay_at};
 use crate::message::Message;

@@ -2,8 +2,7 @@
 
 ghost use Rattle.std.specs.Prelude.{◌≡◌, ◌≤◌, ◌/◌, length, IfSome};
 ghost use Rattle.amt_values.specs.Conditions.{first_holding};
-ghost use Rattle.amt_messages.specs.Layout.{query_length};
-ghost use Rattle.amt_messages.specs.Refusal.{advertisement_length, first_refusal, is_open, is_unknown, lacks_inner, length_refusals, needed_length, query_need, stated_inner};
+ghost use Rattle.amt_messages.specs.{Layout.{query_length}, Refusal.{advertisement_length, first_refusal, is_open, is_unknown, lacks_inner, length_refusals, needed_length, query_need, stated_inner}};
 
 use crate::fields::names_gateway;
 use crate::inner::inner_length;

@@ -1,9 +1,7 @@
 //! A Teardown of octets, and the octets of a Teardown. It must not know whose tunnel ends.
 
 ghost use Rattle.std.specs.Prelude.{◌≡◌, ◌≤◌, length, IfOk};
-ghost use Rattle.amt_messages.specs.declared.message.Message.TheVariants.{Teardown};
-ghost use Rattle.amt_messages.specs.Layout.{IsCanonical, spelling_of};
-ghost use Rattle.amt_messages.specs.Refusal.{teardown_at};
+ghost use Rattle.amt_messages.specs.{declared.message.Message.TheVariants.{Teardown}, Layout.{IsCanonical, spelling_of}, Refusal.{teardown_at}};
 
 use crate::fields::{gateway_at, mac_at};
 use crate::head::{append_gateway, write_head};

@@ -2,9 +2,7 @@
 
 ghost use Rattle.std.specs.Prelude.{◌≡◌, ◌≤◌, length, Ok, IfOk};
 ghost use Rattle.amt_values.specs.Answer.{Gives};
-ghost use Rattle.amt_messages.specs.declared.message.Message.TheVariants.{Update};
-ghost use Rattle.amt_messages.specs.Layout.{IsCanonical, spelling_of};
-ghost use Rattle.amt_messages.specs.Refusal.{TakesMemory, refusal_in, update_at};
+ghost use Rattle.amt_messages.specs.{declared.message.Message.TheVariants.{Update}, Layout.{IsCanonical, spelling_of}, Refusal.{TakesMemory, refusal_in, update_at}};
 
 use crate::fields::mac_at;
 use crate::head::write_head;

@@ -2,9 +2,7 @@
 
 ghost use Rattle.std.specs.Prelude.{◌≡◌, ◌≤◌, ℕ, List, length, IfOk};
 ghost use Rattle.amt_values.specs.Octets.{AreOctets};
-ghost use Rattle.amt_messages.specs.declared.message.Message.TheVariants.{Discovery, Advertisement, Request};
-ghost use Rattle.amt_messages.specs.Messages.{IsSendable};
-ghost use Rattle.amt_messages.specs.Layout.{IsCanonical, request_flags, spelling_of};
+ghost use Rattle.amt_messages.specs.{declared.message.Message.TheVariants.{Discovery, Advertisement, Request}, Messages.{IsSendable}, Layout.{IsCanonical, request_flags, spelling_of}};
 
 use crate::message::Message;
 use crate::multicast::write_multicast;

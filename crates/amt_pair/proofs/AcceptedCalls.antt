@@ -3,10 +3,8 @@
 use Rattle.std.proofs.Common.{◌≡◌, ℕ, true, List, [], ◌∷◌, All, None}
 use Rattle.amt_values.specs.Group.{is_forwardable}
 use Rattle.source_filter.specs.Filter.{FilterValue}
-use Rattle.group_records.specs.Written.{is_of_family}
-use Rattle.group_records.specs.declared.family.Family.{Family}
-use Rattle.socket_merge.specs.History.{AcceptedCall, SocketCall, Change, Close, LeaveAll, Open, with_call}
-use Rattle.socket_merge.specs.Refusal.{refusal_of}
+use Rattle.group_records.specs.{Written.{is_of_family}, declared.family.Family.{Family}}
+use Rattle.socket_merge.specs.{History.{AcceptedCall, SocketCall, Change, Close, LeaveAll, Open, with_call}, Refusal.{refusal_of}}
 
 -- the sources of the filter are of the family
 abbrev pub HasSourcesOf : Family → FilterValue → Type 0

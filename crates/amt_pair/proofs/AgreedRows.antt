@@ -1,23 +1,9 @@
 -- The rows of a relay let in what it forwards, and so what an Active gateway's sockets let in.
 use Rattle.std.proofs.Common.{◌≡◌, List, ap, ◌∙◌, arith}
-use Rattle.amt_values.specs.EndpointValue.{EndpointValue}
-use Rattle.amt_values.specs.declared.address.Ip.{Ip}
-use Rattle.endpoint_membership.specs.Admission.{rows_admit}
-use Rattle.endpoint_membership.specs.declared.row.Row.{Row}
-use Rattle.endpoint_membership.proofs.AdmittedRows.{rows_admit-log}
-use Rattle.relay_machine.specs.Accepted.{accepted_log}
-use Rattle.relay_machine.specs.Answers.{After, rows_after}
-use Rattle.relay_machine.specs.Events.{now_of}
-use Rattle.relay_machine.specs.Settings.{membership_interval_ms}
-use Rattle.relay_machine.proofs.PublishedLog.{latest-accepted_log}
-use Rattle.amt_pair.specs.Agreement.{CountsInTime, IsActive, IsHeard, IsInTime, relay_admits, wants_now}
-use Rattle.amt_pair.specs.Schedule.{Member, course_of}
-use Rattle.amt_pair.specs.Sent.{SentReport}
-use Rattle.amt_pair.specs.Setup.{PairSetup}
-use Rattle.amt_pair.specs.State.{PairAt}
-use Rattle.amt_pair.specs.declared.event.PairEvent.{PairEvent}
-use Rattle.amt_pair.specs.declared.pair.Pair.{Pair}
-use Rattle.amt_pair.proofs.BothEnds.{now-agree}
+use Rattle.amt_values.specs.{EndpointValue.{EndpointValue}, declared.address.Ip.{Ip}}
+use Rattle.endpoint_membership.{specs.{Admission.{rows_admit}, declared.row.Row.{Row}}, proofs.AdmittedRows.{rows_admit-log}}
+use Rattle.relay_machine.{specs.{Accepted.{accepted_log}, Answers.{After, rows_after}, Events.{now_of}, Settings.{membership_interval_ms}}, proofs.PublishedLog.{latest-accepted_log}}
+use Rattle.amt_pair.{specs.{Agreement.{CountsInTime, IsActive, IsHeard, IsInTime, relay_admits, wants_now}, Schedule.{Member, course_of}, Sent.{SentReport}, Setup.{PairSetup}, State.{PairAt}, declared.{event.PairEvent.{PairEvent}, pair.Pair.{Pair}}}, proofs.BothEnds.{now-agree}}
 
 -- of the rows by the definitions alone
 pub rows-forwarded : (setup : PairSetup) (schedule : List PairEvent) (endpoint : EndpointValue) (group source : Ip)

@@ -1,6 +1,5 @@
 -- Lists in which one item alone passes a test, and what splits of a list say of each of its items.
-use Rattle.std.proofs.Common.{◌≡◌, Bool, true, false, List, [], ◌∷◌, ◌++◌, map, if◌then◌else◌, filter, refl, ap, ◌∙◌, subst, append_assoc}
-use Rattle.std.specs.List.{AllByRecursion}
+use Rattle.std.{proofs.Common.{◌≡◌, Bool, true, false, List, [], ◌∷◌, ◌++◌, map, if◌then◌else◌, filter, refl, ap, ◌∙◌, subst, append_assoc}, specs.List.{AllByRecursion}}
 
 -- false where it isn't true
 pub is_false : (answer : Bool) → (answer ≡ true → ⊥) → answer ≡ false

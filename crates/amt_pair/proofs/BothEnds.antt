@@ -1,31 +1,13 @@
 -- What both ends agree on after a schedule, by what is proved of a tunnel's turns.
-use Rattle.std.proofs.Common.{◌≡◌, true, false, List, All, Contains, refl, sym, ap, ◌∙◌, inl, inr}
-use Rattle.std.proofs.lemmas.List.Elements.{All-contains}
-use Rattle.amt_values.specs.EndpointValue.{EndpointValue}
-use Rattle.amt_values.specs.declared.address.Ip.{Ip}
-use Rattle.source_filter.specs.Filter.{admits}
-use Rattle.source_filter.proofs.MergedFilters.{admits-merged}
+use Rattle.std.proofs.{Common.{◌≡◌, true, false, List, All, Contains, refl, sym, ap, ◌∙◌, inl, inr}, lemmas.List.Elements.{All-contains}}
+use Rattle.amt_values.specs.{EndpointValue.{EndpointValue}, declared.address.Ip.{Ip}}
+use Rattle.source_filter.{specs.Filter.{admits}, proofs.MergedFilters.{admits-merged}}
 use Rattle.endpoint_membership.specs.Log.{on_group}
 use Rattle.gateway_machine.specs.Runs.{Run}
 use Rattle.relay_machine.specs.Settings.{membership_interval_ms}
-use Rattle.socket_merge.specs.History.{AcceptedCall, open_sockets}
-use Rattle.socket_merge.specs.Interface.{filters_on, interface, wants}
-use Rattle.amt_pair.specs.Agreement.{CountsInTime, IsActive, IsHeard, IsInTime, Names, relay_admits, wanted_then, wants_now}
-use Rattle.amt_pair.specs.Schedule.{IsPairEvent, Member, course_of, run_of_member}
-use Rattle.amt_pair.specs.Sent.{SentReport}
-use Rattle.amt_pair.specs.Setup.{IsLawfulSetup, PairSetup}
-use Rattle.amt_pair.specs.declared.event.PairEvent.{PairEvent}
-use Rattle.amt_pair.proofs.CourseSteps.{Stands, stands-after}
-use Rattle.amt_pair.proofs.Follows.{run_at}
-use Rattle.amt_pair.proofs.ListedHosts.{listed-after}
-use Rattle.amt_pair.proofs.MadeGood.{admits-unwanted, unnamed}
-use Rattle.amt_pair.proofs.ToldReports.{admits-same, member-is, told}
-use Rattle.amt_pair.proofs.Tunnel.{Tunnel, after}
-use Rattle.amt_pair.proofs.TunnelCurrent.{now_too}
-use Rattle.amt_pair.proofs.TunnelNamed.{named}
-use Rattle.amt_pair.proofs.TunnelSent.{IsNewest-latest, sent_by_turns}
-use Rattle.amt_pair.proofs.TunnelTimely.{all_groups, none_or_some}
-use Rattle.amt_pair.proofs.Turns.{is_active}
+use Rattle.socket_merge.specs.{History.{AcceptedCall, open_sockets}, Interface.{filters_on, interface, wants}}
+use Rattle.amt_pair.{specs.{Agreement.{CountsInTime, IsActive, IsHeard, IsInTime, Names, relay_admits, wanted_then, wants_now}, Schedule.{IsPairEvent, Member, course_of, run_of_member}, Sent.{SentReport}, Setup.{IsLawfulSetup, PairSetup}, declared.event.PairEvent.{PairEvent}}, proofs.CourseSteps.{Stands, stands-after}}
+use Rattle.amt_pair.proofs.{Follows.{run_at}, ListedHosts.{listed-after}, MadeGood.{admits-unwanted, unnamed}, ToldReports.{admits-same, member-is, told}, Tunnel.{Tunnel, after}, TunnelCurrent.{now_too}, TunnelNamed.{named}, TunnelSent.{IsNewest-latest, sent_by_turns}, TunnelTimely.{all_groups, none_or_some}, Turns.{is_active}}
 
 -- a host wants what its interface filter of the group admits
 wants-interface : (history : List AcceptedCall) (group source : Ip) → wants history group source ≡ admits (interface history group) source

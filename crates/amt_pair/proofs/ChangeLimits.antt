@@ -1,31 +1,11 @@
 -- The change records of an accepted call are one report of at most 1,400 octets.
 use Rattle.std.proofs.Common.{◌≡◌, ℕ, ◌≤◌, Bool, true, false, not, is_some, List, [], ◌∷◌, ◌++◌, length, Option, Some, None, refl, sym, subst, ◌∙◌, arith}
-use Rattle.amt_values.specs.Order.{ip_order}
-use Rattle.amt_values.specs.declared.address.Ip.{Ip}
-use Rattle.amt_values.proofs.Orders.{ip_order-total}
-use Rattle.amt_values.specs.Ascending.{ascending}
-use Rattle.amt_values.specs.Conditions.{first_holding}
-use Rattle.amt_values.proofs.AscendingLaws.{IsAscending-ascending, has-ascending}
-use Rattle.amt_values.proofs.ConditionLaws.{skipped}
-use Rattle.source_filter.specs.Filter.{FilterValue}
-use Rattle.source_filter.specs.declared.record.Record.{Record}
-use Rattle.group_records.specs.Written.{report_length}
-use Rattle.group_records.specs.declared.family.Family.{Family}
-use Rattle.socket_merge.specs.Changes.{change_records}
-use Rattle.socket_merge.specs.History.{AcceptedCall, Change, Close, LeaveAll, Open, Socket, SocketCall, groups_opened, latest, open_sockets, socket_named, sockets_after, with_call}
-use Rattle.socket_merge.specs.Interface.{same_group}
-use Rattle.socket_merge.specs.Refusal.{change_conditions, family_of, is_open, limits_after, raw_report_length, raw_sources, refusal_of}
-use Rattle.socket_merge.specs.declared.fault.SocketFault.TheVariants.{Taken}
-use Rattle.socket_merge.proofs.Amounts.{AreApart, AreApart-changed, AreApart-closed, AreApart-opened, has_name}
-use Rattle.socket_merge.proofs.Changed.{changes-are}
-use Rattle.socket_merge.proofs.Counted.{Counts-of, amount, listing, others_changed, others_opened}
-use Rattle.socket_merge.proofs.RawOctets.{HasNone-unopened, octets_in-none, raw-by_groups, sources-are}
-use Rattle.socket_merge.proofs.Refused.{IsWithin-of}
-use Rattle.socket_merge.proofs.ShortChanges.{AreLimited, short-by, short-changes}
-use Rattle.socket_merge.proofs.Wanted.{same_group-exact}
-use Rattle.amt_pair.proofs.AcceptedCalls.{AreAccepted}
-use Rattle.amt_pair.proofs.RawReports.{Stands-history, TakesAway-close, tally_in}
-use Rattle.amt_pair.proofs.ReportLimits.{short_raw_reports}
+use Rattle.amt_values.{specs.{Order.{ip_order}, declared.address.Ip.{Ip}, Ascending.{ascending}, Conditions.{first_holding}}, proofs.{Orders.{ip_order-total}, AscendingLaws.{IsAscending-ascending, has-ascending}, ConditionLaws.{skipped}}}
+use Rattle.source_filter.specs.{Filter.{FilterValue}, declared.record.Record.{Record}}
+use Rattle.group_records.specs.{Written.{report_length}, declared.family.Family.{Family}}
+use Rattle.socket_merge.specs.{Changes.{change_records}, History.{AcceptedCall, Change, Close, LeaveAll, Open, Socket, SocketCall, groups_opened, latest, open_sockets, socket_named, sockets_after, with_call}, Interface.{same_group}, Refusal.{change_conditions, family_of, is_open, limits_after, raw_report_length, raw_sources, refusal_of}, declared.fault.SocketFault.TheVariants.{Taken}}
+use Rattle.socket_merge.proofs.{Amounts.{AreApart, AreApart-changed, AreApart-closed, AreApart-opened, has_name}, Changed.{changes-are}, Counted.{Counts-of, amount, listing, others_changed, others_opened}, RawOctets.{HasNone-unopened, octets_in-none, raw-by_groups, sources-are}, Refused.{IsWithin-of}, ShortChanges.{AreLimited, short-by, short-changes}, Wanted.{same_group-exact}}
+use Rattle.amt_pair.proofs.{AcceptedCalls.{AreAccepted}, RawReports.{Stands-history, TakesAway-close, tally_in}, ReportLimits.{short_raw_reports}}
 
 none_found : (found : Option Socket) → is_some found ≡ false → found ≡ None
 none_found None none = refl

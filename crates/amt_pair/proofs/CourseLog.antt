@@ -1,20 +1,8 @@
 -- A schedule with one more event, and its relay: the entries of a course are the relay's accepted log.
-use Rattle.std.proofs.Common.{◌≡◌, ℕ, max, List, [], ◌∷◌, ◌++◌, map, fold, filter_map, Option, Some, None, refl, sym, ap, ◌∙◌}
-use Rattle.std.specs.List.{cons_option}
-use Rattle.std.proofs.lemmas.List.{map-append}
-use Rattle.std.proofs.lemmas.List.Elements.{filter_map-append}
-use Rattle.std.proofs.lemmas.List.Sums.{fold-append}
+use Rattle.std.{proofs.{Common.{◌≡◌, ℕ, max, List, [], ◌∷◌, ◌++◌, map, fold, filter_map, Option, Some, None, refl, sym, ap, ◌∙◌}, lemmas.List.{map-append, Elements.{filter_map-append}, Sums.{fold-append}}}, specs.List.{cons_option}}
 use Rattle.endpoint_membership.specs.declared.change.Change.{Change}
-use Rattle.relay_machine.specs.Accepted.{accepted_back, accepted_log, entry_of, with_change}
-use Rattle.relay_machine.specs.Events.{moment_in, now_of}
-use Rattle.relay_machine.specs.declared.event.Event.{Event}
-use Rattle.relay_machine.specs.declared.event.Event.TheVariants.{Moment, Packet, Rotate}
-use Rattle.relay_machine.specs.declared.sends.OneSend.{OneSend}
-use Rattle.relay_machine.proofs.Onward.{accepted-push}
-use Rattle.amt_pair.specs.Schedule.{Course, Entry, Upward, course_of, delivery_up, down_delivered, numbered, start, up_delivered, with_entry, with_pair_event, with_relay_event}
-use Rattle.amt_pair.specs.Setup.{PairSetup}
-use Rattle.amt_pair.specs.declared.event.PairEvent.{PairEvent}
-use Rattle.amt_pair.specs.declared.event.PairEvent.TheVariants.{Down, Moment as MomentForAll, Packet as PacketComes, Rotate as SecretComes, Socket, Up}
+use Rattle.relay_machine.{specs.{Accepted.{accepted_back, accepted_log, entry_of, with_change}, Events.{moment_in, now_of}, declared.{event.Event.{Event, TheVariants.{Moment, Packet, Rotate}}, sends.OneSend.{OneSend}}}, proofs.Onward.{accepted-push}}
+use Rattle.amt_pair.specs.{Schedule.{Course, Entry, Upward, course_of, delivery_up, down_delivered, numbered, start, up_delivered, with_entry, with_pair_event, with_relay_event}, Setup.{PairSetup}, declared.event.PairEvent.{PairEvent, TheVariants.{Down, Moment as MomentForAll, Packet as PacketComes, Rotate as SecretComes, Socket, Up}}}
 
 pub course_of-nil : (setup : PairSetup) → course_of setup [] ≡ start setup
 unfolding course_of

@@ -1,51 +1,21 @@
 -- Each event of a schedule leaves what a course shows of a gateway as turns of a tunnel.
-use Rattle.std.proofs.Common.{◌≡◌, ℕ, ◌+◌, ◌≤◌, max, Bool, true, false, List, [], ◌∷◌, ◌++◌, map, All, Contains, Option, Some, None, Result, Ok, Err, is_some, if◌then◌else◌, refl, sym, ap, subst, ◌∙◌, arith, append_assoc, append-nil, inl, inr}
-use Rattle.std.proofs.lemmas.Bool.{cases_Bool}
-use Rattle.std.proofs.lemmas.List.Elements.{All-append, All-contains, All-head, All-map, All-nil, All-tail, All-weaker}
-use Rattle.amt_values.specs.Endpoint.{endpoint_of}
-use Rattle.amt_values.specs.EndpointValue.{EndpointValue}
-use Rattle.amt_values.specs.declared.peer.Peer.{Peer}
-use Rattle.amt_messages.specs.declared.message.Message.{Message}
-use Rattle.amt_messages.specs.declared.message.Message.TheVariants.{Discovery, Advertisement, Request, Query, Update, Multicast, Teardown}
+use Rattle.std.proofs.{Common.{◌≡◌, ℕ, ◌+◌, ◌≤◌, max, Bool, true, false, List, [], ◌∷◌, ◌++◌, map, All, Contains, Option, Some, None, Result, Ok, Err, is_some, if◌then◌else◌, refl, sym, ap, subst, ◌∙◌, arith, append_assoc, append-nil, inl, inr}, lemmas.{Bool.{cases_Bool}, List.Elements.{All-append, All-contains, All-head, All-map, All-nil, All-tail, All-weaker}}}
+use Rattle.amt_values.specs.{Endpoint.{endpoint_of}, EndpointValue.{EndpointValue}, declared.peer.Peer.{Peer}}
+use Rattle.amt_messages.specs.declared.message.Message.{Message, TheVariants.{Discovery, Advertisement, Request, Query, Update, Multicast, Teardown}}
 use Rattle.response_mac.specs.declared.secret.Secret.{Secret}
 use Rattle.source_filter.specs.declared.record.Record.{Record}
-use Rattle.endpoint_membership.specs.declared.change.Change.{Change}
-use Rattle.endpoint_membership.specs.declared.change.Change.TheVariants.{Mark}
+use Rattle.endpoint_membership.specs.declared.change.Change.{Change, TheVariants.{Mark}}
 use Rattle.socket_merge.proofs.Amounts.{same_name-exact}
-use Rattle.gateway_machine.specs.Answers.{call_in, same_peer}
-use Rattle.gateway_machine.specs.Runs.{Run}
-use Rattle.gateway_machine.specs.declared.event.GatewayEvent.{GatewayEvent}
-use Rattle.gateway_machine.specs.declared.event.GatewayEvent.TheVariants.{Moment as Passes, Nonce, Datagram as Heard, Open, Change as Refilter, Close, LeaveAll}
-use Rattle.gateway_machine.specs.declared.settings.GatewaySettings.{GatewaySettings}
-use Rattle.gateway_machine.proofs.Runs.{run_of-nil}
-use Rattle.relay_machine.specs.Accepted.{accepted_log, entry_of}
-use Rattle.relay_machine.specs.Answers.{sends_of}
-use Rattle.relay_machine.specs.Events.{moment_in, now_of}
-use Rattle.relay_machine.specs.Packets.{head_to_copy, targets_at}
-use Rattle.relay_machine.specs.Settings.{membership_interval_ms, table_settings_of}
-use Rattle.relay_machine.specs.Updates.{report_in}
-use Rattle.relay_machine.specs.declared.event.Event.{Event}
-use Rattle.relay_machine.specs.declared.event.Event.TheVariants.{Moment, Packet, Rotate}
-use Rattle.relay_machine.specs.declared.outcome.Unlawful.{Unlawful}
-use Rattle.relay_machine.specs.declared.sends.OneSend.{OneSend}
-use Rattle.amt_pair.specs.Agreement.{IsInTime, report_from}
-use Rattle.amt_pair.specs.Events.{MayHappen}
+use Rattle.gateway_machine.{specs.{Answers.{call_in, same_peer}, Runs.{Run}, declared.{event.GatewayEvent.{GatewayEvent, TheVariants.{Moment as Passes, Nonce, Datagram as Heard, Open, Change as Refilter, Close, LeaveAll}}, settings.GatewaySettings.{GatewaySettings}}}, proofs.Runs.{run_of-nil}}
+use Rattle.relay_machine.specs.{Accepted.{accepted_log, entry_of}, Answers.{sends_of}, Events.{moment_in, now_of}, Packets.{head_to_copy, targets_at}, Settings.{membership_interval_ms, table_settings_of}, Updates.{report_in}, declared.{event.Event.{Event, TheVariants.{Moment, Packet, Rotate}}, outcome.Unlawful.{Unlawful}, sends.OneSend.{OneSend}}}
+use Rattle.amt_pair.specs.{Agreement.{IsInTime, report_from}, Events.{MayHappen}}
 use Rattle.amt_pair.specs.Schedule.{Course, IsPairEvent, Member, Upward, course_of, delivery_down, delivery_up, down_delivered, has_name, is_at, numbered, start, up_delivered, with_gateway_event, with_member_event, with_pair_event, with_relay_event}
-use Rattle.amt_pair.specs.Sent.{Sent, SentReport, report_by as report_as, report_of, report_with}
-use Rattle.amt_pair.specs.Setup.{Host, IsHost, IsLawfulSetup, PairSetup, first_nonce, relay_peer}
-use Rattle.amt_pair.specs.declared.event.PairEvent.{PairEvent}
-use Rattle.amt_pair.specs.declared.event.PairEvent.TheVariants.{Down, Moment as MomentForAll, Packet as PacketComes, Rotate as SecretComes, Socket, Up}
+use Rattle.amt_pair.specs.{Sent.{Sent, SentReport, report_by as report_as, report_of, report_with}, Setup.{Host, IsHost, IsLawfulSetup, PairSetup, first_nonce, relay_peer}}
+use Rattle.amt_pair.specs.declared.event.PairEvent.{PairEvent, TheVariants.{Down, Moment as MomentForAll, Packet as PacketComes, Rotate as SecretComes, Socket, Up}}
 use Rattle.amt_pair.proofs.CourseLog.{AreLogged, AreLogged-relay, AreLogged-start, course_of-nil, course_of-push, later_by, now_of-nil, now_of-push}
 use Rattle.amt_pair.proofs.DownDatagrams.{IsDown, down-delivery, down-packet, hears-down, none-down}
 use Rattle.amt_pair.proofs.Follows.{Follows, IsDelivery, IsEntered, IsEntryOf, follows-other, follows-own, follows-relay, follows-weaker, if_reached, member_of, moment-next, run_at}
-use Rattle.amt_pair.proofs.Hosts.{one-name, placed-start}
-use Rattle.amt_pair.proofs.Listed.{Contains-filter_map, Contains-reverse, numbered-among}
-use Rattle.amt_pair.proofs.OwnTurns.{Hears, IsPassed, moment_passed}
-use Rattle.amt_pair.proofs.PeerReports.{reports_from}
-use Rattle.amt_pair.proofs.RelayEntries.{delivery-entry, packet-entry, same_peer-is, some-change}
-use Rattle.amt_pair.proofs.SoundRuns.{sound-start}
-use Rattle.amt_pair.proofs.Turns.{see}
-use Rattle.amt_pair.proofs.Upwards.{IsHosted, IsUpward, upwards-after}
+use Rattle.amt_pair.proofs.{Hosts.{one-name, placed-start}, Listed.{Contains-filter_map, Contains-reverse, numbered-among}, OwnTurns.{Hears, IsPassed, moment_passed}, PeerReports.{reports_from}, RelayEntries.{delivery-entry, packet-entry, same_peer-is, some-change}, SoundRuns.{sound-start}, Turns.{see}, Upwards.{IsHosted, IsUpward, upwards-after}}
 
 -- what holds of a course, and what it shows of one gateway
 pub record Stands (setup : PairSetup) (host : Host) (endpoint : EndpointValue) (InTime : Type 0) (course : Course) : Type 0 where

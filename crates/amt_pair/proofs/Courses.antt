@@ -1,17 +1,9 @@
 -- Courses with one more event, and the gateways of a course.
-use Rattle.std.proofs.Common.{◌≡◌, Bool, true, false, List, [], ◌∷◌, ◌++◌, map, if◌then◌else◌, Option, None, Some, refl, ap, ◌∙◌}
-use Rattle.std.specs.List.{fold}
-use Rattle.std.proofs.lemmas.List.Sums.{fold-append}
-use Rattle.gateway_machine.specs.declared.event.GatewayEvent.{GatewayEvent}
-use Rattle.gateway_machine.specs.declared.event.GatewayEvent.TheVariants.{Moment as Passes}
+use Rattle.std.{proofs.{Common.{◌≡◌, Bool, true, false, List, [], ◌∷◌, ◌++◌, map, if◌then◌else◌, Option, None, Some, refl, ap, ◌∙◌}, lemmas.List.Sums.{fold-append}}, specs.List.{fold}}
+use Rattle.gateway_machine.specs.declared.event.GatewayEvent.{GatewayEvent, TheVariants.{Moment as Passes}}
 use Rattle.relay_machine.specs.declared.sends.OneSend.{OneSend}
-use Rattle.amt_pair.specs.Schedule.{Course, Member, Upward, course_of, delivery_down, down_delivered, has_name, is_at, numbered, start, up_delivered, with_gateway_event, with_pair_event}
-use Rattle.amt_pair.specs.Setup.{Host, PairSetup}
-use Rattle.amt_pair.specs.State.{StandsFor, hosts_of}
-use Rattle.amt_pair.specs.declared.event.PairEvent.{PairEvent}
-use Rattle.amt_pair.specs.declared.event.PairEvent.TheVariants.{Down, Moment as MomentForAll, Packet as PacketComes, Rotate as SecretComes, Socket, Up}
-use Rattle.amt_pair.specs.declared.pair.Pair.{Pair}
-use Rattle.amt_pair.proofs.MembersAt.{host_at, hosts_are}
+use Rattle.amt_pair.specs.{Schedule.{Course, Member, Upward, course_of, delivery_down, down_delivered, has_name, is_at, numbered, start, up_delivered, with_gateway_event, with_pair_event}, Setup.{Host, PairSetup}}
+use Rattle.amt_pair.{specs.{State.{StandsFor, hosts_of}, declared.{event.PairEvent.{PairEvent, TheVariants.{Down, Moment as MomentForAll, Packet as PacketComes, Rotate as SecretComes, Socket, Up}}, pair.Pair.{Pair}}}, proofs.MembersAt.{host_at, hosts_are}}
 
 -- one more event
 pub course_of-more : (setup : PairSetup) (schedule : List PairEvent) (event : PairEvent)

@@ -1,19 +1,8 @@
 -- An event that comes to one gateway of a pair, or to none.
-use Rattle.std.proofs.Common.{◌≡◌, ℕ, Bool, true, List, [], ◌∷◌, ◌++◌, map, All, filter, flat_map, sym, ap, ◌∙◌, append-nil, append_assoc, subst}
-use Rattle.std.specs.Cmp.Lexicographic.{same_text}
-use Rattle.std.specs.List.{AllByRecursion}
-use Rattle.std.proofs.lemmas.List.{map-append}
-use Rattle.std.proofs.lemmas.List.Elements.{recursion_from_All}
+use Rattle.std.{proofs.{Common.{◌≡◌, ℕ, Bool, true, List, [], ◌∷◌, ◌++◌, map, All, filter, flat_map, sym, ap, ◌∙◌, append-nil, append_assoc, subst}, lemmas.List.{map-append, Elements.{recursion_from_All}}}, specs.{Cmp.Lexicographic.{same_text}, List.{AllByRecursion}}}
 use Rattle.amt_values.specs.EndpointValue.{EndpointValue}
 use Rattle.gateway_machine.specs.declared.event.GatewayEvent.{GatewayEvent}
-use Rattle.amt_pair.specs.OwnEndpoints.{HasOwnEndpoint}
-use Rattle.amt_pair.specs.Parts.{gateway_part, gateway_parts}
-use Rattle.amt_pair.specs.Schedule.{Course, Member, Upward, has_name, is_at, upwards_on, with_gateway_event, with_member_event}
-use Rattle.amt_pair.specs.Setup.{AreApart, Host}
-use Rattle.amt_pair.specs.State.{with_member_at}
-use Rattle.amt_pair.proofs.Alone.{NonePasses, PassesOnce, all_at, filter_alone, filter_none, map_alone, map_none}
-use Rattle.amt_pair.proofs.HostsApart.{peers_at}
-use Rattle.amt_pair.proofs.MembersAt.{host_at}
+use Rattle.amt_pair.{specs.{OwnEndpoints.{HasOwnEndpoint}, Parts.{gateway_part, gateway_parts}, Schedule.{Course, Member, Upward, has_name, is_at, upwards_on, with_gateway_event, with_member_event}, Setup.{AreApart, Host}, State.{with_member_at}}, proofs.{Alone.{NonePasses, PassesOnce, all_at, filter_alone, filter_none, map_alone, map_none}, HostsApart.{peers_at}, MembersAt.{host_at}}}
 
 split_hosts : (members before between after : List Member) (one other : Member) → members ≡ before ++ one ∷ (between ++ other ∷ after)
     → map host_at members ≡ map host_at before ++ one.host ∷ (map host_at between ++ other.host ∷ map host_at after)

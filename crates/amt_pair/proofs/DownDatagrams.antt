@@ -1,72 +1,20 @@
 -- The datagrams that a relay sends, and what a gateway makes of them: each Query states the relay's lifetime.
-use Rattle.std.proofs.Common.{◌≡◌, ℕ, ◌+◌, ◌≤◌, ◌<◌, ◌^◌, ◌==◌, nat_lt, not, Bool, true, false, if◌then◌else◌, List, [], ◌∷◌, ◌++◌, length, All, Option, Some, None, Result, Ok, Err, refl, sym, ap, ◌∙◌, arith, length-append, ltb-false}
-use Rattle.std.proofs.lemmas.List.Elements.{All-cons, All-nil}
-use Rattle.byteorder.specs.Endian.{big_bytes}
-use Rattle.byteorder.specs.Numbers.{length-bytes_high_first}
-use Rattle.amt_values.specs.Endpoint.{endpoint_of}
-use Rattle.amt_values.specs.EndpointValue.{EndpointValue}
-use Rattle.amt_values.specs.declared.address.Ip.{Ip}
-use Rattle.amt_values.specs.declared.address.Ip.TheVariants.{V4, V6}
-use Rattle.amt_values.specs.declared.mac.Mac48.{Mac48}
-use Rattle.amt_values.specs.declared.peer.Peer.{Peer}
-use Rattle.amt_messages.specs.Layout.{gateway_octets, query_flags, spelling_of}
-use Rattle.amt_messages.specs.Messages.{IsGateway}
-use Rattle.amt_messages.specs.Refusal.{message_of}
-use Rattle.amt_messages.specs.declared.message.Message.{Message}
-use Rattle.amt_messages.specs.declared.message.Message.TheVariants.{Discovery, Advertisement, Request, Query, Update, Multicast, Teardown}
-use Rattle.amt_messages.specs.declared.refusal.Refused.{Refused}
-use Rattle.inner_datagrams.specs.Head.{head_of}
-use Rattle.inner_datagrams.specs.declared.head.Head.{Head}
-use Rattle.inner_datagrams.specs.Fault.{first_inner_fault}
-use Rattle.inner_datagrams.specs.Reading.{inner_at, payload_in}
-use Rattle.inner_datagrams.specs.declared.inner.InnerFault.{InnerFault}
-use Rattle.response_mac.specs.ResponseMac.{is_good, mac_of}
-use Rattle.response_mac.specs.declared.secret.Secret.{Secret}
-use Rattle.response_mac.specs.declared.secrets.Secrets.{Secrets}
-use Rattle.source_filter.specs.declared.query.QueryFields.{QueryFields}
-use Rattle.source_filter.specs.declared.record.Record.{Record}
-use Rattle.socket_merge.specs.FullReport.{family_by}
-use Rattle.socket_merge.specs.History.{AcceptedCall}
-use Rattle.gateway_machine.specs.Answers.{Answer, advertisement_answer, asked_relay, cause_heard, datagram_answer as gateway_answer, fields_heard, joined_relay, packet_by, query_by, same_peer}
-use Rattle.gateway_machine.specs.General.{carried_query, general_query_in, unless_fault}
-use Rattle.gateway_machine.specs.Runs.{Run}
-use Rattle.gateway_machine.specs.Timing.{last_lifetime, lifetime_of}
-use Rattle.gateway_machine.specs.declared.event.GatewayEvent.TheVariants.{Datagram as Heard}
-use Rattle.gateway_machine.specs.declared.exchange.Exchange.{Exchange}
-use Rattle.gateway_machine.specs.declared.outcome.Ignored.{Ignored}
-use Rattle.gateway_machine.specs.declared.settings.GatewaySettings.{GatewaySettings}
-use Rattle.relay_machine.specs.Accepted.{accepted_log}
-use Rattle.relay_machine.specs.Answers.{sends_of}
-use Rattle.relay_machine.specs.Events.{now_of, secrets_of}
-use Rattle.relay_machine.specs.EventAnswer.{datagram_answer, message_answer, packet_answer, is_limited, limited_answer, teardown_answer, update_answer}
-use Rattle.relay_machine.specs.Packets.{by_head, copies, head_to_copy, targets_at}
-use Rattle.relay_machine.specs.Queries.{general_query, query_fields, query_for}
-use Rattle.relay_machine.specs.Settings.{AreLawfulSettings, membership_interval_ms, table_settings_of}
-use Rattle.relay_machine.specs.Updates.{forwardable_records, report_in}
-use Rattle.relay_machine.specs.declared.event.Event.{Event}
-use Rattle.relay_machine.specs.declared.event.Event.TheVariants.{Packet}
-use Rattle.relay_machine.specs.declared.number_key.NumberKey.TheVariants.{PacketLimit}
-use Rattle.relay_machine.specs.declared.outcome.Outcome.{Outcome}
-use Rattle.relay_machine.specs.declared.outcome.Outcome.TheVariants.{TooBig}
-use Rattle.relay_machine.specs.declared.outcome.Unlawful.{Unlawful}
-use Rattle.relay_machine.specs.declared.sends.OneSend.{OneSend}
-use Rattle.relay_machine.specs.declared.settings.Settings.{Settings}
-use Rattle.relay_machine.proofs.QuerySizes.{query_may_carry}
-use Rattle.endpoint_membership.specs.Memberships.{is_live}
-use Rattle.endpoint_membership.specs.Table.{limit_passed, memberships_now}
-use Rattle.endpoint_membership.specs.declared.change.Change.{Change}
-use Rattle.endpoint_membership.specs.declared.change.Change.TheVariants.{Reported}
-use Rattle.endpoint_membership.specs.declared.limits.LimitFault.{LimitFault}
-use Rattle.amt_pair.specs.Queries.{HasQuerySources}
-use Rattle.amt_pair.specs.Schedule.{Upward, delivery_up}
-use Rattle.amt_pair.proofs.HeardQueries.{length-mac_of, query_for-read}
-use Rattle.amt_pair.proofs.QueryTimes.{lifetime_of-query_fields}
-use Rattle.amt_pair.proofs.ReadQueries.{general_query_in-general_query}
-use Rattle.amt_pair.proofs.OwnTurns.{Hears}
-use Rattle.amt_pair.proofs.SpelledKinds.{gateway-of, kind_of, same-kind, small-nonce}
-use Rattle.amt_pair.proofs.StepTurns.{IsUnseen, unseen-advertisement, unseen-packet}
-use Rattle.amt_pair.proofs.Turns.{is_accepted}
-use Rattle.amt_pair.proofs.Upwards.{IsUpward}
+use Rattle.std.proofs.{Common.{◌≡◌, ℕ, ◌+◌, ◌≤◌, ◌<◌, ◌^◌, ◌==◌, nat_lt, not, Bool, true, false, if◌then◌else◌, List, [], ◌∷◌, ◌++◌, length, All, Option, Some, None, Result, Ok, Err, refl, sym, ap, ◌∙◌, arith, length-append, ltb-false}, lemmas.List.Elements.{All-cons, All-nil}}
+use Rattle.byteorder.specs.{Endian.{big_bytes}, Numbers.{length-bytes_high_first}}
+use Rattle.amt_values.specs.{Endpoint.{endpoint_of}, EndpointValue.{EndpointValue}, declared.{address.Ip.{Ip, TheVariants.{V4, V6}}, mac.Mac48.{Mac48}, peer.Peer.{Peer}}}
+use Rattle.amt_messages.specs.{Layout.{gateway_octets, query_flags, spelling_of}, Messages.{IsGateway}, Refusal.{message_of}, declared.{message.Message.{Message, TheVariants.{Discovery, Advertisement, Request, Query, Update, Multicast, Teardown}}, refusal.Refused.{Refused}}}
+use Rattle.inner_datagrams.specs.{Head.{head_of}, declared.{head.Head.{Head}, inner.InnerFault.{InnerFault}}, Fault.{first_inner_fault}, Reading.{inner_at, payload_in}}
+use Rattle.response_mac.specs.{ResponseMac.{is_good, mac_of}, declared.{secret.Secret.{Secret}, secrets.Secrets.{Secrets}}}
+use Rattle.source_filter.specs.{declared.query.QueryFields.{QueryFields}, declared.record.Record.{Record}}
+use Rattle.socket_merge.specs.{FullReport.{family_by}, History.{AcceptedCall}}
+use Rattle.gateway_machine.specs.{Answers.{Answer, advertisement_answer, asked_relay, cause_heard, datagram_answer as gateway_answer, fields_heard, joined_relay, packet_by, query_by, same_peer}, General.{carried_query, general_query_in, unless_fault}}
+use Rattle.gateway_machine.specs.{Runs.{Run}, Timing.{last_lifetime, lifetime_of}, declared.{event.GatewayEvent.TheVariants.{Datagram as Heard}, exchange.Exchange.{Exchange}, outcome.Ignored.{Ignored}, settings.GatewaySettings.{GatewaySettings}}}
+use Rattle.relay_machine.specs.{Accepted.{accepted_log}, Answers.{sends_of}, Events.{now_of, secrets_of}, EventAnswer.{datagram_answer, message_answer, packet_answer, is_limited, limited_answer, teardown_answer, update_answer}}
+use Rattle.relay_machine.specs.{Packets.{by_head, copies, head_to_copy, targets_at}, Queries.{general_query, query_fields, query_for}, Settings.{AreLawfulSettings, membership_interval_ms, table_settings_of}, Updates.{forwardable_records, report_in}}
+use Rattle.relay_machine.{specs.declared.{event.Event.{Event, TheVariants.{Packet}}, number_key.NumberKey.TheVariants.{PacketLimit}, outcome.{Outcome.{Outcome, TheVariants.{TooBig}}, Unlawful.{Unlawful}}, sends.OneSend.{OneSend}, settings.Settings.{Settings}}, proofs.QuerySizes.{query_may_carry}}
+use Rattle.endpoint_membership.specs.{Memberships.{is_live}, Table.{limit_passed, memberships_now}, declared.{change.Change.{Change, TheVariants.{Reported}}, limits.LimitFault.{LimitFault}}}
+use Rattle.amt_pair.{specs.{Queries.{HasQuerySources}, Schedule.{Upward, delivery_up}}, proofs.{HeardQueries.{length-mac_of, query_for-read}, QueryTimes.{lifetime_of-query_fields}}}
+use Rattle.amt_pair.proofs.{ReadQueries.{general_query_in-general_query}, OwnTurns.{Hears}, SpelledKinds.{gateway-of, kind_of, same-kind, small-nonce}, StepTurns.{IsUnseen, unseen-advertisement, unseen-packet}, Turns.{is_accepted}, Upwards.{IsUpward}}
 
 -- the inner octets are a General Query of the relay, of one family or the other
 abbrev pub IsGeneral : Settings → List ℕ → Type 0

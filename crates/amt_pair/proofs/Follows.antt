@@ -1,35 +1,12 @@
 -- How a course shows one gateway: as turns of a tunnel between the gateway and the relay.
-use Rattle.std.proofs.Common.{◌≡◌, ℕ, ◌+◌, ◌≤◌, ◌⊎◌, Bool, true, false, cond, if◌then◌else◌, List, [], ◌∷◌, ◌++◌, map, reverse, All, Contains, Option, Some, None, refl, sym, ap, ap₂, subst, ◌∙◌, inl, inr}
-use Rattle.std.proofs.lemmas.List.{map-append}
-use Rattle.std.proofs.lemmas.List.Elements.{All-map, All-weaker}
-use Rattle.amt_values.specs.EndpointValue.{EndpointValue}
-use Rattle.endpoint_membership.specs.Log.{brought}
-use Rattle.endpoint_membership.specs.declared.change.Change.{Change}
-use Rattle.endpoint_membership.specs.declared.change.Change.TheVariants.{Clear, Reported}
-use Rattle.amt_values.specs.declared.peer.Peer.{Peer}
-use Rattle.gateway_machine.specs.Runs.{Run, run_of, with_event}
-use Rattle.gateway_machine.specs.Settings.{HasSourceOfFamily}
-use Rattle.gateway_machine.specs.declared.event.GatewayEvent.{GatewayEvent}
-use Rattle.gateway_machine.proofs.Runs.{run_of-append}
-use Rattle.relay_machine.specs.Settings.{membership_interval_ms}
-use Rattle.relay_machine.specs.declared.event.Event.{Event}
-use Rattle.relay_machine.specs.declared.sends.OneSend.{OneSend}
-use Rattle.amt_pair.specs.Agreement.{report_from}
-use Rattle.amt_pair.specs.Entries.{is_change_of}
-use Rattle.amt_pair.specs.Events.{MayHappen}
-use Rattle.amt_pair.specs.Schedule.{Course, Entry, Member, Upward, with_entry, with_gateway_event, with_member_event}
-use Rattle.amt_pair.specs.Sent.{SentReport}
-use Rattle.amt_pair.specs.Setup.{Host, PairSetup, first_nonce}
-use Rattle.amt_pair.proofs.CourseLog.{later_by}
-use Rattle.amt_pair.proofs.Listed.{reverse-push}
-use Rattle.amt_pair.proofs.MayTurns.{may-turn}
-use Rattle.amt_pair.proofs.OwnTurns.{Hears, IsPassed, moment-turns, moment_passed, of_relay-after, own-turns, passed-after, timely-after}
-use Rattle.amt_pair.proofs.PeerReports.{IsOther, reports_from, reports_from-event}
-use Rattle.amt_pair.proofs.RunTurns.{happen-after, may-after}
-use Rattle.amt_pair.proofs.SoundRuns.{sound-step}
-use Rattle.amt_pair.proofs.StepTurns.{seen}
-use Rattle.amt_pair.proofs.Tunnel.{AreOfRelay, AreTimely, Clears, Delivers, Enters, IsTimely, Made, MayCome, MayTurn, Tunnel, Turn, after, entered, happens}
-use Rattle.amt_pair.proofs.Turns.{IsSoundRun, MayTurns, happen, reports_on, see, turns}
+use Rattle.std.proofs.{Common.{◌≡◌, ℕ, ◌+◌, ◌≤◌, ◌⊎◌, Bool, true, false, cond, if◌then◌else◌, List, [], ◌∷◌, ◌++◌, map, reverse, All, Contains, Option, Some, None, refl, sym, ap, ap₂, subst, ◌∙◌, inl, inr}, lemmas.List.{map-append, Elements.{All-map, All-weaker}}}
+use Rattle.amt_values.specs.{EndpointValue.{EndpointValue}, declared.peer.Peer.{Peer}}
+use Rattle.endpoint_membership.specs.{Log.{brought}, declared.change.Change.{Change, TheVariants.{Clear, Reported}}}
+use Rattle.gateway_machine.{specs.{Runs.{Run, run_of, with_event}, Settings.{HasSourceOfFamily}, declared.event.GatewayEvent.{GatewayEvent}}, proofs.Runs.{run_of-append}}
+use Rattle.relay_machine.specs.{Settings.{membership_interval_ms}, declared.{event.Event.{Event}, sends.OneSend.{OneSend}}}
+use Rattle.amt_pair.{specs.{Agreement.{report_from}, Entries.{is_change_of}, Events.{MayHappen}, Schedule.{Course, Entry, Member, Upward, with_entry, with_gateway_event, with_member_event}, Sent.{SentReport}, Setup.{Host, PairSetup, first_nonce}}, proofs.CourseLog.{later_by}}
+use Rattle.amt_pair.proofs.{Listed.{reverse-push}, MayTurns.{may-turn}, OwnTurns.{Hears, IsPassed, moment-turns, moment_passed, of_relay-after, own-turns, passed-after, timely-after}, PeerReports.{IsOther, reports_from, reports_from-event}, RunTurns.{happen-after, may-after}}
+use Rattle.amt_pair.proofs.{SoundRuns.{sound-step}, StepTurns.{seen}, Tunnel.{AreOfRelay, AreTimely, Clears, Delivers, Enters, IsTimely, Made, MayCome, MayTurn, Tunnel, Turn, after, entered, happens}, Turns.{IsSoundRun, MayTurns, happen, reports_on, see, turns}}
 
 -- ---- a course as the tunnel of a gateway
 

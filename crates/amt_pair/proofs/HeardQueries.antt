@@ -1,37 +1,14 @@
 -- A gateway accepts the Query that its relay sends for its Request.
-use Rattle.std.proofs.Common.{◌≡◌, ℕ, ◌<◌, ◌^◌, Bool, true, List, length, Option, Some, Result, Ok, refl, ap, ◌∙◌, arith, length-take-le}
-use Rattle.std.proofs.lemmas.Bool.{eq-eqb}
-use Rattle.std.proofs.lemmas.Cmp.{eq_by_cmp_equiv}
-use Rattle.std.specs.Ordering.{eq_by_cmp}
+use Rattle.std.{proofs.{Common.{◌≡◌, ℕ, ◌<◌, ◌^◌, Bool, true, List, length, Option, Some, Result, Ok, refl, ap, ◌∙◌, arith, length-take-le}, lemmas.{Bool.{eq-eqb}, Cmp.{eq_by_cmp_equiv}}}, specs.Ordering.{eq_by_cmp}}
 use Rattle.sha2.proofs.Facts256.{length-sha256}
-use Rattle.amt_values.specs.EndpointValue.{EndpointValue}
-use Rattle.amt_values.specs.Order.{ip_order}
-use Rattle.amt_values.specs.declared.peer.Peer.{Peer}
-use Rattle.amt_values.proofs.Orders.{ip_order-total}
-use Rattle.amt_messages.specs.Layout.{spelling_of}
-use Rattle.amt_messages.specs.Messages.{IsGateway}
-use Rattle.amt_messages.specs.Refusal.{message_of}
-use Rattle.amt_messages.specs.declared.message.Message.{Message}
-use Rattle.amt_messages.specs.declared.refusal.Refused.{Refused}
-use Rattle.amt_messages.proofs.Spelled.{spelled_is_read}
-use Rattle.amt_messages.proofs.Written.{written_query}
-use Rattle.response_mac.specs.Hmac.{hmac_of}
-use Rattle.response_mac.specs.ResponseMac.{authenticated_octets, mac_of}
-use Rattle.response_mac.specs.declared.secret.Secret.{Secret}
+use Rattle.amt_values.{specs.{EndpointValue.{EndpointValue}, Order.{ip_order}, declared.peer.Peer.{Peer}}, proofs.Orders.{ip_order-total}}
+use Rattle.amt_messages.{specs.{Layout.{spelling_of}, Messages.{IsGateway}, Refusal.{message_of}, declared.{message.Message.{Message}, refusal.Refused.{Refused}}}, proofs.{Spelled.{spelled_is_read}, Written.{written_query}}}
+use Rattle.response_mac.specs.{Hmac.{hmac_of}, ResponseMac.{authenticated_octets, mac_of}, declared.secret.Secret.{Secret}}
 use Rattle.source_filter.specs.declared.query.QueryFields.{QueryFields}
 use Rattle.socket_merge.specs.History.{AcceptedCall}
-use Rattle.gateway_machine.specs.declared.event.GatewayEvent.TheVariants.{Datagram}
-use Rattle.gateway_machine.specs.declared.exchange.Exchange.{Exchange}
-use Rattle.gateway_machine.specs.declared.outcome.Ignored.{Ignored}
-use Rattle.gateway_machine.specs.declared.settings.GatewaySettings.{GatewaySettings}
-use Rattle.gateway_machine.specs.Answers.{Answer, asked_relay, datagram_answer, event_answer, fields_heard, query_accepted, query_by, query_kept, same_peer}
-use Rattle.relay_machine.specs.declared.settings.Settings.{Settings}
-use Rattle.relay_machine.specs.Queries.{general_query, query_fields, query_for}
-use Rattle.relay_machine.specs.Settings.{AreLawfulSettings}
-use Rattle.relay_machine.proofs.QuerySizes.{query_may_carry}
-use Rattle.amt_pair.specs.Queries.{HasQuerySources, IsAsking, query_of_relay}
-use Rattle.amt_pair.proofs.QueryTimes.{interval_of-query_fields, lifetime_of-query_fields}
-use Rattle.amt_pair.proofs.ReadQueries.{general_query_in-general_query}
+use Rattle.gateway_machine.specs.{declared.{event.GatewayEvent.TheVariants.{Datagram}, exchange.Exchange.{Exchange}, outcome.Ignored.{Ignored}, settings.GatewaySettings.{GatewaySettings}}, Answers.{Answer, asked_relay, datagram_answer, event_answer, fields_heard, query_accepted, query_by, query_kept, same_peer}}
+use Rattle.relay_machine.{specs.{declared.settings.Settings.{Settings}, Queries.{general_query, query_fields, query_for}, Settings.{AreLawfulSettings}}, proofs.QuerySizes.{query_may_carry}}
+use Rattle.amt_pair.{specs.Queries.{HasQuerySources, IsAsking, query_of_relay}, proofs.{QueryTimes.{interval_of-query_fields, lifetime_of-query_fields}, ReadQueries.{general_query_in-general_query}}}
 
 -- a digest of HMAC, of 32 octets, has the six of a MAC
 pub length-mac_of : (secret : Secret) (endpoint : EndpointValue) (nonce : ℕ) → length (mac_of secret endpoint nonce).0 ≡ 6

@@ -1,15 +1,7 @@
 -- The gateways of a setup: no two of them have one name or one peer.
-use Rattle.std.proofs.Common.{◌≡◌, false, List, [], ◌∷◌, ◌++◌, map, Contains, sym, ap, subst, ◌∙◌, append_assoc, inl, inr}
-use Rattle.std.proofs.lemmas.Bool.{cases_Bool}
-use Rattle.std.proofs.lemmas.List.{map-append}
-use Rattle.std.proofs.lemmas.List.Elements.{All-map}
+use Rattle.std.proofs.{Common.{◌≡◌, false, List, [], ◌∷◌, ◌++◌, map, Contains, sym, ap, subst, ◌∙◌, append_assoc, inl, inr}, lemmas.{Bool.{cases_Bool}, List.{map-append, Elements.{All-map}}}}
 use Rattle.gateway_machine.specs.Answers.{same_peer}
-use Rattle.amt_pair.specs.Schedule.{Member}
-use Rattle.amt_pair.specs.Setup.{AreApart, Host}
-use Rattle.amt_pair.proofs.Follows.{IsPlaced, member_of}
-use Rattle.amt_pair.proofs.Listed.{All-from_contains, middle-cases, split-at}
-use Rattle.amt_pair.proofs.PeerReports.{IsOther}
-use Rattle.amt_pair.proofs.RelayEntries.{same_peer-is}
+use Rattle.amt_pair.{specs.{Schedule.{Member}, Setup.{AreApart, Host}}, proofs.{Follows.{IsPlaced, member_of}, Listed.{All-from_contains, middle-cases, split-at}, PeerReports.{IsOther}, RelayEntries.{same_peer-is}}}
 
 -- no two in their places are alike
 abbrev AreUnlike : (Host → Host → Type 0) → List Host → Type 0

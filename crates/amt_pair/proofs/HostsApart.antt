@@ -1,21 +1,9 @@
 -- Gateways that are apart: one more, and those that a name or an endpoint names.
-use Rattle.std.proofs.Common.{◌≡◌, ℕ, Bool, true, false, ◌||◌, List, [], ◌∷◌, ◌++◌, All, Contains, Some, None, Option, Ordering, Less, Equal, Greater, is_eq, refl, sym, ap, ◌∙◌, subst, append_assoc}
-use Rattle.std.specs.Cmp.{nat_eq_equiv}
-use Rattle.std.specs.Cmp.Lexicographic.{lists_equiv}
-use Rattle.std.specs.List.{AllByRecursion}
-use Rattle.std.proofs.lemmas.List.Elements.{All-contains, All-from_recursion}
-use Rattle.amt_values.specs.Endpoint.{endpoint_of}
-use Rattle.amt_values.specs.EndpointValue.{EndpointValue}
-use Rattle.amt_values.specs.Order.{endpoint_order}
-use Rattle.amt_values.specs.declared.peer.Peer.{Peer}
-use Rattle.amt_values.proofs.Orders.{endpoint_order-exact}
+use Rattle.std.{proofs.{Common.{◌≡◌, ℕ, Bool, true, false, ◌||◌, List, [], ◌∷◌, ◌++◌, All, Contains, Some, None, Option, Ordering, Less, Equal, Greater, is_eq, refl, sym, ap, ◌∙◌, subst, append_assoc}, lemmas.List.Elements.{All-contains, All-from_recursion}}, specs.{Cmp.{nat_eq_equiv, Lexicographic.{lists_equiv}}, List.{AllByRecursion}}}
+use Rattle.amt_values.{specs.{Endpoint.{endpoint_of}, EndpointValue.{EndpointValue}, Order.{endpoint_order}, declared.peer.Peer.{Peer}}, proofs.Orders.{endpoint_order-exact}}
 use Rattle.gateway_machine.specs.Answers.{same_peer}
 use Rattle.socket_merge.specs.History.{same_name}
-use Rattle.amt_pair.specs.OwnEndpoints.{HasOwnEndpoint}
-use Rattle.amt_pair.specs.Schedule.{is_endpoint}
-use Rattle.amt_pair.specs.Setup.{AreApart, Host, has_taken}
-use Rattle.amt_pair.proofs.Alone.{all_at, all_by_splits, all_joined, all_more}
-use Rattle.amt_pair.proofs.HeardQueries.{same_peer-itself}
+use Rattle.amt_pair.{specs.{OwnEndpoints.{HasOwnEndpoint}, Schedule.{is_endpoint}, Setup.{AreApart, Host, has_taken}}, proofs.{Alone.{all_at, all_by_splits, all_joined, all_more}, HeardQueries.{same_peer-itself}}}
 
 -- the gateways have neither one name nor one peer
 pub record Differ (one other : Host) : Type 0 where

@@ -1,26 +1,11 @@
 -- The filter of a group for all sockets: its sources are such as those of the sockets are, and it is known by
 -- the change records.
-use Rattle.std.proofs.Common.{◌≡◌, not, ◌||◌, Bool, true, false, List, [], ◌∷◌, ◌++◌, filter, refl, sym, ◌∙◌}
-use Rattle.std.specs.List.{All}
-use Rattle.std.proofs.lemmas.List.Elements.{All-cons, All-filter, All-head, All-map, All-nil, All-tail, All-weaker}
-use Rattle.amt_values.specs.Order.{ip_order}
-use Rattle.amt_values.specs.declared.address.Ip.{Ip}
-use Rattle.amt_values.proofs.Orders.{ip_order-total}
-use Rattle.amt_values.specs.Ascending.{IsAscending, has, intersection}
-use Rattle.amt_values.proofs.AscendingLaws.{IsAscending-ascending, IsAscending-filter, has-append}
-use Rattle.source_filter.specs.Changes.{changes_on}
-use Rattle.source_filter.specs.Filter.{FilterValue, nothing, wants_any_by}
-use Rattle.source_filter.specs.Merging.{all_sources, common_sources, exclude_list, exclude_lists, include_lists, intersection_of, merged, merged_by, union_of}
-use Rattle.source_filter.specs.declared.mode.Mode.{Mode}
-use Rattle.source_filter.specs.declared.mode.Mode.TheVariants.{Include, Exclude}
-use Rattle.source_filter.proofs.AppliedChanges.{changes-applied}
+use Rattle.std.{proofs.{Common.{◌≡◌, not, ◌||◌, Bool, true, false, List, [], ◌∷◌, ◌++◌, filter, refl, sym, ◌∙◌}, lemmas.List.Elements.{All-cons, All-filter, All-head, All-map, All-nil, All-tail, All-weaker}}, specs.List.{All}}
+use Rattle.amt_values.{specs.{Order.{ip_order}, declared.address.Ip.{Ip}, Ascending.{IsAscending, has, intersection}}, proofs.{Orders.{ip_order-total}, AscendingLaws.{IsAscending-ascending, IsAscending-filter, has-append}}}
+use Rattle.source_filter.{specs.{Changes.{changes_on}, Filter.{FilterValue, nothing, wants_any_by}, Merging.{all_sources, common_sources, exclude_list, exclude_lists, include_lists, intersection_of, merged, merged_by, union_of}, declared.mode.Mode.{Mode, TheVariants.{Include, Exclude}}}, proofs.AppliedChanges.{changes-applied}}
 use Rattle.group_records.specs.declared.family.Family.{Family}
-use Rattle.socket_merge.specs.History.{AcceptedCall, Socket, group_opened, groups_opened, open_sockets}
-use Rattle.socket_merge.specs.Interface.{filters_on, interface, on_group, same_group}
-use Rattle.socket_merge.proofs.RawOctets.{unwanted}
-use Rattle.socket_merge.proofs.ShortChanges.{changes-itself as changes-same}
-use Rattle.amt_pair.proofs.AcceptedCalls.{AreAccepted}
-use Rattle.amt_pair.proofs.OpenSockets.{HaveFilters, IsFilterOf, IsSocketOf, sockets-of}
+use Rattle.socket_merge.{specs.{History.{AcceptedCall, Socket, group_opened, groups_opened, open_sockets}, Interface.{filters_on, interface, on_group, same_group}}, proofs.{RawOctets.{unwanted}, ShortChanges.{changes-itself as changes-same}}}
+use Rattle.amt_pair.proofs.{AcceptedCalls.{AreAccepted}, OpenSockets.{HaveFilters, IsFilterOf, IsSocketOf, sockets-of}}
 
 -- ---- merged filters ascend
 

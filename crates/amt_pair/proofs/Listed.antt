@@ -1,8 +1,6 @@
 -- Items of lists: where they stand, and what a list of them comes to with one more at its end.
 use Rattle.std.proofs.Common.{◌≡◌, ℕ, zero, suc, ◌-◌, ◌⊎◌, nat_lt, Bool, true, false, cond, List, [], ◌∷◌, ◌++◌, reverse, slice_get, All, Contains, Option, Some, None, refl, sym, ap, subst, ◌∙◌, arith, inl, inr}
-use Rattle.std.specs.List.{cons_option, filter, filter_map}
-use Rattle.std.proofs.lemmas.List.{append-nil, reverse-append}
-use Rattle.std.proofs.lemmas.List.Elements.{All-cons, All-nil, Contains-append_cases, Contains-append_left, Contains-append_right, filter-append}
+use Rattle.std.{proofs.lemmas.List.{append-nil, reverse-append, Elements.{All-cons, All-nil, Contains-append_cases, Contains-append_left, Contains-append_right, filter-append}}, specs.List.{cons_option, filter, filter_map}}
 use Rattle.gateway_machine.specs.Laws.{last_of}
 use Rattle.amt_pair.specs.Schedule.{numbered}
 
@@ -34,9 +32,6 @@ module _ {X : Type 0} where
     | inl is ↦ record { before = []; after = more; whole = ap (λ (one : X). one ∷ more) is }
     | inr later ↦ let rest = split-at more x later in record { before = first ∷ rest.before; after = rest.after; whole = ap (λ (all : List X). first ∷ all) rest.whole }
   ]
-
-  pub Contains-middle : (before after : List X) (x : X) → Contains (before ++ x ∷ after) x
-  Contains-middle before after x = Contains-append_right before (x ∷ after) x (Contains-first x after)
 
   -- an item is one of those before, the one between, or one of those after
   pub middle-cases : (before after : List X) (x y : X) → Contains (before ++ x ∷ after) y → Contains before y ⊎ ((x ≡ y) ⊎ Contains after y)

@@ -1,16 +1,9 @@
 -- The gateways of a course are always those of its setup.
-use Rattle.std.proofs.Common.{Bool, true, false, List, [], ◌∷◌, ◌++◌, All, Contains, Option, Some, None, if◌then◌else◌, sym, subst, append_assoc, append-nil}
-use Rattle.std.proofs.lemmas.List.Elements.{All-contains_itself, All-map, All-weaker}
-use Rattle.gateway_machine.specs.declared.event.GatewayEvent.{GatewayEvent}
-use Rattle.gateway_machine.specs.declared.event.GatewayEvent.TheVariants.{Moment as Passes}
-use Rattle.relay_machine.specs.declared.event.Event.TheVariants.{Moment}
-use Rattle.relay_machine.specs.declared.sends.OneSend.{OneSend}
-use Rattle.amt_pair.specs.Schedule.{Course, Member, Upward, course_of, delivery_down, down_delivered, has_name, is_at, numbered, up_delivered, with_gateway_event, with_member_event, with_pair_event, with_relay_event}
-use Rattle.amt_pair.specs.Setup.{Host, PairSetup}
-use Rattle.amt_pair.specs.declared.event.PairEvent.{PairEvent}
-use Rattle.amt_pair.specs.declared.event.PairEvent.TheVariants.{Down, Moment as MomentForAll, Packet as PacketComes, Rotate as SecretComes, Socket, Up}
-use Rattle.amt_pair.proofs.CourseLog.{course_of-nil, course_of-push}
-use Rattle.amt_pair.proofs.Follows.{if_reached, member_of}
+use Rattle.std.proofs.{Common.{Bool, true, false, List, [], ◌∷◌, ◌++◌, All, Contains, Option, Some, None, if◌then◌else◌, sym, subst, append_assoc, append-nil}, lemmas.List.Elements.{All-contains_itself, All-map, All-weaker}}
+use Rattle.gateway_machine.specs.declared.event.GatewayEvent.{GatewayEvent, TheVariants.{Moment as Passes}}
+use Rattle.relay_machine.specs.declared.{event.Event.TheVariants.{Moment}, sends.OneSend.{OneSend}}
+use Rattle.amt_pair.specs.{Schedule.{Course, Member, Upward, course_of, delivery_down, down_delivered, has_name, is_at, numbered, up_delivered, with_gateway_event, with_member_event, with_pair_event, with_relay_event}, Setup.{Host, PairSetup}}
+use Rattle.amt_pair.{specs.declared.event.PairEvent.{PairEvent, TheVariants.{Down, Moment as MomentForAll, Packet as PacketComes, Rotate as SecretComes, Socket, Up}}, proofs.{CourseLog.{course_of-nil, course_of-push}, Follows.{if_reached, member_of}}}
 
 module _ (setup : PairSetup) where
   -- the member is of one of the setup's gateways

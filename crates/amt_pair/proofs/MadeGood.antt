@@ -1,17 +1,9 @@
 -- How full reports make good what was said of a group before: as long as farewells last from its moment, they
 -- name the group, unless it was said that the group is left.
-use Rattle.std.proofs.Common.{◌≡◌, ◌≢◌, ℕ, ◌+◌, ◌<◌, ◌≤◌, min, Bool, true, false, cond, List, [], ◌∷◌, All, Option, Some, None, refl, sym, ap, ◌∙◌, arith}
-use Rattle.std.proofs.lemmas.Bool.{ltb-false}
-use Rattle.std.proofs.lemmas.List.Elements.{All-cons, All-nil, All-same}
+use Rattle.std.proofs.{Common.{◌≡◌, ◌≢◌, ℕ, ◌+◌, ◌<◌, ◌≤◌, min, Bool, true, false, cond, List, [], ◌∷◌, All, Option, Some, None, refl, sym, ap, ◌∙◌, arith}, lemmas.{Bool.{ltb-false}, List.Elements.{All-cons, All-nil, All-same}}}
 use Rattle.amt_values.specs.declared.address.Ip.{Ip}
-use Rattle.source_filter.specs.Changes.{changes_on}
-use Rattle.source_filter.specs.Filter.{FilterValue, admits, nothing, wants_any, wants_any_by}
-use Rattle.source_filter.specs.declared.mode.Mode.{Mode}
-use Rattle.source_filter.specs.declared.mode.Mode.TheVariants.{Include, Exclude}
-use Rattle.source_filter.specs.declared.record.Record.{Record}
-use Rattle.socket_merge.specs.FullReport.{farewell, full_on, is_recent, longest_farewell, states}
-use Rattle.socket_merge.specs.History.{AcceptedCall}
-use Rattle.socket_merge.specs.Interface.{interface, is_wanted, left_at}
+use Rattle.source_filter.specs.{Changes.{changes_on}, Filter.{FilterValue, admits, nothing, wants_any, wants_any_by}, declared.mode.Mode.{Mode, TheVariants.{Include, Exclude}}, declared.record.Record.{Record}}
+use Rattle.socket_merge.specs.{FullReport.{farewell, full_on, is_recent, longest_farewell, states}, History.{AcceptedCall}, Interface.{interface, is_wanted, left_at}}
 use Rattle.amt_pair.specs.Silence.{IsLeaving}
 
 abbrev pub filter_with : Mode → List Ip → FilterValue

@@ -3,25 +3,11 @@ use Rattle.std.proofs.Common.{◌≡◌, ℕ, Bool, true, false, List, [], ◌�
 use Rattle.amt_values.specs.EndpointValue.{EndpointValue}
 use Rattle.source_filter.specs.declared.record.Record.{Record}
 use Rattle.endpoint_membership.specs.Log.{on_group}
-use Rattle.socket_merge.specs.Changes.{change_records}
-use Rattle.socket_merge.specs.History.{AcceptedCall, Change, Close, LeaveAll, Open, SocketCall, with_call}
-use Rattle.gateway_machine.specs.Answers.{refusal_at}
-use Rattle.gateway_machine.specs.Runs.{Run, answer_in}
-use Rattle.gateway_machine.specs.Settings.{family_of}
-use Rattle.gateway_machine.specs.Timing.{farewell_ms, last_lifetime}
-use Rattle.gateway_machine.specs.declared.event.GatewayEvent.{GatewayEvent}
-use Rattle.gateway_machine.specs.declared.event.GatewayEvent.TheVariants.{Moment, Nonce as Draws, Datagram, Open as Opens, Change as GetsFilter, Close as Closes, LeaveAll as LeavesAll}
-use Rattle.gateway_machine.specs.declared.exchange.Exchange.{Exchange}
-use Rattle.gateway_machine.specs.declared.outcome.SocketRefusal.{SocketRefusal}
-use Rattle.gateway_machine.specs.declared.settings.GatewaySettings.{GatewaySettings}
-use Rattle.amt_pair.specs.Events.{MayHappen}
-use Rattle.amt_pair.specs.Sent.{SentReport}
-use Rattle.amt_pair.proofs.AcceptedCalls.{AreAccepted, MayCall}
-use Rattle.amt_pair.proofs.OpenSockets.{HasFilter, HaveFilters}
-use Rattle.amt_pair.proofs.ReportedRecords.{changed-is, changed-some, full-is, unchanged}
-use Rattle.amt_pair.proofs.SoundRuns.{filter-of, sound-call}
-use Rattle.amt_pair.proofs.Tunnel.{Made, MayTurn, Tunnel, keep_of}
-use Rattle.amt_pair.proofs.Turns.{IsSoundRun, MayTurns, accepted_turn, call_turns, calling, changing_turn, datagram_turns, is_accepted, is_active, moment_turns, see, tunnel_of, turns}
+use Rattle.socket_merge.specs.{Changes.{change_records}, History.{AcceptedCall, Change, Close, LeaveAll, Open, SocketCall, with_call}}
+use Rattle.gateway_machine.specs.{Answers.{refusal_at}, Runs.{Run, answer_in}, Settings.{family_of}, Timing.{farewell_ms, last_lifetime}, declared.event.GatewayEvent.{GatewayEvent}}
+use Rattle.gateway_machine.specs.declared.{event.GatewayEvent.TheVariants.{Moment, Nonce as Draws, Datagram, Open as Opens, Change as GetsFilter, Close as Closes, LeaveAll as LeavesAll}, exchange.Exchange.{Exchange}, outcome.SocketRefusal.{SocketRefusal}, settings.GatewaySettings.{GatewaySettings}}
+use Rattle.amt_pair.{specs.{Events.{MayHappen}, Sent.{SentReport}}, proofs.{AcceptedCalls.{AreAccepted, MayCall}, OpenSockets.{HasFilter, HaveFilters}, ReportedRecords.{changed-is, changed-some, full-is, unchanged}}}
+use Rattle.amt_pair.proofs.{SoundRuns.{filter-of, sound-call}, Tunnel.{Made, MayTurn, Tunnel, keep_of}, Turns.{IsSoundRun, MayTurns, accepted_turn, call_turns, calling, changing_turn, datagram_turns, is_accepted, is_active, moment_turns, see, tunnel_of, turns}}
 
 may-moment : (endpoint : EndpointValue) (tunnel : Tunnel) (active : Bool) (at : ℕ) → MayTurns endpoint tunnel (moment_turns active at)
 may-moment endpoint tunnel true at = (tt, tt)

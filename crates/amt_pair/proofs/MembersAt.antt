@@ -1,23 +1,9 @@
 -- Where the gateways of a pair are, one by one and all together.
-use Rattle.std.proofs.Common.{◌≡◌, ◌≤◌, ◌<◌, ℕ, zero, suc, ◌||◌, Bool, true, List, [], ◌∷◌, ◌++◌, map, length, get_or, set, All, HoldsAt, IfSome, Option, Some, None, refl, sym, ap, ◌∙◌, subst, arith}
-use Rattle.std.specs.List.{list_any}
-use Rattle.std.proofs.lemmas.List.Elements.{All-append, All-map}
+use Rattle.std.{proofs.{Common.{◌≡◌, ◌≤◌, ◌<◌, ℕ, zero, suc, ◌||◌, Bool, true, List, [], ◌∷◌, ◌++◌, map, length, get_or, set, All, HoldsAt, IfSome, Option, Some, None, refl, sym, ap, ◌∙◌, subst, arith}, lemmas.List.Elements.{All-append, All-map}}, specs.List.{list_any}}
 use Rattle.amt_values.specs.declared.peer.Peer.{Peer}
-use Rattle.gateway_machine.specs.Answers.{history_after, same_peer}
-use Rattle.gateway_machine.specs.Runs.{settings_of}
-use Rattle.gateway_machine.specs.Sends.{Sending, datagram_of}
-use Rattle.gateway_machine.specs.declared.event.GatewayEvent.{GatewayEvent}
-use Rattle.gateway_machine.specs.declared.exchange.Exchange.{Exchange}
-use Rattle.gateway_machine.specs.declared.settings.GatewaySettings.{GatewaySettings}
-use Rattle.gateway_machine.specs.declared.step.PeerSend.{PeerSend}
+use Rattle.gateway_machine.specs.{Answers.{history_after, same_peer}, Runs.{settings_of}, Sends.{Sending, datagram_of}, declared.{event.GatewayEvent.{GatewayEvent}, exchange.Exchange.{Exchange}, settings.GatewaySettings.{GatewaySettings}, step.PeerSend.{PeerSend}}}
 use Rattle.socket_merge.specs.History.{AcceptedCall, same_name}
-use Rattle.amt_pair.specs.Members.{AreMembersAt, AreShort, IsMemberAt, IsPlaceOf, host_of, kept_datagram, kept_upward}
-use Rattle.amt_pair.specs.Schedule.{Member, Upward, answer_at, run_of_member, upwards_on}
-use Rattle.amt_pair.specs.Sent.{Sent}
-use Rattle.amt_pair.specs.Setup.{Host, has_taken}
-use Rattle.amt_pair.specs.declared.datagrams.UpDatagram.{UpDatagram}
-use Rattle.amt_pair.specs.declared.gateways.NamedGateway.{NamedGateway}
-use Rattle.amt_pair.proofs.Alone.{NonePasses}
+use Rattle.amt_pair.{specs.{Members.{AreMembersAt, AreShort, IsMemberAt, IsPlaceOf, host_of, kept_datagram, kept_upward}, Schedule.{Member, Upward, answer_at, run_of_member, upwards_on}, Sent.{Sent}, Setup.{Host, has_taken}, declared.{datagrams.UpDatagram.{UpDatagram}, gateways.NamedGateway.{NamedGateway}}}, proofs.Alone.{NonePasses}}
 
 abbrev sent_with : Exchange → List AcceptedCall → Sending → Sent
 sent_with next history sending = record { sending = sending; exchange = next; history = history }

@@ -1,15 +1,7 @@
 -- A moment on its way over the gateways of a pair.
-use Rattle.std.proofs.Common.{◌≡◌, ◌<◌, ◌≤◌, ◌+◌, ℕ, zero, suc, List, [], ◌∷◌, ◌++◌, map, flat_map, length, get_or, set, take, drop, refl, sym, ap, ◌∙◌, subst, arith, add-one, append-nil, append_assoc, take_all, length-take}
-use Rattle.std.proofs.lemmas.Grind.{flat_map-append}
-use Rattle.std.proofs.lemmas.List.{drop_all, length-map, map-append, set-get_or, take-append-drop}
+use Rattle.std.proofs.{Common.{◌≡◌, ◌<◌, ◌≤◌, ◌+◌, ℕ, zero, suc, List, [], ◌∷◌, ◌++◌, map, flat_map, length, get_or, set, take, drop, refl, sym, ap, ◌∙◌, subst, arith, add-one, append-nil, append_assoc, take_all, length-take}, lemmas.{Grind.{flat_map-append}, List.{drop_all, length-map, map-append, set-get_or, take-append-drop}}}
 use Rattle.gateway_machine.specs.declared.event.GatewayEvent.TheVariants.{Moment as Passes}
-use Rattle.amt_pair.specs.Members.{AreMembersAt, HasCome, HasComeToAll, HasComeToSome, IsMemberAt, kept_upward}
-use Rattle.amt_pair.specs.Parts.{gateway_part, gateway_parts}
-use Rattle.amt_pair.specs.Schedule.{Member, Upward, upwards_on, with_gateway_event}
-use Rattle.amt_pair.specs.declared.datagrams.UpDatagram.{UpDatagram}
-use Rattle.amt_pair.specs.declared.gateways.NamedGateway.{NamedGateway}
-use Rattle.amt_pair.specs.declared.step.Part.{Part}
-use Rattle.amt_pair.proofs.MembersAt.{member_at_place, members_set_place}
+use Rattle.amt_pair.{specs.{Members.{AreMembersAt, HasCome, HasComeToAll, HasComeToSome, IsMemberAt, kept_upward}, Parts.{gateway_part, gateway_parts}, Schedule.{Member, Upward, upwards_on, with_gateway_event}, declared.{datagrams.UpDatagram.{UpDatagram}, gateways.NamedGateway.{NamedGateway}, step.Part.{Part}}}, proofs.MembersAt.{member_at_place, members_set_place}}
 
 -- the item at a place, with those before and after it
 record IsItem {X : Type 0} (xs : List X) (place : ℕ) : Type 0 where

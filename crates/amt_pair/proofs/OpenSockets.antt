@@ -1,15 +1,10 @@
 -- The sockets and the groups of the calls that a gateway has accepted.
-use Rattle.std.proofs.Common.{◌≡◌, not, Bool, true, false, List, [], ◌∷◌, filter, if◌then◌else◌}
-use Rattle.std.specs.List.{All}
-use Rattle.std.proofs.lemmas.List.Elements.{All-append, All-cons, All-filter, All-map, All-nil, All-weaker}
-use Rattle.amt_values.specs.Group.{is_forwardable}
-use Rattle.amt_values.specs.declared.address.Ip.{Ip}
+use Rattle.std.{proofs.{Common.{◌≡◌, not, Bool, true, false, List, [], ◌∷◌, filter, if◌then◌else◌}, lemmas.List.Elements.{All-append, All-cons, All-filter, All-map, All-nil, All-weaker}}, specs.List.{All}}
+use Rattle.amt_values.specs.{Group.{is_forwardable}, declared.address.Ip.{Ip}}
 use Rattle.source_filter.specs.Filter.{FilterValue}
-use Rattle.group_records.specs.Written.{is_of_family}
-use Rattle.group_records.specs.declared.family.Family.{Family}
+use Rattle.group_records.specs.{Written.{is_of_family}, declared.family.Family.{Family}}
 use Rattle.socket_merge.specs.History.{AcceptedCall, Change, Close, LeaveAll, Open, Socket, SocketCall, group_opened, groups_opened, open_sockets, refiltered, same_name, sockets_after}
-use Rattle.amt_pair.specs.Events.{IsFilter}
-use Rattle.amt_pair.proofs.AcceptedCalls.{AreAccepted, HasSourcesOf, MayCall}
+use Rattle.amt_pair.{specs.Events.{IsFilter}, proofs.AcceptedCalls.{AreAccepted, HasSourcesOf, MayCall}}
 
 -- the filter of the call, if it has one, is one
 abbrev pub HasFilter : SocketCall → Type 0

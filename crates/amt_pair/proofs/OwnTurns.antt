@@ -1,35 +1,15 @@
 -- What the turns of a gateway's step leave as they are: they deliver nothing, and a Query among them is the
 -- relay's.
-use Rattle.std.proofs.Common.{◌≡◌, ℕ, max, Bool, true, false, cond, List, [], ◌∷◌, ◌++◌, All, Option, Some, None, refl, ap, ◌∙◌}
-use Rattle.std.proofs.lemmas.List.Elements.{All-cons, All-head, All-tail, All-weaker}
-use Rattle.amt_values.specs.EndpointValue.{EndpointValue}
-use Rattle.amt_values.specs.Group.{is_forwardable}
+use Rattle.std.proofs.{Common.{◌≡◌, ℕ, max, Bool, true, false, cond, List, [], ◌∷◌, ◌++◌, All, Option, Some, None, refl, ap, ◌∙◌}, lemmas.List.Elements.{All-cons, All-head, All-tail, All-weaker}}
+use Rattle.amt_values.specs.{EndpointValue.{EndpointValue}, Group.{is_forwardable}}
 use Rattle.source_filter.specs.declared.record.Record.{Record}
 use Rattle.group_records.specs.declared.family.Family.{Family}
-use Rattle.socket_merge.specs.Changes.{change_records}
-use Rattle.socket_merge.specs.FullReport.{full_report_of}
-use Rattle.socket_merge.specs.History.{AcceptedCall, Change as Refilter, Close, LeaveAll, Open, SocketCall, with_call}
-use Rattle.gateway_machine.specs.Answers.{refusal_at}
-use Rattle.gateway_machine.specs.Reports.{full_records}
-use Rattle.gateway_machine.specs.Runs.{Run, answer_in}
-use Rattle.gateway_machine.specs.Settings.{family_of}
-use Rattle.gateway_machine.specs.Timing.{farewell_ms, last_lifetime}
-use Rattle.gateway_machine.specs.declared.event.GatewayEvent.{GatewayEvent}
-use Rattle.gateway_machine.specs.declared.event.GatewayEvent.TheVariants.{Moment, Nonce, Datagram, Open as Opens, Change as GetsFilter, Close as Closes, LeaveAll as LeavesAll}
-use Rattle.gateway_machine.specs.declared.exchange.Exchange.{Exchange}
-use Rattle.gateway_machine.specs.declared.outcome.SocketRefusal.{SocketRefusal}
-use Rattle.gateway_machine.specs.declared.settings.GatewaySettings.{GatewaySettings}
+use Rattle.socket_merge.specs.{Changes.{change_records}, FullReport.{full_report_of}, History.{AcceptedCall, Change as Refilter, Close, LeaveAll, Open, SocketCall, with_call}}
+use Rattle.gateway_machine.specs.{Answers.{refusal_at}, Reports.{full_records}, Runs.{Run, answer_in}, Settings.{family_of}, Timing.{farewell_ms, last_lifetime}, declared.event.GatewayEvent.{GatewayEvent}}
+use Rattle.gateway_machine.specs.declared.{event.GatewayEvent.TheVariants.{Moment, Nonce, Datagram, Open as Opens, Change as GetsFilter, Close as Closes, LeaveAll as LeavesAll}, exchange.Exchange.{Exchange}, outcome.SocketRefusal.{SocketRefusal}, settings.GatewaySettings.{GatewaySettings}}
 use Rattle.relay_machine.specs.Updates.{forwardable_records}
-use Rattle.amt_pair.specs.Events.{MayHappen}
-use Rattle.amt_pair.specs.Sent.{SentReport}
-use Rattle.amt_pair.proofs.AcceptedCalls.{AreAccepted, MayCall}
-use Rattle.amt_pair.proofs.CourseLog.{later_by}
-use Rattle.amt_pair.proofs.OpenSockets.{HasFilter, HaveFilters}
-use Rattle.amt_pair.proofs.ReportedAddresses.{MayStand, changed-may_stand, full-may_stand}
-use Rattle.amt_pair.proofs.SoundRuns.{filter-of, sound-call}
-use Rattle.amt_pair.proofs.Tunnel.{Answers, AreOfRelay, AreTimely, Changes, Clears, Delivers, Enters, IsTimely, Keeps, Leaves, Moves, Tunnel, Turn, after, called, happens, keep_of, send}
-use Rattle.amt_pair.proofs.TunnelSettled.{report_now}
-use Rattle.amt_pair.proofs.Turns.{IsSoundRun, accepted_turn, call_turns, calling, changing_turn, datagram_turns, happen, is_accepted, is_active, moment_turns, turns}
+use Rattle.amt_pair.{specs.{Events.{MayHappen}, Sent.{SentReport}}, proofs.{AcceptedCalls.{AreAccepted, MayCall}, CourseLog.{later_by}, OpenSockets.{HasFilter, HaveFilters}, ReportedAddresses.{MayStand, changed-may_stand, full-may_stand}, SoundRuns.{filter-of, sound-call}}}
+use Rattle.amt_pair.proofs.{Tunnel.{Answers, AreOfRelay, AreTimely, Changes, Clears, Delivers, Enters, IsTimely, Keeps, Leaves, Moves, Tunnel, Turn, after, called, happens, keep_of, send}, TunnelSettled.{report_now}, Turns.{IsSoundRun, accepted_turn, call_turns, calling, changing_turn, datagram_turns, happen, is_accepted, is_active, moment_turns, turns}}
 
 -- the record is on a group that packets are forwarded to
 abbrev pub IsForwarded : Record → Type 0

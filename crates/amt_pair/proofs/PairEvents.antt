@@ -1,12 +1,6 @@
 -- A pair after one more event of its schedule.
-use Rattle.std.proofs.Common.{List, [], ◌∷◌, ◌++◌, sym, subst}
-use Rattle.std.proofs.lemmas.List.Elements.{All-push}
-use Rattle.amt_pair.specs.Schedule.{Course, FitsItsType, IsPairEvent, MayCome, course_of, with_pair_event}
-use Rattle.amt_pair.specs.Setup.{Host, PairSetup}
-use Rattle.amt_pair.specs.State.{PairAt, StandsFor, hosts_of}
-use Rattle.amt_pair.specs.declared.event.PairEvent.{PairEvent}
-use Rattle.amt_pair.specs.declared.pair.Pair.{Pair}
-use Rattle.amt_pair.proofs.Courses.{course_of-more, pair_hosts}
+use Rattle.std.proofs.{Common.{List, [], ◌∷◌, ◌++◌, sym, subst}, lemmas.List.Elements.{All-push}}
+use Rattle.amt_pair.{specs.{Schedule.{Course, FitsItsType, IsPairEvent, MayCome, course_of, with_pair_event}, Setup.{Host, PairSetup}, State.{PairAt, StandsFor, hosts_of}, declared.{event.PairEvent.{PairEvent}, pair.Pair.{Pair}}}, proofs.Courses.{course_of-more, pair_hosts}}
 
 pub pair_at_more : (before after : Pair) (setup : PairSetup) (schedule : List PairEvent) (event : PairEvent) → PairAt before setup schedule → MayCome (hosts_of before) event
     → FitsItsType event → StandsFor after setup (with_pair_event setup (course_of setup schedule) event) → PairAt after setup (schedule ++ event ∷ [])

@@ -1,12 +1,7 @@
 -- Pairs with the same relay, gateways and datagrams are one: what else a pair holds are proofs.
-use Rattle.std.proofs.Common.{◌≡◌, List, map, All, sym, ap, ◌∙◌, subst}
-use Rattle.std.proofs.Props.{props}
-use Rattle.relay_machine.specs.declared.relay.Relay.{Relay}
-use Rattle.relay_machine.specs.declared.sends.OneSend.{OneSend}
-use Rattle.amt_pair.specs.Members.{AreShort, AreShortSends, host_of}
-use Rattle.amt_pair.specs.OwnEndpoints.{HasOwnEndpoint}
-use Rattle.amt_pair.specs.Setup.{AreApart, relay_peer}
-use Rattle.amt_pair.specs.declared.pair.Pair.{Pair}
+use Rattle.std.proofs.{Common.{◌≡◌, List, map, All, sym, ap, ◌∙◌, subst}, Props.{props}}
+use Rattle.relay_machine.specs.declared.{relay.Relay.{Relay}, sends.OneSend.{OneSend}}
+use Rattle.amt_pair.specs.{Members.{AreShort, AreShortSends, host_of}, OwnEndpoints.{HasOwnEndpoint}, Setup.{AreApart, relay_peer}, declared.pair.Pair.{Pair}}
 
 -- a pair with another relay and other datagrams of it
 abbrev pub built : (pair : Pair) (relay : Relay) (down : List OneSend) → pair.peer ≡ relay_peer relay.setup.settings → AreApart (map host_of pair.gateways)

@@ -1,37 +1,13 @@
 -- What a pair stands for after a step of the relay, of one gateway, or of all.
-use Rattle.std.proofs.Common.{◌≡◌, ℕ, Bool, true, false, not, List, [], ◌∷◌, ◌++◌, map, flat_map, filter, length, All, Contains, Option, Some, None, IfNone, IsSome, refl, sym, ap, ◌∙◌, subst, append-nil, OnOk, OnErr, IfOk, Result, Ok, Err}
-use Rattle.std.specs.Cmp.{nat_eq_equiv}
-use Rattle.std.specs.Cmp.Lexicographic.{lists_equiv}
-use Rattle.std.proofs.lemmas.List.{length-map, map-append}
-use Rattle.std.proofs.lemmas.List.Elements.{All-contains, All-map, All-nil, recursion_from_All}
-use Rattle.amt_values.specs.Endpoint.{endpoint_of}
-use Rattle.amt_values.specs.EndpointValue.{EndpointValue}
-use Rattle.gateway_machine.specs.Events.{IsEventOf}
-use Rattle.gateway_machine.specs.Runs.{settings_of}
-use Rattle.gateway_machine.specs.declared.event.GatewayEvent.{GatewayEvent}
-use Rattle.gateway_machine.specs.declared.event.GatewayEvent.TheVariants.{Moment as Passes}
-use Rattle.relay_machine.specs.Accepted.{change_of}
-use Rattle.relay_machine.specs.Answers.{outcome_of, sends_of}
-use Rattle.relay_machine.specs.declared.event.Event.{Event}
-use Rattle.relay_machine.specs.declared.outcome.Outcome.{Outcome}
-use Rattle.relay_machine.specs.declared.sends.OneSend.{OneSend}
-use Rattle.relay_machine.specs.declared.sends.Step.{Step}
+use Rattle.std.{proofs.{Common.{◌≡◌, ℕ, Bool, true, false, not, List, [], ◌∷◌, ◌++◌, map, flat_map, filter, length, All, Contains, Option, Some, None, IfNone, IsSome, refl, sym, ap, ◌∙◌, subst, append-nil, OnOk, OnErr, IfOk, Result, Ok, Err}, lemmas.List.{map-append, Elements.{All-contains, All-map, All-nil, recursion_from_All}}}, specs.Cmp.{nat_eq_equiv, Lexicographic.{lists_equiv}}}
+use Rattle.amt_values.specs.{Endpoint.{endpoint_of}, EndpointValue.{EndpointValue}}
+use Rattle.gateway_machine.specs.declared.event.GatewayEvent.{GatewayEvent, TheVariants.{Moment as Passes}}
+use Rattle.relay_machine.specs.{Accepted.{change_of}, Answers.{outcome_of, sends_of}, declared.{event.Event.{Event}, outcome.Outcome.{Outcome}, sends.{OneSend.{OneSend}, Step.{Step}}}}
 use Rattle.endpoint_membership.specs.declared.change.Change.{Change}
 use Rattle.socket_merge.specs.History.{same_name}
-use Rattle.amt_pair.specs.Members.{AreMembersAt, IsMemberAt, IsPlaceOf, host_of, kept_upward}
-use Rattle.amt_pair.specs.OwnEndpoints.{HasOwnEndpoint}
-use Rattle.amt_pair.specs.Parts.{gateway_part, gateway_parts, relay_step}
-use Rattle.amt_pair.specs.Schedule.{Course, IsPairEvent, Member, Upward, has_name, is_at, is_endpoint, start, upwards_on, with_gateway_event, with_member_event}
-use Rattle.amt_pair.specs.Setup.{AreApart, Host, IsLawfulSetup, PairSetup}
-use Rattle.amt_pair.specs.State.{PairAt, StandsFor, with_member_at}
-use Rattle.amt_pair.specs.declared.pair.Pair.{Pair}
-use Rattle.amt_pair.proofs.Courses.{course_of-none}
-use Rattle.amt_pair.specs.declared.datagrams.UpDatagram.{UpDatagram}
-use Rattle.amt_pair.specs.declared.gateways.NamedGateway.{NamedGateway}
-use Rattle.amt_pair.specs.declared.step.Part.TheVariants.{Relay}
-use Rattle.amt_pair.proofs.Alone.{NonePasses, PassesOnce}
-use Rattle.amt_pair.proofs.Deliveries.{once_by_endpoint, once_by_name, one_part, one_reached}
-use Rattle.amt_pair.proofs.MembersAt.{host_at, host_is, hosts_are, members_more, none_at, split_at}
+use Rattle.amt_pair.specs.{Members.{AreMembersAt, IsMemberAt, IsPlaceOf, host_of, kept_upward}, OwnEndpoints.{HasOwnEndpoint}, Parts.{gateway_part, gateway_parts, relay_step}}
+use Rattle.amt_pair.specs.{Schedule.{Course, IsPairEvent, Member, Upward, has_name, is_at, is_endpoint, start, upwards_on, with_gateway_event, with_member_event}, Setup.{AreApart, Host, IsLawfulSetup, PairSetup}, State.{PairAt, StandsFor, with_member_at}}
+use Rattle.amt_pair.{specs.declared.{pair.Pair.{Pair}, datagrams.UpDatagram.{UpDatagram}, gateways.NamedGateway.{NamedGateway}, step.Part.TheVariants.{Relay}}, proofs.{Courses.{course_of-none}, Alone.{NonePasses, PassesOnce}, Deliveries.{once_by_endpoint, once_by_name, one_part, one_reached}, MembersAt.{host_at, host_is, hosts_are, members_more, none_at, split_at}}}
 
 abbrev step_with : Outcome → List OneSend → Option Change → Step
 step_with outcome sends change = record { outcome = outcome; sends = sends; change = change }
@@ -141,14 +117,6 @@ some_named name gateways host None contains named none =
     let itself : same_name name name ≡ true = (lists_equiv nat_eq_equiv).refl name in
     let same : same_name name host.name ≡ true = rw named itself in
     cc
-
--- the event may come to the gateway at the place
-pub event_at : (event : GatewayEvent) (place : ℕ) (gateways : List NamedGateway)
-    → ((before after : List Host) (host : Host) → map host_of gateways ≡ before ++ host ∷ after → place ≡ length before → IsEventOf host.settings event)
-    → (before after : List NamedGateway) (one : NamedGateway) → gateways ≡ before ++ one ∷ after → place ≡ length before → IsEventOf (settings_of one.gateway) event
-event_at event place gateways may before after one is place_is =
-    may (map host_of before) (map host_of after) (host_of one)
-    (ap (map host_of) is ∙ map-append host_of before (one ∷ after)) (place_is ∙ sym (length-map before host_of))
 
 -- what holds of the gateways with one more and without holds after a push
 pub after_push : {E : Type 0} (Fact : List NamedGateway → Type 0) (result : Result (Unit {0}) E) (old after : List NamedGateway) (named : NamedGateway)

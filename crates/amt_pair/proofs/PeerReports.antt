@@ -1,18 +1,8 @@
 -- The reports among the datagrams of one peer, where others send too.
-use Rattle.std.proofs.Common.{◌≡◌, Bool, true, false, cond, List, [], ◌∷◌, ◌++◌, map, reverse, flat_map, All, Option, None, refl, ap, ◌∙◌, append-nil}
-use Rattle.std.specs.List.{cons_option, filter, filter_map}
-use Rattle.std.proofs.lemmas.Bool.{cond-false, cond-true}
-use Rattle.std.proofs.lemmas.List.{reverse-append}
-use Rattle.std.proofs.lemmas.List.Concat.{flat_map-append}
-use Rattle.std.proofs.lemmas.List.Elements.{All-head, All-tail, filter-append, filter_map-append}
+use Rattle.std.{proofs.{Common.{◌≡◌, Bool, true, false, cond, List, [], ◌∷◌, ◌++◌, map, reverse, flat_map, All, Option, None, refl, ap, ◌∙◌, append-nil}, lemmas.{Bool.{cond-false, cond-true}, List.{reverse-append, Concat.{flat_map-append}, Elements.{All-head, All-tail, filter-append, filter_map-append}}}}, specs.List.{cons_option, filter, filter_map}}
 use Rattle.amt_values.specs.declared.peer.Peer.{Peer}
-use Rattle.gateway_machine.specs.Answers.{same_peer}
-use Rattle.gateway_machine.specs.declared.event.GatewayEvent.{GatewayEvent}
-use Rattle.amt_pair.specs.Agreement.{report_from}
-use Rattle.amt_pair.specs.Schedule.{Member, Upward, run_of_member, upwards_on}
-use Rattle.amt_pair.specs.Sent.{Sent, SentReport, report_of, sent_on}
-use Rattle.amt_pair.proofs.HeardQueries.{same_peer-itself}
-use Rattle.amt_pair.proofs.Turns.{reports_on}
+use Rattle.gateway_machine.specs.{Answers.{same_peer}, declared.event.GatewayEvent.{GatewayEvent}}
+use Rattle.amt_pair.{specs.{Agreement.{report_from}, Schedule.{Member, Upward, run_of_member, upwards_on}, Sent.{Sent, SentReport, report_of, sent_on}}, proofs.{HeardQueries.{same_peer-itself}, Turns.{reports_on}}}
 
 -- the reports that a peer sent, newest first
 abbrev pub reports_from : Peer → List Upward → List SentReport

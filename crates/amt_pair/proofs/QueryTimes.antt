@@ -4,11 +4,7 @@ use Rattle.igmp_records.specs.Code.{code_of, code_value}
 use Rattle.mld_records.specs.Code.{code_of as mld_code_of, code_value as mld_code_value}
 use Rattle.socket_merge.specs.FullReport.{family_by}
 use Rattle.gateway_machine.specs.Timing.{interval_of, lifetime_of, or_default, response_ms, robustness_of}
-use Rattle.relay_machine.specs.declared.number_key.NumberKey.TheVariants.{QuerySeconds, Robustness}
-use Rattle.relay_machine.specs.declared.settings.Settings.{Settings}
-use Rattle.relay_machine.specs.Queries.{query_fields}
-use Rattle.relay_machine.specs.Settings.{AreLawfulSettings, HasCode, HasMldCode, membership_interval_ms}
-use Rattle.relay_machine.proofs.Times.{found_code, found_mld_code}
+use Rattle.relay_machine.{specs.{declared.{number_key.NumberKey.TheVariants.{QuerySeconds, Robustness}, settings.Settings.{Settings}}, Queries.{query_fields}, Settings.{AreLawfulSettings, HasCode, HasMldCode, membership_interval_ms}}, proofs.Times.{found_code, found_mld_code}}
 
 -- the code of a time that has one stands for it
 code_of-stands : (time : ℕ) → HasCode time → code_value (code_of time) ≡ time

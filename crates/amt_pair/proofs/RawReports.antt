@@ -1,29 +1,11 @@
 -- How long full reports are, by the history alone: none is longer than the raw one, and the raw one doesn't
 -- grow by calls that close sockets.
-use Rattle.std.proofs.Common.{◌≡◌, ℕ, ◌+◌, ◌≤◌, ◌<◌, min, Bool, true, false, not, ◌&&◌, ◌||◌, cond, ltb, List, [], ◌∷◌, filter, length, Option, Some, None, refl, sym, ap, ◌∙◌, arith}
-use Rattle.std.specs.List.{sum_by}
-use Rattle.std.proofs.lemmas.Bool.{lt-ltb, ltb-true, le-leb}
-use Rattle.std.proofs.lemmas.List.Filters.{sum_by-filter_both}
-use Rattle.std.proofs.lemmas.List.Sums.{sum_by-cons, sum_by-le-sum_by}
-use Rattle.amt_values.specs.declared.address.Ip.{Ip}
-use Rattle.amt_values.specs.Order.{ip_order}
-use Rattle.amt_values.specs.Ascending.{ascending}
-use Rattle.source_filter.specs.Filter.{FilterValue}
-use Rattle.source_filter.specs.declared.record.Record.{Record}
-use Rattle.group_records.specs.Written.{is_of_family, report_length}
-use Rattle.group_records.specs.declared.family.Family.{Family}
-use Rattle.socket_merge.specs.FullReport.{farewell, full_on, full_report_of, is_recent, longest_farewell, states}
-use Rattle.socket_merge.specs.History.{AcceptedCall, Close, LeaveAll, Socket, groups_opened, latest, open_sockets}
-use Rattle.socket_merge.specs.Interface.{filters_on, interface, is_wanted, left_at, on_group}
-use Rattle.socket_merge.specs.Kept.{has_place_by, octets_in, raw_octets, tally_of}
-use Rattle.socket_merge.specs.Refusal.{may_be_due, raw_report_length}
-use Rattle.socket_merge.specs.declared.stored.Tally.{Tally}
-use Rattle.socket_merge.proofs.Amounts.{has_name, part}
-use Rattle.socket_merge.proofs.Counted.{Counts, Counts-of, amount, is_wanted-counted, listing, one, wanting_few}
-use Rattle.socket_merge.proofs.HoldsAfter.{Stands, read_at}
-use Rattle.socket_merge.proofs.RawOctets.{IsLess, due_earlier, raw-by_groups, raw_octets-le}
-use Rattle.socket_merge.proofs.Reports.{flat_map-filter, octets_of_record, sum_by-flat_map, sum_by-mapped}
-use Rattle.socket_merge.proofs.Wanted.{length-merged, source_number}
+use Rattle.std.{proofs.{Common.{◌≡◌, ℕ, ◌+◌, ◌≤◌, ◌<◌, min, Bool, true, false, not, ◌&&◌, ◌||◌, cond, ltb, List, [], ◌∷◌, filter, length, Option, Some, None, refl, sym, ap, ◌∙◌, arith}, lemmas.{Bool.{lt-ltb, ltb-true, le-leb}, List.{Filters.{sum_by-filter_both}, Sums.{sum_by-cons, sum_by-le-sum_by}}}}, specs.List.{sum_by}}
+use Rattle.amt_values.specs.{declared.address.Ip.{Ip}, Order.{ip_order}, Ascending.{ascending}}
+use Rattle.source_filter.specs.{Filter.{FilterValue}, declared.record.Record.{Record}}
+use Rattle.group_records.specs.{Written.{is_of_family, report_length}, declared.family.Family.{Family}}
+use Rattle.socket_merge.specs.{FullReport.{farewell, full_on, full_report_of, is_recent, longest_farewell, states}, History.{AcceptedCall, Close, LeaveAll, Socket, groups_opened, latest, open_sockets}, Interface.{filters_on, interface, is_wanted, left_at, on_group}, Kept.{has_place_by, octets_in, raw_octets, tally_of}, Refusal.{may_be_due, raw_report_length}}
+use Rattle.socket_merge.{specs.declared.stored.Tally.{Tally}, proofs.{Amounts.{has_name, part}, Counted.{Counts, Counts-of, amount, is_wanted-counted, listing, one, wanting_few}, HoldsAfter.{Stands, read_at}, RawOctets.{IsLess, due_earlier, raw-by_groups, raw_octets-le}, Reports.{flat_map-filter, octets_of_record, sum_by-flat_map, sum_by-mapped}, Wanted.{length-merged, source_number}}}
 
 -- what a group comes to by the history: its open sockets, and when it was left
 abbrev pub tally_in : List AcceptedCall → Ip → Tally

@@ -1,37 +1,14 @@
 -- A General Query that a relay writes is read as the fields that it wrote.
 use Rattle.std.proofs.Common.{◌≡◌, ℕ, ◌*◌, ◌%◌, ◌<◌, ◌≤◌, Bool, true, false, List, [], length, Option, None, Ok, refl, sym, ap, subst, ◌∙◌, arith, rules}
 use Rattle.std.proofs.lemmas.Bool.{le-ltb}
-use Rattle.amt_values.specs.Conditions.{unless}
-use Rattle.amt_values.proofs.ConditionLaws.{first_holding-none, skips_same}
-use Rattle.amt_values.specs.Octets.{AreOctets}
-use Rattle.amt_values.specs.declared.address.Ip.{Ip}
-use Rattle.amt_values.specs.declared.address.Ip.TheVariants.{V4, V6}
-use Rattle.source_filter.specs.declared.fault.ReportFault.{ReportFault}
-use Rattle.source_filter.specs.declared.query.QueryFields.{QueryFields}
-use Rattle.source_filter.specs.declared.query.QueryRead.{QueryRead}
-use Rattle.inner_datagrams.specs.Inner.{IsInner}
-use Rattle.inner_datagrams.specs.Reading.{inner_at, payload_in}
-use Rattle.inner_datagrams.specs.declared.inner.InnerFault.{InnerFault}
-use Rattle.inner_datagrams.proofs.Faults.{IsLawful-inner}
-use Rattle.inner_datagrams.proofs.Octets.{AreOctets-from_each}
-use Rattle.inner_datagrams.proofs.Parts.{AreOctets-append}
-use Rattle.inner_datagrams.proofs.ReadBack.{IsInner4-written_inner4, IsInner6-written_inner6}
-use Rattle.inner_datagrams.proofs.Readings.{answer_payload}
-use Rattle.group_records.specs.declared.family.Family.{Family}
-use Rattle.group_records.specs.declared.family.Family.TheVariants.{V4 as Igmp, V6 as Mld}
-use Rattle.group_records.specs.Query.{IsGeneralQuery, IsQuery, first_query_fault, general_query as general_query_with, least_query_length, query_faults, query_of, query_values, query_with_sum}
-use Rattle.group_records.proofs.WrittenQuery.{IsGeneralQuery-written_query, length-written_query}
-use Rattle.igmp_records.specs.Code.{code_of}
-use Rattle.igmp_records.specs.Query.{written_query4}
-use Rattle.mld_records.specs.Code.{code_of as mld_code_of}
-use Rattle.mld_records.specs.PseudoHeader.{pseudo_header}
-use Rattle.mld_records.specs.Query.{written_query6}
+use Rattle.amt_values.{specs.{Conditions.{unless}, Octets.{AreOctets}, declared.address.Ip.{Ip, TheVariants.{V4, V6}}}, proofs.ConditionLaws.{first_holding-none, skips_same}}
+use Rattle.source_filter.specs.declared.{fault.ReportFault.{ReportFault}, query.{QueryFields.{QueryFields}, QueryRead.{QueryRead}}}
+use Rattle.inner_datagrams.{specs.{Inner.{IsInner}, Reading.{inner_at, payload_in}, declared.inner.InnerFault.{InnerFault}}, proofs.{Faults.{IsLawful-inner}, Octets.{AreOctets-from_each}, Parts.{AreOctets-append}, ReadBack.{IsInner4-written_inner4, IsInner6-written_inner6}, Readings.{answer_payload}}}
+use Rattle.group_records.{specs.{declared.family.Family.{Family, TheVariants.{V4 as Igmp, V6 as Mld}}, Query.{IsGeneralQuery, IsQuery, first_query_fault, general_query as general_query_with, least_query_length, query_faults, query_of, query_values, query_with_sum}}, proofs.WrittenQuery.{IsGeneralQuery-written_query, length-written_query}}
+use Rattle.igmp_records.specs.{Code.{code_of}, Query.{written_query4}}
+use Rattle.mld_records.specs.{Code.{code_of as mld_code_of}, PseudoHeader.{pseudo_header}, Query.{written_query6}}
 use Rattle.gateway_machine.specs.General.{carried_query, general_fields, general_query_in}
-use Rattle.relay_machine.specs.declared.number_key.NumberKey.TheVariants.{Robustness}
-use Rattle.relay_machine.specs.declared.settings.Settings.{Settings}
-use Rattle.relay_machine.specs.Queries.{all_nodes, all_systems, general_query, query_fields}
-use Rattle.relay_machine.specs.Settings.{AreLawfulSettings, HasCode, HasMldCode}
-use Rattle.relay_machine.proofs.Times.{found_code, found_mld_code}
+use Rattle.relay_machine.{specs.{declared.{number_key.NumberKey.TheVariants.{Robustness}, settings.Settings.{Settings}}, Queries.{all_nodes, all_systems, general_query, query_fields}, Settings.{AreLawfulSettings, HasCode, HasMldCode}}, proofs.Times.{found_code, found_mld_code}}
 use Rattle.amt_pair.specs.Queries.{HasQuerySources}
 
 -- a query of these values has no fault

@@ -1,35 +1,14 @@
 -- A report that a gateway writes is read as the records that it wrote.
-use Rattle.std.proofs.Common.{◌≡◌, ℕ, ◌+◌, ◌%◌, ◌^◌, ◌<◌, ◌≤◌, true, List, [], ◌∷◌, ◌++◌, length, Ok, refl, sym, ap, subst, ◌∙◌, append-nil, arith, rules}
-use Rattle.std.specs.List.{All, flat_map}
-use Rattle.std.proofs.Math.Nat.{mod-lt}
-use Rattle.byteorder.specs.Endian.{big_bytes, big_from}
-use Rattle.byteorder.specs.Numbers.{big_from-bytes, length-bytes_high_first}
-use Rattle.amt_values.specs.Octets.{AreOctets}
-use Rattle.amt_values.specs.declared.address.Ip.{Ip}
-use Rattle.amt_values.specs.declared.address.Ip.TheVariants.{V4, V6}
-use Rattle.amt_values.proofs.NetworkOrder.{AreOctets-bytes_high_first, bytes_high_first-big_from}
-use Rattle.source_filter.specs.declared.record.Record.{Record}
-use Rattle.source_filter.specs.declared.record.RecordKind.{RecordKind}
-use Rattle.source_filter.specs.declared.record.RecordKind.TheVariants.{IsIn, IsEx, ToIn, ToEx, Allow, Block}
-use Rattle.inner_datagrams.specs.Inner.{IsInner4, IsInner6}
-use Rattle.inner_datagrams.specs.Written.{hop_by_hop_header, written_inner4, written_inner6}
-use Rattle.inner_datagrams.specs.Checksum.{internet_sum_of}
-use Rattle.inner_datagrams.proofs.Octets.{AreOctets-from_each}
-use Rattle.inner_datagrams.proofs.Parts.{AreOctets-append}
-use Rattle.inner_datagrams.proofs.ReadBack.{IsInner4-written_inner4, IsInner6-written_inner6}
-use Rattle.group_records.specs.declared.family.Family.{Family}
-use Rattle.group_records.specs.declared.family.Family.TheVariants.{V4 as Igmp, V6 as Mld}
-use Rattle.group_records.specs.Family.{report_type}
-use Rattle.group_records.specs.Report.{IsReport}
-use Rattle.group_records.specs.Written.{HasFittingAddresses, IsOfFamily, address_octets, is_of_family, kind_number, report_length, report_with_sum, written_record}
-use Rattle.group_records.proofs.WrittenReport.{IsReport-written_report, length-written_report}
+use Rattle.std.{proofs.{Common.{◌≡◌, ℕ, ◌+◌, ◌%◌, ◌^◌, ◌<◌, ◌≤◌, true, List, [], ◌∷◌, ◌++◌, length, Ok, refl, sym, ap, subst, ◌∙◌, append-nil, arith, rules}, Math.Nat.{mod-lt}}, specs.List.{All, flat_map}}
+use Rattle.byteorder.specs.{Endian.{big_bytes, big_from}, Numbers.{big_from-bytes, length-bytes_high_first}}
+use Rattle.amt_values.{specs.{Octets.{AreOctets}, declared.address.Ip.{Ip, TheVariants.{V4, V6}}}, proofs.NetworkOrder.{AreOctets-bytes_high_first, bytes_high_first-big_from}}
+use Rattle.source_filter.specs.declared.record.{Record.{Record}, RecordKind.{RecordKind, TheVariants.{IsIn, IsEx, ToIn, ToEx, Allow, Block}}}
+use Rattle.inner_datagrams.{specs.{Inner.{IsInner4, IsInner6}, Written.{hop_by_hop_header, written_inner4, written_inner6}, Checksum.{internet_sum_of}}, proofs.{Octets.{AreOctets-from_each}, Parts.{AreOctets-append}, ReadBack.{IsInner4-written_inner4, IsInner6-written_inner6}}}
+use Rattle.group_records.{specs.{declared.family.Family.{Family, TheVariants.{V4 as Igmp, V6 as Mld}}, Family.{report_type}, Report.{IsReport}, Written.{HasFittingAddresses, IsOfFamily, address_octets, is_of_family, kind_number, report_length, report_with_sum, written_record}}, proofs.WrittenReport.{IsReport-written_report, length-written_report}}
 use Rattle.igmp_records.specs.Report.{written_report4}
-use Rattle.mld_records.specs.PseudoHeader.{pseudo_header}
-use Rattle.mld_records.specs.Report.{report_length6, written_report6}
+use Rattle.mld_records.specs.{PseudoHeader.{pseudo_header}, Report.{report_length6, written_report6}}
 use Rattle.gateway_machine.specs.Reports.{igmp_routers, mld_routers, report_datagram}
-use Rattle.relay_machine.specs.Lawful.{IsLawful}
-use Rattle.relay_machine.specs.Updates.{report_in}
-use Rattle.relay_machine.proofs.Lawful.{report_in-lawful}
+use Rattle.relay_machine.{specs.{Lawful.{IsLawful}, Updates.{report_in}}, proofs.Lawful.{report_in-lawful}}
 use Rattle.amt_pair.proofs.ReadQueries.{AreOctets-pseudo_header, even-pseudo_header}
 
 -- ---- what stands in a report is octets

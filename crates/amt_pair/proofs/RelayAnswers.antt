@@ -1,34 +1,13 @@
 -- A relay that sends something enters nothing in its log.
 use Rattle.std.proofs.Common.{◌≡◌, ◌≢◌, ℕ, Bool, true, false, List, [], Option, Some, None, Result, Ok, Err, refl, ap}
-use Rattle.amt_values.specs.Endpoint.{endpoint_of}
-use Rattle.amt_values.specs.EndpointValue.{EndpointValue}
-use Rattle.amt_messages.specs.declared.message.Message.{Message}
-use Rattle.amt_messages.specs.declared.message.Message.TheVariants.{Discovery, Advertisement, Request, Query, Update, Multicast, Teardown}
-use Rattle.amt_messages.specs.declared.refusal.Refused.{Refused}
-use Rattle.amt_messages.specs.Refusal.{message_of}
+use Rattle.amt_values.specs.{Endpoint.{endpoint_of}, EndpointValue.{EndpointValue}}
+use Rattle.amt_messages.specs.{declared.{message.Message.{Message, TheVariants.{Discovery, Advertisement, Request, Query, Update, Multicast, Teardown}}, refusal.Refused.{Refused}}, Refusal.{message_of}}
 use Rattle.inner_datagrams.specs.declared.head.Head.{Head}
 use Rattle.source_filter.specs.declared.record.Record.{Record}
-use Rattle.response_mac.specs.ResponseMac.{is_good}
-use Rattle.response_mac.specs.declared.secret.Secret.{Secret}
-use Rattle.response_mac.specs.declared.secrets.Secrets.{Secrets}
-use Rattle.endpoint_membership.specs.Memberships.{is_live}
-use Rattle.endpoint_membership.specs.Table.{limit_passed, memberships_now}
-use Rattle.endpoint_membership.specs.declared.change.Change.{Change}
-use Rattle.endpoint_membership.specs.declared.change.Change.TheVariants.{Reported}
-use Rattle.endpoint_membership.specs.declared.limits.LimitFault.{LimitFault}
-use Rattle.relay_machine.specs.Accepted.{accepted_log, change_of, handed_out}
-use Rattle.relay_machine.specs.Answers.{sends_of}
-use Rattle.relay_machine.specs.EventAnswer.{EventAnswer, datagram_answer, event_answer, limited_answer, message_answer, packet_answer, teardown_answer, update_answer}
-use Rattle.relay_machine.specs.EventSize.{IsPayload}
-use Rattle.relay_machine.specs.Events.{now_of, secrets_of}
-use Rattle.relay_machine.specs.Packets.{head_to_copy, targets_at}
-use Rattle.relay_machine.specs.Settings.{table_settings_of}
-use Rattle.relay_machine.specs.Updates.{forwardable_records, report_in}
-use Rattle.relay_machine.specs.declared.event.Event.{Event}
-use Rattle.relay_machine.specs.declared.event.Event.TheVariants.{Moment, Datagram, Packet, Rotate}
-use Rattle.relay_machine.specs.declared.outcome.Outcome.{Outcome}
-use Rattle.relay_machine.specs.declared.outcome.Unlawful.{Unlawful as Fault}
-use Rattle.relay_machine.specs.declared.settings.Settings.{Settings}
+use Rattle.response_mac.specs.{ResponseMac.{is_good}, declared.{secret.Secret.{Secret}, secrets.Secrets.{Secrets}}}
+use Rattle.endpoint_membership.specs.{Memberships.{is_live}, Table.{limit_passed, memberships_now}, declared.{change.Change.{Change, TheVariants.{Reported}}, limits.LimitFault.{LimitFault}}}
+use Rattle.relay_machine.specs.{Accepted.{accepted_log, change_of, handed_out}, Answers.{sends_of}, EventAnswer.{EventAnswer, datagram_answer, event_answer, limited_answer, message_answer, packet_answer, teardown_answer, update_answer}, EventSize.{IsPayload}, Events.{now_of, secrets_of}}
+use Rattle.relay_machine.specs.{Packets.{head_to_copy, targets_at}, Settings.{table_settings_of}, Updates.{forwardable_records, report_in}, declared.{event.Event.{Event, TheVariants.{Moment, Datagram, Packet, Rotate}}, outcome.{Outcome.{Outcome}, Unlawful.{Unlawful as Fault}}, settings.Settings.{Settings}}}
 
 -- the answer sends nothing, or enters nothing
 abbrev SendsOrEnters : EventAnswer → Type 0

@@ -1,52 +1,14 @@
 -- What the entry is that a datagram of a gateway makes at the relay.
-use Rattle.std.proofs.Common.{◌≡◌, ℕ, ◌≤◌, ◌⊎◌, eqb, eqb-true, Bool, true, false, cond, List, length, Option, Some, None, Result, Ok, Err, refl, sym, ap, subst, ◌∙◌, arith, inl, inr}
-use Rattle.std.proofs.lemmas.Bool.{and_parts, cases_Bool, cond-false, cond-true}
-use Rattle.std.proofs.lemmas.Map.Views.{tells_apart}
-use Rattle.std.specs.Ordering.{eq_by_cmp}
-use Rattle.amt_values.specs.Endpoint.{endpoint_of}
-use Rattle.amt_values.specs.EndpointValue.{EndpointValue}
-use Rattle.amt_values.specs.Order.{ip_order}
-use Rattle.amt_values.specs.declared.mac.Mac48.{Mac48}
-use Rattle.amt_values.specs.declared.peer.Peer.{Peer}
-use Rattle.amt_values.proofs.OnePeer.{one_peer}
-use Rattle.amt_values.proofs.Orders.{endpoint_order-exact, ip_order-exact}
-use Rattle.amt_messages.specs.Layout.{spelling_of}
-use Rattle.amt_messages.specs.Refusal.{message_of}
-use Rattle.amt_messages.specs.declared.message.Message.{Message}
-use Rattle.amt_messages.specs.declared.message.Message.TheVariants.{Discovery, Advertisement, Request, Query, Update, Multicast, Teardown}
-use Rattle.amt_messages.specs.declared.refusal.Refused.{Refused}
+use Rattle.std.{proofs.{Common.{◌≡◌, ℕ, ◌≤◌, ◌⊎◌, eqb, eqb-true, Bool, true, false, cond, List, length, Option, Some, None, Result, Ok, Err, refl, sym, ap, subst, ◌∙◌, arith, inl, inr}, lemmas.{Bool.{and_parts, cases_Bool, cond-false, cond-true}, Map.Views.{tells_apart}}}, specs.Ordering.{eq_by_cmp}}
+use Rattle.amt_values.{specs.{Endpoint.{endpoint_of}, EndpointValue.{EndpointValue}, Order.{ip_order}, declared.{mac.Mac48.{Mac48}, peer.Peer.{Peer}}}, proofs.{OnePeer.{one_peer}, Orders.{endpoint_order-exact, ip_order-exact}}}
+use Rattle.amt_messages.specs.{Layout.{spelling_of}, Refusal.{message_of}, declared.{message.Message.{Message, TheVariants.{Discovery, Advertisement, Request, Query, Update, Multicast, Teardown}}, refusal.Refused.{Refused}}}
 use Rattle.inner_datagrams.specs.declared.head.Head.{Head}
-use Rattle.response_mac.specs.ResponseMac.{is_good}
-use Rattle.response_mac.specs.declared.secret.Secret.{Secret}
-use Rattle.response_mac.specs.declared.secrets.Secrets.{Secrets}
+use Rattle.response_mac.specs.{ResponseMac.{is_good}, declared.{secret.Secret.{Secret}, secrets.Secrets.{Secrets}}}
 use Rattle.source_filter.specs.declared.record.Record.{Record}
-use Rattle.endpoint_membership.specs.EndpointGroup.{same_endpoint}
-use Rattle.endpoint_membership.specs.Log.{brought}
-use Rattle.endpoint_membership.specs.Memberships.{is_live}
-use Rattle.endpoint_membership.specs.Table.{limit_passed, memberships_now}
-use Rattle.endpoint_membership.specs.declared.change.Change.{Change}
-use Rattle.endpoint_membership.specs.declared.change.Change.TheVariants.{Clear, Reported}
-use Rattle.endpoint_membership.specs.declared.limits.LimitFault.{LimitFault}
+use Rattle.endpoint_membership.specs.{EndpointGroup.{same_endpoint}, Log.{brought}, Memberships.{is_live}, Table.{limit_passed, memberships_now}, declared.{change.Change.{Change, TheVariants.{Clear, Reported}}, limits.LimitFault.{LimitFault}}}
 use Rattle.gateway_machine.specs.Answers.{same_peer}
-use Rattle.relay_machine.specs.Accepted.{accepted_log, entry_of}
-use Rattle.relay_machine.specs.EventAnswer.{datagram_answer, limited_answer, message_answer, packet_answer, teardown_answer, update_answer}
-use Rattle.relay_machine.specs.Events.{now_of, secrets_of}
-use Rattle.relay_machine.specs.Settings.{table_settings_of}
-use Rattle.relay_machine.specs.Updates.{forwardable_records, report_in}
-use Rattle.relay_machine.specs.declared.event.Event.{Event}
-use Rattle.relay_machine.specs.declared.outcome.Outcome.{Outcome}
-use Rattle.relay_machine.specs.declared.outcome.Unlawful.{Unlawful}
-use Rattle.relay_machine.specs.declared.settings.Settings.{Settings}
-use Rattle.amt_pair.specs.Agreement.{report_from}
-use Rattle.amt_pair.specs.Entries.{is_change_of}
-use Rattle.amt_pair.specs.Schedule.{Upward, delivery_up}
-use Rattle.amt_pair.specs.Sent.{Sent, SentReport, report_by as report_as, report_of, report_with}
-use Rattle.amt_pair.specs.Setup.{IsPeer}
-use Rattle.amt_pair.proofs.Follows.{IsEntryOf}
-use Rattle.amt_pair.proofs.HeardQueries.{same_peer-itself}
-use Rattle.amt_pair.proofs.OwnTurns.{IsPassed, forwardable-all}
-use Rattle.amt_pair.proofs.SpelledKinds.{same-kind, update-inner}
-use Rattle.amt_pair.proofs.Upwards.{IsUpward}
+use Rattle.relay_machine.specs.{Accepted.{accepted_log, entry_of}, EventAnswer.{datagram_answer, limited_answer, message_answer, packet_answer, teardown_answer, update_answer}, Events.{now_of, secrets_of}, Settings.{table_settings_of}, Updates.{forwardable_records, report_in}, declared.{event.Event.{Event}, outcome.{Outcome.{Outcome}, Unlawful.{Unlawful}}, settings.Settings.{Settings}}}
+use Rattle.amt_pair.{specs.{Agreement.{report_from}, Entries.{is_change_of}, Schedule.{Upward, delivery_up}, Sent.{Sent, SentReport, report_by as report_as, report_of, report_with}, Setup.{IsPeer}}, proofs.{Follows.{IsEntryOf}, HeardQueries.{same_peer-itself}, OwnTurns.{IsPassed, forwardable-all}, SpelledKinds.{same-kind, update-inner}, Upwards.{IsUpward}}}
 
 -- ---- peers and endpoints that are told to be one are one
 

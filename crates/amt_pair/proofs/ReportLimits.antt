@@ -1,23 +1,11 @@
 -- A full report after accepted calls is one datagram, whatever the older calls were.
-use Rattle.std.proofs.Common.{◌≡◌, ℕ, ◌≤◌, Bool, true, false, not, cond, List, [], ◌∷◌, length, map, Option, Some, None, refl, sym, subst, arith}
-use Rattle.std.specs.List.{All, find}
-use Rattle.std.proofs.lemmas.List.Elements.{All-append, All-cons, All-filter, All-head, All-nil, All-tail}
-use Rattle.amt_values.specs.Conditions.{first_holding}
-use Rattle.amt_values.proofs.ConditionLaws.{skipped}
-use Rattle.amt_values.specs.declared.address.Ip.{Ip}
+use Rattle.std.{proofs.{Common.{◌≡◌, ℕ, ◌≤◌, Bool, true, false, not, cond, List, [], ◌∷◌, length, map, Option, Some, None, refl, sym, subst, arith}, lemmas.List.Elements.{All-append, All-cons, All-filter, All-head, All-nil, All-tail}}, specs.List.{All, find}}
+use Rattle.amt_values.{specs.{Conditions.{first_holding}, declared.address.Ip.{Ip}}, proofs.ConditionLaws.{skipped}}
 use Rattle.source_filter.specs.Filter.{FilterValue}
-use Rattle.group_records.specs.declared.family.Family.{Family}
-use Rattle.group_records.specs.Written.{is_of_family, report_length}
-use Rattle.socket_merge.specs.FullReport.{full_report_of}
-use Rattle.socket_merge.specs.History.{AcceptedCall, Change, Close, LeaveAll, Open, Socket, SocketCall, latest, open_sockets, refiltered, same_name, sockets_after, with_call}
-use Rattle.socket_merge.specs.Refusal.{change_conditions, is_open, family_of, limits_after, raw_report_length, raw_sources, refusal_of}
-use Rattle.socket_merge.specs.declared.fault.SocketFault.TheVariants.{Taken}
-use Rattle.socket_merge.proofs.Amounts.{has_name, some_is, with_filter}
-use Rattle.socket_merge.proofs.HoldsAfter.{read_at}
-use Rattle.socket_merge.proofs.RawOctets.{family_is}
-use Rattle.socket_merge.proofs.Refused.{IsWithin-of}
-use Rattle.amt_pair.proofs.AcceptedCalls.{AreAccepted, MayCall}
-use Rattle.amt_pair.proofs.RawReports.{TakesAway-close, TakesAway-leave_all, full-within_raw, raw-empty, raw-taken}
+use Rattle.group_records.specs.{declared.family.Family.{Family}, Written.{is_of_family, report_length}}
+use Rattle.socket_merge.specs.{FullReport.{full_report_of}, History.{AcceptedCall, Change, Close, LeaveAll, Open, Socket, SocketCall, latest, open_sockets, refiltered, same_name, sockets_after, with_call}}
+use Rattle.socket_merge.{specs.{Refusal.{change_conditions, is_open, family_of, limits_after, raw_report_length, raw_sources, refusal_of}, declared.fault.SocketFault.TheVariants.{Taken}}, proofs.{Amounts.{has_name, some_is, with_filter}, HoldsAfter.{read_at}, RawOctets.{family_is}, Refused.{IsWithin-of}}}
+use Rattle.amt_pair.proofs.{AcceptedCalls.{AreAccepted, MayCall}, RawReports.{TakesAway-close, TakesAway-leave_all, full-within_raw, raw-empty, raw-taken}}
 
 -- the socket's group is of the family
 abbrev pub IsSocketOf : Family → Socket → Type 0

@@ -1,33 +1,10 @@
 -- The addresses of the records of a full report, and of those of a change.
-use Rattle.std.proofs.Common.{◌≡◌, ℕ, ◌<◌, ◌&&◌, ◌/◌, ◌%◌, ◌^◌, ◌==◌, not, nat_lt, Bool, true, false, List, [], ◌∷◌, filter, if◌then◌else◌, refl, arith}
-use Rattle.std.specs.List.{All, flat_map}
-use Rattle.std.specs.Ordering.{match_ordering}
-use Rattle.std.specs.declared.cmp.Ordering.{Ordering}
-use Rattle.std.specs.declared.cmp.Ordering.TheVariants.{Less, Equal, Greater}
-use Rattle.std.proofs.lemmas.Bool.{eqb-true}
-use Rattle.std.proofs.lemmas.List.Elements.{All-append, All-cons, All-filter, All-head, All-nil, All-tail, All-weaker}
-use Rattle.amt_values.specs.Address.{IsAddress}
-use Rattle.amt_values.specs.Group.{is_forwardable}
-use Rattle.amt_values.specs.Order.{ip_order}
-use Rattle.amt_values.specs.declared.address.Ip.{Ip}
-use Rattle.amt_values.specs.declared.address.Ip.TheVariants.{V4, V6}
-use Rattle.amt_values.specs.Ascending.{ascending, placed}
-use Rattle.source_filter.specs.Changes.{changes_on}
-use Rattle.source_filter.specs.Filter.{FilterValue}
-use Rattle.source_filter.specs.declared.record.Record.{Record}
-use Rattle.source_filter.specs.declared.record.RecordKind.{RecordKind}
-use Rattle.source_filter.specs.declared.record.RecordKind.TheVariants.{ToIn}
-use Rattle.group_records.specs.Written.{FitsOctets, HasFittingAddresses, IsOfFamily, is_of_family}
-use Rattle.group_records.specs.declared.family.Family.{Family}
-use Rattle.socket_merge.specs.Changes.{change_records}
-use Rattle.socket_merge.specs.FullReport.{farewell, full_on, full_report_of, groups_of, is_recent, state_kind, states}
-use Rattle.socket_merge.specs.History.{AcceptedCall, groups_opened, open_sockets}
-use Rattle.socket_merge.specs.Interface.{filters_on, interface, is_wanted, left_at}
-use Rattle.socket_merge.proofs.Wanted.{All-merged}
-use Rattle.amt_pair.proofs.AcceptedCalls.{AreAccepted}
-use Rattle.amt_pair.proofs.InterfaceFilters.{filters-of}
-use Rattle.amt_pair.proofs.OpenSockets.{HaveFilters, IsFilterOf, IsGroupOf, groups-of}
-use Rattle.amt_pair.proofs.ReportedRecords.{All-changes_on}
+use Rattle.std.{proofs.{Common.{◌≡◌, ℕ, ◌<◌, ◌&&◌, ◌/◌, ◌%◌, ◌^◌, ◌==◌, not, nat_lt, Bool, true, false, List, [], ◌∷◌, filter, if◌then◌else◌, refl, arith}, lemmas.{Bool.{eqb-true}, List.Elements.{All-append, All-cons, All-filter, All-head, All-nil, All-tail, All-weaker}}}, specs.{List.{All, flat_map}, Ordering.{match_ordering}, declared.cmp.Ordering.{Ordering, TheVariants.{Less, Equal, Greater}}}}
+use Rattle.amt_values.specs.{Address.{IsAddress}, Group.{is_forwardable}, Order.{ip_order}, declared.address.Ip.{Ip, TheVariants.{V4, V6}}, Ascending.{ascending, placed}}
+use Rattle.source_filter.specs.{Changes.{changes_on}, Filter.{FilterValue}, declared.record.{Record.{Record}, RecordKind.{RecordKind, TheVariants.{ToIn}}}}
+use Rattle.group_records.specs.{Written.{FitsOctets, HasFittingAddresses, IsOfFamily, is_of_family}, declared.family.Family.{Family}}
+use Rattle.socket_merge.{specs.{Changes.{change_records}, FullReport.{farewell, full_on, full_report_of, groups_of, is_recent, state_kind, states}, History.{AcceptedCall, groups_opened, open_sockets}, Interface.{filters_on, interface, is_wanted, left_at}}, proofs.Wanted.{All-merged}}
+use Rattle.amt_pair.proofs.{AcceptedCalls.{AreAccepted}, InterfaceFilters.{filters-of}, OpenSockets.{HaveFilters, IsFilterOf, IsGroupOf, groups-of}, ReportedRecords.{All-changes_on}}
 
 -- the record may stand in a report of the family
 pub record MayStand (family : Family) (group_record : Record) : Type 0 where

@@ -1,34 +1,11 @@
 -- The records of a full report, and those of a change, by group.
-use Rattle.std.proofs.Common.{◌≡◌, ◌≢◌, ℕ, not, ◌&&◌, ◌||◌, Bool, true, false, cond, List, [], ◌∷◌, ◌++◌, filter, Option, if◌then◌else◌, refl, sym, ap, subst, ◌∙◌, append-nil}
-use Rattle.std.specs.List.{All, flat_map}
-use Rattle.std.specs.List.Sorted.{IsStrictlySortedBy}
-use Rattle.std.proofs.lemmas.List.Elements.{All-append, All-cons, All-filter, All-head, All-nil, All-tail, filter-append}
-use Rattle.amt_values.specs.Order.{ip_order}
-use Rattle.amt_values.specs.declared.address.Ip.{Ip}
-use Rattle.amt_values.proofs.Orders.{ip_order-exact, ip_order-total}
-use Rattle.amt_values.specs.Ascending.{IsAscending, ascending, has}
-use Rattle.amt_values.proofs.AscendingLaws.{IsAscending-ascending, IsAscending-filter, has-ascending, has-filter}
-use Rattle.source_filter.specs.Changes.{changes_by, changes_on, record_of_some}
-use Rattle.source_filter.specs.Filter.{FilterValue, nothing}
-use Rattle.source_filter.specs.declared.mode.Mode.{Mode}
-use Rattle.source_filter.specs.declared.mode.Mode.TheVariants.{Include, Exclude}
-use Rattle.source_filter.specs.declared.record.Record.{Record}
-use Rattle.source_filter.specs.declared.record.RecordKind.{RecordKind}
-use Rattle.source_filter.specs.declared.record.RecordKind.TheVariants.{Allow, Block}
-use Rattle.group_records.specs.Written.{is_of_family}
-use Rattle.group_records.specs.declared.family.Family.{Family}
+use Rattle.std.{proofs.{Common.{◌≡◌, ◌≢◌, ℕ, not, ◌&&◌, ◌||◌, Bool, true, false, cond, List, [], ◌∷◌, ◌++◌, filter, Option, if◌then◌else◌, refl, sym, ap, subst, ◌∙◌, append-nil}, lemmas.List.Elements.{All-append, All-cons, All-filter, All-head, All-nil, All-tail, filter-append}}, specs.List.{All, flat_map, Sorted.{IsStrictlySortedBy}}}
+use Rattle.amt_values.{specs.{Order.{ip_order}, declared.address.Ip.{Ip}, Ascending.{IsAscending, ascending, has}}, proofs.{Orders.{ip_order-exact, ip_order-total}, AscendingLaws.{IsAscending-ascending, IsAscending-filter, has-ascending, has-filter}}}
+use Rattle.source_filter.specs.{Changes.{changes_by, changes_on, record_of_some}, Filter.{FilterValue, nothing}, declared.mode.Mode.{Mode, TheVariants.{Include, Exclude}}, declared.record.{Record.{Record}, RecordKind.{RecordKind, TheVariants.{Allow, Block}}}}
+use Rattle.group_records.specs.{Written.{is_of_family}, declared.family.Family.{Family}}
 use Rattle.endpoint_membership.specs.Log.{on_group}
-use Rattle.socket_merge.specs.Changes.{change_records}
-use Rattle.socket_merge.specs.FullReport.{farewell, full_on, full_report_of, groups_of, is_recent, states}
-use Rattle.socket_merge.specs.History.{AcceptedCall, groups_opened}
-use Rattle.socket_merge.specs.Interface.{interface, is_wanted, left_at, same_group}
-use Rattle.socket_merge.proofs.ByGroup.{flat_map-same}
-use Rattle.socket_merge.proofs.RawOctets.{never_left, unwanted}
-use Rattle.socket_merge.proofs.Wanted.{same_group-exact, same_group-itself}
-use Rattle.amt_pair.proofs.AcceptedCalls.{AreAccepted}
-use Rattle.amt_pair.proofs.InterfaceFilters.{changes-itself, interface-ascends, interface-unopened, same-filter, unopened-before}
-use Rattle.amt_pair.proofs.OpenSockets.{HaveFilters, IsGroupOf, groups-of}
-use Rattle.amt_pair.proofs.Tunnel.{IsChanged, IsFull}
+use Rattle.socket_merge.{specs.{Changes.{change_records}, FullReport.{farewell, full_on, full_report_of, groups_of, is_recent, states}, History.{AcceptedCall, groups_opened}, Interface.{interface, is_wanted, left_at, same_group}}, proofs.{ByGroup.{flat_map-same}, RawOctets.{never_left, unwanted}, Wanted.{same_group-exact, same_group-itself}}}
+use Rattle.amt_pair.proofs.{AcceptedCalls.{AreAccepted}, InterfaceFilters.{changes-itself, interface-ascends, interface-unopened, same-filter, unopened-before}, OpenSockets.{HaveFilters, IsGroupOf, groups-of}, Tunnel.{IsChanged, IsFull}}
 
 -- ---- records by group
 

@@ -1,24 +1,9 @@
 -- A run of a gateway is a run of turns of a tunnel, so its farewells are kept.
-use Rattle.std.proofs.Common.{◌≡◌, ℕ, ◌<◌, ◌^◌, List, [], ◌∷◌, ◌++◌, reverse, Option, Some, refl, sym, ap, subst, ◌∙◌, append_assoc}
-use Rattle.std.specs.List.{All, filter_map}
-use Rattle.std.proofs.lemmas.List.{reverse-append, reverse-reverse}
-use Rattle.std.proofs.lemmas.List.Elements.{All-head, All-nil, All-push, All-tail, filter_map-append}
+use Rattle.std.{proofs.{Common.{◌≡◌, ℕ, ◌<◌, ◌^◌, List, [], ◌∷◌, ◌++◌, reverse, Option, Some, refl, sym, ap, subst, ◌∙◌, append_assoc}, lemmas.List.{reverse-append, reverse-reverse, Elements.{All-head, All-nil, All-push, All-tail, filter_map-append}}}, specs.List.{All, filter_map}}
 use Rattle.amt_values.specs.EndpointValue.{EndpointValue}
-use Rattle.gateway_machine.specs.Runs.{Run, run_of, with_event}
-use Rattle.gateway_machine.specs.Settings.{HasSourceOfFamily}
-use Rattle.gateway_machine.specs.declared.event.GatewayEvent.{GatewayEvent}
-use Rattle.gateway_machine.specs.declared.settings.GatewaySettings.{GatewaySettings}
-use Rattle.gateway_machine.proofs.Runs.{run_of-append, run_of-nil}
-use Rattle.amt_pair.specs.Events.{AreEventsOf, MayHappen}
-use Rattle.amt_pair.specs.Sent.{Sent, SentReport, report_of, sent_back, sent_in, sent_on}
-use Rattle.amt_pair.specs.Silence.{ComesBefore, KeepsFarewells}
-use Rattle.amt_pair.proofs.Listed.{reverse-cons}
-use Rattle.amt_pair.proofs.MayTurns.{may-turn}
-use Rattle.amt_pair.proofs.SoundRuns.{sound-start, sound-step}
-use Rattle.amt_pair.proofs.StepTurns.{seen}
-use Rattle.amt_pair.proofs.Tunnel.{MayCome, MayTurn, Tunnel, Turn, after, happens}
-use Rattle.amt_pair.proofs.TunnelSettled.{farewells_between}
-use Rattle.amt_pair.proofs.Turns.{IsSoundRun, MayTurns, happen, reports_on, see, turns}
+use Rattle.gateway_machine.{specs.{Runs.{Run, run_of, with_event}, Settings.{HasSourceOfFamily}, declared.{event.GatewayEvent.{GatewayEvent}, settings.GatewaySettings.{GatewaySettings}}}, proofs.Runs.{run_of-append, run_of-nil}}
+use Rattle.amt_pair.{specs.{Events.{AreEventsOf, MayHappen}, Sent.{Sent, SentReport, report_of, sent_back, sent_in, sent_on}, Silence.{ComesBefore, KeepsFarewells}}, proofs.{Listed.{reverse-cons}, MayTurns.{may-turn}}}
+use Rattle.amt_pair.proofs.{SoundRuns.{sound-start, sound-step}, StepTurns.{seen}, Tunnel.{MayCome, MayTurn, Tunnel, Turn, after, happens}, TunnelSettled.{farewells_between}, Turns.{IsSoundRun, MayTurns, happen, reports_on, see, turns}}
 
 -- the turns of a run, newest first, by its events, newest first
 abbrev pub turns_back : GatewaySettings → ℕ → List GatewayEvent → List Turn

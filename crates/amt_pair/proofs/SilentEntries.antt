@@ -1,18 +1,8 @@
 -- Entries that say no more of a pair than that its group is left admit nothing there.
-use Rattle.std.proofs.Common.{◌≡◌, ℕ, ◌+◌, ◌<◌, ◌≤◌, max, Bool, true, false, cond, ltb, not, List, [], ◌∷◌, ◌++◌, reverse, All, refl, sym, ap, subst, ◌∙◌, arith}
-use Rattle.std.proofs.lemmas.Bool.{ltb-true}
-use Rattle.std.proofs.lemmas.List.{append_assoc, reverse-append, reverse-reverse}
-use Rattle.std.proofs.lemmas.List.Elements.{All-head}
+use Rattle.std.proofs.{Common.{◌≡◌, ℕ, ◌+◌, ◌<◌, ◌≤◌, max, Bool, true, false, cond, ltb, not, List, [], ◌∷◌, ◌++◌, reverse, All, refl, sym, ap, subst, ◌∙◌, arith}, lemmas.{Bool.{ltb-true}, List.{append_assoc, reverse-append, reverse-reverse, Elements.{All-head}}}}
 use Rattle.amt_values.specs.declared.address.Ip.{Ip}
-use Rattle.source_filter.specs.declared.record.Record.{Record}
-use Rattle.source_filter.specs.declared.record.RecordKind.{RecordKind}
-use Rattle.source_filter.specs.declared.record.RecordKind.TheVariants.{ToIn}
-use Rattle.endpoint_membership.specs.Admission.{is_admitted}
-use Rattle.endpoint_membership.specs.EndpointGroup.{EndpointGroup}
-use Rattle.endpoint_membership.specs.GroupFilter.{records_admit}
-use Rattle.endpoint_membership.specs.Log.{is_empty, latest, live_chain, records_at}
-use Rattle.endpoint_membership.specs.declared.change.Change.{Change}
-use Rattle.endpoint_membership.proofs.HoldsAfter.{latest-push, latest-reverse}
+use Rattle.source_filter.specs.declared.record.{Record.{Record}, RecordKind.{RecordKind, TheVariants.{ToIn}}}
+use Rattle.endpoint_membership.{specs.{Admission.{is_admitted}, EndpointGroup.{EndpointGroup}, GroupFilter.{records_admit}, Log.{is_empty, latest, live_chain, records_at}, declared.change.Change.{Change}}, proofs.HoldsAfter.{latest-push, latest-reverse}}
 use Rattle.amt_pair.specs.Silence.{IsLeaving, IsSilent}
 
 leaving_by : (kind : RecordKind) (group : Ip) (sources : List Ip) (older : List Record) (source : Ip) → kind ≡ ToIn → sources ≡ []

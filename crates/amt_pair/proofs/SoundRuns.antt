@@ -1,45 +1,14 @@
 -- What holds of a gateway's exchange and socket calls in every run of events that may happen.
-use Rattle.std.proofs.Common.{◌≡◌, ℕ, ◌+◌, ◌%◌, ◌^◌, ◌<◌, ◌≤◌, ◌==◌, ◌||◌, nat_lt, Bool, true, false, List, [], ◌∷◌, Option, Some, None, Result, Ok, Err, if◌then◌else◌, is_some, refl, ap, subst, arith}
-use Rattle.std.proofs.Math.Nat.{mod-lt}
-use Rattle.amt_values.specs.EndpointValue.{EndpointValue}
-use Rattle.amt_values.specs.declared.address.Ip.{Ip}
-use Rattle.amt_values.specs.declared.mac.Mac48.{Mac48}
-use Rattle.amt_values.specs.declared.peer.Peer.{Peer}
-use Rattle.amt_messages.specs.Refusal.{message_of}
-use Rattle.amt_messages.specs.declared.message.Message.{Message}
-use Rattle.amt_messages.specs.declared.message.Message.TheVariants.{Discovery, Advertisement, Request, Query, Update, Multicast, Teardown}
-use Rattle.amt_messages.specs.declared.refusal.Refused.{Refused}
-use Rattle.source_filter.specs.declared.query.QueryFields.{QueryFields}
-use Rattle.source_filter.specs.declared.record.Record.{Record}
+use Rattle.std.proofs.{Common.{◌≡◌, ℕ, ◌+◌, ◌%◌, ◌^◌, ◌<◌, ◌≤◌, ◌==◌, ◌||◌, nat_lt, Bool, true, false, List, [], ◌∷◌, Option, Some, None, Result, Ok, Err, if◌then◌else◌, is_some, refl, ap, subst, arith}, Math.Nat.{mod-lt}}
+use Rattle.amt_values.specs.{EndpointValue.{EndpointValue}, declared.{address.Ip.{Ip}, mac.Mac48.{Mac48}, peer.Peer.{Peer}}, Conditions.{Conditions, first_holding}}
+use Rattle.amt_messages.specs.{Refusal.{message_of}, declared.{message.Message.{Message, TheVariants.{Discovery, Advertisement, Request, Query, Update, Multicast, Teardown}}, refusal.Refused.{Refused}}}
+use Rattle.source_filter.specs.{declared.query.QueryFields.{QueryFields}, declared.record.Record.{Record}}
 use Rattle.group_records.specs.declared.family.Family.{Family}
-use Rattle.socket_merge.specs.Changes.{change_records}
-use Rattle.socket_merge.specs.FullReport.{is_quiet}
-use Rattle.socket_merge.specs.History.{AcceptedCall, Change, Close, LeaveAll, Open, Socket, SocketCall, latest, open_sockets, socket_named, with_call}
-use Rattle.amt_values.specs.Conditions.{Conditions, first_holding}
-use Rattle.socket_merge.specs.Refusal.{change_conditions, conditions_of, refusal_of}
-use Rattle.socket_merge.proofs.Amounts.{some_is}
-use Rattle.socket_merge.specs.declared.fault.SocketFault.{SocketFault}
+use Rattle.socket_merge.{specs.{Changes.{change_records}, FullReport.{is_quiet}, History.{AcceptedCall, Change, Close, LeaveAll, Open, Socket, SocketCall, latest, open_sockets, socket_named, with_call}, Refusal.{change_conditions, conditions_of, refusal_of}, declared.fault.SocketFault.{SocketFault}}, proofs.Amounts.{some_is}}
 use Rattle.gateway_machine.specs.Answers.{Answer, accepted_answer, advertisement_answer, answer_at, asked_relay, begin_with, call_answer, call_by, call_in, cause_heard, changed_answer, datagram_answer, due_answer, event_answer, fields_heard, history_by, if_accepted, is_idle, is_opening, joined_relay, packet_by, query_by, refusal_at}
-use Rattle.gateway_machine.specs.Exchange.{moved, requesting}
-use Rattle.gateway_machine.specs.Laws.{HasRelay}
-use Rattle.gateway_machine.specs.Refusals.{refusal_by, refusal_in}
-use Rattle.gateway_machine.specs.Runs.{Run, run_of, with_event}
-use Rattle.gateway_machine.specs.Settings.{family_of}
-use Rattle.gateway_machine.specs.Timing.{farewell_ms}
-use Rattle.gateway_machine.specs.declared.event.GatewayEvent.{GatewayEvent}
-use Rattle.gateway_machine.specs.declared.event.GatewayEvent.TheVariants.{Moment, Nonce as Draws, Datagram, Open as Opens, Change as Changes, Close as Closes, LeaveAll as LeavesAll}
-use Rattle.gateway_machine.specs.declared.exchange.Exchange.{Exchange}
-use Rattle.gateway_machine.specs.declared.exchange.GatewayState.{GatewayState}
-use Rattle.gateway_machine.specs.declared.exchange.GatewayState.TheVariants.{Idle as InIdle, Discovering as InDiscovering, Requesting as InRequesting, Active as InActive}
-use Rattle.gateway_machine.specs.declared.outcome.Ignored.{Ignored}
-use Rattle.gateway_machine.specs.declared.outcome.SocketRefusal.{SocketRefusal}
-use Rattle.gateway_machine.specs.declared.settings.GatewaySettings.{GatewaySettings}
-use Rattle.gateway_machine.proofs.Runs.{run_of-nil}
-use Rattle.gateway_machine.proofs.Steady.{early-after, moment-later}
-use Rattle.amt_pair.specs.Events.{IsEvent, MayHappen}
-use Rattle.amt_pair.proofs.AcceptedCalls.{AreAccepted, MayCall}
-use Rattle.amt_pair.proofs.OpenSockets.{HasFilter, HaveFilters}
-use Rattle.amt_pair.proofs.Turns.{IsReady, IsSoundRun}
+use Rattle.gateway_machine.specs.{Exchange.{moved, requesting}, Laws.{HasRelay}, Refusals.{refusal_by, refusal_in}, Runs.{Run, run_of, with_event}, Settings.{family_of}, Timing.{farewell_ms}, declared.event.GatewayEvent.{GatewayEvent, TheVariants.{Moment, Nonce as Draws, Datagram, Open as Opens, Change as Changes, Close as Closes, LeaveAll as LeavesAll}}}
+use Rattle.gateway_machine.{specs.declared.{exchange.{Exchange.{Exchange}, GatewayState.{GatewayState, TheVariants.{Idle as InIdle, Discovering as InDiscovering, Requesting as InRequesting, Active as InActive}}}, outcome.{Ignored.{Ignored}, SocketRefusal.{SocketRefusal}}, settings.GatewaySettings.{GatewaySettings}}, proofs.{Runs.{run_of-nil}, Steady.{early-after, moment-later}}}
+use Rattle.amt_pair.{specs.Events.{IsEvent, MayHappen}, proofs.{AcceptedCalls.{AreAccepted, MayCall}, OpenSockets.{HasFilter, HaveFilters}, Turns.{IsReady, IsSoundRun}}}
 
 -- ---- the exchange
 
@@ -53,12 +22,6 @@ Goes answer = IsReady answer.next
 
 next-nonce : (nonce : ℕ) → (nonce + 1) % 2 ^ 32 < 2 ^ 32
 next-nonce nonce = mod-lt (nonce + 1) (omega arith)
-
-known-relay : (state : GatewayState) (relay : Option Peer) → (peer : Peer) × (relay ≡ Some peer) → HasRelay state relay
-known-relay InIdle relay known = tt
-known-relay InDiscovering relay known = tt
-known-relay InRequesting relay known = known
-known-relay InActive relay known = known
 
 -- a Request is sent to a relay that is known
 ready-requesting : (exchange : Exchange) → (peer : Peer) × (exchange.relay ≡ Some peer) → IsReady exchange → IsReady (requesting exchange)

@@ -1,22 +1,8 @@
 -- What is read of the octets that spell a message: it is of the message's own type.
-use Rattle.std.proofs.Common.{◌≡◌, ℕ, ◌%◌, ◌<◌, ◌≤◌, ◌^◌, ◌||◌, Bool, true, false, if◌then◌else◌, List, [], ◌++◌, drop, length, slice_index, Option, Some, None, Ok, refl, sym, ap, subst, ◌∙◌, arith, length-take-le, length-drop, append-nil, append_assoc}
-use Rattle.std.proofs.Math.Nat.{div-eq_of_lt, mod-lt}
-use Rattle.std.proofs.lemmas.List.{drop-drop, drop_at}
-use Rattle.byteorder.specs.Endian.{big_bytes, big_number}
-use Rattle.byteorder.specs.Numbers.{big_from-bytes, length-bytes_high_first}
-use Rattle.amt_values.specs.Address.{IsAddress, has_ipv4_prefix, is_compatible, is_mapped, number_of}
-use Rattle.amt_values.specs.Endpoint.{endpoint_of}
-use Rattle.amt_values.specs.EndpointValue.{EndpointValue}
-use Rattle.amt_values.specs.declared.address.Ip.{Ip}
-use Rattle.amt_values.specs.declared.address.Ip.TheVariants.{V4, V6}
-use Rattle.amt_values.specs.declared.mac.Mac48.{Mac48}
-use Rattle.amt_values.specs.declared.peer.Peer.{Peer}
-use Rattle.amt_messages.specs.Layout.{Spells, spelling_of}
-use Rattle.amt_messages.specs.Messages.{IsGateway}
-use Rattle.amt_messages.specs.Refusal.{message_of}
-use Rattle.amt_messages.specs.declared.message.Message.{Message}
-use Rattle.amt_messages.specs.declared.message.Message.TheVariants.{Discovery, Advertisement, Request, Query, Update, Multicast, Teardown}
-use Rattle.amt_messages.proofs.Unrefused.{read_is_spelled}
+use Rattle.std.proofs.{Common.{◌≡◌, ℕ, ◌%◌, ◌<◌, ◌≤◌, ◌^◌, ◌||◌, Bool, true, false, if◌then◌else◌, List, [], ◌++◌, drop, length, slice_index, Option, Some, None, Ok, refl, sym, ap, subst, ◌∙◌, arith, length-take-le, length-drop, append-nil, append_assoc}, Math.Nat.{div-eq_of_lt, mod-lt}, lemmas.List.{drop-drop, drop_at}}
+use Rattle.byteorder.specs.{Endian.{big_bytes, big_number}, Numbers.{big_from-bytes, length-bytes_high_first}}
+use Rattle.amt_values.specs.{Address.{IsAddress, has_ipv4_prefix, is_compatible, is_mapped, number_of}, Endpoint.{endpoint_of}, EndpointValue.{EndpointValue}, declared.{address.Ip.{Ip, TheVariants.{V4, V6}}, mac.Mac48.{Mac48}, peer.Peer.{Peer}}}
+use Rattle.amt_messages.{specs.{Layout.{Spells, spelling_of}, Messages.{IsGateway}, Refusal.{message_of}, declared.message.Message.{Message, TheVariants.{Discovery, Advertisement, Request, Query, Update, Multicast, Teardown}}}, proofs.Unrefused.{read_is_spelled}}
 use Rattle.amt_pair.specs.Setup.{IsPeer}
 
 -- the number of a message's type

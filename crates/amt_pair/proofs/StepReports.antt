@@ -1,34 +1,13 @@
 -- The reports among what a gateway sends with an event.
-use Rattle.std.proofs.Common.{◌≡◌, ℕ, ◌≤◌, Bool, true, false, List, [], ◌∷◌, ◌++◌, map, reverse, Option, Some, None, Ok, refl, ap, ◌∙◌}
-use Rattle.std.specs.List.{All, filter_map}
-use Rattle.std.proofs.lemmas.List.{map-append}
-use Rattle.std.proofs.lemmas.List.Elements.{All-weaker, filter_map-append}
-use Rattle.amt_values.specs.EndpointValue.{EndpointValue}
-use Rattle.amt_values.specs.declared.mac.Mac48.{Mac48}
-use Rattle.amt_values.specs.declared.peer.Peer.{Peer}
+use Rattle.std.{proofs.{Common.{◌≡◌, ℕ, ◌≤◌, Bool, true, false, List, [], ◌∷◌, ◌++◌, map, reverse, Option, Some, None, Ok, refl, ap, ◌∙◌}, lemmas.List.{map-append, Elements.{All-weaker, filter_map-append}}}, specs.List.{All, filter_map}}
+use Rattle.amt_values.specs.{EndpointValue.{EndpointValue}, declared.{mac.Mac48.{Mac48}, peer.Peer.{Peer}}}
 use Rattle.amt_messages.specs.declared.message.Message.TheVariants.{Request, Teardown, Update}
 use Rattle.source_filter.specs.declared.record.Record.{Record}
-use Rattle.group_records.specs.Written.{HasFittingAddresses, IsOfFamily, report_length}
-use Rattle.group_records.specs.declared.family.Family.{Family}
-use Rattle.socket_merge.specs.Changes.{change_records}
-use Rattle.socket_merge.specs.History.{AcceptedCall, latest}
-use Rattle.gateway_machine.specs.Reports.{full_records, report_datagram, same_endpoint, teardown, teardown_by, teardown_if, update, update_by}
-use Rattle.gateway_machine.specs.Sends.{Sending, to_relay}
-use Rattle.gateway_machine.specs.Settings.{HasSourceOfFamily, family_of}
-use Rattle.gateway_machine.specs.Timing.{farewell_ms}
-use Rattle.gateway_machine.specs.declared.exchange.Exchange.{Exchange}
-use Rattle.gateway_machine.specs.declared.exchange.LastQuery.{LastQuery}
-use Rattle.gateway_machine.specs.declared.settings.GatewaySettings.{GatewaySettings}
+use Rattle.group_records.specs.{Written.{HasFittingAddresses, IsOfFamily, report_length}, declared.family.Family.{Family}}
+use Rattle.socket_merge.specs.{Changes.{change_records}, History.{AcceptedCall, latest}}
+use Rattle.gateway_machine.specs.{Reports.{full_records, report_datagram, same_endpoint, teardown, teardown_by, teardown_if, update, update_by}, Sends.{Sending, to_relay}, Settings.{HasSourceOfFamily, family_of}, Timing.{farewell_ms}, declared.{exchange.{Exchange.{Exchange}, LastQuery.{LastQuery}}, settings.GatewaySettings.{GatewaySettings}}}
 use Rattle.relay_machine.specs.Updates.{report_in}
-use Rattle.amt_pair.specs.Sent.{Sent, SentReport, report_of}
-use Rattle.amt_pair.proofs.AcceptedCalls.{AreAccepted}
-use Rattle.amt_pair.proofs.ChangeLimits.{short-change}
-use Rattle.amt_pair.proofs.OpenSockets.{HaveFilters}
-use Rattle.amt_pair.proofs.ReadReports.{report_in-report_datagram}
-use Rattle.amt_pair.proofs.ReportLimits.{short_reports}
-use Rattle.amt_pair.proofs.ReportedAddresses.{MayStand, changed-may_stand, full-may_stand}
-use Rattle.amt_pair.proofs.Tunnel.{Made, send}
-use Rattle.amt_pair.proofs.Turns.{tunnel_of}
+use Rattle.amt_pair.{specs.Sent.{Sent, SentReport, report_of}, proofs.{AcceptedCalls.{AreAccepted}, ChangeLimits.{short-change}, OpenSockets.{HaveFilters}, ReadReports.{report_in-report_datagram}, ReportLimits.{short_reports}, ReportedAddresses.{MayStand, changed-may_stand, full-may_stand}, Tunnel.{Made, send}, Turns.{tunnel_of}}}
 
 -- the reports among these messages, in order, by the exchange and the socket calls after the event
 abbrev pub reports_in : Exchange → List AcceptedCall → List Sending → List SentReport

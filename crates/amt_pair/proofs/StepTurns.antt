@@ -1,46 +1,16 @@
 -- Each step of a gateway is at most two turns of a tunnel.
-use Rattle.std.proofs.Common.{◌≡◌, ℕ, ◌≤◌, ◌==◌, ◌||◌, max, nat_lt, Bool, true, false, List, [], ◌∷◌, ◌++◌, reverse, Option, Some, None, Result, Ok, Err, if◌then◌else◌, refl, sym, ap, subst, ◌∙◌, append_assoc, arith}
-use Rattle.std.proofs.lemmas.List.{reverse-append}
-use Rattle.amt_values.specs.EndpointValue.{EndpointValue}
-use Rattle.amt_values.specs.declared.address.Ip.{Ip}
-use Rattle.amt_values.specs.declared.mac.Mac48.{Mac48}
-use Rattle.amt_values.specs.declared.peer.Peer.{Peer}
-use Rattle.amt_messages.specs.Refusal.{message_of}
-use Rattle.amt_messages.specs.declared.message.Message.{Message}
-use Rattle.amt_messages.specs.declared.message.Message.TheVariants.{Discovery, Advertisement, Request, Query, Update, Multicast, Teardown}
-use Rattle.amt_messages.specs.declared.refusal.Refused.{Refused}
-use Rattle.source_filter.specs.declared.query.QueryFields.{QueryFields}
-use Rattle.source_filter.specs.declared.record.Record.{Record}
-use Rattle.socket_merge.specs.Changes.{change_records}
-use Rattle.socket_merge.specs.FullReport.{is_quiet}
-use Rattle.socket_merge.specs.History.{AcceptedCall, Change, Close, LeaveAll, Open, SocketCall, latest, with_call}
+use Rattle.std.proofs.{Common.{◌≡◌, ℕ, ◌≤◌, ◌==◌, ◌||◌, max, nat_lt, Bool, true, false, List, [], ◌∷◌, ◌++◌, reverse, Option, Some, None, Result, Ok, Err, if◌then◌else◌, refl, sym, ap, subst, ◌∙◌, append_assoc, arith}, lemmas.List.{reverse-append}}
+use Rattle.amt_values.specs.{EndpointValue.{EndpointValue}, declared.{address.Ip.{Ip}, mac.Mac48.{Mac48}, peer.Peer.{Peer}}}
+use Rattle.amt_messages.specs.{Refusal.{message_of}, declared.{message.Message.{Message, TheVariants.{Discovery, Advertisement, Request, Query, Update, Multicast, Teardown}}, refusal.Refused.{Refused}}}
+use Rattle.source_filter.specs.{declared.query.QueryFields.{QueryFields}, declared.record.Record.{Record}}
+use Rattle.socket_merge.specs.{Changes.{change_records}, FullReport.{is_quiet}, History.{AcceptedCall, Change, Close, LeaveAll, Open, SocketCall, latest, with_call}}
 use Rattle.gateway_machine.specs.Answers.{Answer, accepted_answer, advertisement_answer, answer_at, ask, asked_relay, begin_with, call_answer, call_by, cause_heard, changed_answer, datagram_answer, due_answer, fields_heard, history_by, if_accepted, ignored, is_idle, is_opening, joined_relay, packet_by, query_accepted, query_by, query_kept, quiet, refusal_at}
-use Rattle.gateway_machine.specs.Exchange.{active, moved, relay_named, requesting, retried}
-use Rattle.gateway_machine.specs.Laws.{HasQuery, HasRelay}
-use Rattle.gateway_machine.specs.Reports.{full_records, full_report, teardown, update}
-use Rattle.gateway_machine.specs.Runs.{Run, with_event}
-use Rattle.gateway_machine.specs.Settings.{HasSourceOfFamily, family_of}
-use Rattle.gateway_machine.specs.Timing.{farewell_ms, last_lifetime}
-use Rattle.gateway_machine.specs.declared.event.GatewayEvent.{GatewayEvent}
-use Rattle.gateway_machine.specs.declared.event.GatewayEvent.TheVariants.{Moment, Nonce as Draws, Datagram, Open as Opens, Change as GetsFilter, Close as Closes, LeaveAll as LeavesAll}
-use Rattle.gateway_machine.specs.declared.exchange.Exchange.{Exchange}
-use Rattle.gateway_machine.specs.declared.exchange.GatewayState.{GatewayState}
-use Rattle.gateway_machine.specs.declared.exchange.GatewayState.TheVariants.{Idle as InIdle, Discovering as InDiscovering, Requesting as InRequesting, Active as InActive}
-use Rattle.gateway_machine.specs.declared.exchange.LastQuery.{LastQuery}
-use Rattle.gateway_machine.specs.declared.outcome.GatewayOutcome.{GatewayOutcome}
-use Rattle.gateway_machine.specs.declared.outcome.GatewayOutcome.TheVariants.{Kept}
-use Rattle.gateway_machine.specs.declared.outcome.Ignored.{Ignored}
-use Rattle.gateway_machine.specs.declared.outcome.Ignored.TheVariants.{Kind, Undecoded}
-use Rattle.gateway_machine.specs.declared.outcome.SocketRefusal.{SocketRefusal}
-use Rattle.gateway_machine.specs.declared.settings.GatewaySettings.{GatewaySettings}
-use Rattle.amt_pair.specs.Events.{MayHappen}
-use Rattle.amt_pair.specs.Sent.{SentReport}
-use Rattle.amt_pair.proofs.AcceptedCalls.{AreAccepted, MayCall}
-use Rattle.amt_pair.proofs.OpenSockets.{HasFilter, HaveFilters}
-use Rattle.amt_pair.proofs.SoundRuns.{filter-of, relay-heard, sound-call}
+use Rattle.gateway_machine.specs.{Exchange.{active, moved, relay_named, requesting, retried}, Laws.{HasQuery, HasRelay}, Reports.{full_records, full_report, teardown, update}, Runs.{Run, with_event}, Settings.{HasSourceOfFamily, family_of}, Timing.{farewell_ms, last_lifetime}}
+use Rattle.gateway_machine.specs.declared.{event.GatewayEvent.{GatewayEvent, TheVariants.{Moment, Nonce as Draws, Datagram, Open as Opens, Change as GetsFilter, Close as Closes, LeaveAll as LeavesAll}}, exchange.{Exchange.{Exchange}, GatewayState.{GatewayState}}}
+use Rattle.gateway_machine.specs.declared.{exchange.{GatewayState.TheVariants.{Idle as InIdle, Discovering as InDiscovering, Requesting as InRequesting, Active as InActive}, LastQuery.{LastQuery}}, outcome.{GatewayOutcome.{GatewayOutcome, TheVariants.{Kept}}, Ignored.{Ignored, TheVariants.{Kind, Undecoded}}, SocketRefusal.{SocketRefusal}}, settings.GatewaySettings.{GatewaySettings}}
+use Rattle.amt_pair.{specs.{Events.{MayHappen}, Sent.{SentReport}}, proofs.{AcceptedCalls.{AreAccepted, MayCall}, OpenSockets.{HasFilter, HaveFilters}, SoundRuns.{filter-of, relay-heard, sound-call}}}
 use Rattle.amt_pair.proofs.StepReports.{MayBeSent, changed-may_be_sent, full-may_be_sent, reported, reports-append, reports-request, reports-teardown, reports-update, reports_in, reverse-reported, send-is}
-use Rattle.amt_pair.proofs.Tunnel.{Keeps, Made, Tunnel, Turn, happens, send}
-use Rattle.amt_pair.proofs.Turns.{IsSoundRun, accepted_turn, call_turns, calling, changing_turn, datagram_turns, happen, is_accepted, is_active, moment_turns, reports_on, see, tunnel_of, turns}
+use Rattle.amt_pair.proofs.{Tunnel.{Keeps, Made, Tunnel, Turn, happens, send}, Turns.{IsSoundRun, accepted_turn, call_turns, calling, changing_turn, datagram_turns, happen, is_accepted, is_active, moment_turns, reports_on, see, tunnel_of, turns}}
 
 -- the tunnel after an answer
 abbrev after_answer : Answer → List AcceptedCall → List SentReport → List Made → Tunnel

@@ -1,34 +1,11 @@
 -- What a schedule shows of a gateway that was heard is told of its tunnel.
-use Rattle.std.proofs.Common.{◌≡◌, ℕ, ◌≤◌, max, cond, List, [], ◌∷◌, ◌++◌, map, reverse, All, Contains, Option, Some, None, refl, sym, ap, subst, ◌∙◌, arith, inl, inr}
-use Rattle.std.specs.List.{filter, filter_map}
-use Rattle.std.proofs.lemmas.Bool.{cases_Bool, cond-false, cond-true}
-use Rattle.std.proofs.lemmas.List.{map-append, reverse-reverse}
-use Rattle.std.proofs.lemmas.List.Elements.{All-contains}
-use Rattle.amt_values.specs.EndpointValue.{EndpointValue}
-use Rattle.amt_values.specs.declared.address.Ip.{Ip}
-use Rattle.amt_values.specs.declared.peer.Peer.{Peer}
-use Rattle.endpoint_membership.specs.GroupFilter.{records_admit}
-use Rattle.endpoint_membership.specs.Log.{brought, latest, live_chain}
-use Rattle.endpoint_membership.specs.declared.change.Change.{Change}
-use Rattle.endpoint_membership.specs.declared.change.Change.TheVariants.{Reported}
+use Rattle.std.{proofs.{Common.{◌≡◌, ℕ, ◌≤◌, max, cond, List, [], ◌∷◌, ◌++◌, map, reverse, All, Contains, Option, Some, None, refl, sym, ap, subst, ◌∙◌, arith, inl, inr}, lemmas.{Bool.{cases_Bool, cond-false, cond-true}, List.{map-append, reverse-reverse, Elements.{All-contains}}}}, specs.List.{filter, filter_map}}
+use Rattle.amt_values.specs.{EndpointValue.{EndpointValue}, declared.{address.Ip.{Ip}, peer.Peer.{Peer}}}
+use Rattle.endpoint_membership.specs.{GroupFilter.{records_admit}, Log.{brought, latest, live_chain}, declared.change.Change.{Change, TheVariants.{Reported}}}
 use Rattle.gateway_machine.specs.Laws.{last_of}
-use Rattle.relay_machine.specs.Accepted.{accepted_log}
-use Rattle.relay_machine.specs.Events.{now_of}
-use Rattle.relay_machine.specs.Settings.{membership_interval_ms}
-use Rattle.relay_machine.proofs.PublishedLog.{latest-accepted_log}
-use Rattle.amt_pair.specs.Agreement.{IsHeard, IsLastEntry, full_reports, is_of_endpoint, relay_admits, report_from}
-use Rattle.amt_pair.specs.Schedule.{Entry, Member, Upward, course_of}
-use Rattle.amt_pair.specs.Sent.{SentReport}
-use Rattle.amt_pair.specs.Setup.{PairSetup}
-use Rattle.amt_pair.specs.declared.event.PairEvent.{PairEvent}
-use Rattle.amt_pair.proofs.CourseLog.{changes_of}
-use Rattle.amt_pair.proofs.CourseSteps.{Stands}
-use Rattle.amt_pair.proofs.Follows.{made_for, made_of, member_of, report_by, shown}
-use Rattle.amt_pair.proofs.HeardQueries.{same_peer-itself}
-use Rattle.amt_pair.proofs.Listed.{last-passing, middle-cases, reverse-cons}
-use Rattle.amt_pair.proofs.PeerReports.{IsOther, reports_from}
-use Rattle.amt_pair.proofs.Tunnel.{IsTold, Made, Tunnel, admits_at, after, entries_of, last_by, last_made, latest_full}
-use Rattle.amt_pair.proofs.TunnelMade.{in_group}
+use Rattle.relay_machine.{specs.{Accepted.{accepted_log}, Events.{now_of}, Settings.{membership_interval_ms}}, proofs.PublishedLog.{latest-accepted_log}}
+use Rattle.amt_pair.{specs.{Agreement.{IsHeard, IsLastEntry, full_reports, is_of_endpoint, relay_admits, report_from}, Schedule.{Entry, Member, Upward, course_of}, Sent.{SentReport}, Setup.{PairSetup}, declared.event.PairEvent.{PairEvent}}, proofs.{CourseLog.{changes_of}, CourseSteps.{Stands}}}
+use Rattle.amt_pair.proofs.{Follows.{made_for, made_of, member_of, report_by, shown}, HeardQueries.{same_peer-itself}, Listed.{last-passing, middle-cases, reverse-cons}, PeerReports.{IsOther, reports_from}, Tunnel.{IsTold, Made, Tunnel, admits_at, after, entries_of, last_by, last_made, latest_full}, TunnelMade.{in_group}}
 
 -- ---- the latest full report
 

@@ -1,19 +1,11 @@
 -- A tunnel between a gateway and its relay, cut down to what decides whether both ends agree: each step of
 -- either end is at most two of eight turns, and all that is proved of an agreement is proved of these.
 use Rattle.std.proofs.Common.{◌≡◌, ◌≢◌, ℕ, ◌+◌, ◌<◌, ◌≤◌, ◌⊎◌, min, max, Bool, true, false, List, [], ◌∷◌, map, Contains, Option, Some, None, if◌then◌else◌}
-use Rattle.amt_values.specs.EndpointValue.{EndpointValue}
-use Rattle.amt_values.specs.declared.address.Ip.{Ip}
-use Rattle.source_filter.specs.Changes.{changes_on}
-use Rattle.source_filter.specs.declared.record.Record.{Record}
-use Rattle.endpoint_membership.specs.GroupFilter.{records_admit}
-use Rattle.endpoint_membership.specs.Log.{brought, is_empty, live_chain, on_group}
-use Rattle.endpoint_membership.specs.declared.change.Change.{Change}
-use Rattle.endpoint_membership.specs.declared.change.Change.TheVariants.{Clear, Reported}
-use Rattle.socket_merge.specs.FullReport.{full_on, longest_farewell}
-use Rattle.socket_merge.specs.History.{AcceptedCall, SocketCall, with_call}
-use Rattle.socket_merge.specs.Interface.{interface}
-use Rattle.amt_pair.specs.Entries.{is_change_of}
-use Rattle.amt_pair.specs.Sent.{SentReport}
+use Rattle.amt_values.specs.{EndpointValue.{EndpointValue}, declared.address.Ip.{Ip}}
+use Rattle.source_filter.specs.{Changes.{changes_on}, declared.record.Record.{Record}}
+use Rattle.endpoint_membership.specs.{GroupFilter.{records_admit}, Log.{brought, is_empty, live_chain, on_group}, declared.change.Change.{Change, TheVariants.{Clear, Reported}}}
+use Rattle.socket_merge.specs.{FullReport.{full_on, longest_farewell}, History.{AcceptedCall, SocketCall, with_call}, Interface.{interface}}
+use Rattle.amt_pair.specs.{Entries.{is_change_of}, Sent.{SentReport}}
 
 -- an entry of the relay's log, and the report that made it, where the gateway sent it
 pub record Made : Type 0 where

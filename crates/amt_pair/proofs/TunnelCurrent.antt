@@ -1,26 +1,12 @@
 -- While the gateway is Active, the relay admits what the gateway's sockets want now.
-use Rattle.std.proofs.Common.{◌≡◌, ℕ, ◌+◌, ◌≤◌, ◌⊎◌, max, true, false, cond, ltb, List, [], ◌∷◌, All, refl, sym, ap, subst, ◌∙◌, arith, inl, inr}
-use Rattle.std.proofs.lemmas.Bool.{cases_Bool, cond-true, ltb-false, ltb-true}
-use Rattle.std.proofs.lemmas.List.Elements.{All-head, All-same}
-use Rattle.amt_values.specs.EndpointValue.{EndpointValue}
-use Rattle.amt_values.specs.declared.address.Ip.{Ip}
-use Rattle.source_filter.specs.Filter.{FilterValue, admits}
-use Rattle.source_filter.specs.declared.mode.Mode.{Mode}
-use Rattle.source_filter.specs.declared.mode.Mode.TheVariants.{Include, Exclude}
-use Rattle.source_filter.specs.declared.record.Record.{Record}
-use Rattle.source_filter.specs.declared.record.RecordKind.TheVariants.{ToIn}
+use Rattle.std.proofs.{Common.{◌≡◌, ℕ, ◌+◌, ◌≤◌, ◌⊎◌, max, true, false, cond, ltb, List, [], ◌∷◌, All, refl, sym, ap, subst, ◌∙◌, arith, inl, inr}, lemmas.{Bool.{cases_Bool, cond-true, ltb-false, ltb-true}, List.Elements.{All-head, All-same}}}
+use Rattle.amt_values.specs.{EndpointValue.{EndpointValue}, declared.address.Ip.{Ip}}
+use Rattle.source_filter.specs.{Filter.{FilterValue, admits}, declared.mode.Mode.{Mode, TheVariants.{Include, Exclude}}, declared.record.{Record.{Record}, RecordKind.TheVariants.{ToIn}}}
 use Rattle.endpoint_membership.specs.Log.{is_empty, on_group}
-use Rattle.socket_merge.specs.FullReport.{farewell, full_on, is_recent, longest_farewell, state_kind, states}
-use Rattle.socket_merge.specs.History.{AcceptedCall}
-use Rattle.socket_merge.specs.Interface.{interface, is_wanted, left_at}
-use Rattle.amt_pair.specs.Sent.{SentReport}
-use Rattle.amt_pair.specs.Silence.{IsLeaving}
-use Rattle.amt_pair.proofs.MadeGood.{IsMadeGood, unnamed, unwanted-nothing}
+use Rattle.socket_merge.specs.{FullReport.{farewell, full_on, is_recent, longest_farewell, state_kind, states}, History.{AcceptedCall}, Interface.{interface, is_wanted, left_at}}
+use Rattle.amt_pair.{specs.{Sent.{SentReport}, Silence.{IsLeaving}}, proofs.MadeGood.{IsMadeGood, unnamed, unwanted-nothing}}
 use Rattle.amt_pair.proofs.Tunnel.{Answers, AreOfRelay, AreTimely, Changes, Clears, Delivers, Enters, IsFull, IsOfRelay, IsTold, Keeps, Leaves, MayCome, MayTurn, Moves, Tunnel, Turn, admits_at, after, called, happens, keep_of, send}
-use Rattle.amt_pair.proofs.TunnelMade.{made_by_turns}
-use Rattle.amt_pair.proofs.TunnelSent.{IsFullFirst, IsNewest-latest, IsReport, IsSent, changed_full, sent_by_turns}
-use Rattle.amt_pair.proofs.TunnelSettled.{IsReportMadeGood, IsSettled, settled}
-use Rattle.amt_pair.proofs.TunnelTimely.{ArePrompt, keep_holds, last_prompt, prompt_by_turns, told_all}
+use Rattle.amt_pair.proofs.{TunnelMade.{made_by_turns}, TunnelSent.{IsFullFirst, IsNewest-latest, IsReport, IsSent, changed_full, sent_by_turns}, TunnelSettled.{IsReportMadeGood, IsSettled, settled}, TunnelTimely.{ArePrompt, keep_holds, last_prompt, prompt_by_turns, told_all}}
 
 -- Of each group the interface is as when the report was sent, or the report was sent so long ago that no
 -- farewell lasts from then: in that case what it said was wanted was left since.

@@ -1,22 +1,9 @@
 -- The entries that the reports of a tunnel made in the log of its relay.
-use Rattle.std.proofs.Common.{◌≡◌, ℕ, ◌≤◌, max, Bool, true, false, cond, List, [], ◌∷◌, reverse, All, Contains, Option, Some, None, refl, ap, arith}
-use Rattle.std.specs.Ordering.{is_eq}
-use Rattle.std.proofs.lemmas.Bool.{cond-true}
-use Rattle.std.proofs.lemmas.Cmp.{tied_itself}
-use Rattle.std.proofs.lemmas.List.Elements.{All-cons, All-nil, All-same, All-weaker, Contains-append_right}
-use Rattle.amt_values.specs.EndpointValue.{EndpointValue}
-use Rattle.amt_values.specs.declared.address.Ip.{Ip}
-use Rattle.amt_values.proofs.Orders.{endpoint_order-total}
+use Rattle.std.{proofs.{Common.{◌≡◌, ℕ, ◌≤◌, max, Bool, true, false, cond, List, [], ◌∷◌, reverse, All, Contains, Option, Some, None, refl, ap, arith}, lemmas.{Bool.{cond-true}, Cmp.{tied_itself}, List.Elements.{All-cons, All-nil, All-same, All-weaker, Contains-append_right}}}, specs.Ordering.{is_eq}}
+use Rattle.amt_values.{specs.{EndpointValue.{EndpointValue}, declared.address.Ip.{Ip}}, proofs.Orders.{endpoint_order-total}}
 use Rattle.source_filter.specs.declared.record.Record.{Record}
-use Rattle.endpoint_membership.specs.EndpointGroup.{EndpointGroup, same_endpoint}
-use Rattle.endpoint_membership.specs.Log.{brought, latest, leaving, on_group, records_at}
-use Rattle.endpoint_membership.specs.declared.change.Change.{Change}
-use Rattle.endpoint_membership.specs.declared.change.Change.TheVariants.{Clear, Mark, Reported}
-use Rattle.amt_pair.specs.Entries.{is_change_of}
-use Rattle.amt_pair.specs.Sent.{SentReport}
-use Rattle.amt_pair.specs.Silence.{IsLeaving}
-use Rattle.amt_pair.proofs.Tunnel.{Answers, Changes, Clears, Delivers, Enters, Keeps, Leaves, Made, MayCome, MayTurn, Moves, Tunnel, Turn, after, called, entered, entries_of, happens, send}
-use Rattle.amt_pair.proofs.TunnelSettled.{report_now}
+use Rattle.endpoint_membership.specs.{EndpointGroup.{EndpointGroup, same_endpoint}, Log.{brought, latest, leaving, on_group, records_at}, declared.change.Change.{Change, TheVariants.{Clear, Mark, Reported}}}
+use Rattle.amt_pair.{specs.{Entries.{is_change_of}, Sent.{SentReport}, Silence.{IsLeaving}}, proofs.{Tunnel.{Answers, Changes, Clears, Delivers, Enters, Keeps, Leaves, Made, MayCome, MayTurn, Moves, Tunnel, Turn, after, called, entered, entries_of, happens, send}, TunnelSettled.{report_now}}}
 
 -- the endpoint in a group
 abbrev pub in_group : EndpointValue → Ip → EndpointGroup

@@ -1,27 +1,10 @@
 -- Of a group that the latest full report names, the relay admits what was wanted when it was sent.
-use Rattle.std.proofs.Common.{◌≡◌, ◌≢◌, ℕ, ◌+◌, ◌<◌, Bool, true, false, cond, List, [], ◌∷◌, reverse, map, All, Option, Some, None, refl, sym, ap, subst, ◌∙◌, arith, inl, inr}
-use Rattle.std.proofs.lemmas.Bool.{cases_Bool, cond-false, cond-true, lt-ltb}
-use Rattle.std.proofs.lemmas.List.Elements.{All-head, All-tail}
-use Rattle.amt_values.specs.EndpointValue.{EndpointValue}
-use Rattle.amt_values.specs.declared.address.Ip.{Ip}
-use Rattle.source_filter.specs.Filter.{FilterValue, admits, wants_any_by}
-use Rattle.source_filter.specs.declared.mode.Mode.{Mode}
-use Rattle.source_filter.specs.declared.mode.Mode.TheVariants.{Include, Exclude}
-use Rattle.source_filter.specs.declared.record.Record.{Record}
-use Rattle.endpoint_membership.specs.EndpointGroup.{EndpointGroup}
-use Rattle.endpoint_membership.specs.GroupFilter.{records_admit}
-use Rattle.endpoint_membership.specs.Log.{brought, latest, live_chain, on_group, records_at}
-use Rattle.endpoint_membership.specs.declared.change.Change.{Change}
-use Rattle.endpoint_membership.proofs.LiveChain.{live_chain-other}
-use Rattle.socket_merge.specs.FullReport.{farewell, full_on, is_recent, states}
-use Rattle.socket_merge.specs.History.{AcceptedCall}
-use Rattle.socket_merge.specs.Interface.{interface, is_wanted, left_at}
-use Rattle.amt_pair.specs.Entries.{is_change_of}
-use Rattle.amt_pair.specs.Sent.{SentReport}
-use Rattle.amt_pair.proofs.MadeGood.{admits-unwanted, filter_with}
-use Rattle.amt_pair.proofs.Tunnel.{AreOfRelay, IsTold, Last, Made, MayCome, Tunnel, Turn, admits_at, after, last_by, last_made}
-use Rattle.amt_pair.proofs.TunnelMade.{AreMade, IsMade, IsMadeBy, made_by_turns, in_group, records_at-other}
-use Rattle.amt_pair.proofs.TunnelSent.{IsNewest-latest, IsSent, sent_by_turns}
+use Rattle.std.proofs.{Common.{◌≡◌, ◌≢◌, ℕ, ◌+◌, ◌<◌, Bool, true, false, cond, List, [], ◌∷◌, reverse, map, All, Option, Some, None, refl, sym, ap, subst, ◌∙◌, arith, inl, inr}, lemmas.{Bool.{cases_Bool, cond-false, cond-true, lt-ltb}, List.Elements.{All-head, All-tail}}}
+use Rattle.amt_values.specs.{EndpointValue.{EndpointValue}, declared.address.Ip.{Ip}}
+use Rattle.source_filter.specs.{Filter.{FilterValue, admits, wants_any_by}, declared.mode.Mode.{Mode, TheVariants.{Include, Exclude}}, declared.record.Record.{Record}}
+use Rattle.endpoint_membership.{specs.{EndpointGroup.{EndpointGroup}, GroupFilter.{records_admit}, Log.{brought, latest, live_chain, on_group, records_at}, declared.change.Change.{Change}}, proofs.LiveChain.{live_chain-other}}
+use Rattle.socket_merge.specs.{FullReport.{farewell, full_on, is_recent, states}, History.{AcceptedCall}, Interface.{interface, is_wanted, left_at}}
+use Rattle.amt_pair.{specs.{Entries.{is_change_of}, Sent.{SentReport}}, proofs.{MadeGood.{admits-unwanted, filter_with}, Tunnel.{AreOfRelay, IsTold, Last, Made, MayCome, Tunnel, Turn, admits_at, after, last_by, last_made}, TunnelMade.{AreMade, IsMade, IsMadeBy, made_by_turns, in_group, records_at-other}, TunnelSent.{IsNewest-latest, IsSent, sent_by_turns}}}
 
 states-admit_by : (mode : Mode) (sources : List Ip) (group source : Ip) (older : List Record)
     → records_admit (states group (filter_with mode sources) ∷ older) source ≡ admits (filter_with mode sources) source

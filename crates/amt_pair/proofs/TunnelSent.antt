@@ -1,16 +1,10 @@
 -- What a gateway of a tunnel sends: the newest report is a full one, and each counts by the relay's lifetime.
-use Rattle.std.proofs.Common.{◌≡◌, ◌≢◌, ℕ, max, Bool, true, false, List, [], ◌∷◌, All, Some, refl, sym, ap, subst, ◌∙◌, arith}
-use Rattle.std.proofs.lemmas.Bool.{cond-true}
-use Rattle.std.proofs.lemmas.List.Elements.{All-cons, All-head, All-nil}
-use Rattle.amt_values.specs.EndpointValue.{EndpointValue}
-use Rattle.amt_values.specs.declared.address.Ip.{Ip}
+use Rattle.std.proofs.{Common.{◌≡◌, ◌≢◌, ℕ, max, Bool, true, false, List, [], ◌∷◌, All, Some, refl, sym, ap, subst, ◌∙◌, arith}, lemmas.{Bool.{cond-true}, List.Elements.{All-cons, All-head, All-nil}}}
+use Rattle.amt_values.specs.{EndpointValue.{EndpointValue}, declared.address.Ip.{Ip}}
 use Rattle.source_filter.specs.declared.record.Record.{Record}
 use Rattle.endpoint_membership.specs.Log.{is_empty, on_group}
 use Rattle.socket_merge.specs.History.{AcceptedCall, SocketCall, latest}
-use Rattle.amt_pair.specs.Sent.{SentReport}
-use Rattle.amt_pair.proofs.MadeGood.{full_on-changed}
-use Rattle.amt_pair.proofs.Tunnel.{Answers, AreOfRelay, Changes, Clears, Delivers, Enters, IsChanged, IsFull, IsOfRelay, Keeps, Leaves, MayCome, MayTurn, Moves, Tunnel, Turn, after, called, happens, keep_of, latest_full, send}
-use Rattle.amt_pair.proofs.TunnelSettled.{report_now}
+use Rattle.amt_pair.{specs.Sent.{SentReport}, proofs.{MadeGood.{full_on-changed}, Tunnel.{Answers, AreOfRelay, Changes, Clears, Delivers, Enters, IsChanged, IsFull, IsOfRelay, Keeps, Leaves, MayCome, MayTurn, Moves, Tunnel, Turn, after, called, happens, keep_of, latest_full, send}, TunnelSettled.{report_now}}}
 
 -- of reports, newest first: the newest is a full one
 abbrev pub IsFullFirst : List SentReport → Type 0

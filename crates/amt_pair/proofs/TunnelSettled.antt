@@ -1,19 +1,11 @@
 -- Farewells over the turns of a tunnel: where a full report doesn't name a group, no report that was sent before
 -- it, while farewells last, says more of the group than that it is left.
-use Rattle.std.proofs.Common.{◌≡◌, ℕ, ◌+◌, ◌<◌, ◌≤◌, ◌⊎◌, max, Bool, true, false, List, [], ◌∷◌, ◌++◌, All, sym, ◌∙◌, arith, inl, inr, subst}
-use Rattle.std.proofs.lemmas.List.Elements.{All-cons, All-contains, All-nil, All-weaker, Contains-append_left, Contains-append_right, Contains-push}
-use Rattle.amt_values.specs.EndpointValue.{EndpointValue}
-use Rattle.amt_values.specs.declared.address.Ip.{Ip}
-use Rattle.source_filter.specs.Changes.{changes_on}
-use Rattle.source_filter.specs.declared.record.Record.{Record}
+use Rattle.std.proofs.{Common.{◌≡◌, ℕ, ◌+◌, ◌<◌, ◌≤◌, ◌⊎◌, max, Bool, true, false, List, [], ◌∷◌, ◌++◌, All, sym, ◌∙◌, arith, inl, inr, subst}, lemmas.List.Elements.{All-cons, All-contains, All-nil, All-weaker, Contains-append_left, Contains-append_right, Contains-push}}
+use Rattle.amt_values.specs.{EndpointValue.{EndpointValue}, declared.address.Ip.{Ip}}
+use Rattle.source_filter.specs.{Changes.{changes_on}, declared.record.Record.{Record}}
 use Rattle.endpoint_membership.specs.Log.{on_group}
-use Rattle.socket_merge.specs.FullReport.{full_on, longest_farewell}
-use Rattle.socket_merge.specs.History.{AcceptedCall, SocketCall, latest}
-use Rattle.socket_merge.specs.Interface.{interface}
-use Rattle.amt_pair.specs.Sent.{SentReport}
-use Rattle.amt_pair.specs.Silence.{SayNothing}
-use Rattle.amt_pair.proofs.MadeGood.{IsMadeGood, IsMadeGood-call, IsMadeGood-changes, IsMadeGood-full, IsMadeGood-none, IsMadeGood-same}
-use Rattle.amt_pair.proofs.Tunnel.{Answers, Changes, Clears, Delivers, Enters, IsFull, Keeps, Leaves, MayCome, MayTurn, Moves, Tunnel, Turn, after, called, happens, keep_of, send}
+use Rattle.socket_merge.specs.{FullReport.{full_on, longest_farewell}, History.{AcceptedCall, SocketCall, latest}, Interface.{interface}}
+use Rattle.amt_pair.{specs.{Sent.{SentReport}, Silence.{SayNothing}}, proofs.{MadeGood.{IsMadeGood, IsMadeGood-call, IsMadeGood-changes, IsMadeGood-full, IsMadeGood-none, IsMadeGood-same}, Tunnel.{Answers, Changes, Clears, Delivers, Enters, IsFull, Keeps, Leaves, MayCome, MayTurn, Moves, Tunnel, Turn, after, called, happens, keep_of, send}}}
 
 -- none of these reports, if it was sent less than so long before the moment, says more of the group than that
 -- it is left

@@ -1,26 +1,13 @@
 -- Where each report is delivered at most a minute after it was sent, the relay admits of every group what was
 -- wanted when the latest full report was sent.
-use Rattle.std.proofs.Common.{◌≡◌, ◌≢◌, ℕ, ◌+◌, ◌<◌, ◌≤◌, ◌⊎◌, Bool, true, false, List, [], ◌∷◌, ◌++◌, reverse, map, All, Option, Some, None, refl, sym, subst, ◌∙◌, arith, inl, inr}
-use Rattle.std.proofs.lemmas.Bool.{cases_Bool, cond-false, cond-true}
-use Rattle.std.proofs.lemmas.List.{reverse-append}
-use Rattle.std.proofs.lemmas.List.Elements.{All-cons, All-contains, All-head, All-nil, All-push, All-same, All-tail}
-use Rattle.amt_values.specs.EndpointValue.{EndpointValue}
-use Rattle.amt_values.specs.declared.address.Ip.{Ip}
-use Rattle.source_filter.specs.Filter.{admits}
-use Rattle.source_filter.specs.declared.record.Record.{Record}
-use Rattle.endpoint_membership.specs.Log.{brought, latest, on_group, records_at}
-use Rattle.endpoint_membership.specs.declared.change.Change.{Change}
+use Rattle.std.proofs.{Common.{◌≡◌, ◌≢◌, ℕ, ◌+◌, ◌<◌, ◌≤◌, ◌⊎◌, Bool, true, false, List, [], ◌∷◌, ◌++◌, reverse, map, All, Option, Some, None, refl, sym, subst, ◌∙◌, arith, inl, inr}, lemmas.{Bool.{cases_Bool, cond-false, cond-true}, List.{reverse-append, Elements.{All-cons, All-contains, All-head, All-nil, All-push, All-same, All-tail}}}}
+use Rattle.amt_values.specs.{EndpointValue.{EndpointValue}, declared.address.Ip.{Ip}}
+use Rattle.source_filter.specs.{Filter.{admits}, declared.record.Record.{Record}}
+use Rattle.endpoint_membership.specs.{Log.{brought, latest, on_group, records_at}, declared.change.Change.{Change}}
 use Rattle.socket_merge.specs.Interface.{interface}
-use Rattle.amt_pair.specs.Entries.{is_change_of}
-use Rattle.amt_pair.specs.Sent.{SentReport}
-use Rattle.amt_pair.specs.Silence.{IsLeaving, SayNothing}
-use Rattle.amt_pair.proofs.MadeGood.{admits-unwanted, unnamed}
-use Rattle.amt_pair.proofs.SilentEntries.{IsSilentBack, silent_back}
+use Rattle.amt_pair.{specs.{Entries.{is_change_of}, Sent.{SentReport}, Silence.{IsLeaving, SayNothing}}, proofs.{MadeGood.{admits-unwanted, unnamed}, SilentEntries.{IsSilentBack, silent_back}}}
 use Rattle.amt_pair.proofs.Tunnel.{Answers, AreOfRelay, AreTimely, Changes, Clears, Delivers, Enters, IsTimely, IsTold, Keeps, Leaves, Made, MayCome, Moves, Tunnel, Turn, admits_at, after, called, entries_of, happens, last_by, last_made, send}
-use Rattle.amt_pair.proofs.TunnelMade.{AreMade, IsMade, IsMadeBy, made_by_turns, in_group}
-use Rattle.amt_pair.proofs.TunnelNamed.{last_is, last_with, told_named}
-use Rattle.amt_pair.proofs.TunnelSent.{IsNewest, IsNewest-latest, IsSent, sent_by_turns}
-use Rattle.amt_pair.proofs.TunnelSettled.{AreFarewellsKept, AreQuietSince, IsReportMadeGood, IsSettled, settled}
+use Rattle.amt_pair.proofs.{TunnelMade.{AreMade, IsMade, IsMadeBy, made_by_turns, in_group}, TunnelNamed.{last_is, last_with, told_named}, TunnelSent.{IsNewest, IsNewest-latest, IsSent, sent_by_turns}, TunnelSettled.{AreFarewellsKept, AreQuietSince, IsReportMadeGood, IsSettled, settled}}
 
 -- an entry of this moment is at most a minute later than the report that made it, if one did
 abbrev pub IsPrompt : Option SentReport → ℕ → Type 0

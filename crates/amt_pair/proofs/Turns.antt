@@ -1,30 +1,13 @@
 -- What a step of a gateway comes to as turns of a tunnel.
-use Rattle.std.proofs.Common.{ℕ, ◌<◌, ◌≤◌, ◌^◌, Bool, true, false, List, [], ◌∷◌, reverse, Option, Some, None}
-use Rattle.std.specs.List.{filter_map}
+use Rattle.std.{proofs.Common.{ℕ, ◌<◌, ◌≤◌, ◌^◌, Bool, true, false, List, [], ◌∷◌, reverse, Option, Some, None}, specs.List.{filter_map}}
 use Rattle.amt_values.specs.EndpointValue.{EndpointValue}
 use Rattle.source_filter.specs.declared.record.Record.{Record}
-use Rattle.socket_merge.specs.Changes.{change_records}
-use Rattle.socket_merge.specs.FullReport.{full_report_of}
-use Rattle.socket_merge.specs.History.{AcceptedCall, Change, Close, LeaveAll, Open, SocketCall, latest, with_call}
-use Rattle.gateway_machine.specs.Answers.{refusal_at}
-use Rattle.gateway_machine.specs.Laws.{HasQuery, HasRelay}
-use Rattle.gateway_machine.specs.Reports.{full_records}
-use Rattle.gateway_machine.specs.Runs.{Run, answer_in}
-use Rattle.gateway_machine.specs.Settings.{family_of}
-use Rattle.gateway_machine.specs.Timing.{last_lifetime}
-use Rattle.gateway_machine.specs.declared.event.GatewayEvent.{GatewayEvent}
-use Rattle.gateway_machine.specs.declared.event.GatewayEvent.TheVariants.{Moment, Nonce, Datagram, Open as Opens, Change as GetsFilter, Close as Closes, LeaveAll as LeavesAll}
-use Rattle.gateway_machine.specs.declared.exchange.Exchange.{Exchange}
-use Rattle.gateway_machine.specs.declared.exchange.GatewayState.{GatewayState}
-use Rattle.gateway_machine.specs.declared.exchange.GatewayState.TheVariants.{Idle, Discovering, Requesting, Active}
-use Rattle.gateway_machine.specs.declared.outcome.GatewayOutcome.{GatewayOutcome}
+use Rattle.socket_merge.specs.{Changes.{change_records}, FullReport.{full_report_of}, History.{AcceptedCall, Change, Close, LeaveAll, Open, SocketCall, latest, with_call}}
+use Rattle.gateway_machine.specs.{Answers.{refusal_at}, Laws.{HasQuery, HasRelay}, Reports.{full_records}, Runs.{Run, answer_in}, Settings.{family_of}, Timing.{last_lifetime}}
+use Rattle.gateway_machine.specs.declared.event.GatewayEvent.{GatewayEvent, TheVariants.{Moment, Nonce, Datagram, Open as Opens, Change as GetsFilter, Close as Closes, LeaveAll as LeavesAll}}
+use Rattle.gateway_machine.specs.declared.{exchange.{Exchange.{Exchange}, GatewayState.{GatewayState, TheVariants.{Idle, Discovering, Requesting, Active}}}, outcome.{GatewayOutcome.{GatewayOutcome}, SocketRefusal.{SocketRefusal}}, settings.GatewaySettings.{GatewaySettings}}
 use Rattle.gateway_machine.specs.declared.outcome.GatewayOutcome.TheVariants as outcome
-use Rattle.gateway_machine.specs.declared.outcome.SocketRefusal.{SocketRefusal}
-use Rattle.gateway_machine.specs.declared.settings.GatewaySettings.{GatewaySettings}
-use Rattle.amt_pair.specs.Sent.{SentReport, report_of, sent_on}
-use Rattle.amt_pair.proofs.AcceptedCalls.{AreAccepted}
-use Rattle.amt_pair.proofs.OpenSockets.{HaveFilters}
-use Rattle.amt_pair.proofs.Tunnel.{Made, MayTurn, Tunnel, Turn, Answers, Changes, Keeps, Leaves, Moves, happens, keep_of}
+use Rattle.amt_pair.{specs.Sent.{SentReport, report_of, sent_on}, proofs.{AcceptedCalls.{AreAccepted}, OpenSockets.{HaveFilters}, Tunnel.{Made, MayTurn, Tunnel, Turn, Answers, Changes, Keeps, Leaves, Moves, happens, keep_of}}}
 
 -- ---- a run as a tunnel
 

@@ -1,20 +1,10 @@
 -- The datagrams that gateways send: from their peers, and the MAC of each Update has its six octets.
-use Rattle.std.proofs.Common.{◌≡◌, ℕ, Bool, List, [], ◌∷◌, ◌++◌, flat_map, length, All}
-use Rattle.std.specs.List.{filter}
-use Rattle.std.proofs.lemmas.List.Elements.{All-append, All-filter, All-head, All-map, All-nil, All-tail, All-weaker}
+use Rattle.std.{proofs.{Common.{◌≡◌, ℕ, Bool, List, [], ◌∷◌, ◌++◌, flat_map, length, All}, lemmas.List.Elements.{All-append, All-filter, All-head, All-map, All-nil, All-tail, All-weaker}}, specs.List.{filter}}
 use Rattle.amt_values.specs.declared.mac.Mac48.{Mac48}
 use Rattle.amt_messages.specs.declared.message.Message.TheVariants.{Update}
-use Rattle.gateway_machine.specs.Answers.{history_after}
-use Rattle.gateway_machine.specs.Laws.{HasAcceptedQuery, IsAuthorized}
-use Rattle.gateway_machine.specs.Sends.{Sending}
-use Rattle.gateway_machine.specs.declared.event.GatewayEvent.{GatewayEvent}
-use Rattle.gateway_machine.specs.declared.settings.GatewaySettings.{GatewaySettings}
-use Rattle.gateway_machine.proofs.Authorized.{authorized}
+use Rattle.gateway_machine.{specs.{Answers.{history_after}, Laws.{HasAcceptedQuery, IsAuthorized}, Sends.{Sending}, declared.{event.GatewayEvent.{GatewayEvent}, settings.GatewaySettings.{GatewaySettings}}}, proofs.Authorized.{authorized}}
 use Rattle.relay_machine.specs.declared.settings.Settings.{Settings}
-use Rattle.amt_pair.specs.Schedule.{Member, Upward, answer_at, run_of_member, upwards_on}
-use Rattle.amt_pair.specs.Sent.{Sent, sent_on}
-use Rattle.amt_pair.specs.Setup.{IsHost, IsPeer, first_nonce}
-use Rattle.amt_pair.proofs.SpelledKinds.{query-mac}
+use Rattle.amt_pair.{specs.{Schedule.{Member, Upward, answer_at, run_of_member, upwards_on}, Sent.{Sent, sent_on}, Setup.{IsHost, IsPeer, first_nonce}}, proofs.SpelledKinds.{query-mac}}
 
 -- a datagram that a gateway sent
 pub record IsUpward (upward : Upward) : Type 0 where

@@ -1,27 +1,12 @@
 -- What both ends agree on: what a gateway's sockets want, and what the relay forwards to its endpoint.
-use Rattle.std.specs.Prelude.{◌≡◌, ◌≢◌, ℕ, ◌+◌, ◌<◌, ◌≤◌, Bool, List, [], ◌∷◌, ◌++◌, Contains, Option, Some, None, if◌then◌else◌}
-use Rattle.std.specs.List.{filter, filter_map}
-use Rattle.amt_values.specs.Endpoint.{endpoint_of}
-use Rattle.amt_values.specs.EndpointValue.{EndpointValue}
-use Rattle.amt_values.specs.declared.address.Ip.{Ip}
-use Rattle.amt_values.specs.declared.peer.Peer.{Peer}
+use Rattle.std.specs.{Prelude.{◌≡◌, ◌≢◌, ℕ, ◌+◌, ◌<◌, ◌≤◌, Bool, List, [], ◌∷◌, ◌++◌, Contains, Option, Some, None, if◌then◌else◌}, List.{filter, filter_map}}
+use Rattle.amt_values.specs.{Endpoint.{endpoint_of}, EndpointValue.{EndpointValue}, declared.{address.Ip.{Ip}, peer.Peer.{Peer}}}
 use Rattle.source_filter.specs.declared.record.Record.{Record}
-use Rattle.endpoint_membership.specs.Admission.{is_admitted}
-use Rattle.endpoint_membership.specs.Log.{on_group}
-use Rattle.endpoint_membership.specs.declared.change.Change.TheVariants.{Reported}
-use Rattle.gateway_machine.specs.Answers.{same_peer}
-use Rattle.gateway_machine.specs.Laws.{last_of}
-use Rattle.gateway_machine.specs.declared.exchange.GatewayState.TheVariants.{Active}
-use Rattle.relay_machine.specs.Accepted.{accepted_log}
-use Rattle.relay_machine.specs.Events.{now_of}
-use Rattle.relay_machine.specs.Settings.{membership_interval_ms}
+use Rattle.endpoint_membership.specs.{Admission.{is_admitted}, Log.{on_group}, declared.change.Change.TheVariants.{Reported}}
+use Rattle.gateway_machine.specs.{Answers.{same_peer}, Laws.{last_of}, declared.exchange.GatewayState.TheVariants.{Active}}
+use Rattle.relay_machine.specs.{Accepted.{accepted_log}, Events.{now_of}, Settings.{membership_interval_ms}}
 use Rattle.socket_merge.specs.Interface.{wants}
-use Rattle.amt_pair.specs.Entries.{is_change_of}
-use Rattle.amt_pair.specs.Schedule.{Entry, Member, Upward, course_of, numbered, run_of_member}
-use Rattle.amt_pair.specs.Sent.{SentReport, report_of}
-use Rattle.amt_pair.specs.Setup.{PairSetup}
-use Rattle.amt_pair.specs.declared.event.PairEvent.{PairEvent}
-use Rattle.amt_pair.specs.declared.event.PairEvent.TheVariants.{Up}
+use Rattle.amt_pair.specs.{Entries.{is_change_of}, Schedule.{Entry, Member, Upward, course_of, numbered, run_of_member}, Sent.{SentReport, report_of}, Setup.{PairSetup}, declared.event.PairEvent.{PairEvent, TheVariants.{Up}}}
 
 -- the report in a datagram of this peer
 abbrev pub report_from : Peer → Upward → Option SentReport

@@ -1,9 +1,7 @@
 -- Whose memberships an entry of the accepted log changes.
 use Rattle.std.specs.Prelude.{Bool, false}
 use Rattle.amt_values.specs.EndpointValue.{EndpointValue}
-use Rattle.endpoint_membership.specs.EndpointGroup.{same_endpoint}
-use Rattle.endpoint_membership.specs.declared.change.Change.{Change}
-use Rattle.endpoint_membership.specs.declared.change.Change.TheVariants.{Clear, Mark, Reported}
+use Rattle.endpoint_membership.specs.{EndpointGroup.{same_endpoint}, declared.change.Change.{Change, TheVariants.{Clear, Mark, Reported}}}
 
 -- the change is one of the endpoint's memberships
 abbrev pub is_change_of : EndpointValue → Change → Bool

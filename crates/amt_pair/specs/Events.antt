@@ -1,13 +1,8 @@
 -- Which events may happen to a gateway, with what each value of the type of events has besides.
 use Rattle.std.specs.Prelude.{◌<◌, ◌^◌, List, All}
-use Rattle.amt_values.specs.Address.{IsAddress}
-use Rattle.amt_values.specs.Order.{ip_order}
-use Rattle.amt_values.specs.Ascending.{IsAscending}
+use Rattle.amt_values.specs.{Address.{IsAddress}, Order.{ip_order}, Ascending.{IsAscending}}
 use Rattle.source_filter.specs.Filter.{FilterValue}
-use Rattle.gateway_machine.specs.Events.{IsEventOf}
-use Rattle.gateway_machine.specs.declared.event.GatewayEvent.{GatewayEvent}
-use Rattle.gateway_machine.specs.declared.event.GatewayEvent.TheVariants.{Moment, Nonce, Datagram, Open, Change, Close, LeaveAll}
-use Rattle.gateway_machine.specs.declared.settings.GatewaySettings.{GatewaySettings}
+use Rattle.gateway_machine.specs.{Events.{IsEventOf}, declared.{event.GatewayEvent.{GatewayEvent, TheVariants.{Moment, Nonce, Datagram, Open, Change, Close, LeaveAll}}, settings.GatewaySettings.{GatewaySettings}}}
 
 -- the sources are addresses, and ascend, as in each value of the type of filters
 pub record IsFilter (filter : FilterValue) : Type 0 where

@@ -1,18 +1,9 @@
 -- What the gateways of a pair stand for, and the datagrams that are kept.
-use Rattle.std.specs.Prelude.{◌≡◌, ◌≢◌, ◌≤◌, ℕ, Bool, true, List, [], ◌∷◌, ◌++◌, length, map, All}
-use Rattle.std.specs.List.{flat_map}
+use Rattle.std.specs.{Prelude.{◌≡◌, ◌≢◌, ◌≤◌, ℕ, Bool, true, List, [], ◌∷◌, ◌++◌, length, map, All}, List.{flat_map}}
 use Rattle.amt_values.specs.declared.peer.Peer.{Peer}
-use Rattle.gateway_machine.specs.Runs.{GatewayAt, settings_of}
-use Rattle.gateway_machine.specs.Sends.{datagram_of}
-use Rattle.gateway_machine.specs.declared.event.GatewayEvent.TheVariants.{Moment as Passes}
-use Rattle.gateway_machine.specs.declared.step.PeerSend.{PeerSend}
+use Rattle.gateway_machine.specs.{Runs.{GatewayAt, settings_of}, Sends.{datagram_of}, declared.{event.GatewayEvent.TheVariants.{Moment as Passes}, step.PeerSend.{PeerSend}}}
 use Rattle.relay_machine.specs.declared.sends.OneSend.{OneSend}
-use Rattle.amt_pair.specs.Parts.{gateway_parts}
-use Rattle.amt_pair.specs.Schedule.{Member, Upward, upwards_on, with_gateway_event}
-use Rattle.amt_pair.specs.Setup.{Host, first_nonce}
-use Rattle.amt_pair.specs.declared.datagrams.UpDatagram.{UpDatagram}
-use Rattle.amt_pair.specs.declared.gateways.NamedGateway.{NamedGateway}
-use Rattle.amt_pair.specs.declared.step.Part.{Part}
+use Rattle.amt_pair.specs.{Parts.{gateway_parts}, Schedule.{Member, Upward, upwards_on, with_gateway_event}, Setup.{Host, first_nonce}, declared.{datagrams.UpDatagram.{UpDatagram}, gateways.NamedGateway.{NamedGateway}, step.Part.{Part}}}
 
 -- the name, the peer and the settings of a gateway
 abbrev pub host_of : NamedGateway → Host

@@ -1,8 +1,6 @@
 -- Peers whose endpoint is that of no other peer.
 use Rattle.std.specs.Prelude.{◌≡◌, Some}
-use Rattle.amt_values.specs.Endpoint.{endpoint_of, peer_of}
-use Rattle.amt_values.specs.EndpointValue.{EndpointValue}
-use Rattle.amt_values.specs.declared.peer.Peer.{Peer}
+use Rattle.amt_values.specs.{Endpoint.{endpoint_of, peer_of}, EndpointValue.{EndpointValue}, declared.peer.Peer.{Peer}}
 
 -- the endpoint of the peer, if it has one, names the peer
 abbrev pub HasOwnEndpoint : Peer → Type 0

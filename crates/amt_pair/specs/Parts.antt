@@ -1,23 +1,8 @@
 -- What an event comes to: a part for each step of the relay and of a gateway, or that a datagram is absent.
-use Rattle.std.specs.Prelude.{ℕ, List, [], ◌∷◌, map, Option, Some, None}
-use Rattle.std.specs.List.{filter}
-use Rattle.gateway_machine.specs.Answers.{Answer}
-use Rattle.gateway_machine.specs.Sends.{datagram_of}
-use Rattle.gateway_machine.specs.declared.event.GatewayEvent.{GatewayEvent}
-use Rattle.gateway_machine.specs.declared.event.GatewayEvent.TheVariants.{Moment as Passes}
-use Rattle.gateway_machine.specs.declared.step.GatewayStep.{GatewayStep}
-use Rattle.relay_machine.specs.Accepted.{change_of}
-use Rattle.relay_machine.specs.Answers.{outcome_of, sends_of}
-use Rattle.relay_machine.specs.declared.event.Event.{Event}
-use Rattle.relay_machine.specs.declared.event.Event.TheVariants.{Moment, Packet, Rotate}
-use Rattle.relay_machine.specs.declared.sends.OneSend.{OneSend}
-use Rattle.relay_machine.specs.declared.sends.Step.{Step}
-use Rattle.amt_pair.specs.Schedule.{Course, Member, Upward, answer_at, delivery_down, delivery_up, has_name, is_at, numbered}
-use Rattle.amt_pair.specs.Setup.{PairSetup}
-use Rattle.amt_pair.specs.declared.event.PairEvent.{PairEvent}
-use Rattle.amt_pair.specs.declared.event.PairEvent.TheVariants.{Down, Moment as MomentForAll, Packet as PacketComes, Rotate as SecretComes, Socket, Up}
-use Rattle.amt_pair.specs.declared.step.Part.{Part}
-use Rattle.amt_pair.specs.declared.step.Part.TheVariants.{Absent, Gateway, Relay}
+use Rattle.std.specs.{Prelude.{ℕ, List, [], ◌∷◌, map, Option, Some, None}, List.{filter}}
+use Rattle.gateway_machine.specs.{Answers.{Answer}, Sends.{datagram_of}, declared.{event.GatewayEvent.{GatewayEvent, TheVariants.{Moment as Passes}}, step.GatewayStep.{GatewayStep}}}
+use Rattle.relay_machine.specs.{Accepted.{change_of}, Answers.{outcome_of, sends_of}, declared.{event.Event.{Event, TheVariants.{Moment, Packet, Rotate}}, sends.{OneSend.{OneSend}, Step.{Step}}}}
+use Rattle.amt_pair.specs.{Schedule.{Course, Member, Upward, answer_at, delivery_down, delivery_up, has_name, is_at, numbered}, Setup.{PairSetup}, declared.{event.PairEvent.{PairEvent, TheVariants.{Down, Moment as MomentForAll, Packet as PacketComes, Rotate as SecretComes, Socket, Up}}, step.Part.{Part, TheVariants.{Absent, Gateway, Relay}}}}
 
 -- the relay's step on an event after these events
 abbrev pub relay_step : PairSetup → Course → Event → Step

@@ -1,14 +1,9 @@
 -- The Query by which a relay tells a gateway how it counts.
 use Rattle.std.specs.Prelude.{◌≡◌, ℕ, ◌<◌, ◌^◌, Some}
-use Rattle.amt_values.specs.EndpointValue.{EndpointValue}
-use Rattle.amt_values.specs.declared.peer.Peer.{Peer}
-use Rattle.response_mac.specs.declared.secret.Secret.{Secret}
-use Rattle.response_mac.specs.ResponseMac.{mac_of}
-use Rattle.gateway_machine.specs.declared.exchange.Exchange.{Exchange}
-use Rattle.gateway_machine.specs.declared.exchange.GatewayState.TheVariants.{Requesting}
-use Rattle.gateway_machine.specs.declared.exchange.LastQuery.{LastQuery}
-use Rattle.relay_machine.specs.declared.settings.Settings.{Settings}
-use Rattle.relay_machine.specs.Settings.{membership_interval_ms}
+use Rattle.amt_values.specs.{EndpointValue.{EndpointValue}, declared.peer.Peer.{Peer}}
+use Rattle.response_mac.specs.{declared.secret.Secret.{Secret}, ResponseMac.{mac_of}}
+use Rattle.gateway_machine.specs.declared.exchange.{Exchange.{Exchange}, GatewayState.TheVariants.{Requesting}, LastQuery.{LastQuery}}
+use Rattle.relay_machine.specs.{declared.settings.Settings.{Settings}, Settings.{membership_interval_ms}}
 
 -- the sources of General Queries fit the headers that carry them (RFC 791, section 3.1; RFC 8200,
 -- section 3)

@@ -1,30 +1,12 @@
 -- A schedule of both ends: what happens to a relay and its gateways, of which each datagram is delivered
 -- when the schedule says so, any number of times, in any order, or never.
-use Rattle.std.specs.Prelude.{◌≡◌, ℕ, ◌-◌, nat_lt, Bool, true, false, List, [], ◌∷◌, ◌++◌, length, map, Contains, Option, Some, None, is_some, if◌then◌else◌, ◌≤◌}
-use Rattle.std.specs.List.{filter, flat_map, fold, slice_get}
-use Rattle.std.specs.Ordering.{eq_by_cmp}
-use Rattle.amt_values.specs.Endpoint.{endpoint_of}
-use Rattle.amt_values.specs.EndpointValue.{EndpointValue}
-use Rattle.amt_values.specs.Order.{endpoint_order}
-use Rattle.amt_values.specs.declared.peer.Peer.{Peer}
+use Rattle.std.specs.{Prelude.{◌≡◌, ℕ, ◌-◌, nat_lt, Bool, true, false, List, [], ◌∷◌, ◌++◌, length, map, Contains, Option, Some, None, is_some, if◌then◌else◌, ◌≤◌}, List.{filter, flat_map, fold, slice_get}, Ordering.{eq_by_cmp}}
+use Rattle.amt_values.specs.{Endpoint.{endpoint_of}, EndpointValue.{EndpointValue}, Order.{endpoint_order}, declared.peer.Peer.{Peer}}
 use Rattle.endpoint_membership.specs.declared.change.Change.{Change}
-use Rattle.gateway_machine.specs.Answers.{Answer, call_in}
-use Rattle.gateway_machine.specs.Events.{IsEventOf}
-use Rattle.gateway_machine.specs.Runs.{Run, answer_in, run_of}
-use Rattle.gateway_machine.specs.Sends.{datagram_of}
-use Rattle.gateway_machine.specs.declared.event.GatewayEvent.{GatewayEvent}
-use Rattle.gateway_machine.specs.declared.event.GatewayEvent.TheVariants.{Datagram as Heard, Moment as Passes}
-use Rattle.relay_machine.specs.Accepted.{entry_of}
-use Rattle.relay_machine.specs.Answers.{sends_of}
-use Rattle.relay_machine.specs.declared.event.Event.{Event}
-use Rattle.relay_machine.specs.declared.event.Event.TheVariants.{Datagram, Moment, Packet, Rotate}
-use Rattle.relay_machine.specs.declared.sends.OneSend.{OneSend}
+use Rattle.gateway_machine.specs.{Answers.{Answer, call_in}, Events.{IsEventOf}, Runs.{Run, answer_in, run_of}, Sends.{datagram_of}, declared.event.GatewayEvent.{GatewayEvent, TheVariants.{Datagram as Heard, Moment as Passes}}}
+use Rattle.relay_machine.specs.{Accepted.{entry_of}, Answers.{sends_of}, declared.{event.Event.{Event, TheVariants.{Datagram, Moment, Packet, Rotate}}, sends.OneSend.{OneSend}}}
 use Rattle.socket_merge.specs.History.{same_name}
-use Rattle.amt_pair.specs.Events.{IsEvent}
-use Rattle.amt_pair.specs.Sent.{Sent, sent_on}
-use Rattle.amt_pair.specs.Setup.{Host, PairSetup, first_nonce, relay_peer}
-use Rattle.amt_pair.specs.declared.event.PairEvent.{PairEvent}
-use Rattle.amt_pair.specs.declared.event.PairEvent.TheVariants.{Down, Moment as MomentForAll, Packet as PacketComes, Rotate as SecretComes, Socket, Up}
+use Rattle.amt_pair.specs.{Events.{IsEvent}, Sent.{Sent, sent_on}, Setup.{Host, PairSetup, first_nonce, relay_peer}, declared.event.PairEvent.{PairEvent, TheVariants.{Down, Moment as MomentForAll, Packet as PacketComes, Rotate as SecretComes, Socket, Up}}}
 
 -- a gateway, and the events that happened to it, in order
 pub record Member : Type 0 where

@@ -1,18 +1,10 @@
 -- What a gateway sent, with where it stood then, and the report that it carries.
 use Rattle.std.specs.Prelude.{ℕ, Bool, List, [], ◌∷◌, ◌++◌, reverse, map, Option, Some, None, Result, Ok, Err}
-use Rattle.amt_messages.specs.declared.message.Message.{Message}
-use Rattle.amt_messages.specs.declared.message.Message.TheVariants.{Discovery, Advertisement, Request, Query, Update, Multicast, Teardown}
+use Rattle.amt_messages.specs.declared.message.Message.{Message, TheVariants.{Discovery, Advertisement, Request, Query, Update, Multicast, Teardown}}
 use Rattle.source_filter.specs.declared.record.Record.{Record}
 use Rattle.socket_merge.specs.History.{AcceptedCall}
-use Rattle.gateway_machine.specs.declared.event.GatewayEvent.{GatewayEvent}
-use Rattle.gateway_machine.specs.declared.exchange.Exchange.{Exchange}
-use Rattle.gateway_machine.specs.declared.settings.GatewaySettings.{GatewaySettings}
-use Rattle.gateway_machine.specs.Answers.{history_after}
-use Rattle.gateway_machine.specs.Runs.{Run, answer_in, run_of}
-use Rattle.gateway_machine.specs.Sends.{Sending}
-use Rattle.gateway_machine.specs.Timing.{farewell_ms}
-use Rattle.relay_machine.specs.declared.outcome.Unlawful.{Unlawful}
-use Rattle.relay_machine.specs.Updates.{report_in}
+use Rattle.gateway_machine.specs.{declared.{event.GatewayEvent.{GatewayEvent}, exchange.Exchange.{Exchange}, settings.GatewaySettings.{GatewaySettings}}, Answers.{history_after}, Runs.{Run, answer_in, run_of}, Sends.{Sending}, Timing.{farewell_ms}}
+use Rattle.relay_machine.specs.{declared.outcome.Unlawful.{Unlawful}, Updates.{report_in}}
 
 -- a message that a gateway sent, and the exchange and the socket calls, newest first, after the event that
 -- it answered

@@ -1,15 +1,9 @@
 -- What a pair of both ends is set up with: a relay, and gateways that know it by its address.
-use Rattle.std.specs.Prelude.{◌≡◌, ◌<◌, ◌^◌, ◌||◌, ℕ, Bool, List, ◌∷◌, ◌++◌, All, None}
-use Rattle.std.specs.List.{list_any}
-use Rattle.amt_values.specs.Address.{IsAddress}
-use Rattle.amt_values.specs.declared.address.Ip.{Ip}
-use Rattle.amt_values.specs.declared.peer.Peer.{Peer}
+use Rattle.std.specs.{Prelude.{◌≡◌, ◌<◌, ◌^◌, ◌||◌, ℕ, Bool, List, ◌∷◌, ◌++◌, All, None}, List.{list_any}}
+use Rattle.amt_values.specs.{Address.{IsAddress}, declared.{address.Ip.{Ip}, peer.Peer.{Peer}}}
 use Rattle.response_mac.specs.declared.secret.Secret.{Secret}
-use Rattle.gateway_machine.specs.Answers.{same_peer}
-use Rattle.gateway_machine.specs.declared.settings.GatewaySettings.{GatewaySettings}
-use Rattle.gateway_machine.specs.Settings.{HasSourceOfFamily}
-use Rattle.relay_machine.specs.declared.settings.Settings.{Settings}
-use Rattle.relay_machine.specs.Settings.{AreLawfulSettings}
+use Rattle.gateway_machine.specs.{Answers.{same_peer}, declared.settings.GatewaySettings.{GatewaySettings}, Settings.{HasSourceOfFamily}}
+use Rattle.relay_machine.specs.{declared.settings.Settings.{Settings}, Settings.{AreLawfulSettings}}
 use Rattle.socket_merge.specs.History.{same_name}
 use Rattle.amt_pair.specs.Queries.{HasQuerySources}
 

@@ -1,11 +1,8 @@
 -- When nothing is wanted of a group any more, by what was sent of it and by what was accepted.
 use Rattle.std.specs.Prelude.{◌≡◌, ℕ, ◌+◌, ◌<◌, true, List, [], ◌∷◌, ◌++◌, All, Some}
 use Rattle.amt_values.specs.declared.address.Ip.{Ip}
-use Rattle.source_filter.specs.declared.record.Record.{Record}
-use Rattle.source_filter.specs.declared.record.RecordKind.TheVariants.{ToIn}
-use Rattle.endpoint_membership.specs.EndpointGroup.{EndpointGroup}
-use Rattle.endpoint_membership.specs.Log.{latest, on_group, records_at}
-use Rattle.endpoint_membership.specs.declared.change.Change.{Change}
+use Rattle.source_filter.specs.declared.record.{Record.{Record}, RecordKind.TheVariants.{ToIn}}
+use Rattle.endpoint_membership.specs.{EndpointGroup.{EndpointGroup}, Log.{latest, on_group, records_at}, declared.change.Change.{Change}}
 use Rattle.amt_pair.specs.Sent.{Sent, SentReport, report_of}
 
 -- the record leaves its group: TO_IN of nothing (RFC 3376, section 5.1)

@@ -1,20 +1,8 @@
 -- What a pair stands for.
-use Rattle.std.specs.Prelude.{◌≡◌, ◌≢◌, ℕ, List, [], ◌∷◌, ◌++◌, length, map, All, None}
-use Rattle.std.specs.List.{flat_map}
-use Rattle.gateway_machine.specs.declared.event.GatewayEvent.{GatewayEvent}
-use Rattle.gateway_machine.specs.declared.event.GatewayEvent.TheVariants.{Moment as Passes}
-use Rattle.relay_machine.specs.Answers.{RelayAt, settings_of as relay_settings_of}
-use Rattle.relay_machine.specs.declared.event.Event.TheVariants.{Moment}
-use Rattle.relay_machine.specs.declared.settings.Settings.{Settings}
-use Rattle.amt_pair.specs.Members.{AreMembersAt, host_of, kept_upward}
-use Rattle.amt_pair.specs.Parts.{gateway_parts, relay_step}
-use Rattle.amt_pair.specs.Schedule.{Course, IsPairEvent, Member, course_of, upwards_on, with_gateway_event, with_relay_event}
-use Rattle.amt_pair.specs.Setup.{Host, IsLawfulSetup, PairSetup}
-use Rattle.amt_pair.specs.declared.event.PairEvent.{PairEvent}
-use Rattle.amt_pair.specs.declared.event.PairEvent.TheVariants.{Moment as MomentForAll}
-use Rattle.amt_pair.specs.declared.pair.Pair.{Pair}
-use Rattle.amt_pair.specs.declared.step.Part.{Part}
-use Rattle.amt_pair.specs.declared.step.Part.TheVariants.{Relay}
+use Rattle.std.specs.{Prelude.{◌≡◌, ◌≢◌, ℕ, List, [], ◌∷◌, ◌++◌, length, map, All, None}, List.{flat_map}}
+use Rattle.gateway_machine.specs.declared.event.GatewayEvent.{GatewayEvent, TheVariants.{Moment as Passes}}
+use Rattle.relay_machine.specs.{Answers.{RelayAt, settings_of as relay_settings_of}, declared.{event.Event.TheVariants.{Moment}, settings.Settings.{Settings}}}
+use Rattle.amt_pair.specs.{Members.{AreMembersAt, host_of, kept_upward}, Parts.{gateway_parts, relay_step}, Schedule.{Course, IsPairEvent, Member, course_of, upwards_on, with_gateway_event, with_relay_event}, Setup.{Host, IsLawfulSetup, PairSetup}, declared.{event.PairEvent.{PairEvent, TheVariants.{Moment as MomentForAll}}, pair.Pair.{Pair}, step.Part.{Part, TheVariants.{Relay}}}}
 
 -- what the relay of a pair was set up with
 abbrev pub relay_settings : Pair → Settings

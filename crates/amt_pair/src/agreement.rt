@@ -1,15 +1,9 @@
 //! What both ends agree on after any schedule, whatever of their datagrams is lost, repeated or reordered.
 ghost use Rattle.std.specs.Prelude.{◌≡◌, false, List, All, map};
-ghost use Rattle.amt_values.specs.EndpointValue.{EndpointValue};
-ghost use Rattle.amt_values.specs.declared.address.Ip.{Ip};
+ghost use Rattle.amt_values.specs.{EndpointValue.{EndpointValue}, declared.address.Ip.{Ip}};
 ghost use Rattle.endpoint_membership.specs.Admission.{rows_admit};
-ghost use Rattle.relay_machine.specs.Accepted.{accepted_log};
-ghost use Rattle.relay_machine.specs.Answers.{rows_after};
-ghost use Rattle.amt_pair.specs.Agreement.{CountsInTime, IsActive, IsHeard, IsInTime, Names, relay_admits, wanted_then, wants_now};
-ghost use Rattle.amt_pair.specs.Schedule.{IsPairEvent, Member, course_of};
-ghost use Rattle.amt_pair.specs.Sent.{SentReport};
-ghost use Rattle.amt_pair.specs.Setup.{IsLawfulSetup, PairSetup};
-ghost use Rattle.amt_pair.specs.declared.event.PairEvent.{PairEvent};
+ghost use Rattle.relay_machine.specs.{Accepted.{accepted_log}, Answers.{rows_after}};
+ghost use Rattle.amt_pair.specs.{Agreement.{CountsInTime, IsActive, IsHeard, IsInTime, Names, relay_admits, wanted_then, wants_now}, Schedule.{IsPairEvent, Member, course_of}, Sent.{SentReport}, Setup.{IsLawfulSetup, PairSetup}, declared.event.PairEvent.{PairEvent}};
 
 /// Where a gateway's latest full report made the last entry of its endpoint, and reports still count from
 /// then on, the relay forwards to it what its sockets wanted when the report was sent, in each group that

@@ -1,17 +1,10 @@
 //! The gateways of a pair. It must not know the relay.
 
-ghost use Rattle.std.specs.Prelude.{◌≡◌, ◌<◌, ◌≤◌, ◌+◌, ◌^◌, ◌||◌, IsTrue, vec_len, vec_capacity, ◌++◌, ◌∷◌, [], false, true, length, slice_index, map, All, List, IfOk, OnOk, OnErr, IfSome, IfNone};
-ghost use Rattle.std.specs.List.{list_any};
+ghost use Rattle.std.specs.{Prelude.{◌≡◌, ◌<◌, ◌≤◌, ◌+◌, ◌^◌, ◌||◌, IsTrue, vec_len, vec_capacity, ◌++◌, ◌∷◌, [], false, true, length, slice_index, map, All, List, IfOk, OnOk, OnErr, IfSome, IfNone}, List.{list_any}};
 ghost use Rattle.amt_values.specs.Endpoint.{endpoint_of};
-ghost use Rattle.gateway_machine.specs.Answers.{same_peer};
-ghost use Rattle.amt_pair.specs.declared.gateways.NamedGateway.{NamedGateway as NamedGatewayValue};
-ghost use Rattle.gateway_machine.specs.declared.event.GatewayEvent.TheVariants.{Moment as Passes};
-ghost use Rattle.gateway_machine.specs.Events.{IsEventOf};
-ghost use Rattle.gateway_machine.specs.Runs.{settings_of};
+ghost use Rattle.gateway_machine.specs.{Answers.{same_peer}, declared.event.GatewayEvent.TheVariants.{Moment as Passes}, Events.{IsEventOf}, Runs.{settings_of}};
+ghost use Rattle.amt_pair.specs.{declared.gateways.NamedGateway.{NamedGateway as NamedGatewayValue}, Parts.{gateway_part, gateway_parts}, Schedule.{Member, is_endpoint, upwards_on, with_gateway_event}, Members.{AreMembersAt, AreShort, HasComeToAll, HasComeToSome, IsMemberAt, IsPlaceOf, host_of, kept_upward}};
 ghost use Rattle.socket_merge.specs.History.{same_name};
-ghost use Rattle.amt_pair.specs.Parts.{gateway_part, gateway_parts};
-ghost use Rattle.amt_pair.specs.Schedule.{Member, is_endpoint, upwards_on, with_gateway_event};
-ghost use Rattle.amt_pair.specs.Members.{AreMembersAt, AreShort, HasComeToAll, HasComeToSome, IsMemberAt, IsPlaceOf, host_of, kept_upward};
 
 use crate::datagrams::{UpDatagrams, datagrams_from};
 use crate::step::Part;

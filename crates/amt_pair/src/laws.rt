@@ -1,27 +1,12 @@
 //! How a gateway reads the relay's Queries, and how a schedule goes on.
 ghost use Rattle.std.specs.Prelude.{◌≡◌, ◌++◌, ◌∷◌, [], Bool, List, Ok};
-ghost use Rattle.amt_messages.specs.Layout.{spelling_of};
-ghost use Rattle.amt_messages.specs.Messages.{IsGateway};
-ghost use Rattle.amt_values.specs.EndpointValue.{EndpointValue};
-ghost use Rattle.amt_values.specs.declared.peer.Peer.{Peer};
-ghost use Rattle.gateway_machine.specs.Answers.{event_answer, query_accepted};
-ghost use Rattle.gateway_machine.specs.General.{general_query_in};
-ghost use Rattle.gateway_machine.specs.Timing.{interval_of, lifetime_of};
-ghost use Rattle.gateway_machine.specs.declared.event.GatewayEvent.TheVariants.{Datagram};
-ghost use Rattle.gateway_machine.specs.declared.exchange.Exchange.{Exchange};
-ghost use Rattle.gateway_machine.specs.declared.settings.GatewaySettings.{GatewaySettings};
-ghost use Rattle.relay_machine.specs.declared.settings.Settings.{Settings};
-ghost use Rattle.relay_machine.specs.Queries.{general_query, query_fields, query_for};
-ghost use Rattle.relay_machine.specs.Settings.{AreLawfulSettings, membership_interval_ms};
+ghost use Rattle.amt_messages.specs.{Layout.{spelling_of}, Messages.{IsGateway}};
+ghost use Rattle.amt_values.specs.{EndpointValue.{EndpointValue}, declared.peer.Peer.{Peer}};
+ghost use Rattle.gateway_machine.specs.{Answers.{event_answer, query_accepted}, General.{general_query_in}, Timing.{interval_of, lifetime_of}, declared.{event.GatewayEvent.TheVariants.{Datagram}, exchange.Exchange.{Exchange}, settings.GatewaySettings.{GatewaySettings}}};
+ghost use Rattle.relay_machine.specs.{declared.settings.Settings.{Settings}, Queries.{general_query, query_fields, query_for}, Settings.{AreLawfulSettings, membership_interval_ms}};
 ghost use Rattle.response_mac.specs.declared.secret.Secret.{Secret};
-ghost use Rattle.socket_merge.specs.History.{AcceptedCall};
-ghost use Rattle.socket_merge.specs.FullReport.{family_by};
-ghost use Rattle.amt_pair.specs.Queries.{HasQuerySources, IsAsking, query_of_relay};
-ghost use Rattle.amt_pair.specs.Schedule.{FitsItsType, MayCome, course_of, with_pair_event};
-ghost use Rattle.amt_pair.specs.Setup.{PairSetup};
-ghost use Rattle.amt_pair.specs.State.{PairAt, StandsFor, hosts_of};
-ghost use Rattle.amt_pair.specs.declared.event.PairEvent.{PairEvent};
-ghost use Rattle.amt_pair.specs.declared.pair.Pair.{Pair};
+ghost use Rattle.socket_merge.specs.{History.{AcceptedCall}, FullReport.{family_by}};
+ghost use Rattle.amt_pair.specs.{Queries.{HasQuerySources, IsAsking, query_of_relay}, Schedule.{FitsItsType, MayCome, course_of, with_pair_event}, Setup.{PairSetup}, State.{PairAt, StandsFor, hosts_of}, declared.{event.PairEvent.{PairEvent}, pair.Pair.{Pair}}};
 
 /// What a relay says in its General Queries, of either family, is what a gateway takes them to say
 /// (RFC 7450, section 5.1.4). Lawful settings have only times that codes stand for, and a

@@ -1,10 +1,7 @@
 //! Both ends on a schedule. It knows no message: the ends alone do.
 
-ghost use Rattle.std.specs.Prelude.{◌≡◌, map, All};
-ghost use Rattle.std.proofs.Props.{props};
-ghost use Rattle.amt_pair.specs.Setup.{AreApart, relay_peer};
-ghost use Rattle.amt_pair.specs.Members.{AreShort, AreShortSends, host_of};
-ghost use Rattle.amt_pair.specs.OwnEndpoints.{HasOwnEndpoint};
+ghost use Rattle.std.{specs.Prelude.{◌≡◌, map, All}, proofs.Props.{props}};
+ghost use Rattle.amt_pair.specs.{Setup.{AreApart, relay_peer}, Members.{AreShort, AreShortSends, host_of}, OwnEndpoints.{HasOwnEndpoint}};
 
 use crate::datagrams::{DownDatagrams, UpDatagrams, keep_copies};
 use crate::event::PairEvent;
@@ -58,25 +55,16 @@ pub struct Pair {
 
 impl Pair {
     ghost use Rattle.std.specs.Prelude.{◌≡◌, ◌<◌, ◌↔◌, ◌++◌, ◌∷◌, [], true, false, List, Option, length, IfOk, IsErrOf, OnOk, OnErr};
-    ghost use Rattle.amt_values.specs.EndpointValue.{EndpointValue};
-    ghost use Rattle.amt_values.specs.declared.address.Ip.{Ip as IpValue};
+    ghost use Rattle.amt_values.specs.{EndpointValue.{EndpointValue}, declared.address.Ip.{Ip as IpValue}};
     ghost use Rattle.endpoint_membership.specs.Admission.{rows_admit};
     ghost use Rattle.group_records.specs.Written.{is_of_family};
     ghost use Rattle.gateway_machine.specs.Events.{IsEventOf};
-    ghost use Rattle.relay_machine.specs.Answers.{rows_after};
-    ghost use Rattle.relay_machine.specs.EventSize.{IsEvent};
-    ghost use Rattle.relay_machine.specs.Settings.{AreLawfulSettings};
-    ghost use Rattle.relay_machine.specs.declared.settings.Settings.{Settings as SettingsValue};
+    ghost use Rattle.relay_machine.specs.{Answers.{rows_after}, EventSize.{IsEvent}, Settings.{AreLawfulSettings}, declared.settings.Settings.{Settings as SettingsValue}};
     ghost use Rattle.response_mac.specs.declared.secret.Secret.{Secret as SecretValue};
     ghost use Rattle.socket_merge.specs.FullReport.{family_by};
-    ghost use Rattle.amt_pair.specs.Agreement.{CountsInTime, IsActive, IsHeard, IsInTime, wants_now};
-    ghost use Rattle.amt_pair.specs.Parts.{gateway_part, parts_of, relay_step};
-    ghost use Rattle.amt_pair.specs.Schedule.{FitsItsType, MayCome, Member, Upward, course_of, with_pair_event, with_relay_event};
-    ghost use Rattle.amt_pair.specs.Sent.{SentReport};
-    ghost use Rattle.amt_pair.specs.Setup.{Host, has_taken, settings_of_host};
-    ghost use Rattle.amt_pair.specs.State.{After, ForCourse, ForMember, HasStarved, PairAt, StandsFor, hosts_of, sent_down, sent_up, with_member_at};
+    ghost use Rattle.amt_pair.specs.{Agreement.{CountsInTime, IsActive, IsHeard, IsInTime, wants_now}, Parts.{gateway_part, parts_of, relay_step}, Schedule.{FitsItsType, MayCome, Member, Upward, course_of, with_pair_event, with_relay_event}, Sent.{SentReport}};
+    ghost use Rattle.amt_pair.specs.{Setup.{Host, has_taken, settings_of_host}, State.{After, ForCourse, ForMember, HasStarved, PairAt, StandsFor, hosts_of, sent_down, sent_up, with_member_at}, declared.step.Part.TheVariants.{Absent as AbsentPart, Relay as RelayPart}};
     ghost use Rattle.amt_pair.specs.declared.event.PairEvent.TheVariants as events;
-    ghost use Rattle.amt_pair.specs.declared.step.Part.TheVariants.{Absent as AbsentPart, Relay as RelayPart};
 
     /// A relay at moment 0, and no gateway.
     pub fn new(alloc: Global, settings: Settings, secret: Secret) -> Result<Pair, AllocError>

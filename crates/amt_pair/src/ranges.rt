@@ -2,10 +2,7 @@
 
 ghost use Rattle.std.specs.Prelude.{◌<◌, ◌^◌, All};
 ghost use Rattle.amt_values.specs.Address.{IsAddress};
-ghost use Rattle.amt_pair.specs.Events.{IsEvent, IsFilter};
-ghost use Rattle.amt_pair.specs.Queries.{HasQuerySources};
-ghost use Rattle.amt_pair.specs.Schedule.{FitsItsType};
-ghost use Rattle.amt_pair.specs.Setup.{IsPeer};
+ghost use Rattle.amt_pair.specs.{Events.{IsEvent, IsFilter}, Queries.{HasQuerySources}, Schedule.{FitsItsType}, Setup.{IsPeer}};
 
 use crate::event::PairEvent;
 use amt_values::{Ip, Peer, wire16};

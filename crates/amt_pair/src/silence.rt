@@ -1,16 +1,9 @@
 //! When a relay forwards nothing of a group to an endpoint.
 ghost use Rattle.std.specs.Prelude.{ℕ, ◌≡◌, ◌≤◌, ◌<◌, ◌^◌, false, List};
 ghost use Rattle.amt_values.specs.declared.address.Ip.{Ip};
-ghost use Rattle.endpoint_membership.specs.Admission.{is_admitted};
-ghost use Rattle.endpoint_membership.specs.EndpointGroup.{EndpointGroup};
-ghost use Rattle.endpoint_membership.specs.Log.{latest};
-ghost use Rattle.endpoint_membership.specs.declared.change.Change.{Change};
-ghost use Rattle.gateway_machine.specs.Settings.{HasSourceOfFamily};
-ghost use Rattle.gateway_machine.specs.declared.event.GatewayEvent.{GatewayEvent};
-ghost use Rattle.gateway_machine.specs.declared.settings.GatewaySettings.{GatewaySettings};
-ghost use Rattle.amt_pair.specs.Events.{AreEventsOf};
-ghost use Rattle.amt_pair.specs.Sent.{sent_in};
-ghost use Rattle.amt_pair.specs.Silence.{IsSilent, KeepsFarewells};
+ghost use Rattle.endpoint_membership.specs.{Admission.{is_admitted}, EndpointGroup.{EndpointGroup}, Log.{latest}, declared.change.Change.{Change}};
+ghost use Rattle.gateway_machine.specs.{Settings.{HasSourceOfFamily}, declared.{event.GatewayEvent.{GatewayEvent}, settings.GatewaySettings.{GatewaySettings}}};
+ghost use Rattle.amt_pair.specs.{Events.{AreEventsOf}, Sent.{sent_in}, Silence.{IsSilent, KeepsFarewells}};
 
 /// If each report of the last lifetime says no more of a group than that it is left, or nothing of
 /// it, nothing of the group is forwarded to the endpoint: the newest report on the group decides

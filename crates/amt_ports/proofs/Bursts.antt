@@ -1,11 +1,6 @@
 -- A burst of askings: one more of them.
-use Rattle.std.proofs.Common.{◌≡◌, ◌<◌, ◌+◌, List, [], ◌∷◌, ◌++◌, length, inl, inr, refl, sym, ap, ◌∙◌, subst, append-nil, length-append}
-use Rattle.std.specs.Prelude.{Ok}
-use Rattle.amt_ports.specs.Bursts.{AnswerKinds, BurstEnds, CameAll, IsBegun, IsBurst, IsNext, NextEnds}
-use Rattle.amt_ports.specs.declared.asked.Asked.{Asked}
-use Rattle.amt_ports.specs.declared.asked.Asked.TheVariants.{Something, Nothing}
-use Rattle.amt_ports.specs.declared.end.End.{End}
-use Rattle.amt_ports.specs.declared.end.End.TheVariants.{Turns, Closed, LinkFault, FeedFault, WordsFault, SpawnFault, Memory}
+use Rattle.std.{proofs.Common.{◌≡◌, ◌<◌, ◌+◌, List, [], ◌∷◌, ◌++◌, length, inl, inr, refl, sym, ap, ◌∙◌, subst, append-nil, length-append}, specs.Prelude.{Ok}}
+use Rattle.amt_ports.specs.{Bursts.{AnswerKinds, BurstEnds, CameAll, IsBegun, IsBurst, IsNext, NextEnds}, declared.{asked.Asked.{Asked, TheVariants.{Something, Nothing}}, end.End.{End, TheVariants.{Turns, Closed, LinkFault, FeedFault, WordsFault, SpawnFault, Memory}}}}
 
 module _ {A : Type 0} (kinds : AnswerKinds A) where
   pub CameAll-push : (came : List A) (one : A) → CameAll kinds came → kinds.Came one → CameAll kinds (came ++ one ∷ [])

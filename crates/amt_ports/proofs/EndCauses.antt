@@ -1,9 +1,6 @@
 -- Which device's fault ended a run, as a result is handed on.
-use Rattle.std.proofs.Common.{◌≡◌, ℕ, ap, ◌∙◌, subst}
-use Rattle.std.specs.Prelude.{Result, Err, IsErrOf}
-use Rattle.amt_ports.specs.Causes.{Rose}
-use Rattle.amt_ports.specs.EndCauses.{IsCausedBy}
-use Rattle.amt_ports.specs.declared.end.End.{End}
+use Rattle.std.{proofs.Common.{◌≡◌, ℕ, ap, ◌∙◌, subst}, specs.Prelude.{Result, Err, IsErrOf}}
+use Rattle.amt_ports.specs.{Causes.{Rose}, EndCauses.{IsCausedBy}, declared.end.End.{End}}
 
 -- it didn't end the run
 pub not_cause : {A : Type 0} (result : Result A End) (cause : End) (before after : ℕ) → (IsErrOf result cause → ⊥) → after ≡ before → IsCausedBy result cause before after

@@ -1,9 +1,6 @@
 -- What is given next stands at the end of what was given.
-use Rattle.std.proofs.Common.{arith, ◌≡◌, ◌≢◌, ℕ, zero, suc, ◌+◌, ◌-◌, ◌^◌, ◌<◌, ◌≤◌, min, length, ⊎_elim, drop_of_length-le, Bool, true, false, true≢false, nat_eq, List, [], ◌∷◌, ◌++◌, drop, Some, None, if◌then◌else◌, refl, sym, ap, ◌∙◌}
-use Rattle.std.proofs.lemmas.Bool.Decides.{eqb_tells}
-use Rattle.std.proofs.lemmas.List.{drop-drop}
-use Rattle.amt_ports.specs.Scripted.{first_of, given_of, head_or}
-use Rattle.amt_ports.specs.Told.{Appends}
+use Rattle.std.proofs.{Common.{arith, ◌≡◌, ◌≢◌, ℕ, zero, suc, ◌+◌, ◌-◌, ◌^◌, ◌<◌, ◌≤◌, min, length, ⊎_elim, drop_of_length-le, Bool, true, false, true≢false, nat_eq, List, [], ◌∷◌, ◌++◌, drop, Some, None, if◌then◌else◌, refl, sym, ap, ◌∙◌}, lemmas.{Bool.Decides.{eqb_tells}, List.{drop-drop}}}
+use Rattle.amt_ports.specs.{Scripted.{first_of, given_of, head_or}, Told.{Appends}}
 
 more_of_last : {X : Type 0} (n : ℕ) (last : X) → first_of (suc n) [] last ≡ first_of n [] last ++ last ∷ []
 more_of_last zero last = refl

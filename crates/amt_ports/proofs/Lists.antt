@@ -1,9 +1,6 @@
 -- Lists that devices tell: nothing more, and two lots in a row.
-use Rattle.std.proofs.Common.{◌≡◌, List, [], ◌∷◌, ◌++◌, map, Option, None, Some, refl, sym, ap, subst, ◌∙◌, append_assoc, append-nil}
-use Rattle.std.proofs.lemmas.List.{map-append}
-use Rattle.amt_ports.specs.Told.{Answers, AppendsAll}
-use Rattle.amt_ports.specs.Answers.{Taken}
-use Rattle.amt_ports.specs.Devices.{AnswersAll}
+use Rattle.std.proofs.{Common.{◌≡◌, List, [], ◌∷◌, ◌++◌, map, Option, None, Some, refl, sym, ap, subst, ◌∙◌, append_assoc, append-nil}, lemmas.List.{map-append}}
+use Rattle.amt_ports.specs.{Told.{Answers, AppendsAll}, Answers.{Taken}, Devices.{AnswersAll}}
 
 -- one answer
 pub one_answer : {X : Type 0} (closed : X) (before now after : Option (List X)) (answer : X) → Answers closed before now answer → after ≡ now → AnswersAll closed before after (answer ∷ [])

@@ -1,12 +1,7 @@
 -- The askings of a burst so far. What they change is seen as one value; `Goes` says that one such value became
 -- another by some answers.
-use Rattle.std.proofs.Common.{◌≡◌, ◌+◌, ◌<◌, ℕ, List, [], ◌++◌, length, refl, sym, ap, subst, ◌∙◌}
-use Rattle.std.specs.Prelude.{Result, Ok, Err}
-use Rattle.amt_ports.specs.Bursts.{AnswerKinds, AreAsked, AskedSo, CameAll, IsNext}
-use Rattle.amt_ports.specs.declared.asked.Asked.{Asked}
-use Rattle.amt_ports.specs.declared.asked.Asked.TheVariants.{Something, Nothing}
-use Rattle.amt_ports.specs.declared.end.End.{End}
-use Rattle.amt_ports.proofs.Bursts.{came_more, ends_more, full_burst, nothing_more}
+use Rattle.std.{proofs.Common.{◌≡◌, ◌+◌, ◌<◌, ℕ, List, [], ◌++◌, length, refl, sym, ap, subst, ◌∙◌}, specs.Prelude.{Result, Ok, Err}}
+use Rattle.amt_ports.{specs.{Bursts.{AnswerKinds, AreAsked, AskedSo, CameAll, IsNext}, declared.{asked.Asked.{Asked, TheVariants.{Something, Nothing}}, end.End.{End}}}, proofs.Bursts.{came_more, ends_more, full_burst, nothing_more}}
 
 -- so often the device was asked, and each time something came
 pub record SoFar {S A : Type 0} (Goes : S → S → List A → Type 0) (kinds : AnswerKinds A) (before after : S) (count : ℕ) : Type 0 where

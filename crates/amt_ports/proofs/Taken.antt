@@ -1,7 +1,5 @@
 -- What several reads took together.
-use Rattle.std.proofs.Common.{◌≡◌, ℕ, ◌+◌, ◌<◌, ◌≤◌, Option, None, Some, List, ◌++◌, length, take, drop, arith, length-append, append_assoc, append-nil, sym, ◌∙◌, ap}
-use Rattle.std.proofs.lemmas.List.{take-append-drop, drop-drop}
-use Rattle.std.proofs.Math.Seq.{take-append-add, take-append_seam}
+use Rattle.std.proofs.{Common.{◌≡◌, ℕ, ◌+◌, ◌<◌, ◌≤◌, Option, None, Some, List, ◌++◌, length, take, drop, arith, length-append, append_assoc, append-nil, sym, ◌∙◌, ap}, lemmas.List.{take-append-drop, drop-drop}, Math.Seq.{take-append-add, take-append_seam}}
 use Rattle.amt_ports.specs.Reading.{TakesAll, TakesMore}
 
 -- the room after the bytes before was read into, and cut after the n bytes that were read

@@ -1,16 +1,7 @@
 -- What was tried so far, and one send more.
-use Rattle.std.proofs.Common.{◌≡◌, ℕ, zero, suc, ◌+◌, ◌≤◌, ◌<◌, true, false, cond, not, List, [], ◌∷◌, ◌++◌, refl, sym, ap, subst, ◌∙◌, arith}
-use Rattle.std.specs.Prelude.{IsSome, Option, Result, is_ok}
-use Rattle.std.specs.List.{sum_by}
-use Rattle.std.proofs.lemmas.List.{map-append}
-use Rattle.std.proofs.lemmas.List.Sums.{sum_by-append}
-use Rattle.amt_ports.specs.Causes.{Rose}
-use Rattle.amt_ports.specs.declared.fault.Failed.{Failed}
+use Rattle.std.{proofs.{Common.{◌≡◌, ℕ, zero, suc, ◌+◌, ◌≤◌, ◌<◌, true, false, cond, not, List, [], ◌∷◌, ◌++◌, refl, sym, ap, subst, ◌∙◌, arith}, lemmas.List.{map-append, Sums.{sum_by-append}}}, specs.{Prelude.{IsSome, Option, Result, is_ok}, List.{sum_by}}}
+use Rattle.amt_ports.{specs.{Causes.{Rose}, declared.fault.Failed.{Failed}, Sends.{TriedSend, datagram_of, tried_send}, Told.{Appends}, Tried.{HasRisen, HasTried}}, proofs.Told.{AppendsAll-none, AppendsAll-then}}
 use Rattle.amt_values.specs.declared.peer.Peer.{Peer}
-use Rattle.amt_ports.specs.Sends.{TriedSend, datagram_of, tried_send}
-use Rattle.amt_ports.specs.Told.{Appends}
-use Rattle.amt_ports.specs.Tried.{HasRisen, HasTried}
-use Rattle.amt_ports.proofs.Told.{AppendsAll-none, AppendsAll-then}
 
 -- one more datagram that the device took
 pub HasTried-sent : (before now after : Option (List TriedSend)) (first middle last : ℕ) (wanted : List (Peer × List ℕ)) (sent unsent : ℕ) (to : Peer) (bytes : List ℕ) (result : Result (Unit {0}) Failed)

@@ -1,6 +1,5 @@
 -- Brief waits: none, and some after others.
-use Rattle.std.proofs.Common.{◌≡◌, ℕ, arith}
-use Rattle.std.proofs.Math.Nat.{le-max_left, le-max_right, max-le}
+use Rattle.std.proofs.{Common.{◌≡◌, ℕ, arith}, Math.Nat.{le-max_left, le-max_right, max-le}}
 use Rattle.amt_ports.specs.Devices.{WaitsBriefly}
 
 pub no_waits : (before after : ℕ) → after ≡ before → WaitsBriefly before after

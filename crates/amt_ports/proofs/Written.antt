@@ -1,9 +1,5 @@
 -- What several writes appended together.
-use Rattle.std.proofs.Common.{◌≡◌, ℕ, ◌<◌, Option, List, ◌++◌, length, take, drop, arith, length-append, subst, sym, ◌∙◌, ap, append_assoc}
-use Rattle.std.proofs.Math.Seq.{take-append_seam}
-use Rattle.std.proofs.lemmas.List.{take-append-drop}
-use Rattle.std.specs.Io.KnownBytes.{Appends, Keeps}
-use Rattle.std.proofs.KnownBytes.{Appends-kept, Appends-trans}
+use Rattle.std.{proofs.{Common.{◌≡◌, ℕ, ◌<◌, Option, List, ◌++◌, length, take, drop, arith, length-append, subst, sym, ◌∙◌, ap, append_assoc}, Math.Seq.{take-append_seam}, lemmas.List.{take-append-drop}, KnownBytes.{Appends-kept, Appends-trans}}, specs.Io.KnownBytes.{Appends, Keeps}}
 
 -- what was appended before a call that kept all is a prefix of the whole, and not all of it
 pub Appends-prefix : (a b c : Option (List ℕ)) (all done rest : List ℕ) → all ≡ done ++ rest → 0 < length rest → Appends a b done → Keeps b c → (n : ℕ) × (n < length all) × Appends a c (take n all)

@@ -1,9 +1,6 @@
 -- One answer of a device.
 use Rattle.std.specs.Prelude.{◌≤◌, Bool, true, false, Option, None, length}
-use Rattle.amt_ports.specs.declared.feed.FeedAnswer.{FeedAnswer}
-use Rattle.amt_ports.specs.declared.feed.FeedAnswer.TheVariants.{Packet, Nothing as NothingFed, Closed as FeedClosed}
-use Rattle.amt_ports.specs.declared.link.LinkAnswer.{LinkAnswer}
-use Rattle.amt_ports.specs.declared.link.LinkAnswer.TheVariants.{Datagram, Nothing as NothingCame, Closed as LinkClosed}
+use Rattle.amt_ports.specs.declared.{feed.FeedAnswer.{FeedAnswer, TheVariants.{Packet, Nothing as NothingFed, Closed as FeedClosed}}, link.LinkAnswer.{LinkAnswer, TheVariants.{Datagram, Nothing as NothingCame, Closed as LinkClosed}}}
 
 -- a device's answer, and whether memory refused the event that it makes
 pub record Taken (X : Type 0) : Type 0 where

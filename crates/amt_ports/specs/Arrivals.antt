@@ -1,13 +1,7 @@
 -- What links and feeds hand on.
 use Rattle.std.specs.Prelude.{ℕ, ◌≤◌, List, length, take}
-use Rattle.amt_ports.specs.declared.feed.FeedAnswer.{FeedAnswer}
-use Rattle.amt_ports.specs.declared.feed.FeedAnswer.TheVariants.{Packet as PacketAnswer, Nothing as NothingFed, Closed as ClosedFeed}
-use Rattle.amt_ports.specs.declared.feed.FeedGot.{FeedGot}
-use Rattle.amt_ports.specs.declared.feed.FeedGot.TheVariants.{Packet, Nothing as NothingOfFeed, Closed as FeedIsClosed}
-use Rattle.amt_ports.specs.declared.link.Got.{Got}
-use Rattle.amt_ports.specs.declared.link.Got.TheVariants.{Datagram, Nothing, Closed}
-use Rattle.amt_ports.specs.declared.link.LinkAnswer.{LinkAnswer}
-use Rattle.amt_ports.specs.declared.link.LinkAnswer.TheVariants.{Datagram as DatagramAnswer, Nothing as NothingCame, Closed as ClosedLink}
+use Rattle.amt_ports.specs.declared.feed.{FeedAnswer.{FeedAnswer, TheVariants.{Packet as PacketAnswer, Nothing as NothingFed, Closed as ClosedFeed}}, FeedGot.{FeedGot}}
+use Rattle.amt_ports.specs.declared.{feed.FeedGot.TheVariants.{Packet, Nothing as NothingOfFeed, Closed as FeedIsClosed}, link.{Got.{Got, TheVariants.{Datagram, Nothing, Closed}}, LinkAnswer.{LinkAnswer, TheVariants.{Datagram as DatagramAnswer, Nothing as NothingCame, Closed as ClosedLink}}}}
 
 -- the answer with its octets, which stand at the start of the buffer
 abbrev pub link_answer : Got → List ℕ → LinkAnswer

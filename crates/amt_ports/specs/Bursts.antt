@@ -1,11 +1,7 @@
 -- What one asking of a device comes to, and what all askings of a turn come to. An answer is seen as a loop sees
 -- it: with what became of it.
-use Rattle.std.specs.Prelude.{◌≡◌, ◌⊎◌, ◌<◌, List, [], ◌∷◌, ◌++◌, length, Result, Ok, Err}
-use Rattle.std.specs.List.{AllByRecursion}
-use Rattle.amt_ports.specs.declared.asked.Asked.{Asked}
-use Rattle.amt_ports.specs.declared.asked.Asked.TheVariants.{Something, Nothing}
-use Rattle.amt_ports.specs.declared.end.End.{End}
-use Rattle.amt_ports.specs.declared.end.End.TheVariants.{Turns, Closed, LinkFault, FeedFault, WordsFault, SpawnFault, Memory}
+use Rattle.std.specs.{Prelude.{◌≡◌, ◌⊎◌, ◌<◌, List, [], ◌∷◌, ◌++◌, length, Result, Ok, Err}, List.{AllByRecursion}}
+use Rattle.amt_ports.specs.declared.{asked.Asked.{Asked, TheVariants.{Something, Nothing}}, end.End.{End, TheVariants.{Turns, Closed, LinkFault, FeedFault, WordsFault, SpawnFault, Memory}}}
 
 -- The answers of a device: those of which something came, after which the loop goes on, also where memory refused the
 -- event; that there is nothing; and that the device is closed.

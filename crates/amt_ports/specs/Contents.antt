@@ -1,7 +1,6 @@
 -- What files hold, where the device tells it.
 use Rattle.std.specs.Prelude.{◌≡◌, ℕ, ◌≤◌, ◌<◌, List, length, Option, Some, None}
-use Rattle.amt_ports.specs.declared.files.FileFault.{FileFault}
-use Rattle.amt_ports.specs.declared.files.FileFault.TheVariants.{Failed, TooLong, Memory}
+use Rattle.amt_ports.specs.declared.files.FileFault.{FileFault, TheVariants.{Failed, TooLong, Memory}}
 
 -- where the content is told, it is these octets
 abbrev pub IsContent : Option (List ℕ) → List ℕ → Type 0

@@ -1,9 +1,6 @@
 -- What is seen of the devices of a run, before a call and after it.
 use Rattle.std.specs.Prelude.{◌≡◌, ◌≤◌, ℕ, max, List, [], ◌∷◌, Option}
-use Rattle.amt_ports.specs.Sends.{TriedSend}
-use Rattle.amt_ports.specs.Told.{Answers}
-use Rattle.amt_ports.specs.declared.feed.FeedAnswer.{FeedAnswer}
-use Rattle.amt_ports.specs.declared.link.LinkAnswer.{LinkAnswer}
+use Rattle.amt_ports.specs.{Sends.{TriedSend}, Told.{Answers}, declared.{feed.FeedAnswer.{FeedAnswer}, link.LinkAnswer.{LinkAnswer}}}
 
 -- of a link: the answers to come and the tried sends, where it tells them, and how often it failed
 pub record LinkSeen : Type 0 where

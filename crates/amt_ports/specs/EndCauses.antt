@@ -1,7 +1,6 @@
 -- Which device's fault ended a run.
 use Rattle.std.specs.Prelude.{◌≡◌, ◌≢◌, ℕ, Result, IsErrOf}
-use Rattle.amt_ports.specs.Causes.{Rose}
-use Rattle.amt_ports.specs.declared.end.End.{End}
+use Rattle.amt_ports.specs.{Causes.{Rose}, declared.end.End.{End}}
 
 -- the count rose where this ended the run, and only there
 pub record IsCausedBy {A : Type 0} (result : Result A End) (cause : End) (before after : ℕ) : Type 0 where

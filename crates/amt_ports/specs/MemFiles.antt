@@ -1,12 +1,6 @@
 -- What files in memory are seen as.
-use Rattle.std.specs.Prelude.{◌≡◌, ℕ, Bool, List, length, find, nat_eq, Option, Some, None}
-use Rattle.std.specs.Cmp.Lexicographic.{pointwise}
-use Rattle.std.specs.Option.{option_map}
-use Rattle.std.specs.String.{string_bytes}
-use Rattle.amt_ports.specs.Tally.{Tally}
-use Rattle.amt_ports.specs.declared.files.FileFault.{FileFault}
-use Rattle.amt_ports.specs.declared.files.FileFault.TheVariants.{Failed, TooLong, Memory}
-use Rattle.amt_ports.specs.declared.memory.files.MemFile.{MemFile}
+use Rattle.std.specs.{Prelude.{◌≡◌, ℕ, Bool, List, length, find, nat_eq, Option, Some, None}, Cmp.Lexicographic.{pointwise}, Option.{option_map}, String.{string_bytes}}
+use Rattle.amt_ports.specs.{Tally.{Tally}, declared.{files.FileFault.{FileFault, TheVariants.{Failed, TooLong, Memory}}, memory.files.MemFile.{MemFile}}}
 
 -- the files, and the calls so far
 pub record FileCalls : Type 0 where

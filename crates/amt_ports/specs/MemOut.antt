@@ -1,8 +1,6 @@
 -- What an out link in memory is seen as.
 use Rattle.std.specs.Prelude.{◌≡◌, List, map, Option, Some, None, if◌then◌else◌, Bool}
-use Rattle.amt_ports.specs.Sends.{TriedSend}
-use Rattle.amt_ports.specs.Tally.{Tally}
-use Rattle.amt_ports.specs.declared.tried.Tried.{Tried}
+use Rattle.amt_ports.specs.{Sends.{TriedSend}, Tally.{Tally}, declared.tried.Tried.{Tried}}
 
 abbrev pub tried_of : Tried → TriedSend
 tried_of tried = record { to = tried.to; bytes = tried.bytes; sent = tried.sent }

@@ -1,9 +1,7 @@
 -- How a socket is used for one datagram.
 use Rattle.std.specs.Prelude.{◌≡◌, ℕ, Bool, true, false, List, [], ◌∷◌, Option, Result, Ok, Err}
 use Rattle.amt_values.specs.declared.peer.Peer.{Peer}
-use Rattle.amt_ports.specs.Told.{AppendsAll}
-use Rattle.amt_ports.specs.declared.adapters.udp.outlet.Attempt.{Attempt}
-use Rattle.amt_ports.specs.declared.adapters.udp.outlet.Attempt.TheVariants.{Failed, Full, Taken}
+use Rattle.amt_ports.specs.{Told.{AppendsAll}, declared.adapters.udp.outlet.Attempt.{Attempt, TheVariants.{Failed, Full, Taken}}}
 
 -- what is done with a socket: a datagram is tried, which comes to this, or room is waited for
 pub data Use : Type 0 where

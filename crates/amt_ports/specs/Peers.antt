@@ -1,11 +1,6 @@
 -- Peers as std's socket addresses.
-use Rattle.std.specs.Prelude.{ℕ, ◌%◌, ◌^◌, if◌then◌else◌}
-use Rattle.std.specs.Net.Addr.{ipv4_bits, ipv6_bits, IsIpv4OfBits, IsIpv6OfBits}
-use Rattle.std.specs.declared.net.ip_addr.IpAddr.{IpAddr}
-use Rattle.std.specs.declared.net.ip_addr.IpAddr.TheVariants.{V4 as StdV4, V6 as StdV6}
-use Rattle.amt_values.specs.Address.{is_mapped}
-use Rattle.amt_values.specs.declared.address.Ip.{Ip}
-use Rattle.amt_values.specs.declared.address.Ip.TheVariants.{V4, V6}
+use Rattle.std.specs.{Prelude.{ℕ, ◌%◌, ◌^◌, if◌then◌else◌}, Net.Addr.{ipv4_bits, ipv6_bits, IsIpv4OfBits, IsIpv6OfBits}, declared.net.ip_addr.IpAddr.{IpAddr, TheVariants.{V4 as StdV4, V6 as StdV6}}}
+use Rattle.amt_values.specs.{Address.{is_mapped}, declared.address.Ip.{Ip, TheVariants.{V4, V6}}}
 
 -- the address with these 128 bits: an IPv4-mapped one is the IPv4 address in it, and every other one is
 -- itself (RFC 4291, section 2.5.5.2)

@@ -1,6 +1,5 @@
 -- How much of a source a reader took, where the source tells its bytes.
-use Rattle.std.specs.Prelude.{◌≡◌, ℕ, ◌<◌, ◌≤◌, List, ◌++◌, Option, length}
-use Rattle.std.specs.Io.KnownBytes.{Consumes, IsAtEnd}
+use Rattle.std.specs.{Prelude.{◌≡◌, ℕ, ◌<◌, ◌≤◌, List, ◌++◌, Option, length}, Io.KnownBytes.{Consumes, IsAtEnd}}
 
 -- these bytes were taken, and none is left
 pub record TakesAll (old new : Option (List ℕ)) (bytes : List ℕ) : Type 0 where

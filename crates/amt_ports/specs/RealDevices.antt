@@ -1,11 +1,6 @@
 -- How often the real devices have failed, and whether their sends may wait.
 use Rattle.std.specs.Prelude.{ℕ, Bool}
-use Rattle.amt_ports.specs.declared.adapters.host_clock.HostClock.{HostClock}
-use Rattle.amt_ports.specs.declared.adapters.host_files.HostFiles.{HostFiles}
-use Rattle.amt_ports.specs.declared.adapters.host_words.HostWords.{HostWords}
-use Rattle.amt_ports.specs.declared.adapters.udp.feed.UdpFeed.{UdpFeed}
-use Rattle.amt_ports.specs.declared.adapters.udp.link.UdpLink.{UdpLink}
-use Rattle.amt_ports.specs.declared.adapters.udp.out.UdpOut.{UdpOut}
+use Rattle.amt_ports.specs.declared.adapters.{host_clock.HostClock.{HostClock}, host_files.HostFiles.{HostFiles}, host_words.HostWords.{HostWords}, udp.{feed.UdpFeed.{UdpFeed}, link.UdpLink.{UdpLink}, out.UdpOut.{UdpOut}}}
 
 -- receivings and sends of a link
 abbrev pub receivings_failed : UdpLink → ℕ

@@ -1,6 +1,5 @@
 -- What was sent, and what was tried.
-use Rattle.std.specs.Prelude.{ℕ, Bool, not, List, Result, is_ok}
-use Rattle.std.specs.List.{count_by}
+use Rattle.std.specs.{Prelude.{ℕ, Bool, not, List, Result, is_ok}, List.{count_by}}
 use Rattle.amt_values.specs.declared.peer.Peer.{Peer}
 use Rattle.amt_ports.specs.declared.fault.Failed.{Failed}
 

@@ -1,7 +1,6 @@
 -- What was tried of a list of datagrams.
 use Rattle.std.specs.Prelude.{◌≡◌, ℕ, ◌-◌, ◌^◌, ◌<◌, ◌≤◌, List, map, Option, IsSome}
-use Rattle.amt_ports.specs.Sends.{TriedSend, datagram_of, sent_count, unsent_count}
-use Rattle.amt_ports.specs.Told.{AppendsAll}
+use Rattle.amt_ports.specs.{Sends.{TriedSend, datagram_of, sent_count, unsent_count}, Told.{AppendsAll}}
 use Rattle.amt_values.specs.declared.peer.Peer.{Peer}
 
 -- the count rose, unless it stands at its last value

@@ -1,10 +1,6 @@
 //! Where packets come from, one in a datagram. It must not know any device.
 ghost use Rattle.std.specs.Prelude.{◌≡◌, ◌≤◌, ℕ, max, List, Option, length, IfOk, OnErr};
-ghost use Rattle.amt_ports.specs.Arrivals.{IsShortFeedGot, feed_answer};
-ghost use Rattle.amt_ports.specs.Causes.{HasCause};
-ghost use Rattle.amt_ports.specs.Told.{Answers};
-ghost use Rattle.amt_ports.specs.declared.feed.FeedAnswer.{FeedAnswer as Answer};
-ghost use Rattle.amt_ports.specs.declared.feed.FeedAnswer.TheVariants.{Closed as ClosedFeed};
+ghost use Rattle.amt_ports.specs.{Arrivals.{IsShortFeedGot, feed_answer}, Causes.{HasCause}, Told.{Answers}, declared.feed.FeedAnswer.{FeedAnswer as Answer, TheVariants.{Closed as ClosedFeed}}};
 
 use crate::Failed;
 use amt_values::Bytes;

@@ -1,7 +1,6 @@
 //! Files that are read whole. It must not know any device.
 ghost use Rattle.std.specs.Prelude.{◌≡◌, ◌<◌, ◌≤◌, ℕ, List, Option, length, IfOk, IfErr, IsErrOf};
-ghost use Rattle.amt_ports.specs.Causes.{Rose};
-ghost use Rattle.amt_ports.specs.Contents.{IsContent, IsLonger};
+ghost use Rattle.amt_ports.specs.{Causes.{Rose}, Contents.{IsContent, IsLonger}};
 
 use amt_values::{Bytes, INPUT_LIMIT};
 use std::alloc::Global;

@@ -1,12 +1,7 @@
 //! What a UDP socket is to a machine: datagrams come in, and datagrams go out. It must not know any
 //! device.
 ghost use Rattle.std.specs.Prelude.{◌≡◌, ◌≤◌, ℕ, max, IsSome, List, Option, length, IfOk, OnOk, OnErr};
-ghost use Rattle.amt_ports.specs.Arrivals.{IsShortGot, link_answer};
-ghost use Rattle.amt_ports.specs.Causes.{HasCause};
-ghost use Rattle.amt_ports.specs.Sends.{TriedSend, tried_send};
-ghost use Rattle.amt_ports.specs.Told.{Answers, Appends};
-ghost use Rattle.amt_ports.specs.declared.link.LinkAnswer.{LinkAnswer as Answer};
-ghost use Rattle.amt_ports.specs.declared.link.LinkAnswer.TheVariants.{Closed as ClosedLink};
+ghost use Rattle.amt_ports.specs.{Arrivals.{IsShortGot, link_answer}, Causes.{HasCause}, Sends.{TriedSend, tried_send}, Told.{Answers, Appends}, declared.link.LinkAnswer.{LinkAnswer as Answer, TheVariants.{Closed as ClosedLink}}};
 
 use crate::Failed;
 use amt_values::{Bytes, Peer};

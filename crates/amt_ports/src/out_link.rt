@@ -1,8 +1,6 @@
 //! Where datagrams are sent to. It must not know any device.
 ghost use Rattle.std.specs.Prelude.{ℕ, IsSome, List, OnOk, Option};
-ghost use Rattle.amt_ports.specs.Causes.{HasCause};
-ghost use Rattle.amt_ports.specs.Sends.{TriedSend, tried_send};
-ghost use Rattle.amt_ports.specs.Told.{Appends};
+ghost use Rattle.amt_ports.specs.{Causes.{HasCause}, Sends.{TriedSend, tried_send}, Told.{Appends}};
 
 use crate::Failed;
 use amt_values::Peer;

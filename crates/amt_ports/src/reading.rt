@@ -1,9 +1,7 @@
 //! Reading an input to its end. It must not know what the bytes spell.
 
-ghost use Rattle.std.specs.Prelude.{◌≡◌, ◌≢◌, ◌+◌, ◌≤◌, ◌<◌, ◌^◌, ◌++◌, length, replicate, vec_len, OnOk, OnErr, IfOk, IfErr, IsErrOf};
-ghost use Rattle.std.specs.Io.KnownBytes.{Keeps};
-ghost use Rattle.amt_ports.specs.Causes.{Rose};
-ghost use Rattle.amt_ports.specs.Reading.{TakesAll, TakesAtMost, TakesMore, TakesNext};
+ghost use Rattle.std.specs.{Prelude.{◌≡◌, ◌≢◌, ◌+◌, ◌≤◌, ◌<◌, ◌^◌, ◌++◌, length, replicate, vec_len, OnOk, OnErr, IfOk, IfErr, IsErrOf}, Io.KnownBytes.{Keeps}};
+ghost use Rattle.amt_ports.specs.{Causes.{Rose}, Reading.{TakesAll, TakesAtMost, TakesMore, TakesNext}};
 
 use crate::Source;
 use amt_values::{Bytes, INPUT_LIMIT};

@@ -1,7 +1,6 @@
 //! Values that a device in memory gives one after the other. It must not know what they are.
 ghost use Rattle.std.specs.Prelude.{◌≡◌, [], Some, drop};
-ghost use Rattle.amt_ports.specs.Scripted.{head_or};
-ghost use Rattle.amt_ports.specs.Told.{Appends};
+ghost use Rattle.amt_ports.specs.{Scripted.{head_or}, Told.{Appends}};
 
 use std::marker::Model;
 

@@ -1,8 +1,6 @@
 //! What is written to. It must not know any device.
 
-ghost use Rattle.std.specs.Prelude.{◌<◌, ℕ, List, Option, length, IfOk};
-ghost use Rattle.std.specs.Io.{WritesAtMost};
-ghost use Rattle.std.specs.Io.KnownBytes.{WriteAppends};
+ghost use Rattle.std.specs.{Prelude.{◌<◌, ℕ, List, Option, length, IfOk}, Io.{WritesAtMost, KnownBytes.{WriteAppends}}};
 ghost use Rattle.amt_ports.specs.Causes.{HasCause};
 
 use crate::Failed;

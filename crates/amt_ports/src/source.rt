@@ -1,8 +1,6 @@
 //! What is read from. It must not know any device.
 
-ghost use Rattle.std.specs.Prelude.{ℕ, List, Option};
-ghost use Rattle.std.specs.Io.{ReadsAtMost};
-ghost use Rattle.std.specs.Io.KnownBytes.{ReadConsumes};
+ghost use Rattle.std.specs.{Prelude.{ℕ, List, Option}, Io.{ReadsAtMost, KnownBytes.{ReadConsumes}}};
 ghost use Rattle.amt_ports.specs.Causes.{HasCause};
 
 use crate::Failed;

@@ -1,8 +1,7 @@
 //! The calls of a device in memory, and which of them fail. It must not know what they read or write.
 
 ghost use Rattle.std.specs.Prelude.{◌≡◌, ◌≤◌, ◌↔◌, Contains, IsErr, OnOk, OnErr};
-ghost use Rattle.amt_ports.specs.Causes.{HasCause, next_count};
-ghost use Rattle.amt_ports.specs.Tally.{fresh_tally, with_call, with_fault};
+ghost use Rattle.amt_ports.specs.{Causes.{HasCause, next_count}, Tally.{fresh_tally, with_call, with_fault}};
 
 use crate::Failed;
 use crate::fault::count_fault;

@@ -1,10 +1,6 @@
 //! The sends that a device in memory keeps. It must not know why one failed.
 ghost use Rattle.std.specs.Prelude.{◌≡◌, [], Some, None, Contains, IsErr, IsSome, OnOk, OnErr};
-ghost use Rattle.amt_ports.specs.Causes.{HasCause, next_count};
-ghost use Rattle.amt_ports.specs.MemOut.{Shows};
-ghost use Rattle.amt_ports.specs.Sends.{tried_send};
-ghost use Rattle.amt_ports.specs.Tally.{with_call, with_fault};
-ghost use Rattle.amt_ports.specs.Told.{Appends};
+ghost use Rattle.amt_ports.specs.{Causes.{HasCause, next_count}, MemOut.{Shows}, Sends.{tried_send}, Tally.{with_call, with_fault}, Told.{Appends}};
 
 use crate::Failed;
 use crate::tally::CallTally;
@@ -30,8 +26,7 @@ pub(crate) struct SendLog {
 
 impl Model for SendLog {
     ghost use Rattle.std.specs.Prelude.{List, Option};
-    ghost use Rattle.amt_ports.specs.MemOut.{told_sends};
-    ghost use Rattle.amt_ports.specs.Sends.{TriedSend};
+    ghost use Rattle.amt_ports.specs.{MemOut.{told_sends}, Sends.{TriedSend}};
 
     ghost Value = { Option (List TriedSend) };
 

@@ -1,7 +1,6 @@
 //! Where random numbers come from. It must not know any device.
 ghost use Rattle.std.specs.Prelude.{◌≡◌, ℕ, List, Option, IfOk, OnErr};
-ghost use Rattle.amt_ports.specs.Causes.{HasCause};
-ghost use Rattle.amt_ports.specs.Told.{Appends};
+ghost use Rattle.amt_ports.specs.{Causes.{HasCause}, Told.{Appends}};
 
 use crate::Failed;
 

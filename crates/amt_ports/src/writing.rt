@@ -1,7 +1,6 @@
 //! Writing all of a text. It must not know what the text says.
 
-ghost use Rattle.std.specs.Prelude.{◌<◌, ℕ, length, take, OnOk, OnErr};
-ghost use Rattle.std.specs.Io.KnownBytes.{Appends};
+ghost use Rattle.std.specs.{Prelude.{◌<◌, ℕ, length, take, OnOk, OnErr}, Io.KnownBytes.{Appends}};
 ghost use Rattle.amt_ports.specs.Causes.{HasCause};
 
 use crate::Sink;

@@ -1,11 +1,8 @@
 -- The first reason why the fields of a datagram or a packet fail.
 use Rattle.std.proofs.Common.{◌≡◌, ℕ, ◌⊎◌, List, [], ◌∷◌, inl, inr, refl, sym, subst}
-use Rattle.amt_values.specs.declared.peer.Peer.{Peer}
-use Rattle.amt_values.specs.Text.{IsPeerText}
-use Rattle.amt_script.specs.declared.kind.Kind.TheVariants.{Datagram, Packet}
+use Rattle.amt_values.specs.{declared.peer.Peer.{Peer}, Text.{IsPeerText}, Conditions.{First}}
+use Rattle.amt_script.specs.{declared.kind.Kind.TheVariants.{Datagram, Packet}, Fault.{FailsAs, order_of_values}}
 use Rattle.script_lines.specs.declared.reason.Reason.TheVariants as reasons
-use Rattle.amt_values.specs.Conditions.{First}
-use Rattle.amt_script.specs.Fault.{FailsAs, order_of_values}
 use Rattle.script_lines.specs.Form.{IsHexText}
 
 neither : ⊥ ⊎ (⊥ ⊎ ⊥) → ⊥

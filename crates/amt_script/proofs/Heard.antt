@@ -1,15 +1,8 @@
 -- The settings and items that have been said, one line more.
-use Rattle.std.proofs.Common.{ℕ, List, [], ◌∷◌, ◌++◌, sym, ap, subst, ◌∙◌, append-nil}
-use Rattle.std.specs.List.{AllByRecursion}
-use Rattle.std.proofs.lemmas.List.Elements.{filter_map-append}
-use Rattle.amt_script.specs.declared.line.RelayStatement.{RelayStatement}
+use Rattle.std.{proofs.{Common.{ℕ, List, [], ◌∷◌, ◌++◌, sym, ap, subst, ◌∙◌, append-nil}, lemmas.List.Elements.{filter_map-append}}, specs.List.{AllByRecursion}}
+use Rattle.amt_script.specs.{declared.{line.RelayStatement.{RelayStatement}, script.RelayItem.{RelayItem}, setting.Setting.{Setting}}, Reading.{AreThose, IsAllowed}, Says.{SaysSetting}, Script.{SaysAfter, setting_in, item_in, settings_in, items_in}}
 use Rattle.amt_script.specs.declared.line.RelayStatement.TheVariants as statements
-use Rattle.amt_script.specs.declared.script.RelayItem.{RelayItem}
-use Rattle.amt_script.specs.declared.setting.Setting.{Setting}
 use Rattle.amt_script.specs.declared.setting.Setting.TheVariants as settings
-use Rattle.amt_script.specs.Reading.{AreThose, IsAllowed}
-use Rattle.amt_script.specs.Says.{SaysSetting}
-use Rattle.amt_script.specs.Script.{SaysAfter, setting_in, item_in, settings_in, items_in}
 
 -- what a line says after these settings and items, it says after the statements that they are of
 pub says_after : (given : List Setting) (items : List RelayItem) (past : List RelayStatement) (one : RelayStatement) (line : List (List ℕ)) → AreThose given items past

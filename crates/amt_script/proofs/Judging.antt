@@ -1,19 +1,10 @@
 -- The first reason why a line is bad, by its kind and its fields.
 use Rattle.std.proofs.Common.{◌≡◌, ◌≢◌, ℕ, ◌⊎◌, ◌↔◌, List, [], ◌∷◌, ◌++◌, codes, IsSome, inl, inr, refl, sym, subst, ◌∙◌}
-use Rattle.script_lines.specs.declared.reason.Reason.{Reason}
+use Rattle.script_lines.{specs.declared.reason.Reason.{Reason}, proofs.Firsts.{First-same}}
 use Rattle.script_lines.specs.declared.reason.Reason.TheVariants as reasons
 use Rattle.amt_values.specs.Conditions.{First}
-use Rattle.script_lines.proofs.Firsts.{First-same}
-use Rattle.amt_script.specs.declared.script.RelayItem.{RelayItem}
-use Rattle.amt_script.specs.declared.kind.Key.{Key}
-use Rattle.amt_script.specs.declared.kind.Kind.{Kind}
+use Rattle.amt_script.{specs.{declared.{script.RelayItem.{RelayItem}, kind.{Key.{Key}, Kind.{Kind}}, setting.Setting.{Setting}}, Fault.{FailsAfter, FailsAs, FailsInKind, order_of_values, order_of_reasons}, SetLine.{FailsToSetKey}, Row.{words_of, IsUnknown}, Setting.{set_at}}, proofs.Rows.{same_kind, same_values}}
 use Rattle.amt_script.specs.declared.kind.Kind.TheVariants as kinds
-use Rattle.amt_script.specs.declared.setting.Setting.{Setting}
-use Rattle.amt_script.specs.Fault.{FailsAfter, FailsAs, FailsInKind, order_of_values, order_of_reasons}
-use Rattle.amt_script.specs.SetLine.{FailsToSetKey}
-use Rattle.amt_script.specs.Row.{words_of, IsUnknown}
-use Rattle.amt_script.specs.Setting.{set_at}
-use Rattle.amt_script.proofs.Rows.{same_kind, same_values}
 
 pub fails_as : (kind : Kind) (values line : List (List ℕ)) (reason : Reason) → line ≡ words_of kind ++ values → FailsInKind line reason → FailsAs kind values reason
 fails_as kind values line reason parts fails =
@@ -36,29 +27,6 @@ counted : (kind : Kind) (values line : List (List ℕ)) → line ≡ words_of ki
 counted kind values line parts (inl alone) = absurd (no_set_alone kind values line parts alone)
 counted kind values line parts (inr fails) = fails_as kind values line reasons.Count parts fails
 
-pub values_judged : (given : List Setting) (items : List RelayItem) (line : List (List ℕ)) (kind : Kind) (values : List (List ℕ)) (reason : Reason) → line ≡ words_of kind ++ values
-    → First (FailsAs kind values) order_of_values reason → First (FailsAfter given items line) order_of_values reason
-values_judged given items line kind values reason parts first =
-    First-same (FailsAs kind values) (FailsAfter given items line) order_of_values reason (
-      (λ h. inr (kind, values, parts, h), counted kind values line parts),
-      (
-        in_kind kind values line reasons.Number parts,
-        (
-          in_kind kind values line reasons.Hex parts,
-          (
-            in_kind kind values line reasons.Address parts,
-            (
-              in_kind kind values line reasons.Peer parts,
-              (
-                in_kind kind values line reasons.Range parts,
-                tt,
-              ),
-            ),
-          ),
-        ),
-      ),
-    ) first
-
 pub no_word : (line : List (List ℕ)) (kind : Kind) (values : List (List ℕ)) → line ≡ words_of kind ++ values → IsUnknown line → ⊥
 no_word line kind values parts unknown = unknown.no_kind kind values parts
 
@@ -73,21 +41,6 @@ no_late kinds.Secret values line rest item parts set = cc (sym set ∙ parts)
 no_late kinds.Datagram values line rest item parts set = cc (sym set ∙ parts)
 no_late kinds.Packet values line rest item parts set = cc (sym set ∙ parts)
 no_late kinds.Show values line rest item parts set = cc (sym set ∙ parts)
-
-pub item_judged : (given : List Setting) (items : List RelayItem) (line : List (List ℕ)) (kind : Kind) (values : List (List ℕ)) (reason : Reason)
-    → IsItemKind kind → line ≡ words_of kind ++ values
-    → First (FailsAs kind values) order_of_values reason → First (FailsAfter given items line) order_of_reasons reason
-item_judged given items line kind values reason item parts first =
-    inr (
-      no_word line kind values parts,
-      inr (
-        λ late. no_late kind values line late.1 item parts late.2,
-        inr (
-          λ twice. item twice.0 (same_kind kind (kinds.Set twice.0) values twice.1 (sym parts ∙ twice.2)),
-          values_judged given items line kind values reason parts first,
-        ),
-      ),
-    )
 
 set_key : (one other : Key) → kinds.Set one ≡ kinds.Set other → one ≡ other
 set_key one other same = cc

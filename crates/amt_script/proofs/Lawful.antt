@@ -1,23 +1,11 @@
 -- Relay scripts are a lawful kind of script.
 use Rattle.std.proofs.Common.{◌≡◌, ℕ, List, Option, None, Some, IsSome, inl, inr, sym, ap, ◌∙◌}
-use Rattle.script_lines.specs.declared.reason.Reason.{Reason}
+use Rattle.script_lines.specs.{declared.reason.Reason.{Reason}, Kind.{IsLawfulKind}}
 use Rattle.script_lines.specs.declared.reason.Reason.TheVariants as reasons
-use Rattle.script_lines.specs.Kind.{IsLawfulKind}
-use Rattle.amt_script.specs.declared.kind.Kind.{Kind}
+use Rattle.amt_script.specs.{declared.{kind.Kind.{Kind}, line.RelayStatement.{RelayStatement}, script.{RelayItem.{RelayItem}, RelayScript.{RelayScript}}, setting.Setting.{Setting}}, Fault.{FailsAfter}, Script.{SaysAfter, MakesRelayScript, settings_in, items_in, relay_kind}, Setting.{key_of, set_at}}
+use Rattle.amt_script.proofs.{Judging.{fails_as, no_set_alone, no_word, no_late, twice_at, IsItemKind}, Rows.{same_kind}, Says.{IsFit, kind_of_item, setting_is_fit, item_is_fit, no_set_item, setting_or_item}, Settlings.{settled_values, wrong_at_end}, Unique.{SaysSetting-unique, SaysItem-unique}}
 use Rattle.amt_script.specs.declared.kind.Kind.TheVariants as kinds
-use Rattle.amt_script.specs.declared.line.RelayStatement.{RelayStatement}
 use Rattle.amt_script.specs.declared.line.RelayStatement.TheVariants as statements
-use Rattle.amt_script.specs.declared.script.RelayItem.{RelayItem}
-use Rattle.amt_script.specs.declared.script.RelayScript.{RelayScript}
-use Rattle.amt_script.specs.declared.setting.Setting.{Setting}
-use Rattle.amt_script.specs.Fault.{FailsAfter}
-use Rattle.amt_script.specs.Script.{SaysAfter, MakesRelayScript, settings_in, items_in, relay_kind}
-use Rattle.amt_script.specs.Setting.{key_of, set_at}
-use Rattle.amt_script.proofs.Judging.{fails_as, no_set_alone, no_word, no_late, twice_at, IsItemKind}
-use Rattle.amt_script.proofs.Rows.{same_kind}
-use Rattle.amt_script.proofs.Says.{IsFit, kind_of_item, setting_is_fit, item_is_fit, no_set_item, setting_or_item}
-use Rattle.amt_script.proofs.Settlings.{settled_values, wrong_at_end}
-use Rattle.amt_script.proofs.Unique.{SaysSetting-unique, SaysItem-unique}
 
 fit_is_good : (given : List Setting) (items : List RelayItem) (line : List (List ℕ)) (kind : Kind) → IsFit kind line
     → (FailsAfter given items line reasons.Late → ⊥) → (FailsAfter given items line reasons.Twice → ⊥) → (reason : Reason) → FailsAfter given items line reason → ⊥

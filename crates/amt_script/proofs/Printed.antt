@@ -1,18 +1,11 @@
 -- A printed event is one line, which is read back.
-use Rattle.std.proofs.Common.{ℕ, ◌^◌, ◌<◌, ◌≤◌, ◌≡◌, List, ◌∷◌, ◌++◌, length, codes, decimal, length-append, refl, ap, ◌∙◌, arith, rules}
-use Rattle.std.proofs.lemmas.Fmt.{decimal_nonempty, length-decimal-le}
-use Rattle.amt_values.specs.Octets.{AreOctets}
-use Rattle.amt_values.specs.Text.{peer_text, IsPeerText}
-use Rattle.amt_values.specs.declared.peer.Peer.{Peer}
+use Rattle.std.proofs.{Common.{ℕ, ◌^◌, ◌<◌, ◌≤◌, ◌≡◌, List, ◌∷◌, ◌++◌, length, codes, decimal, length-append, refl, ap, ◌∙◌, arith, rules}, lemmas.Fmt.{decimal_nonempty, length-decimal-le}}
+use Rattle.amt_values.specs.{Octets.{AreOctets}, Text.{peer_text, IsPeerText}, declared.peer.Peer.{Peer}}
 use Rattle.response_mac.specs.declared.secret.Secret.{Secret}
 use Rattle.relay_machine.specs.declared.event.Event.TheVariants.{Moment, Datagram, Packet, Rotate}
-use Rattle.script_lines.specs.Texts.{hex_text}
-use Rattle.script_lines.proofs.Glyphs.{glyphs_of_digits}
-use Rattle.script_lines.proofs.Peers.{peer_length}
-use Rattle.script_lines.proofs.Words.{fields-word, fields-two, plain_two, plain_glyphs, glyphs_of_literal, secret_text, hex_word, peer_word, hex_length}
-use Rattle.amt_script.specs.Printed.{IsLineThatSays}
+use Rattle.script_lines.{specs.Texts.{hex_text}, proofs.{Glyphs.{glyphs_of_digits}, Peers.{peer_length}, Words.{fields-word, fields-two, plain_two, plain_glyphs, glyphs_of_literal, secret_text, hex_word, peer_word, hex_length}}}
+use Rattle.amt_script.specs.{Printed.{IsLineThatSays}, Says.{IsItemLine}}
 use Rattle.amt_script.specs.declared.script.RelayItem.TheVariants as items
-use Rattle.amt_script.specs.Says.{IsItemLine}
 
 moment_line : (ms : ℕ) → ms < 2 ^ 62 → IsItemLine (items.Event (Moment ms)) (codes "at " ++ decimal ms)
 moment_line ms small =

@@ -1,11 +1,8 @@
 -- The lines of memberships, one after another.
-use Rattle.std.proofs.Common.{◌≡◌, ◌<◌, ◌+◌, ℕ, List, [], ◌∷◌, ◌++◌, length, get_or, take, drop, flat_map, Option, sym, ap, subst, ◌∙◌, append_assoc, append-nil}
-use Rattle.std.proofs.lemmas.List.{take_more, take-append-drop}
-use Rattle.std.proofs.lemmas.List.Concat.{flat_map-append}
+use Rattle.std.proofs.{Common.{◌≡◌, ◌<◌, ◌+◌, ℕ, List, [], ◌∷◌, ◌++◌, length, get_or, take, drop, flat_map, Option, sym, ap, subst, ◌∙◌, append_assoc, append-nil}, lemmas.List.{take_more, take-append-drop, Concat.{flat_map-append}}}
 use Rattle.endpoint_membership.specs.declared.row.Row.{Row}
-use Rattle.script_lines.specs.Writing.{WritesPrefix}
-use Rattle.script_lines.proofs.Writes.{prefix_of_more}
-use Rattle.amt_script.specs.Texts.{count_line, row_text, rows_text}
+use Rattle.script_lines.{specs.Writing.{WritesPrefix}, proofs.Writes.{prefix_of_more}}
+use Rattle.amt_script.specs.Texts.{row_text}
 
 -- one line more
 pub row_more : (start : List ℕ) (rows : List Row) (i : ℕ) (d : Row) → i < length rows
@@ -29,12 +26,3 @@ pub prefix_of_rows : (a b : Option (List ℕ)) (start : List ℕ) (rows : List R
     → WritesPrefix a b (start ++ flat_map row_text (take n rows)) → WritesPrefix a b (start ++ flat_map row_text rows)
 prefix_of_rows a b start rows n prefix =
     subst (WritesPrefix a b) (rows_parted start rows n) (prefix_of_more a b (start ++ flat_map row_text (take n rows)) (flat_map row_text (drop n rows)) prefix)
-
--- the line that counts the memberships, and theirs after it
-pub shown_after : (held held' : List ℕ) (number count : ℕ) (rows rows' : List Row) → held' ≡ held ++ count_line number count → count ≡ length rows → rows ≡ rows'
-    → held' ++ flat_map row_text rows ≡ held ++ rows_text number rows'
-unfolding rows_text
-shown_after held held' number count rows rows' is counted same =
-    ap (λ (text : List ℕ). text ++ flat_map row_text rows) is
-    ∙ (append_assoc held (count_line number count) (flat_map row_text rows)
-    ∙ (ap (λ (n : ℕ). held ++ (count_line number n ++ flat_map row_text rows)) counted ∙ ap (λ (all : List Row). held ++ (count_line number (length all) ++ flat_map row_text all)) same))

@@ -1,17 +1,10 @@
 -- A line is of one kind.
 use Rattle.std.proofs.Common.{◌≡◌, ◌<◌, ◌^◌, ℕ, ◌+◌, ◌*◌, ◌==◌, List, [], ◌∷◌, ◌++◌, length, get_or, Option, Some, None, find, if◌then◌else◌, refl, sym, ap, ◌∙◌, rules, arith}
-use Rattle.std.specs.List.{AllByRecursion}
-use Rattle.std.specs.Str.{bytes_eq}
-use Rattle.std.proofs.lemmas.List.Elements.{All-from_recursion}
-use Rattle.relay_machine.specs.declared.number_key.NumberKey.{NumberKey}
-use Rattle.relay_machine.specs.declared.number_key.TheConstants.{NUMBER_KEYS}
-use Rattle.relay_machine.specs.Settings.{number_row}
-use Rattle.relay_machine.proofs.Numbers.{All-keys}
-use Rattle.amt_script.specs.declared.kind.Key.{Key}
+use Rattle.std.{specs.{List.{AllByRecursion}, Str.{bytes_eq}}, proofs.lemmas.List.Elements.{All-from_recursion}}
+use Rattle.relay_machine.{specs.{declared.number_key.{NumberKey.{NumberKey}, TheConstants.{NUMBER_KEYS}}, Settings.{number_row}}, proofs.Numbers.{All-keys}}
+use Rattle.amt_script.specs.{declared.kind.{Key.{Key}, Kind.{Kind}}, Row.{key_word, number_word, words_of}}
 use Rattle.amt_script.specs.declared.kind.Key.TheVariants as keys
-use Rattle.amt_script.specs.declared.kind.Kind.{Kind}
 use Rattle.amt_script.specs.declared.kind.Kind.TheVariants as kinds
-use Rattle.amt_script.specs.Row.{key_word, number_word, words_of}
 
 -- a number that tells the words of the format apart: the first octet, the sixth one, and the length
 abbrev mark : List ℕ → ℕ
@@ -40,9 +33,6 @@ key_marked keys.Query4 = refl
 key_marked keys.Query6 = refl
 key_marked (keys.Number key) = number_marked key
 key_marked keys.Secret = refl
-
-pub same_key : (one other : Key) → key_word one ≡ key_word other → one ≡ other
-same_key one other same = sym (key_marked one) ∙ (ap marked_key same ∙ key_marked other)
 
 pub most_small : (key : NumberKey) → (number_row key).most < 2 ^ 32
 most_small =

@@ -1,21 +1,10 @@
 -- A script that some octets spell can be run.
-use Rattle.std.proofs.Common.{ℕ, List, [], ◌∷◌, ◌++◌, sym, subst}
-use Rattle.std.specs.List.{AllByRecursion}
-use Rattle.std.specs.Str.Lines.{lines}
-use Rattle.relay_machine.specs.EventSize.{IsEvent}
-use Rattle.relay_machine.specs.declared.event.Event.{Event}
-use Rattle.relay_machine.specs.declared.event.Event.TheVariants.{Moment, Datagram, Packet, Rotate}
-use Rattle.script_lines.proofs.Forms.{hex_sized}
-use Rattle.script_lines.specs.Lines.{fields, lines_that_say}
-use Rattle.script_lines.specs.Script.{Say}
-use Rattle.amt_script.specs.declared.line.RelayStatement.{RelayStatement}
+use Rattle.std.{proofs.Common.{ℕ, List, [], ◌∷◌, ◌++◌, sym, subst}, specs.{List.{AllByRecursion}, Str.Lines.{lines}}}
+use Rattle.relay_machine.specs.{EventSize.{IsEvent}, declared.event.Event.{Event, TheVariants.{Moment, Datagram, Packet, Rotate}}}
+use Rattle.script_lines.{proofs.Forms.{hex_sized}, specs.{Lines.{fields, lines_that_say}, Script.{Say}}}
+use Rattle.amt_script.specs.{declared.{line.RelayStatement.{RelayStatement}, script.{RelayItem.{RelayItem}, RelayScript.{RelayScript}}}, Running.{IsItem, IsRunnable}, Says.{SaysEvent, SaysItem}, Script.{items_in, relay_kind, IsRelayScript}}
 use Rattle.amt_script.specs.declared.line.RelayStatement.TheVariants as statements
-use Rattle.amt_script.specs.declared.script.RelayItem.{RelayItem}
 use Rattle.amt_script.specs.declared.script.RelayItem.TheVariants as items
-use Rattle.amt_script.specs.declared.script.RelayScript.{RelayScript}
-use Rattle.amt_script.specs.Running.{IsItem, IsRunnable}
-use Rattle.amt_script.specs.Says.{SaysEvent, SaysItem}
-use Rattle.amt_script.specs.Script.{items_in, relay_kind, IsRelayScript}
 
 event_sized : (event : Event) (line : List (List ℕ)) → SaysEvent event line → IsEvent event
 event_sized (Moment moment) line says = tt

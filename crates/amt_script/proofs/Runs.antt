@@ -1,14 +1,8 @@
 -- What is written of a relay's items.
-use Rattle.std.proofs.Common.{◌≡◌, ℕ, List, [], ◌∷◌, ◌++◌, refl, sym, subst}
-use Rattle.std.proofs.lemmas.List.Elements.{filter_map-append}
-use Rattle.relay_machine.specs.declared.outcome.Outcome.{Outcome}
-use Rattle.relay_machine.specs.declared.sends.OneSend.{OneSend}
-use Rattle.relay_machine.specs.declared.settings.Settings.{Settings}
-use Rattle.relay_machine.specs.declared.relay.Relay.{Relay}
+use Rattle.std.proofs.{Common.{◌≡◌, ℕ, List, [], ◌∷◌, ◌++◌, refl, sym, subst}, lemmas.List.Elements.{filter_map-append}}
+use Rattle.relay_machine.specs.{declared.{outcome.Outcome.{Outcome}, sends.OneSend.{OneSend}, settings.Settings.{Settings}, relay.Relay.{Relay}}, Answers.{RelayAt}}
 use Rattle.response_mac.specs.declared.secret.Secret.{Secret}
-use Rattle.relay_machine.specs.Answers.{RelayAt}
-use Rattle.amt_script.specs.declared.script.RelayItem.{RelayItem}
-use Rattle.amt_script.specs.Texts.{event_in, events_in, step_text}
+use Rattle.amt_script.specs.{declared.script.RelayItem.{RelayItem}, Texts.{event_in, events_in, step_text}}
 
 pub same_step : (number : ℕ) (o p : Outcome) (s t : List OneSend) → o ≡ p → s ≡ t → step_text number o s ≡ step_text number p t
 same_step number o p s t same_outcome same_sends = rw (same_outcome, same_sends) refl

@@ -1,23 +1,12 @@
 -- What a line says fits the kind of the line.
 use Rattle.std.proofs.Common.{◌≡◌, ℕ, List, [], ◌∷◌, ◌++◌, sym, ◌∙◌}
-use Rattle.relay_machine.specs.declared.event.Event.{Event}
+use Rattle.relay_machine.specs.{declared.event.Event.{Event}, Settings.{number_row}}
 use Rattle.relay_machine.specs.declared.event.Event.TheVariants as events
-use Rattle.relay_machine.specs.Settings.{number_row}
-use Rattle.script_lines.specs.declared.reason.Reason.{Reason}
-use Rattle.script_lines.specs.Form.{a_moment, a_number, some_octets, a_secret, an_address, an_address4, an_address6, a_peer}
-use Rattle.script_lines.proofs.Forms.{moment_fits, number_fits, octets_fit, secret_fits, address_fits, address4_fits, address6_fits, peer_fits, none_fits, one_fits, two_fit}
-use Rattle.amt_script.specs.declared.kind.Key.{Key}
-use Rattle.amt_script.specs.declared.kind.Kind.{Kind}
+use Rattle.script_lines.{specs.{declared.reason.Reason.{Reason}, Form.{a_moment, a_number, some_octets, a_secret, an_address, an_address4, an_address6, a_peer}}, proofs.Forms.{moment_fits, number_fits, octets_fit, secret_fits, address_fits, address4_fits, address6_fits, peer_fits, none_fits, one_fits, two_fit}}
+use Rattle.amt_script.{specs.{declared.{kind.{Key.{Key}, Kind.{Kind}}, script.RelayItem.{RelayItem}, setting.Setting.{Setting}}, Fault.{FailsAs}, Row.{words_of}, Says.{SaysSetting, SaysEvent, SaysItem}, Setting.{key_of}}, proofs.Rows.{most_small, same_kind}}
 use Rattle.amt_script.specs.declared.kind.Kind.TheVariants as kinds
-use Rattle.amt_script.specs.declared.script.RelayItem.{RelayItem}
 use Rattle.amt_script.specs.declared.script.RelayItem.TheVariants as items
-use Rattle.amt_script.specs.declared.setting.Setting.{Setting}
 use Rattle.amt_script.specs.declared.setting.Setting.TheVariants as settings
-use Rattle.amt_script.specs.Fault.{FailsAs}
-use Rattle.amt_script.specs.Row.{words_of}
-use Rattle.amt_script.specs.Says.{SaysSetting, SaysEvent, SaysItem}
-use Rattle.amt_script.specs.Setting.{key_of}
-use Rattle.amt_script.proofs.Rows.{most_small, same_kind}
 
 -- the line is of this kind, and no field of it fails
 pub record IsFit (kind : Kind) (line : List (List ℕ)) : Type 0 where

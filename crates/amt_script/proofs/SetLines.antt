@@ -1,17 +1,10 @@
 -- The first reason why the fields after `set` are bad.
 use Rattle.std.proofs.Common.{◌≡◌, ◌↔◌, ◌⊎◌, ℕ, List, [], ◌∷◌, codes, IsSome, inl, inr, sym, ap, ◌∙◌}
-use Rattle.script_lines.specs.declared.reason.Reason.{Reason}
+use Rattle.script_lines.{specs.declared.reason.Reason.{Reason}, proofs.Firsts.{First-same}}
 use Rattle.script_lines.specs.declared.reason.Reason.TheVariants as reasons
 use Rattle.amt_values.specs.Conditions.{First}
-use Rattle.script_lines.proofs.Firsts.{First-same}
-use Rattle.amt_script.specs.declared.kind.Key.{Key}
+use Rattle.amt_script.{specs.{declared.{kind.Key.{Key}, setting.Setting.{Setting}}, Fault.{FailsAs, order_of_values, order_of_reasons}, Row.{key_word, BeginsWithNoKey}, SetLine.{FailsInKey, FailsToSet, FailsToSetKey}, Setting.{set_at}}, proofs.Judging.{fails_as, twice_at}}
 use Rattle.amt_script.specs.declared.kind.Kind.TheVariants as kinds
-use Rattle.amt_script.specs.declared.setting.Setting.{Setting}
-use Rattle.amt_script.specs.Fault.{FailsAs, order_of_values, order_of_reasons}
-use Rattle.amt_script.specs.Row.{key_word, BeginsWithNoKey}
-use Rattle.amt_script.specs.SetLine.{FailsInKey, FailsToSet, FailsToSetKey}
-use Rattle.amt_script.specs.Setting.{set_at}
-use Rattle.amt_script.proofs.Judging.{fails_as, twice_at}
 
 -- the line of these fields after `set`
 set_with : (texts others : List (List ℕ)) → texts ≡ others → codes "set" ∷ texts ≡ codes "set" ∷ others

@@ -1,17 +1,11 @@
 -- Settings of a script are settled in one way, and lawfully or not.
-use Rattle.std.proofs.Common.{◌≡◌, ◌<◌, ◌+◌, ℕ, zero, suc, List, [], ◌∷◌, ◌++◌, length, get_or, take, Some, refl, sym, ap, subst, ◌∙◌, arith}
-use Rattle.std.proofs.lemmas.List.{take_more}
-use Rattle.std.specs.List.{AllByRecursion}
+use Rattle.std.{proofs.{Common.{◌≡◌, ◌<◌, ◌+◌, ℕ, zero, suc, List, [], ◌∷◌, ◌++◌, length, get_or, take, Some, refl, sym, ap, subst, ◌∙◌, arith}, lemmas.List.{take_more}}, specs.List.{AllByRecursion}}
 use Rattle.amt_values.specs.declared.address.Ip.{Ip}
 use Rattle.response_mac.specs.declared.secret.Secret.{Secret}
-use Rattle.relay_machine.specs.Settings.{AreLawfulSettings, default_settings}
-use Rattle.relay_machine.specs.declared.settings.Settings.{Settings}
+use Rattle.relay_machine.specs.{Settings.{AreLawfulSettings, default_settings}, declared.settings.Settings.{Settings}}
 use Rattle.script_lines.specs.declared.reason.Reason.{Reason}
 use Rattle.script_lines.specs.declared.reason.Reason.TheVariants as reasons
-use Rattle.amt_script.specs.declared.setting.Setting.{Setting}
-use Rattle.amt_script.specs.Fault.{FailsAtEnd}
-use Rattle.amt_script.specs.Reading.{IsAllowed}
-use Rattle.amt_script.specs.Settling.{Settles, with_setting, with_settings}
+use Rattle.amt_script.specs.{declared.setting.Setting.{Setting}, Fault.{FailsAtEnd}, Reading.{IsAllowed}, Settling.{Settles, with_setting, with_settings}}
 
 same_ip : (one other : Ip) → Some one ≡ Some other → one ≡ other
 same_ip one other same = cc

@@ -1,26 +1,14 @@
 -- A line says one thing.
 use Rattle.std.proofs.Common.{◌≡◌, ℕ, List, refl, sym, subst, ap, ◌∙◌}
-use Rattle.amt_values.specs.declared.address.Ip.{Ip}
-use Rattle.amt_values.specs.declared.address.Ip.TheVariants.{V4, V6}
-use Rattle.amt_values.specs.declared.peer.Peer.{Peer}
-use Rattle.amt_values.specs.Text.{IsIpText, IsPeerText}
-use Rattle.amt_values.proofs.Unique.{IsIpText-unique, IsPeerText-unique}
+use Rattle.amt_values.{specs.{declared.{address.Ip.{Ip, TheVariants.{V4, V6}}, peer.Peer.{Peer}}, Text.{IsIpText, IsPeerText}}, proofs.Unique.{IsIpText-unique, IsPeerText-unique}}
 use Rattle.response_mac.specs.declared.secret.Secret.{Secret}
-use Rattle.relay_machine.specs.declared.event.Event.{Event}
+use Rattle.relay_machine.specs.{declared.{event.Event.{Event}, number_key.NumberKey.{NumberKey}}, Settings.{number_row}}
 use Rattle.relay_machine.specs.declared.event.Event.TheVariants as events
-use Rattle.relay_machine.specs.declared.number_key.NumberKey.{NumberKey}
-use Rattle.relay_machine.specs.Settings.{number_row}
-use Rattle.script_lines.specs.Form.{IsMomentText, IsNumberText, IsHexText, IsSecretText}
-use Rattle.script_lines.proofs.Forms.{IsHexText-unique, IsSecretText-unique, IsMomentText-unique, IsNumberText-unique, address4, address6, one_field}
+use Rattle.script_lines.{specs.Form.{IsMomentText, IsNumberText, IsHexText, IsSecretText}, proofs.Forms.{IsHexText-unique, IsSecretText-unique, IsMomentText-unique, IsNumberText-unique, address4, address6, one_field}}
 use Rattle.amt_script.specs.declared.kind.Kind.TheVariants as kinds
-use Rattle.amt_script.specs.declared.script.RelayItem.{RelayItem}
+use Rattle.amt_script.{specs.{declared.{script.RelayItem.{RelayItem}, setting.Setting.{Setting}}, Says.{SaysSetting, SaysEvent, SaysItem}, Setting.{key_of}}, proofs.{Rows.{most_small, same_kind}, Says.{kind_of_event, kind_of_item, setting_is_fit, item_is_fit}}}
 use Rattle.amt_script.specs.declared.script.RelayItem.TheVariants as items
-use Rattle.amt_script.specs.declared.setting.Setting.{Setting}
 use Rattle.amt_script.specs.declared.setting.Setting.TheVariants as settings
-use Rattle.amt_script.specs.Says.{SaysSetting, SaysEvent, SaysItem}
-use Rattle.amt_script.specs.Setting.{key_of}
-use Rattle.amt_script.proofs.Rows.{most_small, same_kind}
-use Rattle.amt_script.proofs.Says.{kind_of_event, kind_of_item, setting_is_fit, item_is_fit}
 
 same_number_at : (key : NumberKey) (x y : ℕ) (line : List (List ℕ)) → SaysSetting (settings.Number key x) line → SaysSetting (settings.Number key y) line
     → settings.Number key x ≡ settings.Number key y

@@ -1,20 +1,11 @@
 -- What is wrong with a line of a relay's script, and with all its lines together.
 use Rattle.std.specs.Prelude.{◌≡◌, ◌≢◌, ℕ, ◌⊎◌, List, [], ◌∷◌, ◌++◌, codes, IsSome, None}
 use Rattle.response_mac.specs.declared.secret.Secret.{Secret}
-use Rattle.relay_machine.specs.Settings.{AreLawfulSettings}
-use Rattle.relay_machine.specs.declared.settings.Settings.{Settings}
-use Rattle.script_lines.specs.declared.reason.Reason.{Reason}
-use Rattle.script_lines.specs.declared.reason.Reason.TheVariants.{Long, Word, Late, Twice, Count, Number, Hex, Address, Peer, Range, Missing}
-use Rattle.script_lines.specs.Shape.{FailsIn}
-use Rattle.amt_script.specs.declared.kind.Key.{Key}
+use Rattle.relay_machine.specs.{Settings.{AreLawfulSettings}, declared.settings.Settings.{Settings}}
+use Rattle.script_lines.specs.{declared.reason.Reason.{Reason, TheVariants.{Long, Word, Late, Twice, Count, Number, Hex, Address, Peer, Range, Missing}}, Shape.{FailsIn}}
+use Rattle.amt_script.specs.{declared.{kind.{Key.{Key}, Kind.{Kind}}, script.RelayItem.{RelayItem}, setting.Setting.{Setting}}, Row.{words_of, shape_of, IsUnknown}, Setting.{set_at}, Settling.{Settles, relay_in}}
 use Rattle.amt_script.specs.declared.kind.Key.TheVariants as keys
-use Rattle.amt_script.specs.declared.kind.Kind.{Kind}
 use Rattle.amt_script.specs.declared.kind.Kind.TheVariants as kinds
-use Rattle.amt_script.specs.declared.script.RelayItem.{RelayItem}
-use Rattle.amt_script.specs.declared.setting.Setting.{Setting}
-use Rattle.amt_script.specs.Row.{words_of, shape_of, IsUnknown}
-use Rattle.amt_script.specs.Setting.{set_at}
-use Rattle.amt_script.specs.Settling.{Settles, relay_in}
 
 -- the reasons for which the fields after a line's first words fail
 abbrev pub order_of_values : List Reason

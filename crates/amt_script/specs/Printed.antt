@@ -1,6 +1,5 @@
 -- That a printed event is read back.
-use Rattle.std.specs.Prelude.{◌≡◌, List, [], ◌∷◌, ℕ}
-use Rattle.std.specs.Str.Lines.{lines}
+use Rattle.std.specs.{Prelude.{◌≡◌, List, [], ◌∷◌, ℕ}, Str.Lines.{lines}}
 use Rattle.relay_machine.specs.declared.event.Event.{Event}
 use Rattle.script_lines.specs.Lines.{IsShort}
 use Rattle.amt_script.specs.Says.{IsItemLine}

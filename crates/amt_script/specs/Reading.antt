@@ -1,12 +1,8 @@
 -- What the reader's own answers say.
-use Rattle.std.specs.Prelude.{◌≡◌, List}
-use Rattle.std.specs.List.{AllByRecursion}
+use Rattle.std.specs.{Prelude.{◌≡◌, List}, List.{AllByRecursion}}
 use Rattle.relay_machine.specs.Settings.{IsInKeyRange}
-use Rattle.amt_script.specs.declared.line.RelayStatement.{RelayStatement}
-use Rattle.amt_script.specs.declared.script.RelayItem.{RelayItem}
-use Rattle.amt_script.specs.declared.setting.Setting.{Setting}
+use Rattle.amt_script.specs.{declared.{line.RelayStatement.{RelayStatement}, script.RelayItem.{RelayItem}, setting.Setting.{Setting}}, Script.{settings_in, items_in}}
 use Rattle.amt_script.specs.declared.setting.Setting.TheVariants as settings
-use Rattle.amt_script.specs.Script.{settings_in, items_in}
 
 -- a number is in its key's range
 abbrev pub IsAllowed : Setting → Type 0

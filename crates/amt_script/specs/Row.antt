@@ -1,14 +1,11 @@
 -- The kinds of lines: the words with which a line of each kind begins, and the forms of its fields.
 use Rattle.std.specs.Prelude.{◌≡◌, ◌≢◌, ℕ, List, [], ◌∷◌, ◌++◌, codes, None}
-use Rattle.relay_machine.specs.declared.number_key.NumberKey.{NumberKey}
+use Rattle.relay_machine.specs.{declared.number_key.NumberKey.{NumberKey}, Settings.{number_row}}
 use Rattle.relay_machine.specs.declared.number_key.NumberKey.TheVariants as numbers
-use Rattle.relay_machine.specs.Settings.{number_row}
-use Rattle.amt_script.specs.declared.kind.Key.{Key}
+use Rattle.amt_script.specs.declared.kind.{Key.{Key}, Kind.{Kind}}
 use Rattle.amt_script.specs.declared.kind.Key.TheVariants as keys
-use Rattle.amt_script.specs.declared.kind.Kind.{Kind}
 use Rattle.amt_script.specs.declared.kind.Kind.TheVariants as kinds
-use Rattle.script_lines.specs.Form.{Form, a_moment, a_number, some_octets, a_secret, an_address, an_address4, an_address6, a_peer}
-use Rattle.script_lines.specs.Shape.{Shape}
+use Rattle.script_lines.specs.{Form.{Form, a_moment, a_number, some_octets, a_secret, an_address, an_address4, an_address6, a_peer}, Shape.{Shape}}
 
 -- the word of a setting that is one number
 abbrev pub number_word : NumberKey → List ℕ

@@ -1,14 +1,7 @@
 -- Runs of a relay over a script, and which scripts it can be run over.
-use Rattle.std.specs.Prelude.{List}
-use Rattle.std.specs.List.{AllByRecursion}
-use Rattle.relay_machine.specs.EventSize.{IsEvent}
-use Rattle.relay_machine.specs.Answers.{RelayAt}
-use Rattle.relay_machine.specs.Settings.{AreLawfulSettings}
-use Rattle.relay_machine.specs.declared.relay.Relay.{Relay}
-use Rattle.amt_script.specs.declared.script.RelayItem.{RelayItem}
-use Rattle.amt_script.specs.declared.script.RelayItem.TheVariants.{Event, Show}
-use Rattle.amt_script.specs.declared.script.RelayScript.{RelayScript}
-use Rattle.amt_script.specs.Texts.{events_in, RelayStart}
+use Rattle.std.specs.{Prelude.{List}, List.{AllByRecursion}}
+use Rattle.relay_machine.specs.{EventSize.{IsEvent}, Answers.{RelayAt}, Settings.{AreLawfulSettings}, declared.relay.Relay.{Relay}}
+use Rattle.amt_script.specs.{declared.script.{RelayItem.{RelayItem, TheVariants.{Event, Show}}, RelayScript.{RelayScript}}, Texts.{events_in, RelayStart}}
 
 -- a datagram has at most the octets that UDP carries
 abbrev pub IsItem : RelayItem → Type 0

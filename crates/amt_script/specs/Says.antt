@@ -1,20 +1,14 @@
 -- What a line of a relay's script says.
 use Rattle.std.specs.Prelude.{◌≡◌, ℕ, List}
-use Rattle.amt_values.specs.declared.address.Ip.TheVariants.{V4, V6}
-use Rattle.amt_values.specs.Text.{IsIpText, IsPeerText}
-use Rattle.relay_machine.specs.declared.event.Event.{Event}
+use Rattle.amt_values.specs.{declared.address.Ip.TheVariants.{V4, V6}, Text.{IsIpText, IsPeerText}}
+use Rattle.relay_machine.specs.{declared.event.Event.{Event}, Settings.{number_row}}
 use Rattle.relay_machine.specs.declared.event.Event.TheVariants as events
-use Rattle.relay_machine.specs.Settings.{number_row}
-use Rattle.script_lines.specs.Form.{IsMomentText, IsNumberText, IsHexText, IsSecretText}
-use Rattle.script_lines.specs.Lines.{fields, IsPlain}
-use Rattle.script_lines.specs.Shape.{HasField, HasTwoFields}
+use Rattle.script_lines.specs.{Form.{IsMomentText, IsNumberText, IsHexText, IsSecretText}, Lines.{fields, IsPlain}, Shape.{HasField, HasTwoFields}}
 use Rattle.amt_script.specs.declared.kind.Key.TheVariants as keys
 use Rattle.amt_script.specs.declared.kind.Kind.TheVariants as kinds
-use Rattle.amt_script.specs.declared.script.RelayItem.{RelayItem}
+use Rattle.amt_script.specs.{declared.{script.RelayItem.{RelayItem}, setting.Setting.{Setting}}, Row.{words_of}}
 use Rattle.amt_script.specs.declared.script.RelayItem.TheVariants as items
-use Rattle.amt_script.specs.declared.setting.Setting.{Setting}
 use Rattle.amt_script.specs.declared.setting.Setting.TheVariants as settings
-use Rattle.amt_script.specs.Row.{words_of}
 
 -- a line `set` of these fields gives the setting
 abbrev pub SaysSetting : Setting → List (List ℕ) → Type 0

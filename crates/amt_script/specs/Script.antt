@@ -1,19 +1,9 @@
 -- Relay scripts, as a kind of script.
-use Rattle.std.specs.Prelude.{◌≡◌, ℕ, List, [], ◌∷◌, Option, Some, None}
-use Rattle.std.specs.List.{filter_map}
+use Rattle.std.specs.{Prelude.{◌≡◌, ℕ, List, [], ◌∷◌, Option, Some, None}, List.{filter_map}}
 use Rattle.relay_machine.specs.Settings.{AreLawfulSettings}
-use Rattle.script_lines.specs.declared.reason.Reason.TheVariants.{Missing, Range}
-use Rattle.script_lines.specs.Kind.{Kind}
-use Rattle.script_lines.specs.Script.{Spells}
-use Rattle.amt_script.specs.declared.line.RelayStatement.{RelayStatement}
+use Rattle.script_lines.specs.{declared.reason.Reason.TheVariants.{Missing, Range}, Kind.{Kind}, Script.{Spells}}
+use Rattle.amt_script.specs.{declared.{line.RelayStatement.{RelayStatement}, script.{RelayItem.{RelayItem}, RelayScript.{RelayScript}}, setting.Setting.{Setting}}, Fault.{FailsAfter, FailsAtEnd, order_of_reasons}, Says.{SaysSetting, SaysItem}, Setting.{key_of, set_at}, Settling.{Settles}}
 use Rattle.amt_script.specs.declared.line.RelayStatement.TheVariants as statements
-use Rattle.amt_script.specs.declared.script.RelayItem.{RelayItem}
-use Rattle.amt_script.specs.declared.script.RelayScript.{RelayScript}
-use Rattle.amt_script.specs.declared.setting.Setting.{Setting}
-use Rattle.amt_script.specs.Fault.{FailsAfter, FailsAtEnd, order_of_reasons}
-use Rattle.amt_script.specs.Says.{SaysSetting, SaysItem}
-use Rattle.amt_script.specs.Setting.{key_of, set_at}
-use Rattle.amt_script.specs.Settling.{Settles}
 
 -- the setting that a statement is, if it is one
 abbrev pub setting_in : RelayStatement → Option Setting

@@ -2,12 +2,8 @@
 use Rattle.std.specs.Prelude.{◌≡◌, ◌≢◌, ◌⊎◌, ℕ, List, [], ◌∷◌, IsSome}
 use Rattle.script_lines.specs.declared.reason.Reason.{Reason}
 use Rattle.script_lines.specs.declared.reason.Reason.TheVariants as reasons
-use Rattle.amt_script.specs.declared.kind.Key.{Key}
+use Rattle.amt_script.specs.{declared.{kind.Key.{Key}, setting.Setting.{Setting}}, Fault.{FailsAs}, Row.{key_word, BeginsWithNoKey}, Setting.{set_at}}
 use Rattle.amt_script.specs.declared.kind.Kind.TheVariants as kinds
-use Rattle.amt_script.specs.declared.setting.Setting.{Setting}
-use Rattle.amt_script.specs.Fault.{FailsAs}
-use Rattle.amt_script.specs.Row.{key_word, BeginsWithNoKey}
-use Rattle.amt_script.specs.Setting.{set_at}
 
 -- what is wrong with these values of a key
 abbrev pub FailsToSetKey : {I : Type 0} → List Setting → List I → Key → List (List ℕ) → Reason → Type 0

@@ -2,12 +2,10 @@
 use Rattle.std.specs.Prelude.{◌≡◌, List, [], ◌∷◌, replicate, Option, Some, None}
 use Rattle.amt_values.specs.declared.address.Ip.{Ip}
 use Rattle.response_mac.specs.declared.secret.Secret.{Secret}
-use Rattle.relay_machine.specs.Settings.{default_settings, with_number}
-use Rattle.relay_machine.specs.declared.settings.Settings.{Settings}
+use Rattle.relay_machine.specs.{Settings.{default_settings, with_number}, declared.settings.Settings.{Settings}}
 use Rattle.amt_script.specs.declared.kind.Key.TheVariants as keys
-use Rattle.amt_script.specs.declared.setting.Setting.{Setting}
+use Rattle.amt_script.specs.{declared.setting.Setting.{Setting}, Setting.{set_at}}
 use Rattle.amt_script.specs.declared.setting.Setting.TheVariants as settings
-use Rattle.amt_script.specs.Setting.{set_at}
 
 -- the address that was given
 abbrev pub relay_in : Option Setting → Option Ip

@@ -1,31 +1,15 @@
 -- What is written of a relay's events, of its steps and of what stands.
-use Rattle.std.specs.Prelude.{ℕ, true, false, List, [], ◌∷◌, ◌++◌, length, codes, decimal, flat_map, Option, Some, None}
-use Rattle.std.specs.List.{filter_map}
-use Rattle.amt_values.specs.declared.address.Ip.{Ip}
-use Rattle.amt_values.specs.Endpoint.{peer_of}
-use Rattle.amt_values.specs.Text.{ip_text, peer_text}
-use Rattle.endpoint_membership.specs.declared.limits.LimitFault.{LimitFault}
-use Rattle.endpoint_membership.specs.declared.limits.LimitFault.TheVariants.{Sources, Groups, Endpoints}
-use Rattle.endpoint_membership.specs.declared.row.Row.{Row}
+use Rattle.std.specs.{Prelude.{ℕ, true, false, List, [], ◌∷◌, ◌++◌, length, codes, decimal, flat_map, Option, Some, None}, List.{filter_map}}
+use Rattle.amt_values.specs.{declared.address.Ip.{Ip}, Endpoint.{peer_of}, Text.{ip_text, peer_text}}
+use Rattle.endpoint_membership.specs.declared.{limits.LimitFault.{LimitFault, TheVariants.{Sources, Groups, Endpoints}}, row.Row.{Row}}
 use Rattle.response_mac.specs.declared.secret.Secret.{Secret}
-use Rattle.relay_machine.specs.declared.event.Event.{Event}
+use Rattle.relay_machine.specs.declared.{event.Event.{Event}, outcome.{NotForwarded.{NotForwarded, TheVariants.{Head, Scope}}, Outcome.{Outcome}}}
+use Rattle.relay_machine.specs.{declared.{outcome.{Outcome.TheVariants.{Moved, Rotated, BadSource, Undecoded, WrongKind, Advertised, Queried, BadMac, Over, Updated, NoTunnel, TornDown, TooBig, Copied}, Unlawful.{Unlawful, TheVariants.{Inner, Report}}}, sends.OneSend.{OneSend}, settings.Settings.{Settings}}, Answers.{outcome_of, rows_after, sends_of}}
 use Rattle.relay_machine.specs.declared.event.Event.TheVariants as events
-use Rattle.relay_machine.specs.declared.outcome.NotForwarded.{NotForwarded}
-use Rattle.relay_machine.specs.declared.outcome.NotForwarded.TheVariants.{Head, Scope}
-use Rattle.relay_machine.specs.declared.outcome.Outcome.{Outcome}
 use Rattle.relay_machine.specs.declared.outcome.Outcome.TheVariants as outcomes
-use Rattle.relay_machine.specs.declared.outcome.Outcome.TheVariants.{Moved, Rotated, BadSource, Undecoded, WrongKind, Advertised, Queried, BadMac, Over, Updated, NoTunnel, TornDown, TooBig, Copied}
-use Rattle.relay_machine.specs.declared.outcome.Unlawful.{Unlawful}
-use Rattle.relay_machine.specs.declared.outcome.Unlawful.TheVariants.{Inner, Report}
-use Rattle.relay_machine.specs.declared.sends.OneSend.{OneSend}
-use Rattle.relay_machine.specs.declared.settings.Settings.{Settings}
-use Rattle.relay_machine.specs.Answers.{outcome_of, rows_after, sends_of}
-use Rattle.script_lines.specs.Texts.{hex_text, mode_text, send_line}
-use Rattle.script_lines.specs.Running.{script_text}
-use Rattle.script_lines.specs.FaultTexts.{head_text, inner_text, refusal_text, report_text}
-use Rattle.amt_script.specs.declared.script.RelayItem.{RelayItem}
+use Rattle.script_lines.specs.{Texts.{hex_text, mode_text, send_line}, Running.{script_text}, FaultTexts.{head_text, inner_text, refusal_text, report_text}}
+use Rattle.amt_script.specs.declared.script.{RelayItem.{RelayItem}, RelayScript.{RelayScript}}
 use Rattle.amt_script.specs.declared.script.RelayItem.TheVariants as items
-use Rattle.amt_script.specs.declared.script.RelayScript.{RelayScript}
 
 -- why an Update has no lawful report
 abbrev pub unlawful_text : Unlawful → List ℕ

@@ -1,10 +1,9 @@
 //! The kinds of lines of a relay's script, by their first words. It reads no value.
 
 ghost use Rattle.std.specs.Prelude.{◌≡◌, ◌≢◌, ◌↔◌, IsTrue, ◌∷◌, ◌++◌, [], List, ℕ, codes, IfSome, IfNone, IfOk, IsErrOf};
-ghost use Rattle.amt_script.specs.declared.kind.Key.{Key as KeyValue};
+ghost use Rattle.amt_script.specs.{declared.kind.Key.{Key as KeyValue}, Row.{key_word, number_word, words_of, BeginsWithNoKey, IsUnknown}};
 ghost use Rattle.script_lines.specs.Lines.{fields};
 ghost use Rattle.relay_machine.specs.declared.number_key.NumberKey.{NumberKey as NumberKeyValue};
-ghost use Rattle.amt_script.specs.Row.{key_word, number_word, words_of, BeginsWithNoKey, IsUnknown};
 
 use relay_machine::{NUMBER_KEYS, NumberKey};
 use script_lines::{is_word, next_field};

@@ -2,13 +2,9 @@
 
 ghost use Rattle.std.specs.Prelude.{◌≡◌, ◌∷◌, ◌++◌, Ok, Err, IfOk, IfErr, MatchResult};
 ghost use Rattle.amt_values.specs.Conditions.{First};
-ghost use Rattle.script_lines.specs.Lines.{fields};
-ghost use Rattle.script_lines.specs.Reading.{FailsFirst};
+ghost use Rattle.script_lines.specs.{Lines.{fields}, Reading.{FailsFirst}};
 ghost use Rattle.amt_script.specs.declared.kind.Kind.TheVariants as kinds;
-ghost use Rattle.amt_script.specs.Fault.{FailsAfter, order_of_values, order_of_reasons};
-ghost use Rattle.amt_script.specs.Row.{words_of};
-ghost use Rattle.amt_script.specs.Says.{SaysSetting};
-ghost use Rattle.amt_script.specs.Script.{MaySet, SaysAfter};
+ghost use Rattle.amt_script.specs.{Fault.{FailsAfter, order_of_values, order_of_reasons}, Row.{words_of}, Says.{SaysSetting}, Script.{MaySet, SaysAfter}};
 
 use crate::kind::{Kind, NoKind, kind_of_line};
 use crate::script::RelayItem;

@@ -2,8 +2,7 @@
 
 ghost use Rattle.std.specs.Prelude.{◌≤◌, length, IfOk, IfErr};
 ghost use Rattle.script_lines.specs.Script.{IsErrorOf, RulesOutScripts, HasOneScript, HasOneFault};
-ghost use Rattle.amt_script.specs.Running.{IsRunnable};
-ghost use Rattle.amt_script.specs.Script.{IsRelayScript, relay_kind};
+ghost use Rattle.amt_script.specs.{Running.{IsRunnable}, Script.{IsRelayScript, relay_kind}};
 
 use crate::line::{RelayStatement, read_statement};
 use crate::script::{RelayItems, RelayScript};
@@ -20,8 +19,7 @@ struct RelayLines {
 }
 
 impl ScriptKind for RelayLines {
-    ghost use Rattle.amt_script.specs.Reading.{AreThose};
-    ghost use Rattle.amt_script.specs.declared.line.RelayStatement.{RelayStatement as StatementValue};
+    ghost use Rattle.amt_script.specs.{Reading.{AreThose}, declared.line.RelayStatement.{RelayStatement as StatementValue}};
 
     type Script = RelayScript;
 

@@ -1,14 +1,10 @@
 //! A relay's run over a script, and what is written of it. It knows sinks by their trait alone.
 
-ghost use Rattle.std.specs.Prelude.{◌≡◌, ◌+◌, ◌≤◌, ◌<◌, ◌^◌, [], ◌∷◌, ◌++◌, flat_map, OnOk, OnErr, IsErrOf};
-ghost use Rattle.std.specs.Io.KnownBytes.{Appends};
+ghost use Rattle.std.specs.{Prelude.{◌≡◌, ◌+◌, ◌≤◌, ◌<◌, ◌^◌, [], ◌∷◌, ◌++◌, flat_map, OnOk, OnErr, IsErrOf}, Io.KnownBytes.{Appends}};
 ghost use Rattle.amt_ports.specs.Causes.{Rose};
-ghost use Rattle.relay_machine.specs.Answers.{After, RelayAt, outcome_of, rows_after, sends_of};
-ghost use Rattle.relay_machine.specs.EventSize.{IsEvent};
-ghost use Rattle.script_lines.specs.Counting.{CountsWrites};
-ghost use Rattle.script_lines.specs.Writing.{WritesPrefix, WritesUpTo};
-ghost use Rattle.amt_script.specs.Running.{IsItem, IsRunnable};
-ghost use Rattle.amt_script.specs.Texts.{events_in, item_text, row_text, rows_text, step_text, relay_script_text};
+ghost use Rattle.relay_machine.specs.{Answers.{After, RelayAt, outcome_of, rows_after, sends_of}, EventSize.{IsEvent}};
+ghost use Rattle.script_lines.specs.{Counting.{CountsWrites}, Writing.{WritesPrefix, WritesUpTo}};
+ghost use Rattle.amt_script.specs.{Running.{IsItem, IsRunnable}, Texts.{events_in, item_text, row_text, rows_text, step_text, relay_script_text}};
 
 use crate::row_text::{append_row, append_row_count};
 use crate::script::{RelayItem, RelayScript};
@@ -149,8 +145,7 @@ struct RelayRun {
 }
 
 impl ScriptRun for RelayRun {
-    ghost use Rattle.amt_script.specs.Running.{IsItem, IsRelayAfter};
-    ghost use Rattle.amt_script.specs.Texts.{RelayStart, text_after};
+    ghost use Rattle.amt_script.specs.{Running.{IsItem, IsRelayAfter}, Texts.{RelayStart, text_after}};
 
     type Item = RelayItem;
 

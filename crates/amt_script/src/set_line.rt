@@ -4,12 +4,7 @@ ghost use Rattle.std.specs.Prelude.{◌≡◌, ◌≢◌, [], ◌∷◌, ◌++�
 ghost use Rattle.amt_values.specs.Conditions.{First};
 ghost use Rattle.script_lines.specs.Lines.{fields};
 ghost use Rattle.amt_script.specs.declared.kind.Kind.TheVariants as kinds;
-ghost use Rattle.amt_script.specs.Fault.{order_of_reasons, order_of_values};
-ghost use Rattle.amt_script.specs.Reading.{IsAllowed};
-ghost use Rattle.amt_script.specs.Row.{words_of};
-ghost use Rattle.amt_script.specs.Says.{SaysSetting};
-ghost use Rattle.amt_script.specs.Script.{MaySet};
-ghost use Rattle.amt_script.specs.SetLine.{FailsToSet, FailsToSetKey};
+ghost use Rattle.amt_script.specs.{Fault.{order_of_reasons, order_of_values}, Reading.{IsAllowed}, Row.{words_of}, Says.{SaysSetting}, Script.{MaySet}, SetLine.{FailsToSet, FailsToSetKey}};
 
 use crate::kind::{Key, NoKind, key_after_set};
 use crate::setting::{Setting, is_given};

@@ -1,11 +1,8 @@
 //! The settings of a relay from those given, with the defaults. It knows no line.
 
-ghost use Rattle.std.specs.Prelude.{◌≡◌, IfSome, IfNone, None};
-ghost use Rattle.std.specs.List.{AllByRecursion};
+ghost use Rattle.std.specs.{Prelude.{◌≡◌, IfSome, IfNone, None}, List.{AllByRecursion}};
 ghost use Rattle.relay_machine.specs.Settings.{default_settings};
-ghost use Rattle.amt_script.specs.Reading.{IsAllowed};
-ghost use Rattle.amt_script.specs.Settling.{Settles, relay_in, secret_in, with_setting, with_settings};
-ghost use Rattle.amt_script.specs.Setting.{set_at};
+ghost use Rattle.amt_script.specs.{Reading.{IsAllowed}, Settling.{Settles, relay_in, secret_in, with_setting, with_settings}, Setting.{set_at}};
 
 use crate::kind::Key;
 use crate::setting::{Setting, setting_at};

@@ -3,13 +3,8 @@
 ghost use Rattle.std.specs.Prelude.{◌≡◌, ◌⊎◌, [], ◌∷◌, ◌++◌, IfOk, IfErr, IfNone};
 ghost use Rattle.amt_script.specs.declared.kind.Kind.TheVariants as kinds;
 ghost use Rattle.amt_values.specs.Conditions.{First};
-ghost use Rattle.script_lines.specs.Lines.{fields};
-ghost use Rattle.script_lines.specs.Reading.{FailsFirst};
-ghost use Rattle.amt_script.specs.Fault.{FailsAs, order_of_values};
-ghost use Rattle.amt_script.specs.Row.{words_of, form_of_key};
-ghost use Rattle.amt_script.specs.Running.{IsItem};
-ghost use Rattle.amt_script.specs.Says.{SaysItem, SaysSetting};
-ghost use Rattle.amt_script.specs.Setting.{key_of};
+ghost use Rattle.script_lines.specs.{Lines.{fields}, Reading.{FailsFirst}};
+ghost use Rattle.amt_script.specs.{Fault.{FailsAs, order_of_values}, Row.{words_of, form_of_key}, Running.{IsItem}, Says.{SaysItem, SaysSetting}, Setting.{key_of}};
 
 use crate::kind::Key;
 use crate::script::RelayItem;

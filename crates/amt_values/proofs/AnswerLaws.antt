@@ -1,9 +1,6 @@
 -- What a reader's answer says of the first cause, where it reads a value unless there is one.
-use Rattle.std.proofs.Common.{◌≡◌, Option, None, Some, Result, Ok, Err, sym}
-use Rattle.std.specs.Result.{MatchResult}
-use Rattle.amt_values.specs.Answer.{Gives, Tells, TellsCause}
-use Rattle.amt_values.specs.Conditions.{unless}
-use Rattle.amt_values.proofs.ConditionLaws.{unless-ok, unless-err}
+use Rattle.std.{proofs.Common.{◌≡◌, Option, None, Some, Result, Ok, Err, sym}, specs.Result.{MatchResult}}
+use Rattle.amt_values.{specs.{Answer.{Gives, Tells, TellsCause}, Conditions.{unless}}, proofs.ConditionLaws.{unless-ok, unless-err}}
 
 Tells-told : {A Cause : Type 0} (first : Option Cause) (at : A) (cause : Option Cause) (memory : Type 0)
     → TellsCause cause (unless first at) memory → Tells first cause

@@ -1,17 +1,6 @@
 -- Ascending lists under any total order.
-use Rattle.std.proofs.Common.{◌≡◌, ◌≤◌, suc, Bool, true, false, not, ◌&&◌, ◌||◌, List, [], ◌∷◌, ◌++◌, length, filter, refl, sym, ap, ◌∙◌, arith}
-use Rattle.std.specs.Cmp.{IsTotalOrder}
-use Rattle.std.specs.List.{AllByRecursion}
-use Rattle.std.specs.List.Sorted.{IsStrictlySortedBy}
-use Rattle.std.specs.Ordering.{is_eq, eq_by_cmp, match_ordering, ordering_reverse}
-use Rattle.std.specs.declared.cmp.Ordering.{Ordering}
-use Rattle.std.specs.declared.cmp.Ordering.TheVariants.{Less, Equal, Greater}
-use Rattle.std.proofs.lemmas.Cmp.{alike_right}
-use Rattle.std.proofs.lemmas.List.Folds.{list_any-append}
-use Rattle.std.proofs.lemmas.List.Kept.{IsStrictlySortedBy-filter}
-use Rattle.std.proofs.lemmas.Map.Keys.{sorted_tail}
-use Rattle.std.proofs.lemmas.Map.Lookups.{CmpEqualImpliesEq, btree_set_from_contains}
-use Rattle.std.proofs.lemmas.Map.Views.{any-filter_same}
+use Rattle.std.proofs.{Common.{◌≡◌, ◌≤◌, suc, Bool, true, false, not, ◌&&◌, ◌||◌, List, [], ◌∷◌, ◌++◌, length, filter, refl, sym, ap, ◌∙◌, arith}, lemmas.{Cmp.{alike_right}, List.{Folds.{list_any-append}, Kept.{IsStrictlySortedBy-filter}}, Map.Keys.{sorted_tail}}}
+use Rattle.std.{proofs.lemmas.Map.{Lookups.{CmpEqualImpliesEq, btree_set_from_contains}, Views.{any-filter_same}}, specs.{Cmp.{IsTotalOrder}, List.{AllByRecursion, Sorted.{IsStrictlySortedBy}}, Ordering.{is_eq, eq_by_cmp, match_ordering, ordering_reverse}, declared.cmp.Ordering.{Ordering, TheVariants.{Less, Equal, Greater}}}}
 use Rattle.amt_values.specs.Ascending.{has, IsAscending, placed, ascending, union, difference, intersection}
 
 twice : (a b c : Bool) → a ≡ b → (b || c) ≡ (a || (b || c))

@@ -1,9 +1,6 @@
 -- Conditions of which none holds, the first of two lists of conditions, and the value that is read where
 -- none holds.
-use Rattle.std.proofs.Common.{◌≡◌, ℕ, List, [], ◌∷◌, ◌++◌, map, Bool, true, false, cond, not, eqb, Option, None, Some, Ok, Err, refl, ap, ◌∙◌, arith}
-use Rattle.std.specs.List.{find}
-use Rattle.std.specs.Option.{option_map}
-use Rattle.std.proofs.lemmas.Bool.{eqb-true, not-false}
+use Rattle.std.{proofs.{Common.{◌≡◌, ℕ, List, [], ◌∷◌, ◌++◌, map, Bool, true, false, cond, not, eqb, Option, None, Some, Ok, Err, refl, ap, ◌∙◌, arith}, lemmas.Bool.{eqb-true, not-false}}, specs.{List.{find}, Option.{option_map}}}
 use Rattle.amt_values.specs.Conditions.{Conditions, NoneHolds, first_holding, first_of, unless}
 
 pub skipped : {Cause : Type 0} (holds : Bool) (cause : Cause) (rest : Conditions Cause) → first_holding ((holds, cause) ∷ rest) ≡ None

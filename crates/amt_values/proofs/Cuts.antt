@@ -1,7 +1,5 @@
 -- A text is cut at the first octet of a kind in one way.
-use Rattle.std.proofs.Common.{◌≡◌, ◌≢◌, ℕ, List, [], ◌∷◌, ◌++◌, All, refl, subst, rules}
-use Rattle.std.proofs.lemmas.List.Elements.{All-from_recursion, recursion_from_All}
-use Rattle.std.specs.List.{AllByRecursion}
+use Rattle.std.{proofs.{Common.{◌≡◌, ◌≢◌, ℕ, List, [], ◌∷◌, ◌++◌, All, refl, subst, rules}, lemmas.List.Elements.{All-from_recursion, recursion_from_All}}, specs.List.{AllByRecursion}}
 
 -- no octet of the text is `at`
 abbrev pub Lacks : ℕ → List ℕ → Type 0

@@ -1,20 +1,7 @@
 -- IPv4 addresses in dotted decimal, by std's grammar of them.
-use Rattle.std.proofs.Common.{◌≡◌, ◌≢◌, ℕ, zero, suc, ◌^◌, ◌<◌, List, [], ◌∷◌, refl, sym, subst, ap, ◌∙◌, arith}
-use Rattle.std.proofs.lemmas.List.Elements.{All-weaker}
-use Rattle.std.proofs.lemmas.Nat.{be_bytes_4, from_be_bytes-to_be_bytes_4}
-use Rattle.std.proofs.NetLemmas.Alphabet.{IsDigitOrDot, All-ipv4_text}
-use Rattle.std.proofs.NetLemmas.Texts.{IsDotted-ipv4_text}
-use Rattle.std.proofs.NetLemmas.Theorems.{IsIpv4Text_unique}
-use Rattle.std.specs.Int.{w32, from_be_bytes, to_be_bytes}
-use Rattle.std.specs.Net.Addr.{ipv4_bits}
-use Rattle.std.specs.Net.Grammar.{IsDotted, IsIpv4Text}
-use Rattle.std.specs.Net.Text.{ipv4_text}
-use Rattle.std.specs.declared.net.ipv4_addr.Ipv4Addr.{Ipv4Addr}
-use Rattle.amt_values.specs.Text.{v4_text}
-use Rattle.amt_values.proofs.Cuts.{Lacks}
-use Rattle.amt_values.proofs.Joined.{dotted_not_lacking}
-use Rattle.amt_values.proofs.NetworkOrder.{AreOctets-bytes_high_first}
-use Rattle.amt_values.specs.Octets.{AreOctets}
+use Rattle.std.proofs.{Common.{◌≡◌, ◌≢◌, ℕ, zero, suc, ◌^◌, ◌<◌, List, [], ◌∷◌, refl, sym, subst, ap, ◌∙◌, arith}, lemmas.{List.Elements.{All-weaker}, Nat.{be_bytes_4, from_be_bytes-to_be_bytes_4}}, NetLemmas.Alphabet.{IsDigitOrDot, All-ipv4_text}}
+use Rattle.std.{proofs.NetLemmas.{Texts.{IsDotted-ipv4_text}, Theorems.{IsIpv4Text_unique}}, specs.{Int.{w32, from_be_bytes, to_be_bytes}, Net.{Addr.{ipv4_bits}, Grammar.{IsDotted, IsIpv4Text}, Text.{ipv4_text}}, declared.net.ipv4_addr.Ipv4Addr.{Ipv4Addr}}}
+use Rattle.amt_values.{specs.{Text.{v4_text}, Octets.{AreOctets}}, proofs.{Cuts.{Lacks}, Joined.{dotted_not_lacking}, NetworkOrder.{AreOctets-bytes_high_first}}}
 
 four_octets : (a b c d : ℕ) → a < 256 → b < 256 → c < 256 → d < 256 → AreOctets (a ∷ b ∷ c ∷ d ∷ [])
 four_octets a b c d small_a small_b small_c small_d zero = small_a

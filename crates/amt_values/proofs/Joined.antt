@@ -1,13 +1,7 @@
 -- Our grammar of IPv6 addresses is std's, but for the dotted tail.
-use Rattle.std.proofs.Common.{◌≡◌, ◌≢◌, ℕ, zero, ◌+◌, ◌-◌, ◌≤◌, ◌⊎◌, inl, inr, Bool, true, false, List, [], ◌∷◌, ◌++◌, length, replicate, codes, decimal, refl, sym, ap, ◌∙◌, subst, arith, rules, append_assoc, length-append}
-use Rattle.std.proofs.lemmas.List.{append-nil, length-replicate}
-use Rattle.std.proofs.lemmas.List.Elements.{All-nil, All-cons, All-append, All-from_recursion}
-use Rattle.std.specs.Char.{digit_value}
-use Rattle.std.specs.List.{AllZip, AllByRecursion, join_with_byte}
-use Rattle.std.specs.Net.Grammar.{IsDotted, IsGroup, IsGroupsAfter, IsGroups, IsColonHex, IsElided as IsElidedInStd}
-use Rattle.std.specs.Str.Parse.{AllDigits}
-use Rattle.amt_values.specs.Segments.{IsSegmentsText, IsElided}
-use Rattle.amt_values.proofs.Cuts.{Lacks, Lacks-parts, not_lacking}
+use Rattle.std.proofs.{Common.{◌≡◌, ◌≢◌, ℕ, zero, ◌+◌, ◌-◌, ◌≤◌, ◌⊎◌, inl, inr, Bool, true, false, List, [], ◌∷◌, ◌++◌, length, replicate, codes, decimal, refl, sym, ap, ◌∙◌, subst, arith, rules, append_assoc, length-append}, lemmas.List.{append-nil, length-replicate}}
+use Rattle.std.{proofs.lemmas.List.Elements.{All-nil, All-cons, All-append, All-from_recursion}, specs.{Char.{digit_value}, List.{AllZip, AllByRecursion, join_with_byte}, Net.Grammar.{IsDotted, IsGroup, IsGroupsAfter, IsGroups, IsColonHex, IsElided as IsElidedInStd}, Str.Parse.{AllDigits}}}
+use Rattle.amt_values.{specs.Segments.{IsSegmentsText, IsElided}, proofs.Cuts.{Lacks, Lacks-parts, not_lacking}}
 
 -- what stands after a piece
 abbrev pub after_piece : List (List ℕ) → List ℕ

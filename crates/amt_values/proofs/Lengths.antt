@@ -1,13 +1,7 @@
 -- How long a printed IPv6 address is.
 use Rattle.std.proofs.Common.{◌≡◌, ℕ, suc, ◌+◌, ◌*◌, ◌-◌, ◌^◌, ◌<◌, ◌≤◌, inl, inr, List, [], ◌∷◌, ◌++◌, length, take, drop, codes, ap, arith, length-append, length-take-le, length-drop}
-use Rattle.std.proofs.NetLemmas.Texts.{AllSegments, AllSegments-take, AllSegments-drop, IsZeroRun-longest_zero_run}
-use Rattle.std.proofs.lemmas.Bool.{cases_lt}
-use Rattle.std.specs.Net.Text.{hex, groups_text, longest_zero_run, hex_groups_text}
-use Rattle.amt_values.specs.Segments.{address_segments}
-use Rattle.amt_values.specs.Text.{v6_text}
-use Rattle.amt_values.proofs.Printed.{text_after_colons, shortened_text, long_text, plain_text}
-use Rattle.amt_values.proofs.Segments.{AllSegments-address_segments, length-address_segments}
-use Rattle.amt_values.proofs.ShortGroups.{IsShortGroup-hex}
+use Rattle.std.{proofs.{NetLemmas.Texts.{AllSegments, AllSegments-take, AllSegments-drop, IsZeroRun-longest_zero_run}, lemmas.Bool.{cases_lt}}, specs.Net.Text.{hex, groups_text, longest_zero_run, hex_groups_text}}
+use Rattle.amt_values.{specs.{Segments.{address_segments}, Text.{v6_text}}, proofs.{Printed.{text_after_colons, shortened_text, long_text, plain_text}, Segments.{AllSegments-address_segments, length-address_segments}, ShortGroups.{IsShortGroup-hex}}}
 
 length-hex : (group : ℕ) → group < 2 ^ 16 → length (hex group) ≤ 4
 length-hex group fits = (IsShortGroup-hex group fits).writes.1

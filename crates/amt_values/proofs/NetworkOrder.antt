@@ -1,12 +1,8 @@
 -- Numbers of any length as octets, the highest first: octets of one length are those of their number.
 use Rattle.std.proofs.Common.{◌≡◌, ℕ, zero, suc, ◌+◌, ◌*◌, ◌^◌, ◌%◌, ◌/◌, ◌<◌, ◌≤◌, List, [], ◌∷◌, length, take, drop, refl, sym, ap, ◌∙◌, arith, length-take}
-use Rattle.std.proofs.Math.Nat.{mod-eq_of_lt, mod-lt, mul-add-mod_self_right}
-use Rattle.std.proofs.lemmas.Nat.{div-mul-add}
-use Rattle.std.proofs.lemmas.List.{append-nil}
-use Rattle.std.specs.Int.{byte_at, bytes_high_first}
-use Rattle.byteorder.specs.Endian.{big_from}
+use Rattle.std.{proofs.{Math.Nat.{mod-eq_of_lt, mod-lt, mul-add-mod_self_right}, lemmas.{Nat.{div-mul-add}, List.{append-nil}}}, specs.Int.{byte_at, bytes_high_first}}
+use Rattle.byteorder.specs.{Endian.{big_from}, Numbers.{big_from-cons, big_from-take, big_from-lt, big_number-reads_back, length-bytes_high_first}}
 use Rattle.amt_values.specs.Octets.{AreOctets}
-use Rattle.byteorder.specs.Numbers.{big_from-cons, big_from-take, big_from-lt, big_number-reads_back, length-bytes_high_first}
 
 -- a number in two parts has its low part, below the base, as remainder
 same_low : (a b base r s : ℕ) → r < base → s < base → a * base + r ≡ b * base + s → r ≡ s

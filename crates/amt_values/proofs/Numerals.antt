@@ -1,15 +1,6 @@
 -- Numerals and what `decimal` writes.
-use Rattle.std.proofs.Common.{◌≡◌, ◌≢◌, ℕ, ◌^◌, ◌<◌, ◌≤◌, List, length, get_or, decimal, IsUtf8, Result, Ok, Err, inl, inr, sym, subst, ap, ◌∙◌, arith}
-use Rattle.std.proofs.lemmas.Bool.{cases_lt}
-use Rattle.std.proofs.lemmas.Fmt.{decimal_nonempty, decimal_digit, first_decimal, digits_decimal, decimal-digits_value, IsAscii-from_digits}
-use Rattle.std.proofs.lemmas.List.Elements.{All-from_get_or}
-use Rattle.std.proofs.lemmas.Result.{OkIff-at_ok, OkIff-at_err}
-use Rattle.std.proofs.lemmas.Str.{IsUtf8-from_ascii}
-use Rattle.std.proofs.lemmas.Str.Parse.{IsNumeralModel, numerals_by_value, tells_by_index, parse_plain, not_in_digits}
-use Rattle.std.specs.Char.{IsAsciiDigit}
-use Rattle.std.specs.Int.{IsInRange}
-use Rattle.std.specs.Result.{OkIff}
-use Rattle.std.specs.Str.Parse.{ParsesUnsigned, digits_value}
+use Rattle.std.proofs.{Common.{◌≡◌, ◌≢◌, ℕ, ◌^◌, ◌<◌, ◌≤◌, List, length, get_or, decimal, IsUtf8, Result, Ok, Err, inl, inr, sym, subst, ap, ◌∙◌, arith}, lemmas.{Bool.{cases_lt}, Fmt.{decimal_nonempty, decimal_digit, first_decimal, digits_decimal, decimal-digits_value, IsAscii-from_digits}}}
+use Rattle.std.{proofs.lemmas.{List.Elements.{All-from_get_or}, Result.{OkIff-at_ok, OkIff-at_err}, Str.{IsUtf8-from_ascii, Parse.{IsNumeralModel, numerals_by_value, tells_by_index, parse_plain, not_in_digits}}}, specs.{Char.{IsAsciiDigit}, Int.{IsInRange}, Result.{OkIff}, Str.Parse.{ParsesUnsigned, digits_value}}}
 use Rattle.amt_values.specs.Numeral.{IsNumeral, numeral_value}
 
 -- each octet is a digit, by its place

@@ -1,12 +1,6 @@
 -- A tunnel endpoint is that of one peer.
-use Rattle.std.proofs.Common.{◌≡◌, ℕ, Bool, true, false, Some, None, if◌then◌else◌, refl, sym, ap, ◌∙◌}
-use Rattle.std.proofs.Math.Nat.{div-eq_of_lt, mod-eq_of_lt}
-use Rattle.amt_values.specs.declared.address.Ip.{Ip}
-use Rattle.amt_values.specs.declared.address.Ip.TheVariants.{V4, V6}
-use Rattle.amt_values.specs.declared.peer.Peer.{Peer}
-use Rattle.amt_values.specs.Address.{IsAddress, address_of, has_ipv4_prefix, number_of}
-use Rattle.amt_values.specs.Endpoint.{endpoint_of, peer_of}
-use Rattle.amt_values.specs.EndpointValue.{EndpointValue}
+use Rattle.std.proofs.{Common.{◌≡◌, ℕ, Bool, true, false, Some, None, if◌then◌else◌, refl, sym, ap, ◌∙◌}, Math.Nat.{div-eq_of_lt, mod-eq_of_lt}}
+use Rattle.amt_values.specs.{declared.{address.Ip.{Ip, TheVariants.{V4, V6}}, peer.Peer.{Peer}}, Address.{IsAddress, address_of, has_ipv4_prefix, number_of}, Endpoint.{endpoint_of, peer_of}, EndpointValue.{EndpointValue}}
 
 -- the number of an address in no prefix names that address
 address_again : (ip : Ip) → IsAddress ip → has_ipv4_prefix ip ≡ false → address_of (number_of ip) ≡ ip

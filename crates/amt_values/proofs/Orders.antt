@@ -1,15 +1,6 @@
 -- The orders of addresses and of endpoints are total, and tell all values apart.
-use Rattle.std.proofs.Common.{◌≡◌, ℕ, refl, ap, ◌∙◌}
-use Rattle.std.specs.Cmp.{IsTotalOrder}
-use Rattle.std.specs.Ordering.{nat_cmp, ordering_reverse, ordering_then}
-use Rattle.std.specs.declared.cmp.Ordering.{Ordering}
-use Rattle.std.specs.declared.cmp.Ordering.TheVariants.{Less, Equal, Greater}
-use Rattle.std.proofs.lemmas.Cmp.{nat_cmp_total, on_total, then_total}
-use Rattle.std.proofs.lemmas.Map.Lookups.{CmpEqualImpliesEq, exact_unsigned}
-use Rattle.amt_values.specs.declared.address.Ip.{Ip}
-use Rattle.amt_values.specs.declared.address.Ip.TheVariants.{V4, V6}
-use Rattle.amt_values.specs.Order.{ip_order, endpoint_order}
-use Rattle.amt_values.specs.EndpointValue.{EndpointValue}
+use Rattle.std.{proofs.{Common.{◌≡◌, ℕ, refl, ap, ◌∙◌}, lemmas.{Cmp.{nat_cmp_total, on_total, then_total}, Map.Lookups.{CmpEqualImpliesEq, exact_unsigned}}}, specs.{Cmp.{IsTotalOrder}, Ordering.{nat_cmp, ordering_reverse, ordering_then}, declared.cmp.Ordering.{Ordering, TheVariants.{Less, Equal, Greater}}}}
+use Rattle.amt_values.specs.{declared.address.Ip.{Ip, TheVariants.{V4, V6}}, Order.{ip_order, endpoint_order}, EndpointValue.{EndpointValue}}
 
 antisymm-ip_order : (x y : Ip) → ip_order x y ≡ ordering_reverse (ip_order y x)
 antisymm-ip_order (V4 one) (V4 other) = nat_cmp_total.antisymm one other

@@ -1,14 +1,6 @@
 -- The parts of a peer's text.
-use Rattle.std.proofs.Common.{◌≡◌, ◌≢◌, ℕ, ◌^◌, ◌<◌, List, ◌∷◌, ◌++◌, decimal, inl, inr, refl, sym, subst, ◌∙◌, arith}
-use Rattle.std.proofs.NetLemmas.Alphabet.{IsDigitOrDot}
-use Rattle.amt_values.specs.declared.address.Ip.{Ip}
-use Rattle.amt_values.specs.declared.address.Ip.TheVariants.{V4, V6}
-use Rattle.amt_values.specs.declared.peer.Peer.{Peer}
-use Rattle.amt_values.specs.Segments.{address_segments}
-use Rattle.amt_values.specs.Text.{IsIpText, IsPeerText}
-use Rattle.amt_values.proofs.Cuts.{Lacks, cut_once, not_first, not_lacking}
-use Rattle.amt_values.proofs.Dotted.{Lacks-v4_text}
-use Rattle.amt_values.proofs.Joined.{Lacks-v6}
+use Rattle.std.proofs.{Common.{◌≡◌, ◌≢◌, ℕ, ◌^◌, ◌<◌, List, ◌∷◌, ◌++◌, decimal, inl, inr, refl, sym, subst, ◌∙◌, arith}, NetLemmas.Alphabet.{IsDigitOrDot}}
+use Rattle.amt_values.{specs.{declared.{address.Ip.{Ip, TheVariants.{V4, V6}}, peer.Peer.{Peer}}, Segments.{address_segments}, Text.{IsIpText, IsPeerText}}, proofs.{Cuts.{Lacks, cut_once, not_first, not_lacking}, Dotted.{Lacks-v4_text}, Joined.{Lacks-v6}}}
 
 no_colon : IsDigitOrDot 58 → ⊥
 no_colon (inl digit) = omega (arith, digit.1)

@@ -1,12 +1,7 @@
 -- The rule of RFC 5952 gives each IPv6 address one text, which is the text that std writes.
 use Rattle.std.proofs.Common.{◌≡◌, ℕ, suc, ◌+◌, ◌<◌, ◌≤◌, ◌↔◌, inl, inr, List, [], ◌∷◌, ◌++◌, take, drop, flat_map, map, codes, refl, sym, ap, ap₂, ◌∙◌, subst, arith, append_assoc, lt-ltb, le-ltb}
-use Rattle.std.proofs.NetLemmas.Texts.{AllSegments, AllSegments-take, AllSegments-drop, IsZeroRun-longest_zero_run, longest_zero_run_first}
-use Rattle.std.proofs.lemmas.Bool.{cases_lt}
-use Rattle.std.specs.List.{AllZip, join_with_byte}
-use Rattle.std.specs.Net.Text.{hex, groups_text, longest_zero_run, hex_groups_text}
-use Rattle.amt_values.specs.Canonical.{IsShortGroup, IsShortGroupsText, AreZeros, IsShortened, HasNoRun, IsCanonicalText}
-use Rattle.amt_values.proofs.Joined.{after_piece, join-cons}
-use Rattle.amt_values.proofs.ShortGroups.{short_only, IsShortGroup-hex}
+use Rattle.std.{proofs.{NetLemmas.Texts.{AllSegments, AllSegments-take, AllSegments-drop, IsZeroRun-longest_zero_run, longest_zero_run_first}, lemmas.Bool.{cases_lt}}, specs.{List.{AllZip, join_with_byte}, Net.Text.{hex, groups_text, longest_zero_run, hex_groups_text}}}
+use Rattle.amt_values.{specs.Canonical.{IsShortGroup, IsShortGroupsText, AreZeros, IsShortened, HasNoRun, IsCanonicalText}, proofs.{Joined.{after_piece, join-cons}, ShortGroups.{short_only, IsShortGroup-hex}}}
 
 abbrev pub text_after_colons : List ℕ → List ℕ
 text_after_colons groups = flat_map (λ (group : ℕ). codes ":" ++ hex group) groups

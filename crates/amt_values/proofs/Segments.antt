@@ -1,13 +1,8 @@
 -- The groups of a number, and the number of eight groups.
 use Rattle.std.proofs.Common.{◌≡◌, ℕ, zero, suc, ◌+◌, ◌*◌, ◌/◌, ◌%◌, ◌^◌, ◌<◌, List, [], ◌∷◌, length, refl, sym, ap, ◌∙◌, arith}
-use Rattle.std.proofs.NetLemmas.Texts.{AllSegments}
-use Rattle.std.proofs.lemmas.Nat.{div-mul-add, mod-mul-add}
-use Rattle.std.specs.Int.{w128, bytes_high_first, from_be_bytes}
-use Rattle.std.specs.Net.Addr.{segments_of, octets_of}
+use Rattle.std.{proofs.{NetLemmas.Texts.{AllSegments}, lemmas.Nat.{div-mul-add, mod-mul-add}}, specs.{Int.{w128, bytes_high_first, from_be_bytes}, Net.Addr.{segments_of, octets_of}}}
 use Rattle.byteorder.specs.Endian.{big_number}
-use Rattle.amt_values.specs.Segments.{address_segments}
-use Rattle.amt_values.specs.Octets.{AreOctets}
-use Rattle.amt_values.proofs.NetworkOrder.{AreOctets-bytes_high_first, bytes_high_first-big_from, big_from-bytes_high_first}
+use Rattle.amt_values.{specs.{Segments.{address_segments}, Octets.{AreOctets}}, proofs.NetworkOrder.{AreOctets-bytes_high_first, bytes_high_first-big_from, big_from-bytes_high_first}}
 
 from_be_bytes-big : (octets : List ℕ) → from_be_bytes w128 octets ≡ big_number 16 octets
 from_be_bytes-big octets = omega arith

@@ -1,11 +1,6 @@
 -- The one short text of a group is what std writes of it.
 use Rattle.std.proofs.Common.{◌≡◌, ◌≢◌, ℕ, ◌+◌, ◌*◌, ◌/◌, ◌%◌, ◌^◌, ◌<◌, ◌≤◌, List, [], ◌∷◌, length, slice_index, All, inl, inr, refl, sym, ap, ◌∙◌, arith, le-leb, lt-ltb, le-ltb}
-use Rattle.std.proofs.lemmas.Bool.{cases_lt, lt-leb}
-use Rattle.std.proofs.lemmas.Bool.Decides.{nat_tests}
-use Rattle.std.proofs.lemmas.List.Elements.{All-nil, All-cons, All-drop, All-head, All-tail}
-use Rattle.std.specs.Char.{digit_char, digit_value, IsNotAsciiUppercase}
-use Rattle.std.specs.Net.Grammar.{IsGroup}
-use Rattle.std.specs.Net.Text.{hex, leading_zero_digits}
+use Rattle.std.{proofs.lemmas.{Bool.{cases_lt, lt-leb, Decides.{nat_tests}}, List.Elements.{All-nil, All-cons, All-drop, All-head, All-tail}}, specs.{Char.{digit_char, digit_value, IsNotAsciiUppercase}, Net.{Grammar.{IsGroup}, Text.{hex, leading_zero_digits}}}}
 use Rattle.amt_values.specs.Canonical.{IsShortGroup}
 
 -- what is written, by the number of digits

@@ -1,22 +1,7 @@
 -- What a sort with a dedup leaves, and what a binary search tells.
-use Rattle.std.proofs.Common.{◌≡◌, ℕ, ◌+◌, Bool, true, false, ◌||◌, List, [], ◌∷◌, length, get_or, cond, refl, sym, ap, ◌∙◌, arith, is_ok, is_lt, ⊎_elim, Result, Ok, Err, IsPermutation, IsSorted}
-use Rattle.std.specs.Cmp.{IsTotalOrder}
-use Rattle.std.specs.List.{dedup}
-use Rattle.std.specs.List.Retain.{IsFiltered, DiffersFromLast}
-use Rattle.std.specs.List.Sorted.{IsBinarySearchResult, IsSearchInRange}
-use Rattle.std.specs.Ordering.{is_eq, eq_by_cmp, ordering_reverse}
-use Rattle.std.specs.declared.cmp.Ordering.{Ordering}
-use Rattle.std.specs.declared.cmp.Ordering.TheVariants.{Less, Greater}
-use Rattle.std.proofs.lemmas.Bool.{cases_lt}
-use Rattle.std.proofs.lemmas.Cmp.{alike_right, tied_back}
-use Rattle.std.proofs.lemmas.List.Filters.{dedup_is}
-use Rattle.std.proofs.lemmas.List.Folds.{list_any_at, list_any_none}
-use Rattle.std.proofs.lemmas.List.Kept.{IsStrictlySortedBy-dedup}
-use Rattle.std.proofs.lemmas.List.Sorted.{list_any-IsPermutation, searchable_from_sorted}
-use Rattle.std.proofs.lemmas.Map.Keys.{Less-from_sorted}
-use Rattle.std.proofs.lemmas.Map.Lookups.{CmpEqualImpliesEq}
-use Rattle.amt_values.specs.Ascending.{has, IsAscending, ascending}
-use Rattle.amt_values.proofs.AscendingLaws.{Equal-from_test, has-ascending, IsAscending-ascending, same_ascending}
+use Rattle.std.proofs.{Common.{◌≡◌, ℕ, ◌+◌, Bool, true, false, ◌||◌, List, [], ◌∷◌, length, get_or, cond, refl, sym, ap, ◌∙◌, arith, is_ok, is_lt, ⊎_elim, Result, Ok, Err, IsPermutation, IsSorted}, lemmas.{Bool.{cases_lt}, Cmp.{alike_right, tied_back}, List.{Filters.{dedup_is}, Folds.{list_any_at, list_any_none}, Kept.{IsStrictlySortedBy-dedup}}}}
+use Rattle.std.{proofs.lemmas.{List.Sorted.{list_any-IsPermutation, searchable_from_sorted}, Map.{Keys.{Less-from_sorted}, Lookups.{CmpEqualImpliesEq}}}, specs.{Cmp.{IsTotalOrder}, List.{dedup, Retain.{IsFiltered, DiffersFromLast}, Sorted.{IsBinarySearchResult, IsSearchInRange}}, Ordering.{is_eq, eq_by_cmp, ordering_reverse}, declared.cmp.Ordering.{Ordering, TheVariants.{Less, Greater}}}}
+use Rattle.amt_values.{specs.Ascending.{has, IsAscending, ascending}, proofs.AscendingLaws.{Equal-from_test, has-ascending, IsAscending-ascending, same_ascending}}
 
 either_again : (a b c : Bool) → a ≡ b → (a || c) ≡ (a || (b || c))
 either_again true b c same = refl

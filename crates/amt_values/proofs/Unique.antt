@@ -1,16 +1,6 @@
 -- A text names one value.
-use Rattle.std.proofs.Common.{◌≡◌, ℕ, ◌^◌, ◌<◌, List, ◌∷◌, ◌++◌, decimal, sym, subst, ap, ◌∙◌, arith}
-use Rattle.std.proofs.lemmas.Fmt.{decimal_injective}
-use Rattle.amt_values.specs.declared.address.Ip.{Ip}
-use Rattle.amt_values.specs.declared.address.Ip.TheVariants.{V4, V6}
-use Rattle.amt_values.specs.declared.peer.Peer.{Peer}
-use Rattle.amt_values.specs.Segments.{address_segments}
-use Rattle.amt_values.specs.Text.{IsIpText, IsPeerText}
-use Rattle.amt_values.proofs.Cuts.{Lacks, cut_once}
-use Rattle.amt_values.proofs.Dotted.{v4_injective, v4_not_lacking}
-use Rattle.amt_values.proofs.Joined.{Lacks-v6}
-use Rattle.amt_values.proofs.PeerTexts.{Lacks-colon, Lacks-closing, not_bracketed, same_peer}
-use Rattle.amt_values.proofs.V6Texts.{v6_unique}
+use Rattle.std.proofs.{Common.{◌≡◌, ℕ, ◌^◌, ◌<◌, List, ◌∷◌, ◌++◌, decimal, sym, subst, ap, ◌∙◌, arith}, lemmas.Fmt.{decimal_injective}}
+use Rattle.amt_values.{specs.{declared.{address.Ip.{Ip, TheVariants.{V4, V6}}, peer.Peer.{Peer}}, Segments.{address_segments}, Text.{IsIpText, IsPeerText}}, proofs.{Cuts.{Lacks, cut_once}, Dotted.{v4_injective, v4_not_lacking}, Joined.{Lacks-v6}, PeerTexts.{Lacks-colon, Lacks-closing, not_bracketed, same_peer}, V6Texts.{v6_unique}}}
 
 -- no text names addresses of both families
 pub one_family : (n m : ℕ) (text : List ℕ) → IsIpText (V4 n) text → IsIpText (V6 m) text → ⊥

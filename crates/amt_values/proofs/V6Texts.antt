@@ -1,17 +1,6 @@
 -- IPv6 addresses as numbers, by std's grammar of them.
-use Rattle.std.proofs.Common.{◌≡◌, ◌≢◌, ℕ, ◌^◌, ◌<◌, ◌⊎◌, List, All, length, inl, inr, sym, subst, ap, ◌∙◌, arith}
-use Rattle.std.proofs.NetLemmas.Alphabet.{IsHexOrColon, All-hex_groups_text}
-use Rattle.std.proofs.NetLemmas.Texts.{AllSegments, IsColonHex-hex_groups_text}
-use Rattle.std.proofs.NetLemmas.Theorems.{IsIpv6Text_unique}
-use Rattle.std.proofs.lemmas.List.Elements.{All-weaker}
-use Rattle.std.specs.Net.Addr.{ipv6_bits}
-use Rattle.std.specs.Net.Grammar.{IsIpv6Text}
-use Rattle.std.specs.declared.net.ipv6_addr.Ipv6Addr.{Ipv6Addr}
-use Rattle.amt_values.specs.Segments.{address_segments, IsV6Text, IsSegmentsText, IsElided}
-use Rattle.amt_values.specs.Text.{v6_text}
-use Rattle.amt_values.proofs.Cuts.{Lacks}
-use Rattle.amt_values.proofs.Joined.{IsColonHex-from_groups, groups_from_IsColonHex}
-use Rattle.amt_values.proofs.Segments.{AllSegments-address_segments, address_segments-injective, address_segments-number, length-address_segments, number-address_segments, number_of_groups}
+use Rattle.std.{proofs.{Common.{◌≡◌, ◌≢◌, ℕ, ◌^◌, ◌<◌, ◌⊎◌, List, All, length, inl, inr, sym, subst, ap, ◌∙◌, arith}, NetLemmas.{Alphabet.{IsHexOrColon, All-hex_groups_text}, Texts.{AllSegments, IsColonHex-hex_groups_text}, Theorems.{IsIpv6Text_unique}}, lemmas.List.Elements.{All-weaker}}, specs.{Net.{Addr.{ipv6_bits}, Grammar.{IsIpv6Text}}, declared.net.ipv6_addr.Ipv6Addr.{Ipv6Addr}}}
+use Rattle.amt_values.{specs.{Segments.{address_segments, IsV6Text, IsSegmentsText, IsElided}, Text.{v6_text}}, proofs.{Cuts.{Lacks}, Joined.{IsColonHex-from_groups, groups_from_IsColonHex}, Segments.{AllSegments-address_segments, address_segments-injective, address_segments-number, length-address_segments, number-address_segments, number_of_groups}}}
 
 v6_address : ℕ → Ipv6Addr
 v6_address number = record { segments = address_segments number }

@@ -1,7 +1,6 @@
 -- IP addresses as numbers.
 use Rattle.std.specs.Prelude.{ℕ, ◌/◌, ◌%◌, ◌^◌, ◌<◌, ◌==◌, ◌||◌, Bool, false, if◌then◌else◌}
-use Rattle.amt_values.specs.declared.address.Ip.{Ip}
-use Rattle.amt_values.specs.declared.address.Ip.TheVariants.{V4, V6}
+use Rattle.amt_values.specs.declared.address.Ip.{Ip, TheVariants.{V4, V6}}
 
 -- the number is in ::/96, as an IPv4-compatible address is (RFC 4291, section 2.5.5.1)
 abbrev pub is_compatible : ℕ → Bool

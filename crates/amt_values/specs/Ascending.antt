@@ -1,9 +1,5 @@
 -- Lists that ascend by an order, with each item once: sets with one form.
-use Rattle.std.specs.Prelude.{Bool, not, List, [], ◌∷◌, ◌++◌}
-use Rattle.std.specs.List.{filter, list_any}
-use Rattle.std.specs.List.Sorted.{IsStrictlySortedBy}
-use Rattle.std.specs.Ordering.{eq_by_cmp, match_ordering}
-use Rattle.std.specs.declared.cmp.Ordering.{Ordering}
+use Rattle.std.specs.{Prelude.{Bool, not, List, [], ◌∷◌, ◌++◌}, List.{filter, list_any, Sorted.{IsStrictlySortedBy}}, Ordering.{eq_by_cmp, match_ordering}, declared.cmp.Ordering.{Ordering}}
 
 module _ {K : Type 0} (order : K → K → Ordering) where
   -- x is one of the items

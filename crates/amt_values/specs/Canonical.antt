@@ -1,8 +1,5 @@
 -- The one text of an IPv6 address that is printed (RFC 5952, section 4).
-use Rattle.std.specs.Prelude.{◌≡◌, ℕ, ◌+◌, ◌<◌, ◌≤◌, ◌⊎◌, List, ◌++◌, length, take, drop, replicate, slice_index, All, codes}
-use Rattle.std.specs.Char.{IsNotAsciiUppercase}
-use Rattle.std.specs.List.{AllZip, join_with_byte}
-use Rattle.std.specs.Net.Grammar.{IsGroup}
+use Rattle.std.specs.{Prelude.{◌≡◌, ℕ, ◌+◌, ◌<◌, ◌≤◌, ◌⊎◌, List, ◌++◌, length, take, drop, replicate, slice_index, All, codes}, Char.{IsNotAsciiUppercase}, List.{AllZip, join_with_byte}, Net.Grammar.{IsGroup}}
 
 -- a group without a leading zero (section 4.1) and in lower case (section 4.3)
 pub record IsShortGroup (text : List ℕ) (group : ℕ) : Type 0 where

@@ -1,8 +1,6 @@
 -- Which endpoint a peer or a message names.
 use Rattle.std.specs.Prelude.{ℕ, ◌%◌, ◌^◌, Option, Some, None, if◌then◌else◌}
-use Rattle.amt_values.specs.declared.peer.Peer.{Peer}
-use Rattle.amt_values.specs.Address.{is_mapped, has_ipv4_prefix, number_of, address_of}
-use Rattle.amt_values.specs.EndpointValue.{EndpointValue}
+use Rattle.amt_values.specs.{declared.peer.Peer.{Peer}, Address.{is_mapped, has_ipv4_prefix, number_of, address_of}, EndpointValue.{EndpointValue}}
 
 -- the endpoint of a datagram's source
 abbrev pub endpoint_of : Peer → Option EndpointValue

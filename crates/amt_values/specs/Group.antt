@@ -1,7 +1,6 @@
 -- Multicast groups that a relay forwards.
 use Rattle.std.specs.Prelude.{◌/◌, ◌%◌, ◌^◌, ◌==◌, ◌&&◌, not, nat_lt, Bool}
-use Rattle.amt_values.specs.declared.address.Ip.{Ip}
-use Rattle.amt_values.specs.declared.address.Ip.TheVariants.{V4, V6}
+use Rattle.amt_values.specs.declared.address.Ip.{Ip, TheVariants.{V4, V6}}
 
 -- 224.0.0.0/4 without 224.0.0.0/24, whose packets no router forwards (RFC 5771, section 4); and
 -- ff00::/8 without the reserved, interface-local and link-local scopes 0, 1 and 2, the low half of

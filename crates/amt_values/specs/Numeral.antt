@@ -1,7 +1,5 @@
 -- Numbers as decimal digits.
-use Rattle.std.specs.Prelude.{◌≡◌, ℕ, ◌<◌, List, length, slice_index, All}
-use Rattle.std.specs.Char.{IsAsciiDigit}
-use Rattle.std.specs.Str.Parse.{digits_value}
+use Rattle.std.specs.{Prelude.{◌≡◌, ℕ, ◌<◌, List, length, slice_index, All}, Char.{IsAsciiDigit}, Str.Parse.{digits_value}}
 
 -- decimal digits, at least one, without a sign, and without a leading zero unless 0 is the only
 -- digit

@@ -1,10 +1,6 @@
 -- The orders of addresses and of tunnel endpoints.
-use Rattle.std.specs.Ordering.{nat_cmp, on, then_cmp}
-use Rattle.std.specs.declared.cmp.Ordering.{Ordering}
-use Rattle.std.specs.declared.cmp.Ordering.TheVariants.{Less, Greater}
-use Rattle.amt_values.specs.declared.address.Ip.{Ip}
-use Rattle.amt_values.specs.declared.address.Ip.TheVariants.{V4, V6}
-use Rattle.amt_values.specs.EndpointValue.{EndpointValue}
+use Rattle.std.specs.{Ordering.{nat_cmp, on, then_cmp}, declared.cmp.Ordering.{Ordering, TheVariants.{Less, Greater}}}
+use Rattle.amt_values.specs.{declared.address.Ip.{Ip, TheVariants.{V4, V6}}, EndpointValue.{EndpointValue}}
 
 -- IPv4 before IPv6, then by number
 abbrev pub ip_order : Ip → Ip → Ordering

@@ -1,9 +1,5 @@
 -- IPv6 addresses in segments of hexadecimal digits, as they are read (RFC 4291, section 2.2).
-use Rattle.std.specs.Prelude.{◌≡◌, ℕ, ◌≤◌, ◌⊎◌, List, ◌++◌, replicate, codes}
-use Rattle.std.specs.Int.{w128, to_be_bytes}
-use Rattle.std.specs.List.{AllZip, join_with_byte}
-use Rattle.std.specs.Net.Addr.{segments_of}
-use Rattle.std.specs.Net.Grammar.{IsGroup}
+use Rattle.std.specs.{Prelude.{◌≡◌, ℕ, ◌≤◌, ◌⊎◌, List, ◌++◌, replicate, codes}, Int.{w128, to_be_bytes}, List.{AllZip, join_with_byte}, Net.{Addr.{segments_of}, Grammar.{IsGroup}}}
 
 -- the eight segments of 16 bits, the highest first
 unfoldable pub address_segments : ℕ → List ℕ

@@ -1,12 +1,6 @@
 -- Addresses and peers as text.
-use Rattle.std.specs.Prelude.{◌≡◌, ℕ, ◌<◌, ◌^◌, List, ◌++◌, codes, decimal}
-use Rattle.std.specs.Int.{w32, to_be_bytes}
-use Rattle.std.specs.Net.Text.{ipv4_text, hex_groups_text}
-use Rattle.amt_values.specs.declared.address.Ip.{Ip}
-use Rattle.amt_values.specs.declared.address.Ip.TheVariants.{V4, V6}
-use Rattle.amt_values.specs.declared.peer.Peer.{Peer}
-use Rattle.amt_values.specs.Canonical.{IsCanonicalText}
-use Rattle.amt_values.specs.Segments.{address_segments, IsV6Text}
+use Rattle.std.specs.{Prelude.{◌≡◌, ℕ, ◌<◌, ◌^◌, List, ◌++◌, codes, decimal}, Int.{w32, to_be_bytes}, Net.Text.{ipv4_text, hex_groups_text}}
+use Rattle.amt_values.specs.{declared.{address.Ip.{Ip, TheVariants.{V4, V6}}, peer.Peer.{Peer}}, Canonical.{IsCanonicalText}, Segments.{address_segments, IsV6Text}}
 
 -- four decimal numbers with dots between them
 abbrev pub v4_text : ℕ → List ℕ

@@ -18,8 +18,7 @@ pub struct Endpoint {
 
 impl Model for Endpoint {
     ghost use Rattle.std.specs.Prelude.{◌≡◌, false};
-    ghost use Rattle.amt_values.specs.Address.{is_mapped};
-    ghost use Rattle.amt_values.specs.EndpointValue.{EndpointValue};
+    ghost use Rattle.amt_values.specs.{Address.{is_mapped}, EndpointValue.{EndpointValue}};
 
     ghost Value = { EndpointValue };
 
@@ -31,9 +30,7 @@ impl Model for Endpoint {
 }
 
 impl Endpoint {
-    ghost use Rattle.amt_values.specs.declared.peer.Peer.{Peer};
-    ghost use Rattle.amt_values.specs.Address.{IsAddress, is_mapped, has_ipv4_prefix};
-    ghost use Rattle.amt_values.specs.Endpoint.{endpoint_of, endpoint_named, peer_of};
+    ghost use Rattle.amt_values.specs.{declared.peer.Peer.{Peer}, Address.{IsAddress, is_mapped, has_ipv4_prefix}, Endpoint.{endpoint_of, endpoint_named, peer_of}};
 
     /// The endpoint of a datagram's source.
     ///

@@ -110,8 +110,7 @@ impl Write for Items<u8> {
 }
 
 impl Items<u8> {
-    ghost use Rattle.std.specs.Prelude.{OnOk};
-    ghost use Rattle.std.specs.Fmt.{AppendsText};
+    ghost use Rattle.std.specs.{Prelude.{OnOk}, Fmt.{AppendsText}};
 
     /// Puts a printed text at the end: what `write!` calls. Where memory runs out, a part of the text
     /// may stand there.

@@ -1,7 +1,6 @@
 //! Decimal numbers as text. It must not know what they count.
 
-ghost use Rattle.std.specs.Prelude.{◌≡◌, ◌<◌, ◌≤◌, ◌^◌, ◌↔◌, ℕ, All, length, slice_index, IsTrue, IsFalse, ◌++◌, IfOk, IsErrOf, OnOk, OnErr, decimal};
-ghost use Rattle.std.specs.Char.{IsAsciiDigit};
+ghost use Rattle.std.specs.{Prelude.{◌≡◌, ◌<◌, ◌≤◌, ◌^◌, ◌↔◌, ℕ, All, length, slice_index, IsTrue, IsFalse, ◌++◌, IfOk, IsErrOf, OnOk, OnErr, decimal}, Char.{IsAsciiDigit}};
 ghost use Rattle.amt_values.specs.Numeral.{IsNumeral, numeral_value};
 
 use crate::bytes::Bytes;

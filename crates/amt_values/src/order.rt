@@ -1,8 +1,6 @@
 //! The orders of addresses and endpoints, for those who keep them in order.
 
-ghost use Rattle.std.specs.Prelude.{◌≡◌};
-ghost use Rattle.std.specs.Cmp.{IsTotalOrder};
-ghost use Rattle.std.specs.declared.cmp.Ordering.TheVariants.{Equal};
+ghost use Rattle.std.specs.{Prelude.{◌≡◌}, Cmp.{IsTotalOrder}, declared.cmp.Ordering.TheVariants.{Equal}};
 ghost use Rattle.amt_values.specs.Order.{ip_order, endpoint_order};
 
 use crate::address::Ip;

@@ -1,11 +1,7 @@
 //! Addresses and peers as text. It must not know the lines that texts stand in.
 
-ghost use Rattle.std.specs.Prelude.{◌≡◌, ◌<◌, ◌^◌, ◌↔◌, ◌≢◌, ◌++◌, ℕ, List, All, IsFalse, IfOk, IfSome, Some, codes, decimal};
-ghost use Rattle.std.specs.Fmt.{DisplaysOnOk};
-ghost use Rattle.amt_values.specs.declared.address.Ip.{Ip as IpValue};
-ghost use Rattle.amt_values.specs.declared.address.Ip.TheVariants.{V4, V6};
-ghost use Rattle.amt_values.specs.declared.peer.Peer.{Peer as PeerValue};
-ghost use Rattle.amt_values.specs.Text.{v4_text, v6_text, ip_text, peer_text, IsPrintedIp, IsPrintedPeer, IsIpText, IsPeerText};
+ghost use Rattle.std.specs.{Prelude.{◌≡◌, ◌<◌, ◌^◌, ◌↔◌, ◌≢◌, ◌++◌, ℕ, List, All, IsFalse, IfOk, IfSome, Some, codes, decimal}, Fmt.{DisplaysOnOk}};
+ghost use Rattle.amt_values.specs.{declared.{address.Ip.{Ip as IpValue, TheVariants.{V4, V6}}, peer.Peer.{Peer as PeerValue}}, Text.{v4_text, v6_text, ip_text, peer_text, IsPrintedIp, IsPrintedPeer, IsIpText, IsPeerText}};
 
 use crate::address::Ip;
 use crate::bytes::Bytes;

@@ -1,19 +1,7 @@
 -- Rows that some octets spell can be asked, and there are no more of them than octets and one.
-use Rattle.std.proofs.Common.{◌≡◌, ℕ, ◌+◌, ◌≤◌, ◌==◌, Bool, false, not, List, [], ◌∷◌, ◌++◌, length, All, refl, sym, subst, ap, ne_eqb, arith}
-use Rattle.std.specs.List.{AllByRecursion, slice_split}
-use Rattle.std.specs.Str.Lines.{lines, lines_of_parts}
-use Rattle.std.proofs.lemmas.List.Elements.{All-from_recursion}
-use Rattle.std.proofs.lemmas.List.Splits.{length-slice_split}
-use Rattle.std.proofs.lemmas.List.Sums.{count_by-le-length, length-filter}
-use Rattle.script_lines.specs.Lines.{fields, lines_that_say, says_nothing}
-use Rattle.script_lines.specs.Script.{Say, Spells}
-use Rattle.script_lines.proofs.Forms.{hex_sized}
-use Rattle.amt_vectors.specs.declared.row.Question.{Question}
-use Rattle.amt_vectors.specs.declared.row.Question.TheVariants.{Hmac, Sum, Decode, Code4, Code6, Ip}
-use Rattle.amt_vectors.specs.declared.row.Row.{Row}
-use Rattle.amt_vectors.specs.Kind.{vector_kind}
-use Rattle.amt_vectors.specs.Reading.{CanAsk, CanBeAsked}
-use Rattle.amt_vectors.specs.Says.{SaysOf}
+use Rattle.std.{proofs.{Common.{◌≡◌, ℕ, ◌+◌, ◌≤◌, ◌==◌, Bool, false, not, List, [], ◌∷◌, ◌++◌, length, All, refl, sym, subst, ap, ne_eqb, arith}, lemmas.List.{Elements.{All-from_recursion}, Splits.{length-slice_split}, Sums.{count_by-le-length, length-filter}}}, specs.{List.{AllByRecursion, slice_split}, Str.Lines.{lines, lines_of_parts}}}
+use Rattle.script_lines.{specs.{Lines.{fields, lines_that_say, says_nothing}, Script.{Say, Spells}}, proofs.Forms.{hex_sized}}
+use Rattle.amt_vectors.specs.{declared.row.{Question.{Question, TheVariants.{Hmac, Sum, Decode, Code4, Code6, Ip}}, Row.{Row}}, Kind.{vector_kind}, Reading.{CanAsk, CanBeAsked}, Says.{SaysOf}}
 
 question_asks : (question : Question) (want : List ℕ) (line : List (List ℕ)) → SaysOf question want line → CanBeAsked question
 question_asks (Hmac key message) want line says = tt

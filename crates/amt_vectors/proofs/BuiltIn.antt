@@ -1,29 +1,9 @@
 -- The text of the built-in rows spells rows.
 use Rattle.std.proofs.Common.{◌≡◌, ◌≢◌, ℕ, ◌≤◌, ◌-◌, ◌==◌, Bool, true, false, if◌then◌else◌, List, [], ◌∷◌, ◌++◌, length, slice_index, flat_map, Result, Ok, Err, codes, decimal, inr, refl, sym, subst, ap, ◌∙◌, append_assoc, ne_eqb, arith}
-use Rattle.std.proofs.lemmas.Bool.{leb-true}
-use Rattle.std.proofs.lemmas.List.Elements.{All-cons, All-get_or, All-nil, All-weaker}
-use Rattle.std.proofs.Math.Dec.{leb}
-use Rattle.std.specs.Fmt.{digits}
-use Rattle.std.specs.Int.{IsInRange}
-use Rattle.std.specs.List.{AllByRecursion}
-use Rattle.std.specs.Str.Lines.{lines, strip_carriage_return}
-use Rattle.hex.proofs.OnLiterals.{hex_on_literals}
-use Rattle.hex.specs.Hex.{decode_of}
-use Rattle.hex.specs.declared.error.FromHexError.{FromHexError}
-use Rattle.script_lines.specs.declared.fault.ScriptError.{ScriptError}
-use Rattle.script_lines.specs.declared.fault.ScriptError.TheVariants.{Fault}
-use Rattle.script_lines.specs.declared.reason.Reason.{Reason}
-use Rattle.script_lines.specs.Form.{IsHexText}
-use Rattle.script_lines.specs.Lines.{fields, lines_that_say, IsPlain, IsShort}
-use Rattle.script_lines.specs.Script.{RulesOutScripts, Say, Spells}
-use Rattle.script_lines.specs.Texts.{hex_text}
-use Rattle.script_lines.proofs.Numbers.{numeral_of_number}
-use Rattle.script_lines.proofs.Splitting.{lines-ended}
-use Rattle.amt_vectors.specs.declared.row.Question.TheVariants.{Hmac, Sum, Decode, Code4, Code6, Ip}
-use Rattle.amt_vectors.specs.declared.row.Row.{Row}
-use Rattle.amt_vectors.specs.BuiltIn.{built_in_lines, built_in_text}
-use Rattle.amt_vectors.specs.Kind.{vector_kind}
-use Rattle.amt_vectors.specs.Says.{SaysRow, spaced}
+use Rattle.std.{proofs.{lemmas.{Bool.{leb-true}, List.Elements.{All-cons, All-get_or, All-nil, All-weaker}}, Math.Dec.{leb}}, specs.{Fmt.{digits}, Int.{IsInRange}, List.{AllByRecursion}, Str.Lines.{lines, strip_carriage_return}}}
+use Rattle.hex.{proofs.OnLiterals.{hex_on_literals}, specs.{Hex.{decode_of}, declared.error.FromHexError.{FromHexError}}}
+use Rattle.script_lines.{specs.{declared.{fault.ScriptError.{ScriptError, TheVariants.{Fault}}, reason.Reason.{Reason}}, Form.{IsHexText}, Lines.{fields, lines_that_say, IsPlain, IsShort}, Script.{RulesOutScripts, Say, Spells}, Texts.{hex_text}}, proofs.{Numbers.{numeral_of_number}, Splitting.{lines-ended}}}
+use Rattle.amt_vectors.specs.{declared.row.{Question.TheVariants.{Hmac, Sum, Decode, Code4, Code6, Ip}, Row.{Row}}, BuiltIn.{built_in_lines, built_in_text}, Kind.{vector_kind}, Says.{SaysRow, spaced}}
 
 -- each octet is printable ASCII, as a test
 abbrev is_plain : List ℕ → Bool

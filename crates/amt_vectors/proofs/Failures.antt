@@ -1,20 +1,10 @@
 -- The first reason why the fields of a row fail.
 use Rattle.std.proofs.Common.{◌≡◌, ◌⊎◌, ℕ, List, [], ◌∷◌, Err, IsErrOf, inl, inr, refl, ◌↔◌, sym, subst, ap, arith}
-use Rattle.amt_values.specs.Numeral.{IsNumeral}
-use Rattle.amt_values.specs.Conditions.{First}
-use Rattle.script_lines.specs.declared.fault.LineError.{LineError}
-use Rattle.script_lines.specs.declared.fault.LineError.TheVariants.{Bad, Memory}
-use Rattle.script_lines.specs.declared.reason.Reason.{Reason}
+use Rattle.amt_values.specs.{Numeral.{IsNumeral}, Conditions.{First}}
+use Rattle.script_lines.{specs.{declared.{fault.LineError.{LineError, TheVariants.{Bad, Memory}}, reason.Reason.{Reason}}, Form.{Fails, a_number, some_octets}, Reading.{FailsFirst}}, proofs.Firsts.{First-same}}
 use Rattle.script_lines.specs.declared.reason.Reason.TheVariants as reasons
-use Rattle.script_lines.specs.Form.{Fails, a_number, some_octets}
-use Rattle.script_lines.specs.Reading.{FailsFirst}
-use Rattle.script_lines.proofs.Firsts.{First-same}
-use Rattle.amt_vectors.specs.declared.kind.RowKind.{RowKind}
+use Rattle.amt_vectors.{specs.{declared.kind.RowKind.{RowKind}, Fault.{FailsAs, FailsAsRow, FailsInKind, FieldFails, HasOtherFieldCount, SomeFieldFails, order_of_reasons, order_of_values}, Row.{Field, fields_of, four_digits, of_form, some_digits, word_of}, Says.{WantsNumber}}, proofs.Rows.{same_kind, same_values}}
 use Rattle.amt_vectors.specs.declared.kind.RowKind.TheVariants as kinds
-use Rattle.amt_vectors.specs.Fault.{FailsAs, FailsAsRow, FailsInKind, FieldFails, HasOtherFieldCount, SomeFieldFails, order_of_reasons, order_of_values}
-use Rattle.amt_vectors.specs.Row.{Field, fields_of, four_digits, of_form, some_digits, word_of}
-use Rattle.amt_vectors.specs.Says.{WantsNumber}
-use Rattle.amt_vectors.proofs.Rows.{same_kind, same_values}
 
 -- out of memory, or bad for this reason, which comes with a fact
 abbrev pub IsBadFor : Reason → Type 0 → LineError → Type 0

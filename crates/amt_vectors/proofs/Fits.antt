@@ -1,17 +1,10 @@
 -- No field of a line that is a row fails.
 use Rattle.std.proofs.Common.{◌≡◌, ℕ, List, [], ◌∷◌, inl, inr, refl, arith}
 use Rattle.amt_values.specs.Numeral.{IsNumeral}
-use Rattle.script_lines.specs.declared.reason.Reason.{Reason}
+use Rattle.script_lines.{specs.{declared.reason.Reason.{Reason}, Form.{a_number, some_octets}}, proofs.Forms.{octets_fit, number_fits}}
 use Rattle.script_lines.specs.declared.reason.Reason.TheVariants as reasons
-use Rattle.script_lines.specs.Form.{a_number, some_octets}
-use Rattle.script_lines.proofs.Forms.{octets_fit, number_fits}
-use Rattle.amt_vectors.specs.declared.kind.RowKind.{RowKind}
+use Rattle.amt_vectors.specs.{declared.{kind.RowKind.{RowKind}, row.Question.{Question, TheVariants.{Hmac, Sum, Decode, Code4, Code6, Ip}}}, Fault.{FailsAs, FieldFails, HasOtherFieldCount, SomeFieldFails}, Row.{Field, of_form, four_digits, some_digits, any_text, fields_of, word_of, IsFourDigits}, Says.{SaysOf}}
 use Rattle.amt_vectors.specs.declared.kind.RowKind.TheVariants as kinds
-use Rattle.amt_vectors.specs.declared.row.Question.{Question}
-use Rattle.amt_vectors.specs.declared.row.Question.TheVariants.{Hmac, Sum, Decode, Code4, Code6, Ip}
-use Rattle.amt_vectors.specs.Fault.{FailsAs, FieldFails, HasOtherFieldCount, SomeFieldFails}
-use Rattle.amt_vectors.specs.Row.{Field, of_form, four_digits, some_digits, any_text, fields_of, word_of, IsFourDigits}
-use Rattle.amt_vectors.specs.Says.{SaysOf}
 
 -- the text is such a field
 abbrev Fits : Field → List ℕ → Type 0

@@ -1,17 +1,8 @@
 -- Rows are a lawful kind of script.
 use Rattle.std.proofs.Common.{ℕ, List, sym, subst, ◌∙◌}
-use Rattle.script_lines.specs.declared.reason.Reason.{Reason}
+use Rattle.script_lines.specs.{declared.reason.Reason.{Reason}, Kind.{IsLawfulKind}}
 use Rattle.script_lines.specs.declared.reason.Reason.TheVariants as reasons
-use Rattle.script_lines.specs.Kind.{IsLawfulKind}
-use Rattle.amt_vectors.specs.declared.kind.RowKind.{RowKind}
-use Rattle.amt_vectors.specs.declared.row.Row.{Row}
-use Rattle.amt_vectors.specs.Fault.{FailsAs, FailsAsRow, FailsInKind}
-use Rattle.amt_vectors.specs.Kind.{vector_kind}
-use Rattle.amt_vectors.specs.Row.{word_of}
-use Rattle.amt_vectors.specs.Says.{SaysRow}
-use Rattle.amt_vectors.proofs.Fits.{IsFit, kind_of, row_is_fit}
-use Rattle.amt_vectors.proofs.Rows.{same_kind, same_values}
-use Rattle.amt_vectors.proofs.Unique.{SaysRow-unique}
+use Rattle.amt_vectors.{specs.{declared.{kind.RowKind.{RowKind}, row.Row.{Row}}, Fault.{FailsAs, FailsAsRow, FailsInKind}, Kind.{vector_kind}, Row.{word_of}, Says.{SaysRow}}, proofs.{Fits.{IsFit, kind_of, row_is_fit}, Rows.{same_kind, same_values}, Unique.{SaysRow-unique}}}
 
 -- a line of which no field fails fails as no kind
 fit_is_sound : (kind : RowKind) (line : List (List ℕ)) (reason : Reason) → IsFit kind line → FailsInKind line reason → ⊥

@@ -1,23 +1,10 @@
 -- What a run over rows reports is one report, and that of all rows together.
 use Rattle.std.proofs.Common.{◌≡◌, ℕ, ◌+◌, ◌<◌, ◌≤◌, List, [], ◌∷◌, ◌++◌, length, take, drop, get_or, All, MatchOption, Option, None, Some, inl, inr, refl, sym, subst, ap, ◌∙◌, append_assoc, length-append, length-take, add-one, suc, arith}
-use Rattle.std.proofs.lemmas.List.{take-append-drop, take_more, take_all}
-use Rattle.std.proofs.lemmas.List.Elements.{All-append, All-cons, All-get_or, All-nil, recursion_from_All}
-use Rattle.std.proofs.Math.Seq.{drop-cons}
-use Rattle.std.specs.List.{AllByRecursion}
-use Rattle.amt_values.specs.Text.{ip_text}
-use Rattle.amt_values.proofs.Unique.{IsIpText-unique}
+use Rattle.std.{proofs.{lemmas.List.{take-append-drop, take_more, take_all, Elements.{All-append, All-cons, All-nil, recursion_from_All}}, Math.Seq.{drop-cons}}, specs.List.{AllByRecursion}}
+use Rattle.amt_values.{specs.Text.{ip_text}, proofs.Unique.{IsIpText-unique}}
 use Rattle.script_lines.proofs.Verdicts.{one_script}
-use Rattle.amt_vectors.specs.declared.report.Bad.{Bad}
-use Rattle.amt_vectors.specs.declared.report.SuiteReport.{SuiteReport}
-use Rattle.amt_vectors.specs.declared.row.Question.{Question}
-use Rattle.amt_vectors.specs.declared.row.Question.TheVariants.{Hmac, Sum, Decode, Code4, Code6, Ip}
-use Rattle.amt_vectors.specs.declared.row.Row.{Row}
-use Rattle.amt_vectors.specs.Answer.{IsAnswer, IsCanonicalOf}
-use Rattle.amt_vectors.specs.BuiltIn.{built_in_text}
-use Rattle.amt_vectors.specs.Kind.{vector_kind}
-use Rattle.amt_vectors.specs.Reading.{CanAsk, IsFirstBadAfter, IsOther, IsReportAfter, ReportsAfter}
-use Rattle.amt_vectors.specs.Report.{IsBadRow, IsFirstBad, IsReportOf, IsVectorsReport, Passes, Reports}
-use Rattle.amt_vectors.proofs.Lawful.{vector_kind_lawful}
+use Rattle.amt_vectors.specs.{declared.{report.{Bad.{Bad}, SuiteReport.{SuiteReport}}, row.{Question.{Question, TheVariants.{Hmac, Sum, Decode, Code4, Code6, Ip}}, Row.{Row}}}, Answer.{IsAnswer, IsCanonicalOf}, BuiltIn.{built_in_text}}
+use Rattle.amt_vectors.{specs.{Kind.{vector_kind}, Reading.{IsFirstBadAfter, IsOther, IsReportAfter, ReportsAfter}, Report.{IsBadRow, IsFirstBad, IsReportOf, IsVectorsReport, Passes, Reports}}, proofs.Lawful.{vector_kind_lawful}}
 
 IsCanonicalOf-unique : (address one other : List ℕ) → IsCanonicalOf address one → IsCanonicalOf address other → one ≡ other
 IsCanonicalOf-unique address one other (inl h) (inl k) = h.2 ∙ (ap ip_text (IsIpText-unique h.0 k.0 address h.1 k.1) ∙ sym k.2)
@@ -128,17 +115,10 @@ among_first given rows passed bad first = record {
   is_bad = subst (λ (n : ℕ). IsBadRow n first.row bad) (omega (arith, first.counted)) first.is_bad;
 }
 
--- a row among those that can be asked can be
-pub ask_at : (rows : List Row) (i : ℕ) (row : Row) → i < length rows → row ≡ get_or rows i row → All CanAsk rows → CanAsk row
-ask_at rows i row within is all = subst CanAsk (sym is) (All-get_or CanAsk rows i row within all)
-
 -- the rows before this one pass, and so many rows have passed with them
 pub record ArePassed (count : ℕ) (rows : List Row) (i passed : ℕ) : Type 0 where
   pub pass : All Passes (take i rows)
   pub counted : passed ≡ count + i
-
-pub passed_none : (count : ℕ) (rows : List Row) → ArePassed count rows 0 count
-passed_none count rows = record { pass = All-nil Passes; counted = omega arith }
 
 pub passed_more : (count : ℕ) (rows : List Row) (i passed : ℕ) (row : Row) → i < length rows → row ≡ get_or rows i row → ArePassed count rows i passed → Passes row
     → ArePassed count rows (i + 1) (passed + 1)

@@ -1,8 +1,7 @@
 -- A line is of one kind.
 use Rattle.std.proofs.Common.{◌≡◌, ℕ, ◌+◌, ◌*◌, ◌==◌, List, [], ◌∷◌, get_or, if◌then◌else◌, refl, sym, ap, ◌∙◌}
-use Rattle.amt_vectors.specs.declared.kind.RowKind.{RowKind}
+use Rattle.amt_vectors.specs.{declared.kind.RowKind.{RowKind}, Row.{word_of}}
 use Rattle.amt_vectors.specs.declared.kind.RowKind.TheVariants as kinds
-use Rattle.amt_vectors.specs.Row.{word_of}
 
 -- a number that tells the first words apart: by the first octet and the fifth one
 abbrev mark : List ℕ → ℕ

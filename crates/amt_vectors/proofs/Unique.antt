@@ -1,18 +1,9 @@
 -- A line is one row.
 use Rattle.std.proofs.Common.{◌≡◌, ℕ, List, [], ◌∷◌, refl, sym, subst, ap, ◌∙◌, arith}
 use Rattle.hex.proofs.HexLemmas.{decode_of-same}
-use Rattle.script_lines.specs.Form.{IsHexText, IsNumberText}
-use Rattle.script_lines.specs.Shape.{HasTwoFields}
-use Rattle.script_lines.specs.Texts.{hex_text}
-use Rattle.script_lines.proofs.Forms.{IsHexText-unique, IsNumberText-unique}
+use Rattle.script_lines.{specs.{Form.{IsHexText, IsNumberText}, Shape.{HasTwoFields}, Texts.{hex_text}}, proofs.Forms.{IsHexText-unique, IsNumberText-unique}}
 use Rattle.amt_vectors.specs.declared.kind.RowKind.TheVariants as kinds
-use Rattle.amt_vectors.specs.declared.row.Question.{Question}
-use Rattle.amt_vectors.specs.declared.row.Question.TheVariants.{Hmac, Sum, Decode, Code4, Code6, Ip}
-use Rattle.amt_vectors.specs.declared.row.Row.{Row}
-use Rattle.amt_vectors.specs.Row.{word_of}
-use Rattle.amt_vectors.specs.Says.{SaysDecode, SaysHmac, SaysOf, SaysRow, WantsNumber, WantsOctets, WantsSum, spaced}
-use Rattle.amt_vectors.proofs.Fits.{kind_of, row_is_fit}
-use Rattle.amt_vectors.proofs.Rows.{same_kind, same_values}
+use Rattle.amt_vectors.{specs.{declared.row.{Question.{Question, TheVariants.{Hmac, Sum, Decode, Code4, Code6, Ip}}, Row.{Row}}, Row.{word_of}, Says.{SaysDecode, SaysHmac, SaysOf, SaysRow, WantsNumber, WantsOctets, WantsSum, spaced}}, proofs.{Fits.{kind_of, row_is_fit}, Rows.{same_kind, same_values}}}
 
 -- a text of a form names one value
 abbrev IsUnique : {X : Type 0} → (X → List ℕ → Type 0) → Type 0

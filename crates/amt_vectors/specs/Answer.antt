@@ -1,17 +1,13 @@
 -- The answers to the questions of rows, each in the terms of its standard.
 use Rattle.std.specs.Prelude.{◌≡◌, ◌⊎◌, ℕ, List, Option, Some, None, codes, decimal}
-use Rattle.amt_messages.specs.declared.refusal.Refused.{Refused}
-use Rattle.amt_messages.specs.Refusal.{first_refusal}
-use Rattle.amt_values.specs.declared.address.Ip.{Ip as Address}
-use Rattle.amt_values.specs.Text.{IsIpText, ip_text}
-use Rattle.script_lines.specs.FaultTexts.{refusal_text, sum_text}
+use Rattle.amt_messages.specs.{declared.refusal.Refused.{Refused}, Refusal.{first_refusal}}
+use Rattle.amt_values.specs.{declared.address.Ip.{Ip as Address}, Text.{IsIpText, ip_text}}
+use Rattle.script_lines.specs.{FaultTexts.{refusal_text, sum_text}, Texts.{hex_text}}
 use Rattle.igmp_records.specs.Code.{code_value as code_value4}
 use Rattle.inner_datagrams.specs.Checksum.{internet_sum_of}
 use Rattle.mld_records.specs.Code.{code_value as code_value6}
 use Rattle.response_mac.specs.Hmac.{hmac_of}
-use Rattle.script_lines.specs.Texts.{hex_text}
-use Rattle.amt_vectors.specs.declared.row.Question.{Question}
-use Rattle.amt_vectors.specs.declared.row.Question.TheVariants.{Hmac, Sum, Decode, Code4, Code6, Ip}
+use Rattle.amt_vectors.specs.declared.row.Question.{Question, TheVariants.{Hmac, Sum, Decode, Code4, Code6, Ip}}
 
 -- of a decoding: the refusal, or that there is none
 abbrev pub decoding_text : Option Refused → List ℕ

@@ -1,12 +1,9 @@
 -- What is wrong with a line that is no row.
 use Rattle.std.specs.Prelude.{◌≡◌, ◌≢◌, ◌<◌, ◌⊎◌, ℕ, List, [], ◌∷◌, length}
 use Rattle.amt_values.specs.Numeral.{IsNumeral}
-use Rattle.script_lines.specs.declared.reason.Reason.{Reason}
-use Rattle.script_lines.specs.declared.reason.Reason.TheVariants.{Word, Count, Number, Hex, Range}
-use Rattle.script_lines.specs.Form.{Fails}
-use Rattle.amt_vectors.specs.declared.kind.RowKind.{RowKind}
+use Rattle.script_lines.specs.{declared.reason.Reason.{Reason, TheVariants.{Word, Count, Number, Hex, Range}}, Form.{Fails}}
+use Rattle.amt_vectors.specs.{declared.kind.RowKind.{RowKind}, Row.{Field, of_form, four_digits, some_digits, fields_of, word_of, IsFourDigits}}
 use Rattle.amt_vectors.specs.declared.kind.RowKind.TheVariants as kinds
-use Rattle.amt_vectors.specs.Row.{Field, of_form, four_digits, some_digits, fields_of, word_of, IsFourDigits}
 
 -- the reasons for which the fields after the first word fail
 abbrev pub order_of_values : List Reason

@@ -1,9 +1,7 @@
 -- Test vectors, as a kind of script: each line is a row, whatever the lines before it are.
 use Rattle.std.specs.Prelude.{◌≡◌, List, []}
 use Rattle.script_lines.specs.Kind.{Kind}
-use Rattle.amt_vectors.specs.declared.row.Row.{Row}
-use Rattle.amt_vectors.specs.Fault.{FailsAsRow, order_of_reasons}
-use Rattle.amt_vectors.specs.Says.{SaysRow}
+use Rattle.amt_vectors.specs.{declared.row.Row.{Row}, Fault.{FailsAsRow, order_of_reasons}, Says.{SaysRow}}
 
 -- rows, in order; any number of them
 abbrev pub vector_kind : Kind Row (List Row)

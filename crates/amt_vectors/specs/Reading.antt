@@ -1,12 +1,6 @@
 -- What the reader's own answers say.
 use Rattle.std.specs.Prelude.{◌≡◌, ◌≢◌, ◌≤◌, ℕ, ◌+◌, List, ◌∷◌, ◌++◌, length, Option, Some, None, All}
-use Rattle.amt_vectors.specs.declared.report.Bad.{Bad}
-use Rattle.amt_vectors.specs.declared.report.SuiteReport.{SuiteReport}
-use Rattle.amt_vectors.specs.declared.row.Question.{Question}
-use Rattle.amt_vectors.specs.declared.row.Question.TheVariants.{Hmac, Sum, Decode, Code4, Code6, Ip}
-use Rattle.amt_vectors.specs.declared.row.Row.{Row}
-use Rattle.amt_vectors.specs.Answer.{IsAnswer}
-use Rattle.amt_vectors.specs.Report.{IsBadRow, Passes}
+use Rattle.amt_vectors.specs.{declared.{report.{Bad.{Bad}, SuiteReport.{SuiteReport}}, row.{Question.{Question, TheVariants.{Hmac, Sum, Decode, Code4, Code6, Ip}}, Row.{Row}}}, Answer.{IsAnswer}, Report.{IsBadRow, Passes}}
 
 -- octets that a checksum or a decoding is asked of are no more than UDP carries
 abbrev pub CanBeAsked : Question → Type 0

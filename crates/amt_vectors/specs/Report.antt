@@ -1,12 +1,7 @@
 -- What a run over rows reports.
 use Rattle.std.specs.Prelude.{◌≡◌, ◌≢◌, ℕ, ◌+◌, List, ◌∷◌, ◌++◌, length, Option, Some, None, All}
 use Rattle.script_lines.specs.Script.{Spells}
-use Rattle.amt_vectors.specs.declared.report.Bad.{Bad}
-use Rattle.amt_vectors.specs.declared.report.SuiteReport.{SuiteReport}
-use Rattle.amt_vectors.specs.declared.row.Row.{Row}
-use Rattle.amt_vectors.specs.Answer.{IsAnswer}
-use Rattle.amt_vectors.specs.BuiltIn.{built_in_text}
-use Rattle.amt_vectors.specs.Kind.{vector_kind}
+use Rattle.amt_vectors.specs.{declared.{report.{Bad.{Bad}, SuiteReport.{SuiteReport}}, row.Row.{Row}}, Answer.{IsAnswer}, BuiltIn.{built_in_text}, Kind.{vector_kind}}
 
 -- the text that the row wants is the answer
 abbrev pub Passes : Row → Type 0

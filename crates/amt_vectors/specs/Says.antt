@@ -1,14 +1,9 @@
 -- What a row asks, and the text that it wants for an answer.
 use Rattle.std.specs.Prelude.{◌≡◌, ℕ, List, [], ◌∷◌, ◌++◌, flat_map}
 use Rattle.amt_values.specs.Numeral.{IsNumeral}
-use Rattle.script_lines.specs.Form.{IsHexText, IsNumberText}
-use Rattle.script_lines.specs.Shape.{HasTwoFields}
-use Rattle.script_lines.specs.Texts.{hex_text}
+use Rattle.script_lines.specs.{Form.{IsHexText, IsNumberText}, Shape.{HasTwoFields}, Texts.{hex_text}}
 use Rattle.amt_vectors.specs.declared.kind.RowKind.TheVariants as kinds
-use Rattle.amt_vectors.specs.declared.row.Question.{Question}
-use Rattle.amt_vectors.specs.declared.row.Question.TheVariants.{Hmac, Sum, Decode, Code4, Code6, Ip}
-use Rattle.amt_vectors.specs.declared.row.Row.{Row}
-use Rattle.amt_vectors.specs.Row.{IsFourDigits, word_of}
+use Rattle.amt_vectors.specs.{declared.row.{Question.{Question, TheVariants.{Hmac, Sum, Decode, Code4, Code6, Ip}}, Row.{Row}}, Row.{IsFourDigits, word_of}}
 
 -- octets that are wanted, whatever the case of their digits: they are shown in lower case
 abbrev pub WantsOctets : List ℕ → List ℕ → Type 0

@@ -1,7 +1,6 @@
 -- A report as text.
 use Rattle.std.specs.Prelude.{ℕ, List, [], ◌∷◌, ◌++◌, Option, codes, decimal, option_map}
-use Rattle.amt_vectors.specs.declared.report.Bad.{Bad}
-use Rattle.amt_vectors.specs.declared.report.SuiteReport.{SuiteReport}
+use Rattle.amt_vectors.specs.declared.report.{Bad.{Bad}, SuiteReport.{SuiteReport}}
 
 -- `passed N`, and a line feed
 abbrev pub suite_text : SuiteReport → List ℕ

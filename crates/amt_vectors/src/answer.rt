@@ -3,8 +3,7 @@
 ghost use Rattle.std.specs.Prelude.{◌≡◌, ◌≤◌, length, IfOk};
 ghost use Rattle.amt_messages.specs.Refusal.{first_refusal};
 ghost use Rattle.script_lines.specs.Texts.{hex_text};
-ghost use Rattle.amt_vectors.specs.Answer.{IsAnswer, IsCanonicalOf, decoding_text};
-ghost use Rattle.amt_vectors.specs.Reading.{CanBeAsked};
+ghost use Rattle.amt_vectors.specs.{Answer.{IsAnswer, IsCanonicalOf, decoding_text}, Reading.{CanBeAsked}};
 
 use crate::row::Question;
 use amt_messages::{DecodeFault, decode};

@@ -2,9 +2,7 @@
 
 ghost use Rattle.std.specs.Prelude.{◌≡◌, ◌≤◌, length, All, IfOk};
 ghost use Rattle.script_lines.specs.Script.{Spells};
-ghost use Rattle.amt_vectors.specs.BuiltIn.{built_in_text};
-ghost use Rattle.amt_vectors.specs.Kind.{vector_kind};
-ghost use Rattle.amt_vectors.specs.Reading.{CanAsk};
+ghost use Rattle.amt_vectors.specs.{BuiltIn.{built_in_text}, Kind.{vector_kind}, Reading.{CanAsk}};
 
 use crate::reading::read_rows;
 use crate::row::Rows;

@@ -3,12 +3,8 @@
 ghost use Rattle.std.specs.Prelude.{◌≡◌, ◌≢◌, ◌<◌, ◌⊎◌, ◌↔◌, ◌∷◌, ◌++◌, [], length, flat_map, IsTrue, IfOk, IfErr, IfSome, IfNone, OnOk};
 ghost use Rattle.script_lines.specs.declared.fault.LineError.TheVariants as line_errors;
 ghost use Rattle.amt_values.specs.Numeral.{IsNumeral};
-ghost use Rattle.script_lines.specs.Form.{Fails, IsHexText, some_octets};
-ghost use Rattle.script_lines.specs.Lines.{fields};
-ghost use Rattle.script_lines.specs.Texts.{hex_text};
-ghost use Rattle.amt_vectors.specs.Fault.{FieldFails};
-ghost use Rattle.amt_vectors.specs.Row.{four_digits, some_digits};
-ghost use Rattle.amt_vectors.specs.Says.{WantsNumber, WantsOctets, WantsSum, spaced};
+ghost use Rattle.script_lines.specs.{Form.{Fails, IsHexText, some_octets}, Lines.{fields}, Texts.{hex_text}};
+ghost use Rattle.amt_vectors.specs.{Fault.{FieldFails}, Row.{four_digits, some_digits}, Says.{WantsNumber, WantsOctets, WantsSum, spaced}};
 
 use amt_values::{Bytes, NumeralFault, parse_numeral};
 use hex::FromHex;

@@ -1,8 +1,7 @@
 //! The kinds of rows, by their first word. It reads no other field.
 
 ghost use Rattle.std.specs.Prelude.{◌≡◌, ◌≢◌, IfSome, IfNone};
-ghost use Rattle.amt_vectors.specs.declared.kind.RowKind.{RowKind as RowKindValue};
-ghost use Rattle.amt_vectors.specs.Row.{word_of};
+ghost use Rattle.amt_vectors.specs.{declared.kind.RowKind.{RowKind as RowKindValue}, Row.{word_of}};
 
 use script_lines::is_word;
 

@@ -1,12 +1,9 @@
 //! The row that a line is. It knows no other line.
 
 ghost use Rattle.std.specs.Prelude.{◌∷◌, IfOk, IfErr};
-ghost use Rattle.script_lines.specs.Lines.{fields};
-ghost use Rattle.script_lines.specs.Reading.{FailsFirst};
+ghost use Rattle.script_lines.specs.{Lines.{fields}, Reading.{FailsFirst}};
 ghost use Rattle.amt_vectors.specs.declared.kind.RowKind.TheVariants as kinds;
-ghost use Rattle.amt_vectors.specs.Fault.{FailsAs, FailsAsRow, order_of_reasons, order_of_values};
-ghost use Rattle.amt_vectors.specs.Row.{word_of};
-ghost use Rattle.amt_vectors.specs.Says.{SaysRow};
+ghost use Rattle.amt_vectors.specs.{Fault.{FailsAs, FailsAsRow, order_of_reasons, order_of_values}, Row.{word_of}, Says.{SaysRow}};
 
 use crate::fields::{
     leading_two, octets_of, three_fields, wanted_number, wanted_octets, wanted_sum, wanted_words,

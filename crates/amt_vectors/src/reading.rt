@@ -2,8 +2,7 @@
 
 ghost use Rattle.std.specs.Prelude.{◌≤◌, ◌+◌, length, All, IfOk, IfErr};
 ghost use Rattle.script_lines.specs.Script.{Spells, IsErrorOf, RulesOutScripts, HasOneScript, HasOneFault};
-ghost use Rattle.amt_vectors.specs.Kind.{vector_kind};
-ghost use Rattle.amt_vectors.specs.Reading.{CanAsk};
+ghost use Rattle.amt_vectors.specs.{Kind.{vector_kind}, Reading.{CanAsk}};
 
 use crate::line::read_row;
 use crate::row::{Row, Rows};
@@ -18,8 +17,7 @@ struct VectorLines {
 
 impl ScriptKind for VectorLines {
     ghost use Rattle.std.specs.Prelude.{◌≡◌};
-    ghost use Rattle.amt_vectors.specs.declared.row.Row.{Row as RowValue};
-    ghost use Rattle.amt_vectors.specs.Kind.{vector_kind};
+    ghost use Rattle.amt_vectors.specs.{declared.row.Row.{Row as RowValue}, Kind.{vector_kind}};
 
     type Script = Rows;
 

@@ -2,10 +2,7 @@
 
 ghost use Rattle.std.specs.Prelude.{◌≡◌, ◌+◌, ◌++◌, ◌≤◌, length, All, IfOk, IfErr, MatchOption};
 ghost use Rattle.script_lines.specs.Script.{IsErrorOf, RulesOutScripts, HasOneFault};
-ghost use Rattle.amt_vectors.specs.declared.report.SuiteReport.{SuiteReport as ReportValue};
-ghost use Rattle.amt_vectors.specs.Kind.{vector_kind};
-ghost use Rattle.amt_vectors.specs.Reading.{CanAsk, IsOther, IsReportAfter};
-ghost use Rattle.amt_vectors.specs.Report.{IsBadRow, IsReportOf, IsVectorsReport, Passes};
+ghost use Rattle.amt_vectors.specs.{declared.report.SuiteReport.{SuiteReport as ReportValue}, Kind.{vector_kind}, Reading.{CanAsk, IsOther, IsReportAfter}, Report.{IsBadRow, IsReportOf, IsVectorsReport, Passes}};
 
 use crate::answer::answer;
 use crate::built_in::built_in_rows;

@@ -1,18 +1,6 @@
 -- Words that are no flag, decimal digits among them.
-use Rattle.std.proofs.Common.{◌≡◌, ◌<◌, ◌≤◌, ◌==◌, ◌^◌, subst, ℕ, ℤ, Bool, true, false, [], ◌∷◌, Some, None, refl, sym, arith}
-use Rattle.std.specs.Prelude.{pos, FitsSigned, ◌≤ℤ◌}
-use Rattle.std.specs.Str.{bytes_eq}
-use Rattle.std.specs.Str.Parse.{IsNumeral, digits_value, signed_digits_value, without_leading_sign}
-use Rattle.std.specs.Char.{digit_value}
-use Rattle.std.specs.Int.{w64}
-use Rattle.std.proofs.lemmas.Int.{ints}
-use Rattle.std.proofs.lemmas.Bool.{ne_eqb}
-use Rattle.std.proofs.lemmas.Str.Parse.{digit_from_value}
-use Rattle.clap.specs.Lexer.{strip_byte}
-use Rattle.clap.specs.ValueTests.{is_signed_in}
-use Rattle.clap.specs.Words.{IsSignedIn, Text, without_minus}
-use Rattle.clap.specs.declared.builder.value_parser.ValueParser.TheVariants.{Signed}
-use Rattle.clap.proofs.ValueTestLemmas.{Accepts-accepts}
+use Rattle.std.{proofs.{Common.{◌≡◌, ◌<◌, ◌≤◌, ◌==◌, ◌^◌, subst, ℕ, ℤ, Bool, true, false, [], ◌∷◌, Some, None, refl, sym, arith}, lemmas.{Int.{ints}, Bool.{ne_eqb}, Str.Parse.{digit_from_value}}}, specs.{Prelude.{pos, FitsSigned, ◌≤ℤ◌}, Str.{bytes_eq, Parse.{IsNumeral, digits_value, signed_digits_value, without_leading_sign}}, Char.{digit_value}, Int.{w64}}}
+use Rattle.clap.{specs.{Lexer.{strip_byte}, ValueTests.{is_signed_in}, Words.{IsSignedIn, Text, without_minus}, declared.builder.value_parser.ValueParser.TheVariants.{Signed}}, proofs.ValueTestLemmas.{Accepts-accepts}}
 use Rattle.amt_words.specs.Line.{IsNumberIn, IsPlainWord, number_of}
 
 -- the word is no flag

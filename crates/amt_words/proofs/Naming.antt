@@ -1,19 +1,7 @@
 -- The subcommand that `replay` enters has one of its three names.
-use Rattle.std.proofs.Common.{◌≡◌, ◌∙◌, Bool, true, false, List, [], ◌∷◌, Option, Some, None, cond, refl, sym, subst, ap}
-use Rattle.std.specs.Prelude.{⊤, find, option_map, Box}
-use Rattle.std.specs.Global.{Global}
-use Rattle.std.specs.Box.{box_value}
-use Rattle.clap.specs.Words.{App, Row, Shape, Text, subcommand_rows, subcommand_rows_of, subcommand_of}
-use Rattle.clap.specs.Matches.{subcommand_name_of}
-use Rattle.clap.specs.Simple.{argument_words, built, entered, label_of, names_of, rows_at}
-use Rattle.clap.specs.Walk.{answers_to, stop_after}
-use Rattle.clap.specs.declared.parser.matches.ArgMatches.{ArgMatches}
-use Rattle.clap.specs.declared.parser.matches.SubCommand.{SubCommand}
-use Rattle.clap.specs.declared.parser.matches.ArgMatches.TheViews.{out-ArgMatches, out-SubCommand}
-use Rattle.amt_words.specs.declared.command.Replayable.{Replayable}
-use Rattle.amt_words.specs.declared.command.Replayable.TheVariants.{Relay, Gateway, Pair}
-use Rattle.amt_words.specs.Line.{replayed_name}
-use Rattle.amt_words.specs.Usage.{replay_usage, replayable_name}
+use Rattle.std.{proofs.Common.{◌≡◌, ◌∙◌, Bool, true, false, List, [], ◌∷◌, Option, Some, None, cond, refl, sym, subst, ap}, specs.{Prelude.{⊤, find, option_map, Box}, Global.{Global}, Box.{box_value}}}
+use Rattle.clap.specs.{Words.{App, Row, Shape, Text, subcommand_rows, subcommand_rows_of, subcommand_of}, Matches.{subcommand_name_of}, Simple.{argument_words, built, entered, label_of, names_of, rows_at}, Walk.{answers_to, stop_after}, declared.parser.matches.{ArgMatches.{ArgMatches, TheViews.{out-ArgMatches, out-SubCommand}}, SubCommand.{SubCommand}}}
+use Rattle.amt_words.specs.{declared.command.Replayable.{Replayable, TheVariants.{Relay, Gateway, Pair}}, Line.{replayed_name}, Usage.{replay_usage, replayable_name}}
 
 -- every item of a list has a property
 abbrev Each : {X : Type 0} → (X → Type 0) → List X → Type 0

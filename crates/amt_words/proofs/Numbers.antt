@@ -1,24 +1,8 @@
 -- A required number that a parse found, in a command of two arguments.
-use Rattle.std.proofs.Common.{◌≡◌, ◌∙◌, ◌<◌, ◌≤◌, ◌++◌, ◌||◌, ◌^◌, ℕ, zero, suc, true, false, List, [], ◌∷◌, length, Option, Some, codes, refl, sym, subst, ap, inl, inr, arith}
-use Rattle.std.specs.Prelude.{pos, option_map, Ok, Result}
-use Rattle.std.specs.List.{All, slice_index_or}
-use Rattle.std.specs.Str.{bytes_eq}
-use Rattle.std.specs.Str.Parse.{ParsesUnsigned}
-use Rattle.std.proofs.lemmas.List.Elements.{All-nil}
-use Rattle.clap.specs.Words.{AddsArg, IsParsedFrom, IsPlain, IsPlainArg, ReadsOne, SameRules, Text, args_of, found_of, groups_of, one_text, without_minus}
-use Rattle.clap.specs.Built.{TakesValue}
-use Rattle.clap.specs.Facts.{least_values}
-use Rattle.clap.specs.declared.builder.action.ArgAction.TheVariants.{Set}
-use Rattle.clap.specs.declared.builder.arg.Arg.{Arg}
-use Rattle.clap.specs.declared.builder.command.Command.{Command}
-use Rattle.clap.specs.declared.builder.command.Command.TheViews.{out-Command}
-use Rattle.clap.specs.declared.builder.value_parser.ValueParser.TheVariants.{Signed}
-use Rattle.clap.specs.declared.parser.matches.ArgMatches.{ArgMatches}
-use Rattle.clap.specs.declared.parser.matches.Found.{Found}
-use Rattle.clap.proofs.CallerLemmas.{added_plain}
-use Rattle.clap.proofs.CallerReads.{required_reads, signed_reads}
+use Rattle.std.{proofs.{Common.{◌≡◌, ◌∙◌, ◌<◌, ◌≤◌, ◌++◌, ◌||◌, ℕ, zero, suc, true, false, List, [], ◌∷◌, length, Some, codes, refl, sym, subst, ap, inl, inr, arith}, lemmas.List.Elements.{All-nil}}, specs.{Prelude.{pos}, List.{All, slice_index_or}, Str.{bytes_eq}}}
+use Rattle.clap.specs.{Words.{AddsArg, IsParsedFrom, IsPlain, IsPlainArg, SameRules, Text, args_of, found_of, groups_of, one_text, without_minus}, Built.{TakesValue}, Facts.{least_values}, declared.builder.action.ArgAction.TheVariants.{Set}}
+use Rattle.clap.{specs.declared.{builder.{arg.Arg.{Arg}, command.Command.{Command, TheViews.{out-Command}}, value_parser.ValueParser.TheVariants.{Signed}}, parser.matches.ArgMatches.{ArgMatches}}, proofs.{CallerLemmas.{added_plain}, CallerReads.{required_reads}}}
 use Rattle.amt_words.specs.Given.{HasNumber}
-use Rattle.amt_words.specs.Line.{number_of}
 
 pub same_value : (a x : Arg) → SameRules a x → TakesValue a → TakesValue x
 same_value a x r t = (r.required ∙ t.0, r.action Set t.1, r.val_delim ∙ t.2, r.least t.1 t.3)
@@ -103,17 +87,3 @@ both_numbers start mid cmd a b m first second args groups globals negates plain_
           (λ e. text_differs _ _ 1 4 e refl refl (λ n. absurd (omega arith)))
           (λ e. text_differs _ _ 1 7 e refl refl (λ n. absurd (omega arith))),
     )
-
--- a typed getter reads the number of an argument that has one
-pub number_reads : (E : Type 0) (G : List ℕ → Result ℕ E → Type 0) (least most : ℕ) (found : Found) (id : Text) (r : Option ℕ)
-    → most < 2 ^ 32 → HasNumber found id least most
-    → ((t : List ℕ) → one_text found id ≡ Some t → ReadsOne G t r)
-    → ((u : List ℕ) (x : Result ℕ E) → G u x → ParsesUnsigned 32 10 u x)
-    → (n : ℕ) × (r ≡ Some n) × (least ≤ n) × (n ≤ most) × (option_map number_of (one_text found id) ≡ Some n)
-number_reads E G least most found id r fits given reads only =
-    let text = without_minus given.0 in
-    let read = reads text given.1 in
-    let n = signed_reads E G 32 least most given.0 r read only fits given.2 in
-    let gives : G text (Ok n.0) = subst (λ (o : Option ℕ). ReadsOne G text o) n.1 read in
-    let is : n.0 ≡ number_of text = (only text (Ok n.0) gives).1 in
-    (n.0, n.1, n.2, n.3, ap (option_map number_of) given.1 ∙ ap (λ (v : ℕ). Some v) (sym is))

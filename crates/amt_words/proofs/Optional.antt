@@ -1,26 +1,8 @@
 -- What a parse found, in a command of a required word and options.
-use Rattle.std.proofs.Common.{◌≡◌, ◌∙◌, ◌<◌, ◌≤◌, ◌++◌, ◌||◌, ℕ, zero, suc, true, false, List, [], ◌∷◌, length, Option, Some, None, codes, refl, sym, subst, ap, inl, inr, arith}
-use Rattle.std.specs.Prelude.{pos}
-use Rattle.std.specs.Borrow.{Bor}
-use Rattle.std.specs.List.{All, slice_index_or}
-use Rattle.std.specs.Str.{bytes_eq}
-use Rattle.std.proofs.lemmas.List.Elements.{All-get_or, All-nil}
-use Rattle.std.proofs.lemmas.Slice.Eq.{bytes_eq-Decides}
-use Rattle.clap.specs.Words.{Accepts, AddsArg, IsParsedFrom, IsPlain, IsPlainArg, IsSignedIn, Text, args_of, found_of, groups_of, has_subcommand, matched_of, one_text, reading_of, without_minus}
-use Rattle.clap.specs.Built.{SameRules, TakesValue}
-use Rattle.clap.specs.Facts.{least_values, Entry, EntryPasses, IsParsed, PassesArg, parser_of, parser_of_value}
-use Rattle.clap.specs.declared.builder.arg.Arg.{Arg}
-use Rattle.clap.specs.declared.builder.command.Command.{Command}
-use Rattle.clap.specs.declared.builder.command.Command.TheViews.{out-Command}
-use Rattle.clap.specs.declared.builder.value_parser.Reading.TheVariants.{WithoutMinus}
-use Rattle.clap.specs.declared.builder.value_parser.ValueParser.{ValueParser}
-use Rattle.clap.specs.declared.builder.value_parser.ValueParser.TheVariants.{Signed}
-use Rattle.clap.specs.declared.parser.matches.ArgMatches.{ArgMatches}
-use Rattle.clap.specs.declared.parser.matches.Found.{Found}
-use Rattle.clap.specs.declared.parser.matches.MatchedArg.{MatchedArg}
-use Rattle.clap.proofs.CallerLemmas.{added_plain, entry_by_id, required_has_value, same_rules_by_id}
-use Rattle.amt_words.specs.Given.{HasNumberIfAny, HasWord}
-use Rattle.amt_words.proofs.Numbers.{same_value, text_differs}
+use Rattle.std.{proofs.{Common.{◌≡◌, ◌∙◌, ◌<◌, ◌≤◌, ◌++◌, ◌||◌, ℕ, zero, suc, true, false, List, [], ◌∷◌, length, Option, Some, None, codes, refl, sym, subst, ap, inl, inr, arith}, lemmas.{List.Elements.{All-get_or, All-nil}, Slice.Eq.{bytes_eq-Decides}}}, specs.{Prelude.{pos}, Borrow.{Bor}, List.{All, slice_index_or}, Str.{bytes_eq}}}
+use Rattle.clap.specs.{Words.{Accepts, AddsArg, IsParsedFrom, IsPlain, IsPlainArg, IsSignedIn, Text, args_of, found_of, groups_of, has_subcommand, matched_of, one_text, reading_of, without_minus}, Built.{SameRules, TakesValue}, Facts.{least_values, Entry, EntryPasses, IsParsed, PassesArg, parser_of, parser_of_value}, declared.builder.arg.Arg.{Arg}}
+use Rattle.clap.{specs.declared.{builder.{command.Command.{Command, TheViews.{out-Command}}, value_parser.{Reading.TheVariants.{WithoutMinus}, ValueParser.{ValueParser, TheVariants.{Signed}}}}, parser.matches.{ArgMatches.{ArgMatches}, Found.{Found}, MatchedArg.{MatchedArg}}}, proofs.CallerLemmas.{added_plain, entry_by_id, required_has_value, same_rules_by_id}}
+use Rattle.amt_words.{specs.Given.{HasNumberIfAny, HasWord}, proofs.Numbers.{same_value, text_differs}}
 
 -- the text of an entry with this first value, read without a minus
 text_at : (f : Found) (id : Text) (x : MatchedArg) (v : Bor Text) (rest : List (Bor Text)) → matched_of f id ≡ Some x → x.vals.items ≡ v ∷ rest

@@ -1,17 +1,7 @@
 -- The plain lines of `gateway` are taken, and give what they say.
-use Rattle.std.proofs.Common.{◌≡◌, ◌∙◌, ℕ, List, [], ◌∷◌, Option, Some, None, codes, refl, ap, arith}
-use Rattle.std.specs.Prelude.{IfSome, option_map}
-use Rattle.std.specs.Str.Parse.{digits_value}
-use Rattle.clap.specs.Words.{Row, Shape, Text, built, first_of, one_of}
-use Rattle.clap.specs.Walk.{Walk, finished, nothing_held, walk}
-use Rattle.clap.specs.Faults.{walk_fault}
-use Rattle.clap.proofs.OnLiterals.{clap_on_literals}
-use Rattle.amt_words.specs.declared.command.Command.TheVariants.{Gateway}
-use Rattle.amt_words.specs.Line.{IsCommandLine, IsNumberIn, IsPlainWord, number_of, option_words, turns_or_most}
-use Rattle.amt_words.specs.Usage.{gateway_usage}
-use Rattle.amt_words.proofs.Digits.{IsPlain, Passes, digits_plain, number_passes, plain_word}
-use Rattle.amt_words.proofs.Steps.{Steps, after_file, filled, file_row, given_turns, one_step, opened, start, three_steps}
-use Rattle.amt_words.proofs.Walks.{end_kinds, rows_at_end, taken}
+use Rattle.std.{proofs.Common.{◌≡◌, ◌∙◌, ℕ, List, [], ◌∷◌, Option, Some, None, codes, refl, ap, arith}, specs.{Prelude.{IfSome, option_map}, Str.Parse.{digits_value}}}
+use Rattle.clap.{specs.{Words.{Row, Shape, Text, built, first_of, one_of}, Walk.{Walk, finished, nothing_held, walk}, Faults.{walk_fault}}, proofs.OnLiterals.{clap_on_literals}}
+use Rattle.amt_words.{specs.{declared.command.Command.TheVariants.{Gateway}, Line.{IsCommandLine, IsNumberIn, IsPlainWord, number_of, option_words, turns_or_most}, Usage.{gateway_usage}}, proofs.{Digits.{IsPlain, Passes, digits_plain, number_passes, plain_word}, Steps.{Steps, after_file, filled, file_row, given_turns, one_step, opened, start, three_steps}, Walks.{end_kinds, rows_at_end, taken}}}
 
 abbrev top : Shape
 top = (built gateway_usage).top

@@ -1,20 +1,9 @@
 -- The plain lines of each command are taken, and give what they say.
-use Rattle.std.proofs.Common.{◌≡◌, ◌∙◌, ℕ, List, [], ◌∷◌, Some, codes, refl, ap, arith}
-use Rattle.std.specs.Prelude.{option_map}
-use Rattle.std.specs.Str.Parse.{digits_value}
-use Rattle.clap.specs.Words.{Row, Shape, Text, built, matches_of, one_of, without_minus}
-use Rattle.clap.specs.Walk.{Walk, nothing_held, walk, walk_from, walked}
-use Rattle.clap.specs.Faults.{turn_fault, walk_fault}
-use Rattle.clap.proofs.OnLiterals.{clap_on_literals}
-use Rattle.amt_words.specs.declared.command.Command.TheVariants.{Replay, Dump, Vectors, Load}
-use Rattle.amt_words.specs.declared.command.Replayable.{Replayable}
+use Rattle.std.{proofs.Common.{◌≡◌, ◌∙◌, ℕ, List, [], ◌∷◌, Some, codes, refl, ap, arith}, specs.{Prelude.{option_map}, Str.Parse.{digits_value}}}
+use Rattle.clap.{specs.{Words.{Row, Shape, Text, built, matches_of, one_of, without_minus}, Walk.{Walk, nothing_held, walk, walk_from, walked}, Faults.{turn_fault, walk_fault}}, proofs.OnLiterals.{clap_on_literals}}
+use Rattle.amt_words.specs.{declared.command.{Command.TheVariants.{Replay, Dump, Vectors, Load}, Replayable.{Replayable}}, Line.{IsCommandLine, IsNumberIn, TakesPlainLines, number_in, number_of}}
+use Rattle.amt_words.{specs.Usage.{Takes, load_usage, replayable_name}, proofs.{Digits.{IsPlain, Passes, digits_number, digits_plain, number_passes}, PlainGateway.{gateway_line}, PlainRelay.{relay_line}, Walks.{end_kinds, number_row, rows_at_end, taken}}}
 use Rattle.amt_words.specs.declared.command.Replayable.TheVariants as kinds
-use Rattle.amt_words.specs.Line.{IsCommandLine, IsNumberIn, TakesPlainLines, number_in, number_of}
-use Rattle.amt_words.specs.Usage.{Takes, load_usage, replayable_name}
-use Rattle.amt_words.proofs.Digits.{IsPlain, Passes, digits_number, digits_plain, number_passes}
-use Rattle.amt_words.proofs.PlainGateway.{gateway_line}
-use Rattle.amt_words.proofs.PlainRelay.{relay_line}
-use Rattle.amt_words.proofs.Walks.{end_kinds, number_row, rows_at_end, taken}
 
 pub replay_line : (kind : Replayable) → IsCommandLine (Replay kind) (codes "replay" ∷ replayable_name kind ∷ [])
 unfolding clap_on_literals

@@ -1,9 +1,6 @@
 -- The rows of a parse, as the words give them.
-use Rattle.std.proofs.Common.{◌≡◌, ◌∙◌, ℕ, List, Option, Some, codes, refl, sym, ap}
-use Rattle.std.specs.Prelude.{option_map}
-use Rattle.clap.specs.Words.{App, Row, Text, first_of, first_value, matches_of, one_of, one_text, rows_of}
-use Rattle.clap.specs.declared.parser.matches.Found.{Found}
-use Rattle.clap.proofs.WalkLemmas.{first_value-rows, one_text-rows}
+use Rattle.std.{proofs.Common.{◌≡◌, ◌∙◌, ℕ, List, Option, Some, codes, refl, sym, ap}, specs.Prelude.{option_map}}
+use Rattle.clap.{specs.{Words.{App, Row, Text, first_of, first_value, matches_of, one_of, one_text, rows_of}, declared.parser.matches.Found.{Found}}, proofs.WalkLemmas.{first_value-rows, one_text-rows}}
 use Rattle.amt_words.specs.Line.{GivesRun, number_in, number_of, turns_or_most, word_in}
 
 module _ (found : Found) (usage known : App) (words : List Text) (rows : rows_of found ≡ matches_of usage words) (is : usage ≡ known) where

@@ -1,13 +1,7 @@
 -- The walk over the words of a command that serves: a file, and options with their numbers.
-use Rattle.std.proofs.Common.{◌≡◌, ℕ, List, [], ◌∷◌, Option, Some, codes, refl, ap}
-use Rattle.std.specs.Str.Parse.{digits_value}
-use Rattle.clap.specs.Words.{Row, Shape, Text, without_minus}
-use Rattle.clap.specs.Walk.{Waiting, Walk, idle, nothing_held, option, walk_from, walked}
-use Rattle.clap.specs.Faults.{turn_fault, walk_fault}
-use Rattle.clap.specs.declared.builder.value_parser.Reading.TheVariants.{AsWritten}
-use Rattle.amt_words.specs.Line.{IsNumberIn, number_of, turns_or_most}
-use Rattle.amt_words.proofs.Digits.{digits_number}
-use Rattle.amt_words.proofs.Walks.{number_row, row}
+use Rattle.std.{proofs.Common.{◌≡◌, ℕ, List, [], ◌∷◌, Option, Some, codes, refl, ap}, specs.Str.Parse.{digits_value}}
+use Rattle.clap.specs.{Words.{Row, Shape, Text, without_minus}, Walk.{Waiting, Walk, idle, nothing_held, option, walk_from, walked}, Faults.{turn_fault, walk_fault}, declared.builder.value_parser.Reading.TheVariants.{AsWritten}}
+use Rattle.amt_words.{specs.Line.{IsNumberIn, number_of, turns_or_most}, proofs.{Digits.{digits_number}, Walks.{number_row, row}}}
 
 abbrev pub start : Walk
 start = walk_from nothing_held

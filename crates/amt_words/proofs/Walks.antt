@@ -1,13 +1,7 @@
 -- When a command with no subcommand takes words, by where the walk over them ends.
 use Rattle.std.proofs.Common.{◌≡◌, ◌∙◌, is_some, List, [], ◌∷◌, Some, None, refl, ap}
-use Rattle.clap.specs.Words.{App, Row, Text, built, matches_of}
-use Rattle.clap.specs.Walk.{Names, Walk, finished, nothing_held, settled, walk, walk_from}
-use Rattle.clap.specs.Simple.{argument_words, entered, names_of}
-use Rattle.clap.specs.Kinds.{Kinds, or_else}
-use Rattle.clap.specs.Faults.{built_fault, check_fault, defaults_fault, entered_fault, settle_fault, walk_fault}
-use Rattle.clap.specs.declared.parser.matches.ValueSource.TheVariants.{CommandLine}
-use Rattle.clap.specs.declared.builder.value_parser.Reading.{Reading}
-use Rattle.clap.specs.declared.builder.value_parser.Reading.TheVariants.{WithoutMinus}
+use Rattle.clap.specs.{Words.{App, Row, Text, built, matches_of}, Walk.{Names, Walk, finished, nothing_held, settled, walk, walk_from}, Simple.{argument_words, entered, names_of}, Kinds.{Kinds, or_else}}
+use Rattle.clap.specs.{Faults.{built_fault, check_fault, defaults_fault, entered_fault, settle_fault, walk_fault}, declared.{parser.matches.ValueSource.TheVariants.{CommandLine}, builder.value_parser.Reading.{Reading, TheVariants.{WithoutMinus}}}}
 use Rattle.amt_words.specs.Usage.{Takes}
 
 -- what was found for an argument that has one value

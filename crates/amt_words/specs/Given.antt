@@ -1,7 +1,6 @@
 -- What a parse found for an argument.
 use Rattle.std.specs.Prelude.{◌≡◌, ◌⊎◌, ◌<◌, ◌^◌, ℕ, Some, None, pos, true, is_some}
-use Rattle.clap.specs.Words.{IsSignedIn, Text, first_value, one_text, without_minus}
-use Rattle.clap.specs.declared.parser.matches.Found.{Found}
+use Rattle.clap.specs.{Words.{IsSignedIn, Text, first_value, one_text, without_minus}, declared.parser.matches.Found.{Found}}
 
 -- a text was given for the argument, a number from least to most; clap drops the minus of -0
 abbrev pub HasNumber : Found → Text → ℕ → ℕ → Type 0

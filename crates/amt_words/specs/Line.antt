@@ -1,15 +1,7 @@
 -- Which command the arguments name, and what they give it.
-use Rattle.std.specs.Prelude.{◌≡◌, ◌≤◌, ⊤, ℕ, List, [], ◌∷◌, ◌++◌, Option, Some, None, codes}
-use Rattle.std.specs.Prelude.{IfSome, option_map, unwrap_or}
-use Rattle.std.specs.List.{Any}
-use Rattle.std.specs.Str.Parse.{IsNumeral, digits_value, without_leading_plus}
-use Rattle.clap.specs.Lexer.{strip_byte}
-use Rattle.clap.specs.Words.{App, Text, first_of, matches_of, one_of, subcommand_of}
-use Rattle.amt_words.specs.declared.command.Command.{Command}
-use Rattle.amt_words.specs.declared.command.Command.TheVariants.{Replay, Dump, Vectors, Load, Relay, Gateway}
-use Rattle.amt_words.specs.declared.command.Replayable.{Replayable}
-use Rattle.amt_words.specs.Usage.{Takes, dump_usage, gateway_usage, load_usage, relay_usage, replay_usage}
-use Rattle.amt_words.specs.Usage.{replayable_name, usages, vectors_usage}
+use Rattle.std.specs.{Prelude.{◌≡◌, ◌≤◌, ⊤, ℕ, List, [], ◌∷◌, ◌++◌, Option, Some, None, codes, IfSome, option_map, unwrap_or}, List.{Any}, Str.Parse.{IsNumeral, digits_value, without_leading_plus}}
+use Rattle.clap.specs.{Lexer.{strip_byte}, Words.{App, Text, first_of, matches_of, one_of, subcommand_of}}
+use Rattle.amt_words.specs.{declared.command.{Command.{Command, TheVariants.{Replay, Dump, Vectors, Load, Relay, Gateway}}, Replayable.{Replayable}}, Usage.{Takes, dump_usage, gateway_usage, load_usage, relay_usage, replay_usage, replayable_name, usages, vectors_usage}}
 
 -- the written definition of a command
 abbrev pub usage_of : Command → App

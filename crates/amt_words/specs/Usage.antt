@@ -1,12 +1,8 @@
 -- What each command takes after its name, as written definitions of `clap`.
 use Rattle.std.specs.Prelude.{◌≡◌, ℕ, List, [], ◌∷◌, Some, true, pos, codes}
-use Rattle.clap.specs.Words.{App, Rule, Text, fault_of, new_app, new_rule, with_rule}
-use Rattle.clap.specs.Words.{with_subcommand}
-use Rattle.clap.specs.Simple.{new_shape, on_top}
-use Rattle.clap.specs.declared.builder.action.ArgAction.TheVariants.{Set}
+use Rattle.clap.specs.{Words.{App, Rule, Text, fault_of, new_app, new_rule, with_rule, with_subcommand}, Simple.{new_shape, on_top}, declared.builder.action.ArgAction.TheVariants.{Set}}
 use Rattle.clap.specs.declared.builder.value_parser.ValueParser.TheVariants as parsers
-use Rattle.amt_words.specs.declared.command.Replayable.{Replayable}
-use Rattle.amt_words.specs.declared.command.Replayable.TheVariants.{Relay, Gateway, Pair}
+use Rattle.amt_words.specs.declared.command.Replayable.{Replayable, TheVariants.{Relay, Gateway, Pair}}
 
 -- a name with nothing after it: no argument, and no flag that asks for help or the version
 abbrev pub bare_usage : Text → App

@@ -33,9 +33,7 @@ impl<'a> FileName<'a> {
 }
 
 impl<'a> PartialEq for FileName<'a> {
-    ghost use Rattle.std.specs.Str.{bytes_eq};
-    ghost use Rattle.std.specs.Cmp.{partial_equiv_from_equiv};
-    ghost use Rattle.std.proofs.lemmas.Cmp.{nat_list_eq_equiv};
+    ghost use Rattle.std.{specs.{Str.{bytes_eq}, Cmp.{partial_equiv_from_equiv}}, proofs.lemmas.Cmp.{nat_list_eq_equiv}};
 
     ghost eq = { bytes_eq };
 

@@ -1,8 +1,7 @@
 //! `gateway FILE [--turns T]`. It knows nothing of a gateway.
 
 ghost use Rattle.std.specs.Prelude.{map, string_bytes, IfOk, IsErrOf};
-ghost use Rattle.amt_words.specs.Line.{GivesRun, IsTurns};
-ghost use Rattle.amt_words.specs.Usage.{Takes, gateway_usage};
+ghost use Rattle.amt_words.specs.{Line.{GivesRun, IsTurns}, Usage.{Takes, gateway_usage}};
 
 use crate::command::WordsFault;
 use crate::definition::gateway_definition;

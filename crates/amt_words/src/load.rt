@@ -2,9 +2,7 @@
 
 ghost use Rattle.std.specs.Prelude.{◌≡◌, ◌≤◌, ◌<◌, ◌^◌, ℕ, Some, codes, map, string_bytes, option_map, IfOk, IsErrOf};
 ghost use Rattle.clap.specs.Words.{found_of, one_text};
-ghost use Rattle.amt_words.specs.Given.{HasNumber, HasSomeNumber};
-ghost use Rattle.amt_words.specs.Line.{GivesLoad, IsLoadCount, number_of};
-ghost use Rattle.amt_words.specs.Usage.{Takes, load_usage};
+ghost use Rattle.amt_words.specs.{Given.{HasNumber, HasSomeNumber}, Line.{GivesLoad, IsLoadCount, number_of}, Usage.{Takes, load_usage}};
 
 use crate::command::WordsFault;
 use crate::definition::load_definition;

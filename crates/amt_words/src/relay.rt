@@ -2,9 +2,7 @@
 
 ghost use Rattle.std.specs.Prelude.{◌≡◌, codes, map, string_bytes, option_map, IfOk, IsErrOf};
 ghost use Rattle.clap.specs.Words.{found_of, one_text};
-ghost use Rattle.amt_words.specs.Given.{HasNumberIfAny};
-ghost use Rattle.amt_words.specs.Line.{AreWorkers, GivesRelay, IsTurns, number_of};
-ghost use Rattle.amt_words.specs.Usage.{Takes, relay_usage};
+ghost use Rattle.amt_words.specs.{Given.{HasNumberIfAny}, Line.{AreWorkers, GivesRelay, IsTurns, number_of}, Usage.{Takes, relay_usage}};
 
 use crate::command::WordsFault;
 use crate::definition::relay_definition;

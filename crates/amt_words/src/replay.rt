@@ -1,9 +1,7 @@
 //! `replay relay|gateway|pair`. It knows no script.
 
 ghost use Rattle.std.specs.Prelude.{◌≡◌, ◌≢◌, Some, map, string_bytes, IfOk, IsErrOf, IfSome, IfNone};
-ghost use Rattle.amt_words.specs.declared.command.Replayable.{Replayable as ReplayableValue};
-ghost use Rattle.amt_words.specs.Line.{replayed_name};
-ghost use Rattle.amt_words.specs.Usage.{Takes, replay_usage, replayable_name};
+ghost use Rattle.amt_words.specs.{declared.command.Replayable.{Replayable as ReplayableValue}, Line.{replayed_name}, Usage.{Takes, replay_usage, replayable_name}};
 
 use crate::command::{Replayable, WordsFault};
 use crate::definition::replay_definition;

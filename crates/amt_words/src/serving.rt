@@ -2,8 +2,7 @@
 
 ghost use Rattle.std.specs.Prelude.{◌≡◌, Some, codes, option_map};
 ghost use Rattle.clap.specs.Words.{first_value, found_of, one_text};
-ghost use Rattle.amt_words.specs.Given.{HasNumberIfAny, HasWord};
-ghost use Rattle.amt_words.specs.Line.{IsTurns, number_of, turns_or_most};
+ghost use Rattle.amt_words.specs.{Given.{HasNumberIfAny, HasWord}, Line.{IsTurns, number_of, turns_or_most}};
 
 use crate::file_name::FileName;
 use clap::ArgMatches;

@@ -2,8 +2,7 @@
 
 ghost use Rattle.std.specs.Prelude.{◌≡◌, List, map, string_bytes, IfOk, IsErrOf};
 ghost use Rattle.clap.specs.Words.{Text};
-ghost use Rattle.amt_words.specs.declared.command.Command.{Command as CommandValue};
-ghost use Rattle.amt_words.specs.Line.{IsAccepted, IsCommandLine, IsWithinLimits, TakesPlainLines};
+ghost use Rattle.amt_words.specs.{declared.command.Command.{Command as CommandValue}, Line.{IsAccepted, IsCommandLine, IsWithinLimits, TakesPlainLines}};
 
 use crate::command::{Command, WordsFault};
 use crate::gateway::read_gateway;

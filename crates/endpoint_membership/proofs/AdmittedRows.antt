@@ -1,20 +1,9 @@
 -- The rows of a log let in what its newest records want.
 use Rattle.std.proofs.Common.{◌≡◌, ℕ, ◌≤◌, ◌&&◌, ◌||◌, Bool, true, false, cond, List, [], ◌∷◌, map, filter, is_some, reverse, Option, Some, None, refl, sym, ap, ◌∙◌}
-use Rattle.amt_values.specs.EndpointValue.{EndpointValue}
-use Rattle.amt_values.specs.declared.address.Ip.{Ip}
+use Rattle.amt_values.specs.{EndpointValue.{EndpointValue}, declared.address.Ip.{Ip}}
 use Rattle.source_filter.specs.Filter.{admits}
-use Rattle.endpoint_membership.specs.Admission.{is_admitted, rows_admit}
-use Rattle.endpoint_membership.specs.EndpointGroup.{EndpointGroup, same_endpoint_group}
-use Rattle.endpoint_membership.specs.Log.{latest}
-use Rattle.endpoint_membership.specs.Membership.{Membership, endpoint_group_of}
-use Rattle.endpoint_membership.specs.Memberships.{membership_at, membership_in, memberships_at, row_of, rows_of}
-use Rattle.endpoint_membership.specs.Stored.{only}
-use Rattle.endpoint_membership.specs.declared.change.Change.{Change}
-use Rattle.endpoint_membership.proofs.EndpointGroupOrder.{same_endpoint_group-is}
-use Rattle.endpoint_membership.proofs.MembershipIn.{membership_in-cond, membership_in-filter}
-use Rattle.endpoint_membership.proofs.MembershipsByLog.{AreMembershipsAt-memberships_at}
-use Rattle.endpoint_membership.proofs.RowsAdmit.{admits-none, admits-row}
-use Rattle.endpoint_membership.proofs.TargetsByLog.{is_some-cond}
+use Rattle.endpoint_membership.specs.{Admission.{is_admitted, rows_admit}, EndpointGroup.{EndpointGroup, same_endpoint_group}, Log.{latest}, Membership.{Membership, endpoint_group_of}, Memberships.{membership_at, membership_in, memberships_at, row_of, rows_of}, Stored.{only}}
+use Rattle.endpoint_membership.{specs.declared.change.Change.{Change}, proofs.{EndpointGroupOrder.{same_endpoint_group-is}, MembershipIn.{membership_in-cond, membership_in-filter}, MembershipsByLog.{AreMembershipsAt-memberships_at}, RowsAdmit.{admits-none, admits-row}, TargetsByLog.{is_some-cond}}}
 
 -- some membership passes both tests where one that passes the first is found among those that pass the other
 both-by : (first second : Bool) (membership : Membership) (rest : Option Membership) → ((first && second) || is_some rest) ≡ is_some (cond second (cond first (Some membership) rest) rest)

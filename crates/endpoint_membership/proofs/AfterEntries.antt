@@ -1,34 +1,10 @@
 -- What entries do to memberships that stand for a log.
-use Rattle.std.proofs.Common.{◌≡◌, ℕ, ◌≤◌, Bool, true, false, cond, not, ◌&&◌, List, [], ◌∷◌, ◌++◌, filter, Option, Some, None, refl, sym, ap, ◌∙◌, arith, inl, inr}
-use Rattle.std.specs.List.{AllByRecursion}
-use Rattle.std.specs.List.Sorted.{IsStrictlySortedBy}
-use Rattle.std.specs.Option.{option_or}
-use Rattle.std.specs.Ordering.{is_eq}
-use Rattle.std.specs.declared.cmp.Ordering.TheVariants.{Less}
-use Rattle.std.proofs.lemmas.Bool.{cases_Bool}
-use Rattle.std.proofs.lemmas.Cmp.{eq_by_cmp_equiv}
-use Rattle.std.proofs.lemmas.Map.Keys.{sorted_tail}
-use Rattle.std.proofs.lemmas.Map.Views.{tells_apart}
-use Rattle.amt_values.specs.declared.address.Ip.{Ip}
-use Rattle.amt_values.specs.Order.{endpoint_order}
-use Rattle.amt_values.specs.EndpointValue.{EndpointValue}
-use Rattle.amt_values.proofs.Orders.{endpoint_order-exact, endpoint_order-total}
-use Rattle.amt_values.specs.Ascending.{IsAscending}
+use Rattle.std.proofs.{Common.{◌≡◌, ℕ, ◌≤◌, Bool, true, false, cond, not, ◌&&◌, List, [], ◌∷◌, ◌++◌, filter, Option, Some, None, refl, sym, ap, ◌∙◌, arith, inl, inr}, lemmas.{Bool.{cases_Bool}, Cmp.{eq_by_cmp_equiv}}}
+use Rattle.std.{proofs.lemmas.Map.{Keys.{sorted_tail}, Views.{tells_apart}}, specs.{List.{AllByRecursion, Sorted.{IsStrictlySortedBy}}, Option.{option_or}, Ordering.{is_eq}, declared.cmp.Ordering.TheVariants.{Less}}}
+use Rattle.amt_values.{specs.{declared.address.Ip.{Ip}, Order.{endpoint_order}, EndpointValue.{EndpointValue}, Ascending.{IsAscending}}, proofs.{Orders.{endpoint_order-exact, endpoint_order-total}, AscendingLaws.{IsAscending-filter}}}
 use Rattle.source_filter.specs.declared.record.Record.{Record}
-use Rattle.amt_values.proofs.AscendingLaws.{IsAscending-filter}
-use Rattle.endpoint_membership.specs.declared.change.Change.{Change}
-use Rattle.endpoint_membership.specs.declared.change.Change.TheVariants.{Reported, Clear}
-use Rattle.endpoint_membership.specs.Membership.{Membership, is_fresh, membership_order, endpoint_group_of}
-use Rattle.endpoint_membership.specs.Stored.{is_of_another, only}
-use Rattle.endpoint_membership.specs.Log.{latest, records_at}
-use Rattle.endpoint_membership.specs.EndpointMemberships.{AreOf}
-use Rattle.endpoint_membership.specs.EndpointGroup.{EndpointGroup, same_endpoint, same_group, same_endpoint_group}
-use Rattle.endpoint_membership.specs.Memberships.{membership_in, membership_at}
-use Rattle.endpoint_membership.specs.Table.{AreMembershipsAt}
-use Rattle.endpoint_membership.proofs.MembershipsByLog.{GivesItsEndpointGroup-membership_at}
-use Rattle.endpoint_membership.proofs.MembershipIn.{membership_in-append, membership_in-filter}
-use Rattle.endpoint_membership.proofs.EndpointGroupOrder.{same_endpoint_group-is}
-use Rattle.endpoint_membership.proofs.MembershipAt.{membership_at-clear, membership_at-later, membership_at-other}
+use Rattle.endpoint_membership.specs.{declared.change.Change.{Change, TheVariants.{Reported, Clear}}, Membership.{Membership, is_fresh, membership_order, endpoint_group_of}, Stored.{is_of_another, only}, Log.{latest, records_at}, EndpointMemberships.{AreOf}, EndpointGroup.{EndpointGroup, same_endpoint, same_group, same_endpoint_group}}
+use Rattle.endpoint_membership.{specs.{Memberships.{membership_in, membership_at}, Table.{AreMembershipsAt}}, proofs.{MembershipsByLog.{GivesItsEndpointGroup-membership_at}, MembershipIn.{membership_in-append, membership_in-filter}, EndpointGroupOrder.{same_endpoint_group-is}, MembershipAt.{membership_at-clear, membership_at-later, membership_at-other}}}
 
 -- as time passes, the memberships that are still fresh last
 pub AreMembershipsAt-later : (lifetime moment later : ℕ) (past : List Change) (rows : List Membership) → moment ≤ later → AreMembershipsAt lifetime moment past rows

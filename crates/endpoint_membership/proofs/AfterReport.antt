@@ -1,28 +1,10 @@
 -- The memberships of an endpoint after its report are those by the log with the report.
-use Rattle.std.proofs.Common.{◌≡◌, ℕ, ◌≤◌, ◌<◌, true, if◌then◌else◌, List, [], ◌∷◌, ◌++◌, filter, Option, Some, None, refl, sym, ap, subst, ◌∙◌}
-use Rattle.std.specs.Ordering.{is_eq}
-use Rattle.std.proofs.lemmas.Cmp.{tied_itself}
-use Rattle.std.proofs.lemmas.Map.Views.{tells_apart}
-use Rattle.amt_values.specs.declared.address.Ip.{Ip}
-use Rattle.amt_values.specs.EndpointValue.{EndpointValue}
-use Rattle.amt_values.proofs.Orders.{endpoint_order-exact, endpoint_order-total}
-use Rattle.source_filter.specs.Filter.{FilterValue, filter_after_all}
-use Rattle.source_filter.specs.declared.mode.Mode.{Mode}
-use Rattle.source_filter.specs.declared.mode.Mode.TheVariants.{Include, Exclude}
-use Rattle.source_filter.specs.declared.record.Record.{Record}
-use Rattle.endpoint_membership.specs.declared.change.Change.{Change}
-use Rattle.endpoint_membership.specs.declared.change.Change.TheVariants.{Reported}
-use Rattle.endpoint_membership.specs.Membership.{Membership, is_fresh}
-use Rattle.endpoint_membership.specs.Stored.{earlier, later, only}
-use Rattle.endpoint_membership.specs.Log.{is_empty, latest, on_group}
-use Rattle.endpoint_membership.specs.declared.after_report.RenewedFilter.{RenewedFilter}
-use Rattle.endpoint_membership.specs.EndpointMemberships.{AreOwn, filter_or_nothing, membership_of_renewed, renewed_filter_after, renewed_filter_after_all, renewed_filter_of}
-use Rattle.endpoint_membership.specs.EndpointGroup.{EndpointGroup, same_endpoint}
-use Rattle.endpoint_membership.specs.Memberships.{membership_of, membership_in, membership_at}
-use Rattle.endpoint_membership.specs.Table.{AreMembershipsAt}
-use Rattle.endpoint_membership.proofs.ThreeParts.{is_of, parted}
-use Rattle.endpoint_membership.proofs.MembershipAt.{filter_in, membership_at-later, membership_at-report}
-use Rattle.endpoint_membership.proofs.AfterEntries.{AreMembershipsAt-report}
+use Rattle.std.{proofs.{Common.{◌≡◌, ℕ, ◌≤◌, ◌<◌, true, if◌then◌else◌, List, [], ◌∷◌, ◌++◌, filter, Option, Some, None, refl, sym, ap, subst, ◌∙◌}, lemmas.{Cmp.{tied_itself}, Map.Views.{tells_apart}}}, specs.Ordering.{is_eq}}
+use Rattle.amt_values.{specs.{declared.address.Ip.{Ip}, EndpointValue.{EndpointValue}}, proofs.Orders.{endpoint_order-exact, endpoint_order-total}}
+use Rattle.source_filter.specs.{Filter.{FilterValue, filter_after_all}, declared.mode.Mode.{Mode, TheVariants.{Include, Exclude}}, declared.record.Record.{Record}}
+use Rattle.endpoint_membership.specs.{declared.{change.Change.{Change, TheVariants.{Reported}}, after_report.RenewedFilter.{RenewedFilter}}, Membership.{Membership, is_fresh}, Stored.{earlier, later, only}}
+use Rattle.endpoint_membership.specs.{Log.{is_empty, latest, on_group}, EndpointMemberships.{AreOwn, filter_or_nothing, membership_of_renewed, renewed_filter_after, renewed_filter_after_all, renewed_filter_of}}
+use Rattle.endpoint_membership.{specs.{EndpointGroup.{EndpointGroup, same_endpoint}, Memberships.{membership_of, membership_in, membership_at}, Table.{AreMembershipsAt}}, proofs.{ThreeParts.{is_of, parted}, MembershipAt.{filter_in, membership_at-later, membership_at-report}, AfterEntries.{AreMembershipsAt-report}}}
 
 abbrev endpoint_group : EndpointValue → Ip → EndpointGroup
 endpoint_group endpoint group = record { endpoint = endpoint; group = group }

@@ -1,28 +1,10 @@
 -- A clearing of an endpoint with no membership changes nothing, then or later.
-use Rattle.std.proofs.Common.{◌≡◌, ℕ, ◌≤◌, ◌<◌, max, Bool, false, not, ◌&&◌, ◌||◌, List, [], ◌∷◌, ◌++◌, reverse, map, filter, Option, None, refl, sym, ap, subst, ◌∙◌, arith, inl, inr}
-use Rattle.std.proofs.lemmas.Bool.{cases_Bool}
-use Rattle.std.proofs.lemmas.List.{append_assoc, reverse-append, reverse-reverse}
-use Rattle.amt_values.specs.declared.address.Ip.{Ip}
-use Rattle.amt_values.specs.EndpointValue.{EndpointValue}
-use Rattle.source_filter.specs.declared.record.Record.{Record}
-use Rattle.endpoint_membership.specs.declared.change.Change.{Change}
-use Rattle.endpoint_membership.specs.declared.change.Change.TheVariants.{Clear, Mark}
-use Rattle.endpoint_membership.specs.Membership.{Membership, is_fresh, endpoint_group_of}
-use Rattle.endpoint_membership.specs.declared.limits.Limits.{Limits}
-use Rattle.endpoint_membership.specs.Admission.{HasNoMembership}
-use Rattle.endpoint_membership.specs.Stored.{is_of_another, only}
-use Rattle.endpoint_membership.specs.Limits.{IsWithin}
-use Rattle.endpoint_membership.specs.Log.{brought, concerns, is_empty, latest, records_at}
-use Rattle.source_filter.specs.Filter.{filter_after_all}
-use Rattle.endpoint_membership.specs.EndpointGroup.{EndpointGroup, same_endpoint, same_group}
-use Rattle.endpoint_membership.specs.Memberships.{is_live, membership_of, membership_in, rows_of, row_of, membership_at, memberships_at}
-use Rattle.endpoint_membership.specs.Table.{Holds, TableValue, TableSettings, memberships_now}
-use Rattle.endpoint_membership.proofs.MembershipsByLog.{AreMembershipsAt-memberships_at, rows_are}
-use Rattle.endpoint_membership.proofs.HoldsAfter.{Holds-clear, latest-reverse, no_later, table_of}
-use Rattle.endpoint_membership.proofs.EndpointGroupOrder.{same_endpoint_group-is}
-use Rattle.endpoint_membership.proofs.MembershipAt.{filter_in, membership_at-clear, membership_at-entry, membership_at-later, membership_at-other}
-use Rattle.endpoint_membership.proofs.AfterEntries.{same_back, same_endpoint-exact}
-use Rattle.endpoint_membership.proofs.WithinLimits.{IsWithin-filter}
+use Rattle.std.proofs.{Common.{◌≡◌, ℕ, ◌≤◌, ◌<◌, max, Bool, false, not, ◌&&◌, ◌||◌, List, [], ◌∷◌, ◌++◌, reverse, map, filter, Option, None, refl, sym, ap, subst, ◌∙◌, arith, inl, inr}, lemmas.{Bool.{cases_Bool}, List.{append_assoc, reverse-append, reverse-reverse}}}
+use Rattle.amt_values.specs.{declared.address.Ip.{Ip}, EndpointValue.{EndpointValue}}
+use Rattle.source_filter.specs.{declared.record.Record.{Record}, Filter.{filter_after_all}}
+use Rattle.endpoint_membership.specs.{declared.{change.Change.{Change, TheVariants.{Clear, Mark}}, limits.Limits.{Limits}}, Membership.{Membership, is_fresh, endpoint_group_of}, Admission.{HasNoMembership}, Stored.{is_of_another, only}, Limits.{IsWithin}, Log.{brought, concerns, is_empty, latest, records_at}}
+use Rattle.endpoint_membership.specs.{EndpointGroup.{EndpointGroup, same_endpoint, same_group}, Memberships.{is_live, membership_of, membership_in, rows_of, row_of, membership_at, memberships_at}, Table.{Holds, TableValue, TableSettings, memberships_now}}
+use Rattle.endpoint_membership.proofs.{MembershipsByLog.{AreMembershipsAt-memberships_at, rows_are}, HoldsAfter.{Holds-clear, latest-reverse, no_later, table_of}, EndpointGroupOrder.{same_endpoint_group-is}, MembershipAt.{filter_in, membership_at-clear, membership_at-entry, membership_at-later, membership_at-other}, AfterEntries.{same_back, same_endpoint-exact}, WithinLimits.{IsWithin-filter}}
 
 -- by two logs the pair has the same membership from now on
 abbrev pub AreAlike : ℕ → EndpointGroup → List Change → List Change → Type 0

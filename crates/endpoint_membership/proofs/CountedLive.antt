@@ -1,19 +1,7 @@
 -- Counting live endpoints without one that is named.
-use Rattle.std.proofs.Common.{◌≡◌, ℕ, ◌+◌, ◌-◌, ◌≤◌, Bool, true, false, not, cond, ◌&&◌, ◌||◌, List, [], ◌∷◌, filter, length, if◌then◌else◌, refl, sym, ap, ◌∙◌, arith}
-use Rattle.std.specs.Ordering.{is_eq}
-use Rattle.std.proofs.lemmas.Cmp.{tied_itself}
-use Rattle.amt_values.specs.EndpointValue.{EndpointValue}
-use Rattle.amt_values.specs.Order.{endpoint_order}
-use Rattle.amt_values.proofs.Orders.{endpoint_order-exact, endpoint_order-total}
-use Rattle.amt_values.specs.Ascending.{ascending, has, placed}
-use Rattle.amt_values.proofs.AscendingLaws.{IsAscending-ascending, IsAscending-placed, has-ascending, has-filter, has-placed, same_ascending}
-use Rattle.endpoint_membership.specs.EndpointGroup.{same_endpoint}
-use Rattle.endpoint_membership.specs.Limits.{live_count}
-use Rattle.endpoint_membership.specs.Membership.{Membership, is_fresh}
-use Rattle.endpoint_membership.specs.Memberships.{is_live}
-use Rattle.endpoint_membership.specs.Stored.{is_counted, is_of_another, is_of_another}
-use Rattle.endpoint_membership.proofs.AfterEntries.{same_back, same_endpoint-exact}
-use Rattle.endpoint_membership.proofs.LimitByOwn.{endpoints_of, length-placed_new}
+use Rattle.std.{proofs.{Common.{◌≡◌, ℕ, ◌+◌, ◌-◌, ◌≤◌, Bool, true, false, not, cond, ◌&&◌, ◌||◌, List, [], ◌∷◌, filter, length, if◌then◌else◌, refl, sym, ap, ◌∙◌, arith}, lemmas.Cmp.{tied_itself}}, specs.Ordering.{is_eq}}
+use Rattle.amt_values.{specs.{EndpointValue.{EndpointValue}, Order.{endpoint_order}, Ascending.{ascending, has, placed}}, proofs.{Orders.{endpoint_order-exact, endpoint_order-total}, AscendingLaws.{IsAscending-ascending, IsAscending-placed, has-ascending, has-filter, has-placed, same_ascending}}}
+use Rattle.endpoint_membership.{specs.{EndpointGroup.{same_endpoint}, Limits.{live_count}, Membership.{Membership, is_fresh}, Memberships.{is_live}, Stored.{is_counted, is_of_another}}, proofs.{AfterEntries.{same_back, same_endpoint-exact}, LimitByOwn.{endpoints_of, length-placed_new}}}
 
 is_one_of : (rows : List Membership) (endpoint : EndpointValue) → has endpoint_order (endpoints_of rows) endpoint ≡ is_live endpoint rows
 is_one_of [] endpoint = refl

@@ -1,23 +1,7 @@
 -- Counts of groups by endpoint: against the list of memberships, and with one more or one less.
-use Rattle.std.proofs.Common.{◌≡◌, ℕ, zero, suc, ◌+◌, ◌-◌, ◌≤◌, Bool, true, false, cond, if◌then◌else◌, ◌||◌, is_some, List, [], ◌∷◌, length, map, Option, Some, None, refl, sym, ap, ◌∙◌, arith}
-use Rattle.std.specs.BTreeMap.{BTreeMap, IsOrdered, get}
-use Rattle.std.specs.Map.{keys_of}
-use Rattle.std.specs.Ordering.{eq_by_cmp}
-use Rattle.std.proofs.lemmas.List.Sums.{sum_by-cons}
-use Rattle.std.proofs.lemmas.Map.Entries.{length-keys_of}
-use Rattle.std.proofs.lemmas.Map.Made.{is_some-lookup}
-use Rattle.std.proofs.lemmas.Map.Views.{tells_apart}
-use Rattle.amt_values.specs.Order.{endpoint_order}
-use Rattle.amt_values.specs.EndpointValue.{EndpointValue}
-use Rattle.amt_values.proofs.Orders.{endpoint_order-exact, endpoint_order-total}
-use Rattle.amt_values.specs.Ascending.{ascending, has}
-use Rattle.amt_values.proofs.AscendingLaws.{IsAscending-ascending, has-ascending, same_ascending}
-use Rattle.endpoint_membership.specs.EndpointGroup.{same_endpoint}
-use Rattle.endpoint_membership.specs.Limits.{group_count, live_count}
-use Rattle.endpoint_membership.specs.Membership.{Membership}
-use Rattle.endpoint_membership.specs.Memberships.{is_live}
-use Rattle.endpoint_membership.specs.Parts.{HasNumber, one_less, one_more, some_unless_zero}
-use Rattle.endpoint_membership.proofs.AfterEntries.{same_back}
+use Rattle.std.{proofs.{Common.{◌≡◌, ℕ, zero, suc, ◌+◌, ◌-◌, ◌≤◌, Bool, true, false, cond, if◌then◌else◌, ◌||◌, is_some, List, [], ◌∷◌, length, map, Option, Some, None, refl, sym, ap, ◌∙◌, arith}, lemmas.{List.Sums.{sum_by-cons}, Map.{Entries.{length-keys_of}, Made.{is_some-lookup}, Views.{tells_apart}}}}, specs.{BTreeMap.{BTreeMap, IsOrdered, get}, Map.{keys_of}, Ordering.{eq_by_cmp}}}
+use Rattle.amt_values.{specs.{Order.{endpoint_order}, EndpointValue.{EndpointValue}, Ascending.{ascending, has}}, proofs.{Orders.{endpoint_order-exact, endpoint_order-total}, AscendingLaws.{IsAscending-ascending, has-ascending, same_ascending}}}
+use Rattle.endpoint_membership.{specs.{EndpointGroup.{same_endpoint}, Limits.{group_count, live_count}, Membership.{Membership}, Memberships.{is_live}, Parts.{HasNumber, one_less, one_more, some_unless_zero}}, proofs.AfterEntries.{same_back}}
 
 abbrev Counts : Type 0
 Counts = BTreeMap EndpointValue ℕ

@@ -1,21 +1,7 @@
 -- Lists that ascend have no repeats, so their lengths count; and a filter raises no count.
-use Rattle.std.proofs.Common.{◌≡◌, ◌≤◌, Bool, true, false, cond, not, ◌||◌, List, [], ◌∷◌, length, map, filter, refl, sym, ◌∙◌, arith}
-use Rattle.std.specs.Cmp.{IsTotalOrder}
-use Rattle.std.specs.declared.cmp.Ordering.{Ordering}
-use Rattle.std.proofs.lemmas.Bool.{or_right}
-use Rattle.std.proofs.lemmas.Cmp.{eq_by_cmp_equiv}
-use Rattle.std.proofs.lemmas.List.Filters.{sum_by-filter_both}
-use Rattle.std.proofs.lemmas.Map.Keys.{IsDistinct-from_sorted}
-use Rattle.std.proofs.lemmas.Map.Lookups.{CmpEqualImpliesEq}
-use Rattle.std.proofs.lemmas.Map.Made.{length-le_from_is_member}
-use Rattle.amt_values.specs.Order.{endpoint_order}
-use Rattle.amt_values.specs.EndpointValue.{EndpointValue}
-use Rattle.amt_values.proofs.Orders.{endpoint_order-exact, endpoint_order-total}
-use Rattle.amt_values.specs.Ascending.{IsAscending, has, ascending}
-use Rattle.amt_values.proofs.AscendingLaws.{IsAscending-ascending, has-ascending}
-use Rattle.endpoint_membership.specs.Limits.{group_count, live_count}
-use Rattle.endpoint_membership.specs.EndpointGroup.{same_endpoint}
-use Rattle.endpoint_membership.specs.Membership.{Membership}
+use Rattle.std.{proofs.{Common.{◌≡◌, ◌≤◌, Bool, true, false, cond, not, ◌||◌, List, [], ◌∷◌, length, map, filter, refl, sym, ◌∙◌, arith}, lemmas.{Bool.{or_right}, Cmp.{eq_by_cmp_equiv}, List.Filters.{sum_by-filter_both}, Map.{Keys.{IsDistinct-from_sorted}, Lookups.{CmpEqualImpliesEq}, Made.{length-le_from_is_member}}}}, specs.{Cmp.{IsTotalOrder}, declared.cmp.Ordering.{Ordering}}}
+use Rattle.amt_values.{specs.{Order.{endpoint_order}, EndpointValue.{EndpointValue}, Ascending.{IsAscending, has, ascending}}, proofs.{Orders.{endpoint_order-exact, endpoint_order-total}, AscendingLaws.{IsAscending-ascending, has-ascending}}}
+use Rattle.endpoint_membership.specs.{Limits.{group_count, live_count}, EndpointGroup.{same_endpoint}, Membership.{Membership}}
 
 -- a set has at most the items of a set that contains it
 pub length-within : {K : Type 0} (order : K → K → Ordering) → IsTotalOrder order → CmpEqualImpliesEq order → (xs ys : List K) → IsAscending order xs → IsAscending order ys

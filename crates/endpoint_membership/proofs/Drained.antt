@@ -1,9 +1,5 @@
 -- What an iterator over a vector's items gave, once it is drained.
-use Rattle.std.proofs.Common.{◌≡◌, ◌+◌, List, [], ◌∷◌, ◌++◌, length, Global, Option, Some, sym, ap, subst, ◌∙◌, arith}
-use Rattle.std.specs.Iterator.{Drains, Yields}
-use Rattle.std.specs.Vec.Iter.{into_iter_items, into_iter_len, into_iter_steps}
-use Rattle.std.specs.declared.vec.IntoIter.{IntoIter}
-use Rattle.std.proofs.lemmas.List.{append_assoc, append-nil, length-append, nil_from_length}
+use Rattle.std.{proofs.{Common.{◌≡◌, ◌+◌, List, [], ◌∷◌, ◌++◌, length, Global, Option, Some, sym, ap, subst, ◌∙◌, arith}, lemmas.List.{append_assoc}}, specs.{Iterator.{Yields}, Vec.Iter.{into_iter_items, into_iter_len, into_iter_steps}, declared.vec.IntoIter.{IntoIter}}}
 
 module _ {X : Type 0} where
   -- what was given, and what is left, are the items
@@ -12,15 +8,6 @@ module _ {X : Type 0} where
   given_so_far from to [] led = let same = ap into_iter_len led in (ap into_iter_items led, omega arith)
   given_so_far from to (first ∷ items) (next, step, led) =
       let rest = given_so_far next to items led in (step.0 ∙ ap (λ (more : List X). first ∷ more) rest.0, let fewer = step.1 in let later = rest.1 in omega arith)
-
-  -- all items, once it is drained
-  pub drained : (all items : List X) (from : IntoIter X Global) → into_iter_items from ≡ all → into_iter_len from ≡ length all → Drains into_iter_steps from items → items ≡ all
-  drained all items from has long (left, (to, led, (empty, ended))) =
-      let given = given_so_far from to items led in
-      let lengths = ap length (sym has ∙ given.0) ∙ length-append items (into_iter_items to) in
-      let count = given.1 in
-      let none = nil_from_length (into_iter_items to) (omega arith) in
-      sym (append-nil items) ∙ ap (λ (rest : List X). items ++ rest) (sym none) ∙ sym given.0 ∙ has
 
   -- what a loop has taken, with the item at hand, begins the items
   pub begun : (all items : List X) (item : X) (from to next : IntoIter X Global) (given : Option X) → into_iter_items from ≡ all → Yields into_iter_steps from items to → given ≡ Some item → into_iter_steps to given next

@@ -1,17 +1,7 @@
 -- The order of pairs is total and tells all pairs apart.
-use Rattle.std.proofs.Common.{◌≡◌, ◌&&◌, refl, ap, ◌∙◌}
-use Rattle.std.specs.Cmp.{IsTotalOrder}
-use Rattle.std.specs.Ordering.{is_eq, ordering_then}
-use Rattle.std.specs.declared.cmp.Ordering.{Ordering}
-use Rattle.std.specs.declared.cmp.Ordering.TheVariants.{Less, Equal, Greater}
-use Rattle.std.proofs.lemmas.Cmp.{on_total, then_total}
-use Rattle.std.proofs.lemmas.Map.Lookups.{CmpEqualImpliesEq}
-use Rattle.amt_values.specs.declared.address.Ip.{Ip}
-use Rattle.amt_values.specs.Order.{ip_order, endpoint_order}
-use Rattle.amt_values.specs.EndpointValue.{EndpointValue}
-use Rattle.amt_values.proofs.Orders.{both_tied, ip_order-exact, ip_order-total, endpoint_order-exact, endpoint_order-total}
-use Rattle.endpoint_membership.specs.EndpointGroup.{EndpointGroup, endpoint_group_order, same_endpoint, same_group, same_endpoint_group}
-use Rattle.endpoint_membership.specs.Membership.{membership_order, endpoint_group_of}
+use Rattle.std.{proofs.{Common.{◌≡◌, ◌&&◌, refl, ap, ◌∙◌}, lemmas.{Cmp.{on_total, then_total}, Map.Lookups.{CmpEqualImpliesEq}}}, specs.{Cmp.{IsTotalOrder}, Ordering.{is_eq, ordering_then}, declared.cmp.Ordering.{Ordering, TheVariants.{Less, Equal, Greater}}}}
+use Rattle.amt_values.{specs.{declared.address.Ip.{Ip}, Order.{ip_order, endpoint_order}, EndpointValue.{EndpointValue}}, proofs.Orders.{both_tied, ip_order-exact, ip_order-total, endpoint_order-exact, endpoint_order-total}}
+use Rattle.endpoint_membership.specs.{EndpointGroup.{EndpointGroup, endpoint_group_order, same_endpoint, same_group, same_endpoint_group}, Membership.{membership_order, endpoint_group_of}}
 
 pub endpoint_group_order-total : IsTotalOrder endpoint_group_order
 endpoint_group_order-total = then_total (on_total (λ (endpoint_group : EndpointGroup). endpoint_group.endpoint) endpoint_order-total) (on_total (λ (endpoint_group : EndpointGroup). endpoint_group.group) ip_order-total)

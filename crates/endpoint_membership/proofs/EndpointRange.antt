@@ -1,34 +1,10 @@
 -- The memberships of one endpoint stand together: from the least of its pairs on.
-use Rattle.std.proofs.Common.{◌≡◌, ℕ, ◌==◌, ◌&&◌, Bool, true, false, cond, filter, Option, Some, None, IsSome, is_some, IfNone, IfSome, List, [], ◌∷◌, refl, sym, ap, subst, ◌∙◌, arith}
-use Rattle.std.specs.Bool.{then_some}
-use Rattle.std.specs.BTreeMap.{is_at}
+use Rattle.std.proofs.{Common.{◌≡◌, ℕ, ◌==◌, ◌&&◌, Bool, true, false, cond, filter, Option, Some, None, IsSome, is_some, IfNone, IfSome, List, [], ◌∷◌, refl, sym, ap, subst, ◌∙◌, arith}, lemmas.{Bool.Decides.{nat_tests}, Cmp.{tied_itself}, Map.Made.{is_some-lookup}}}
+use Rattle.std.specs.{Bool.{then_some}, BTreeMap.{is_at}, BTreeSet.{BTreeSet}, List.{list_any}, Ordering.{is_eq, is_gt, nat_cmp, ordering_reverse}, declared.{cmp.Ordering.{Ordering, TheVariants.{Less, Equal, Greater}}, ops.Bound.TheVariants.{Included, Unbounded}}}
 use Rattle.std.specs.BTreeSet as sorted
-use Rattle.std.specs.BTreeSet.{BTreeSet}
-use Rattle.std.specs.List.{list_any}
-use Rattle.std.specs.Ordering.{is_eq, is_gt, nat_cmp, ordering_reverse}
-use Rattle.std.specs.declared.cmp.Ordering.{Ordering}
-use Rattle.std.specs.declared.cmp.Ordering.TheVariants.{Less, Equal, Greater}
-use Rattle.std.specs.declared.ops.Bound.TheVariants.{Included, Unbounded}
-use Rattle.std.proofs.lemmas.Bool.Decides.{nat_tests}
-use Rattle.std.proofs.lemmas.Cmp.{tied_itself}
-use Rattle.std.proofs.lemmas.Map.Made.{is_some-lookup}
-use Rattle.amt_values.specs.declared.address.Ip.{Ip}
-use Rattle.amt_values.specs.declared.address.Ip.TheVariants.{V4, V6}
-use Rattle.amt_values.specs.EndpointValue.{EndpointValue}
-use Rattle.amt_values.specs.Order.{endpoint_order, ip_order}
-use Rattle.amt_values.proofs.Orders.{endpoint_order-exact, endpoint_order-total}
-use Rattle.endpoint_membership.specs.EndpointGroup.{EndpointGroup, endpoint_group_order, same_endpoint, same_endpoint_group}
-use Rattle.endpoint_membership.specs.Filters.{AreOrdered, FiltersValue, filter_at, pairs_of}
-use Rattle.endpoint_membership.specs.Membership.{Membership, endpoint_group_of}
-use Rattle.endpoint_membership.specs.Memberships.{membership_in}
-use Rattle.endpoint_membership.specs.Parts.{stored_memberships}
-use Rattle.endpoint_membership.specs.Stored.{is_of_another, only}
-use Rattle.endpoint_membership.specs.declared.stored.StoredFilter.{StoredFilter}
-use Rattle.endpoint_membership.proofs.AfterEntries.{same_endpoint-exact}
-use Rattle.endpoint_membership.proofs.Expiry.{filter_all, not_gt_first}
-use Rattle.endpoint_membership.proofs.MembershipIn.{same_endpoint_group-exact}
-use Rattle.endpoint_membership.proofs.PairsWalked.{has-pairs_of}
-use Rattle.endpoint_membership.proofs.StoredView.{IsAscending-stored, membership_in-stored, membership_with}
+use Rattle.amt_values.{specs.{declared.address.Ip.{Ip, TheVariants.{V4, V6}}, EndpointValue.{EndpointValue}, Order.{endpoint_order, ip_order}}, proofs.Orders.{endpoint_order-exact, endpoint_order-total}}
+use Rattle.endpoint_membership.specs.{EndpointGroup.{EndpointGroup, endpoint_group_order, same_endpoint, same_endpoint_group}, Filters.{AreOrdered, FiltersValue, filter_at, pairs_of}, Membership.{Membership, endpoint_group_of}, Memberships.{membership_in}, Parts.{stored_memberships}, Stored.{is_of_another, only}}
+use Rattle.endpoint_membership.{specs.declared.stored.StoredFilter.{StoredFilter}, proofs.{AfterEntries.{same_endpoint-exact}, Expiry.{filter_all, not_gt_first}, MembershipIn.{same_endpoint_group-exact}, PairsWalked.{has-pairs_of}, StoredView.{IsAscending-stored, membership_in-stored, membership_with}}}
 
 -- the pair of the endpoint and the group
 abbrev endpoint_group : EndpointValue → Ip → EndpointGroup

@@ -1,23 +1,8 @@
 -- Records that others leave without effect may be left out.
-use Rattle.std.proofs.Common.{◌≡◌, ℕ, Bool, true, false, cond, List, [], ◌∷◌, Option, Some, refl, sym, ap, subst, ◌∙◌}
-use Rattle.std.specs.BTreeSet.{BTreeSet, Updates, contains}
-use Rattle.std.specs.BTreeMap.{is_at}
-use Rattle.std.specs.declared.cmp.Ordering.{Ordering}
-use Rattle.std.proofs.lemmas.Map.Views.{tells_apart}
-use Rattle.amt_values.specs.declared.address.Ip.{Ip}
-use Rattle.amt_values.specs.Order.{ip_order}
-use Rattle.amt_values.proofs.Orders.{ip_order-exact}
-use Rattle.source_filter.specs.Filter.{FilterValue, filter_after}
-use Rattle.source_filter.specs.Record.{is_full}
-use Rattle.source_filter.specs.declared.record.Record.{Record}
-use Rattle.source_filter.specs.declared.record.RecordKind.{RecordKind}
-use Rattle.source_filter.specs.declared.record.RecordKind.TheVariants.{IsIn, IsEx, ToIn, ToEx, Allow, Block}
-use Rattle.endpoint_membership.specs.Effective.{AreDecided, AreEnough}
-use Rattle.endpoint_membership.specs.EndpointGroup.{same_group}
-use Rattle.endpoint_membership.specs.EndpointMemberships.{filter_or_nothing, renewed_filter_after, renewed_filter_after_all}
-use Rattle.endpoint_membership.specs.Log.{on_group}
-use Rattle.endpoint_membership.specs.declared.after_report.RenewedFilter.{RenewedFilter}
-use Rattle.endpoint_membership.proofs.FilterMap.{same_group-back}
+use Rattle.std.{proofs.Common.{◌≡◌, ℕ, Bool, true, false, cond, List, [], ◌∷◌, Option, Some, refl, sym, ap, subst, ◌∙◌}, specs.{BTreeSet.{BTreeSet, Updates, contains}, BTreeMap.{is_at}, declared.cmp.Ordering.{Ordering}}}
+use Rattle.amt_values.specs.{declared.address.Ip.{Ip}, Order.{ip_order}}
+use Rattle.source_filter.specs.{Filter.{FilterValue, filter_after}, Record.{is_full}, declared.record.{Record.{Record}, RecordKind.{RecordKind, TheVariants.{IsIn, IsEx, ToIn, ToEx, Allow, Block}}}}
+use Rattle.endpoint_membership.{specs.{Effective.{AreDecided}, EndpointGroup.{same_group}, EndpointMemberships.{filter_or_nothing, renewed_filter_after, renewed_filter_after_all}, Log.{on_group}, declared.after_report.RenewedFilter.{RenewedFilter}}, proofs.FilterMap.{same_group-back}}
 
 full_filter : (kind : RecordKind) (group : Ip) (sources : List Ip) (one other : FilterValue) → is_full kind ≡ true
     → filter_after one (record { kind = kind; group = group; sources = sources }) ≡ filter_after other (record { kind = kind; group = group; sources = sources })
@@ -49,36 +34,6 @@ first_or_not false moment group group_record later before is = rw (sym is) refl
 first_is : (moment : ℕ) (group : Ip) (group_record : Record) (later : List Record) (before : Option RenewedFilter)
     → renewed_filter_after_all moment (on_group group (group_record ∷ later)) before ≡ after_one (same_group group group_record.group) moment group_record (on_group group later) before
 first_is moment group group_record later before = first_or_not (same_group group group_record.group) moment group group_record later before refl
-
--- of a decided group a record that comes before the others changes nothing
-passed_by : (decided : BTreeSet Ip) (kept : List Record) (moment : ℕ) (group : Ip) (group_record : Record) (before : Option RenewedFilter) (here : Bool) → (here ≡ true → contains ip_order decided group ≡ true)
-    → AreDecided decided kept → renewed_filter_after_all moment (on_group group kept) before ≡ after_one here moment group_record (on_group group kept) before
-passed_by decided kept moment group group_record before true known are = are moment group (known refl) before (renewed_filter_after moment group_record before)
-passed_by decided kept moment group group_record before false known are = refl
-
--- a record on a decided group may be left out
-pub enough_without : (decided : BTreeSet Ip) (kept all : List Record) (group_record : Record) → contains ip_order decided group_record.group ≡ true → AreDecided decided kept
-    → AreEnough kept all → AreEnough kept (group_record ∷ all)
-enough_without decided kept all group_record known are enough moment group before =
-    let here = same_group group group_record.group in
-    passed_by decided kept moment group group_record before here (λ same. ap (contains ip_order decided) (tells_apart ip_order-exact group group_record.group same) ∙ known) are
-    ∙ enough moment group (cond here (renewed_filter_after moment group_record before) before)
-    ∙ sym (first_is moment group group_record all before)
-
--- a record more of both
-pub enough_with : (kept all : List Record) (group_record : Record) → AreEnough kept all → AreEnough (group_record ∷ kept) (group_record ∷ all)
-enough_with kept all group_record enough moment group before =
-    let here = same_group group group_record.group in
-    first_is moment group group_record kept before
-    ∙ enough moment group (cond here (renewed_filter_after moment group_record before) before)
-    ∙ sym (first_is moment group group_record all before)
-
--- what is decided stays so with a record before the others
-pub decided_still : (decided : BTreeSet Ip) (kept : List Record) (group_record : Record) → AreDecided decided kept → AreDecided decided (group_record ∷ kept)
-decided_still decided kept group_record are moment group known one other =
-    let here = same_group group group_record.group in
-    let with : Option RenewedFilter → Option RenewedFilter = λ before. cond here (renewed_filter_after moment group_record before) before in
-    first_is moment group group_record kept one ∙ are moment group known (with one) (with other) ∙ sym (first_is moment group group_record kept other)
 
 decided_by : (here : Bool) (decided : BTreeSet Ip) (kept : List Record) (moment : ℕ) (group : Ip) (group_record : Record) (one other : Option RenewedFilter) → is_full group_record.kind ≡ true
     → cond here true (contains ip_order decided group) ≡ true → AreDecided decided kept → after_one here moment group_record (on_group group kept) one ≡ after_one here moment group_record (on_group group kept) other

@@ -1,27 +1,10 @@
 -- Memberships in the order of their renewals, and lists from which they are taken one by one.
-use Rattle.std.proofs.Common.{◌≡◌, ℕ, zero, suc, ◌+◌, ◌<◌, ◌≤◌, Bool, true, false, cond, not, nat_lt, List, [], ◌∷◌, length, filter, Option, Some, None, IsSome, IfNone, ◌↔◌, refl, ap, subst, ◌∙◌, arith}
+use Rattle.std.proofs.{Common.{◌≡◌, ℕ, zero, suc, ◌+◌, ◌<◌, ◌≤◌, Bool, true, false, cond, not, nat_lt, List, [], ◌∷◌, length, filter, Option, Some, None, IsSome, IfNone, ◌↔◌, refl, ap, subst, ◌∙◌, arith}, lemmas.Bool.{eq-eqb, eqb-true, Decides.{nat_tests}}}
+use Rattle.std.{proofs.lemmas.{List.Filters.{length-filter_both}, Map.Keys.{le_from_not_gt, sorted_head, sorted_tail}}, specs.{BTreeSet.{BTreeSet}, List.{list_any}, Ordering.{is_eq, is_gt, nat_cmp, ordering_then}, declared.cmp.Ordering.{Ordering, TheVariants.{Less, Equal, Greater}}}}
 use Rattle.std.specs.BTreeSet as sorted
-use Rattle.std.specs.BTreeSet.{BTreeSet}
-use Rattle.std.specs.List.{list_any}
-use Rattle.std.specs.Ordering.{is_eq, is_gt, nat_cmp, ordering_then}
-use Rattle.std.specs.declared.cmp.Ordering.{Ordering}
-use Rattle.std.specs.declared.cmp.Ordering.TheVariants.{Less, Equal, Greater}
-use Rattle.std.proofs.lemmas.Bool.{eq-eqb, eqb-true}
-use Rattle.std.proofs.lemmas.Bool.Decides.{nat_tests}
-use Rattle.std.proofs.lemmas.List.Filters.{length-filter_both}
-use Rattle.std.proofs.lemmas.Map.Keys.{le_from_not_gt, sorted_head, sorted_tail}
-use Rattle.amt_values.specs.Ascending.{IsAscending}
-use Rattle.amt_values.proofs.AscendingLaws.{IsAscending-filter}
-use Rattle.endpoint_membership.specs.EndpointGroup.{EndpointGroup, endpoint_group_order, same_endpoint_group}
-use Rattle.endpoint_membership.specs.Filters.{AreOrdered, FiltersValue, filter_at}
-use Rattle.endpoint_membership.specs.Membership.{Membership, endpoint_group_of, is_fresh, membership_order}
-use Rattle.endpoint_membership.specs.Memberships.{membership_in}
-use Rattle.endpoint_membership.specs.Parts.{is_renewed_at, renewal_order, stored_memberships}
-use Rattle.endpoint_membership.specs.Stored.{is_not_at, only}
-use Rattle.endpoint_membership.specs.declared.keys.LastRenewal.{LastRenewal}
-use Rattle.endpoint_membership.specs.declared.stored.StoredFilter.{StoredFilter}
-use Rattle.endpoint_membership.proofs.MembershipIn.{membership_in-after, membership_in-filter, same_endpoint_group-exact, same_rows}
-use Rattle.endpoint_membership.proofs.StoredView.{IsAscending-stored, membership_in-stored, membership_with}
+use Rattle.amt_values.{specs.Ascending.{IsAscending}, proofs.AscendingLaws.{IsAscending-filter}}
+use Rattle.endpoint_membership.specs.{EndpointGroup.{EndpointGroup, endpoint_group_order, same_endpoint_group}, Filters.{AreOrdered, FiltersValue, filter_at}, Membership.{Membership, endpoint_group_of, is_fresh, membership_order}, Memberships.{membership_in}, Parts.{is_renewed_at, renewal_order, stored_memberships}}
+use Rattle.endpoint_membership.{specs.{Stored.{is_not_at, only}, declared.{keys.LastRenewal.{LastRenewal}, stored.StoredFilter.{StoredFilter}}}, proofs.{MembershipIn.{membership_in-after, membership_in-filter, same_endpoint_group-exact, same_rows}, StoredView.{IsAscending-stored, membership_in-stored, membership_with}}}
 
 pub IfNone-from : {T : Type 0} {P : Type 0} (found : Option T) → P → IfNone found P
 IfNone-from None holds = holds

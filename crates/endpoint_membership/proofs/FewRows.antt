@@ -1,20 +1,8 @@
 -- Memberships within the limits are few: a product of the limits bounds them.
 use Rattle.std.proofs.Common.{◌≡◌, ℕ, ◌+◌, ◌*◌, ◌≤◌, Bool, true, false, cond, ◌||◌, List, [], ◌∷◌, length, map, sum_by, refl, ◌∙◌, arith}
-use Rattle.std.specs.List.{AllByRecursion}
-use Rattle.std.proofs.Math.Nat.{mul-le-mul, suc-mul}
-use Rattle.std.proofs.lemmas.Cmp.{eq_by_cmp_equiv}
-use Rattle.std.proofs.lemmas.List.{length-map}
-use Rattle.std.proofs.lemmas.List.Sums.{sum_by-cons}
-use Rattle.amt_values.specs.Order.{endpoint_order}
-use Rattle.amt_values.specs.EndpointValue.{EndpointValue}
-use Rattle.amt_values.proofs.Orders.{endpoint_order-total}
-use Rattle.amt_values.specs.Ascending.{has, ascending}
-use Rattle.amt_values.proofs.AscendingLaws.{has-ascending}
-use Rattle.endpoint_membership.specs.Limits.{AreFew, IsWithin, group_count, live_count, size}
-use Rattle.endpoint_membership.specs.EndpointGroup.{same_endpoint}
-use Rattle.endpoint_membership.specs.Memberships.{row_of}
-use Rattle.endpoint_membership.specs.Membership.{Membership}
-use Rattle.endpoint_membership.specs.declared.limits.Limits.{Limits}
+use Rattle.std.{specs.List.{AllByRecursion}, proofs.{Math.Nat.{mul-le-mul, suc-mul}, lemmas.{Cmp.{eq_by_cmp_equiv}, List.{length-map, Sums.{sum_by-cons}}}}}
+use Rattle.amt_values.{specs.{Order.{endpoint_order}, EndpointValue.{EndpointValue}, Ascending.{has, ascending}}, proofs.{Orders.{endpoint_order-total}, AscendingLaws.{has-ascending}}}
+use Rattle.endpoint_membership.specs.{Limits.{AreFew, IsWithin, group_count, live_count, size}, EndpointGroup.{same_endpoint}, Memberships.{row_of}, Membership.{Membership}, declared.limits.Limits.{Limits}}
 
 one_if : Bool → ℕ
 one_if test = cond test 1 0

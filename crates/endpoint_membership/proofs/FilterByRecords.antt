@@ -1,20 +1,8 @@
 -- Applying records one by one leaves the filter that they make together.
-use Rattle.std.proofs.Common.{◌≡◌, Bool, true, false, not, ◌&&◌, ◌||◌, if◌then◌else◌, List, [], ◌∷◌, ◌++◌, reverse, filter, refl, sym, ap, ◌∙◌}
-use Rattle.std.proofs.lemmas.Grind.{reverse_onto}
-use Rattle.std.proofs.lemmas.List.{append_assoc}
-use Rattle.amt_values.specs.declared.address.Ip.{Ip}
-use Rattle.amt_values.specs.Order.{ip_order}
-use Rattle.amt_values.proofs.Orders.{ip_order-total, ip_order-exact}
-use Rattle.source_filter.specs.Filter.{FilterValue, admits, admits_by, filter_after, filter_after_all, mode_after, nothing, sources_after}
-use Rattle.source_filter.specs.Record.{is_full, lists, says, speaks}
-use Rattle.amt_values.specs.Ascending.{IsAscending}
-use Rattle.source_filter.specs.declared.mode.Mode.{Mode}
-use Rattle.source_filter.specs.declared.mode.Mode.TheVariants.{Include, Exclude}
-use Rattle.source_filter.specs.declared.record.Record.{Record}
-use Rattle.source_filter.specs.declared.record.RecordKind.{RecordKind}
-use Rattle.source_filter.specs.declared.record.RecordKind.TheVariants.{IsIn, IsEx, ToIn, ToEx, Allow, Block}
-use Rattle.source_filter.proofs.FilterAfter.{IsAscending-filter_after, admits-filter_after, lists-ascending}
-use Rattle.amt_values.proofs.AscendingLaws.{IsAscending-ascending, has-append, has-difference, has-filter, has-union, same_ascending}
+use Rattle.std.proofs.{Common.{◌≡◌, Bool, true, false, not, ◌&&◌, ◌||◌, if◌then◌else◌, List, [], ◌∷◌, ◌++◌, reverse, filter, refl, sym, ap, ◌∙◌}, lemmas.{Grind.{reverse_onto}, List.{append_assoc}}}
+use Rattle.amt_values.{specs.{declared.address.Ip.{Ip}, Order.{ip_order}, Ascending.{IsAscending}}, proofs.{Orders.{ip_order-total, ip_order-exact}, AscendingLaws.{IsAscending-ascending, has-append, has-difference, has-filter, has-union, same_ascending}}}
+use Rattle.source_filter.specs.{Filter.{FilterValue, admits, admits_by, filter_after, filter_after_all, mode_after, nothing, sources_after}, Record.{is_full, lists, says, speaks}, declared.mode.Mode.{Mode}}
+use Rattle.source_filter.{specs.{declared.mode.Mode.TheVariants.{Include, Exclude}, declared.record.{Record.{Record}, RecordKind.{RecordKind, TheVariants.{IsIn, IsEx, ToIn, ToEx, Allow, Block}}}}, proofs.FilterAfter.{IsAscending-filter_after, admits-filter_after, lists-ascending}}
 use Rattle.endpoint_membership.specs.GroupFilter.{records_admit, counted_sources, excludes, is_counted_source, is_excluding, named_sources, filter_of}
 
 -- the filter that records leave, newest first

@@ -1,35 +1,12 @@
 -- The groups of one endpoint, as a map of filters and as memberships.
-use Rattle.std.proofs.Common.{◌≡◌, ℕ, Bool, true, false, cond, ◌&&◌, List, [], ◌∷◌, ◌++◌, filter, Option, Some, None, refl, sym, ap, subst, ◌∙◌, append-nil}
-use Rattle.std.specs.BTreeMap.{BTreeMap, Updates, get, is_at}
-use Rattle.std.specs.List.{AllByRecursion, cons_option, filter_map}
-use Rattle.std.specs.List.Sorted.{IsStrictlySortedBy}
-use Rattle.std.specs.Map.{keys_of, lookup}
-use Rattle.std.specs.Option.{option_or}
-use Rattle.std.specs.Ordering.{is_eq, ordering_reverse}
-use Rattle.std.specs.declared.cmp.Ordering.{Ordering}
-use Rattle.std.specs.declared.cmp.Ordering.TheVariants.{Less}
-use Rattle.std.proofs.lemmas.Cmp.{eq_by_cmp_equiv, tied_itself}
-use Rattle.std.proofs.lemmas.List.Elements.{filter-append, filter_map-append}
-use Rattle.std.proofs.lemmas.Map.Keys.{sorted_head, sorted_tail}
-use Rattle.std.proofs.lemmas.Map.Views.{tells_apart}
-use Rattle.amt_values.specs.declared.address.Ip.{Ip}
-use Rattle.amt_values.specs.Order.{ip_order}
-use Rattle.amt_values.specs.EndpointValue.{EndpointValue}
-use Rattle.amt_values.proofs.Orders.{ip_order-exact, ip_order-total, endpoint_order-total}
-use Rattle.source_filter.specs.Filter.{FilterValue}
-use Rattle.amt_values.specs.Ascending.{IsAscending}
-use Rattle.source_filter.specs.declared.record.Record.{Record}
-use Rattle.endpoint_membership.specs.Membership.{Membership, is_fresh, membership_order, endpoint_group_of}
-use Rattle.endpoint_membership.specs.Stored.{only}
-use Rattle.endpoint_membership.specs.declared.after_report.RenewedFilter.{RenewedFilter}
-use Rattle.endpoint_membership.specs.EndpointMemberships.{AreOf, is_own, membership_of_entry, membership_of_renewed, renewed_filter_after, renewed_filter_after_all, renewed_filter_of}
-use Rattle.endpoint_membership.specs.Log.{on_group}
-use Rattle.endpoint_membership.specs.EndpointGroup.{EndpointGroup, endpoint_group_order, same_endpoint, same_group, same_endpoint_group}
-use Rattle.source_filter.specs.Filter.{wants_any}
-use Rattle.endpoint_membership.specs.Memberships.{membership_in}
-use Rattle.endpoint_membership.proofs.MembershipsByLog.{AreAfter-cons_option, IsAscending-cons_option, membership_by, membership_in-cons_option}
-use Rattle.endpoint_membership.proofs.MembershipIn.{AreAfter, membership_in-after, membership_in-append, same_endpoint_group-exact}
-use Rattle.endpoint_membership.proofs.EndpointGroupOrder.{membership_order-total, same_endpoint_group-is}
+use Rattle.std.proofs.{Common.{◌≡◌, ℕ, Bool, true, false, cond, ◌&&◌, List, [], ◌∷◌, ◌++◌, filter, Option, Some, None, refl, sym, ap, subst, ◌∙◌, append-nil}, lemmas.{Cmp.{eq_by_cmp_equiv, tied_itself}, List.Elements.{filter_map-append}, Map.{Keys.{sorted_head, sorted_tail}, Views.{tells_apart}}}}
+use Rattle.std.specs.{BTreeMap.{BTreeMap, Updates, get, is_at}, List.{AllByRecursion, cons_option, filter_map, Sorted.{IsStrictlySortedBy}}, Map.{keys_of, lookup}, Option.{option_or}, Ordering.{is_eq, ordering_reverse}, declared.cmp.Ordering.{Ordering, TheVariants.{Less}}}
+use Rattle.amt_values.{specs.{declared.address.Ip.{Ip}, Order.{ip_order}, EndpointValue.{EndpointValue}, Ascending.{IsAscending}}, proofs.Orders.{ip_order-exact, ip_order-total, endpoint_order-total}}
+use Rattle.source_filter.specs.{Filter.{FilterValue, wants_any}, declared.record.Record.{Record}}
+use Rattle.endpoint_membership.specs.{Membership.{Membership, is_fresh, membership_order, endpoint_group_of}, Stored.{only}, declared.after_report.RenewedFilter.{RenewedFilter}}
+use Rattle.endpoint_membership.specs.{EndpointMemberships.{AreOf, is_own, membership_of_entry, membership_of_renewed, renewed_filter_after, renewed_filter_after_all, renewed_filter_of}, Log.{on_group}}
+use Rattle.endpoint_membership.specs.{EndpointGroup.{EndpointGroup, endpoint_group_order, same_endpoint, same_group, same_endpoint_group}, Memberships.{membership_in}}
+use Rattle.endpoint_membership.proofs.{MembershipsByLog.{AreAfter-cons_option, IsAscending-cons_option, membership_by, membership_in-cons_option}, MembershipIn.{AreAfter, membership_in-after, membership_in-append, same_endpoint_group-exact}, EndpointGroupOrder.{membership_order-total, same_endpoint_group-is}}
 
 pub same_group-back : (one other : Ip) → same_group one other ≡ same_group other one
 same_group-back one other = (eq_by_cmp_equiv ip_order-total).symm one other
@@ -69,18 +46,6 @@ pub one_applied : (group : Ip) (group_record : Record) (moment : ℕ) (before af
     → after ≡ cond key (renewed_filter_after moment group_record before) before → after ≡ renewed_filter_after_all moment (on_group group (group_record ∷ [])) before
 one_applied group group_record moment before after true here is = rw (sym here) is
 one_applied group group_record moment before after false here is = rw (sym here) is
-
-renewed_filter_after_all-append : (moment : ℕ) (done more : List Record) (renewed_filter : Option RenewedFilter) → renewed_filter_after_all moment (done ++ more) renewed_filter ≡ renewed_filter_after_all moment more (renewed_filter_after_all moment done renewed_filter)
-renewed_filter_after_all-append moment [] more renewed_filter = refl
-renewed_filter_after_all-append moment (first ∷ done) more renewed_filter = renewed_filter_after_all-append moment done more (renewed_filter_after moment first renewed_filter)
-
--- one record more
-pub more_applied : (group : Ip) (done : List Record) (group_record : Record) (moment : ℕ) (first before after : Option RenewedFilter) → before ≡ renewed_filter_after_all moment (on_group group done) first
-    → after ≡ renewed_filter_after_all moment (on_group group (group_record ∷ [])) before → after ≡ renewed_filter_after_all moment (on_group group (done ++ group_record ∷ [])) first
-more_applied group done group_record moment first before after so_far is =
-    is ∙ ap (renewed_filter_after_all moment (on_group group (group_record ∷ []))) so_far
-    ∙ sym (ap (λ (records : List Record). renewed_filter_after_all moment records first) (filter-append (λ (one : Record). same_group group one.group) done (group_record ∷ []))
-    ∙ renewed_filter_after_all-append moment (on_group group done) (on_group group (group_record ∷ [])) first)
 
 last_of : (P : Membership → Type 0) (xs : List Membership) (last : Membership) → AllByRecursion P (xs ++ last ∷ []) → P last
 last_of P [] last each = each.0
@@ -139,9 +104,6 @@ pub updated : (cmp : Ip → Ip → Ordering) (before after : BTreeMap Ip Renewed
     → (other : Ip) → get ip_order after other ≡ cond (same_group key other) renewed_filter (get ip_order before other)
 updated cmp before after key renewed_filter same updates =
     subst (λ (order : Ip → Ip → Ordering). (other : Ip) → get order after other ≡ cond (is_at (order key) other) renewed_filter (get order before other)) same updates.0
-
-abbrev pub renewed_with : FilterValue → ℕ → Option RenewedFilter
-renewed_with filter renewed = Some (record { filter = filter; renewed = renewed })
 
 set_by : (same : Bool) (group_record : Record) (moment : ℕ) (old before : Option RenewedFilter) → (same ≡ true → old ≡ before)
     → cond same (renewed_filter_after moment group_record old) before ≡ cond same (renewed_filter_after moment group_record before) before

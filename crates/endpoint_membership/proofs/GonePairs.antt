@@ -1,29 +1,10 @@
 -- The pairs of an endpoint of which nothing is wanted after its report.
-use Rattle.std.proofs.Common.{◌≡◌, ℕ, Bool, true, false, not, cond, ◌&&◌, ◌||◌, List, [], ◌∷◌, Option, Some, None, is_some, if◌then◌else◌, true≢false, refl, sym, ap, subst, ◌∙◌}
-use Rattle.std.specs.BTreeMap.{BTreeMap, IsOrdered, get}
-use Rattle.std.specs.List.{AllByRecursion, cons_option, filter_map}
-use Rattle.std.specs.List.Sorted.{IsStrictlySortedBy}
-use Rattle.std.specs.Map.{keys_of, lookup}
-use Rattle.std.specs.Ordering.{is_eq}
-use Rattle.std.specs.declared.cmp.Ordering.TheVariants.{Less}
-use Rattle.std.proofs.lemmas.Map.Keys.{sorted_head, sorted_tail}
-use Rattle.std.proofs.lemmas.Map.Views.{tells_apart}
-use Rattle.amt_values.specs.declared.address.Ip.{Ip}
-use Rattle.amt_values.specs.Order.{ip_order}
-use Rattle.amt_values.specs.EndpointValue.{EndpointValue}
-use Rattle.amt_values.proofs.Orders.{endpoint_order-exact, ip_order-exact}
-use Rattle.amt_values.specs.Ascending.{has}
-use Rattle.source_filter.specs.Filter.{wants_any}
-use Rattle.source_filter.specs.declared.record.Record.{Record}
-use Rattle.endpoint_membership.specs.EndpointGroup.{EndpointGroup, endpoint_group_order, same_endpoint, same_endpoint_group, same_group}
-use Rattle.endpoint_membership.specs.EndpointMemberships.{AreGone, gone_of_entry, membership_of_entry, membership_of_renewed, renewed_filter_after_all, renewed_filter_of}
-use Rattle.endpoint_membership.specs.Log.{on_group}
-use Rattle.endpoint_membership.specs.Membership.{Membership, is_fresh}
-use Rattle.endpoint_membership.specs.Memberships.{membership_in}
-use Rattle.endpoint_membership.specs.Stored.{only}
-use Rattle.endpoint_membership.specs.declared.after_report.RenewedFilter.{RenewedFilter}
-use Rattle.endpoint_membership.proofs.EndpointGroupOrder.{same_endpoint_group-is}
-use Rattle.endpoint_membership.proofs.FilterMap.{endpoint_group_by_group, membership_in-filters}
+use Rattle.std.proofs.{Common.{◌≡◌, ℕ, Bool, true, false, not, cond, ◌&&◌, ◌||◌, List, [], ◌∷◌, Option, Some, None, is_some, if◌then◌else◌, true≢false, refl, sym, ap, subst, ◌∙◌}, lemmas.Map.{Keys.{sorted_head, sorted_tail}, Views.{tells_apart}}}
+use Rattle.std.specs.{BTreeMap.{BTreeMap, IsOrdered, get}, List.{AllByRecursion, cons_option, filter_map, Sorted.{IsStrictlySortedBy}}, Map.{keys_of, lookup}, Ordering.{is_eq}, declared.cmp.Ordering.TheVariants.{Less}}
+use Rattle.amt_values.{specs.{declared.address.Ip.{Ip}, Order.{ip_order}, EndpointValue.{EndpointValue}, Ascending.{has}}, proofs.Orders.{endpoint_order-exact, ip_order-exact}}
+use Rattle.source_filter.specs.{Filter.{wants_any}, declared.record.Record.{Record}}
+use Rattle.endpoint_membership.specs.{EndpointGroup.{EndpointGroup, endpoint_group_order, same_endpoint, same_endpoint_group, same_group}, EndpointMemberships.{AreGone, gone_of_entry, membership_of_entry, membership_of_renewed, renewed_filter_after_all, renewed_filter_of}, Log.{on_group}}
+use Rattle.endpoint_membership.{specs.{Membership.{Membership, is_fresh}, Memberships.{membership_in}, Stored.{only}, declared.after_report.RenewedFilter.{RenewedFilter}}, proofs.{EndpointGroupOrder.{same_endpoint_group-is}, FilterMap.{endpoint_group_by_group, membership_in-filters}}}
 
 abbrev endpoint_group : EndpointValue → Ip → EndpointGroup
 endpoint_group endpoint group = record { endpoint = endpoint; group = group }

@@ -1,43 +1,11 @@
 -- The endpoints of a group that get a packet, by the group's members.
-use Rattle.std.proofs.Common.{◌≡◌, ℕ, ◌+◌, ◌<◌, Bor, Bool, true, false, cond, ◌&&◌, ◌||◌, List, [], ◌∷◌, ◌++◌, map, filter, length, nat_lt, Option, Some, None, is_some, refl, sym, ap, subst, ◌∙◌, arith}
-use Rattle.std.specs.BTreeMap.{BTreeMap, IsOrdered, get, is_at, keys}
-use Rattle.std.specs.BTreeMap.Range.{IsEntryInRange, IsRangeOf, entries_between, range_contains}
-use Rattle.std.specs.Iterator.{Yields}
-use Rattle.std.specs.List.{AllByRecursion}
-use Rattle.std.specs.List.Sorted.{IsStrictlySortedBy}
-use Rattle.std.specs.Map.{keys_of}
-use Rattle.std.specs.Map.Iter.{TakesFirst, deref_pair}
-use Rattle.std.specs.Ordering.{is_eq, is_le, nat_cmp, ordering_then}
-use Rattle.std.specs.declared.cmp.Ordering.{Ordering}
-use Rattle.std.specs.declared.cmp.Ordering.TheVariants.{Less, Equal, Greater}
-use Rattle.std.specs.declared.ops.Bound.TheVariants.{Included, Unbounded}
-use Rattle.std.proofs.lemmas.Bool.{and_left, and_parts}
-use Rattle.std.proofs.lemmas.Cmp.{eq_by_cmp_equiv, tied_itself}
-use Rattle.std.proofs.lemmas.List.{append-nil, length-append, map-append}
-use Rattle.std.proofs.lemmas.List.Elements.{filter-append}
-use Rattle.std.proofs.lemmas.Map.Iter.{rest_so_far}
-use Rattle.std.proofs.lemmas.Map.Made.{is_some-lookup}
-use Rattle.std.proofs.lemmas.Map.Views.{All-turn}
-use Rattle.std.proofs.lemmas.Map.Lookups.{CmpEqualImpliesEq}
-use Rattle.amt_values.specs.declared.address.Ip.{Ip}
-use Rattle.amt_values.specs.Order.{endpoint_order, ip_order}
-use Rattle.amt_values.specs.EndpointValue.{EndpointValue}
-use Rattle.amt_values.proofs.Orders.{both_tied, endpoint_order-exact, endpoint_order-total, ip_order-exact, ip_order-total}
+use Rattle.std.proofs.{Common.{◌≡◌, ℕ, ◌+◌, ◌<◌, Bor, Bool, true, false, cond, ◌&&◌, ◌||◌, List, [], ◌∷◌, ◌++◌, map, filter, length, nat_lt, Option, Some, None, is_some, refl, sym, ap, subst, ◌∙◌, arith}, lemmas.{Bool.{and_left, and_parts}, Cmp.{eq_by_cmp_equiv, tied_itself}}}
+use Rattle.std.{proofs.lemmas.{List.{append-nil, length-append, map-append, Elements.{filter-append}}, Map.{Iter.{rest_so_far}, Made.{is_some-lookup}, Views.{All-turn}, Lookups.{CmpEqualImpliesEq}}}, specs.BTreeMap.{BTreeMap, IsOrdered, get, is_at, keys}}
+use Rattle.std.specs.{BTreeMap.Range.{IsEntryInRange, IsRangeOf, entries_between, range_contains}, Iterator.{Yields}, List.{AllByRecursion, Sorted.{IsStrictlySortedBy}}, Map.{keys_of, Iter.{TakesFirst, deref_pair}}, Ordering.{is_eq, is_le, nat_cmp, ordering_then}, declared.{cmp.Ordering.{Ordering, TheVariants.{Less, Equal, Greater}}, ops.Bound.TheVariants.{Included, Unbounded}}}
+use Rattle.amt_values.{specs.{declared.address.Ip.{Ip}, Order.{endpoint_order, ip_order}, EndpointValue.{EndpointValue}, Ascending.{has, IsAscending}}, proofs.{Orders.{both_tied, endpoint_order-exact, endpoint_order-total, ip_order-exact, ip_order-total}, AscendingLaws.{Equal-from_test, IsAscending-filter, has-filter, same_ascending}}}
 use Rattle.source_filter.specs.Filter.{admits}
-use Rattle.amt_values.specs.Ascending.{has, IsAscending}
-use Rattle.amt_values.proofs.AscendingLaws.{Equal-from_test, IsAscending-filter, has-filter, same_ascending}
-use Rattle.endpoint_membership.specs.EndpointGroup.{EndpointGroup, same_group}
-use Rattle.endpoint_membership.specs.Filters.{AreOrdered, FiltersValue, filter_at, group_member_order}
-use Rattle.endpoint_membership.specs.Membership.{Membership, membership_order}
-use Rattle.endpoint_membership.specs.Memberships.{membership_in}
-use Rattle.endpoint_membership.specs.Parts.{stored_membership, stored_memberships}
-use Rattle.endpoint_membership.specs.Stored.{is_target, only, targets_in}
-use Rattle.endpoint_membership.specs.declared.keys.GroupMember.{GroupMember}
-use Rattle.endpoint_membership.specs.declared.stored.StoredFilter.{StoredFilter}
-use Rattle.endpoint_membership.proofs.KeysTogether.{filter-none, filter-wider, in_range-shares, least_number, others}
-use Rattle.endpoint_membership.proofs.PairsWalked.{stored_at}
-use Rattle.endpoint_membership.proofs.StoredView.{IsAscending-stored, membership_in-stored, membership_with}
-use Rattle.endpoint_membership.proofs.TargetsByLog.{has-targets, IsAscending-targets}
+use Rattle.endpoint_membership.specs.{EndpointGroup.{EndpointGroup, same_group}, Filters.{AreOrdered, FiltersValue, filter_at, group_member_order}, Membership.{Membership, membership_order}, Memberships.{membership_in}, Parts.{stored_membership, stored_memberships}, Stored.{is_target, only, targets_in}}
+use Rattle.endpoint_membership.{specs.declared.{keys.GroupMember.{GroupMember}, stored.StoredFilter.{StoredFilter}}, proofs.{KeysTogether.{filter-none, filter-wider, in_range-shares, least_number, others}, PairsWalked.{stored_at}, StoredView.{IsAscending-stored, membership_in-stored, membership_with}, TargetsByLog.{has-targets, IsAscending-targets}}}
 
 -- the members that a walk over filters has seen
 abbrev pub seen_members : List (Bor GroupMember × Bor StoredFilter) → List GroupMember

@@ -1,26 +1,9 @@
 -- Tables that stand for a log, and what each call leaves.
-use Rattle.std.proofs.Common.{◌≤◌, ◌≡◌, ℕ, ◌<◌, max, List, [], ◌∷◌, ◌++◌, reverse, filter, Some, refl, sym, ap, subst, ◌∙◌, arith}
-use Rattle.std.specs.List.Sorted.{IsStrictlySortedBy}
-use Rattle.std.proofs.lemmas.List.{reverse-append}
-use Rattle.amt_values.specs.EndpointValue.{EndpointValue}
-use Rattle.amt_values.specs.Ascending.{IsAscending}
+use Rattle.std.{proofs.{Common.{◌≤◌, ◌≡◌, ℕ, ◌<◌, max, List, [], ◌∷◌, ◌++◌, reverse, filter, Some, refl, sym, ap, subst, ◌∙◌, arith}, lemmas.List.{reverse-append}}, specs.List.Sorted.{IsStrictlySortedBy}}
+use Rattle.amt_values.specs.{EndpointValue.{EndpointValue}, Ascending.{IsAscending}}
 use Rattle.source_filter.specs.declared.record.Record.{Record}
-use Rattle.endpoint_membership.specs.declared.change.Change.{Change}
-use Rattle.endpoint_membership.specs.declared.change.Change.TheVariants.{Reported, Clear, Mark}
-use Rattle.endpoint_membership.specs.Membership.{Membership, is_fresh, membership_order}
-use Rattle.endpoint_membership.specs.declared.limits.LimitFault.{LimitFault}
-use Rattle.endpoint_membership.specs.declared.limits.Limits.{Limits}
-use Rattle.endpoint_membership.specs.Stored.{is_of_another}
-use Rattle.endpoint_membership.specs.Limits.{IsWithin, first_limit}
-use Rattle.endpoint_membership.specs.Log.{brought, latest}
-use Rattle.endpoint_membership.specs.EndpointMemberships.{AreOwn}
-use Rattle.endpoint_membership.specs.Memberships.{memberships_at}
-use Rattle.endpoint_membership.specs.Table.{AreMembershipsAt, Holds, IsWithinLimits, TableValue, TableSettings, limit_passed, memberships_now}
-use Rattle.endpoint_membership.proofs.MembershipsByLog.{rows_are}
-use Rattle.endpoint_membership.proofs.ReportFits.{replaced}
-use Rattle.endpoint_membership.proofs.AfterReport.{AreMembershipsAt-reported}
-use Rattle.endpoint_membership.proofs.AfterEntries.{AreMembershipsAt-clear, AreMembershipsAt-later, AreMembershipsAt-other}
-use Rattle.endpoint_membership.proofs.WithinLimits.{none_passed}
+use Rattle.endpoint_membership.specs.{declared.{change.Change.{Change, TheVariants.{Reported, Clear, Mark}}, limits.{LimitFault.{LimitFault}, Limits.{Limits}}}, Membership.{Membership, is_fresh, membership_order}, Stored.{is_of_another}, Limits.{IsWithin, first_limit}, Log.{brought, latest}, EndpointMemberships.{AreOwn}, Memberships.{memberships_at}}
+use Rattle.endpoint_membership.{specs.Table.{AreMembershipsAt, Holds, IsWithinLimits, TableValue, TableSettings, limit_passed, memberships_now}, proofs.{MembershipsByLog.{rows_are}, ReportFits.{replaced}, AfterReport.{AreMembershipsAt-reported}, AfterEntries.{AreMembershipsAt-clear, AreMembershipsAt-later, AreMembershipsAt-other}, WithinLimits.{none_passed}}}
 
 latest-append : (xs ys : List Change) → latest (xs ++ ys) ≡ max (latest xs) (latest ys)
 latest-append [] ys = omega arith

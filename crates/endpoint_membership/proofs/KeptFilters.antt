@@ -1,26 +1,10 @@
 -- Filters that are kept by group, as the map by endpoint that contracts see.
-use Rattle.std.proofs.Common.{◌≡◌, Bool, true, false, cond, ◌||◌, is_some, List, [], ◌∷◌, length, Option, Some, None, refl, sym, ap, subst, ◌∙◌}
-use Rattle.std.specs.BTreeMap.{BTreeMap, get, insert_entry, is_at}
+use Rattle.std.{proofs.{Common.{◌≡◌, Bool, true, false, cond, ◌||◌, is_some, List, [], ◌∷◌, length, Option, Some, None, refl, sym, ap, subst, ◌∙◌}, lemmas.{Cmp.{tied_itself}, Map.{Entries.{length-keys_of}, Keys.{sorted_head, sorted_tail}}}}, specs.{BTreeMap.{BTreeMap, get, insert_entry, is_at}, BTreeSet.{BTreeSet, insert_key}}}
+use Rattle.std.specs.{List.{AllByRecursion, cons_option, filter_map, list_any, Sorted.{IsStrictlySortedBy}}, Map.{keys_of, lookup, remove_entry}, Option.{option_map}, Ordering.{is_eq, match_ordering, ordering_then}, Set.{remove_key}, declared.cmp.Ordering.{Ordering, TheVariants.{Less, Equal, Greater}}}
 use Rattle.std.specs.BTreeSet as sorted
-use Rattle.std.specs.BTreeSet.{BTreeSet, insert_key}
-use Rattle.std.specs.List.{AllByRecursion, cons_option, filter_map, list_any}
-use Rattle.std.specs.List.Sorted.{IsStrictlySortedBy}
-use Rattle.std.specs.Map.{keys_of, lookup, remove_entry}
-use Rattle.std.specs.Option.{option_map}
-use Rattle.std.specs.Ordering.{is_eq, match_ordering, ordering_then}
-use Rattle.std.specs.Set.{remove_key}
-use Rattle.std.specs.declared.cmp.Ordering.{Ordering}
-use Rattle.std.specs.declared.cmp.Ordering.TheVariants.{Less, Equal, Greater}
-use Rattle.std.proofs.lemmas.Cmp.{tied_itself}
-use Rattle.std.proofs.lemmas.Map.Entries.{length-keys_of}
-use Rattle.std.proofs.lemmas.Map.Keys.{sorted_head, sorted_tail}
 use Rattle.amt_values.specs.Order.{endpoint_order, ip_order}
 use Rattle.endpoint_membership.specs.EndpointGroup.{EndpointGroup, endpoint_group_order, same_endpoint_group}
-use Rattle.endpoint_membership.specs.Filters.{AreOrdered, FiltersValue, HaveSamePairs, IsSetAt, entry_of, filter_at, filters_of, group_member_order, member_of, pairs_of}
-use Rattle.endpoint_membership.specs.declared.keys.GroupMember.{GroupMember}
-use Rattle.endpoint_membership.specs.declared.stored.StoredFilter.{StoredFilter}
-use Rattle.endpoint_membership.proofs.EndpointGroupOrder.{endpoint_group_order-total}
-use Rattle.endpoint_membership.proofs.MembershipIn.{same_endpoint_group-exact}
+use Rattle.endpoint_membership.{specs.{Filters.{AreOrdered, FiltersValue, HaveSamePairs, IsSetAt, entry_of, filter_at, filters_of, group_member_order, member_of, pairs_of}, declared.{keys.GroupMember.{GroupMember}, stored.StoredFilter.{StoredFilter}}}, proofs.{EndpointGroupOrder.{endpoint_group_order-total}, MembershipIn.{same_endpoint_group-exact}}}
 
 abbrev Kept : Type 0
 Kept = BTreeMap GroupMember StoredFilter

@@ -1,19 +1,7 @@
 -- Keys of two parts, ordered by the first and then by the second: those that share their first part
 -- stand together, from the least of them on.
-use Rattle.std.proofs.Common.{◌≡◌, ℕ, ◌==◌, nat_lt, arith, Some, None, Bool, true, false, not, cond, List, [], ◌∷◌, ◌++◌, filter, refl, sym, ap, subst, ◌∙◌}
-use Rattle.std.specs.BTreeMap.Range.{range_contains}
-use Rattle.std.specs.Cmp.{IsTotalOrder}
-use Rattle.std.specs.List.{AllByRecursion, find}
-use Rattle.std.specs.List.Sorted.{IsStrictlySortedBy}
-use Rattle.std.specs.Ordering.{eq_by_cmp, is_eq, is_le, nat_cmp, on, ordering_then, then_cmp}
-use Rattle.std.specs.declared.cmp.Ordering.{Ordering}
-use Rattle.std.specs.declared.cmp.Ordering.TheVariants.{Less, Equal, Greater}
-use Rattle.std.specs.declared.ops.Bound.TheVariants.{Included, Unbounded}
-use Rattle.std.proofs.lemmas.Bool.{and_from, and_parts}
-use Rattle.std.proofs.lemmas.Bool.Decides.{nat_tests}
-use Rattle.std.proofs.lemmas.Cmp.{alike_right, eq_by_cmp_equiv}
-use Rattle.std.proofs.lemmas.List.Kept.{IsStrictlySortedBy-filter}
-use Rattle.std.proofs.lemmas.Map.Keys.{sorted_head, sorted_tail}
+use Rattle.std.proofs.{Common.{◌≡◌, ℕ, ◌==◌, nat_lt, arith, Some, None, Bool, true, false, not, cond, List, [], ◌∷◌, ◌++◌, filter, refl, sym, ap, subst, ◌∙◌}, lemmas.{Bool.{and_from, and_parts, Decides.{nat_tests}}, Cmp.{alike_right, eq_by_cmp_equiv}, List.Kept.{IsStrictlySortedBy-filter}, Map.Keys.{sorted_head, sorted_tail}}}
+use Rattle.std.specs.{BTreeMap.Range.{range_contains}, Cmp.{IsTotalOrder}, List.{AllByRecursion, find, Sorted.{IsStrictlySortedBy}}, Ordering.{eq_by_cmp, is_eq, is_le, nat_cmp, on, ordering_then, then_cmp}, declared.{cmp.Ordering.{Ordering, TheVariants.{Less, Equal, Greater}}, ops.Bound.TheVariants.{Included, Unbounded}}}
 use Rattle.amt_values.proofs.AscendingLaws.{Equal-from_test}
 
 kept_by : {K : Type 0} (test wider : K → Bool) (passes kept : Bool) (x : K) (xs : List K) → test x ≡ passes → (passes ≡ true → kept ≡ true) → filter test (filter wider xs) ≡ filter test xs

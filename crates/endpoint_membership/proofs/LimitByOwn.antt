@@ -1,30 +1,10 @@
 -- The limits that a report's memberships pass, by the memberships of its endpoint and the number of other live endpoints.
-use Rattle.std.proofs.Common.{◌≡◌, ℕ, ◌+◌, nat_lt, Bool, true, false, cond, not, ◌&&◌, ◌||◌, if◌then◌else◌, List, [], ◌∷◌, ◌++◌, filter, length, map, Option, Some, None, refl, sym, ap, ◌∙◌, arith}
-use Rattle.std.specs.List.{AllByRecursion, find, list_any}
-use Rattle.std.specs.Option.{option_or}
-use Rattle.std.specs.Ordering.{eq_by_cmp, is_eq, match_ordering}
-use Rattle.std.specs.declared.cmp.Ordering.{Ordering}
-use Rattle.std.specs.declared.cmp.Ordering.TheVariants.{Less, Equal, Greater}
-use Rattle.std.proofs.lemmas.List.{map-append}
-use Rattle.std.proofs.lemmas.List.Elements.{filter-append}
-use Rattle.std.proofs.lemmas.List.Folds.{find-append}
-use Rattle.std.proofs.lemmas.List.Sums.{sum_by-cons}
-use Rattle.amt_values.specs.Order.{endpoint_order}
-use Rattle.amt_values.specs.EndpointValue.{EndpointValue}
-use Rattle.amt_values.proofs.Orders.{endpoint_order-exact, endpoint_order-total}
-use Rattle.amt_values.specs.Ascending.{IsAscending, has, placed, ascending}
+use Rattle.std.proofs.{Common.{◌≡◌, ℕ, ◌+◌, nat_lt, Bool, true, false, cond, not, ◌&&◌, ◌||◌, if◌then◌else◌, List, [], ◌∷◌, ◌++◌, filter, length, map, Option, Some, None, refl, sym, ap, ◌∙◌, arith}, lemmas.List.{map-append, Elements.{filter-append}}}
+use Rattle.std.{proofs.lemmas.List.{Folds.{find-append}, Sums.{sum_by-cons}}, specs.{List.{AllByRecursion, find, list_any}, Option.{option_or}, Ordering.{eq_by_cmp, is_eq, match_ordering}, declared.cmp.Ordering.{Ordering, TheVariants.{Less, Equal, Greater}}}}
+use Rattle.amt_values.{specs.{Order.{endpoint_order}, EndpointValue.{EndpointValue}, Ascending.{IsAscending, has, placed, ascending}}, proofs.{Orders.{endpoint_order-exact, endpoint_order-total}, AscendingLaws.{IsAscending-placed, IsAscending-ascending, has-append, has-placed, has-ascending, same_ascending}}}
 use Rattle.source_filter.specs.declared.record.Record.{Record}
-use Rattle.amt_values.proofs.AscendingLaws.{IsAscending-placed, IsAscending-ascending, has-append, has-placed, has-ascending, same_ascending}
-use Rattle.endpoint_membership.specs.Membership.{Membership, is_fresh, membership_order}
-use Rattle.endpoint_membership.specs.declared.limits.Limits.{Limits}
-use Rattle.endpoint_membership.specs.Stored.{earlier, is_counted, later}
-use Rattle.endpoint_membership.specs.EndpointMemberships.{limit_by, AreOf, is_over}
-use Rattle.endpoint_membership.specs.Limits.{first_limit, group_count, is_too_wide, live_count}
-use Rattle.endpoint_membership.specs.Log.{is_empty}
-use Rattle.endpoint_membership.specs.EndpointGroup.{same_endpoint, same_group}
-use Rattle.endpoint_membership.proofs.LimitOrder.{first_limit-by}
-use Rattle.endpoint_membership.proofs.ThreeParts.{is_of, parted}
-use Rattle.endpoint_membership.proofs.AfterEntries.{AreBefore, AreFollowing, IsParted, same_back, same_endpoint-exact}
+use Rattle.endpoint_membership.specs.{Membership.{Membership, is_fresh, membership_order}, declared.limits.Limits.{Limits}, Stored.{earlier, is_counted, later}, EndpointMemberships.{limit_by, AreOf, is_over}}
+use Rattle.endpoint_membership.{specs.{Limits.{first_limit, group_count, is_too_wide, live_count}, Log.{is_empty}, EndpointGroup.{same_endpoint, same_group}}, proofs.{LimitOrder.{first_limit-by}, ThreeParts.{is_of, parted}, AfterEntries.{AreBefore, AreFollowing, IsParted, same_back, same_endpoint-exact}}}
 
 -- no membership is of the endpoint
 abbrev AreNotOf : EndpointValue → List Membership → Type 0

@@ -1,10 +1,7 @@
 -- How a pair's live chain goes on as entries come and time passes.
-use Rattle.std.proofs.Common.{◌≡◌, ℕ, ◌+◌, ◌≤◌, ◌<◌, Bool, true, false, cond, ltb, not, List, [], ◌∷◌, ◌++◌, refl, arith, inl, inr}
-use Rattle.std.proofs.lemmas.Bool.{cases_Bool, ltb-true, lt-ltb}
+use Rattle.std.proofs.{Common.{◌≡◌, ℕ, ◌+◌, ◌≤◌, ◌<◌, Bool, true, false, cond, ltb, not, List, [], ◌∷◌, ◌++◌, refl, arith, inl, inr}, lemmas.Bool.{cases_Bool, ltb-true, lt-ltb}}
 use Rattle.source_filter.specs.declared.record.Record.{Record}
-use Rattle.endpoint_membership.specs.declared.change.Change.{Change}
-use Rattle.endpoint_membership.specs.Log.{latest, records_at, is_empty, concerns, live_chain, renewed_at}
-use Rattle.endpoint_membership.specs.EndpointGroup.{EndpointGroup}
+use Rattle.endpoint_membership.specs.{declared.change.Change.{Change}, Log.{latest, records_at, is_empty, concerns, live_chain, renewed_at}, EndpointGroup.{EndpointGroup}}
 
 -- an entry that makes no record on the pair changes nothing there
 pub live_chain-other : (lifetime : ℕ) (endpoint_group : EndpointGroup) (moment : ℕ) (entry : Change) (past : List Change) → records_at endpoint_group entry ≡ []

@@ -1,25 +1,8 @@
 -- Counting live endpoints from membership to membership.
-use Rattle.std.proofs.Common.{◌≡◌, ℕ, ◌+◌, Bool, true, false, ◌||◌, if◌then◌else◌, List, [], ◌∷◌, ◌++◌, filter, length, Option, Some, None, refl, sym, ap, subst, ◌∙◌, arith}
-use Rattle.std.specs.List.{AllByRecursion}
-use Rattle.std.specs.Option.{option_or}
-use Rattle.std.specs.Ordering.{is_eq, ordering_then}
-use Rattle.std.specs.declared.cmp.Ordering.{Ordering}
-use Rattle.std.specs.declared.cmp.Ordering.TheVariants.{Less, Equal, Greater}
-use Rattle.std.proofs.lemmas.Cmp.{tied_itself}
-use Rattle.std.proofs.lemmas.List.{map-append}
-use Rattle.std.proofs.lemmas.List.Elements.{filter-append}
-use Rattle.std.proofs.lemmas.Map.Keys.{sorted_head, sorted_tail}
-use Rattle.amt_values.specs.Order.{ip_order, endpoint_order}
-use Rattle.amt_values.specs.EndpointValue.{EndpointValue}
-use Rattle.amt_values.proofs.Orders.{endpoint_order-exact, endpoint_order-total}
-use Rattle.amt_values.specs.Ascending.{IsAscending, has, placed, ascending}
-use Rattle.amt_values.proofs.AscendingLaws.{IsAscending-filter, IsAscending-placed, IsAscending-ascending, has-append, has-placed, has-ascending, same_ascending}
-use Rattle.endpoint_membership.specs.Membership.{Membership, membership_order}
-use Rattle.endpoint_membership.specs.Stored.{ends_with, last_of}
-use Rattle.endpoint_membership.specs.Limits.{live_count}
-use Rattle.endpoint_membership.specs.EndpointGroup.{same_endpoint}
-use Rattle.endpoint_membership.proofs.LimitByOwn.{endpoints_of, length-placed_new}
-use Rattle.endpoint_membership.proofs.AfterEntries.{same_back, same_endpoint-exact}
+use Rattle.std.proofs.{Common.{◌≡◌, ℕ, ◌+◌, Bool, true, false, ◌||◌, if◌then◌else◌, List, [], ◌∷◌, ◌++◌, filter, length, Option, Some, None, refl, sym, ap, subst, ◌∙◌, arith}, lemmas.{Cmp.{tied_itself}, List.{map-append}}}
+use Rattle.std.{proofs.lemmas.{List.Elements.{filter-append}, Map.Keys.{sorted_head, sorted_tail}}, specs.{List.{AllByRecursion}, Option.{option_or}, Ordering.{is_eq, ordering_then}, declared.cmp.Ordering.{Ordering, TheVariants.{Less, Equal, Greater}}}}
+use Rattle.amt_values.{specs.{Order.{ip_order, endpoint_order}, EndpointValue.{EndpointValue}, Ascending.{IsAscending, has, placed, ascending}}, proofs.{Orders.{endpoint_order-exact, endpoint_order-total}, AscendingLaws.{IsAscending-filter, IsAscending-placed, IsAscending-ascending, has-append, has-placed, has-ascending, same_ascending}}}
+use Rattle.endpoint_membership.{specs.{Membership.{Membership, membership_order}, Stored.{ends_with, last_of}, Limits.{live_count}, EndpointGroup.{same_endpoint}}, proofs.{LimitByOwn.{endpoints_of, length-placed_new}, AfterEntries.{same_back, same_endpoint-exact}}}
 
 pub last_of-push : (rows : List Membership) (membership : Membership) → last_of (rows ++ membership ∷ []) ≡ Some membership.endpoint
 last_of-push [] membership = refl

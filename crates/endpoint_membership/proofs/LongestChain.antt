@@ -1,11 +1,7 @@
 -- The live chain holds the records of the longest unbroken prefix of a pair's renewals.
-use Rattle.std.proofs.Common.{◌≡◌, ℕ, ◌+◌, ◌≤◌, Bool, true, false, cond, ltb, List, [], ◌∷◌, ◌++◌, length, refl, sym, ap, subst, arith, inl, inr}
-use Rattle.std.proofs.lemmas.Bool.{cases_Bool, ltb-true, lt-ltb}
+use Rattle.std.proofs.{Common.{◌≡◌, ℕ, ◌+◌, ◌≤◌, Bool, true, false, cond, ltb, List, [], ◌∷◌, ◌++◌, length, refl, sym, ap, subst, arith, inl, inr}, lemmas.Bool.{cases_Bool, ltb-true, lt-ltb}}
 use Rattle.source_filter.specs.declared.record.Record.{Record}
-use Rattle.endpoint_membership.specs.declared.change.Change.{Change}
-use Rattle.endpoint_membership.specs.Chain.{IsLongestChain, IsUnbroken, Renewal, records_of, renewals}
-use Rattle.endpoint_membership.specs.Log.{concerns, latest, live_chain, records_at}
-use Rattle.endpoint_membership.specs.EndpointGroup.{EndpointGroup}
+use Rattle.endpoint_membership.specs.{declared.change.Change.{Change}, Chain.{IsLongestChain, IsUnbroken, Renewal, records_of, renewals}, Log.{concerns, latest, live_chain, records_at}, EndpointGroup.{EndpointGroup}}
 
 -- the renewals up to the first gap of a lifetime, and those after it
 abbrev prefix_by : ℕ → ℕ → List Renewal → List Renewal

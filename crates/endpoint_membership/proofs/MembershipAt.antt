@@ -1,22 +1,9 @@
 -- The membership of a pair as entries come and time passes.
-use Rattle.std.proofs.Common.{◌≡◌, ℕ, ◌+◌, ◌≤◌, ◌<◌, Bool, true, false, cond, ltb, not, if◌then◌else◌, List, [], ◌∷◌, ◌++◌, reverse, filter, Option, Some, None, refl, sym, ap, ◌∙◌}
-use Rattle.std.proofs.lemmas.Grind.{reverse_onto}
-use Rattle.amt_values.specs.declared.address.Ip.{Ip}
-use Rattle.amt_values.specs.EndpointValue.{EndpointValue}
-use Rattle.source_filter.specs.Filter.{FilterValue, filter_after_all, nothing}
-use Rattle.source_filter.specs.declared.mode.Mode.{Mode}
-use Rattle.source_filter.specs.declared.mode.Mode.TheVariants.{Include, Exclude}
-use Rattle.source_filter.specs.declared.record.Record.{Record}
-use Rattle.endpoint_membership.specs.declared.change.Change.{Change}
-use Rattle.endpoint_membership.specs.declared.change.Change.TheVariants.{Reported, Clear}
-use Rattle.endpoint_membership.specs.Membership.{Membership, is_fresh}
-use Rattle.endpoint_membership.specs.Stored.{only}
-use Rattle.endpoint_membership.specs.Log.{concerns, is_empty, latest, leaving, live_chain, on_group, records_at, renewed_at}
-use Rattle.endpoint_membership.specs.EndpointGroup.{EndpointGroup, same_endpoint}
-use Rattle.endpoint_membership.specs.Memberships.{membership_of, membership_at}
-use Rattle.endpoint_membership.specs.GroupFilter.{filter_of}
-use Rattle.endpoint_membership.proofs.LiveChain.{live_chain-entry, live_chain-later, live_chain-other, renewed_at-entry, renewed_at-other}
-use Rattle.endpoint_membership.proofs.FilterByRecords.{filter_by_records, filter_by_records-append, filter_by_records-is}
+use Rattle.std.proofs.{Common.{◌≡◌, ℕ, ◌+◌, ◌≤◌, ◌<◌, Bool, true, false, cond, ltb, not, if◌then◌else◌, List, [], ◌∷◌, ◌++◌, reverse, filter, Option, Some, None, refl, sym, ap, ◌∙◌}, lemmas.Grind.{reverse_onto}}
+use Rattle.amt_values.specs.{declared.address.Ip.{Ip}, EndpointValue.{EndpointValue}}
+use Rattle.source_filter.specs.{Filter.{FilterValue, filter_after_all, nothing}, declared.mode.Mode.{Mode, TheVariants.{Include, Exclude}}, declared.record.Record.{Record}}
+use Rattle.endpoint_membership.specs.{declared.change.Change.{Change, TheVariants.{Reported, Clear}}, Membership.{Membership, is_fresh}, Stored.{only}, Log.{concerns, is_empty, latest, leaving, live_chain, on_group, records_at, renewed_at}, EndpointGroup.{EndpointGroup, same_endpoint}}
+use Rattle.endpoint_membership.{specs.{Memberships.{membership_of, membership_at}, GroupFilter.{filter_of}}, proofs.{LiveChain.{live_chain-entry, live_chain-later, live_chain-other, renewed_at-entry, renewed_at-other}, FilterByRecords.{filter_by_records, filter_by_records-append, filter_by_records-is}}}
 
 -- the filter of a membership, and of a pair where there is none
 abbrev pub filter_in : Option Membership → FilterValue

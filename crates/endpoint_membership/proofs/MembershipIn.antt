@@ -1,20 +1,8 @@
 -- The membership of a pair in lists of memberships that ascend.
-use Rattle.std.proofs.Common.{◌≡◌, Bool, true, false, cond, List, [], ◌∷◌, ◌++◌, filter, Option, Some, None, unwrap_or, refl, sym, ap, ◌∙◌}
-use Rattle.std.specs.List.{AllByRecursion}
-use Rattle.std.specs.Option.{option_or}
-use Rattle.std.specs.Ordering.{is_eq, ordering_reverse}
-use Rattle.std.specs.declared.cmp.Ordering.{Ordering}
-use Rattle.std.specs.declared.cmp.Ordering.TheVariants.{Less, Equal, Greater}
-use Rattle.std.proofs.lemmas.Cmp.{tied_itself}
-use Rattle.std.proofs.lemmas.List.Folds.{find-append}
-use Rattle.std.proofs.lemmas.Map.Keys.{sorted_head, sorted_tail}
-use Rattle.std.proofs.lemmas.Map.Views.{tells_apart}
+use Rattle.std.proofs.{Common.{◌≡◌, Bool, true, false, cond, List, [], ◌∷◌, ◌++◌, filter, Option, Some, None, unwrap_or, refl, sym, ap, ◌∙◌}, lemmas.{Cmp.{tied_itself}, List.Folds.{find-append}}}
+use Rattle.std.{proofs.lemmas.Map.{Keys.{sorted_head, sorted_tail}, Views.{tells_apart}}, specs.{List.{AllByRecursion}, Option.{option_or}, Ordering.{is_eq, ordering_reverse}, declared.cmp.Ordering.{Ordering, TheVariants.{Less, Equal, Greater}}}}
 use Rattle.amt_values.specs.Ascending.{IsAscending}
-use Rattle.endpoint_membership.specs.Membership.{Membership, membership_order, endpoint_group_of}
-use Rattle.endpoint_membership.specs.Stored.{only}
-use Rattle.endpoint_membership.specs.EndpointGroup.{EndpointGroup, endpoint_group_order, same_endpoint_group}
-use Rattle.endpoint_membership.specs.Memberships.{membership_in}
-use Rattle.endpoint_membership.proofs.EndpointGroupOrder.{membership_order-total, endpoint_group_order-exact, endpoint_group_order-total}
+use Rattle.endpoint_membership.{specs.{Membership.{Membership, membership_order, endpoint_group_of}, Stored.{only}, EndpointGroup.{EndpointGroup, endpoint_group_order, same_endpoint_group}, Memberships.{membership_in}}, proofs.EndpointGroupOrder.{membership_order-total, endpoint_group_order-exact, endpoint_group_order-total}}
 
 -- the pair comes before all of the memberships
 abbrev pub AreAfter : EndpointGroup → List Membership → Type 0

@@ -1,26 +1,9 @@
 -- The list of memberships by the log has exactly the membership of each pair.
-use Rattle.std.proofs.Common.{◌≡◌, ℕ, ◌+◌, Bool, true, false, cond, ltb, not, ◌&&◌, ◌||◌, List, [], ◌∷◌, ◌++◌, reverse, Option, Some, None, unwrap_or, refl, sym, ap, ◌∙◌, inl, inr}
-use Rattle.std.specs.List.{AllByRecursion, cons_option, filter_map}
-use Rattle.std.specs.List.Sorted.{IsStrictlySortedBy}
-use Rattle.std.specs.Option.{option_or}
-use Rattle.std.specs.declared.cmp.Ordering.TheVariants.{Less}
-use Rattle.std.proofs.lemmas.Bool.{cases_Bool}
-use Rattle.amt_values.specs.EndpointValue.{EndpointValue}
-use Rattle.source_filter.specs.Filter.{FilterValue, nothing}
-use Rattle.amt_values.specs.Ascending.{IsAscending, has, ascending}
-use Rattle.source_filter.specs.declared.record.Record.{Record}
-use Rattle.amt_values.proofs.AscendingLaws.{IsAscending-ascending, has-append, has-ascending}
-use Rattle.endpoint_membership.specs.declared.change.Change.{Change}
-use Rattle.endpoint_membership.specs.declared.change.Change.TheVariants.{Reported, Clear, Mark}
-use Rattle.endpoint_membership.specs.Membership.{Membership, membership_order, endpoint_group_of}
-use Rattle.endpoint_membership.specs.Log.{is_empty, latest, leaving, live_chain, on_group, records_at, renewed_at}
-use Rattle.endpoint_membership.specs.EndpointGroup.{EndpointGroup, endpoint_group_order, same_endpoint, same_group, same_endpoint_group}
-use Rattle.endpoint_membership.specs.Memberships.{membership_of, endpoint_groups_in, endpoint_groups_of, membership_in, membership_at, memberships_at}
-use Rattle.endpoint_membership.specs.Table.{AreMembershipsAt}
-use Rattle.endpoint_membership.proofs.MembershipIn.{AreAfter, same_endpoint_group-exact, same_rows}
-use Rattle.endpoint_membership.proofs.EndpointGroupOrder.{endpoint_group_order-total, same_endpoint_group-is}
-use Rattle.endpoint_membership.proofs.MembershipAt.{membership_at-is}
-use Rattle.endpoint_membership.proofs.FilterByRecords.{filter_by_records}
+use Rattle.std.{proofs.{Common.{◌≡◌, ℕ, ◌+◌, Bool, true, false, cond, ltb, not, ◌&&◌, ◌||◌, List, [], ◌∷◌, ◌++◌, reverse, Option, Some, None, unwrap_or, refl, sym, ap, ◌∙◌, inl, inr}, lemmas.Bool.{cases_Bool}}, specs.{List.{AllByRecursion, cons_option, filter_map, Sorted.{IsStrictlySortedBy}}, Option.{option_or}, declared.cmp.Ordering.TheVariants.{Less}}}
+use Rattle.amt_values.{specs.{EndpointValue.{EndpointValue}, Ascending.{IsAscending, has, ascending}}, proofs.AscendingLaws.{IsAscending-ascending, has-append, has-ascending}}
+use Rattle.source_filter.specs.{Filter.{FilterValue, nothing}, declared.record.Record.{Record}}
+use Rattle.endpoint_membership.specs.{declared.change.Change.{Change, TheVariants.{Reported, Clear, Mark}}, Membership.{Membership, membership_order, endpoint_group_of}, Log.{is_empty, latest, leaving, live_chain, on_group, records_at, renewed_at}, EndpointGroup.{EndpointGroup, endpoint_group_order, same_endpoint, same_group, same_endpoint_group}}
+use Rattle.endpoint_membership.{specs.{Memberships.{membership_of, endpoint_groups_in, endpoint_groups_of, membership_in, membership_at, memberships_at}, Table.{AreMembershipsAt}}, proofs.{MembershipIn.{AreAfter, same_endpoint_group-exact, same_rows}, EndpointGroupOrder.{endpoint_group_order-total, same_endpoint_group-is}, MembershipAt.{membership_at-is}, FilterByRecords.{filter_by_records}}}
 
 -- what a function of pairs gives is a membership of the pair
 abbrev pub GivesItsEndpointGroup : (EndpointGroup → Option Membership) → Type 0

@@ -1,33 +1,11 @@
 -- The parts with one membership more, and with one less.
-use Rattle.std.proofs.Common.{◌≡◌, ℕ, ◌+◌, ◌==◌, Bool, true, false, cond, ◌&&◌, List, [], ◌∷◌, map, filter, Option, Some, None, refl, sym, ap, subst, ◌∙◌, arith}
-use Rattle.std.specs.BTreeMap.{BTreeMap, get, insert_entry, is_at}
+use Rattle.std.proofs.{Common.{◌≡◌, ℕ, ◌+◌, ◌==◌, Bool, true, false, cond, ◌&&◌, List, [], ◌∷◌, map, filter, Option, Some, None, refl, sym, ap, subst, ◌∙◌, arith}, lemmas.{Bool.Decides.{nat_tests}, Cmp.{eq_by_cmp_equiv, tied_itself}, Map.Steps.{list_any_congr}}}
+use Rattle.std.specs.{BTreeMap.{BTreeMap, get, insert_entry, is_at}, BTreeSet.{BTreeSet}, Cmp.{IsTotalOrder}, Map.{lookup, remove_entry}, Ordering.{is_eq, match_ordering, nat_cmp, ordering_then}, declared.cmp.Ordering.{Ordering, TheVariants.{Less, Equal, Greater}}}
 use Rattle.std.specs.BTreeSet as sorted
-use Rattle.std.specs.BTreeSet.{BTreeSet}
-use Rattle.std.specs.Cmp.{IsTotalOrder}
-use Rattle.std.specs.Map.{lookup, remove_entry}
-use Rattle.std.specs.Ordering.{is_eq, match_ordering, nat_cmp, ordering_then}
-use Rattle.std.specs.declared.cmp.Ordering.{Ordering}
-use Rattle.std.specs.declared.cmp.Ordering.TheVariants.{Less, Equal, Greater}
-use Rattle.std.proofs.lemmas.Bool.Decides.{nat_tests}
-use Rattle.std.proofs.lemmas.Cmp.{eq_by_cmp_equiv, tied_itself}
-use Rattle.std.proofs.lemmas.Map.Steps.{list_any_congr}
-use Rattle.amt_values.specs.EndpointValue.{EndpointValue}
-use Rattle.amt_values.specs.Order.{endpoint_order}
-use Rattle.amt_values.specs.Ascending.{placed}
-use Rattle.amt_values.proofs.AscendingLaws.{IsAscending-filter}
-use Rattle.endpoint_membership.specs.EndpointGroup.{EndpointGroup, endpoint_group_order, same_endpoint, same_endpoint_group}
-use Rattle.endpoint_membership.specs.Filters.{AreOrdered, FiltersValue, IsSetAt, filter_at}
-use Rattle.endpoint_membership.specs.Limits.{group_count}
-use Rattle.endpoint_membership.specs.Membership.{Membership, membership_order}
-use Rattle.endpoint_membership.specs.Memberships.{membership_in}
-use Rattle.endpoint_membership.specs.Parts.{AreAgreed, HasNumber, is_renewed_at, one_less, one_more, renewal_order, some_unless_zero, stored_membership, stored_memberships}
-use Rattle.endpoint_membership.specs.Stored.{is_not_at, only}
-use Rattle.endpoint_membership.specs.declared.keys.LastRenewal.{LastRenewal}
-use Rattle.endpoint_membership.specs.declared.stored.StoredFilter.{StoredFilter}
-use Rattle.endpoint_membership.proofs.CountedParts.{counted-less, counted-more, group_count-cons}
-use Rattle.endpoint_membership.proofs.EndpointGroupOrder.{endpoint_group_order-total}
-use Rattle.endpoint_membership.proofs.MembershipIn.{membership_in-filter, same_endpoint_group-exact, same_rows}
-use Rattle.endpoint_membership.proofs.StoredView.{IsAscending-stored, membership_in-stored, membership_with}
+use Rattle.amt_values.{specs.{EndpointValue.{EndpointValue}, Order.{endpoint_order}, Ascending.{placed}}, proofs.AscendingLaws.{IsAscending-filter}}
+use Rattle.endpoint_membership.specs.{EndpointGroup.{EndpointGroup, endpoint_group_order, same_endpoint, same_endpoint_group}, Filters.{AreOrdered, FiltersValue, IsSetAt, filter_at}, Limits.{group_count}, Membership.{Membership, membership_order}, Memberships.{membership_in}}
+use Rattle.endpoint_membership.specs.{Parts.{AreAgreed, HasNumber, is_renewed_at, one_less, one_more, renewal_order, some_unless_zero, stored_membership, stored_memberships}, Stored.{is_not_at, only}, declared.{keys.LastRenewal.{LastRenewal}, stored.StoredFilter.{StoredFilter}}}
+use Rattle.endpoint_membership.proofs.{CountedParts.{counted-less, counted-more, group_count-cons}, EndpointGroupOrder.{endpoint_group_order-total}, MembershipIn.{membership_in-filter, same_endpoint_group-exact, same_rows}, StoredView.{IsAscending-stored, membership_in-stored, membership_with}}
 
 abbrev Filters : Type 0
 Filters = FiltersValue

@@ -1,44 +1,12 @@
 -- The filters of an endpoint's memberships, by the memberships in its range.
-use Rattle.std.proofs.Common.{◌≡◌, ℕ, Bor, Bool, true, false, not, cond, ◌&&◌, List, [], ◌∷◌, ◌++◌, map, filter, Option, Some, None, is_some, refl, sym, ap, subst, ◌∙◌, append_assoc, rules}
-use Rattle.std.specs.BTreeMap.Range.{range_contains}
-use Rattle.std.specs.BTreeSet.{BTreeSet, keys_between}
-use Rattle.std.specs.Iterator.{Yields}
-use Rattle.std.specs.List.{AllByRecursion, cons_option}
-use Rattle.std.specs.Map.Iter.{TakesFirst, deref}
-use Rattle.std.specs.Option.{option_or}
-use Rattle.std.specs.Ordering.{is_le}
-use Rattle.std.specs.declared.cmp.Ordering.{Ordering}
-use Rattle.std.specs.declared.ops.Bound.TheVariants.{Included, Unbounded}
-use Rattle.std.proofs.lemmas.Bool.{and_left, and_parts}
-use Rattle.std.proofs.lemmas.Cmp.{eq_by_cmp_equiv}
-use Rattle.std.proofs.lemmas.List.{append-nil}
-use Rattle.std.proofs.lemmas.List.Elements.{filter_map-append}
-use Rattle.std.proofs.lemmas.Map.Iter.{rest_so_far}
-use Rattle.amt_values.specs.declared.address.Ip.{Ip}
-use Rattle.amt_values.specs.declared.address.Ip.TheVariants.{V4, V6}
+use Rattle.std.proofs.{Common.{◌≡◌, ℕ, Bor, Bool, true, false, not, cond, ◌&&◌, List, [], ◌∷◌, ◌++◌, map, filter, Option, Some, None, is_some, refl, sym, ap, subst, ◌∙◌, append_assoc, rules}, lemmas.{Bool.{and_left, and_parts}, Cmp.{eq_by_cmp_equiv}, List.{append-nil, Elements.{filter_map-append}}, Map.Iter.{rest_so_far}}}
+use Rattle.std.specs.{BTreeMap.Range.{range_contains}, BTreeSet.{BTreeSet, keys_between}, Iterator.{Yields}, List.{AllByRecursion, cons_option}, Map.Iter.{TakesFirst, deref}, Option.{option_or}, Ordering.{is_le}, declared.{cmp.Ordering.{Ordering}, ops.Bound.TheVariants.{Included, Unbounded}}}
+use Rattle.amt_values.{specs.{declared.address.Ip.{Ip, TheVariants.{V4, V6}}, Order.{endpoint_order, ip_order}, EndpointValue.{EndpointValue}, Ascending.{IsAscending}}, proofs.{Orders.{endpoint_order-total}, AscendingLaws.{IsAscending-filter}}}
 use Rattle.amt_values.specs.contracts.endpoint.EndpointPartialEq as endpoints
-use Rattle.amt_values.specs.Order.{endpoint_order, ip_order}
-use Rattle.amt_values.specs.EndpointValue.{EndpointValue}
-use Rattle.amt_values.proofs.Orders.{endpoint_order-total}
 use Rattle.source_filter.specs.Filter.{nothing}
-use Rattle.amt_values.specs.Ascending.{IsAscending}
-use Rattle.amt_values.proofs.AscendingLaws.{IsAscending-filter}
-use Rattle.endpoint_membership.specs.EndpointGroup.{EndpointGroup, endpoint_group_order, same_endpoint, same_endpoint_group, same_group}
-use Rattle.endpoint_membership.specs.Filters.{AreOrdered, FiltersValue, pairs_of}
-use Rattle.endpoint_membership.specs.EndpointMemberships.{renewed_filter_of}
-use Rattle.endpoint_membership.specs.Membership.{Membership, endpoint_group_of, is_fresh, membership_order}
-use Rattle.endpoint_membership.specs.Memberships.{membership_in}
-use Rattle.endpoint_membership.specs.Parts.{stored_membership, stored_memberships}
-use Rattle.endpoint_membership.specs.Stored.{only}
-use Rattle.endpoint_membership.specs.declared.after_report.RenewedFilter.{RenewedFilter}
-use Rattle.endpoint_membership.specs.declared.stored.StoredFilter.{StoredFilter}
-use Rattle.endpoint_membership.proofs.AfterEntries.{IsAscending-prefix}
-use Rattle.endpoint_membership.proofs.EndpointGroupOrder.{same_endpoint_group-is}
-use Rattle.endpoint_membership.proofs.FilterMap.{more_found}
-use Rattle.endpoint_membership.proofs.KeptFilters.{each_key}
-use Rattle.endpoint_membership.proofs.KeysTogether.{all_back, find-none, find-wider, in_range-shares, least_number, others, same-ne}
-use Rattle.endpoint_membership.proofs.MembershipIn.{membership_in-append}
-use Rattle.endpoint_membership.proofs.PairsWalked.{GivesItsEndpointGroup-membership_in, has-pairs_of, memberships_of, memberships_of-all, seen-push, seen_memberships}
+use Rattle.endpoint_membership.specs.{EndpointGroup.{EndpointGroup, endpoint_group_order, same_endpoint, same_endpoint_group, same_group}, Filters.{AreOrdered, FiltersValue, pairs_of}, EndpointMemberships.{renewed_filter_of}, Membership.{Membership, endpoint_group_of, is_fresh, membership_order}}
+use Rattle.endpoint_membership.{specs.{Memberships.{membership_in}, Parts.{stored_membership, stored_memberships}, Stored.{only}, declared.{after_report.RenewedFilter.{RenewedFilter}, stored.StoredFilter.{StoredFilter}}}, proofs.{AfterEntries.{IsAscending-prefix}, EndpointGroupOrder.{same_endpoint_group-is}}}
+use Rattle.endpoint_membership.proofs.{FilterMap.{more_found}, KeptFilters.{each_key}, KeysTogether.{all_back, find-none, find-wider, in_range-shares, least_number, others, same-ne}, MembershipIn.{membership_in-append}, PairsWalked.{GivesItsEndpointGroup-membership_in, has-pairs_of, memberships_of, memberships_of-all, seen-push, seen_memberships}}
 
 abbrev pair : EndpointValue → Ip → EndpointGroup
 pair endpoint group = record { endpoint = endpoint; group = group }

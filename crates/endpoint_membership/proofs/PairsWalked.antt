@@ -1,29 +1,10 @@
 -- Memberships that are found one after another, by the pairs of filters in their order.
-use Rattle.std.proofs.Common.{◌≡◌, ℕ, ◌+◌, Bor, Bool, true, false, cond, is_some, List, [], ◌∷◌, ◌++◌, map, filter, Option, Some, None, unwrap_or, if◌then◌else◌, refl, sym, ap, subst, append_assoc, ◌∙◌}
-use Rattle.std.specs.List.{cons_option, filter_map}
-use Rattle.std.specs.BTreeMap.{is_at}
-use Rattle.std.specs.Iterator.{Yields}
-use Rattle.std.specs.Map.Iter.{TakesFirst, deref}
-use Rattle.std.proofs.lemmas.List.{append-nil, map-append}
-use Rattle.std.proofs.lemmas.List.Elements.{filter-append, filter_map-append}
-use Rattle.std.proofs.lemmas.Map.Iter.{rest_so_far}
-use Rattle.std.proofs.lemmas.Map.Made.{is_some-lookup}
-use Rattle.amt_values.specs.EndpointValue.{EndpointValue}
-use Rattle.amt_values.specs.Ascending.{IsAscending, has}
-use Rattle.endpoint_membership.specs.EndpointGroup.{EndpointGroup, endpoint_group_order, same_endpoint_group}
-use Rattle.endpoint_membership.specs.Filters.{AreOrdered, FiltersValue, filter_at, pairs_of}
-use Rattle.endpoint_membership.specs.Limits.{live_count}
-use Rattle.endpoint_membership.specs.Membership.{Membership, endpoint_group_of, membership_order}
-use Rattle.endpoint_membership.specs.Memberships.{membership_in, row_of}
-use Rattle.endpoint_membership.specs.Parts.{stored_memberships}
-use Rattle.endpoint_membership.specs.Stored.{ends_with, last_of, only}
-use Rattle.endpoint_membership.specs.declared.row.Row.{Row}
-use Rattle.endpoint_membership.specs.declared.stored.StoredFilter.{StoredFilter}
-use Rattle.endpoint_membership.proofs.AfterEntries.{IsAscending-prefix}
-use Rattle.endpoint_membership.proofs.LiveEndpoints.{filter-push_yes, last_of-push, more_live}
-use Rattle.endpoint_membership.proofs.MembershipIn.{same_endpoint_group-exact, same_rows}
-use Rattle.endpoint_membership.proofs.MembershipsByLog.{GivesItsEndpointGroup, IsAscending-filter_map, membership_in-filter_map}
-use Rattle.endpoint_membership.proofs.StoredView.{IsAscending-stored, membership_in-stored, membership_with}
+use Rattle.std.proofs.{Common.{◌≡◌, ℕ, ◌+◌, Bor, Bool, true, false, cond, is_some, List, [], ◌∷◌, ◌++◌, map, filter, Option, Some, None, unwrap_or, if◌then◌else◌, refl, sym, ap, subst, append_assoc, ◌∙◌}, lemmas.List.{append-nil, map-append}}
+use Rattle.std.{proofs.lemmas.{List.Elements.{filter-append, filter_map-append}, Map.{Iter.{rest_so_far}, Made.{is_some-lookup}}}, specs.{List.{cons_option, filter_map}, BTreeMap.{is_at}, Iterator.{Yields}, Map.Iter.{TakesFirst, deref}}}
+use Rattle.amt_values.specs.{EndpointValue.{EndpointValue}, Ascending.{IsAscending, has}}
+use Rattle.endpoint_membership.specs.{EndpointGroup.{EndpointGroup, endpoint_group_order, same_endpoint_group}, Filters.{AreOrdered, FiltersValue, filter_at, pairs_of}, Limits.{live_count}, Membership.{Membership, endpoint_group_of, membership_order}}
+use Rattle.endpoint_membership.{specs.{Memberships.{membership_in, row_of}, Parts.{stored_memberships}, Stored.{ends_with, last_of, only}, declared.{row.Row.{Row}, stored.StoredFilter.{StoredFilter}}}, proofs.AfterEntries.{IsAscending-prefix}}
+use Rattle.endpoint_membership.proofs.{LiveEndpoints.{filter-push_yes, last_of-push, more_live}, MembershipIn.{same_endpoint_group-exact, same_rows}, MembershipsByLog.{GivesItsEndpointGroup, IsAscending-filter_map, membership_in-filter_map}, StoredView.{IsAscending-stored, membership_in-stored, membership_with}}
 
 -- the memberships of these pairs
 abbrev pub memberships_of : List Membership → List EndpointGroup → List Membership

@@ -1,23 +1,11 @@
 -- The derived orders of a table's keys are those of the definitions, total, and tell all keys apart.
-use Rattle.std.proofs.Common.{◌≡◌, ℕ, ap, ◌∙◌}
-use Rattle.std.specs.Cmp.{IsTotalOrder, nat_cmp_total}
-use Rattle.std.specs.Ordering.{nat_cmp, on, then_cmp}
-use Rattle.std.specs.declared.cmp.Ordering.{Ordering}
-use Rattle.std.proofs.lemmas.Cmp.{on_total, then_total}
-use Rattle.std.proofs.lemmas.Map.Lookups.{CmpEqualImpliesEq, exact_unsigned}
-use Rattle.amt_values.specs.declared.address.Ip.{Ip}
-use Rattle.amt_values.specs.Order.{endpoint_order}
-use Rattle.amt_values.proofs.Orders.{both_tied, endpoint_order-total, ip_order-total}
+use Rattle.std.{proofs.{Common.{◌≡◌, ℕ, ap, ◌∙◌}, lemmas.{Cmp.{on_total, then_total}, Map.Lookups.{CmpEqualImpliesEq, exact_unsigned}}}, specs.{Cmp.{IsTotalOrder, nat_cmp_total}, Ordering.{nat_cmp, on, then_cmp}, declared.cmp.Ordering.{Ordering}}}
+use Rattle.amt_values.{specs.{declared.address.Ip.{Ip}, Order.{endpoint_order}}, proofs.Orders.{both_tied}}
 use Rattle.source_filter.proofs.Compared.{compared}
-use Rattle.endpoint_membership.specs.EndpointGroup.{EndpointGroup, endpoint_group_order}
-use Rattle.endpoint_membership.specs.Filters.{group_member_order}
-use Rattle.endpoint_membership.specs.Parts.{renewal_order}
+use Rattle.endpoint_membership.{specs.{EndpointGroup.{EndpointGroup, endpoint_group_order}, Filters.{group_member_order}, Parts.{renewal_order}, declared.keys.{GroupMember.{GroupMember}, LastRenewal.{LastRenewal}}}, proofs.EndpointGroupOrder.{endpoint_group_order-exact, endpoint_group_order-total}}
 use Rattle.endpoint_membership.specs.contracts.keys.EndpointGroupOrd as pairs
 use Rattle.endpoint_membership.specs.contracts.keys.GroupMemberOrd as members
 use Rattle.endpoint_membership.specs.contracts.keys.LastRenewalOrd as renewals
-use Rattle.endpoint_membership.specs.declared.keys.GroupMember.{GroupMember}
-use Rattle.endpoint_membership.specs.declared.keys.LastRenewal.{LastRenewal}
-use Rattle.endpoint_membership.proofs.EndpointGroupOrder.{endpoint_group_order-exact, endpoint_group_order-total}
 
 pub pairs_compared : (pairs.TheImpl.ghosts).cmp ≡ endpoint_group_order
 pairs_compared = ap (λ (groups : Ip → Ip → Ordering). then_cmp (on (λ (one : EndpointGroup). one.endpoint) endpoint_order) (on (λ (one : EndpointGroup). one.group) groups)) compared
@@ -30,9 +18,6 @@ members_compared = ap (λ (groups : Ip → Ip → Ordering). then_cmp (on (λ (m
 
 pub renewal_order-total : IsTotalOrder renewal_order
 renewal_order-total = then_total (on_total (λ (renewal : LastRenewal). renewal.renewed) nat_cmp_total) (on_total (λ (renewal : LastRenewal). renewal.at) endpoint_group_order-total)
-
-pub group_member_order-total : IsTotalOrder group_member_order
-group_member_order-total = then_total (on_total (λ (member : GroupMember). member.group) ip_order-total) (on_total (λ (member : GroupMember). member.endpoint) endpoint_order-total)
 
 -- the renewal of the pair at the moment
 abbrev pub renewal_at : ℕ → EndpointGroup → LastRenewal

@@ -1,28 +1,10 @@
 -- The published log tells what the accepted one does.
-use Rattle.std.proofs.Common.{◌≡◌, ℕ, ◌≤◌, ◌<◌, ◌⊎◌, max, zero, suc, not, Bool, true, false, List, [], ◌∷◌, ◌++◌, reverse, take, map, Option, Some, None, refl, sym, ap, subst, ◌∙◌, arith, inl, inr, append-nil}
-use Rattle.std.proofs.lemmas.Bool.{cases_Bool}
-use Rattle.std.proofs.lemmas.List.{append_assoc, reverse-append, reverse-reverse}
-use Rattle.amt_values.specs.declared.address.Ip.{Ip}
-use Rattle.amt_values.specs.declared.address.Ip.TheVariants.{V4}
-use Rattle.amt_values.specs.EndpointValue.{EndpointValue}
-use Rattle.amt_values.proofs.Orders.{endpoint_order-exact, endpoint_order-total}
-use Rattle.amt_values.proofs.AscendingLaws.{same_ascending}
+use Rattle.std.proofs.{Common.{◌≡◌, ℕ, ◌≤◌, ◌<◌, ◌⊎◌, max, zero, suc, not, Bool, true, false, List, [], ◌∷◌, ◌++◌, reverse, take, map, Option, Some, None, refl, sym, ap, subst, ◌∙◌, arith, inl, inr, append-nil}, lemmas.{Bool.{cases_Bool}, List.{append_assoc, reverse-append, reverse-reverse}}}
+use Rattle.amt_values.{specs.{declared.address.Ip.{Ip, TheVariants.{V4}}, EndpointValue.{EndpointValue}}, proofs.{Orders.{endpoint_order-exact, endpoint_order-total}, AscendingLaws.{same_ascending}}}
 use Rattle.source_filter.specs.Filter.{admits}
-use Rattle.endpoint_membership.specs.Admission.{is_admitted}
-use Rattle.endpoint_membership.specs.EndpointGroup.{EndpointGroup}
-use Rattle.endpoint_membership.specs.Log.{brought, latest}
-use Rattle.endpoint_membership.specs.Membership.{Membership}
-use Rattle.endpoint_membership.specs.Memberships.{is_live, membership_at, memberships_at, row_of, rows_of}
-use Rattle.endpoint_membership.specs.Published.{AnswerAlike, ClearingsLetNoTimePass, IsPublishedPart, clears_nothing, published_back, published_of, with_published}
-use Rattle.endpoint_membership.specs.Targets.{targets_of}
-use Rattle.endpoint_membership.specs.declared.change.Change.{Change}
-use Rattle.endpoint_membership.specs.declared.change.Change.TheVariants.{Reported, Clear, Mark}
-use Rattle.endpoint_membership.proofs.Clearings.{AreAlike, alike_all, alike_cleared, at_group, unseen}
-use Rattle.endpoint_membership.proofs.HoldsAfter.{latest-reverse, reverse-push}
-use Rattle.endpoint_membership.proofs.MembershipAt.{filter_in, membership_at-other}
-use Rattle.endpoint_membership.proofs.MembershipsByLog.{AreMembershipsAt-memberships_at, rows_are}
-use Rattle.endpoint_membership.proofs.RowsAdmit.{admits-membership_at}
-use Rattle.endpoint_membership.proofs.TargetsByLog.{IsAscending-targets_of, has-targets_of}
+use Rattle.endpoint_membership.specs.{Admission.{is_admitted}, EndpointGroup.{EndpointGroup}, Log.{brought, latest}, Membership.{Membership}, Memberships.{is_live, membership_at, memberships_at, row_of, rows_of}}
+use Rattle.endpoint_membership.specs.{Published.{AnswerAlike, ClearingsLetNoTimePass, IsPublishedPart, clears_nothing, published_back, published_of, with_published}, Targets.{targets_of}, declared.change.Change.{Change, TheVariants.{Reported, Clear, Mark}}}
+use Rattle.endpoint_membership.proofs.{Clearings.{AreAlike, alike_all, alike_cleared, at_group, unseen}, HoldsAfter.{latest-reverse, reverse-push}, MembershipAt.{filter_in, membership_at-other}, MembershipsByLog.{AreMembershipsAt-memberships_at, rows_are}, RowsAdmit.{admits-membership_at}, TargetsByLog.{IsAscending-targets_of, has-targets_of}}
 
 -- logs turned round in which every pair has the same membership from now on
 abbrev AllAlike : ℕ → List Change → List Change → Type 0

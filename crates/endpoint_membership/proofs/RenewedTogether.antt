@@ -1,19 +1,8 @@
 -- Renewals that go in together, and out again where one is refused.
-use Rattle.std.proofs.Common.{◌≡◌, ℕ, Bool, true, false, cond, not, ◌&&◌, ◌||◌, List, [], ◌∷◌, ◌++◌, take, drop, refl, sym, ap, subst, ◌∙◌}
+use Rattle.std.{proofs.{Common.{◌≡◌, ℕ, Bool, true, false, cond, not, ◌&&◌, ◌||◌, List, [], ◌∷◌, ◌++◌, take, drop, refl, sym, ap, subst, ◌∙◌}, lemmas.{Cmp.{eq_by_cmp_equiv}, List.{take-append-drop, Folds.{list_any-append}}, Map.Views.{tells_apart}}}, specs.{BTreeSet.{BTreeSet}, Ordering.{eq_by_cmp}, declared.cmp.Ordering.{Ordering}}}
 use Rattle.std.specs.BTreeSet as sorted
-use Rattle.std.specs.BTreeSet.{BTreeSet}
-use Rattle.std.specs.Ordering.{eq_by_cmp}
-use Rattle.std.specs.declared.cmp.Ordering.{Ordering}
-use Rattle.std.proofs.lemmas.Cmp.{eq_by_cmp_equiv}
-use Rattle.std.proofs.lemmas.List.{take-append-drop}
-use Rattle.std.proofs.lemmas.List.Folds.{list_any-append}
-use Rattle.std.proofs.lemmas.Map.Views.{tells_apart}
-use Rattle.endpoint_membership.specs.Filters.{FiltersValue}
+use Rattle.endpoint_membership.{specs.{Filters.{FiltersValue}, Membership.{Membership}, Parts.{AreRenewalsOf, is_renewal_in, is_stored, renewal_of, renewal_order}, declared.keys.LastRenewal.{LastRenewal}}, proofs.PartOrders.{renewal_order-exact, renewal_order-total, renewals_compared}}
 use Rattle.endpoint_membership.specs.contracts.keys.LastRenewalOrd as renewals
-use Rattle.endpoint_membership.specs.Membership.{Membership}
-use Rattle.endpoint_membership.specs.Parts.{AreRenewalsOf, is_renewal_in, is_stored, renewal_of, renewal_order}
-use Rattle.endpoint_membership.specs.declared.keys.LastRenewal.{LastRenewal}
-use Rattle.endpoint_membership.proofs.PartOrders.{renewal_order-exact, renewal_order-total, renewals_compared}
 
 -- both say the same
 abbrev pub same_renewal : LastRenewal → LastRenewal → Bool

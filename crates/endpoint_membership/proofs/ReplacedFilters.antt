@@ -1,34 +1,11 @@
 -- Filters that take the place of those of their pairs, one after another, and the renewals that stay.
-use Rattle.std.proofs.Common.{◌≡◌, ◌==◌, ℕ, ◌+◌, Bool, true, false, cond, not, ◌&&◌, ◌||◌, List, [], ◌∷◌, map, Option, Some, None, is_some, option_map, refl, sym, ap, subst, ◌∙◌}
-use Rattle.std.specs.BTreeMap.{BTreeMap, is_at}
+use Rattle.std.proofs.{Common.{◌≡◌, ◌==◌, ℕ, ◌+◌, Bool, true, false, cond, not, ◌&&◌, ◌||◌, List, [], ◌∷◌, map, Option, Some, None, is_some, option_map, refl, sym, ap, subst, ◌∙◌}, lemmas.{Bool.{and_right, eqb-true, ne_eqb}, Cmp.{eq_by_cmp_equiv}, List.Folds.{fold-map}, Map.Keys.{sorted_head}}}
+use Rattle.std.{proofs.lemmas.Map.Made.{is_some-lookup}, specs.{BTreeMap.{BTreeMap, is_at}, BTreeSet.{BTreeSet}, Cmp.{tied_then, unsigned_ties}, List.{AllByRecursion, count_by, list_any, Sorted.{IsStrictlySortedBy}}, Map.{keys_of}, Option.{option_or}, Ordering.{is_eq, nat_cmp}}}
 use Rattle.std.specs.BTreeSet as sorted
-use Rattle.std.specs.BTreeSet.{BTreeSet}
-use Rattle.std.specs.Cmp.{tied_then, unsigned_ties}
-use Rattle.std.specs.List.{AllByRecursion, count_by, list_any}
-use Rattle.std.specs.List.Sorted.{IsStrictlySortedBy}
-use Rattle.std.specs.Map.{keys_of}
-use Rattle.std.specs.Option.{option_or}
-use Rattle.std.specs.Ordering.{is_eq, nat_cmp}
-use Rattle.std.proofs.lemmas.Bool.{and_right, eqb-true, ne_eqb}
-use Rattle.std.proofs.lemmas.Cmp.{eq_by_cmp_equiv}
-use Rattle.std.proofs.lemmas.List.Folds.{fold-map}
-use Rattle.std.proofs.lemmas.Map.Keys.{sorted_head}
-use Rattle.std.proofs.lemmas.Map.Made.{is_some-lookup}
-use Rattle.amt_values.specs.EndpointValue.{EndpointValue}
-use Rattle.amt_values.specs.Ascending.{IsAscending}
-use Rattle.endpoint_membership.specs.EndpointGroup.{EndpointGroup, endpoint_group_order, same_endpoint, same_endpoint_group}
-use Rattle.endpoint_membership.specs.Filters.{FiltersValue, filter_at, pairs_of}
-use Rattle.endpoint_membership.specs.Limits.{group_count}
-use Rattle.endpoint_membership.specs.Membership.{Membership, endpoint_group_of, membership_order}
-use Rattle.endpoint_membership.specs.Memberships.{membership_in}
-use Rattle.endpoint_membership.specs.Parts.{AreAgreed, AreRenewalsOf, is_renewal_in, is_renewed_at, is_stored, renewal_of, renewal_order, some_unless_zero, stored_filter, stored_membership, stored_memberships}
-use Rattle.endpoint_membership.specs.declared.keys.LastRenewal.{LastRenewal}
-use Rattle.endpoint_membership.specs.declared.stored.StoredFilter.{StoredFilter}
-use Rattle.endpoint_membership.proofs.EndpointGroupOrder.{endpoint_group_order-total}
-use Rattle.endpoint_membership.proofs.MembershipIn.{AreAfter, membership_in-after, same_endpoint_group-exact}
-use Rattle.endpoint_membership.proofs.PartOrders.{renewal_at, renewal_order-total}
-use Rattle.endpoint_membership.proofs.RenewedTogether.{same_renewal}
-use Rattle.endpoint_membership.proofs.StoredView.{membership_in-stored, membership_with}
+use Rattle.amt_values.specs.{EndpointValue.{EndpointValue}, Ascending.{IsAscending}}
+use Rattle.endpoint_membership.specs.{EndpointGroup.{EndpointGroup, endpoint_group_order, same_endpoint, same_endpoint_group}, Filters.{FiltersValue, filter_at, pairs_of}, Limits.{group_count}, Membership.{Membership, endpoint_group_of, membership_order}, Memberships.{membership_in}}
+use Rattle.endpoint_membership.specs.{Parts.{AreAgreed, AreRenewalsOf, is_renewal_in, is_renewed_at, is_stored, renewal_of, renewal_order, some_unless_zero, stored_filter, stored_membership, stored_memberships}, declared.{keys.LastRenewal.{LastRenewal}, stored.StoredFilter.{StoredFilter}}}
+use Rattle.endpoint_membership.proofs.{EndpointGroupOrder.{endpoint_group_order-total}, MembershipIn.{AreAfter, membership_in-after, same_endpoint_group-exact}, PartOrders.{renewal_at, renewal_order-total}, RenewedTogether.{same_renewal}, StoredView.{membership_in-stored, membership_with}}
 
 -- after is before with the filter at the pair
 abbrev pub IsPut : FiltersValue → FiltersValue → EndpointGroup → StoredFilter → Type 0

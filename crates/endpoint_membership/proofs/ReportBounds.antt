@@ -1,36 +1,10 @@
 -- What holds of each pair's membership holds of all; and how many sources and groups a report can bring.
-use Rattle.std.proofs.Common.{◌≡◌, ℕ, ◌+◌, ◌≤◌, Bool, true, false, cond, not, ◌&&◌, ◌||◌, List, [], ◌∷◌, ◌++◌, length, map, filter, Option, Some, None, is_some, sum_by, unwrap_or, refl, sym, ap, ◌∙◌, subst, arith, length-append}
-use Rattle.std.specs.List.{AllByRecursion, find}
-use Rattle.std.specs.List.Sorted.{IsStrictlySortedBy}
-use Rattle.std.specs.Ordering.{is_eq}
-use Rattle.std.specs.declared.cmp.Ordering.TheVariants.{Less}
-use Rattle.std.proofs.lemmas.Cmp.{eq_by_cmp_equiv, tied_itself}
-use Rattle.std.proofs.lemmas.List.{length-map}
-use Rattle.std.proofs.lemmas.List.Filters.{length-filter_both, sum_by-filter_both}
-use Rattle.std.proofs.lemmas.List.Sums.{length-filter, sum_by-cons}
-use Rattle.std.proofs.lemmas.Map.Keys.{IsDistinct-from_sorted, sorted_head, sorted_tail}
-use Rattle.std.proofs.lemmas.Map.Made.{length-le_from_is_member}
-use Rattle.std.proofs.lemmas.Map.Views.{tells_apart}
-use Rattle.amt_values.specs.declared.address.Ip.{Ip}
-use Rattle.amt_values.specs.Order.{ip_order}
-use Rattle.amt_values.specs.EndpointValue.{EndpointValue}
-use Rattle.amt_values.proofs.Orders.{ip_order-total, endpoint_order-exact, endpoint_order-total}
-use Rattle.source_filter.specs.Filter.{FilterValue, filter_after, filter_after_all, sources_after}
-use Rattle.amt_values.specs.Ascending.{IsAscending, has, ascending}
-use Rattle.source_filter.specs.declared.mode.Mode.{Mode}
-use Rattle.source_filter.specs.declared.mode.Mode.TheVariants.{Include, Exclude}
-use Rattle.source_filter.specs.declared.record.Record.{Record}
-use Rattle.source_filter.specs.declared.record.RecordKind.{RecordKind}
-use Rattle.source_filter.specs.declared.record.RecordKind.TheVariants.{Allow, Block}
-use Rattle.amt_values.proofs.AscendingLaws.{has-append, length-ascending}
-use Rattle.endpoint_membership.specs.Limits.{group_count}
-use Rattle.endpoint_membership.specs.EndpointMemberships.{AreOf}
-use Rattle.endpoint_membership.specs.Log.{on_group}
-use Rattle.endpoint_membership.specs.EndpointGroup.{EndpointGroup, same_endpoint, same_group, same_endpoint_group}
-use Rattle.endpoint_membership.specs.Membership.{membership_order, endpoint_group_of, Membership}
-use Rattle.endpoint_membership.specs.Memberships.{membership_in}
-use Rattle.endpoint_membership.proofs.MembershipIn.{membership_in-after, same_endpoint_group-exact}
-use Rattle.endpoint_membership.proofs.EndpointGroupOrder.{endpoint_group_order-total, same_endpoint_group-is}
+use Rattle.std.proofs.{Common.{◌≡◌, ℕ, ◌+◌, ◌≤◌, Bool, true, false, cond, not, ◌&&◌, ◌||◌, List, [], ◌∷◌, ◌++◌, length, map, filter, Option, Some, None, is_some, sum_by, unwrap_or, refl, sym, ap, ◌∙◌, subst, arith, length-append}, lemmas.{Cmp.{eq_by_cmp_equiv, tied_itself}, List.{length-map}}}
+use Rattle.std.{proofs.lemmas.{List.{Filters.{length-filter_both, sum_by-filter_both}, Sums.{length-filter, sum_by-cons}}, Map.{Keys.{IsDistinct-from_sorted, sorted_head, sorted_tail}, Made.{length-le_from_is_member}, Views.{tells_apart}}}, specs.{List.{AllByRecursion, find, Sorted.{IsStrictlySortedBy}}, Ordering.{is_eq}, declared.cmp.Ordering.TheVariants.{Less}}}
+use Rattle.amt_values.{specs.{declared.address.Ip.{Ip}, Order.{ip_order}, EndpointValue.{EndpointValue}, Ascending.{IsAscending, has, ascending}}, proofs.{Orders.{ip_order-total, endpoint_order-exact, endpoint_order-total}, AscendingLaws.{has-append, length-ascending}}}
+use Rattle.source_filter.specs.{Filter.{FilterValue, filter_after, filter_after_all, sources_after}, declared.mode.Mode.{Mode, TheVariants.{Include, Exclude}}, declared.record.{Record.{Record}, RecordKind.{RecordKind, TheVariants.{Allow, Block}}}}
+use Rattle.endpoint_membership.specs.{Limits.{group_count}, EndpointMemberships.{AreOf}, Log.{on_group}, EndpointGroup.{EndpointGroup, same_endpoint, same_group, same_endpoint_group}}
+use Rattle.endpoint_membership.{specs.{Membership.{membership_order, endpoint_group_of, Membership}, Memberships.{membership_in}}, proofs.{MembershipIn.{membership_in-after, same_endpoint_group-exact}, EndpointGroupOrder.{endpoint_group_order-total, same_endpoint_group-is}}}
 
 membership_in-first : (membership : Membership) (rest : List Membership) → membership_in (membership ∷ rest) (endpoint_group_of membership) ≡ Some membership
 membership_in-first membership rest = rw (ap is_eq (tied_itself endpoint_group_order-total (endpoint_group_of membership))) refl

@@ -1,40 +1,12 @@
 -- What the memberships of an endpoint after its report may be, whatever log the memberships before stood for.
 use Rattle.std.proofs.Common.{◌≡◌, ℕ, ◌+◌, ◌≤◌, ◌<◌, ◌^◌, Bool, true, false, cond, ◌||◌, if◌then◌else◌, List, [], ◌∷◌, ◌++◌, filter, length, map, Option, Some, None, is_some, sum_by, unwrap_or, inl, inr, true≢false, refl, sym, ap, subst, ◌∙◌, arith}
-use Rattle.std.specs.List.{AllByRecursion, find, list_any}
-use Rattle.std.proofs.lemmas.Bool.{cases_Bool, lt-ltb}
-use Rattle.std.specs.Option.{option_or}
-use Rattle.std.specs.Ordering.{is_eq}
-use Rattle.std.proofs.lemmas.Cmp.{tied_itself}
-use Rattle.std.proofs.lemmas.Map.Views.{tells_apart}
-use Rattle.amt_values.specs.declared.address.Ip.{Ip}
-use Rattle.amt_values.specs.Order.{ip_order}
-use Rattle.amt_values.specs.EndpointValue.{EndpointValue}
-use Rattle.amt_values.proofs.Orders.{endpoint_order-exact, endpoint_order-total}
-use Rattle.source_filter.specs.Filter.{FilterValue}
-use Rattle.source_filter.specs.Record.{item_count}
-use Rattle.amt_values.specs.Ascending.{IsAscending, has}
-use Rattle.source_filter.specs.declared.record.Record.{Record}
-use Rattle.amt_values.proofs.AscendingLaws.{IsAscending-filter}
-use Rattle.endpoint_membership.specs.Membership.{Membership, is_fresh, membership_order, endpoint_group_of}
-use Rattle.endpoint_membership.specs.declared.limits.LimitFault.{LimitFault}
-use Rattle.endpoint_membership.specs.declared.limits.Limits.{Limits}
-use Rattle.endpoint_membership.specs.Stored.{earlier, is_counted, later, only}
-use Rattle.endpoint_membership.specs.Limits.{IsWithin, first_limit, group_count, live_count, size}
-use Rattle.endpoint_membership.specs.EndpointMemberships.{limit_by, AreGone, AreOf, AreOwn, filter_or_nothing, is_over, membership_of_renewed, renewed_filter_after_all, renewed_filter_of}
-use Rattle.endpoint_membership.specs.Log.{is_empty, on_group}
-use Rattle.endpoint_membership.specs.declared.after_report.RenewedFilter.{RenewedFilter}
-use Rattle.endpoint_membership.specs.EndpointGroup.{EndpointGroup, endpoint_group_order, same_endpoint, same_group}
-use Rattle.source_filter.specs.Filter.{wants_any}
-use Rattle.endpoint_membership.specs.Memberships.{membership_in}
-use Rattle.endpoint_membership.specs.Table.{AreLawful}
-use Rattle.endpoint_membership.proofs.ReportBounds.{All-at, All-from_membership_in, few_groups, sources-filter_after_all, sum_by-on_group}
-use Rattle.endpoint_membership.proofs.MembershipsByLog.{membership_by}
-use Rattle.endpoint_membership.proofs.LimitByOwn.{first_limit_is}
-use Rattle.endpoint_membership.proofs.MembershipIn.{membership_in-filter, same_rows}
-use Rattle.endpoint_membership.proofs.ThreeParts.{IsAscending-replaced, is_of, parted}
-use Rattle.endpoint_membership.proofs.AfterReport.{renewed_filter_after_all-is}
-use Rattle.endpoint_membership.proofs.AfterEntries.{membership_in-of, membership_in-others, membership_in-three}
-use Rattle.endpoint_membership.proofs.WithinLimits.{IsWithin-filter, IsWithin-report, its_endpoint_group, on_none}
+use Rattle.std.{proofs.lemmas.{Bool.{cases_Bool, lt-ltb}, Cmp.{tied_itself}, Map.Views.{tells_apart}}, specs.{List.{AllByRecursion, find, list_any}, Option.{option_or}, Ordering.{is_eq}}}
+use Rattle.amt_values.{specs.{declared.address.Ip.{Ip}, Order.{ip_order}, EndpointValue.{EndpointValue}, Ascending.{IsAscending, has}}, proofs.{Orders.{endpoint_order-exact, endpoint_order-total}, AscendingLaws.{IsAscending-filter}}}
+use Rattle.source_filter.specs.{Filter.{FilterValue, wants_any}, Record.{item_count}, declared.record.Record.{Record}}
+use Rattle.endpoint_membership.specs.{Membership.{Membership, is_fresh, membership_order, endpoint_group_of}, declared.{limits.{LimitFault.{LimitFault}, Limits.{Limits}}, after_report.RenewedFilter.{RenewedFilter}}, Stored.{earlier, is_counted, later, only}}
+use Rattle.endpoint_membership.specs.{Limits.{IsWithin, first_limit, group_count, live_count, size}, EndpointMemberships.{limit_by, AreGone, AreOf, AreOwn, filter_or_nothing, is_over, membership_of_renewed, renewed_filter_after_all, renewed_filter_of}, Log.{is_empty, on_group}}
+use Rattle.endpoint_membership.{specs.{EndpointGroup.{EndpointGroup, endpoint_group_order, same_endpoint, same_group}, Memberships.{membership_in}, Table.{AreLawful}}, proofs.ReportBounds.{All-at, All-from_membership_in, few_groups, sources-filter_after_all, sum_by-on_group}}
+use Rattle.endpoint_membership.proofs.{MembershipsByLog.{membership_by}, LimitByOwn.{first_limit_is}, MembershipIn.{membership_in-filter, same_rows}, ThreeParts.{IsAscending-replaced, is_of, parted}, AfterReport.{renewed_filter_after_all-is}, AfterEntries.{membership_in-of, membership_in-others, membership_in-three}, WithinLimits.{IsWithin-filter, IsWithin-report, its_endpoint_group, on_none}}
 
 abbrev endpoint_group : EndpointValue → Ip → EndpointGroup
 endpoint_group endpoint group = record { endpoint = endpoint; group = group }

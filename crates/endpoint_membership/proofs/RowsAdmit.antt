@@ -2,15 +2,7 @@
 use Rattle.std.proofs.Common.{◌≡◌, ℕ, ◌≤◌, max, false, List, reverse, Option, Some, None, sym, ap, ◌∙◌, arith}
 use Rattle.amt_values.specs.declared.address.Ip.{Ip}
 use Rattle.source_filter.specs.Filter.{FilterValue, admits}
-use Rattle.endpoint_membership.specs.declared.change.Change.{Change}
-use Rattle.endpoint_membership.specs.Membership.{Membership}
-use Rattle.endpoint_membership.specs.Admission.{is_admitted}
-use Rattle.endpoint_membership.specs.Log.{latest, live_chain, renewed_at}
-use Rattle.endpoint_membership.specs.EndpointGroup.{EndpointGroup}
-use Rattle.endpoint_membership.specs.Memberships.{membership_at}
-use Rattle.endpoint_membership.specs.GroupFilter.{records_admit}
-use Rattle.endpoint_membership.proofs.MembershipAt.{filter_in, filter_in-membership, membership_at-is}
-use Rattle.endpoint_membership.proofs.FilterByRecords.{admits-filter_by_records, filter_by_records}
+use Rattle.endpoint_membership.{specs.{declared.change.Change.{Change}, Membership.{Membership}, Admission.{is_admitted}, Log.{latest, live_chain, renewed_at}, EndpointGroup.{EndpointGroup}, Memberships.{membership_at}, GroupFilter.{records_admit}}, proofs.{MembershipAt.{filter_in, filter_in-membership, membership_at-is}, FilterByRecords.{admits-filter_by_records, filter_by_records}}}
 
 onward_is : (moment latest_one : ℕ) → latest_one ≤ moment → moment ≡ max moment latest_one
 onward_is moment latest_one onward = omega arith

@@ -1,34 +1,15 @@
 -- Memberships that are set and taken away one after another, by what each pair has afterwards.
-use Rattle.std.proofs.Common.{◌≡◌, Bool, true, false, not, cond, List, [], ◌∷◌, ◌++◌, map, filter, is_some, Option, Some, None, if◌then◌else◌, refl, sym, ap, subst, ◌∙◌, ◌||◌, true≢false}
-use Rattle.std.specs.List.{AllByRecursion}
-use Rattle.std.specs.Option.{option_or}
-use Rattle.std.specs.Ordering.{is_eq, match_ordering, ordering_reverse}
-use Rattle.std.specs.declared.cmp.Ordering.{Ordering}
-use Rattle.std.specs.declared.cmp.Ordering.TheVariants.{Less, Equal, Greater}
-use Rattle.std.proofs.lemmas.Cmp.{eq_by_cmp_equiv, tied_itself}
-use Rattle.std.proofs.lemmas.List.Folds.{list_any-append}
-use Rattle.std.proofs.lemmas.Map.Keys.{sorted_head, sorted_tail}
+use Rattle.std.proofs.{Common.{◌≡◌, Bool, true, false, not, cond, List, [], ◌∷◌, ◌++◌, map, filter, is_some, Option, Some, None, if◌then◌else◌, refl, sym, ap, subst, ◌∙◌, ◌||◌, true≢false}, lemmas.{Cmp.{eq_by_cmp_equiv}, List.Folds.{list_any-append}}}
+use Rattle.std.{proofs.lemmas.Map.Keys.{sorted_head, sorted_tail}, specs.{List.{AllByRecursion}, Option.{option_or}, Ordering.{is_eq, match_ordering, ordering_reverse}, declared.cmp.Ordering.{Ordering, TheVariants.{Less, Equal, Greater}}}}
 use Rattle.amt_values.specs.Ascending.{IsAscending, has, placed}
-use Rattle.endpoint_membership.specs.EndpointGroup.{EndpointGroup, endpoint_group_order, same_endpoint_group}
-use Rattle.endpoint_membership.specs.Membership.{Membership, endpoint_group_of, membership_order}
-use Rattle.endpoint_membership.specs.Memberships.{membership_in}
-use Rattle.endpoint_membership.specs.Stored.{is_known, is_not_at, only}
-use Rattle.endpoint_membership.specs.declared.stored.StoredFilter.{StoredFilter}
-use Rattle.endpoint_membership.proofs.AfterEntries.{IsAscending-prefix, prefix_of}
-use Rattle.endpoint_membership.proofs.EndpointGroupOrder.{endpoint_group_order-total}
-use Rattle.endpoint_membership.proofs.LiveEndpoints.{last_in}
-use Rattle.endpoint_membership.proofs.MembershipIn.{membership_in-append, membership_in-filter, same_endpoint_group-exact, same_rows}
-use Rattle.endpoint_membership.proofs.StoredView.{membership_with}
-use Rattle.endpoint_membership.proofs.WithinLimits.{its_endpoint_group}
+use Rattle.endpoint_membership.specs.{EndpointGroup.{EndpointGroup, endpoint_group_order, same_endpoint_group}, Membership.{Membership, endpoint_group_of, membership_order}, Memberships.{membership_in}, Stored.{is_known, is_not_at, only}, declared.stored.StoredFilter.{StoredFilter}}
+use Rattle.endpoint_membership.proofs.{AfterEntries.{IsAscending-prefix, prefix_of}, EndpointGroupOrder.{endpoint_group_order-total}, LiveEndpoints.{last_in}, MembershipIn.{membership_in-append, membership_in-filter, same_endpoint_group-exact, same_rows}, StoredView.{membership_with}, WithinLimits.{its_endpoint_group}}
 
 some_is_none : (membership : Membership) → Some membership ≡ None → ⊥
 some_is_none membership is = true≢false (ap is_some is)
 
 same_back : (one other : EndpointGroup) → same_endpoint_group one other ≡ same_endpoint_group other one
 same_back one other = (eq_by_cmp_equiv endpoint_group_order-total).symm one other
-
-same_itself : (at : EndpointGroup) → same_endpoint_group at at ≡ true
-same_itself at = ap is_eq (tied_itself endpoint_group_order-total at)
 
 -- the pair of the last of ascending memberships has none before
 pub none_before_last : (rows : List Membership) (last : Membership) → IsAscending membership_order (rows ++ last ∷ []) → membership_in rows (endpoint_group_of last) ≡ None

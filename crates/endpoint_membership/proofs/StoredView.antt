@@ -1,20 +1,7 @@
 -- A map of filters as the list of memberships that it stands for.
-use Rattle.std.proofs.Common.{◌≡◌, Bool, true, false, cond, List, [], ◌∷◌, map, Option, Some, refl, sym, ap}
-use Rattle.std.specs.List.{AllByRecursion}
-use Rattle.std.specs.Map.{keys_of, lookup}
-use Rattle.std.specs.Option.{option_map}
-use Rattle.std.specs.Ordering.{is_eq}
-use Rattle.std.specs.declared.cmp.Ordering.TheVariants.{Less}
-use Rattle.std.proofs.lemmas.Map.Keys.{sorted_head, sorted_tail}
-use Rattle.std.specs.List.Sorted.{IsStrictlySortedBy}
+use Rattle.std.{proofs.{Common.{◌≡◌, Bool, true, false, cond, List, [], ◌∷◌, map, Option, Some, refl, sym, ap}, lemmas.Map.Keys.{sorted_head, sorted_tail}}, specs.{List.{AllByRecursion, Sorted.{IsStrictlySortedBy}}, Map.{keys_of, lookup}, Option.{option_map}, Ordering.{is_eq}, declared.cmp.Ordering.TheVariants.{Less}}}
 use Rattle.amt_values.specs.Ascending.{IsAscending}
-use Rattle.endpoint_membership.specs.EndpointGroup.{EndpointGroup, endpoint_group_order, same_endpoint_group}
-use Rattle.endpoint_membership.specs.Filters.{AreOrdered, FiltersValue, filter_at}
-use Rattle.endpoint_membership.specs.Membership.{Membership, endpoint_group_of, membership_order}
-use Rattle.endpoint_membership.specs.Memberships.{membership_in}
-use Rattle.endpoint_membership.specs.Parts.{stored_membership, stored_memberships}
-use Rattle.endpoint_membership.specs.declared.stored.StoredFilter.{StoredFilter}
-use Rattle.endpoint_membership.proofs.MembershipIn.{same_endpoint_group-exact}
+use Rattle.endpoint_membership.{specs.{EndpointGroup.{EndpointGroup, endpoint_group_order, same_endpoint_group}, Filters.{AreOrdered, FiltersValue, filter_at}, Membership.{Membership, endpoint_group_of, membership_order}, Memberships.{membership_in}, Parts.{stored_membership, stored_memberships}, declared.stored.StoredFilter.{StoredFilter}}, proofs.MembershipIn.{same_endpoint_group-exact}}
 
 -- the membership of the pair with the filter, if there is one
 abbrev pub membership_with : EndpointGroup → Option StoredFilter → Option Membership

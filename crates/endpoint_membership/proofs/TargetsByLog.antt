@@ -1,40 +1,11 @@
 -- The endpoints that want a packet, by the memberships and by the log.
-use Rattle.std.proofs.Common.{◌≡◌, ℕ, ◌≤◌, ◌↔◌, max, Bool, true, false, cond, ◌&&◌, ◌||◌, List, [], ◌∷◌, ◌++◌, reverse, filter, length, Option, Some, None, is_some, Contains, refl, sym, ap, ◌∙◌, arith, inl, inr}
-use Rattle.std.specs.List.{AllByRecursion}
-use Rattle.std.specs.List.Sorted.{IsStrictlySortedBy}
-use Rattle.std.specs.Ordering.{is_eq, ordering_then}
-use Rattle.std.specs.declared.cmp.Ordering.{Ordering}
-use Rattle.std.specs.declared.cmp.Ordering.TheVariants.{Less, Equal, Greater}
-use Rattle.std.proofs.lemmas.Bool.{cases_Bool}
-use Rattle.std.proofs.lemmas.Cmp.{eq_by_cmp_equiv, tied_itself}
-use Rattle.std.proofs.lemmas.List.{reverse-append}
-use Rattle.std.proofs.lemmas.Map.Views.{Contains-from_any, list_any-from_Contains, tells_apart}
-use Rattle.amt_values.specs.declared.address.Ip.{Ip}
-use Rattle.amt_values.specs.Order.{ip_order, endpoint_order}
-use Rattle.amt_values.specs.EndpointValue.{EndpointValue}
-use Rattle.amt_values.proofs.Orders.{ip_order-exact, ip_order-total, endpoint_order-exact, endpoint_order-total}
-use Rattle.source_filter.specs.Filter.{admits}
-use Rattle.amt_values.specs.Ascending.{IsAscending, has, ascending}
-use Rattle.source_filter.specs.declared.record.Record.{Record}
-use Rattle.amt_values.proofs.AscendingLaws.{IsAscending-filter, IsAscending-ascending, has-append, has-filter, has-ascending, ascending-fixed, same_ascending}
-use Rattle.endpoint_membership.specs.declared.change.Change.{Change}
-use Rattle.endpoint_membership.specs.declared.change.Change.TheVariants.{Reported, Clear, Mark}
-use Rattle.endpoint_membership.specs.Membership.{Membership, is_fresh, membership_order, endpoint_group_of}
-use Rattle.endpoint_membership.specs.Admission.{is_admitted}
-use Rattle.endpoint_membership.specs.Stored.{is_target, only, targets_in}
-use Rattle.endpoint_membership.specs.Limits.{live_count}
-use Rattle.endpoint_membership.specs.Log.{latest}
-use Rattle.endpoint_membership.specs.EndpointGroup.{EndpointGroup, endpoint_group_order, same_endpoint, same_group, same_endpoint_group}
-use Rattle.endpoint_membership.specs.Memberships.{endpoint_groups_in, endpoint_groups_of, membership_in, membership_at}
-use Rattle.endpoint_membership.specs.Table.{AreMembershipsAt, Holds, TableValue, TableSettings}
-use Rattle.endpoint_membership.specs.Targets.{endpoints_in, targets_of}
-use Rattle.endpoint_membership.proofs.MembershipsByLog.{GivesItsEndpointGroup-membership_at, bare}
-use Rattle.endpoint_membership.proofs.CountedRows.{live_count-filter}
-use Rattle.endpoint_membership.proofs.LimitByOwn.{endpoints_of}
-use Rattle.endpoint_membership.proofs.MembershipIn.{membership_in-filter}
-use Rattle.endpoint_membership.proofs.EndpointGroupOrder.{same_endpoint_group-is}
-use Rattle.endpoint_membership.proofs.RowsAdmit.{admits-none, admits-row}
-use Rattle.endpoint_membership.proofs.MembershipAt.{membership_at-later}
+use Rattle.std.proofs.{Common.{◌≡◌, ℕ, ◌≤◌, ◌↔◌, max, Bool, true, false, cond, ◌&&◌, ◌||◌, List, [], ◌∷◌, ◌++◌, reverse, filter, length, Option, Some, None, is_some, Contains, refl, sym, ap, ◌∙◌, arith, inl, inr}, lemmas.{Bool.{cases_Bool}, Cmp.{eq_by_cmp_equiv, tied_itself}}}
+use Rattle.std.{proofs.lemmas.{List.{reverse-append}, Map.Views.{Contains-from_any, list_any-from_Contains, tells_apart}}, specs.{List.{AllByRecursion, Sorted.{IsStrictlySortedBy}}, Ordering.{is_eq, ordering_then}, declared.cmp.Ordering.{Ordering, TheVariants.{Less, Equal, Greater}}}}
+use Rattle.amt_values.{specs.{declared.address.Ip.{Ip}, Order.{ip_order, endpoint_order}, EndpointValue.{EndpointValue}, Ascending.{IsAscending, has, ascending}}, proofs.{Orders.{ip_order-exact, ip_order-total, endpoint_order-exact, endpoint_order-total}, AscendingLaws.{IsAscending-filter, IsAscending-ascending, has-append, has-filter, has-ascending, ascending-fixed, same_ascending}}}
+use Rattle.source_filter.specs.{Filter.{admits}, declared.record.Record.{Record}}
+use Rattle.endpoint_membership.specs.{declared.change.Change.{Change, TheVariants.{Reported, Clear, Mark}}, Membership.{Membership, is_fresh, membership_order, endpoint_group_of}, Admission.{is_admitted}, Stored.{is_target, only, targets_in}, Limits.{live_count}, Log.{latest}}
+use Rattle.endpoint_membership.specs.{EndpointGroup.{EndpointGroup, endpoint_group_order, same_endpoint, same_group, same_endpoint_group}, Memberships.{endpoint_groups_in, endpoint_groups_of, membership_in, membership_at}, Table.{AreMembershipsAt, Holds, TableValue, TableSettings}}
+use Rattle.endpoint_membership.{specs.Targets.{endpoints_in, targets_of}, proofs.{MembershipsByLog.{GivesItsEndpointGroup-membership_at, bare}, CountedRows.{live_count-filter}, LimitByOwn.{endpoints_of}, MembershipIn.{membership_in-filter}, EndpointGroupOrder.{same_endpoint_group-is}, RowsAdmit.{admits-none, admits-row}, MembershipAt.{membership_at-later}}}
 
 abbrev at : EndpointValue → Ip → EndpointGroup
 at endpoint group = record { endpoint = endpoint; group = group }

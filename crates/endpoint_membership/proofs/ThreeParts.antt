@@ -1,19 +1,7 @@
 -- Memberships that ascend fall into three parts: of earlier endpoints, of one endpoint, and of later ones.
-use Rattle.std.proofs.Common.{◌≡◌, ℕ, suc, ◌+◌, Bool, List, [], ◌∷◌, ◌++◌, take, drop, filter, refl, sym, ap, subst, ◌∙◌, arith}
-use Rattle.std.specs.Ordering.{is_eq, ordering_reverse, ordering_then}
-use Rattle.std.specs.declared.cmp.Ordering.{Ordering}
-use Rattle.std.specs.declared.cmp.Ordering.TheVariants.{Less, Equal, Greater}
-use Rattle.std.proofs.lemmas.Map.Keys.{sorted_head, sorted_tail}
-use Rattle.amt_values.specs.Order.{ip_order, endpoint_order}
-use Rattle.amt_values.specs.EndpointValue.{EndpointValue}
-use Rattle.amt_values.proofs.Orders.{endpoint_order-exact, endpoint_order-total}
-use Rattle.amt_values.specs.Ascending.{IsAscending}
-use Rattle.endpoint_membership.specs.Membership.{Membership, membership_order, endpoint_group_of}
-use Rattle.endpoint_membership.specs.Stored.{earlier, end_of, later, start_of}
-use Rattle.endpoint_membership.specs.EndpointMemberships.{AreOf}
-use Rattle.endpoint_membership.specs.EndpointGroup.{same_endpoint}
-use Rattle.endpoint_membership.proofs.MembershipIn.{AreAfter}
-use Rattle.endpoint_membership.proofs.AfterEntries.{AreFollowing, IsParted, IsAscending-back, IsAscending-prefix, IsAscending-three}
+use Rattle.std.{proofs.{Common.{◌≡◌, ℕ, suc, ◌+◌, Bool, List, [], ◌∷◌, ◌++◌, take, drop, filter, refl, sym, ap, subst, ◌∙◌, arith}, lemmas.Map.Keys.{sorted_head, sorted_tail}}, specs.{Ordering.{is_eq, ordering_reverse, ordering_then}, declared.cmp.Ordering.{Ordering, TheVariants.{Less, Equal, Greater}}}}
+use Rattle.amt_values.{specs.{Order.{ip_order, endpoint_order}, EndpointValue.{EndpointValue}, Ascending.{IsAscending}}, proofs.Orders.{endpoint_order-exact, endpoint_order-total}}
+use Rattle.endpoint_membership.{specs.{Membership.{Membership, membership_order, endpoint_group_of}, Stored.{earlier, end_of, later, start_of}, EndpointMemberships.{AreOf}, EndpointGroup.{same_endpoint}}, proofs.{MembershipIn.{AreAfter}, AfterEntries.{AreFollowing, IsParted, IsAscending-back, IsAscending-prefix, IsAscending-three}}}
 
 one_more : (n : ℕ) → 1 + n ≡ suc n
 one_more n = omega arith

@@ -1,28 +1,9 @@
 -- When memberships stay within the limits: after a filter, and after a report that passes no limit.
-use Rattle.std.proofs.Common.{◌≡◌, ℕ, ◌≤◌, Bool, true, false, cond, ltb, ◌&&◌, ◌||◌, List, [], ◌∷◌, length, filter, Option, Some, None, refl, sym, ap, ◌∙◌, subst, arith, inl, inr}
-use Rattle.std.specs.List.{AllByRecursion, find, list_any}
-use Rattle.std.proofs.lemmas.Bool.{and_right, cases_Bool, le-ltb, ltb-false}
-use Rattle.std.proofs.lemmas.Cmp.{eq_by_cmp_equiv}
-use Rattle.std.proofs.lemmas.List.Sums.{length-filter}
-use Rattle.std.proofs.lemmas.Map.Views.{tells_apart}
-use Rattle.amt_values.specs.declared.address.Ip.{Ip}
-use Rattle.amt_values.specs.EndpointValue.{EndpointValue}
-use Rattle.amt_values.proofs.Orders.{endpoint_order-exact, endpoint_order-total}
-use Rattle.amt_values.specs.Ascending.{IsAscending}
+use Rattle.std.{proofs.{Common.{◌≡◌, ℕ, ◌≤◌, Bool, true, false, cond, ltb, ◌&&◌, ◌||◌, List, [], ◌∷◌, length, filter, Option, Some, None, refl, sym, ap, ◌∙◌, subst, arith, inl, inr}, lemmas.{Bool.{and_right, cases_Bool, le-ltb, ltb-false}, Cmp.{eq_by_cmp_equiv}, List.Sums.{length-filter}, Map.Views.{tells_apart}}}, specs.List.{AllByRecursion, find, list_any}}
+use Rattle.amt_values.{specs.{declared.address.Ip.{Ip}, EndpointValue.{EndpointValue}, Ascending.{IsAscending}}, proofs.{Orders.{endpoint_order-exact, endpoint_order-total}, AscendingLaws.{IsAscending-filter}}}
 use Rattle.source_filter.specs.declared.record.Record.{Record}
-use Rattle.amt_values.proofs.AscendingLaws.{IsAscending-filter}
-use Rattle.endpoint_membership.specs.Stored.{only}
-use Rattle.endpoint_membership.specs.Limits.{IsWithin, first_limit, group_count, is_too_wide, live_count, size}
-use Rattle.endpoint_membership.specs.EndpointMemberships.{limit_by}
-use Rattle.endpoint_membership.specs.Log.{on_group}
-use Rattle.endpoint_membership.specs.EndpointGroup.{EndpointGroup, same_endpoint, same_group, same_endpoint_group}
-use Rattle.endpoint_membership.specs.Membership.{membership_order, endpoint_group_of, Membership}
-use Rattle.endpoint_membership.specs.Memberships.{membership_in}
-use Rattle.endpoint_membership.specs.declared.limits.Limits.{Limits}
-use Rattle.endpoint_membership.proofs.ReportBounds.{All-at, All-from_membership_in}
-use Rattle.endpoint_membership.proofs.CountedRows.{group_count-filter, live_count-filter}
-use Rattle.endpoint_membership.proofs.LimitOrder.{first_limit-by}
-use Rattle.endpoint_membership.proofs.MembershipIn.{membership_in-filter, same_endpoint_group-exact, same_rows}
+use Rattle.endpoint_membership.specs.{Stored.{only}, Limits.{IsWithin, first_limit, group_count, is_too_wide, live_count, size}, EndpointMemberships.{limit_by}, Log.{on_group}, EndpointGroup.{EndpointGroup, same_endpoint, same_group, same_endpoint_group}, Membership.{membership_order, endpoint_group_of, Membership}}
+use Rattle.endpoint_membership.{specs.{Memberships.{membership_in}, declared.limits.Limits.{Limits}}, proofs.{ReportBounds.{All-at, All-from_membership_in}, CountedRows.{group_count-filter, live_count-filter}, LimitOrder.{first_limit-by}, MembershipIn.{membership_in-filter, same_endpoint_group-exact, same_rows}}}
 
 membership_all : (P : Membership → Type 0) (passes : Bool) (membership : Membership) (some : List Membership) → P membership → AllByRecursion P some → AllByRecursion P (cond passes (membership ∷ some) some)
 membership_all P true membership some here rest = (here, rest)

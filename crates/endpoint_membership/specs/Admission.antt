@@ -1,16 +1,9 @@
 -- Which sources a tunnel endpoint wants of a group, by the log alone and by rows, and where it has no
 -- membership.
-use Rattle.std.specs.Prelude.{◌≡◌, ℕ, max, ◌&&◌, Bool, List, reverse, None}
-use Rattle.std.specs.List.{list_any}
-use Rattle.amt_values.specs.declared.address.Ip.{Ip}
-use Rattle.amt_values.specs.EndpointValue.{EndpointValue}
+use Rattle.std.specs.{Prelude.{◌≡◌, ℕ, max, ◌&&◌, Bool, List, reverse, None}, List.{list_any}}
+use Rattle.amt_values.specs.{declared.address.Ip.{Ip}, EndpointValue.{EndpointValue}}
 use Rattle.source_filter.specs.Filter.{admits}
-use Rattle.endpoint_membership.specs.Log.{latest, live_chain}
-use Rattle.endpoint_membership.specs.EndpointGroup.{EndpointGroup, same_endpoint, same_group}
-use Rattle.endpoint_membership.specs.Memberships.{membership_at}
-use Rattle.endpoint_membership.specs.GroupFilter.{records_admit}
-use Rattle.endpoint_membership.specs.declared.change.Change.{Change}
-use Rattle.endpoint_membership.specs.declared.row.Row.{Row}
+use Rattle.endpoint_membership.specs.{Log.{latest, live_chain}, EndpointGroup.{EndpointGroup, same_endpoint, same_group}, Memberships.{membership_at}, GroupFilter.{records_admit}, declared.{change.Change.{Change}, row.Row.{Row}}}
 
 -- The newest record that still counts and applies to the source wants it (RFC 3376, section 4.2.12). The
 -- log stands oldest first, and no moment is before its latest one.

@@ -2,9 +2,7 @@
 -- round: its newest entry stands first.
 use Rattle.std.specs.Prelude.{◌≡◌, ℕ, ◌+◌, ◌≤◌, ◌<◌, List, [], ◌∷◌, ◌++◌, length, if◌then◌else◌}
 use Rattle.source_filter.specs.declared.record.Record.{Record}
-use Rattle.endpoint_membership.specs.Log.{concerns, latest, records_at}
-use Rattle.endpoint_membership.specs.EndpointGroup.{EndpointGroup}
-use Rattle.endpoint_membership.specs.declared.change.Change.{Change}
+use Rattle.endpoint_membership.specs.{Log.{concerns, latest, records_at}, EndpointGroup.{EndpointGroup}, declared.change.Change.{Change}}
 
 -- an entry that renews the membership of a pair: its moment, and its records on the pair, newest first
 pub record Renewal : Type 0 where

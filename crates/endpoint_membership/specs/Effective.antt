@@ -1,13 +1,8 @@
 -- Records of a report that others of it leave without effect. No public contract says these words.
-use Rattle.std.specs.Prelude.{◌≡◌, ℕ, true, List, Option, map}
-use Rattle.std.specs.Borrow.{Bor}
-use Rattle.std.specs.BTreeSet.{BTreeSet, contains}
-use Rattle.amt_values.specs.declared.address.Ip.{Ip}
-use Rattle.amt_values.specs.Order.{ip_order}
+use Rattle.std.specs.{Prelude.{◌≡◌, ℕ, true, List, Option, map}, Borrow.{Bor}, BTreeSet.{BTreeSet, contains}}
+use Rattle.amt_values.specs.{declared.address.Ip.{Ip}, Order.{ip_order}}
 use Rattle.source_filter.specs.declared.record.Record.{Record}
-use Rattle.endpoint_membership.specs.EndpointMemberships.{renewed_filter_after_all}
-use Rattle.endpoint_membership.specs.Log.{on_group}
-use Rattle.endpoint_membership.specs.declared.after_report.RenewedFilter.{RenewedFilter}
+use Rattle.endpoint_membership.specs.{EndpointMemberships.{renewed_filter_after_all}, Log.{on_group}, declared.after_report.RenewedFilter.{RenewedFilter}}
 
 -- what is borrowed
 abbrev pub lent : List (Bor Record) → List Record

@@ -1,11 +1,7 @@
 -- An endpoint and a group, a pair in comments: for each pair the log says whether the endpoint has a
 -- membership in the group.
-use Rattle.std.specs.Prelude.{Bool}
-use Rattle.std.specs.Ordering.{on, then_cmp, eq_by_cmp}
-use Rattle.std.specs.declared.cmp.Ordering.{Ordering}
-use Rattle.amt_values.specs.declared.address.Ip.{Ip}
-use Rattle.amt_values.specs.Order.{ip_order, endpoint_order}
-use Rattle.amt_values.specs.EndpointValue.{EndpointValue}
+use Rattle.std.specs.{Prelude.{Bool}, Ordering.{on, then_cmp, eq_by_cmp}, declared.cmp.Ordering.{Ordering}}
+use Rattle.amt_values.specs.{declared.address.Ip.{Ip}, Order.{ip_order, endpoint_order}, EndpointValue.{EndpointValue}}
 
 -- a tunnel endpoint and a group that it may be a member of
 pub record EndpointGroup : Type 0 where

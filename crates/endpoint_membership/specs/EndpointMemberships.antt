@@ -1,24 +1,10 @@
 -- The memberships of one endpoint after its report, as a table finds them. No public contract says
 -- these words.
-use Rattle.std.specs.Prelude.{◌≡◌, ℕ, Bool, true, false, List, [], ◌∷◌, Option, Some, None, ◌&&◌, length, nat_lt, if◌then◌else◌}
-use Rattle.std.specs.List.{AllByRecursion, list_any}
-use Rattle.std.specs.Option.{option_map}
-use Rattle.amt_values.specs.declared.address.Ip.{Ip}
-use Rattle.amt_values.specs.EndpointValue.{EndpointValue}
-use Rattle.amt_values.specs.Ascending.{IsAscending, has}
-use Rattle.amt_values.specs.Conditions.{first_holding, first_of}
-use Rattle.source_filter.specs.Filter.{FilterValue, filter_after, nothing, wants_any}
-use Rattle.source_filter.specs.declared.record.Record.{Record}
-use Rattle.endpoint_membership.specs.EndpointGroup.{EndpointGroup, endpoint_group_order, same_endpoint, same_group}
-use Rattle.endpoint_membership.specs.Limits.{count_conditions, size}
-use Rattle.endpoint_membership.specs.Log.{on_group}
-use Rattle.endpoint_membership.specs.Membership.{Membership, is_fresh, membership_order}
-use Rattle.endpoint_membership.specs.Memberships.{membership_in, membership_of}
-use Rattle.endpoint_membership.specs.Stored.{only}
-use Rattle.endpoint_membership.specs.declared.after_report.RenewedFilter.{RenewedFilter}
-use Rattle.endpoint_membership.specs.declared.limits.LimitFault.{LimitFault}
-use Rattle.endpoint_membership.specs.declared.limits.LimitFault.TheVariants.{Sources}
-use Rattle.endpoint_membership.specs.declared.limits.Limits.{Limits}
+use Rattle.std.specs.{Prelude.{◌≡◌, ℕ, Bool, true, false, List, [], ◌∷◌, Option, Some, None, ◌&&◌, length, nat_lt, if◌then◌else◌}, List.{AllByRecursion, list_any}, Option.{option_map}}
+use Rattle.amt_values.specs.{declared.address.Ip.{Ip}, EndpointValue.{EndpointValue}, Ascending.{IsAscending, has}, Conditions.{first_holding, first_of}}
+use Rattle.source_filter.specs.{Filter.{FilterValue, filter_after, nothing, wants_any}, declared.record.Record.{Record}}
+use Rattle.endpoint_membership.specs.{EndpointGroup.{EndpointGroup, endpoint_group_order, same_endpoint, same_group}, Limits.{count_conditions, size}, Log.{on_group}, Membership.{Membership, is_fresh, membership_order}}
+use Rattle.endpoint_membership.specs.{Memberships.{membership_in, membership_of}, Stored.{only}, declared.{after_report.RenewedFilter.{RenewedFilter}, limits.{LimitFault.{LimitFault, TheVariants.{Sources}}, Limits.{Limits}}}}
 
 -- a membership of the endpoint that counts at the moment
 abbrev pub is_own : ℕ → ℕ → EndpointValue → Membership → Bool

@@ -1,19 +1,9 @@
 -- The filters of a table, kept by group, as a map by endpoint and group. No public contract says these
 -- words.
-use Rattle.std.specs.Prelude.{◌≡◌, List, is_some, Option, if◌then◌else◌}
-use Rattle.std.specs.BTreeMap.{BTreeMap, get, is_at}
+use Rattle.std.specs.{Prelude.{◌≡◌, List, is_some, Option, if◌then◌else◌}, BTreeMap.{BTreeMap, get, is_at}, BTreeSet.{BTreeSet}, List.{filter_map, Sorted.{IsStrictlySortedBy}}, Map.{keys_of, lookup}, Option.{option_map}, Ordering.{on, then_cmp}, declared.cmp.Ordering.{Ordering}}
 use Rattle.std.specs.BTreeSet as sorted
-use Rattle.std.specs.BTreeSet.{BTreeSet}
-use Rattle.std.specs.List.{filter_map}
-use Rattle.std.specs.List.Sorted.{IsStrictlySortedBy}
-use Rattle.std.specs.Map.{keys_of, lookup}
-use Rattle.std.specs.Option.{option_map}
-use Rattle.std.specs.Ordering.{on, then_cmp}
-use Rattle.std.specs.declared.cmp.Ordering.{Ordering}
 use Rattle.amt_values.specs.Order.{ip_order, endpoint_order}
-use Rattle.endpoint_membership.specs.EndpointGroup.{EndpointGroup, endpoint_group_order, same_endpoint_group}
-use Rattle.endpoint_membership.specs.declared.keys.GroupMember.{GroupMember}
-use Rattle.endpoint_membership.specs.declared.stored.StoredFilter.{StoredFilter}
+use Rattle.endpoint_membership.specs.{EndpointGroup.{EndpointGroup, endpoint_group_order, same_endpoint_group}, declared.{keys.GroupMember.{GroupMember}, stored.StoredFilter.{StoredFilter}}}
 
 -- what contracts see of filters: each with its pair, by endpoint and then by group
 pub record FiltersValue : Type 0 where

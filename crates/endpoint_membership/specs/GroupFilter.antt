@@ -1,15 +1,9 @@
 -- What records make of a group's filter. No filter is in these definitions: each record speaks for
 -- itself, and for each source the newest record that applies to it counts. Lists of records stand
 -- newest first.
-use Rattle.std.specs.Prelude.{Bool, true, false, not, List, [], ◌∷◌, ◌++◌, if◌then◌else◌}
-use Rattle.std.specs.List.{filter}
+use Rattle.std.specs.{Prelude.{Bool, true, false, not, List, [], ◌∷◌, ◌++◌, if◌then◌else◌}, List.{filter}}
 use Rattle.amt_values.specs.declared.address.Ip.{Ip}
-use Rattle.source_filter.specs.Filter.{FilterValue, ascending_sources}
-use Rattle.source_filter.specs.Record.{is_full, speaks, says}
-use Rattle.source_filter.specs.declared.mode.Mode.TheVariants.{Include, Exclude}
-use Rattle.source_filter.specs.declared.record.Record.{Record}
-use Rattle.source_filter.specs.declared.record.RecordKind.{RecordKind}
-use Rattle.source_filter.specs.declared.record.RecordKind.TheVariants.{IsIn, IsEx, ToIn, ToEx, Allow, Block}
+use Rattle.source_filter.specs.{Filter.{FilterValue, ascending_sources}, Record.{is_full, speaks, says}, declared.mode.Mode.TheVariants.{Include, Exclude}, declared.record.{Record.{Record}, RecordKind.{RecordKind, TheVariants.{IsIn, IsEx, ToIn, ToEx, Allow, Block}}}}
 
 -- what the newest record that applies to the source says (RFC 3376, section 4.2.12), and no where
 -- none applies

@@ -1,17 +1,9 @@
 -- The limits of a membership table: each keeps hosts from claiming the relay's memory.
 use Rattle.std.specs.Prelude.{ℕ, ◌*◌, ◌≤◌, nat_lt, Bool, List, [], ◌∷◌, ◌++◌, length, map, sum_by, Option, ◌&&◌}
 use Rattle.std.specs.List.{list_any, count_by, AllByRecursion}
-use Rattle.amt_values.specs.Order.{endpoint_order}
-use Rattle.amt_values.specs.EndpointValue.{EndpointValue}
-use Rattle.amt_values.specs.Ascending.{ascending}
-use Rattle.amt_values.specs.Conditions.{Conditions, first_holding}
+use Rattle.amt_values.specs.{Order.{endpoint_order}, EndpointValue.{EndpointValue}, Ascending.{ascending}, Conditions.{Conditions, first_holding}}
 use Rattle.source_filter.specs.declared.record.Record.{Record}
-use Rattle.endpoint_membership.specs.EndpointGroup.{same_endpoint, same_group}
-use Rattle.endpoint_membership.specs.Membership.{Membership}
-use Rattle.endpoint_membership.specs.declared.limits.LimitFault.{LimitFault}
-use Rattle.endpoint_membership.specs.declared.limits.LimitFault.TheVariants.{Sources, Groups, Endpoints}
-use Rattle.endpoint_membership.specs.declared.limits.Limits.{Limits}
-use Rattle.endpoint_membership.specs.declared.row.Row.{Row}
+use Rattle.endpoint_membership.specs.{EndpointGroup.{same_endpoint, same_group}, Membership.{Membership}, declared.{limits.{LimitFault.{LimitFault, TheVariants.{Sources, Groups, Endpoints}}, Limits.{Limits}}, row.Row.{Row}}}
 
 -- the number of groups of the endpoint
 abbrev pub group_count : EndpointValue → List Membership → ℕ

@@ -2,14 +2,10 @@
 --
 -- A log stands oldest first. What is said here by recursion reads it from its newest entry, so its
 -- list is the log turned round.
-use Rattle.std.specs.Prelude.{ℕ, ◌+◌, max, nat_lt, not, Bool, true, false, List, [], ◌∷◌, ◌++◌, reverse, if◌then◌else◌}
-use Rattle.std.specs.List.{filter}
+use Rattle.std.specs.{Prelude.{ℕ, ◌+◌, max, nat_lt, not, Bool, true, false, List, [], ◌∷◌, ◌++◌, reverse, if◌then◌else◌}, List.{filter}}
 use Rattle.amt_values.specs.declared.address.Ip.{Ip}
-use Rattle.source_filter.specs.declared.record.Record.{Record}
-use Rattle.source_filter.specs.declared.record.RecordKind.TheVariants.{ToIn}
-use Rattle.endpoint_membership.specs.EndpointGroup.{EndpointGroup, same_endpoint, same_group}
-use Rattle.endpoint_membership.specs.declared.change.Change.{Change}
-use Rattle.endpoint_membership.specs.declared.change.Change.TheVariants.{Reported, Clear, Mark}
+use Rattle.source_filter.specs.declared.record.{Record.{Record}, RecordKind.TheVariants.{ToIn}}
+use Rattle.endpoint_membership.specs.{EndpointGroup.{EndpointGroup, same_endpoint, same_group}, declared.change.Change.{Change, TheVariants.{Reported, Clear, Mark}}}
 
 -- the moment that an entry brings
 abbrev pub brought : Change → ℕ

@@ -1,9 +1,6 @@
 -- The membership of a tunnel endpoint in a group.
-use Rattle.std.specs.Prelude.{ℕ, ◌+◌, nat_lt, Bool}
-use Rattle.std.specs.Ordering.{on}
-use Rattle.std.specs.declared.cmp.Ordering.{Ordering}
-use Rattle.amt_values.specs.declared.address.Ip.{Ip}
-use Rattle.amt_values.specs.EndpointValue.{EndpointValue}
+use Rattle.std.specs.{Prelude.{ℕ, ◌+◌, nat_lt, Bool}, Ordering.{on}, declared.cmp.Ordering.{Ordering}}
+use Rattle.amt_values.specs.{declared.address.Ip.{Ip}, EndpointValue.{EndpointValue}}
 use Rattle.source_filter.specs.Filter.{FilterValue}
 use Rattle.endpoint_membership.specs.EndpointGroup.{EndpointGroup, endpoint_group_order}
 

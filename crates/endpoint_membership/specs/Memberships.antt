@@ -1,17 +1,8 @@
 -- Which memberships there are, by the log alone.
-use Rattle.std.specs.Prelude.{ℕ, Bool, List, [], ◌∷◌, ◌++◌, reverse, map, Option, Some, None, if◌then◌else◌}
-use Rattle.std.specs.List.{filter_map, find, list_any}
-use Rattle.amt_values.specs.EndpointValue.{EndpointValue}
-use Rattle.amt_values.specs.Ascending.{ascending}
-use Rattle.source_filter.specs.Filter.{FilterValue, wants_any}
-use Rattle.source_filter.specs.declared.record.Record.{Record}
-use Rattle.endpoint_membership.specs.EndpointGroup.{EndpointGroup, endpoint_group_order, same_endpoint, same_endpoint_group}
-use Rattle.endpoint_membership.specs.GroupFilter.{filter_of}
-use Rattle.endpoint_membership.specs.Log.{live_chain, renewed_at}
-use Rattle.endpoint_membership.specs.Membership.{Membership, endpoint_group_of}
-use Rattle.endpoint_membership.specs.declared.change.Change.{Change}
-use Rattle.endpoint_membership.specs.declared.change.Change.TheVariants.{Reported, Clear, Mark}
-use Rattle.endpoint_membership.specs.declared.row.Row.{Row}
+use Rattle.std.specs.{Prelude.{ℕ, Bool, List, [], ◌∷◌, ◌++◌, reverse, map, Option, Some, None, if◌then◌else◌}, List.{filter_map, find, list_any}}
+use Rattle.amt_values.specs.{EndpointValue.{EndpointValue}, Ascending.{ascending}}
+use Rattle.source_filter.specs.{Filter.{FilterValue, wants_any}, declared.record.Record.{Record}}
+use Rattle.endpoint_membership.specs.{EndpointGroup.{EndpointGroup, endpoint_group_order, same_endpoint, same_endpoint_group}, GroupFilter.{filter_of}, Log.{live_chain, renewed_at}, Membership.{Membership, endpoint_group_of}, declared.{change.Change.{Change, TheVariants.{Reported, Clear, Mark}}, row.Row.{Row}}}
 
 -- the membership with this filter, where something is wanted
 abbrev pub membership_of : EndpointGroup → FilterValue → ℕ → Option Membership

@@ -1,20 +1,9 @@
 -- The parts in which a table stores its memberships, and that they agree. No public contract
 -- says these words.
-use Rattle.std.specs.Prelude.{◌≡◌, ℕ, ◌+◌, ◌-◌, zero, suc, ◌==◌, if◌then◌else◌, Bool, false, ◌||◌, List, map, Option, Some, None}
-use Rattle.std.specs.BTreeMap.{BTreeMap, get}
+use Rattle.std.specs.{Prelude.{◌≡◌, ℕ, ◌+◌, ◌-◌, zero, suc, ◌==◌, if◌then◌else◌, Bool, false, ◌||◌, List, map, Option, Some, None}, BTreeMap.{BTreeMap, get}, BTreeSet.{BTreeSet}, List.{list_any}, Ordering.{eq_by_cmp, nat_cmp, on, then_cmp}, declared.cmp.Ordering.{Ordering}}
 use Rattle.std.specs.BTreeSet as sorted
-use Rattle.std.specs.BTreeSet.{BTreeSet}
-use Rattle.std.specs.List.{list_any}
-use Rattle.std.specs.Ordering.{eq_by_cmp, nat_cmp, on, then_cmp}
-use Rattle.std.specs.declared.cmp.Ordering.{Ordering}
-use Rattle.amt_values.specs.EndpointValue.{EndpointValue}
-use Rattle.amt_values.specs.Order.{endpoint_order}
-use Rattle.endpoint_membership.specs.EndpointGroup.{EndpointGroup, endpoint_group_order, same_endpoint}
-use Rattle.endpoint_membership.specs.Filters.{AreOrdered, FiltersValue, filter_at}
-use Rattle.endpoint_membership.specs.Limits.{group_count}
-use Rattle.endpoint_membership.specs.Membership.{Membership, endpoint_group_of}
-use Rattle.endpoint_membership.specs.declared.keys.LastRenewal.{LastRenewal}
-use Rattle.endpoint_membership.specs.declared.stored.StoredFilter.{StoredFilter}
+use Rattle.amt_values.specs.{EndpointValue.{EndpointValue}, Order.{endpoint_order}}
+use Rattle.endpoint_membership.specs.{EndpointGroup.{EndpointGroup, endpoint_group_order, same_endpoint}, Filters.{AreOrdered, FiltersValue, filter_at}, Limits.{group_count}, Membership.{Membership, endpoint_group_of}, declared.{keys.LastRenewal.{LastRenewal}, stored.StoredFilter.{StoredFilter}}}
 
 -- by moment, then endpoint and group
 abbrev pub renewal_order : LastRenewal → LastRenewal → Ordering

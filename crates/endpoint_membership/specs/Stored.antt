@@ -1,16 +1,9 @@
 -- The memberships of a table as the ascending list that its calls are proved by. No public contract says
 -- these words.
-use Rattle.std.specs.Prelude.{ℕ, not, Bool, false, ◌&&◌, List, [], ◌∷◌, map, take, drop, is_some, Option, Some, None, if◌then◌else◌}
-use Rattle.std.specs.List.{filter, prefix_len}
-use Rattle.std.specs.Option.{option_or}
-use Rattle.std.specs.Ordering.{is_lt}
-use Rattle.amt_values.specs.declared.address.Ip.{Ip}
-use Rattle.amt_values.specs.Order.{endpoint_order}
-use Rattle.amt_values.specs.EndpointValue.{EndpointValue}
+use Rattle.std.specs.{Prelude.{ℕ, not, Bool, false, ◌&&◌, List, [], ◌∷◌, map, take, drop, is_some, Option, Some, None, if◌then◌else◌}, List.{filter, prefix_len}, Option.{option_or}, Ordering.{is_lt}}
+use Rattle.amt_values.specs.{declared.address.Ip.{Ip}, Order.{endpoint_order}, EndpointValue.{EndpointValue}}
 use Rattle.source_filter.specs.Filter.{admits}
-use Rattle.endpoint_membership.specs.EndpointGroup.{EndpointGroup, same_endpoint, same_endpoint_group, same_group}
-use Rattle.endpoint_membership.specs.Membership.{Membership, endpoint_group_of, is_fresh}
-use Rattle.endpoint_membership.specs.Memberships.{membership_in}
+use Rattle.endpoint_membership.specs.{EndpointGroup.{EndpointGroup, same_endpoint, same_endpoint_group, same_group}, Membership.{Membership, endpoint_group_of, is_fresh}, Memberships.{membership_in}}
 
 -- a membership where it passes the test
 abbrev pub only : (Membership → Bool) → Option Membership → Option Membership

@@ -1,19 +1,8 @@
 -- What a membership table stands for.
 use Rattle.std.specs.Prelude.{◌≡◌, ℕ, ◌≤◌, ◌++◌, ◌∷◌, [], List, Option, Result, Ok, Err, reverse}
-use Rattle.amt_values.specs.EndpointValue.{EndpointValue}
-use Rattle.amt_values.specs.Ascending.{IsAscending}
+use Rattle.amt_values.specs.{EndpointValue.{EndpointValue}, Ascending.{IsAscending}}
 use Rattle.source_filter.specs.declared.record.Record.{Record}
-use Rattle.endpoint_membership.specs.EndpointGroup.{EndpointGroup}
-use Rattle.endpoint_membership.specs.Limits.{IsWithin, first_limit}
-use Rattle.endpoint_membership.specs.Log.{latest}
-use Rattle.endpoint_membership.specs.Membership.{Membership, membership_order}
-use Rattle.endpoint_membership.specs.Memberships.{membership_at, membership_in, memberships_at}
-use Rattle.endpoint_membership.specs.declared.change.Change.{Change}
-use Rattle.endpoint_membership.specs.declared.change.Change.TheVariants.{Reported}
-use Rattle.endpoint_membership.specs.declared.limits.AcceptFault.{AcceptFault}
-use Rattle.endpoint_membership.specs.declared.limits.AcceptFault.TheVariants.{Limit, Memory}
-use Rattle.endpoint_membership.specs.declared.limits.LimitFault.{LimitFault}
-use Rattle.endpoint_membership.specs.declared.limits.Limits.{Limits}
+use Rattle.endpoint_membership.specs.{EndpointGroup.{EndpointGroup}, Limits.{IsWithin, first_limit}, Log.{latest}, Membership.{Membership, membership_order}, Memberships.{membership_at, membership_in, memberships_at}, declared.{change.Change.{Change, TheVariants.{Reported}}, limits.{AcceptFault.{AcceptFault, TheVariants.{Limit, Memory}}, LimitFault.{LimitFault}, Limits.{Limits}}}}
 
 -- what contracts see of a table: the moment, the memberships, and how it was made
 pub record TableValue : Type 0 where

@@ -1,13 +1,7 @@
 -- Which tunnel endpoints get a copy of a packet, by the log alone (RFC 7450, section 5.3.3).
-use Rattle.std.specs.Prelude.{ℕ, List, [], ◌∷◌}
-use Rattle.std.specs.List.{filter}
-use Rattle.amt_values.specs.declared.address.Ip.{Ip}
-use Rattle.amt_values.specs.Order.{endpoint_order}
-use Rattle.amt_values.specs.EndpointValue.{EndpointValue}
-use Rattle.amt_values.specs.Ascending.{ascending}
-use Rattle.endpoint_membership.specs.Admission.{is_admitted}
-use Rattle.endpoint_membership.specs.declared.change.Change.{Change}
-use Rattle.endpoint_membership.specs.declared.change.Change.TheVariants.{Reported, Clear, Mark}
+use Rattle.std.specs.{Prelude.{ℕ, List, [], ◌∷◌}, List.{filter}}
+use Rattle.amt_values.specs.{declared.address.Ip.{Ip}, Order.{endpoint_order}, EndpointValue.{EndpointValue}, Ascending.{ascending}}
+use Rattle.endpoint_membership.specs.{Admission.{is_admitted}, declared.change.Change.{Change, TheVariants.{Reported, Clear, Mark}}}
 
 -- the endpoints whose reports are in the log, with repeats
 abbrev pub endpoints_in : List Change → List EndpointValue

@@ -1,16 +1,10 @@
 //! The memberships of an endpoint after its report. It must not know the log, the limits or other
 //! endpoints.
 
-ghost use Rattle.std.specs.Prelude.{◌≡◌, ◌≤◌, [], ◌∷◌, IfOk, OnOk, Some, if◌then◌else◌};
-ghost use Rattle.std.specs.BTreeMap.{get, IsOrdered};
-ghost use Rattle.std.specs.List.{filter_map};
-ghost use Rattle.amt_values.specs.declared.address.Ip.{Ip as Address};
-ghost use Rattle.amt_values.specs.Order.{ip_order};
-ghost use Rattle.endpoint_membership.specs.EndpointMemberships.{AreGone, AreOwn, gone_of_entry, membership_of_entry, renewed_filter_after_all};
-ghost use Rattle.endpoint_membership.specs.Effective.{lent};
-ghost use Rattle.endpoint_membership.specs.Log.{on_group};
+ghost use Rattle.std.specs.{Prelude.{◌≡◌, ◌≤◌, [], ◌∷◌, IfOk, OnOk, Some, if◌then◌else◌}, BTreeMap.{get, IsOrdered}, List.{filter_map}};
+ghost use Rattle.amt_values.specs.{declared.address.Ip.{Ip as Address}, Order.{ip_order}};
+ghost use Rattle.endpoint_membership.specs.{EndpointMemberships.{AreGone, AreOwn, gone_of_entry, membership_of_entry, renewed_filter_after_all}, Effective.{lent}, Log.{on_group}, EndpointGroup.{same_group}};
 ghost use Rattle.source_filter.specs.Filter.{wants_any};
-ghost use Rattle.endpoint_membership.specs.EndpointGroup.{same_group};
 
 use crate::effective::effective_records;
 use crate::keys::EndpointGroup;

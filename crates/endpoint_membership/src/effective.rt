@@ -1,8 +1,7 @@
 //! Which records of a report make a difference. It must not know moments or memberships.
 ghost use Rattle.std.specs.Prelude.{◌≡◌, ◌∷◌, List, IfOk, OnOk};
 ghost use Rattle.endpoint_membership.specs.Effective.{AreDecided, AreEnough, lent};
-ghost use Rattle.source_filter.specs.Record.{is_full};
-ghost use Rattle.source_filter.specs.declared.record.Record.{Record as GroupRecord};
+ghost use Rattle.source_filter.specs.{Record.{is_full}, declared.record.Record.{Record as GroupRecord}};
 
 use amt_values::Ip;
 use source_filter::{Record, RecordKind};

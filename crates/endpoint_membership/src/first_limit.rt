@@ -1,12 +1,8 @@
 //! The first limit that a report passes. It must not know the log, or how a report is applied.
 
-ghost use Rattle.std.specs.Prelude.{◌≡◌, ◌<◌, ◌^◌, length};
-ghost use Rattle.std.specs.List.{AllByRecursion, find, list_any};
-ghost use Rattle.std.specs.Option.{option_copied};
+ghost use Rattle.std.specs.{Prelude.{◌≡◌, ◌<◌, ◌^◌, length}, List.{AllByRecursion, find, list_any}, Option.{option_copied}};
 ghost use Rattle.amt_values.specs.Conditions.{first_holding};
-ghost use Rattle.endpoint_membership.specs.EndpointMemberships.{is_over, limit_by};
-ghost use Rattle.endpoint_membership.specs.Limits.{count_conditions, size};
-ghost use Rattle.endpoint_membership.specs.EndpointGroup.{same_group};
+ghost use Rattle.endpoint_membership.specs.{EndpointMemberships.{is_over, limit_by}, Limits.{count_conditions, size}, EndpointGroup.{same_group}};
 
 use crate::limits::{LimitFault, Limits};
 use crate::stored::OwnMembership;

@@ -1,19 +1,8 @@
 //! What the definitions of a membership table mean in the words of the field.
 ghost use Rattle.std.specs.Prelude.{ℕ, ◌≡◌, ◌≤◌, ◌<◌, ◌↔◌, max, true, false, List, [], ◌∷◌, ◌++◌, reverse, Some, None, Contains};
-ghost use Rattle.amt_values.specs.declared.address.Ip.{Ip};
-ghost use Rattle.amt_values.specs.Order.{endpoint_order};
-ghost use Rattle.amt_values.specs.EndpointValue.{EndpointValue};
+ghost use Rattle.amt_values.specs.{declared.address.Ip.{Ip}, Order.{endpoint_order}, EndpointValue.{EndpointValue}, Ascending.{IsAscending}};
 ghost use Rattle.source_filter.specs.Filter.{admits};
-ghost use Rattle.amt_values.specs.Ascending.{IsAscending};
-ghost use Rattle.endpoint_membership.specs.Admission.{HasNoMembership, is_admitted, rows_admit};
-ghost use Rattle.endpoint_membership.specs.Chain.{IsLongestChain};
-ghost use Rattle.endpoint_membership.specs.Log.{latest, live_chain};
-ghost use Rattle.endpoint_membership.specs.EndpointGroup.{EndpointGroup};
-ghost use Rattle.endpoint_membership.specs.Memberships.{is_live, rows_of, membership_at, memberships_at};
-ghost use Rattle.endpoint_membership.specs.Targets.{targets_of};
-ghost use Rattle.endpoint_membership.specs.declared.change.Change.{Change};
-ghost use Rattle.endpoint_membership.specs.declared.change.Change.TheVariants.{Clear, Mark};
-ghost use Rattle.endpoint_membership.specs.Membership.{Membership};
+ghost use Rattle.endpoint_membership.specs.{Admission.{HasNoMembership, is_admitted, rows_admit}, Chain.{IsLongestChain}, Log.{latest, live_chain}, EndpointGroup.{EndpointGroup}, Memberships.{is_live, rows_of, membership_at, memberships_at}, Targets.{targets_of}, declared.change.Change.{Change, TheVariants.{Clear, Mark}}, Membership.{Membership}};
 
 /// A membership lasts as long as reports renew it in time (RFC 3376, section 8.4): what counts of an
 /// endpoint in a group is the longest run of its newest renewals in which no gap, and none up to the

@@ -38,8 +38,7 @@ pub struct StoredMemberships {
 
 impl Model for StoredMemberships {
     ghost use Rattle.std.specs.Prelude.{List};
-    ghost use Rattle.endpoint_membership.specs.Membership.{Membership};
-    ghost use Rattle.endpoint_membership.specs.Parts.{AreAgreed, stored_memberships};
+    ghost use Rattle.endpoint_membership.specs.{Membership.{Membership}, Parts.{AreAgreed, stored_memberships}};
 
     ghost Value = { List Membership };
 

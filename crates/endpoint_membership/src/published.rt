@@ -2,11 +2,7 @@
 //! replica is.
 ghost use Rattle.std.specs.Prelude.{ℕ, ◌≡◌, ◌≤◌, ◌<◌, false, List, [], ◌∷◌, ◌++◌, take};
 ghost use Rattle.amt_values.specs.EndpointValue.{EndpointValue};
-ghost use Rattle.endpoint_membership.specs.Log.{latest};
-ghost use Rattle.endpoint_membership.specs.Memberships.{is_live, memberships_at};
-ghost use Rattle.endpoint_membership.specs.Published.{AnswerAlike, ClearingsLetNoTimePass, IsPublishedPart, clears_nothing, published_of, with_published};
-ghost use Rattle.endpoint_membership.specs.declared.change.Change.{Change};
-ghost use Rattle.endpoint_membership.specs.declared.change.Change.TheVariants.{Clear};
+ghost use Rattle.endpoint_membership.specs.{Log.{latest}, Memberships.{is_live, memberships_at}, Published.{AnswerAlike, ClearingsLetNoTimePass, IsPublishedPart, clears_nothing, published_of, with_published}, declared.change.Change.{Change, TheVariants.{Clear}}};
 
 /// A clearing of an endpoint without a membership may be left out of a log, whatever is accepted later:
 /// nothing is told otherwise for it, at its moment or after it. Its moment isn't later than the log

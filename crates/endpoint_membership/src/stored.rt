@@ -2,8 +2,7 @@
 //! reports or limits.
 
 ghost use Rattle.std.specs.Prelude.{◌≡◌, ◌+◌, ◌≤◌, nat_lt};
-ghost use Rattle.endpoint_membership.specs.Membership.{endpoint_group_of};
-ghost use Rattle.endpoint_membership.specs.Parts.{stored_filter};
+ghost use Rattle.endpoint_membership.specs.{Membership.{endpoint_group_of}, Parts.{stored_filter}};
 
 use crate::keys::EndpointGroup;
 use amt_values::{Endpoint, Ip, Moment};

@@ -1,20 +1,10 @@
 //! The membership table. It must not know messages, sockets or clocks.
 
-ghost use Rattle.std.specs.Prelude.{◌≡◌, ◌<◌, ◌≤◌, ◌↔◌, ◌+◌, ◌^◌, [], ◌∷◌, ◌++◌, max, true, false, length, Some, None, Contains, IfOk, OnOk, if◌then◌else◌};
-ghost use Rattle.std.specs.List.{AllByRecursion, filter, find};
-ghost use Rattle.amt_values.specs.Order.{endpoint_order};
-ghost use Rattle.amt_values.specs.EndpointValue.{EndpointValue};
+ghost use Rattle.std.specs.{Prelude.{◌≡◌, ◌<◌, ◌≤◌, ◌↔◌, ◌+◌, ◌^◌, [], ◌∷◌, ◌++◌, max, true, false, length, Some, None, Contains, IfOk, OnOk, if◌then◌else◌}, List.{AllByRecursion, filter, find}};
+ghost use Rattle.amt_values.specs.{Order.{endpoint_order}, EndpointValue.{EndpointValue}, Ascending.{IsAscending}};
 ghost use Rattle.source_filter.specs.Record.{item_count};
-ghost use Rattle.amt_values.specs.Ascending.{IsAscending};
-ghost use Rattle.endpoint_membership.specs.Admission.{is_admitted};
-ghost use Rattle.endpoint_membership.specs.Stored.{is_counted};
-ghost use Rattle.endpoint_membership.specs.Limits.{AreFew, IsWithin, live_count, size};
-ghost use Rattle.endpoint_membership.specs.EndpointMemberships.{limit_by, AreGone, AreOwn, is_over};
-ghost use Rattle.endpoint_membership.specs.Log.{is_empty, latest};
-ghost use Rattle.endpoint_membership.specs.Memberships.{is_live, rows_of, memberships_at};
-ghost use Rattle.endpoint_membership.specs.Table.{ForLog, Holds, IsWithinLimits, OnLimit, OnMemory, limit_passed, memberships_now};
-ghost use Rattle.endpoint_membership.specs.Targets.{targets_of};
-ghost use Rattle.endpoint_membership.specs.declared.change.Change.TheVariants.{Clear, Mark, Reported};
+ghost use Rattle.endpoint_membership.specs.{Admission.{is_admitted}, Stored.{is_counted}, Limits.{AreFew, IsWithin, live_count, size}, EndpointMemberships.{limit_by, AreGone, AreOwn, is_over}, Log.{is_empty, latest}};
+ghost use Rattle.endpoint_membership.specs.{Memberships.{is_live, rows_of, memberships_at}, Table.{ForLog, Holds, IsWithinLimits, OnLimit, OnMemory, limit_passed, memberships_now}, Targets.{targets_of}, declared.change.Change.TheVariants.{Clear, Mark, Reported}};
 
 use crate::after_report::{OwnAfter, memberships_after};
 use crate::first_limit::limit_passed;
@@ -47,8 +37,7 @@ pub struct Table {
 
 impl Model for Table {
     ghost use Rattle.amt_values.specs.Ascending.{IsAscending};
-    ghost use Rattle.endpoint_membership.specs.Membership.{membership_order};
-    ghost use Rattle.endpoint_membership.specs.Table.{AreLawful, TableValue};
+    ghost use Rattle.endpoint_membership.specs.{Membership.{membership_order}, Table.{AreLawful, TableValue}};
 
     ghost Value = { TableValue };
 

@@ -1,14 +1,6 @@
 -- Each Update and each Teardown that is sent carries the MAC and the nonce of an accepted Query.
-use Rattle.std.proofs.Common.{◌≡◌, ℕ, List, [], ◌∷◌, ◌++◌, map, subst}
-use Rattle.std.specs.List.{All}
-use Rattle.gateway_machine.specs.declared.event.GatewayEvent.{GatewayEvent}
-use Rattle.gateway_machine.specs.declared.settings.GatewaySettings.{GatewaySettings}
-use Rattle.gateway_machine.specs.declared.step.PeerSend.{PeerSend}
-use Rattle.gateway_machine.specs.Laws.{AreAuthorized, HasAcceptedQuery, IsAuthorized}
-use Rattle.gateway_machine.specs.Runs.{answer_after}
-use Rattle.gateway_machine.specs.Sends.{Sending, datagram_of}
-use Rattle.gateway_machine.proofs.SoundRuns.{answer-sound, run-sound}
-use Rattle.gateway_machine.proofs.Sound.{Carries}
+use Rattle.std.{proofs.Common.{◌≡◌, ℕ, List, [], ◌∷◌, ◌++◌, map, subst}, specs.List.{All}}
+use Rattle.gateway_machine.{specs.{declared.{event.GatewayEvent.{GatewayEvent}, settings.GatewaySettings.{GatewaySettings}, step.PeerSend.{PeerSend}}, Laws.{AreAuthorized, HasAcceptedQuery, IsAuthorized}, Runs.{answer_after}, Sends.{Sending, datagram_of}}, proofs.{SoundRuns.{answer-sound, run-sound}, Sound.{Carries}}}
 
 sending-authorized : (settings : GatewaySettings) (first : ℕ) (events : List GatewayEvent) (sending : Sending)
     → Carries (HasAcceptedQuery settings first events) sending.message → IsAuthorized settings first events sending

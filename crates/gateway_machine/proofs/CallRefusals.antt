@@ -1,9 +1,7 @@
 -- When a socket isn't closed.
 use Rattle.std.proofs.Common.{◌≡◌, ℕ, Bool, true, false, List, Some, None, refl}
-use Rattle.socket_merge.specs.History.{AcceptedCall, Close, LeaveAll}
-use Rattle.socket_merge.specs.Refusal.{is_open, refusal_of}
-use Rattle.gateway_machine.specs.Refusals.{refusal_by}
-use Rattle.gateway_machine.specs.declared.outcome.SocketRefusal.TheVariants.{NoSocket}
+use Rattle.socket_merge.specs.{History.{AcceptedCall, Close, LeaveAll}, Refusal.{is_open, refusal_of}}
+use Rattle.gateway_machine.specs.{Refusals.{refusal_by}, declared.outcome.SocketRefusal.TheVariants.{NoSocket}}
 
 true_unless : (test : Bool) → (test ≡ false → false ≡ true) → test ≡ true
 true_unless true holds = refl

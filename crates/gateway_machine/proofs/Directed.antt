@@ -1,38 +1,15 @@
 -- Where each message goes that a gateway sends.
-use Rattle.std.proofs.Common.{◌≡◌, ℕ, eqb, nat_lt, ◌||◌, Bool, true, false, List, [], ◌∷◌, ◌++◌, All, Option, Some, None, Result, Ok, Err, refl, sym, subst}
-use Rattle.std.proofs.lemmas.List.Elements.{All-append, All-cons, All-nil}
-use Rattle.amt_values.specs.EndpointValue.{EndpointValue}
-use Rattle.amt_values.specs.declared.address.Ip.{Ip}
-use Rattle.amt_values.specs.declared.mac.Mac48.{Mac48}
-use Rattle.amt_values.specs.declared.peer.Peer.{Peer}
-use Rattle.amt_messages.specs.Refusal.{message_of}
-use Rattle.amt_messages.specs.declared.message.Message.{Message}
-use Rattle.amt_messages.specs.declared.message.Message.TheVariants.{Discovery, Advertisement, Request, Query, Update, Multicast, Teardown}
-use Rattle.amt_messages.specs.declared.refusal.Refused.{Refused}
-use Rattle.source_filter.specs.declared.query.QueryFields.{QueryFields}
-use Rattle.source_filter.specs.declared.record.Record.{Record}
-use Rattle.socket_merge.specs.Changes.{change_records}
-use Rattle.socket_merge.specs.FullReport.{is_quiet}
-use Rattle.socket_merge.specs.History.{AcceptedCall, Change, Close, LeaveAll, Open, SocketCall, with_call}
-use Rattle.gateway_machine.specs.declared.event.GatewayEvent.{GatewayEvent}
-use Rattle.gateway_machine.specs.declared.event.GatewayEvent.TheVariants.{Moment, Nonce as Draws, Datagram, Open as Opens, Change as Changes, Close as Closes, LeaveAll as LeavesAll}
-use Rattle.gateway_machine.specs.declared.exchange.Exchange.{Exchange}
-use Rattle.gateway_machine.specs.declared.exchange.GatewayState.{GatewayState}
-use Rattle.gateway_machine.specs.declared.exchange.GatewayState.TheVariants.{Idle as InIdle, Discovering as InDiscovering, Requesting as InRequesting, Active as InActive}
-use Rattle.gateway_machine.specs.declared.exchange.LastQuery.{LastQuery}
-use Rattle.gateway_machine.specs.declared.outcome.Ignored.{Ignored}
-use Rattle.gateway_machine.specs.declared.outcome.SocketRefusal.{SocketRefusal}
-use Rattle.gateway_machine.specs.declared.settings.GatewaySettings.{GatewaySettings}
+use Rattle.std.proofs.{Common.{◌≡◌, ℕ, eqb, nat_lt, ◌||◌, Bool, true, false, List, [], ◌∷◌, ◌++◌, All, Option, Some, None, Result, Ok, Err, refl, sym, subst}, lemmas.List.Elements.{All-append, All-cons, All-nil}}
+use Rattle.amt_values.specs.{EndpointValue.{EndpointValue}, declared.{address.Ip.{Ip}, mac.Mac48.{Mac48}, peer.Peer.{Peer}}}
+use Rattle.amt_messages.specs.{Refusal.{message_of}, declared.{message.Message.{Message, TheVariants.{Discovery, Advertisement, Request, Query, Update, Multicast, Teardown}}, refusal.Refused.{Refused}}}
+use Rattle.source_filter.specs.{declared.query.QueryFields.{QueryFields}, declared.record.Record.{Record}}
+use Rattle.socket_merge.specs.{Changes.{change_records}, FullReport.{is_quiet}, History.{AcceptedCall, Change, Close, LeaveAll, Open, SocketCall, with_call}}
+use Rattle.gateway_machine.specs.declared.event.GatewayEvent.{GatewayEvent, TheVariants.{Moment, Nonce as Draws, Datagram, Open as Opens, Change as Changes, Close as Closes, LeaveAll as LeavesAll}}
+use Rattle.gateway_machine.specs.declared.exchange.{Exchange.{Exchange}, GatewayState.{GatewayState, TheVariants.{Idle as InIdle, Discovering as InDiscovering, Requesting as InRequesting, Active as InActive}}}
+use Rattle.gateway_machine.specs.declared.{exchange.LastQuery.{LastQuery}, outcome.{Ignored.{Ignored}, SocketRefusal.{SocketRefusal}}, settings.GatewaySettings.{GatewaySettings}}
 use Rattle.gateway_machine.specs.Answers.{Answer, accepted_answer, advertisement_answer, answer_at, ask, asked_relay, begin_with, call_answer, call_by, cause_heard, changed_answer, datagram_answer, discover, due_answer, event_answer, fields_heard, is_idle, is_opening, joined_relay, packet_by, query_accepted, query_by, query_kept, refusal_at}
-use Rattle.gateway_machine.specs.Exchange.{active, discovering, moved, relay_named, requesting, retried}
-use Rattle.gateway_machine.specs.Laws.{IsDirected, destination}
-use Rattle.gateway_machine.specs.Reports.{full_records, full_report, report_datagram, same_endpoint, teardown, teardown_by, teardown_if, update_by}
-use Rattle.gateway_machine.specs.Runs.{Run, answer_after, run_of}
-use Rattle.gateway_machine.specs.Sends.{Sending, to_relay}
-use Rattle.gateway_machine.specs.Settings.{family_of}
-use Rattle.gateway_machine.specs.Timing.{farewell_ms}
-use Rattle.gateway_machine.proofs.Runs.{run_of-append}
-use Rattle.gateway_machine.proofs.Steady.{either}
+use Rattle.gateway_machine.specs.{Exchange.{active, discovering, moved, relay_named, requesting, retried}, Laws.{IsDirected, destination}}
+use Rattle.gateway_machine.{specs.{Reports.{full_records, full_report, report_datagram, same_endpoint, teardown, teardown_by, teardown_if, update_by}, Runs.{Run, answer_after, run_of}, Sends.{Sending, to_relay}, Settings.{family_of}, Timing.{farewell_ms}}, proofs.{Runs.{run_of-append}, Steady.{either}}}
 
 module _ (settings : GatewaySettings) where
   abbrev AreDirected : Option Peer → List Sending → Type 0

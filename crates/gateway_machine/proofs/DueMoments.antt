@@ -1,19 +1,9 @@
 -- When something is due.
-use Rattle.std.proofs.Common.{◌≡◌, ℕ, ◌<◌, ◌≤◌, ◌^◌, ◌↔◌, max, nat_lt, ◌||◌, Bool, true, false, List, Option, Some, None, if◌then◌else◌, refl, sym, ◌∙◌, arith}
-use Rattle.std.proofs.lemmas.Bool.{lt-ltb, ltb-true}
-use Rattle.std.specs.Prelude.{IsNone, IfSome}
+use Rattle.std.{proofs.{Common.{◌≡◌, ℕ, ◌<◌, ◌≤◌, ◌^◌, ◌↔◌, max, nat_lt, ◌||◌, Bool, true, false, List, Option, Some, None, if◌then◌else◌, refl, sym, ◌∙◌, arith}, lemmas.Bool.{lt-ltb, ltb-true}}, specs.Prelude.{IsNone, IfSome}}
 use Rattle.amt_values.specs.declared.peer.Peer.{Peer}
-use Rattle.socket_merge.specs.FullReport.{is_quiet}
-use Rattle.socket_merge.specs.History.{AcceptedCall}
-use Rattle.gateway_machine.specs.declared.exchange.Exchange.{Exchange}
-use Rattle.gateway_machine.specs.declared.exchange.GatewayState.{GatewayState}
-use Rattle.gateway_machine.specs.declared.exchange.GatewayState.TheVariants.{Idle as InIdle, Discovering as InDiscovering, Requesting as InRequesting, Active as InActive}
-use Rattle.gateway_machine.specs.declared.outcome.GatewayOutcome.TheVariants.{Quiet, Idle}
-use Rattle.gateway_machine.specs.declared.settings.GatewaySettings.{GatewaySettings}
-use Rattle.gateway_machine.specs.Answers.{Answer, answer_at, begin_with, due_answer, is_idle, quiet}
-use Rattle.gateway_machine.specs.Due.{IsBefore}
-use Rattle.gateway_machine.specs.Exchange.{idle, moved}
-use Rattle.gateway_machine.specs.Timing.{farewell_ms}
+use Rattle.socket_merge.specs.{FullReport.{is_quiet}, History.{AcceptedCall}}
+use Rattle.gateway_machine.specs.declared.exchange.{Exchange.{Exchange}, GatewayState.{GatewayState, TheVariants.{Idle as InIdle, Discovering as InDiscovering, Requesting as InRequesting, Active as InActive}}}
+use Rattle.gateway_machine.specs.{declared.{outcome.GatewayOutcome.TheVariants.{Quiet, Idle}, settings.GatewaySettings.{GatewaySettings}}, Answers.{Answer, answer_at, begin_with, due_answer, is_idle, quiet}, Due.{IsBefore}, Exchange.{idle, moved}, Timing.{farewell_ms}}
 
 -- something comes of the answer
 abbrev IsBusy : Answer → Type 0

@@ -1,12 +1,8 @@
 -- What the inner octets of a Query are read as.
 use Rattle.std.proofs.Common.{◌≡◌, ℕ, Bool, List, drop, Some, None, Ok, Err, refl, sym, ap, ◌∙◌}
 use Rattle.amt_values.specs.Conditions.{unless}
-use Rattle.inner_datagrams.specs.Fault.{first_inner_fault}
-use Rattle.inner_datagrams.specs.Reading.{inner_at, payload_in, payload_start}
-use Rattle.inner_datagrams.specs.declared.inner.Inner.{Inner as InnerPlace}
-use Rattle.inner_datagrams.specs.declared.inner.InnerFault.{InnerFault}
-use Rattle.gateway_machine.specs.declared.outcome.Ignored.TheVariants.{Inner}
-use Rattle.gateway_machine.specs.General.{carried_query, general_query_in, unless_fault}
+use Rattle.inner_datagrams.specs.{Fault.{first_inner_fault}, Reading.{inner_at, payload_in, payload_start}, declared.inner.{Inner.{Inner as InnerPlace}, InnerFault.{InnerFault}}}
+use Rattle.gateway_machine.specs.{declared.outcome.Ignored.TheVariants.{Inner}, General.{carried_query, general_query_in, unless_fault}}
 
 pub general_query-inner : (v6 : Bool) (inner : List ℕ) (fault : InnerFault) → first_inner_fault inner ≡ Some fault → Err (Inner fault) ≡ general_query_in v6 inner
 unfolding general_query_in

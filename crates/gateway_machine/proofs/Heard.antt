@@ -1,35 +1,17 @@
 -- Answers to what a peer sends, and so to each event.
-use Rattle.std.proofs.Common.{◌≡◌, ℕ, eqb, not, Bool, true, false, List, Option, Some, None, Result, Ok, Err, if◌then◌else◌, refl, ap, subst, ◌∙◌}
-use Rattle.std.proofs.lemmas.Bool.{and_parts, eqb-true}
-use Rattle.std.specs.Ordering.{eq_by_cmp}
-use Rattle.amt_values.specs.EndpointValue.{EndpointValue}
-use Rattle.amt_values.specs.Order.{ip_order}
-use Rattle.amt_values.specs.declared.address.Ip.{Ip}
-use Rattle.amt_values.specs.declared.mac.Mac48.{Mac48}
-use Rattle.amt_values.specs.declared.peer.Peer.{Peer}
-use Rattle.amt_values.proofs.AscendingLaws.{Equal-from_test}
-use Rattle.amt_values.proofs.Orders.{ip_order-exact}
-use Rattle.amt_messages.specs.Refusal.{message_of}
-use Rattle.amt_messages.specs.declared.message.Message.{Message}
-use Rattle.amt_messages.specs.declared.message.Message.TheVariants.{Discovery, Advertisement, Request, Query, Update, Multicast, Teardown}
-use Rattle.amt_messages.specs.declared.refusal.Refused.{Refused}
+use Rattle.std.{proofs.{Common.{◌≡◌, ℕ, eqb, not, Bool, true, false, List, Option, Some, None, Result, Ok, Err, if◌then◌else◌, refl, ap, subst, ◌∙◌}, lemmas.Bool.{and_parts, eqb-true}}, specs.Ordering.{eq_by_cmp}}
+use Rattle.amt_values.{specs.{EndpointValue.{EndpointValue}, Order.{ip_order}, declared.{address.Ip.{Ip}, mac.Mac48.{Mac48}, peer.Peer.{Peer}}}, proofs.{AscendingLaws.{Equal-from_test}, Orders.{ip_order-exact}}}
+use Rattle.amt_messages.specs.{Refusal.{message_of}, declared.{message.Message.{Message, TheVariants.{Discovery, Advertisement, Request, Query, Update, Multicast, Teardown}}, refusal.Refused.{Refused}}}
 use Rattle.source_filter.specs.declared.query.QueryFields.{QueryFields}
 use Rattle.socket_merge.specs.History.{AcceptedCall, Change, Close, LeaveAll, Open, SocketCall, with_call}
 use Rattle.gateway_machine.specs.declared.event.GatewayEvent.{GatewayEvent}
 use Rattle.gateway_machine.specs.declared.event.GatewayEvent.TheVariants.{Moment, Nonce as Draws, Datagram, Open as Opens, Change as Changes, Close as Closes, LeaveAll as LeavesAll}
-use Rattle.gateway_machine.specs.declared.exchange.Exchange.{Exchange}
-use Rattle.gateway_machine.specs.declared.exchange.GatewayState.{GatewayState}
+use Rattle.gateway_machine.specs.declared.exchange.{Exchange.{Exchange}, GatewayState.{GatewayState}}
 use Rattle.gateway_machine.specs.declared.exchange.GatewayState.TheVariants.{Idle as InIdle, Discovering as InDiscovering, Requesting as InRequesting, Active as InActive}
-use Rattle.gateway_machine.specs.declared.outcome.GatewayOutcome.TheVariants.{Active, Drawn, Ignored as IgnoredAs}
-use Rattle.gateway_machine.specs.declared.outcome.Ignored.{Ignored}
-use Rattle.gateway_machine.specs.declared.outcome.Ignored.TheVariants.{Undecoded, Kind, State, Sender, Nonce}
-use Rattle.gateway_machine.specs.declared.settings.GatewaySettings.{GatewaySettings}
+use Rattle.gateway_machine.specs.declared.outcome.{GatewayOutcome.TheVariants.{Active, Drawn, Ignored as IgnoredAs}, Ignored.{Ignored}}
+use Rattle.gateway_machine.specs.declared.{outcome.Ignored.TheVariants.{Undecoded, Kind, State, Sender, Nonce}, settings.GatewaySettings.{GatewaySettings}}
 use Rattle.gateway_machine.specs.Answers.{advertisement_answer, ask, asked_relay, call_answer, cause_heard, datagram_answer, event_answer, fields_heard, ignored, is_opening, joined_relay, packet_by, query_by, query_kept, refusal_at, same_peer}
-use Rattle.gateway_machine.specs.Exchange.{moved, relay_named, requesting, with_next_nonce}
-use Rattle.gateway_machine.specs.General.{general_query_in}
-use Rattle.gateway_machine.proofs.Reports.{call-sound, query-accepted-sound}
-use Rattle.gateway_machine.proofs.Requests.{at-sound, request-sound}
-use Rattle.gateway_machine.proofs.Sound.{IsAsked, IsFound, IsSound, IsSoundAnswer, if-sound, none-carry, quiet-sound}
+use Rattle.gateway_machine.{specs.{Exchange.{moved, relay_named, requesting, with_next_nonce}, General.{general_query_in}}, proofs.{Reports.{call-sound, query-accepted-sound}, Requests.{at-sound, request-sound}, Sound.{IsAsked, IsFound, IsSound, IsSoundAnswer, if-sound, none-carry, quiet-sound}}}
 
 -- peers that are told to be one are one
 pub same_peer-is : (one other : Peer) → same_peer one other ≡ true → one ≡ other

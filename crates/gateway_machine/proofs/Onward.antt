@@ -1,27 +1,10 @@
 -- Where one more event leaves a gateway.
-use Rattle.std.proofs.Common.{◌≡◌, ◌≤◌, ℕ, true, List, [], ◌∷◌, ◌++◌, All, Option, Some, None, sym, subst, ap, ◌∙◌, arith}
-use mathlib.Core.HLevel.{is_prop→PathP}
-use mathlib.Core.Sum.{⊎_set}
-use Rattle.std.proofs.Math.Logic.{∥∥₁_elim, ∥∥₁_map, ∥∥₁_prop}
-use Rattle.std.proofs.Props.{props}
+use Rattle.std.proofs.{Common.{◌≡◌, ◌≤◌, ℕ, true, List, [], ◌∷◌, ◌++◌, All, Option, Some, None, sym, subst, ap, ◌∙◌, arith}, Math.Logic.{∥∥₁_elim, ∥∥₁_map, ∥∥₁_prop}, Props.{props}}
+use mathlib.Core.{HLevel.{is_prop→PathP}, Sum.{⊎_set}}
 use Rattle.group_records.specs.Written.{is_of_family}
-use Rattle.socket_merge.specs.History.{AcceptedCall, Socket, latest}
-use Rattle.socket_merge.specs.Sockets.{SocketsHold, SocketsValue}
-use Rattle.gateway_machine.specs.declared.event.GatewayEvent.{GatewayEvent}
-use Rattle.gateway_machine.specs.declared.exchange.Exchange.{Exchange}
-use Rattle.gateway_machine.specs.declared.gateway.Gateway.{Gateway}
-use Rattle.gateway_machine.specs.declared.outcome.GatewayOutcome.{GatewayOutcome}
-use Rattle.gateway_machine.specs.declared.settings.GatewaySettings.{GatewaySettings}
-use Rattle.gateway_machine.specs.declared.taken.Taken.{Taken}
-use Rattle.gateway_machine.specs.Answers.{event_answer, history_after}
-use Rattle.gateway_machine.specs.Events.{IsEventOf}
-use Rattle.gateway_machine.specs.Exchange.{start}
-use Rattle.gateway_machine.specs.Outcomes.{IsRefused}
-use Rattle.gateway_machine.specs.Runs.{GatewayAt, Run, answer_after, run_of, settings_of, with_event}
-use Rattle.gateway_machine.specs.Settings.{HasSourceOfFamily, family_of}
-use Rattle.gateway_machine.specs.State.{AreOfSettings, HasHistory, IsAtMoment, IsTaken, IsTakenAs, StandAfter}
-use Rattle.gateway_machine.proofs.Runs.{run_of-append, run_of-nil}
-use Rattle.gateway_machine.proofs.Steady.{early-after, family-after, moment-later, refused-same}
+use Rattle.socket_merge.specs.{History.{AcceptedCall, Socket, latest}, Sockets.{SocketsHold, SocketsValue}}
+use Rattle.gateway_machine.specs.{declared.{event.GatewayEvent.{GatewayEvent}, exchange.Exchange.{Exchange}, gateway.Gateway.{Gateway}, outcome.GatewayOutcome.{GatewayOutcome}, settings.GatewaySettings.{GatewaySettings}, taken.Taken.{Taken}}, Answers.{event_answer, history_after}, Events.{IsEventOf}, Exchange.{start}, Outcomes.{IsRefused}}
+use Rattle.gateway_machine.{specs.{Runs.{GatewayAt, Run, answer_after, run_of, settings_of, with_event}, Settings.{HasSourceOfFamily, family_of}, State.{AreOfSettings, HasHistory, IsAtMoment, IsTaken, IsTakenAs, StandAfter}}, proofs.{Runs.{run_of-append, run_of-nil}, Steady.{early-after, family-after, moment-later, refused-same}}}
 
 -- a new gateway
 pub GatewayAt-new : (gateway : Gateway) (settings : GatewaySettings) (first : ℕ) → settings_of gateway ≡ settings → gateway.exchange ≡ start settings first

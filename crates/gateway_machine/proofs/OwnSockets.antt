@@ -1,13 +1,8 @@
 -- The sockets of a gateway, whose groups are of its family.
-use Rattle.std.proofs.Common.{◌≡◌, ℕ, Bool, true, false, cond, List, [], ◌∷◌, Option, Some, subst}
-use Rattle.std.proofs.lemmas.List.Elements.{All-head, All-tail}
-use Rattle.std.specs.List.{All}
+use Rattle.std.{proofs.{Common.{◌≡◌, ℕ, Bool, true, false, cond, List, [], ◌∷◌, Option, Some, subst}, lemmas.List.Elements.{All-head, All-tail}}, specs.List.{All}}
 use Rattle.source_filter.specs.Filter.{FilterValue}
-use Rattle.group_records.specs.declared.family.Family.{Family}
-use Rattle.group_records.specs.Written.{is_of_family}
-use Rattle.socket_merge.specs.History.{Socket, same_name, socket_named}
-use Rattle.socket_merge.specs.Sockets.{AreOfGroup}
-use Rattle.socket_merge.proofs.RawOctets.{family_is}
+use Rattle.group_records.specs.{declared.family.Family.{Family}, Written.{is_of_family}}
+use Rattle.socket_merge.{specs.{History.{Socket, same_name, socket_named}, Sockets.{AreOfGroup}}, proofs.RawOctets.{family_is}}
 
 -- the socket's group is of this family
 abbrev IsOf : Family → Socket → Type 0

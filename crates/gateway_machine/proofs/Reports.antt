@@ -1,28 +1,12 @@
 -- Answers that send reports and Teardowns.
-use Rattle.std.proofs.Common.{◌≡◌, ℕ, Bool, true, false, List, [], ◌∷◌, ◌++◌, Option, Some, None, refl, sym, subst}
-use Rattle.std.proofs.lemmas.List.Elements.{All-append}
-use Rattle.amt_values.specs.EndpointValue.{EndpointValue}
-use Rattle.amt_values.specs.declared.mac.Mac48.{Mac48}
-use Rattle.amt_values.specs.declared.peer.Peer.{Peer}
+use Rattle.std.proofs.{Common.{◌≡◌, ℕ, Bool, true, false, List, [], ◌∷◌, ◌++◌, Option, Some, None, refl, sym, subst}, lemmas.List.Elements.{All-append}}
+use Rattle.amt_values.specs.{EndpointValue.{EndpointValue}, declared.{mac.Mac48.{Mac48}, peer.Peer.{Peer}}}
 use Rattle.amt_messages.specs.declared.message.Message.TheVariants.{Teardown, Update}
 use Rattle.source_filter.specs.declared.record.Record.{Record}
-use Rattle.socket_merge.specs.History.{AcceptedCall}
-use Rattle.socket_merge.specs.Changes.{change_records}
-use Rattle.gateway_machine.specs.declared.exchange.Exchange.{Exchange}
-use Rattle.gateway_machine.specs.declared.exchange.GatewayState.{GatewayState}
-use Rattle.gateway_machine.specs.declared.exchange.GatewayState.TheVariants.{Idle as InIdle, Discovering as InDiscovering, Requesting as InRequesting, Active as InActive}
-use Rattle.gateway_machine.specs.declared.exchange.LastQuery.{LastQuery}
-use Rattle.gateway_machine.specs.declared.outcome.GatewayOutcome.TheVariants.{Kept, SocketRefused}
-use Rattle.gateway_machine.specs.declared.outcome.SocketRefusal.{SocketRefusal}
-use Rattle.gateway_machine.specs.declared.settings.GatewaySettings.{GatewaySettings}
-use Rattle.gateway_machine.specs.Answers.{accepted_answer, call_by, changed_answer, query_accepted}
-use Rattle.gateway_machine.specs.Exchange.{active}
-use Rattle.gateway_machine.specs.Laws.{last_of}
-use Rattle.gateway_machine.specs.Reports.{change_reports, full_records, full_report, report_datagram, same_endpoint, teardown, teardown_by, teardown_if, update_by}
-use Rattle.gateway_machine.specs.Sends.{Sending}
-use Rattle.gateway_machine.specs.Settings.{family_of}
-use Rattle.gateway_machine.proofs.Requests.{begin-sound, to_relay-carries}
-use Rattle.gateway_machine.proofs.Sound.{AllCarry, Carries, IsAsked, IsBy, IsSound, IsSoundAnswer, none-carry, nonces_asked, quiet-sound}
+use Rattle.socket_merge.specs.{History.{AcceptedCall}, Changes.{change_records}}
+use Rattle.gateway_machine.specs.declared.exchange.{Exchange.{Exchange}, GatewayState.{GatewayState, TheVariants.{Idle as InIdle, Discovering as InDiscovering, Requesting as InRequesting, Active as InActive}}, LastQuery.{LastQuery}}
+use Rattle.gateway_machine.specs.{declared.{outcome.{GatewayOutcome.TheVariants.{Kept, SocketRefused}, SocketRefusal.{SocketRefusal}}, settings.GatewaySettings.{GatewaySettings}}, Answers.{accepted_answer, call_by, changed_answer, query_accepted}, Exchange.{active}, Laws.{last_of}}
+use Rattle.gateway_machine.{specs.{Reports.{change_reports, full_records, full_report, report_datagram, same_endpoint, teardown, teardown_by, teardown_if, update_by}, Sends.{Sending}, Settings.{family_of}}, proofs.{Requests.{begin-sound, to_relay-carries}, Sound.{AllCarry, Carries, IsAsked, IsBy, IsSound, IsSoundAnswer, none-carry, nonces_asked, quiet-sound}}}
 
 module _ (Good : Mac48 → ℕ → Type 0) where
   -- what is sent by two lists

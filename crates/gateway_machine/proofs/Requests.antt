@@ -1,22 +1,11 @@
 -- Answers that send a Discovery or a Request.
 use Rattle.std.proofs.Common.{◌≡◌, ℕ, nat_lt, ◌||◌, Bool, false, List, Option, Some, None, if◌then◌else◌, refl, subst}
-use Rattle.amt_values.specs.declared.mac.Mac48.{Mac48}
-use Rattle.amt_values.specs.declared.peer.Peer.{Peer}
-use Rattle.amt_messages.specs.declared.message.Message.{Message}
-use Rattle.amt_messages.specs.declared.message.Message.TheVariants.{Discovery, Request}
-use Rattle.socket_merge.specs.FullReport.{is_quiet}
-use Rattle.socket_merge.specs.History.{AcceptedCall}
-use Rattle.gateway_machine.specs.declared.exchange.Exchange.{Exchange}
-use Rattle.gateway_machine.specs.declared.exchange.GatewayState.{GatewayState}
-use Rattle.gateway_machine.specs.declared.exchange.GatewayState.TheVariants.{Idle as InIdle, Discovering as InDiscovering, Requesting as InRequesting, Active as InActive}
-use Rattle.gateway_machine.specs.declared.outcome.GatewayOutcome.TheVariants.{Quiet, Idle}
-use Rattle.gateway_machine.specs.declared.settings.GatewaySettings.{GatewaySettings}
-use Rattle.gateway_machine.specs.Answers.{answer_at, ask, begin_with, due_answer, is_idle, quiet}
-use Rattle.gateway_machine.specs.Exchange.{discovering, idle, requesting, retried}
-use Rattle.gateway_machine.specs.Laws.{HasQuery, HasRelay, last_of}
-use Rattle.gateway_machine.specs.Sends.{discovery, to_relay}
-use Rattle.gateway_machine.specs.Timing.{farewell_ms}
-use Rattle.gateway_machine.proofs.Sound.{AllCarry, Carries, IsBy, IsSound, IsSoundAnswer, KeepsRelay, if-sound, nonce-asked, none-carry, nonces_asked, one-carries, quiet-sound, relay-known}
+use Rattle.amt_values.specs.declared.{mac.Mac48.{Mac48}, peer.Peer.{Peer}}
+use Rattle.amt_messages.specs.declared.message.Message.{Message, TheVariants.{Discovery, Request}}
+use Rattle.socket_merge.specs.{FullReport.{is_quiet}, History.{AcceptedCall}}
+use Rattle.gateway_machine.specs.declared.exchange.{Exchange.{Exchange}, GatewayState.{GatewayState, TheVariants.{Idle as InIdle, Discovering as InDiscovering, Requesting as InRequesting, Active as InActive}}}
+use Rattle.gateway_machine.specs.{declared.{outcome.GatewayOutcome.TheVariants.{Quiet, Idle}, settings.GatewaySettings.{GatewaySettings}}, Answers.{answer_at, ask, begin_with, due_answer, is_idle, quiet}}
+use Rattle.gateway_machine.{specs.{Exchange.{discovering, idle, requesting, retried}, Laws.{HasQuery, HasRelay, last_of}, Sends.{discovery, to_relay}, Timing.{farewell_ms}}, proofs.Sound.{AllCarry, Carries, IsBy, IsSound, IsSoundAnswer, KeepsRelay, if-sound, nonce-asked, none-carry, nonces_asked, one-carries, quiet-sound, relay-known}}
 
 pub to_relay-carries : (Good : Mac48 → ℕ → Type 0) (relay : Option Peer) (full_report : Bool) (message : Message) → Carries Good message
     → AllCarry Good (to_relay relay full_report message)

@@ -1,10 +1,6 @@
 -- Runs with one more event.
-use Rattle.std.proofs.Common.{◌≡◌, ℕ, List, [], ◌∷◌, ◌++◌, refl}
-use Rattle.std.proofs.lemmas.List.Sums.{fold-append}
-use Rattle.gateway_machine.specs.declared.event.GatewayEvent.{GatewayEvent}
-use Rattle.gateway_machine.specs.declared.settings.GatewaySettings.{GatewaySettings}
-use Rattle.gateway_machine.specs.Exchange.{start}
-use Rattle.gateway_machine.specs.Runs.{run_of, with_event}
+use Rattle.std.proofs.{Common.{◌≡◌, ℕ, List, [], ◌∷◌, ◌++◌, refl}, lemmas.List.Sums.{fold-append}}
+use Rattle.gateway_machine.specs.{declared.{event.GatewayEvent.{GatewayEvent}, settings.GatewaySettings.{GatewaySettings}}, Exchange.{start}, Runs.{run_of, with_event}}
 
 pub run_of-nil : (settings : GatewaySettings) (first : ℕ) → run_of settings first [] ≡ record { exchange = start settings first; history = []; sent = [] }
 unfolding run_of

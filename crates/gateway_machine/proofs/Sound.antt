@@ -1,19 +1,8 @@
 -- What holds of a gateway's exchange in every run, and what an answer must have for it to go on holding.
-use Rattle.std.proofs.Common.{◌≡◌, ℕ, Bool, true, false, List, [], ◌∷◌, Option, Some, None, if◌then◌else◌}
-use Rattle.std.specs.List.{All, filter_map}
-use Rattle.std.proofs.lemmas.List.Elements.{All-cons, All-nil}
-use Rattle.amt_values.specs.declared.mac.Mac48.{Mac48}
-use Rattle.amt_values.specs.declared.peer.Peer.{Peer}
-use Rattle.amt_messages.specs.declared.message.Message.{Message}
-use Rattle.amt_messages.specs.declared.message.Message.TheVariants.{Discovery, Advertisement, Request, Query, Update, Multicast, Teardown}
-use Rattle.gateway_machine.specs.declared.exchange.Exchange.{Exchange}
-use Rattle.gateway_machine.specs.declared.exchange.GatewayState.{GatewayState}
-use Rattle.gateway_machine.specs.declared.exchange.GatewayState.TheVariants.{Idle, Discovering, Requesting, Active}
-use Rattle.gateway_machine.specs.declared.exchange.LastQuery.{LastQuery}
-use Rattle.gateway_machine.specs.declared.outcome.GatewayOutcome.{GatewayOutcome}
-use Rattle.gateway_machine.specs.Answers.{Answer, quiet}
-use Rattle.gateway_machine.specs.Laws.{HasQuery, HasRelay, last_of, nonce_asked}
-use Rattle.gateway_machine.specs.Sends.{Sending}
+use Rattle.std.{proofs.{Common.{◌≡◌, ℕ, Bool, true, false, List, [], ◌∷◌, Option, Some, None, if◌then◌else◌}, lemmas.List.Elements.{All-cons, All-nil}}, specs.List.{All, filter_map}}
+use Rattle.amt_values.specs.declared.{mac.Mac48.{Mac48}, peer.Peer.{Peer}}
+use Rattle.amt_messages.specs.declared.message.Message.{Message, TheVariants.{Discovery, Advertisement, Request, Query, Update, Multicast, Teardown}}
+use Rattle.gateway_machine.specs.{declared.{exchange.{Exchange.{Exchange}, GatewayState.{GatewayState, TheVariants.{Idle, Discovering, Requesting, Active}}, LastQuery.{LastQuery}}, outcome.GatewayOutcome.{GatewayOutcome}}, Answers.{Answer, quiet}, Laws.{HasQuery, HasRelay, last_of, nonce_asked}, Sends.{Sending}}
 
 -- no relay is looked for
 abbrev pub IsFound : GatewayState → Type 0

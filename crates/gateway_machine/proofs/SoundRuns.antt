@@ -1,23 +1,9 @@
 -- What holds of the exchange in every run.
-use Rattle.std.proofs.Common.{◌≡◌, ℕ, Bool, List, [], ◌∷◌, ◌++◌, Option, Some, None, Ok, refl, sym, ap, subst, ◌∙◌, append-nil, append_assoc}
-use Rattle.std.proofs.lemmas.List.Elements.{filter_map-append}
-use Rattle.amt_values.specs.EndpointValue.{EndpointValue}
-use Rattle.amt_values.specs.declared.mac.Mac48.{Mac48}
-use Rattle.amt_values.specs.declared.peer.Peer.{Peer}
-use Rattle.amt_messages.specs.Refusal.{message_of}
-use Rattle.amt_messages.specs.declared.message.Message.TheVariants.{Query}
-use Rattle.amt_messages.proofs.Answered.{Spells-read}
-use Rattle.gateway_machine.specs.declared.event.GatewayEvent.{GatewayEvent}
-use Rattle.gateway_machine.specs.declared.event.GatewayEvent.TheVariants.{Datagram}
-use Rattle.gateway_machine.specs.declared.exchange.LastQuery.{LastQuery}
-use Rattle.gateway_machine.specs.declared.outcome.GatewayOutcome.TheVariants.{Active}
-use Rattle.gateway_machine.specs.declared.settings.GatewaySettings.{GatewaySettings}
-use Rattle.gateway_machine.specs.Laws.{HasAcceptedQuery, HasQuery, HasRelay, last_of, last_request, nonce_asked}
-use Rattle.gateway_machine.specs.Runs.{Run, answer_after, run_of}
-use Rattle.gateway_machine.specs.Sends.{Sending}
-use Rattle.gateway_machine.proofs.Heard.{event-sound}
-use Rattle.gateway_machine.proofs.Runs.{run_of-append, run_of-nil}
-use Rattle.gateway_machine.proofs.Sound.{IsBy, IsSound, IsSoundAnswer, nonces_asked}
+use Rattle.std.proofs.{Common.{◌≡◌, ℕ, Bool, List, [], ◌∷◌, ◌++◌, Option, Some, None, Ok, refl, sym, ap, subst, ◌∙◌, append-nil, append_assoc}, lemmas.List.Elements.{filter_map-append}}
+use Rattle.amt_values.specs.{EndpointValue.{EndpointValue}, declared.{mac.Mac48.{Mac48}, peer.Peer.{Peer}}}
+use Rattle.amt_messages.{specs.{Refusal.{message_of}, declared.message.Message.TheVariants.{Query}}, proofs.Answered.{Spells-read}}
+use Rattle.gateway_machine.specs.declared.{event.GatewayEvent.{GatewayEvent, TheVariants.{Datagram}}, exchange.LastQuery.{LastQuery}, outcome.GatewayOutcome.TheVariants.{Active}, settings.GatewaySettings.{GatewaySettings}}
+use Rattle.gateway_machine.{specs.{Laws.{HasAcceptedQuery, HasQuery, HasRelay, last_of, last_request, nonce_asked}, Runs.{Run, answer_after, run_of}, Sends.{Sending}}, proofs.{Heard.{event-sound}, Runs.{run_of-append, run_of-nil}, Sound.{IsBy, IsSound, IsSoundAnswer, nonces_asked}}}
 
 last_of-append : (before : Option ℕ) (nonces more : List ℕ) → last_of before (nonces ++ more) ≡ last_of (last_of before nonces) more
 last_of-append before [] more = refl

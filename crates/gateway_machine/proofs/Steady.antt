@@ -1,37 +1,18 @@
 -- What an event leaves of an exchange and of a history: no answer turns time back, what is refused changes
 -- nothing, and no call is later than the exchange's moment or opens a socket of the other family.
-use Rattle.std.proofs.Common.{◌≡◌, ◌≤◌, ℕ, max, nat_lt, ◌==◌, not, ◌||◌, Bool, true, false, List, [], ◌∷◌, All, Option, Some, None, Result, Ok, Err, if◌then◌else◌, refl, sym, subst, arith}
-use Rattle.std.proofs.lemmas.List.Elements.{All-append, All-cons, All-filter, All-map, All-nil, All-weaker}
-use Rattle.amt_values.specs.EndpointValue.{EndpointValue}
-use Rattle.amt_values.specs.declared.address.Ip.{Ip}
-use Rattle.amt_values.specs.declared.mac.Mac48.{Mac48}
-use Rattle.amt_values.specs.declared.peer.Peer.{Peer}
-use Rattle.amt_messages.specs.Refusal.{message_of}
-use Rattle.amt_messages.specs.declared.message.Message.{Message}
-use Rattle.amt_messages.specs.declared.message.Message.TheVariants.{Discovery, Advertisement, Request, Query, Update, Multicast, Teardown}
-use Rattle.amt_messages.specs.declared.refusal.Refused.{Refused}
-use Rattle.source_filter.specs.Filter.{FilterValue}
-use Rattle.source_filter.specs.declared.query.QueryFields.{QueryFields}
-use Rattle.source_filter.specs.declared.record.Record.{Record}
-use Rattle.group_records.specs.Written.{is_of_family}
-use Rattle.group_records.specs.declared.family.Family.{Family}
-use Rattle.socket_merge.specs.Changes.{change_records}
-use Rattle.socket_merge.specs.FullReport.{is_quiet}
-use Rattle.socket_merge.specs.History.{AcceptedCall, Change, Close, LeaveAll, Open, Socket, SocketCall, latest, open_sockets, refiltered, same_name, with_call}
+use Rattle.std.proofs.{Common.{◌≡◌, ◌≤◌, ℕ, max, nat_lt, ◌==◌, not, ◌||◌, Bool, true, false, List, [], ◌∷◌, All, Option, Some, None, Result, Ok, Err, if◌then◌else◌, refl, sym, subst, arith}, lemmas.List.Elements.{All-append, All-cons, All-filter, All-map, All-nil, All-weaker}}
+use Rattle.amt_values.specs.{EndpointValue.{EndpointValue}, declared.{address.Ip.{Ip}, mac.Mac48.{Mac48}, peer.Peer.{Peer}}}
+use Rattle.amt_messages.specs.{Refusal.{message_of}, declared.{message.Message.{Message, TheVariants.{Discovery, Advertisement, Request, Query, Update, Multicast, Teardown}}, refusal.Refused.{Refused}}}
+use Rattle.source_filter.specs.{Filter.{FilterValue}, declared.query.QueryFields.{QueryFields}, declared.record.Record.{Record}}
+use Rattle.group_records.specs.{Written.{is_of_family}, declared.family.Family.{Family}}
+use Rattle.socket_merge.specs.{Changes.{change_records}, FullReport.{is_quiet}, History.{AcceptedCall, Change, Close, LeaveAll, Open, Socket, SocketCall, latest, open_sockets, refiltered, same_name, with_call}}
 use Rattle.gateway_machine.specs.declared.event.GatewayEvent.{GatewayEvent}
 use Rattle.gateway_machine.specs.declared.event.GatewayEvent.TheVariants.{Moment, Nonce as Draws, Datagram, Open as Opens, Change as Changes, Close as Closes, LeaveAll as LeavesAll}
-use Rattle.gateway_machine.specs.declared.exchange.Exchange.{Exchange}
-use Rattle.gateway_machine.specs.declared.exchange.GatewayState.{GatewayState}
+use Rattle.gateway_machine.specs.declared.exchange.{Exchange.{Exchange}, GatewayState.{GatewayState}}
 use Rattle.gateway_machine.specs.declared.exchange.GatewayState.TheVariants.{Idle as InIdle, Discovering as InDiscovering, Requesting as InRequesting, Active as InActive}
-use Rattle.gateway_machine.specs.declared.outcome.Ignored.{Ignored}
-use Rattle.gateway_machine.specs.declared.outcome.SocketRefusal.{SocketRefusal}
-use Rattle.gateway_machine.specs.declared.settings.GatewaySettings.{GatewaySettings}
+use Rattle.gateway_machine.specs.declared.{outcome.{Ignored.{Ignored}, SocketRefusal.{SocketRefusal}}, settings.GatewaySettings.{GatewaySettings}}
 use Rattle.gateway_machine.specs.Answers.{Answer, accepted_answer, advertisement_answer, answer_at, asked_relay, begin_with, call_answer, call_by, call_in, cause_heard, changed_answer, datagram_answer, due_answer, event_answer, fields_heard, history_after, history_by, if_accepted, is_idle, is_opening, joined_relay, packet_by, query_by, refusal_at}
-use Rattle.gateway_machine.specs.Events.{IsEventOf}
-use Rattle.gateway_machine.specs.Exchange.{moved}
-use Rattle.gateway_machine.specs.Outcomes.{IsRefused}
-use Rattle.gateway_machine.specs.Settings.{family_of}
-use Rattle.gateway_machine.specs.Timing.{farewell_ms}
+use Rattle.gateway_machine.specs.{Events.{IsEventOf}, Exchange.{moved}, Outcomes.{IsRefused}, Settings.{family_of}, Timing.{farewell_ms}}
 
 -- the answer keeps the moment, and what it refuses changes nothing
 record IsSteady (exchange : Exchange) (answer : Answer) : Type 0 where

@@ -1,8 +1,6 @@
 -- How long a gateway waits, and how long a report counts.
 use Rattle.std.proofs.Common.{◌≡◌, ℕ, ◌+◌, ◌-◌, ◌*◌, ◌^◌, ◌≤◌, ◌<◌, sym, ap, arith}
-use Rattle.std.proofs.Math.Nat.{min-eq_right}
-use Rattle.std.proofs.Math.Pow.{pow_mono}
-use Rattle.std.proofs.lemmas.Nat.{mul-le}
+use Rattle.std.proofs.{Math.{Nat.{min-eq_right}, Pow.{pow_mono}}, lemmas.Nat.{mul-le}}
 use Rattle.gateway_machine.specs.Timing.{wait_ms}
 
 -- two minutes from the eighth try on

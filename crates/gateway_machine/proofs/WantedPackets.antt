@@ -1,42 +1,15 @@
 -- A packet is handed on only as it stands in Multicast Data from the relay, and where some socket wants it.
 use Rattle.std.proofs.Common.{◌≡◌, ℕ, eqb, nat_lt, ◌||◌, not, Bool, true, false, List, [], ◌∷◌, Option, Some, None, Result, Ok, Err, if◌then◌else◌, refl, sym, ap, subst}
-use Rattle.amt_values.specs.Group.{is_forwardable}
-use Rattle.amt_values.specs.declared.address.Ip.{Ip}
-use Rattle.amt_values.specs.declared.mac.Mac48.{Mac48}
-use Rattle.amt_values.specs.EndpointValue.{EndpointValue}
-use Rattle.amt_values.specs.declared.peer.Peer.{Peer}
-use Rattle.amt_messages.specs.Refusal.{message_of}
-use Rattle.amt_messages.specs.declared.message.Message.{Message}
-use Rattle.amt_messages.specs.declared.message.Message.TheVariants.{Discovery, Advertisement, Request, Query, Update, Multicast, Teardown}
-use Rattle.amt_messages.specs.declared.refusal.Refused.{Refused}
-use Rattle.amt_messages.proofs.Answered.{Spells-read}
-use Rattle.inner_datagrams.specs.Head.{IsHead, head_of}
-use Rattle.inner_datagrams.specs.declared.head.Head.{Head}
-use Rattle.inner_datagrams.specs.declared.head.HeadFault.{HeadFault}
-use Rattle.inner_datagrams.proofs.Heads.{answer_found}
-use Rattle.source_filter.specs.declared.query.QueryFields.{QueryFields}
-use Rattle.source_filter.specs.declared.record.Record.{Record}
-use Rattle.socket_merge.specs.Changes.{change_records}
-use Rattle.socket_merge.specs.FullReport.{is_quiet}
-use Rattle.socket_merge.specs.History.{AcceptedCall, Change, Close, LeaveAll, Open, SocketCall, with_call}
-use Rattle.socket_merge.specs.Interface.{wants}
-use Rattle.gateway_machine.specs.declared.event.GatewayEvent.{GatewayEvent}
-use Rattle.gateway_machine.specs.declared.event.GatewayEvent.TheVariants.{Moment, Nonce as Draws, Datagram, Open as Opens, Change as Changes, Close as Closes, LeaveAll as LeavesAll}
-use Rattle.gateway_machine.specs.declared.exchange.Exchange.{Exchange}
-use Rattle.gateway_machine.specs.declared.exchange.GatewayState.{GatewayState}
-use Rattle.gateway_machine.specs.declared.exchange.GatewayState.TheVariants.{Idle as InIdle, Discovering as InDiscovering, Requesting as InRequesting, Active as InActive}
-use Rattle.gateway_machine.specs.declared.outcome.GatewayOutcome.TheVariants.{Quiet, Idle}
-use Rattle.gateway_machine.specs.declared.outcome.Ignored.{Ignored}
-use Rattle.gateway_machine.specs.declared.outcome.Ignored.TheVariants.{Nonce, NotWanted, Scope, Sender}
-use Rattle.gateway_machine.specs.declared.outcome.SocketRefusal.{SocketRefusal}
-use Rattle.gateway_machine.specs.declared.settings.GatewaySettings.{GatewaySettings}
+use Rattle.amt_values.specs.{Group.{is_forwardable}, declared.{address.Ip.{Ip}, mac.Mac48.{Mac48}, peer.Peer.{Peer}}, EndpointValue.{EndpointValue}}
+use Rattle.amt_messages.{specs.{Refusal.{message_of}, declared.{message.Message.{Message, TheVariants.{Discovery, Advertisement, Request, Query, Update, Multicast, Teardown}}, refusal.Refused.{Refused}}}, proofs.Answered.{Spells-read}}
+use Rattle.inner_datagrams.{specs.{Head.{IsHead, head_of}, declared.head.{Head.{Head}, HeadFault.{HeadFault}}}, proofs.Heads.{answer_found}}
+use Rattle.source_filter.specs.{declared.query.QueryFields.{QueryFields}, declared.record.Record.{Record}}
+use Rattle.socket_merge.specs.{Changes.{change_records}, FullReport.{is_quiet}, History.{AcceptedCall, Change, Close, LeaveAll, Open, SocketCall, with_call}, Interface.{wants}}
+use Rattle.gateway_machine.specs.declared.{event.GatewayEvent.{GatewayEvent, TheVariants.{Moment, Nonce as Draws, Datagram, Open as Opens, Change as Changes, Close as Closes, LeaveAll as LeavesAll}}, exchange.Exchange.{Exchange}}
+use Rattle.gateway_machine.specs.declared.exchange.GatewayState.{GatewayState, TheVariants.{Idle as InIdle, Discovering as InDiscovering, Requesting as InRequesting, Active as InActive}}
+use Rattle.gateway_machine.specs.declared.{outcome.{GatewayOutcome.TheVariants.{Quiet, Idle}, Ignored.{Ignored, TheVariants.{Nonce, NotWanted, Scope, Sender}}, SocketRefusal.{SocketRefusal}}, settings.GatewaySettings.{GatewaySettings}}
 use Rattle.gateway_machine.specs.Answers.{Answer, accepted_answer, advertisement_answer, answer_at, ask, begin_with, call_answer, call_by, cause_heard, changed_answer, datagram_answer, due_answer, event_answer, fields_heard, asked_relay, ignored, is_idle, is_opening, joined_relay, packet_by, packet_cause, query_by, quiet, refusal_at, same_peer}
-use Rattle.gateway_machine.specs.Exchange.{idle, moved, relay_named, requesting, retried}
-use Rattle.gateway_machine.specs.Laws.{IsWantedPacket}
-use Rattle.gateway_machine.specs.Runs.{answer_after, run_of}
-use Rattle.gateway_machine.specs.Settings.{family_of}
-use Rattle.gateway_machine.specs.Timing.{farewell_ms}
-use Rattle.gateway_machine.proofs.Heard.{joined_relay-is, same_peer-is}
+use Rattle.gateway_machine.{specs.{Exchange.{idle, moved, relay_named, requesting, retried}, Laws.{IsWantedPacket}, Runs.{answer_after, run_of}, Settings.{family_of}, Timing.{farewell_ms}}, proofs.Heard.{joined_relay-is, same_peer-is}}
 
 if-none : (test : Bool) (one other : Answer) → one.deliver ≡ None → other.deliver ≡ None → (if test then one else other).deliver ≡ None
 if-none true one other one_none other_none = one_none

@@ -1,47 +1,17 @@
 -- The table of a gateway: what an event comes to, by the exchange and the socket calls before it (RFC
 -- 7450, section 5.2.3). It is the one place that says what is sent, what is handed on, and how the
 -- exchange goes on. Of the rows that fit an event the first counts.
-use Rattle.std.specs.Prelude.{ℕ, ◌==◌, ◌||◌, ◌&&◌, nat_lt, not, Bool, true, false, List, [], ◌∷◌, ◌++◌, Option, Some, None, Result, Ok, Err, if◌then◌else◌}
-use Rattle.std.specs.Ordering.{eq_by_cmp}
-use Rattle.amt_values.specs.EndpointValue.{EndpointValue}
-use Rattle.amt_values.specs.Group.{is_forwardable}
-use Rattle.amt_values.specs.Order.{ip_order}
-use Rattle.amt_values.specs.declared.address.Ip.{Ip}
-use Rattle.amt_values.specs.declared.mac.Mac48.{Mac48}
-use Rattle.amt_values.specs.declared.peer.Peer.{Peer}
-use Rattle.amt_messages.specs.Refusal.{message_of}
-use Rattle.amt_messages.specs.declared.message.Message.{Message}
-use Rattle.amt_messages.specs.declared.message.Message.TheVariants.{Discovery, Advertisement, Request, Query, Update, Multicast, Teardown}
-use Rattle.amt_messages.specs.declared.refusal.Refused.{Refused}
-use Rattle.inner_datagrams.specs.Head.{head_of}
-use Rattle.inner_datagrams.specs.declared.head.Head.{Head}
-use Rattle.inner_datagrams.specs.declared.head.HeadFault.{HeadFault}
-use Rattle.source_filter.specs.declared.query.QueryFields.{QueryFields}
-use Rattle.source_filter.specs.declared.record.Record.{Record}
-use Rattle.socket_merge.specs.FullReport.{is_quiet}
-use Rattle.socket_merge.specs.History.{AcceptedCall, Change, Close, LeaveAll, Open, SocketCall, with_call}
-use Rattle.socket_merge.specs.Changes.{change_records}
-use Rattle.socket_merge.specs.Interface.{wants}
-use Rattle.socket_merge.specs.Refusal.{refusal_of}
-use Rattle.gateway_machine.specs.declared.event.GatewayEvent.{GatewayEvent}
-use Rattle.gateway_machine.specs.declared.event.GatewayEvent.TheVariants.{Moment, Nonce as Draws, Datagram, Open as Opens, Change as Changes, Close as Closes, LeaveAll as LeavesAll}
-use Rattle.gateway_machine.specs.declared.exchange.Exchange.{Exchange}
-use Rattle.gateway_machine.specs.declared.exchange.GatewayState.{GatewayState}
-use Rattle.gateway_machine.specs.declared.exchange.GatewayState.TheVariants.{Idle as InIdle, Discovering as InDiscovering, Requesting as InRequesting, Active as InActive}
-use Rattle.gateway_machine.specs.declared.exchange.LastQuery.{LastQuery}
-use Rattle.gateway_machine.specs.declared.outcome.GatewayOutcome.{GatewayOutcome}
-use Rattle.gateway_machine.specs.declared.outcome.GatewayOutcome.TheVariants.{Quiet, Drawn, Discovering, Requesting, Active, Idle, Changed, Kept, Delivered, SocketRefused, Ignored as IgnoredAs}
-use Rattle.gateway_machine.specs.declared.outcome.Ignored.{Ignored}
-use Rattle.gateway_machine.specs.declared.outcome.Ignored.TheVariants.{Undecoded, Kind, State, Sender, Nonce, Head as NoHead, Scope, NotWanted}
-use Rattle.gateway_machine.specs.declared.outcome.SocketRefusal.{SocketRefusal}
-use Rattle.gateway_machine.specs.declared.settings.GatewaySettings.{GatewaySettings}
-use Rattle.gateway_machine.specs.Exchange.{active, discovering, idle, moved, relay_named, requesting, retried, with_next_nonce}
-use Rattle.gateway_machine.specs.General.{general_query_in}
-use Rattle.gateway_machine.specs.Refusals.{refusal_by}
-use Rattle.gateway_machine.specs.Reports.{change_reports, full_report, teardown}
-use Rattle.gateway_machine.specs.Sends.{Sending, discovery, request}
-use Rattle.gateway_machine.specs.Settings.{family_of}
-use Rattle.gateway_machine.specs.Timing.{farewell_ms, interval_of, lifetime_of}
+use Rattle.std.specs.{Prelude.{ℕ, ◌==◌, ◌||◌, ◌&&◌, nat_lt, not, Bool, true, false, List, [], ◌∷◌, ◌++◌, Option, Some, None, Result, Ok, Err, if◌then◌else◌}, Ordering.{eq_by_cmp}}
+use Rattle.amt_values.specs.{EndpointValue.{EndpointValue}, Group.{is_forwardable}, Order.{ip_order}, declared.{address.Ip.{Ip}, mac.Mac48.{Mac48}, peer.Peer.{Peer}}}
+use Rattle.amt_messages.specs.{Refusal.{message_of}, declared.{message.Message.{Message, TheVariants.{Discovery, Advertisement, Request, Query, Update, Multicast, Teardown}}, refusal.Refused.{Refused}}}
+use Rattle.inner_datagrams.specs.{Head.{head_of}, declared.head.{Head.{Head}, HeadFault.{HeadFault}}}
+use Rattle.source_filter.specs.{declared.query.QueryFields.{QueryFields}, declared.record.Record.{Record}}
+use Rattle.socket_merge.specs.{FullReport.{is_quiet}, History.{AcceptedCall, Change, Close, LeaveAll, Open, SocketCall, with_call}, Changes.{change_records}, Interface.{wants}, Refusal.{refusal_of}}
+use Rattle.gateway_machine.specs.declared.{event.GatewayEvent.{GatewayEvent, TheVariants.{Moment, Nonce as Draws, Datagram, Open as Opens, Change as Changes, Close as Closes, LeaveAll as LeavesAll}}, exchange.Exchange.{Exchange}}
+use Rattle.gateway_machine.specs.declared.exchange.{GatewayState.{GatewayState, TheVariants.{Idle as InIdle, Discovering as InDiscovering, Requesting as InRequesting, Active as InActive}}, LastQuery.{LastQuery}}
+use Rattle.gateway_machine.specs.declared.outcome.GatewayOutcome.{GatewayOutcome, TheVariants.{Quiet, Drawn, Discovering, Requesting, Active, Idle, Changed, Kept, Delivered, SocketRefused, Ignored as IgnoredAs}}
+use Rattle.gateway_machine.specs.declared.outcome.{Ignored.{Ignored, TheVariants.{Undecoded, Kind, State, Sender, Nonce, Head as NoHead, Scope, NotWanted}}, SocketRefusal.{SocketRefusal}}
+use Rattle.gateway_machine.specs.{declared.settings.GatewaySettings.{GatewaySettings}, Exchange.{active, discovering, idle, moved, relay_named, requesting, retried, with_next_nonce}, General.{general_query_in}, Refusals.{refusal_by}, Reports.{change_reports, full_report, teardown}, Sends.{Sending, discovery, request}, Settings.{family_of}, Timing.{farewell_ms, interval_of, lifetime_of}}
 
 -- the answer to an event: what it comes to, what is sent, what is handed on, and the exchange after it
 pub record Answer : Type 0 where

@@ -1,13 +1,7 @@
 -- What a socket call comes to.
 use Rattle.std.specs.Prelude.{◌≡◌, ℕ, List, Option, Some, None, Result, Ok, Err}
-use Rattle.socket_merge.specs.History.{AcceptedCall, SocketCall, with_call}
-use Rattle.socket_merge.specs.Refusal.{refusal_of}
-use Rattle.socket_merge.specs.Sockets.{SocketsHold, SocketsValue}
-use Rattle.socket_merge.specs.declared.fault.SocketFault.{SocketFault}
-use Rattle.gateway_machine.specs.declared.calls.CallFault.{CallFault}
-use Rattle.gateway_machine.specs.declared.calls.CallFault.TheVariants.{Refused, Memory}
-use Rattle.gateway_machine.specs.declared.outcome.SocketRefusal.{SocketRefusal}
-use Rattle.gateway_machine.specs.Refusals.{refusal_by, refusal_in}
+use Rattle.socket_merge.specs.{History.{AcceptedCall, SocketCall, with_call}, Refusal.{refusal_of}, Sockets.{SocketsHold, SocketsValue}, declared.fault.SocketFault.{SocketFault}}
+use Rattle.gateway_machine.specs.{declared.{calls.CallFault.{CallFault, TheVariants.{Refused, Memory}}, outcome.SocketRefusal.{SocketRefusal}}, Refusals.{refusal_by, refusal_in}}
 
 -- the fault with this refusal; where there is none, memory ran out
 abbrev pub fault_by : Option SocketRefusal → CallFault

@@ -1,10 +1,6 @@
 -- When something is due.
 use Rattle.std.specs.Prelude.{◌≡◌, ℕ, ◌<◌, ◌^◌, ◌↔◌, max, List, Option, Some, None}
-use Rattle.gateway_machine.specs.declared.event.GatewayEvent.{GatewayEvent}
-use Rattle.gateway_machine.specs.declared.event.GatewayEvent.TheVariants.{Moment}
-use Rattle.gateway_machine.specs.declared.outcome.GatewayOutcome.TheVariants.{Quiet}
-use Rattle.gateway_machine.specs.declared.settings.GatewaySettings.{GatewaySettings}
-use Rattle.gateway_machine.specs.Runs.{answer_after, run_of}
+use Rattle.gateway_machine.specs.{declared.{event.GatewayEvent.{GatewayEvent, TheVariants.{Moment}}, outcome.GatewayOutcome.TheVariants.{Quiet}, settings.GatewaySettings.{GatewaySettings}}, Runs.{answer_after, run_of}}
 
 -- a moment is before another one, if there is one
 abbrev pub IsBefore : ℕ → Option ℕ → Type 0

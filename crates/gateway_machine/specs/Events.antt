@@ -3,10 +3,7 @@ use Rattle.std.specs.Prelude.{◌≡◌, ◌≤◌, true, length, All}
 use Rattle.amt_values.specs.Group.{is_forwardable}
 use Rattle.source_filter.specs.Filter.{FilterValue}
 use Rattle.group_records.specs.Written.{is_of_family}
-use Rattle.gateway_machine.specs.declared.event.GatewayEvent.{GatewayEvent}
-use Rattle.gateway_machine.specs.declared.event.GatewayEvent.TheVariants.{Moment, Nonce, Datagram, Open, Change, Close, LeaveAll}
-use Rattle.gateway_machine.specs.declared.settings.GatewaySettings.{GatewaySettings}
-use Rattle.gateway_machine.specs.Settings.{family_of}
+use Rattle.gateway_machine.specs.{declared.{event.GatewayEvent.{GatewayEvent, TheVariants.{Moment, Nonce, Datagram, Open, Change, Close, LeaveAll}}, settings.GatewaySettings.{GatewaySettings}}, Settings.{family_of}}
 
 -- the sources of a socket's filter are of the gateway's family, and their number can be told
 pub record IsFilterOf (settings : GatewaySettings) (filter : FilterValue) : Type 0 where

@@ -1,11 +1,7 @@
 -- What a gateway remembers of its exchange with relays, and how it goes on (RFC 7450, section 5.2.3).
 use Rattle.std.specs.Prelude.{ℕ, ◌+◌, ◌*◌, ◌%◌, ◌^◌, max, min, Some, None}
 use Rattle.amt_values.specs.declared.address.Ip.{Ip}
-use Rattle.gateway_machine.specs.declared.exchange.Exchange.{Exchange}
-use Rattle.gateway_machine.specs.declared.exchange.GatewayState.TheVariants.{Idle, Discovering, Requesting, Active}
-use Rattle.gateway_machine.specs.declared.exchange.LastQuery.{LastQuery}
-use Rattle.gateway_machine.specs.declared.settings.GatewaySettings.{GatewaySettings}
-use Rattle.gateway_machine.specs.Timing.{wait_ms}
+use Rattle.gateway_machine.specs.{declared.{exchange.{Exchange.{Exchange}, GatewayState.TheVariants.{Idle, Discovering, Requesting, Active}, LastQuery.{LastQuery}}, settings.GatewaySettings.{GatewaySettings}}, Timing.{wait_ms}}
 
 -- the exchange before any event, with the first nonce
 abbrev pub start : GatewaySettings → ℕ → Exchange

@@ -1,18 +1,11 @@
 -- The General Query that a Query carries (RFC 7450, section 5.1.4), as a gateway of one family reads it.
 use Rattle.std.specs.Prelude.{ℕ, ◌==◌, Bool, true, false, List, Option, Some, None, Result, Ok, Err, if◌then◌else◌}
-use Rattle.amt_values.specs.Address.{number_of}
-use Rattle.amt_values.specs.declared.address.Ip.{Ip}
-use Rattle.amt_values.specs.declared.address.Ip.TheVariants.{V4, V6}
-use Rattle.inner_datagrams.specs.Fault.{first_inner_fault}
-use Rattle.inner_datagrams.specs.Reading.{inner_at, payload_in}
-use Rattle.inner_datagrams.specs.declared.inner.InnerFault.{InnerFault}
-use Rattle.source_filter.specs.declared.fault.ReportFault.{ReportFault}
-use Rattle.source_filter.specs.declared.query.QueryFields.{QueryFields}
-use Rattle.source_filter.specs.declared.query.QueryRead.{QueryRead}
+use Rattle.amt_values.specs.{Address.{number_of}, declared.address.Ip.{Ip, TheVariants.{V4, V6}}}
+use Rattle.inner_datagrams.specs.{Fault.{first_inner_fault}, Reading.{inner_at, payload_in}, declared.inner.InnerFault.{InnerFault}}
+use Rattle.source_filter.specs.declared.{fault.ReportFault.{ReportFault}, query.{QueryFields.{QueryFields}, QueryRead.{QueryRead}}}
 use Rattle.igmp_records.specs.Query.{query4_of}
 use Rattle.mld_records.specs.Query.{query6_of}
-use Rattle.gateway_machine.specs.declared.outcome.Ignored.{Ignored}
-use Rattle.gateway_machine.specs.declared.outcome.Ignored.TheVariants.{Body, Family, Inner, NotGeneral}
+use Rattle.gateway_machine.specs.declared.outcome.Ignored.{Ignored, TheVariants.{Body, Family, Inner, NotGeneral}}
 
 -- the fields of a query of all groups (RFC 3376, section 4.1.11; RFC 3810, section 5.1.13)
 abbrev pub general_fields : Result QueryRead ReportFault → Result QueryFields Ignored

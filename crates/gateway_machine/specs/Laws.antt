@@ -1,26 +1,11 @@
 -- What holds of each datagram and each packet that a gateway lets out, and of its exchange, over every run.
-use Rattle.std.specs.Prelude.{◌≡◌, ℕ, Bool, true, List, [], ◌∷◌, ◌++◌, All, Option, Some, None, map}
-use Rattle.std.specs.List.{filter_map}
-use Rattle.amt_values.specs.EndpointValue.{EndpointValue}
-use Rattle.amt_values.specs.Group.{is_forwardable}
-use Rattle.amt_values.specs.declared.mac.Mac48.{Mac48}
-use Rattle.amt_values.specs.declared.peer.Peer.{Peer}
-use Rattle.amt_messages.specs.Layout.{Spells}
-use Rattle.amt_messages.specs.declared.message.Message.{Message}
-use Rattle.amt_messages.specs.declared.message.Message.TheVariants.{Discovery, Advertisement, Request, Query, Update, Multicast, Teardown}
-use Rattle.inner_datagrams.specs.Head.{IsHead}
-use Rattle.inner_datagrams.specs.declared.head.Head.{Head}
+use Rattle.std.specs.{Prelude.{◌≡◌, ℕ, Bool, true, List, [], ◌∷◌, ◌++◌, All, Option, Some, None, map}, List.{filter_map}}
+use Rattle.amt_values.specs.{EndpointValue.{EndpointValue}, Group.{is_forwardable}, declared.{mac.Mac48.{Mac48}, peer.Peer.{Peer}}}
+use Rattle.amt_messages.specs.{Layout.{Spells}, declared.message.Message.{Message, TheVariants.{Discovery, Advertisement, Request, Query, Update, Multicast, Teardown}}}
+use Rattle.inner_datagrams.specs.{Head.{IsHead}, declared.head.Head.{Head}}
 use Rattle.socket_merge.specs.Interface.{wants}
-use Rattle.gateway_machine.specs.declared.event.GatewayEvent.{GatewayEvent}
-use Rattle.gateway_machine.specs.declared.event.GatewayEvent.TheVariants.{Datagram}
-use Rattle.gateway_machine.specs.declared.exchange.GatewayState.{GatewayState}
-use Rattle.gateway_machine.specs.declared.exchange.GatewayState.TheVariants.{Idle as InIdle, Discovering as InDiscovering, Requesting as InRequesting, Active as InActive}
-use Rattle.gateway_machine.specs.declared.exchange.LastQuery.{LastQuery}
-use Rattle.gateway_machine.specs.declared.outcome.GatewayOutcome.TheVariants.{Active}
-use Rattle.gateway_machine.specs.declared.settings.GatewaySettings.{GatewaySettings}
-use Rattle.gateway_machine.specs.declared.step.PeerSend.{PeerSend}
-use Rattle.gateway_machine.specs.Runs.{answer_after, run_of}
-use Rattle.gateway_machine.specs.Sends.{Sending, datagram_of}
+use Rattle.gateway_machine.specs.declared.{event.GatewayEvent.{GatewayEvent, TheVariants.{Datagram}}, exchange.GatewayState.{GatewayState}}
+use Rattle.gateway_machine.specs.{declared.{exchange.{GatewayState.TheVariants.{Idle as InIdle, Discovering as InDiscovering, Requesting as InRequesting, Active as InActive}, LastQuery.{LastQuery}}, outcome.GatewayOutcome.TheVariants.{Active}, settings.GatewaySettings.{GatewaySettings}, step.PeerSend.{PeerSend}}, Runs.{answer_after, run_of}, Sends.{Sending, datagram_of}}
 
 -- the nonce of a Request
 abbrev pub nonce_asked : Message → Option ℕ

@@ -1,9 +1,7 @@
 -- Why a gateway refuses a socket call.
 use Rattle.std.specs.Prelude.{Option, Some, None}
-use Rattle.socket_merge.specs.declared.fault.SocketFault.{SocketFault}
-use Rattle.socket_merge.specs.declared.fault.SocketFault.TheVariants.{Taken, NoSocket, SourcesFull, ReportFull, Memory}
-use Rattle.gateway_machine.specs.declared.outcome.SocketRefusal.{SocketRefusal}
-use Rattle.gateway_machine.specs.declared.outcome.SocketRefusal.TheVariants.{Taken as IsTaken, NoSocket as LacksSocket, SourcesFull as HasFullSources, ReportFull as HasFullReport}
+use Rattle.socket_merge.specs.declared.fault.SocketFault.{SocketFault, TheVariants.{Taken, NoSocket, SourcesFull, ReportFull, Memory}}
+use Rattle.gateway_machine.specs.declared.outcome.SocketRefusal.{SocketRefusal, TheVariants.{Taken as IsTaken, NoSocket as LacksSocket, SourcesFull as HasFullSources, ReportFull as HasFullReport}}
 
 -- the refusal in a fault. Out of memory is none; refusal_of never gives it, so that by the cause of a call
 -- None says that the call is accepted

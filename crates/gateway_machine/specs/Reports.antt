@@ -1,23 +1,13 @@
 -- The reports that a gateway sends (RFC 7450, section 5.1.5).
-use Rattle.std.specs.Prelude.{ℕ, Bool, true, false, List, [], ◌∷◌, ◌++◌, Option, Some, None}
-use Rattle.std.specs.Ordering.{eq_by_cmp}
-use Rattle.amt_values.specs.EndpointValue.{EndpointValue}
-use Rattle.amt_values.specs.Order.{endpoint_order}
-use Rattle.amt_values.specs.declared.address.Ip.{Ip}
-use Rattle.amt_values.specs.declared.address.Ip.TheVariants.{V4, V6}
+use Rattle.std.specs.{Prelude.{ℕ, Bool, true, false, List, [], ◌∷◌, ◌++◌, Option, Some, None}, Ordering.{eq_by_cmp}}
+use Rattle.amt_values.specs.{EndpointValue.{EndpointValue}, Order.{endpoint_order}, declared.address.Ip.{Ip, TheVariants.{V4, V6}}}
 use Rattle.amt_messages.specs.declared.message.Message.TheVariants.{Teardown, Update}
 use Rattle.inner_datagrams.specs.Written.{written_inner4, written_inner6}
 use Rattle.source_filter.specs.declared.record.Record.{Record}
 use Rattle.igmp_records.specs.Report.{written_report4}
 use Rattle.mld_records.specs.Report.{written_report6}
-use Rattle.socket_merge.specs.FullReport.{full_report_of}
-use Rattle.socket_merge.specs.History.{AcceptedCall}
-use Rattle.gateway_machine.specs.declared.exchange.Exchange.{Exchange}
-use Rattle.gateway_machine.specs.declared.exchange.LastQuery.{LastQuery}
-use Rattle.gateway_machine.specs.declared.settings.GatewaySettings.{GatewaySettings}
-use Rattle.gateway_machine.specs.Sends.{Sending, to_relay}
-use Rattle.gateway_machine.specs.Settings.{family_of}
-use Rattle.gateway_machine.specs.Timing.{farewell_ms}
+use Rattle.socket_merge.specs.{FullReport.{full_report_of}, History.{AcceptedCall}}
+use Rattle.gateway_machine.specs.{declared.{exchange.{Exchange.{Exchange}, LastQuery.{LastQuery}}, settings.GatewaySettings.{GatewaySettings}}, Sends.{Sending, to_relay}, Settings.{family_of}, Timing.{farewell_ms}}
 
 -- 224.0.0.22, to which reports of IGMPv3 go (RFC 3376, section 4.2.14)
 abbrev pub igmp_routers : ℕ

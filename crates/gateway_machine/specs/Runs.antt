@@ -1,15 +1,7 @@
 -- The runs of a gateway: where a list of events leaves one, and what it sent on the way.
-use Rattle.std.specs.Prelude.{◌≡◌, ℕ, List, [], ◌++◌}
-use Rattle.std.specs.List.{fold}
-use Rattle.socket_merge.specs.History.{AcceptedCall}
-use Rattle.socket_merge.specs.Sockets.{SocketsHold}
-use Rattle.gateway_machine.specs.declared.event.GatewayEvent.{GatewayEvent}
-use Rattle.gateway_machine.specs.declared.exchange.Exchange.{Exchange}
-use Rattle.gateway_machine.specs.declared.gateway.Gateway.{Gateway}
-use Rattle.gateway_machine.specs.declared.settings.GatewaySettings.{GatewaySettings}
-use Rattle.gateway_machine.specs.Answers.{Answer, event_answer, history_after}
-use Rattle.gateway_machine.specs.Exchange.{start}
-use Rattle.gateway_machine.specs.Sends.{Sending}
+use Rattle.std.specs.{Prelude.{◌≡◌, ℕ, List, [], ◌++◌}, List.{fold}}
+use Rattle.socket_merge.specs.{History.{AcceptedCall}, Sockets.{SocketsHold}}
+use Rattle.gateway_machine.specs.{declared.{event.GatewayEvent.{GatewayEvent}, exchange.Exchange.{Exchange}, gateway.Gateway.{Gateway}, settings.GatewaySettings.{GatewaySettings}}, Answers.{Answer, event_answer, history_after}, Exchange.{start}, Sends.{Sending}}
 
 -- the exchange, the accepted socket calls, newest first, and all that was sent, in order
 pub record Run : Type 0 where

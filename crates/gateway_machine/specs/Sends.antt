@@ -1,12 +1,8 @@
 -- What a gateway sends.
 use Rattle.std.specs.Prelude.{◌≤◌, Bool, false, List, [], ◌∷◌, All, length, Option, Some, None}
 use Rattle.amt_values.specs.declared.peer.Peer.{Peer}
-use Rattle.amt_messages.specs.Layout.{spelling_of}
-use Rattle.amt_messages.specs.declared.message.Message.{Message}
-use Rattle.amt_messages.specs.declared.message.Message.TheVariants.{Discovery, Request}
-use Rattle.gateway_machine.specs.declared.exchange.Exchange.{Exchange}
-use Rattle.gateway_machine.specs.declared.settings.GatewaySettings.{GatewaySettings}
-use Rattle.gateway_machine.specs.declared.step.PeerSend.{PeerSend}
+use Rattle.amt_messages.specs.{Layout.{spelling_of}, declared.message.Message.{Message, TheVariants.{Discovery, Request}}}
+use Rattle.gateway_machine.specs.declared.{exchange.Exchange.{Exchange}, settings.GatewaySettings.{GatewaySettings}, step.PeerSend.{PeerSend}}
 
 -- a message to a peer, and whether it carries a full report
 pub record Sending : Type 0 where

@@ -1,7 +1,6 @@
 -- What a gateway is set up with.
 use Rattle.std.specs.Prelude.{◌≡◌, true}
-use Rattle.group_records.specs.declared.family.Family.{Family}
-use Rattle.group_records.specs.Written.{is_of_family}
+use Rattle.group_records.specs.{declared.family.Family.{Family}, Written.{is_of_family}}
 use Rattle.socket_merge.specs.FullReport.{family_by}
 use Rattle.gateway_machine.specs.declared.settings.GatewaySettings.{GatewaySettings}
 

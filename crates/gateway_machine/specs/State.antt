@@ -2,18 +2,8 @@
 -- history its sockets stand for.
 use Rattle.std.specs.Prelude.{◌≡◌, ◌≤◌, true, List, All, Option, Some, None, Result, IfOk, map}
 use Rattle.group_records.specs.Written.{is_of_family}
-use Rattle.socket_merge.specs.History.{AcceptedCall, SocketCall}
-use Rattle.socket_merge.specs.Sockets.{SocketsHold, SocketsValue, ForHistory}
-use Rattle.gateway_machine.specs.declared.exchange.Exchange.{Exchange}
-use Rattle.gateway_machine.specs.declared.event.GatewayEvent.{GatewayEvent}
-use Rattle.gateway_machine.specs.declared.reply.Reply.{Reply}
-use Rattle.gateway_machine.specs.declared.step.GatewayStep.{GatewayStep}
-use Rattle.gateway_machine.specs.declared.taken.Taken.{Taken}
-use Rattle.gateway_machine.specs.declared.settings.GatewaySettings.{GatewaySettings}
-use Rattle.gateway_machine.specs.Answers.{Answer, call_answer, event_answer, history_after, history_by}
-use Rattle.gateway_machine.specs.Outcomes.{IsRefused}
-use Rattle.gateway_machine.specs.Sends.{datagram_of}
-use Rattle.gateway_machine.specs.Settings.{family_of}
+use Rattle.socket_merge.specs.{History.{AcceptedCall, SocketCall}, Sockets.{SocketsHold, SocketsValue, ForHistory}}
+use Rattle.gateway_machine.specs.{declared.{exchange.Exchange.{Exchange}, event.GatewayEvent.{GatewayEvent}, reply.Reply.{Reply}, step.GatewayStep.{GatewayStep}, taken.Taken.{Taken}, settings.GatewaySettings.{GatewaySettings}}, Answers.{Answer, call_answer, event_answer, history_after, history_by}, Outcomes.{IsRefused}, Sends.{datagram_of}, Settings.{family_of}}
 
 -- the sockets stand for some history
 abbrev pub HasHistory : SocketsValue → Type 0

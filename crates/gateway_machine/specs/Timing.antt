@@ -1,9 +1,7 @@
 -- How long a gateway waits, and what a General Query says of time.
 use Rattle.std.specs.Prelude.{ℕ, ◌+◌, ◌*◌, ◌-◌, ◌^◌, ◌==◌, min, Option, Some, None, if◌then◌else◌}
 use Rattle.source_filter.specs.declared.query.QueryFields.{QueryFields}
-use Rattle.group_records.specs.declared.family.Family.{Family}
-use Rattle.group_records.specs.declared.family.Family.TheVariants.{V4, V6}
-use Rattle.group_records.specs.Code.{code_value}
+use Rattle.group_records.specs.{declared.family.Family.{Family, TheVariants.{V4, V6}}, Code.{code_value}}
 use Rattle.socket_merge.specs.FullReport.{longest_farewell}
 use Rattle.gateway_machine.specs.declared.exchange.LastQuery.{LastQuery}
 

@@ -1,10 +1,7 @@
 //! What an Advertisement comes to.
 
 ghost use Rattle.std.specs.Prelude.{IfOk, IsOk};
-ghost use Rattle.gateway_machine.specs.Answers.{advertisement_answer};
-ghost use Rattle.gateway_machine.specs.Outcomes.{IsRefused};
-ghost use Rattle.gateway_machine.specs.Sends.{AreShort};
-ghost use Rattle.gateway_machine.specs.State.{IsReply};
+ghost use Rattle.gateway_machine.specs.{Answers.{advertisement_answer}, Outcomes.{IsRefused}, Sends.{AreShort}, State.{IsReply}};
 
 use crate::asking::ask;
 use crate::exchange::{Exchange, GatewayState};

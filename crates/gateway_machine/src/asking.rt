@@ -1,10 +1,7 @@
 //! Discoveries and Requests. It must not know sockets.
 
 ghost use Rattle.std.specs.Prelude.{IfOk, IsOk};
-ghost use Rattle.gateway_machine.specs.Answers.{ask, begin_with, discover, due_answer};
-ghost use Rattle.gateway_machine.specs.Outcomes.{IsAtRest};
-ghost use Rattle.gateway_machine.specs.Sends.{AreShort};
-ghost use Rattle.gateway_machine.specs.State.{IsReply};
+ghost use Rattle.gateway_machine.specs.{Answers.{ask, begin_with, discover, due_answer}, Outcomes.{IsAtRest}, Sends.{AreShort}, State.{IsReply}};
 
 use crate::exchange::{Exchange, GatewayState};
 use crate::outcome::GatewayOutcome;

@@ -4,15 +4,8 @@
 ghost use Rattle.std.specs.Prelude.{◌≡◌, ℕ, ◌≤◌, true, length, All, IfOk};
 ghost use Rattle.amt_values.specs.Group.{is_forwardable};
 ghost use Rattle.group_records.specs.Written.{IsOfFamily, report_length};
-ghost use Rattle.socket_merge.specs.History.{Change, Close, LeaveAll, Open, SocketCall, with_call};
-ghost use Rattle.socket_merge.specs.Sockets.{AreOfGroup, AreOfSocket, ForHistory, SocketsHold};
-ghost use Rattle.socket_merge.specs.Changes.{IsOneCallAfter, change_records};
-ghost use Rattle.socket_merge.specs.FullReport.{family_by};
-ghost use Rattle.gateway_machine.specs.Answers.{accepted_answer, changed_answer};
-ghost use Rattle.gateway_machine.specs.Calls.{AnswersCall, call_fault};
-ghost use Rattle.gateway_machine.specs.Sends.{AreShort};
-ghost use Rattle.gateway_machine.specs.Settings.{HasSourceOfFamily};
-ghost use Rattle.gateway_machine.specs.State.{IsAtMoment, IsReply};
+ghost use Rattle.socket_merge.specs.{History.{Change, Close, LeaveAll, Open, SocketCall, with_call}, Sockets.{AreOfGroup, AreOfSocket, ForHistory, SocketsHold}, Changes.{IsOneCallAfter, change_records}, FullReport.{family_by}};
+ghost use Rattle.gateway_machine.specs.{Answers.{accepted_answer, changed_answer}, Calls.{AnswersCall, call_fault}, Sends.{AreShort}, Settings.{HasSourceOfFamily}, State.{IsAtMoment, IsReply}};
 
 use crate::asking::begin;
 use crate::exchange::{Exchange, GatewayState};

@@ -1,14 +1,9 @@
 //! What a datagram comes to: its octets, its type, and the message by its own file.
 
 ghost use Rattle.std.specs.Prelude.{◌≤◌, length, IfOk, IsOk, Ok};
-ghost use Rattle.amt_messages.specs.Messages.{IsSendable};
-ghost use Rattle.amt_messages.specs.Refusal.{TakesMemory, message_of};
+ghost use Rattle.amt_messages.specs.{Messages.{IsSendable}, Refusal.{TakesMemory, message_of}};
 ghost use Rattle.socket_merge.specs.Sockets.{ForHistory};
-ghost use Rattle.gateway_machine.specs.Answers.{datagram_answer};
-ghost use Rattle.gateway_machine.specs.Outcomes.{IsRefused};
-ghost use Rattle.gateway_machine.specs.Sends.{AreShort};
-ghost use Rattle.gateway_machine.specs.Settings.{HasSourceOfFamily};
-ghost use Rattle.gateway_machine.specs.State.{IsAtMoment, Replies};
+ghost use Rattle.gateway_machine.specs.{Answers.{datagram_answer}, Outcomes.{IsRefused}, Sends.{AreShort}, Settings.{HasSourceOfFamily}, State.{IsAtMoment, Replies}};
 
 use crate::advertisement::take_advertisement;
 use crate::exchange::Exchange;

@@ -1,9 +1,7 @@
 //! The gateway as a machine: where it starts, what is read off it, and one step. It knows no message.
 
-ghost use Rattle.std.specs.Prelude.{◌≡◌};
-ghost use Rattle.std.proofs.Props.{props};
-ghost use Rattle.gateway_machine.specs.Settings.{HasSourceOfFamily};
-ghost use Rattle.gateway_machine.specs.State.{AreOfSettings, HasHistory, IsAtMoment};
+ghost use Rattle.std.{specs.Prelude.{◌≡◌}, proofs.Props.{props}};
+ghost use Rattle.gateway_machine.specs.{Settings.{HasSourceOfFamily}, State.{AreOfSettings, HasHistory, IsAtMoment}};
 
 use crate::event::GatewayEvent;
 use crate::exchange::{Exchange, GatewayState};
@@ -49,12 +47,7 @@ pub struct Gateway {
 impl Gateway {
     ghost use Rattle.std.specs.Prelude.{◌≡◌, ◌≤◌, List, ℕ, [], ◌∷◌, ◌++◌, All, length, map, Some, IfOk, IfSome, IsOk, OnErr};
     ghost use Rattle.socket_merge.specs.Interface.{wants};
-    ghost use Rattle.gateway_machine.specs.Due.{IsDueAt};
-    ghost use Rattle.gateway_machine.specs.Events.{IsDraw, IsEventOf};
-    ghost use Rattle.gateway_machine.specs.Laws.{AreAuthorized, IsWantedPacket};
-    ghost use Rattle.gateway_machine.specs.Runs.{After, GatewayAt, answer_after, run_of, settings_of};
-    ghost use Rattle.gateway_machine.specs.Outcomes.{IsRefused, NeedsNoMemory};
-    ghost use Rattle.gateway_machine.specs.Sends.{datagram_of};
+    ghost use Rattle.gateway_machine.specs.{Due.{IsDueAt}, Events.{IsDraw, IsEventOf}, Laws.{AreAuthorized, IsWantedPacket}, Runs.{After, GatewayAt, answer_after, run_of, settings_of}, Outcomes.{IsRefused, NeedsNoMemory}, Sends.{datagram_of}};
 
     /// A gateway at moment 0 that is idle, without sockets. Its first Discovery or Request has this
     /// nonce, unless an event brings another one before it.

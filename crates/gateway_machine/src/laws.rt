@@ -1,10 +1,7 @@
 //! What holds of every run of a gateway, in the words of the standard.
 ghost use Rattle.std.specs.Prelude.{◌≡◌, ℕ, List, [], ◌∷◌, ◌++◌, All, Some};
 ghost use Rattle.amt_values.specs.declared.peer.Peer.{Peer};
-ghost use Rattle.gateway_machine.specs.declared.event.GatewayEvent.{GatewayEvent};
-ghost use Rattle.gateway_machine.specs.declared.settings.GatewaySettings.{GatewaySettings};
-ghost use Rattle.gateway_machine.specs.Laws.{HasQuery, HasRelay, IsAuthorized, IsDirected, IsWantedPacket};
-ghost use Rattle.gateway_machine.specs.Runs.{answer_after, run_of};
+ghost use Rattle.gateway_machine.specs.{declared.{event.GatewayEvent.{GatewayEvent}, settings.GatewaySettings.{GatewaySettings}}, Laws.{HasQuery, HasRelay, IsAuthorized, IsDirected, IsWantedPacket}, Runs.{answer_after, run_of}};
 
 /// Each Update and each Teardown carries the response MAC and the nonce of a Query that the gateway
 /// accepted: it came from the gateway's relay, in answer to the last Request before it (RFC 7450, section

@@ -1,16 +1,8 @@
 //! What a moment comes to. It must not know messages.
 
 ghost use Rattle.std.specs.Prelude.{◌≡◌, ◌||◌, ◌≤◌, ◌<◌, ◌^◌, ◌↔◌, ℕ, List, max, nat_lt, IfOk, IfSome, IsOk};
-ghost use Rattle.socket_merge.specs.Sockets.{ForHistory};
-ghost use Rattle.socket_merge.specs.History.{AcceptedCall};
-ghost use Rattle.gateway_machine.specs.Answers.{answer_at, is_idle};
-ghost use Rattle.gateway_machine.specs.Due.{IsBefore};
-ghost use Rattle.gateway_machine.specs.Exchange.{moved};
-ghost use Rattle.gateway_machine.specs.declared.outcome.GatewayOutcome.TheVariants.{Quiet};
-ghost use Rattle.gateway_machine.specs.declared.settings.GatewaySettings.{GatewaySettings as SettingsValue};
-ghost use Rattle.gateway_machine.specs.Outcomes.{IsAtRest};
-ghost use Rattle.gateway_machine.specs.Sends.{AreShort};
-ghost use Rattle.gateway_machine.specs.State.{IsAtMoment, Replies};
+ghost use Rattle.socket_merge.specs.{Sockets.{ForHistory}, History.{AcceptedCall}};
+ghost use Rattle.gateway_machine.specs.{Answers.{answer_at, is_idle}, Due.{IsBefore}, Exchange.{moved}, declared.{outcome.GatewayOutcome.TheVariants.{Quiet}, settings.GatewaySettings.{GatewaySettings as SettingsValue}}, Outcomes.{IsAtRest}, Sends.{AreShort}, State.{IsAtMoment, Replies}};
 
 use crate::asking::answer_due;
 use crate::exchange::{Exchange, GatewayState};

@@ -2,9 +2,7 @@
 
 ghost use Rattle.std.specs.Prelude.{◌≡◌, ◌≤◌, length};
 ghost use Rattle.socket_merge.specs.Sockets.{ForHistory};
-ghost use Rattle.gateway_machine.specs.Answers.{cause_heard, joined_relay, packet_answer, packet_cause};
-ghost use Rattle.gateway_machine.specs.Sends.{AreShort};
-ghost use Rattle.gateway_machine.specs.State.{IsReply};
+ghost use Rattle.gateway_machine.specs.{Answers.{cause_heard, joined_relay, packet_answer, packet_cause}, Sends.{AreShort}, State.{IsReply}};
 ghost use Rattle.inner_datagrams.specs.Head.{head_of};
 
 use crate::exchange::{Exchange, GatewayState};

@@ -1,10 +1,7 @@
 //! What a Query comes to.
 
 ghost use Rattle.std.specs.Prelude.{◌≡◌, ◌≤◌, ◌<◌, false, length, IfOk};
-ghost use Rattle.gateway_machine.specs.Answers.{asked_relay, fields_heard, query_accepted, query_answer};
-ghost use Rattle.gateway_machine.specs.Sends.{AreShort};
-ghost use Rattle.gateway_machine.specs.Settings.{HasSourceOfFamily};
-ghost use Rattle.gateway_machine.specs.State.{IsAtMoment, Replies};
+ghost use Rattle.gateway_machine.specs.{Answers.{asked_relay, fields_heard, query_accepted, query_answer}, Sends.{AreShort}, Settings.{HasSourceOfFamily}, State.{IsAtMoment, Replies}};
 
 use crate::exchange::{Exchange, GatewayState, LastQuery};
 use crate::general::read_general;

@@ -17,9 +17,7 @@ pub struct Reply {
 }
 
 impl Reply {
-    ghost use Rattle.gateway_machine.specs.Answers.{ignored, quiet};
-    ghost use Rattle.gateway_machine.specs.Sends.{AreShort};
-    ghost use Rattle.gateway_machine.specs.State.{IsReply};
+    ghost use Rattle.gateway_machine.specs.{Answers.{ignored, quiet}, Sends.{AreShort}, State.{IsReply}};
 
     /// Nothing is sent or handed on.
     pub fn quiet(alloc: Global, outcome: GatewayOutcome, next: Exchange) -> Reply

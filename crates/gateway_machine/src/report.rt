@@ -3,13 +3,8 @@
 ghost use Rattle.std.specs.Prelude.{◌≡◌, ◌≤◌, ◌++◌, length, map, Bool, All, IfOk, OnOk};
 ghost use Rattle.amt_messages.specs.Messages.{IsSendable};
 ghost use Rattle.group_records.specs.Written.{IsOfFamily, report_length};
-ghost use Rattle.socket_merge.specs.FullReport.{family_by};
-ghost use Rattle.socket_merge.specs.Refusal.{family_of};
-ghost use Rattle.socket_merge.specs.Sockets.{ForHistory};
-ghost use Rattle.gateway_machine.specs.Reports.{change_reports, full_report, report_datagram, teardown, update};
-ghost use Rattle.gateway_machine.specs.Sends.{AreShort, datagram_of, to_relay};
-ghost use Rattle.gateway_machine.specs.Settings.{HasSourceOfFamily};
-ghost use Rattle.gateway_machine.specs.State.{IsAtMoment};
+ghost use Rattle.socket_merge.specs.{FullReport.{family_by}, Refusal.{family_of}, Sockets.{ForHistory}};
+ghost use Rattle.gateway_machine.specs.{Reports.{change_reports, full_report, report_datagram, teardown, update}, Sends.{AreShort, datagram_of, to_relay}, Settings.{HasSourceOfFamily}, State.{IsAtMoment}};
 
 use crate::exchange::{Exchange, LastQuery};
 use crate::settings::GatewaySettings;

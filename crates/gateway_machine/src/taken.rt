@@ -1,16 +1,8 @@
 //! What an event comes to before it is taken: the step, and the exchange and the sockets after it.
 
 ghost use Rattle.std.specs.Prelude.{◌≡◌, None, IfOk, IsOk};
-ghost use Rattle.socket_merge.specs.Changes.{IsOneCallAfter};
-ghost use Rattle.socket_merge.specs.History.{SocketCall};
-ghost use Rattle.socket_merge.specs.Sockets.{ForHistory};
-ghost use Rattle.gateway_machine.specs.Answers.{event_answer, is_opening};
-ghost use Rattle.gateway_machine.specs.Calls.{AnswersCall};
-ghost use Rattle.gateway_machine.specs.Events.{IsDraw, IsEventOf};
-ghost use Rattle.gateway_machine.specs.Outcomes.{NeedsNoMemory};
-ghost use Rattle.gateway_machine.specs.Sends.{AreShort};
-ghost use Rattle.gateway_machine.specs.Settings.{HasSourceOfFamily};
-ghost use Rattle.gateway_machine.specs.State.{AreOfSettings, IsAtMoment, IsTaken, IsTakenCall};
+ghost use Rattle.socket_merge.specs.{Changes.{IsOneCallAfter}, History.{SocketCall}, Sockets.{ForHistory}};
+ghost use Rattle.gateway_machine.specs.{Answers.{event_answer, is_opening}, Calls.{AnswersCall}, Events.{IsDraw, IsEventOf}, Outcomes.{NeedsNoMemory}, Sends.{AreShort}, Settings.{HasSourceOfFamily}, State.{AreOfSettings, IsAtMoment, IsTaken, IsTakenCall}};
 
 use crate::calls::{
     CallFault, answer_accepted, change_socket, close_socket, leave_all, open_socket,

@@ -3,8 +3,7 @@ use Rattle.std.proofs.Common.{◌≡◌, ℕ, List, [], ◌∷◌, ◌++◌, Opt
 use Rattle.amt_values.specs.declared.address.Ip.{Ip}
 use Rattle.group_records.specs.declared.family.Family.{Family}
 use Rattle.script_lines.specs.declared.reason.Reason.TheVariants as reasons
-use Rattle.script_lines.specs.Form.{Fails, IsAddressText, an_address_of}
-use Rattle.script_lines.specs.Shape.{SomeFails}
+use Rattle.script_lines.specs.{Form.{Fails, IsAddressText, an_address_of}, Shape.{SomeFails}}
 use Rattle.gateway_script.specs.Says.{AreAddressTexts}
 
 -- of the fields these addresses were read, and those of what is left are to come

@@ -1,21 +1,11 @@
 -- The first reason why a line that opens a socket or changes its filter fails.
 use Rattle.std.proofs.Common.{◌≡◌, ℕ, List, [], ◌∷◌, Option, Some, inl, inr, refl, sym, subst, arith}
-use Rattle.amt_values.specs.Conditions.{First}
-use Rattle.amt_values.specs.declared.address.Ip.{Ip}
+use Rattle.amt_values.specs.{Conditions.{First}, declared.address.Ip.{Ip}}
 use Rattle.source_filter.specs.declared.mode.Mode.{Mode}
 use Rattle.group_records.specs.declared.family.Family.{Family}
-use Rattle.script_lines.specs.declared.reason.Reason.{Reason}
+use Rattle.script_lines.specs.{declared.{reason.Reason.{Reason}, fault.LineError.{LineError, TheVariants.{Bad, Memory}}}, Form.{Fails, IsModeText, IsName, a_group, a_mode, a_name, an_address_of}, Reading.{FailsFirst}, Shape.{HasOtherCount, SomeFails}}
 use Rattle.script_lines.specs.declared.reason.Reason.TheVariants as reasons
-use Rattle.script_lines.specs.declared.fault.LineError.{LineError}
-use Rattle.script_lines.specs.declared.fault.LineError.TheVariants.{Bad, Memory}
-use Rattle.script_lines.specs.Form.{Fails, IsModeText, IsName, a_group, a_mode, a_name, an_address_of}
-use Rattle.script_lines.specs.Reading.{FailsFirst}
-use Rattle.script_lines.specs.Shape.{HasOtherCount, SomeFails}
-use Rattle.gateway_script.specs.declared.kind.LineKind.TheVariants.{Change, Open}
-use Rattle.gateway_script.specs.Fault.{FailsAs, order_of_values}
-use Rattle.gateway_script.specs.Reading.{FailsInSources}
-use Rattle.gateway_script.specs.Says.{AreAddressTexts}
-use Rattle.gateway_script.proofs.Fields.{addresses_fit}
+use Rattle.gateway_script.{specs.{declared.kind.LineKind.TheVariants.{Change, Open}, Fault.{FailsAs, order_of_values}, Reading.{FailsInSources}, Says.{AreAddressTexts}}, proofs.Fields.{addresses_fit}}
 
 -- the reasons after those of numbers and octets
 abbrev after_hex : List Reason

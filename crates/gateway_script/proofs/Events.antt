@@ -3,21 +3,10 @@ use Rattle.std.proofs.Common.{◌≡◌, ℕ, List, [], ◌∷◌, ◌++◌, ◌
 use Rattle.amt_values.specs.Conditions.{First}
 use Rattle.group_records.specs.declared.family.Family.{Family}
 use Rattle.gateway_machine.specs.declared.event.GatewayEvent.{GatewayEvent}
-use Rattle.script_lines.specs.declared.fault.LineError.{LineError}
-use Rattle.script_lines.specs.declared.fault.LineError.TheVariants.{Bad}
-use Rattle.script_lines.specs.declared.reason.Reason.{Reason}
+use Rattle.script_lines.specs.{declared.{fault.LineError.{LineError, TheVariants.{Bad}}, reason.Reason.{Reason}}, Reading.{FailsFirst}}
 use Rattle.script_lines.specs.declared.reason.Reason.TheVariants as reasons
-use Rattle.script_lines.specs.Reading.{FailsFirst}
-use Rattle.gateway_script.specs.declared.kind.Key.{Key}
-use Rattle.gateway_script.specs.declared.kind.LineKind.{LineKind}
+use Rattle.gateway_script.specs.{declared.{kind.{Key.{Key}, LineKind.{LineKind}}, setting.Setting.{Setting}}, Fault.{FailsAs, order_of_values}, Reading.{FailsToSet, IsEventBy, order_with_word}, Row.{words_of}, Says.{SaysEvent}, Setting.{set_at}, Settling.{family_given}}
 use Rattle.gateway_script.specs.declared.kind.LineKind.TheVariants as kinds
-use Rattle.gateway_script.specs.declared.setting.Setting.{Setting}
-use Rattle.gateway_script.specs.Fault.{FailsAs, order_of_values}
-use Rattle.gateway_script.specs.Reading.{FailsToSet, IsEventBy, IsEventKind, order_with_word}
-use Rattle.gateway_script.specs.Row.{words_of}
-use Rattle.gateway_script.specs.Says.{SaysEvent}
-use Rattle.gateway_script.specs.Setting.{set_at}
-use Rattle.gateway_script.specs.Settling.{family_given}
 
 -- an event or a reason, as an answer
 abbrev IsAnswer : Result GatewayEvent Reason → Result GatewayEvent LineError → Type 0
@@ -52,17 +41,6 @@ pub error_of : (family : Option Family) (kind other : LineKind) (values : List (
     → IfErr result (FailsFirst (FailsAs family other values) order_of_values) → IfErr result (FailsFirst (FailsAs family kind values) order_of_values)
 error_of family kind other values result same fails =
     subst (λ (k : LineKind). IfErr result (FailsFirst (FailsAs family k values) order_of_values)) (sym same) fails
-
--- what sets no key is an event
-pub is_event : (kind : LineKind) → ((key : Key) → kind ≡ kinds.Set key → ⊥) → IsEventKind kind
-is_event (kinds.Set key) none = none key refl
-is_event kinds.Moment none = tt
-is_event kinds.Nonce none = tt
-is_event kinds.Datagram none = tt
-is_event kinds.Open none = tt
-is_event kinds.Change none = tt
-is_event kinds.Close none = tt
-is_event kinds.Leave none = tt
 
 after_word : (given : List Setting) (events : List GatewayEvent) (key : Key) (values : List (List ℕ)) (reason : Reason)
     → (FailsAs (family_given given) (kinds.Set key) values reasons.Word → ⊥) → events ≡ [] → (IsSome (set_at given key) → ⊥)

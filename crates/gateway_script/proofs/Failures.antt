@@ -1,17 +1,10 @@
 -- The first reason why the fields of a line fail.
 use Rattle.std.proofs.Common.{◌≡◌, ℕ, ◌⊎◌, ◌↔◌, List, [], ◌∷◌, None, Some, Option, Bool, IsTrue, true, false, not, is_some, IfSome, IfNone, inl, inr, refl, sym, subst}
-use Rattle.amt_values.specs.Conditions.{First}
-use Rattle.amt_values.specs.declared.peer.Peer.{Peer}
-use Rattle.amt_values.specs.Text.{IsPeerText}
+use Rattle.amt_values.specs.{Conditions.{First}, declared.peer.Peer.{Peer}, Text.{IsPeerText}}
 use Rattle.group_records.specs.declared.family.Family.{Family}
 use Rattle.script_lines.specs.declared.reason.Reason.TheVariants as reasons
-use Rattle.script_lines.specs.Form.{Fails, Form, IsFamilyText, IsHexText, a_family, a_peer}
-use Rattle.script_lines.specs.Shape.{FailsIn, SomeFails}
-use Rattle.gateway_script.specs.declared.kind.Key.{Key}
-use Rattle.gateway_script.specs.declared.kind.LineKind.TheVariants.{Datagram, Set}
-use Rattle.gateway_script.specs.Fault.{FailsAs, order_of_values}
-use Rattle.gateway_script.specs.Reading.{order_with_word}
-use Rattle.gateway_script.specs.Row.{fixed, form_of_key}
+use Rattle.script_lines.specs.{Form.{Fails, Form, IsFamilyText, IsHexText, a_family, a_peer}, Shape.{FailsIn, SomeFails}}
+use Rattle.gateway_script.specs.{declared.kind.{Key.{Key}, LineKind.TheVariants.{Datagram, Set}}, Fault.{FailsAs, order_of_values}, Reading.{order_with_word}, Row.{fixed, form_of_key}}
 
 neither : ⊥ ⊎ (⊥ ⊎ ⊥) → ⊥
 neither (inl h) = h

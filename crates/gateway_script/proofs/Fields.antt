@@ -2,18 +2,11 @@
 use Rattle.std.proofs.Common.{◌≡◌, ℕ, ◌==◌, List, [], ◌∷◌, get_or, if◌then◌else◌, Option, Some, inl, inr, refl, sym, subst, ap, ◌∙◌}
 use Rattle.byteorder.specs.Endian.{big_bytes, big_number}
 use Rattle.hex.proofs.HexLemmas.{decode_of-same}
-use Rattle.amt_values.specs.declared.address.Ip.{Ip}
-use Rattle.amt_values.proofs.NetworkOrder.{big_from-bytes_high_first}
-use Rattle.amt_values.proofs.Unique.{IsIpText-unique}
-use Rattle.source_filter.specs.declared.mode.Mode.{Mode}
-use Rattle.source_filter.specs.declared.mode.Mode.TheVariants.{Include, Exclude}
-use Rattle.group_records.specs.declared.family.Family.{Family}
-use Rattle.group_records.specs.declared.family.Family.TheVariants.{V4, V6}
-use Rattle.script_lines.specs.declared.reason.Reason.{Reason}
+use Rattle.amt_values.{specs.declared.address.Ip.{Ip}, proofs.{NetworkOrder.{big_from-bytes_high_first}, Unique.{IsIpText-unique}}}
+use Rattle.source_filter.specs.declared.mode.Mode.{Mode, TheVariants.{Include, Exclude}}
+use Rattle.group_records.specs.declared.family.Family.{Family, TheVariants.{V4, V6}}
+use Rattle.script_lines.specs.{declared.reason.Reason.{Reason}, Form.{Fails, IsAddressText, IsFamilyText, IsGroupText, IsModeText, IsNameText, IsNonceText, a_family, a_group, a_mode, a_name, a_nonce, an_address_of}, Shape.{SomeFails}, Texts.{family_text, mode_text}}
 use Rattle.script_lines.specs.declared.reason.Reason.TheVariants as reasons
-use Rattle.script_lines.specs.Form.{Fails, IsAddressText, IsFamilyText, IsGroupText, IsModeText, IsNameText, IsNonceText, a_family, a_group, a_mode, a_name, a_nonce, an_address_of}
-use Rattle.script_lines.specs.Shape.{SomeFails}
-use Rattle.script_lines.specs.Texts.{family_text, mode_text}
 use Rattle.gateway_script.specs.Says.{AreAddressTexts}
 
 -- a text of a form fails for no reason

@@ -1,15 +1,9 @@
 -- The settings and events that have been said, one line more.
-use Rattle.std.proofs.Common.{◌≡◌, ℕ, List, [], ◌∷◌, ◌++◌, sym, ap, subst, ◌∙◌, append-nil}
-use Rattle.std.proofs.lemmas.List.Elements.{filter_map-append}
+use Rattle.std.proofs.{Common.{◌≡◌, ℕ, List, [], ◌∷◌, ◌++◌, sym, ap, subst, ◌∙◌, append-nil}, lemmas.List.Elements.{filter_map-append}}
 use Rattle.gateway_machine.specs.declared.event.GatewayEvent.{GatewayEvent}
-use Rattle.script_lines.specs.declared.fault.LineError.{LineError}
-use Rattle.script_lines.specs.Reading.{FailsFirst}
-use Rattle.gateway_script.specs.declared.line.GatewayStatement.{GatewayStatement}
+use Rattle.script_lines.specs.{declared.fault.LineError.{LineError}, Reading.{FailsFirst}}
+use Rattle.gateway_script.specs.{declared.{line.GatewayStatement.{GatewayStatement}, setting.Setting.{Setting}}, Fault.{FailsAfter, order_of_reasons}, Reading.{AreThose}, Script.{SaysAfter, event_in, events_in, setting_in, settings_in}}
 use Rattle.gateway_script.specs.declared.line.GatewayStatement.TheVariants as statements
-use Rattle.gateway_script.specs.declared.setting.Setting.{Setting}
-use Rattle.gateway_script.specs.Fault.{FailsAfter, order_of_reasons}
-use Rattle.gateway_script.specs.Reading.{AreThose}
-use Rattle.gateway_script.specs.Script.{SaysAfter, event_in, events_in, setting_in, settings_in}
 
 -- what a line says after these settings and events, it says after the statements that they are of
 pub says_after : (given : List Setting) (events : List GatewayEvent) (past : List GatewayStatement) (one : GatewayStatement) (line : List (List ℕ))

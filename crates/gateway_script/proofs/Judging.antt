@@ -1,28 +1,13 @@
 -- The first reason why a line is bad, by its kind and its fields.
-use Rattle.std.proofs.Common.{◌≡◌, ℕ, ◌⊎◌, ◌↔◌, List, [], ◌∷◌, ◌++◌, codes, Option, None, Some, IsSome, inl, inr, sym, subst, ◌∙◌}
-use Rattle.std.specs.List.{AllByRecursion}
+use Rattle.std.{proofs.Common.{◌≡◌, ℕ, ◌⊎◌, ◌↔◌, List, [], ◌∷◌, ◌++◌, codes, Option, None, Some, IsSome, inl, inr, sym, subst, ◌∙◌}, specs.List.{AllByRecursion}}
 use Rattle.amt_values.specs.Conditions.{First}
 use Rattle.group_records.specs.declared.family.Family.{Family}
 use Rattle.gateway_machine.specs.declared.event.GatewayEvent.{GatewayEvent}
-use Rattle.script_lines.specs.declared.fault.LineError.{LineError}
-use Rattle.script_lines.specs.declared.fault.LineError.TheVariants.{Bad, Memory}
-use Rattle.script_lines.specs.declared.reason.Reason.{Reason}
+use Rattle.script_lines.{specs.{declared.{fault.LineError.{LineError, TheVariants.{Bad, Memory}}, reason.Reason.{Reason}}, Form.{Form, Fails, a_group, a_mode, a_moment, a_name, a_nonce, a_number, a_peer, an_address, an_address_of, some_octets}, Reading.{FailsFirst}, Shape.{SomeFails}}, proofs.Firsts.{First-same}}
 use Rattle.script_lines.specs.declared.reason.Reason.TheVariants as reasons
-use Rattle.script_lines.specs.Form.{Form, Fails, a_group, a_mode, a_moment, a_name, a_nonce, a_number, a_peer, an_address, an_address_of, some_octets}
-use Rattle.script_lines.specs.Reading.{FailsFirst}
-use Rattle.script_lines.specs.Shape.{SomeFails}
-use Rattle.script_lines.proofs.Firsts.{First-same}
-use Rattle.gateway_script.specs.declared.kind.Key.{Key}
+use Rattle.gateway_script.{specs.{declared.{kind.{Key.{Key}, LineKind.{LineKind}}, setting.Setting.{Setting}}, Fault.{FailsAfter, FailsAs, FailsInKind, order_of_values, order_of_reasons}, Reading.{FailsToSet, IsEventKind}, Row.{form_of_key, words_of, IsUnknown}, Setting.{set_at}, Settling.{family_given}}, proofs.Rows.{same_kind, same_values}}
 use Rattle.gateway_script.specs.declared.kind.Key.TheVariants as keys
-use Rattle.gateway_script.specs.declared.kind.LineKind.{LineKind}
 use Rattle.gateway_script.specs.declared.kind.LineKind.TheVariants as kinds
-use Rattle.gateway_script.specs.declared.setting.Setting.{Setting}
-use Rattle.gateway_script.specs.Fault.{FailsAfter, FailsAs, FailsInKind, order_of_values, order_of_reasons}
-use Rattle.gateway_script.specs.Reading.{FailsToSet, IsEventKind}
-use Rattle.gateway_script.specs.Row.{form_of_key, words_of, IsUnknown}
-use Rattle.gateway_script.specs.Setting.{set_at}
-use Rattle.gateway_script.specs.Settling.{family_given}
-use Rattle.gateway_script.proofs.Rows.{same_kind, same_values}
 
 pub fails_as : (family : Option Family) (kind : LineKind) (values line : List (List ℕ)) (reason : Reason) → line ≡ words_of kind ++ values
     → FailsInKind family line reason → FailsAs family kind values reason

@@ -2,33 +2,15 @@
 use Rattle.std.proofs.Common.{◌≡◌, ℕ, List, Option, None, Some, IsSome, inl, inr, sym, ap, ◌∙◌}
 use Rattle.group_records.specs.declared.family.Family.{Family}
 use Rattle.gateway_machine.specs.declared.event.GatewayEvent.{GatewayEvent}
-use Rattle.script_lines.specs.declared.reason.Reason.{Reason}
+use Rattle.script_lines.specs.{declared.reason.Reason.{Reason}, Kind.{IsLawfulKind}}
 use Rattle.script_lines.specs.declared.reason.Reason.TheVariants as reasons
-use Rattle.script_lines.specs.Kind.{IsLawfulKind}
-use Rattle.gateway_script.specs.declared.kind.LineKind.{LineKind}
+use Rattle.gateway_script.specs.{declared.{kind.LineKind.{LineKind}, line.GatewayStatement.{GatewayStatement}, script.GatewayScript.{GatewayScript}, setting.Setting.{Setting}}, Fault.{FailsAfter, FailsInKind}, Script.{SaysAfter, MakesGatewayScript, events_in, gateway_kind, settings_in}, Setting.{key_of, set_at}}
+use Rattle.gateway_script.{specs.Settling.{family_given}, proofs.{Judging.{fails_as, no_key, no_late, no_set_alone, no_word, twice_at}, Says.{IsFit, event_is_fit, event_kind, kind_of_event, setting_is_fit, setting_or_event}, Settled.{settled_values, wrong_at_end}, Unique.{SaysEvent-unique, SaysSetting-unique}}}
 use Rattle.gateway_script.specs.declared.kind.LineKind.TheVariants as kinds
-use Rattle.gateway_script.specs.declared.line.GatewayStatement.{GatewayStatement}
 use Rattle.gateway_script.specs.declared.line.GatewayStatement.TheVariants as statements
-use Rattle.gateway_script.specs.declared.script.GatewayScript.{GatewayScript}
-use Rattle.gateway_script.specs.declared.setting.Setting.{Setting}
-use Rattle.gateway_script.specs.Fault.{FailsAfter, FailsInKind}
-use Rattle.gateway_script.specs.Says.{SaysEvent}
-use Rattle.gateway_script.specs.Script.{SaysAfter, MakesGatewayScript, events_in, gateway_kind, settings_in}
-use Rattle.gateway_script.specs.Setting.{key_of, set_at}
-use Rattle.gateway_script.specs.Settling.{family_given}
-use Rattle.gateway_script.proofs.Judging.{fails_as, no_key, no_late, no_set_alone, no_word, twice_at}
-use Rattle.gateway_script.proofs.Says.{IsFit, event_is_fit, event_kind, kind_of_event, setting_is_fit, setting_or_event}
-use Rattle.gateway_script.proofs.Settled.{settled_values, wrong_at_end}
-use Rattle.gateway_script.proofs.Unique.{SaysEvent-unique, SaysSetting-unique}
 
 fit_is_sound : (family : Option Family) (kind : LineKind) (line : List (List ℕ)) (reason : Reason) → IsFit family kind line → FailsInKind family line reason → ⊥
 fit_is_sound family kind line reason fit fails = fit.fits reason (fails_as family kind fit.values line reason fit.parts fails)
-
--- a line that says an event fails as no kind
-pub SaysEvent-sound : (family : Option Family) (event : GatewayEvent) (line : List (List ℕ)) (reason : Reason) → SaysEvent family event line
-    → FailsInKind family line reason → ⊥
-SaysEvent-sound family event line reason says fails =
-    fit_is_sound family (kind_of_event event) line reason (event_is_fit family event line says) fails
 
 fit_is_good : (given : List Setting) (events : List GatewayEvent) (line : List (List ℕ)) (kind : LineKind) → IsFit (family_given given) kind line
     → (FailsAfter given events line reasons.Late → ⊥) → (FailsAfter given events line reasons.Twice → ⊥) → (reason : Reason) → FailsAfter given events line reason → ⊥

@@ -1,10 +1,8 @@
 -- A line is of one kind.
 use Rattle.std.proofs.Common.{◌≡◌, ℕ, ◌+◌, ◌*◌, ◌==◌, List, [], ◌∷◌, ◌++◌, length, get_or, if◌then◌else◌, refl, sym, ap, ◌∙◌}
-use Rattle.gateway_script.specs.declared.kind.Key.{Key}
+use Rattle.gateway_script.specs.{declared.kind.{Key.{Key}, LineKind.{LineKind}}, Row.{key_word, words_of}}
 use Rattle.gateway_script.specs.declared.kind.Key.TheVariants as keys
-use Rattle.gateway_script.specs.declared.kind.LineKind.{LineKind}
 use Rattle.gateway_script.specs.declared.kind.LineKind.TheVariants as kinds
-use Rattle.gateway_script.specs.Row.{key_word, words_of}
 
 -- a number that tells the words of the format apart: the first octet, the sixth one, and the length
 abbrev mark : List ℕ → ℕ

@@ -1,36 +1,14 @@
 -- A script that some octets spell can be run.
 use Rattle.std.proofs.Common.{◌≡◌, ◌≢◌, ℕ, ◌+◌, ◌≤◌, ◌==◌, true, not, List, [], ◌∷◌, ◌++◌, length, All, Option, Some, refl, sym, subst, ap, ◌∙◌, append-nil, append_assoc, arith}
-use Rattle.std.specs.List.{AllByRecursion, slice_split}
-use Rattle.std.specs.Str.Lines.{lines}
-use Rattle.std.proofs.lemmas.List.Elements.{All-cons, All-filter, All-from_recursion, All-nil, filter_map-append, recursion_from_All}
-use Rattle.std.proofs.lemmas.List.Splits.{length-slice_split}
-use Rattle.std.proofs.lemmas.List.Sums.{count_by-le-length, length-filter}
-use Rattle.amt_values.proofs.AscendingLaws.{length-ascending}
-use Rattle.amt_values.specs.declared.address.Ip.{Ip}
-use Rattle.amt_values.specs.Order.{ip_order}
-use Rattle.source_filter.specs.Filter.{FilterValue, ascending_sources}
-use Rattle.source_filter.specs.declared.mode.Mode.TheVariants.{Include}
-use Rattle.group_records.specs.declared.family.Family.{Family}
-use Rattle.group_records.specs.declared.family.Family.TheVariants.{V4, V6}
-use Rattle.socket_merge.specs.FullReport.{family_by}
-use Rattle.socket_merge.proofs.Wanted.{All-merged, AreSuch}
-use Rattle.gateway_machine.specs.declared.event.GatewayEvent.{GatewayEvent}
-use Rattle.gateway_machine.specs.declared.event.GatewayEvent.TheVariants.{Moment, Nonce, Datagram, Open, Change, Close, LeaveAll}
-use Rattle.gateway_machine.specs.declared.settings.GatewaySettings.{GatewaySettings}
-use Rattle.gateway_machine.specs.Events.{IsEventOf}
-use Rattle.gateway_machine.specs.Settings.{family_of}
-use Rattle.script_lines.proofs.Forms.{hex_sized}
-use Rattle.script_lines.specs.Form.{is_of}
-use Rattle.script_lines.specs.Lines.{IsShort, fields, is_filled, lines_that_say, says_nothing}
-use Rattle.script_lines.specs.Script.{Say}
-use Rattle.gateway_script.specs.declared.line.GatewayStatement.{GatewayStatement}
+use Rattle.std.{proofs.lemmas.List.{Elements.{All-cons, All-filter, All-from_recursion, All-nil, filter_map-append, recursion_from_All}, Splits.{length-slice_split}, Sums.{count_by-le-length, length-filter}}, specs.{List.{AllByRecursion, slice_split}, Str.Lines.{lines}}}
+use Rattle.amt_values.{proofs.AscendingLaws.{length-ascending}, specs.{declared.address.Ip.{Ip}, Order.{ip_order}}}
+use Rattle.source_filter.specs.{Filter.{FilterValue, ascending_sources}, declared.mode.Mode.TheVariants.{Include}}
+use Rattle.group_records.specs.declared.family.Family.{Family, TheVariants.{V4, V6}}
+use Rattle.socket_merge.{specs.FullReport.{family_by}, proofs.Wanted.{All-merged, AreSuch}}
+use Rattle.gateway_machine.specs.{declared.{event.GatewayEvent.{GatewayEvent, TheVariants.{Moment, Nonce, Datagram, Open, Change, Close, LeaveAll}}, settings.GatewaySettings.{GatewaySettings}}, Events.{IsEventOf}, Settings.{family_of}}
+use Rattle.script_lines.{proofs.Forms.{hex_sized}, specs.{Form.{is_of}, Lines.{IsShort, fields, is_filled, lines_that_say, says_nothing}, Script.{Say}}}
+use Rattle.gateway_script.specs.{declared.{line.GatewayStatement.{GatewayStatement}, script.GatewayScript.{GatewayScript}}, Reading.{IsEventBy, IsFilterBy}, Running.{IsRunnable}, Says.{AreAddressTexts, SaysEvent, SaysFilter}, Script.{event_in, events_in, gateway_kind, setting_in, settings_in, IsGatewayScript}, Settling.{family_given, is_v6}}
 use Rattle.gateway_script.specs.declared.line.GatewayStatement.TheVariants as statements
-use Rattle.gateway_script.specs.declared.script.GatewayScript.{GatewayScript}
-use Rattle.gateway_script.specs.Reading.{IsEventBy, IsFilterBy}
-use Rattle.gateway_script.specs.Running.{IsRunnable}
-use Rattle.gateway_script.specs.Says.{AreAddressTexts, SaysEvent, SaysFilter}
-use Rattle.gateway_script.specs.Script.{event_in, events_in, gateway_kind, setting_in, settings_in, IsGatewayScript}
-use Rattle.gateway_script.specs.Settling.{family_given, is_v6}
 
 -- a line has at most one field more than octets
 pub few_fields : (line : List ℕ) → length (fields line) ≤ length line + 1

@@ -1,10 +1,6 @@
 -- What is written of a gateway's events.
 use Rattle.std.proofs.Common.{◌≡◌, ℕ, Option, List, refl, sym, subst}
-use Rattle.gateway_machine.specs.declared.event.GatewayEvent.{GatewayEvent}
-use Rattle.gateway_machine.specs.declared.outcome.GatewayOutcome.{GatewayOutcome}
-use Rattle.gateway_machine.specs.declared.settings.GatewaySettings.{GatewaySettings}
-use Rattle.gateway_machine.specs.declared.step.PeerSend.{PeerSend}
-use Rattle.gateway_machine.specs.Events.{IsEventOf}
+use Rattle.gateway_machine.specs.{declared.{event.GatewayEvent.{GatewayEvent}, outcome.GatewayOutcome.{GatewayOutcome}, settings.GatewaySettings.{GatewaySettings}, step.PeerSend.{PeerSend}}, Events.{IsEventOf}}
 use Rattle.gateway_script.specs.Texts.{step_text}
 
 pub same_step : (number : ℕ) (o p : GatewayOutcome) (s t : List PeerSend) (d e : Option (List ℕ)) → o ≡ p → s ≡ t → d ≡ e

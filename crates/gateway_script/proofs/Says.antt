@@ -5,22 +5,11 @@ use Rattle.group_records.specs.declared.family.Family.{Family}
 use Rattle.source_filter.specs.Filter.{FilterValue}
 use Rattle.gateway_machine.specs.declared.event.GatewayEvent.{GatewayEvent}
 use Rattle.gateway_machine.specs.declared.event.GatewayEvent.TheVariants as events
-use Rattle.script_lines.specs.declared.reason.Reason.{Reason}
+use Rattle.script_lines.{specs.{declared.reason.Reason.{Reason}, Form.{Form, Fails, a_family, a_group, a_mode, a_moment, a_name, a_nonce, a_number, a_peer, an_address, an_address_of, some_octets}, Shape.{FailsIn, SomeFails}}, proofs.Forms.{moment_fits, number_fits, octets_fit, address_fits as any_address_fits, peer_fits, none_fits, one_fits, two_fit}}
 use Rattle.script_lines.specs.declared.reason.Reason.TheVariants as reasons
-use Rattle.script_lines.specs.Form.{Form, Fails, a_family, a_group, a_mode, a_moment, a_name, a_nonce, a_number, a_peer, an_address, an_address_of, some_octets}
-use Rattle.script_lines.specs.Shape.{FailsIn, SomeFails}
-use Rattle.script_lines.proofs.Forms.{moment_fits, number_fits, octets_fit, address_fits as any_address_fits, peer_fits, none_fits, one_fits, two_fit}
-use Rattle.gateway_script.specs.declared.kind.LineKind.{LineKind}
+use Rattle.gateway_script.{specs.{declared.{kind.LineKind.{LineKind}, setting.Setting.{Setting}}, Fault.{FailsAs}, Reading.{IsEventKind}, Row.{words_of}, Says.{SaysEvent, SaysFilter, SaysMembership, SaysNamed, SaysSetting}, Setting.{key_of}}, proofs.{Fields.{addresses_fit, family_fits, group_fits, mode_fits, name_fits, nonce_fits}, Rows.{same_kind}}}
 use Rattle.gateway_script.specs.declared.kind.LineKind.TheVariants as kinds
-use Rattle.gateway_script.specs.declared.setting.Setting.{Setting}
 use Rattle.gateway_script.specs.declared.setting.Setting.TheVariants as settings
-use Rattle.gateway_script.specs.Fault.{FailsAs}
-use Rattle.gateway_script.specs.Reading.{IsEventKind}
-use Rattle.gateway_script.specs.Row.{words_of}
-use Rattle.gateway_script.specs.Says.{SaysEvent, SaysFilter, SaysMembership, SaysNamed, SaysSetting}
-use Rattle.gateway_script.specs.Setting.{key_of}
-use Rattle.gateway_script.proofs.Fields.{addresses_fit, family_fits, group_fits, mode_fits, name_fits, nonce_fits}
-use Rattle.gateway_script.proofs.Rows.{same_kind}
 
 -- the line is of this kind, and no field of it fails
 pub record IsFit (family : Option Family) (kind : LineKind) (line : List (List ℕ)) : Type 0 where

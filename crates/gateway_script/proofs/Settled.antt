@@ -1,12 +1,9 @@
 -- The settings of a script are settled in one way, and something is missing or wrong, or nothing is.
 use Rattle.std.proofs.Common.{◌≡◌, ℕ, List, Option, Some, inl, inr, sym, ap, subst, ◌∙◌}
-use Rattle.gateway_machine.specs.declared.settings.GatewaySettings.{GatewaySettings}
-use Rattle.gateway_machine.specs.Settings.{HasSourceOfFamily}
+use Rattle.gateway_machine.specs.{declared.settings.GatewaySettings.{GatewaySettings}, Settings.{HasSourceOfFamily}}
 use Rattle.script_lines.specs.declared.reason.Reason.{Reason}
 use Rattle.script_lines.specs.declared.reason.Reason.TheVariants as reasons
-use Rattle.gateway_script.specs.declared.setting.Setting.{Setting}
-use Rattle.gateway_script.specs.Fault.{FailsAtEnd, LacksSetting}
-use Rattle.gateway_script.specs.Settling.{Settles, is_v6}
+use Rattle.gateway_script.specs.{declared.setting.Setting.{Setting}, Fault.{FailsAtEnd, LacksSetting}, Settling.{Settles, is_v6}}
 
 same_value : {X : Type 0} (given : Option X) (one other : X) → given ≡ Some one → given ≡ Some other → one ≡ other
 same_value given one other h k = let same = sym h ∙ k in cc same

@@ -2,26 +2,12 @@
 use Rattle.std.proofs.Common.{◌≡◌, ◌↔◌, ℕ, true, is_some, List, ◌∷◌, ◌++◌, Some, inl, inr, refl, sym, subst, ◌∙◌}
 use Rattle.amt_values.specs.Conditions.{First}
 use Rattle.group_records.specs.declared.family.Family.{Family}
-use Rattle.gateway_machine.specs.declared.event.GatewayEvent.{GatewayEvent}
+use Rattle.gateway_machine.specs.{declared.event.GatewayEvent.{GatewayEvent}, Answers.{call_in}}
 use Rattle.gateway_machine.specs.declared.event.GatewayEvent.TheVariants as events
-use Rattle.gateway_machine.specs.Answers.{call_in}
-use Rattle.script_lines.specs.declared.fault.LineError.{LineError}
-use Rattle.script_lines.specs.declared.fault.LineError.TheVariants.{Bad, Memory}
-use Rattle.script_lines.specs.declared.fault.ScriptError.{ScriptError}
+use Rattle.script_lines.{specs.{declared.{fault.{LineError.{LineError, TheVariants.{Bad, Memory}}, ScriptError.{ScriptError}}, reason.Reason.{Reason}}, Lines.{IsPlain, IsShort, fields}, Reading.{FailsFirst}}, proofs.Firsts.{First-holds, First-same}}
 use Rattle.script_lines.specs.declared.fault.ScriptError.TheVariants as errors
-use Rattle.script_lines.specs.declared.reason.Reason.{Reason}
 use Rattle.script_lines.specs.declared.reason.Reason.TheVariants as reasons
-use Rattle.script_lines.specs.Lines.{IsPlain, IsShort, fields}
-use Rattle.script_lines.specs.Reading.{FailsFirst}
-use Rattle.script_lines.proofs.Firsts.{First-holds, First-same}
-use Rattle.gateway_script.specs.declared.kind.LineKind.{LineKind}
-use Rattle.gateway_script.specs.Fault.{FailsAs, order_of_values}
-use Rattle.gateway_script.specs.Row.{words_of}
-use Rattle.gateway_script.specs.Says.{SaysEvent}
-use Rattle.gateway_script.specs.SocketLine.{FailsAsCall, FailsFirstAsCall, IsSocketError, IsSocketLine, MakesCall, RulesOutCalls, SaysCall, control_line}
-use Rattle.gateway_script.proofs.Rows.{same_kind, same_values}
-use Rattle.gateway_script.proofs.Says.{kind_of_event, event_is_fit}
-use Rattle.gateway_script.proofs.Unique.{SaysEvent-unique}
+use Rattle.gateway_script.{specs.{declared.kind.LineKind.{LineKind}, Fault.{FailsAs, order_of_values}, Row.{words_of}, Says.{SaysEvent}, SocketLine.{FailsAsCall, FailsFirstAsCall, IsSocketError, IsSocketLine, MakesCall, RulesOutCalls, SaysCall, control_line}}, proofs.{Rows.{same_kind, same_values}, Says.{kind_of_event, event_is_fit}, Unique.{SaysEvent-unique}}}
 
 -- the line makes a socket call, and the fields after its word fail
 abbrev FailsInCall : Family → List (List ℕ) → Reason → Type 0

@@ -1,25 +1,15 @@
 -- A line says one thing.
 use Rattle.std.proofs.Common.{◌≡◌, ℕ, List, ◌∷◌, ◌++◌, Option, None, refl, sym, subst, ap, ◌∙◌, arith}
-use Rattle.amt_values.specs.declared.address.Ip.{Ip}
-use Rattle.amt_values.specs.declared.peer.Peer.{Peer}
-use Rattle.amt_values.specs.Text.{IsIpText, IsPeerText}
-use Rattle.amt_values.proofs.Unique.{IsIpText-unique, IsPeerText-unique}
+use Rattle.amt_values.{specs.{declared.{address.Ip.{Ip}, peer.Peer.{Peer}}, Text.{IsIpText, IsPeerText}}, proofs.Unique.{IsIpText-unique, IsPeerText-unique}}
 use Rattle.group_records.specs.declared.family.Family.{Family}
 use Rattle.source_filter.specs.Filter.{FilterValue, ascending_sources}
 use Rattle.gateway_machine.specs.declared.event.GatewayEvent.{GatewayEvent}
 use Rattle.gateway_machine.specs.declared.event.GatewayEvent.TheVariants as events
-use Rattle.script_lines.specs.Form.{IsFamilyText, IsGroupText, IsHexText, IsModeText, IsMomentText, IsNameText, IsNonceText, IsNumberText}
-use Rattle.script_lines.proofs.Forms.{IsHexText-unique, IsMomentText-unique, IsNumberText-unique, one_field}
-use Rattle.gateway_script.specs.declared.kind.LineKind.{LineKind}
+use Rattle.script_lines.{specs.Form.{IsFamilyText, IsGroupText, IsHexText, IsModeText, IsMomentText, IsNameText, IsNonceText, IsNumberText}, proofs.Forms.{IsHexText-unique, IsMomentText-unique, IsNumberText-unique, one_field}}
+use Rattle.gateway_script.specs.{declared.{kind.LineKind.{LineKind}, setting.Setting.{Setting}}, Row.{words_of}, Says.{AreAddressTexts, SaysEvent, SaysFilter, SaysSetting}, Setting.{key_of}}
+use Rattle.gateway_script.proofs.{Fields.{AreAddressTexts-unique, IsAddressText-unique, IsFamilyText-unique, IsModeText-unique, IsNameText-unique, IsNonceText-unique}, Rows.{same_kind, same_values}, Says.{kind_of_event, setting_is_fit, event_is_fit}}
 use Rattle.gateway_script.specs.declared.kind.LineKind.TheVariants as kinds
-use Rattle.gateway_script.specs.declared.setting.Setting.{Setting}
 use Rattle.gateway_script.specs.declared.setting.Setting.TheVariants as settings
-use Rattle.gateway_script.specs.Row.{words_of}
-use Rattle.gateway_script.specs.Says.{AreAddressTexts, SaysEvent, SaysFilter, SaysSetting}
-use Rattle.gateway_script.specs.Setting.{key_of}
-use Rattle.gateway_script.proofs.Fields.{AreAddressTexts-unique, IsAddressText-unique, IsFamilyText-unique, IsModeText-unique, IsNameText-unique, IsNonceText-unique}
-use Rattle.gateway_script.proofs.Rows.{same_kind, same_values}
-use Rattle.gateway_script.proofs.Says.{kind_of_event, setting_is_fit, event_is_fit}
 
 SaysSetting-same : (one other : Setting) (line : List (List ℕ)) → key_of one ≡ key_of other → SaysSetting one line → SaysSetting other line → one ≡ other
 SaysSetting-same (settings.Family x) (settings.Family y) line same h k =

@@ -1,20 +1,11 @@
 -- What is wrong with a line of a gateway's script, and with all its lines together.
 use Rattle.std.specs.Prelude.{◌≡◌, ◌≢◌, ℕ, ◌⊎◌, List, [], ◌∷◌, ◌++◌, codes, Option, IsSome, None}
 use Rattle.group_records.specs.declared.family.Family.{Family}
-use Rattle.gateway_machine.specs.declared.event.GatewayEvent.{GatewayEvent}
-use Rattle.gateway_machine.specs.declared.settings.GatewaySettings.{GatewaySettings}
-use Rattle.gateway_machine.specs.Settings.{HasSourceOfFamily}
-use Rattle.script_lines.specs.declared.reason.Reason.{Reason}
-use Rattle.script_lines.specs.declared.reason.Reason.TheVariants.{Long, Word, Late, Twice, Count, Number, Hex, Address, Peer, Name, Mode, Group, Range, Missing}
-use Rattle.script_lines.specs.Shape.{FailsIn}
-use Rattle.gateway_script.specs.declared.kind.Key.{Key}
+use Rattle.gateway_machine.specs.{declared.{event.GatewayEvent.{GatewayEvent}, settings.GatewaySettings.{GatewaySettings}}, Settings.{HasSourceOfFamily}}
+use Rattle.script_lines.specs.{declared.reason.Reason.{Reason, TheVariants.{Long, Word, Late, Twice, Count, Number, Hex, Address, Peer, Name, Mode, Group, Range, Missing}}, Shape.{FailsIn}}
+use Rattle.gateway_script.specs.{declared.{kind.{Key.{Key}, LineKind.{LineKind}}, setting.Setting.{Setting}}, Row.{words_of, shape_of, IsUnknown}, Setting.{set_at}, Settling.{Settles, discovery_in, family_given, source_in}}
 use Rattle.gateway_script.specs.declared.kind.Key.TheVariants as keys
-use Rattle.gateway_script.specs.declared.kind.LineKind.{LineKind}
 use Rattle.gateway_script.specs.declared.kind.LineKind.TheVariants as kinds
-use Rattle.gateway_script.specs.declared.setting.Setting.{Setting}
-use Rattle.gateway_script.specs.Row.{words_of, shape_of, IsUnknown}
-use Rattle.gateway_script.specs.Setting.{set_at}
-use Rattle.gateway_script.specs.Settling.{Settles, discovery_in, family_given, source_in}
 
 -- the reasons for which the fields after a line's first words fail
 abbrev pub order_of_values : List Reason

@@ -3,23 +3,11 @@ use Rattle.std.specs.Prelude.{◌≡◌, ◌≢◌, ◌≤◌, ℕ, true, List, 
 use Rattle.amt_values.specs.Group.{is_forwardable}
 use Rattle.source_filter.specs.Filter.{FilterValue}
 use Rattle.group_records.specs.declared.family.Family.{Family}
-use Rattle.gateway_machine.specs.declared.event.GatewayEvent.{GatewayEvent}
-use Rattle.gateway_machine.specs.declared.event.GatewayEvent.TheVariants.{Moment, Nonce, Datagram, Open, Change, Close, LeaveAll}
-use Rattle.script_lines.specs.Form.{an_address_of, is_of}
-use Rattle.script_lines.specs.Shape.{SomeFails}
-use Rattle.script_lines.specs.declared.fault.LineError.{LineError}
-use Rattle.script_lines.specs.declared.fault.LineError.TheVariants.{Bad, Memory}
-use Rattle.script_lines.specs.declared.reason.Reason.{Reason}
+use Rattle.gateway_machine.specs.declared.event.GatewayEvent.{GatewayEvent, TheVariants.{Moment, Nonce, Datagram, Open, Change, Close, LeaveAll}}
+use Rattle.script_lines.specs.{Form.{an_address_of, is_of}, Shape.{SomeFails}, declared.{fault.LineError.{LineError, TheVariants.{Bad, Memory}}, reason.Reason.{Reason}}}
 use Rattle.script_lines.specs.declared.reason.Reason.TheVariants as reasons
-use Rattle.gateway_script.specs.declared.kind.Key.{Key}
+use Rattle.gateway_script.specs.{declared.{kind.{Key.{Key}, LineKind.{LineKind}}, line.GatewayStatement.{GatewayStatement}, setting.Setting.{Setting}}, Fault.{FailsAs, order_of_values}, Script.{events_in, settings_in}, Setting.{set_at}, Settling.{family_given}}
 use Rattle.gateway_script.specs.declared.kind.LineKind.TheVariants as kinds
-use Rattle.gateway_script.specs.declared.kind.LineKind.{LineKind}
-use Rattle.gateway_script.specs.declared.line.GatewayStatement.{GatewayStatement}
-use Rattle.gateway_script.specs.declared.setting.Setting.{Setting}
-use Rattle.gateway_script.specs.Fault.{FailsAs, order_of_values}
-use Rattle.gateway_script.specs.Script.{events_in, settings_in}
-use Rattle.gateway_script.specs.Setting.{set_at}
-use Rattle.gateway_script.specs.Settling.{family_given}
 
 -- the reasons in the fields of a setting, where a family that is none is no known word
 abbrev pub order_with_word : List Reason

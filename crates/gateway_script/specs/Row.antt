@@ -2,11 +2,9 @@
 -- of its fields.
 use Rattle.std.specs.Prelude.{◌≢◌, ℕ, List, [], ◌∷◌, ◌++◌, codes, Option, None, Some}
 use Rattle.group_records.specs.declared.family.Family.{Family}
-use Rattle.script_lines.specs.Form.{Form, a_family, a_group, a_mode, a_moment, a_name, a_nonce, a_number, a_peer, an_address, an_address_of, some_octets}
-use Rattle.script_lines.specs.Shape.{Shape}
-use Rattle.gateway_script.specs.declared.kind.Key.{Key}
+use Rattle.script_lines.specs.{Form.{Form, a_family, a_group, a_mode, a_moment, a_name, a_nonce, a_number, a_peer, an_address, an_address_of, some_octets}, Shape.{Shape}}
+use Rattle.gateway_script.specs.declared.kind.{Key.{Key}, LineKind.{LineKind}}
 use Rattle.gateway_script.specs.declared.kind.Key.TheVariants as keys
-use Rattle.gateway_script.specs.declared.kind.LineKind.{LineKind}
 use Rattle.gateway_script.specs.declared.kind.LineKind.TheVariants as kinds
 
 -- the word of a setting

@@ -1,13 +1,7 @@
 -- Runs of a gateway over a script, and which scripts it can be run over.
-use Rattle.std.specs.Prelude.{List}
-use Rattle.std.specs.List.{AllByRecursion}
-use Rattle.gateway_machine.specs.Events.{IsEventOf}
-use Rattle.gateway_machine.specs.Runs.{GatewayAt}
-use Rattle.gateway_machine.specs.Settings.{HasSourceOfFamily}
-use Rattle.gateway_machine.specs.declared.event.GatewayEvent.{GatewayEvent}
-use Rattle.gateway_machine.specs.declared.gateway.Gateway.{Gateway}
-use Rattle.gateway_script.specs.declared.script.GatewayScript.{GatewayScript}
-use Rattle.gateway_script.specs.Texts.{GatewayStart}
+use Rattle.std.specs.{Prelude.{List}, List.{AllByRecursion}}
+use Rattle.gateway_machine.specs.{Events.{IsEventOf}, Runs.{GatewayAt}, Settings.{HasSourceOfFamily}, declared.{event.GatewayEvent.{GatewayEvent}, gateway.Gateway.{Gateway}}}
+use Rattle.gateway_script.specs.{declared.script.GatewayScript.{GatewayScript}, Texts.{GatewayStart}}
 
 -- a gateway may have its settings, and each event may happen to it
 pub record IsRunnable (script : GatewayScript) : Type 0 where

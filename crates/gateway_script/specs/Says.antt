@@ -1,18 +1,15 @@
 -- What a line of a gateway's script says.
 use Rattle.std.specs.Prelude.{◌≡◌, ℕ, List, [], ◌∷◌, ◌++◌, Option}
-use Rattle.amt_values.specs.declared.address.Ip.{Ip}
-use Rattle.amt_values.specs.Text.{IsIpText, IsPeerText}
+use Rattle.amt_values.specs.{declared.address.Ip.{Ip}, Text.{IsIpText, IsPeerText}}
 use Rattle.source_filter.specs.Filter.{FilterValue, ascending_sources}
 use Rattle.group_records.specs.declared.family.Family.{Family}
 use Rattle.gateway_machine.specs.declared.event.GatewayEvent.{GatewayEvent}
 use Rattle.gateway_machine.specs.declared.event.GatewayEvent.TheVariants as events
-use Rattle.script_lines.specs.Form.{IsAddressText, IsFamilyText, IsGroupText, IsHexText, IsModeText, IsMomentText, IsNameText, IsNonceText, IsNumberText}
-use Rattle.script_lines.specs.Shape.{HasField, HasTwoFields}
+use Rattle.script_lines.specs.{Form.{IsAddressText, IsFamilyText, IsGroupText, IsHexText, IsModeText, IsMomentText, IsNameText, IsNonceText, IsNumberText}, Shape.{HasField, HasTwoFields}}
 use Rattle.gateway_script.specs.declared.kind.Key.TheVariants as keys
 use Rattle.gateway_script.specs.declared.kind.LineKind.TheVariants as kinds
-use Rattle.gateway_script.specs.declared.setting.Setting.{Setting}
+use Rattle.gateway_script.specs.{declared.setting.Setting.{Setting}, Row.{words_of}}
 use Rattle.gateway_script.specs.declared.setting.Setting.TheVariants as settings
-use Rattle.gateway_script.specs.Row.{words_of}
 
 -- a line `set` of these fields gives the setting
 abbrev pub SaysSetting : Setting → List (List ℕ) → Type 0

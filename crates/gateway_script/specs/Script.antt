@@ -1,19 +1,9 @@
 -- Gateway scripts, as a kind of script.
-use Rattle.std.specs.Prelude.{◌≡◌, ℕ, List, [], ◌∷◌, Option, Some, None}
-use Rattle.std.specs.List.{filter_map}
-use Rattle.gateway_machine.specs.declared.event.GatewayEvent.{GatewayEvent}
-use Rattle.gateway_machine.specs.Settings.{HasSourceOfFamily}
-use Rattle.script_lines.specs.declared.reason.Reason.TheVariants.{Missing, Range}
-use Rattle.script_lines.specs.Kind.{Kind}
-use Rattle.script_lines.specs.Script.{Spells}
-use Rattle.gateway_script.specs.declared.line.GatewayStatement.{GatewayStatement}
+use Rattle.std.specs.{Prelude.{◌≡◌, ℕ, List, [], ◌∷◌, Option, Some, None}, List.{filter_map}}
+use Rattle.gateway_machine.specs.{declared.event.GatewayEvent.{GatewayEvent}, Settings.{HasSourceOfFamily}}
+use Rattle.script_lines.specs.{declared.reason.Reason.TheVariants.{Missing, Range}, Kind.{Kind}, Script.{Spells}}
+use Rattle.gateway_script.specs.{declared.{line.GatewayStatement.{GatewayStatement}, script.GatewayScript.{GatewayScript}, setting.Setting.{Setting}}, Fault.{FailsAfter, FailsAtEnd, order_of_reasons}, Says.{SaysEvent, SaysSetting}, Setting.{key_of, set_at}, Settling.{Settles, family_given}}
 use Rattle.gateway_script.specs.declared.line.GatewayStatement.TheVariants as statements
-use Rattle.gateway_script.specs.declared.script.GatewayScript.{GatewayScript}
-use Rattle.gateway_script.specs.declared.setting.Setting.{Setting}
-use Rattle.gateway_script.specs.Fault.{FailsAfter, FailsAtEnd, order_of_reasons}
-use Rattle.gateway_script.specs.Says.{SaysEvent, SaysSetting}
-use Rattle.gateway_script.specs.Setting.{key_of, set_at}
-use Rattle.gateway_script.specs.Settling.{Settles, family_given}
 
 -- the setting that a statement is, if it is one
 abbrev pub setting_in : GatewayStatement → Option Setting

@@ -1,11 +1,7 @@
 -- Settings, and what is set under a key.
-use Rattle.std.specs.Prelude.{Bool, List, Option, find}
-use Rattle.std.specs.Str.{bytes_eq}
-use Rattle.gateway_script.specs.declared.kind.Key.{Key}
+use Rattle.std.specs.{Prelude.{Bool, List, Option, find}, Str.{bytes_eq}}
+use Rattle.gateway_script.specs.{declared.{kind.Key.{Key}, setting.Setting.{Setting, TheVariants.{Family, Discovery, Source, Relay, Port, Nonce}}}, Row.{key_word}}
 use Rattle.gateway_script.specs.declared.kind.Key.TheVariants as keys
-use Rattle.gateway_script.specs.declared.setting.Setting.{Setting}
-use Rattle.gateway_script.specs.declared.setting.Setting.TheVariants.{Family, Discovery, Source, Relay, Port, Nonce}
-use Rattle.gateway_script.specs.Row.{key_word}
 
 -- what a setting sets
 abbrev pub key_of : Setting → Key

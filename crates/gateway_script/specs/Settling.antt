@@ -1,14 +1,10 @@
 -- What a gateway's script sets: what was given, and a default for the rest.
 use Rattle.std.specs.Prelude.{◌≡◌, ℕ, Bool, true, false, List, Option, Some, None}
-use Rattle.amt_values.specs.declared.address.Ip.{Ip}
-use Rattle.amt_values.specs.declared.peer.Peer.{Peer}
-use Rattle.group_records.specs.declared.family.Family.{Family as AddressFamily}
-use Rattle.group_records.specs.declared.family.Family.TheVariants.{V4, V6}
+use Rattle.amt_values.specs.declared.{address.Ip.{Ip}, peer.Peer.{Peer}}
+use Rattle.group_records.specs.declared.family.Family.{Family as AddressFamily, TheVariants.{V4, V6}}
 use Rattle.gateway_machine.specs.declared.settings.GatewaySettings.{GatewaySettings}
 use Rattle.gateway_script.specs.declared.kind.Key.TheVariants as keys
-use Rattle.gateway_script.specs.declared.setting.Setting.{Setting}
-use Rattle.gateway_script.specs.declared.setting.Setting.TheVariants.{Family, Discovery, Source, Relay, Port, Nonce}
-use Rattle.gateway_script.specs.Setting.{set_at}
+use Rattle.gateway_script.specs.{declared.setting.Setting.{Setting, TheVariants.{Family, Discovery, Source, Relay, Port, Nonce}}, Setting.{set_at}}
 
 -- the family that was given
 abbrev pub family_in : Option Setting → Option AddressFamily

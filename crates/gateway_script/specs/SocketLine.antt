@@ -1,20 +1,11 @@
 -- One line that makes a socket call, as a gateway reads it from whoever controls it.
-use Rattle.std.specs.Prelude.{◌≡◌, ◌≢◌, ℕ, ◌-◌, ◌==◌, ◌⊎◌, true, is_some, List, ◌∷◌, ◌++◌, length, take, slice_index, Some, if◌then◌else◌}
-use Rattle.std.specs.Str.Lines.{strip_carriage_return}
+use Rattle.std.specs.{Prelude.{◌≡◌, ◌≢◌, ℕ, ◌-◌, ◌==◌, ◌⊎◌, true, is_some, List, ◌∷◌, ◌++◌, length, take, slice_index, Some, if◌then◌else◌}, Str.Lines.{strip_carriage_return}}
 use Rattle.amt_values.specs.Conditions.{First}
 use Rattle.group_records.specs.declared.family.Family.{Family}
-use Rattle.gateway_machine.specs.declared.event.GatewayEvent.{GatewayEvent}
-use Rattle.gateway_machine.specs.Answers.{call_in}
-use Rattle.script_lines.specs.declared.fault.ScriptError.{ScriptError}
-use Rattle.script_lines.specs.declared.fault.ScriptError.TheVariants.{Fault, Memory}
-use Rattle.script_lines.specs.declared.reason.Reason.{Reason}
-use Rattle.script_lines.specs.declared.reason.Reason.TheVariants.{Long, Word}
-use Rattle.script_lines.specs.Lines.{IsPlain, IsShort, fields}
-use Rattle.gateway_script.specs.declared.kind.LineKind.{LineKind}
+use Rattle.gateway_machine.specs.{declared.event.GatewayEvent.{GatewayEvent}, Answers.{call_in}}
+use Rattle.script_lines.specs.{declared.{fault.ScriptError.{ScriptError, TheVariants.{Fault, Memory}}, reason.Reason.{Reason, TheVariants.{Long, Word}}}, Lines.{IsPlain, IsShort, fields}}
+use Rattle.gateway_script.specs.{declared.kind.LineKind.{LineKind}, Fault.{FailsAs, order_of_values}, Row.{words_of}, Says.{SaysEvent}}
 use Rattle.gateway_script.specs.declared.kind.LineKind.TheVariants as kinds
-use Rattle.gateway_script.specs.Fault.{FailsAs, order_of_values}
-use Rattle.gateway_script.specs.Row.{words_of}
-use Rattle.gateway_script.specs.Says.{SaysEvent}
 
 -- the octets without a line feed at their end, and then without a carriage return
 abbrev pub control_line : List ℕ → List ℕ

@@ -1,21 +1,9 @@
 -- What is written of a gateway's steps.
 use Rattle.std.specs.Prelude.{ℕ, List, [], ◌∷◌, ◌++◌, codes, decimal, flat_map, map, Option, Some, None}
 use Rattle.amt_values.specs.Text.{ip_text, peer_text}
-use Rattle.script_lines.specs.FaultTexts.{head_text, inner_text, refusal_text, report_text}
-use Rattle.gateway_machine.specs.declared.event.GatewayEvent.{GatewayEvent}
-use Rattle.gateway_machine.specs.declared.outcome.GatewayOutcome.{GatewayOutcome}
-use Rattle.gateway_machine.specs.declared.outcome.GatewayOutcome.TheVariants.{Quiet, Drawn, Discovering, Requesting, Active, Idle, Changed, Kept, Delivered, SocketRefused, Ignored as IgnoredAs}
-use Rattle.gateway_machine.specs.declared.outcome.Ignored.{Ignored}
-use Rattle.gateway_machine.specs.declared.outcome.Ignored.TheVariants.{Undecoded, Kind, State, Sender, Nonce, Inner, Family, Body, NotGeneral, Head, Scope, NotWanted}
-use Rattle.gateway_machine.specs.declared.outcome.SocketRefusal.{SocketRefusal}
-use Rattle.gateway_machine.specs.declared.outcome.SocketRefusal.TheVariants.{Taken, NoSocket, SourcesFull, ReportFull}
-use Rattle.gateway_machine.specs.declared.settings.GatewaySettings.{GatewaySettings}
-use Rattle.gateway_machine.specs.declared.step.PeerSend.{PeerSend}
-use Rattle.gateway_machine.specs.Answers.{Answer}
-use Rattle.gateway_machine.specs.Runs.{answer_after}
-use Rattle.gateway_machine.specs.Sends.{datagram_of}
-use Rattle.script_lines.specs.Running.{script_text}
-use Rattle.script_lines.specs.Texts.{hex_text, nonce_text, send_line}
+use Rattle.script_lines.specs.{FaultTexts.{head_text, inner_text, refusal_text, report_text}, Running.{script_text}, Texts.{hex_text, nonce_text, send_line}}
+use Rattle.gateway_machine.specs.declared.{event.GatewayEvent.{GatewayEvent}, outcome.{GatewayOutcome.{GatewayOutcome, TheVariants.{Quiet, Drawn, Discovering, Requesting, Active, Idle, Changed, Kept, Delivered, SocketRefused, Ignored as IgnoredAs}}, Ignored.{Ignored}}}
+use Rattle.gateway_machine.specs.{declared.{outcome.{Ignored.TheVariants.{Undecoded, Kind, State, Sender, Nonce, Inner, Family, Body, NotGeneral, Head, Scope, NotWanted}, SocketRefusal.{SocketRefusal, TheVariants.{Taken, NoSocket, SourcesFull, ReportFull}}}, settings.GatewaySettings.{GatewaySettings}, step.PeerSend.{PeerSend}}, Answers.{Answer}, Runs.{answer_after}, Sends.{datagram_of}}
 use Rattle.gateway_script.specs.declared.script.GatewayScript.{GatewayScript}
 
 -- why a socket call was refused

@@ -3,13 +3,9 @@
 ghost use Rattle.std.specs.Prelude.{◌≡◌, ◌≤◌, ◌<◌, ◌∷◌, ◌++◌, length, Option, IfOk, IfErr, IfSome, IfNone};
 ghost use Rattle.amt_values.specs.Conditions.{First};
 ghost use Rattle.group_records.specs.declared.family.Family.{Family as FamilyValue};
-ghost use Rattle.script_lines.specs.Lines.{fields};
-ghost use Rattle.script_lines.specs.Reading.{FailsFirst};
+ghost use Rattle.script_lines.specs.{Lines.{fields}, Reading.{FailsFirst}};
 ghost use Rattle.gateway_script.specs.declared.kind.LineKind.TheVariants as kinds;
-ghost use Rattle.gateway_script.specs.Fault.{FailsAs, order_of_values};
-ghost use Rattle.gateway_script.specs.Reading.{IsEventBy};
-ghost use Rattle.gateway_script.specs.Row.{words_of};
-ghost use Rattle.gateway_script.specs.Says.{SaysEvent};
+ghost use Rattle.gateway_script.specs.{Fault.{FailsAs, order_of_values}, Reading.{IsEventBy}, Row.{words_of}, Says.{SaysEvent}};
 
 use crate::filter_fields::read_sources;
 use amt_values::Bytes;

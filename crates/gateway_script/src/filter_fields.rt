@@ -2,8 +2,7 @@
 
 ghost use Rattle.std.specs.Prelude.{IfOk, IfErr};
 ghost use Rattle.script_lines.specs.Lines.{fields};
-ghost use Rattle.gateway_script.specs.Reading.{FailsInSources};
-ghost use Rattle.gateway_script.specs.Says.{AreAddressTexts};
+ghost use Rattle.gateway_script.specs.{Reading.{FailsInSources}, Says.{AreAddressTexts}};
 
 use group_records::Family;
 use script_lines::{LineError, Reason, next_field, read_address};

@@ -1,9 +1,8 @@
 //! The kinds of lines of a gateway's script, by their first words. It reads no value.
 
 ghost use Rattle.std.specs.Prelude.{◌≡◌, ◌≢◌, ◌≤◌, ◌↔◌, length, IsTrue, ◌∷◌, ◌++◌, [], codes, IfSome, IfNone, IfOk, IsErrOf};
-ghost use Rattle.gateway_script.specs.declared.kind.Key.{Key as KeyValue};
+ghost use Rattle.gateway_script.specs.{declared.kind.Key.{Key as KeyValue}, Row.{key_word, words_of, IsUnknown}};
 ghost use Rattle.script_lines.specs.Lines.{fields};
-ghost use Rattle.gateway_script.specs.Row.{key_word, words_of, IsUnknown};
 
 use script_lines::{is_word, next_field};
 

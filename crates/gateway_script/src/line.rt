@@ -2,16 +2,9 @@
 
 ghost use Rattle.std.specs.Prelude.{◌≡◌, ◌≤◌, ◌∷◌, ◌++◌, Option, Ok, Err, length, IfOk, IfErr, MatchResult};
 ghost use Rattle.amt_values.specs.Conditions.{First};
-ghost use Rattle.script_lines.specs.Lines.{fields};
-ghost use Rattle.script_lines.specs.Reading.{FailsFirst};
+ghost use Rattle.script_lines.specs.{Lines.{fields}, Reading.{FailsFirst}};
 ghost use Rattle.gateway_script.specs.declared.kind.LineKind.TheVariants as kinds;
-ghost use Rattle.gateway_script.specs.Fault.{FailsAfter, FailsAs, order_of_reasons, order_of_values};
-ghost use Rattle.gateway_script.specs.Reading.{FailsToSet, IsEventBy, IsEventKind};
-ghost use Rattle.gateway_script.specs.Row.{words_of};
-ghost use Rattle.gateway_script.specs.Says.{SaysEvent, SaysSetting};
-ghost use Rattle.gateway_script.specs.Script.{MaySet, SaysAfter};
-ghost use Rattle.gateway_script.specs.Setting.{key_of};
-ghost use Rattle.gateway_script.specs.Settling.{family_given};
+ghost use Rattle.gateway_script.specs.{Fault.{FailsAfter, FailsAs, order_of_reasons, order_of_values}, Reading.{FailsToSet, IsEventBy, IsEventKind}, Row.{words_of}, Says.{SaysEvent, SaysSetting}, Script.{MaySet, SaysAfter}, Setting.{key_of}, Settling.{family_given}};
 
 use crate::call_line::{read_change, read_close, read_leave, read_open};
 use crate::kind::{Key, LineKind, NoKind, kind_of_line};

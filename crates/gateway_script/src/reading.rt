@@ -2,8 +2,7 @@
 
 ghost use Rattle.std.specs.Prelude.{◌≤◌, length, IfOk, IfErr};
 ghost use Rattle.script_lines.specs.Script.{IsErrorOf, RulesOutScripts, HasOneScript, HasOneFault};
-ghost use Rattle.gateway_script.specs.Running.{IsRunnable};
-ghost use Rattle.gateway_script.specs.Script.{IsGatewayScript, gateway_kind};
+ghost use Rattle.gateway_script.specs.{Running.{IsRunnable}, Script.{IsGatewayScript, gateway_kind}};
 
 use crate::line::{GatewayStatement, read_statement};
 use crate::script::{GatewayItems, GatewayScript};
@@ -20,8 +19,7 @@ struct GatewayLines {
 }
 
 impl ScriptKind for GatewayLines {
-    ghost use Rattle.gateway_script.specs.Reading.{AreThose};
-    ghost use Rattle.gateway_script.specs.declared.line.GatewayStatement.{GatewayStatement as StatementValue};
+    ghost use Rattle.gateway_script.specs.{Reading.{AreThose}, declared.line.GatewayStatement.{GatewayStatement as StatementValue}};
 
     type Script = GatewayScript;
 

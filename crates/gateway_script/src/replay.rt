@@ -1,14 +1,10 @@
 //! A gateway's run over a script, and what is written of it. It knows sinks by their trait alone.
 
-ghost use Rattle.std.specs.Prelude.{◌≡◌, ◌≤◌, [], ◌∷◌, ◌++◌, OnOk, OnErr, IsErrOf};
-ghost use Rattle.std.specs.Io.KnownBytes.{Appends};
+ghost use Rattle.std.specs.{Prelude.{◌≡◌, ◌≤◌, [], ◌∷◌, ◌++◌, OnOk, OnErr, IsErrOf}, Io.KnownBytes.{Appends}};
 ghost use Rattle.amt_ports.specs.Causes.{Rose};
-ghost use Rattle.gateway_machine.specs.Events.{IsEventOf};
-ghost use Rattle.gateway_machine.specs.Runs.{After, GatewayAt, answer_after, settings_of};
-ghost use Rattle.script_lines.specs.Counting.{CountsWrites};
-ghost use Rattle.script_lines.specs.Writing.{WritesPrefix, WritesUpTo};
-ghost use Rattle.gateway_script.specs.Running.{IsRunnable};
-ghost use Rattle.gateway_script.specs.Texts.{answer_text, gateway_script_text};
+ghost use Rattle.gateway_machine.specs.{Events.{IsEventOf}, Runs.{After, GatewayAt, answer_after, settings_of}};
+ghost use Rattle.script_lines.specs.{Counting.{CountsWrites}, Writing.{WritesPrefix, WritesUpTo}};
+ghost use Rattle.gateway_script.specs.{Running.{IsRunnable}, Texts.{answer_text, gateway_script_text}};
 
 use crate::script::GatewayScript;
 use crate::text::append_gateway_step;
@@ -57,8 +53,7 @@ struct GatewayRun {
 
 impl ScriptRun for GatewayRun {
     ghost use Rattle.gateway_machine.specs.Events.{IsEventOf};
-    ghost use Rattle.gateway_script.specs.Running.{IsGatewayAfter};
-    ghost use Rattle.gateway_script.specs.Texts.{GatewayStart, text_after};
+    ghost use Rattle.gateway_script.specs.{Running.{IsGatewayAfter}, Texts.{GatewayStart, text_after}};
 
     type Item = GatewayEvent;
 

@@ -1,9 +1,7 @@
 //! The settings of a gateway from those given, with the defaults. It knows no line.
 
 ghost use Rattle.std.specs.Prelude.{◌≡◌, ◌≤◌, IfSome, IfNone};
-ghost use Rattle.gateway_script.specs.Fault.{LacksSetting};
-ghost use Rattle.gateway_script.specs.Setting.{set_at};
-ghost use Rattle.gateway_script.specs.Settling.{Settles, discovery_in, family_given, is_v6, nonce_in, port_in, relay_in, source_in};
+ghost use Rattle.gateway_script.specs.{Fault.{LacksSetting}, Setting.{set_at}, Settling.{Settles, discovery_in, family_given, is_v6, nonce_in, port_in, relay_in, source_in}};
 
 use crate::kind::Key;
 use crate::setting::{Setting, setting_at};

@@ -1,17 +1,10 @@
 //! One line that makes a socket call, as whoever controls a gateway gives it. It knows no settings.
 
 ghost use Rattle.std.specs.Prelude.{◌≡◌, ◌≤◌, ◌↔◌, ◌∷◌, true, is_some, length, Some, IfOk, IfErr, IsTrue};
-ghost use Rattle.gateway_machine.specs.Answers.{call_in};
-ghost use Rattle.gateway_machine.specs.Events.{IsEventOf};
-ghost use Rattle.gateway_machine.specs.Settings.{family_of};
-ghost use Rattle.gateway_machine.specs.declared.settings.GatewaySettings.{GatewaySettings as SettingsValue};
+ghost use Rattle.gateway_machine.specs.{Answers.{call_in}, Events.{IsEventOf}, Settings.{family_of}, declared.{settings.GatewaySettings.{GatewaySettings as SettingsValue}, event.GatewayEvent.{GatewayEvent as EventValue}}};
 ghost use Rattle.socket_merge.specs.FullReport.{family_by};
-ghost use Rattle.gateway_machine.specs.declared.event.GatewayEvent.{GatewayEvent as EventValue};
-ghost use Rattle.gateway_script.specs.SocketLine.{FailsAsCall, IsSocketError, IsSocketLine, MakesCall, RulesOutCalls, control_line};
-ghost use Rattle.gateway_script.specs.Says.{SaysEvent};
-ghost use Rattle.script_lines.specs.Lines.{fields};
-ghost use Rattle.script_lines.specs.Reading.{FailsFirst};
-ghost use Rattle.gateway_script.specs.Fault.{order_of_values};
+ghost use Rattle.gateway_script.specs.{SocketLine.{FailsAsCall, IsSocketError, IsSocketLine, MakesCall, RulesOutCalls, control_line}, Says.{SaysEvent}, Fault.{order_of_values}};
+ghost use Rattle.script_lines.specs.{Lines.{fields}, Reading.{FailsFirst}};
 
 use crate::kind::{LineKind, kind_of_line};
 use crate::line::read_event;

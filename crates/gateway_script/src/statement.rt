@@ -3,14 +3,9 @@
 ghost use Rattle.std.specs.Prelude.{◌≡◌, [], ◌∷◌, ◌++◌, ◌↔◌, Option, None, IfOk, IfErr, IsTrue};
 ghost use Rattle.amt_values.specs.Conditions.{First};
 ghost use Rattle.group_records.specs.declared.family.Family.{Family as FamilyValue};
-ghost use Rattle.script_lines.specs.Lines.{fields};
-ghost use Rattle.script_lines.specs.Reading.{FailsFirst};
+ghost use Rattle.script_lines.specs.{Lines.{fields}, Reading.{FailsFirst}};
 ghost use Rattle.gateway_script.specs.declared.kind.LineKind.TheVariants as kinds;
-ghost use Rattle.gateway_script.specs.Fault.{FailsAs, order_of_values};
-ghost use Rattle.gateway_script.specs.Reading.{IsEventBy, order_with_word};
-ghost use Rattle.gateway_script.specs.Row.{words_of};
-ghost use Rattle.gateway_script.specs.Says.{SaysEvent, SaysSetting};
-ghost use Rattle.gateway_script.specs.Setting.{key_of};
+ghost use Rattle.gateway_script.specs.{Fault.{FailsAs, order_of_values}, Reading.{IsEventBy, order_with_word}, Row.{words_of}, Says.{SaysEvent, SaysSetting}, Setting.{key_of}};
 
 use crate::kind::Key;
 use crate::setting::Setting;

@@ -1,29 +1,10 @@
 -- How a running gateway begins, and how each turn does.
-use Rattle.std.proofs.Common.{◌≡◌, ◌<◌, ℕ, ◌+◌, max, List, [], ◌∷◌, ◌++◌, length, get_or, map, take, drop, refl, sym, ap, subst, ◌∙◌, append-nil, arith}
-use Rattle.std.specs.Prelude.{Option, Result, Ok, Err, nat_lt}
-use Rattle.std.proofs.Math.Bool.{or-true}
-use Rattle.std.proofs.lemmas.List.{drop_more, map-append, take-append-drop, take_all, take_more}
-use Rattle.std.proofs.lemmas.List.Elements.{All-cons, All-nil}
+use Rattle.std.{proofs.{Common.{◌≡◌, ◌<◌, ℕ, ◌+◌, max, List, [], ◌∷◌, ◌++◌, length, get_or, map, take, drop, refl, sym, ap, subst, ◌∙◌, append-nil, arith}, lemmas.List.{drop_more, map-append, take-append-drop, take_all, take_more, Elements.{All-cons, All-nil}}}, specs.Prelude.{Option, Result, Ok, Err}}
 use Rattle.amt_config.specs.declared.config.Join.{Join}
-use Rattle.amt_ports.specs.Told.{Appends, AppendsAll}
-use Rattle.gateway_machine.specs.Outcomes.{IsAtRest}
-use Rattle.gateway_machine.specs.Runs.{answer_after, run_of}
-use Rattle.gateway_machine.specs.declared.event.GatewayEvent.{GatewayEvent}
-use Rattle.gateway_machine.specs.declared.event.GatewayEvent.TheVariants.{Moment, Nonce}
-use Rattle.gateway_machine.specs.declared.settings.GatewaySettings.{GatewaySettings}
-use Rattle.amt_ports.specs.Answers.{refused, taken}
-use Rattle.amt_ports.specs.Devices.{LinkSeen, OutSeen}
-use Rattle.amt_ports.specs.declared.end.End.TheVariants.{WordsFault}
-use Rattle.amt_ports.proofs.Told.{AppendsAll-none}
-use Rattle.gateway_serving.specs.Events.{moments_in, nonce_of}
-use Rattle.gateway_serving.specs.Openings.{OpensSo}
-use Rattle.gateway_serving.specs.Servers.{AtWork, IsAlike, Takes, Tallies, at_work, counts_in, events_in, first_in, latest_in, settings_in}
-use Rattle.gateway_serving.specs.Settings.{opening_of}
-use Rattle.gateway_serving.specs.Starving.{SendsAt}
-use Rattle.gateway_serving.specs.Stages.{BeginsTurn, BeginsWith, PassesMoment}
-use Rattle.gateway_serving.specs.declared.server.Server.{Server}
-use Rattle.gateway_serving.proofs.Starving.{SendsAt-same}
-use Rattle.gateway_serving.proofs.Taking.{Takes-from, Takes-then, Takes-to, Tallies-as, Tallies-none, Tallies-then, none_first, none_taken, seen_same}
+use Rattle.amt_ports.{specs.{Told.{Appends, AppendsAll}, Answers.{refused, taken}, Devices.{LinkSeen, OutSeen}, declared.end.End.TheVariants.{WordsFault}}, proofs.Told.{AppendsAll-none}}
+use Rattle.gateway_machine.specs.{Outcomes.{IsAtRest}, Runs.{answer_after}, declared.event.GatewayEvent.TheVariants.{Moment, Nonce}}
+use Rattle.gateway_serving.specs.{Events.{moments_in, nonce_of}, Openings.{OpensSo}, Servers.{AtWork, IsAlike, Takes, Tallies, at_work, counts_in, events_in, first_in, latest_in, settings_in}, Settings.{opening_of}, Starving.{SendsAt}}
+use Rattle.gateway_serving.{specs.{Stages.{BeginsTurn, BeginsWith, PassesMoment}, declared.server.Server.{Server}}, proofs.{Starving.{SendsAt-same}, Taking.{Takes-from, Takes-then, Takes-to, Tallies-as, Tallies-none, Tallies-then, none_first, none_taken, seen_same}}}
 
 module _ (server moved : Server) (link : LinkSeen) (out : OutSeen) (after : AtWork) (clock clock' : Option (List ℕ)) (at answer : ℕ) (alike : IsAlike server moved)
     (later : at ≡ max (latest_in server) answer) (gave : Appends clock clock' answer) (tallies : Tallies (counts_in server) (counts_in after.server) 0 0 0 0) where

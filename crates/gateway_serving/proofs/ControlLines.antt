@@ -1,26 +1,9 @@
 -- Answers of the control feed, and then more of them.
-use Rattle.std.proofs.Common.{◌≡◌, ◌≤◌, ℕ, ◌+◌, Bool, false, cond, List, [], ◌∷◌, ◌++◌, length, refl, sym, ap, subst, arith}
-use Rattle.std.specs.Prelude.{Option, None, Some, Result, filter_map}
-use Rattle.std.proofs.lemmas.List.Elements.{filter_map-append}
-use Rattle.amt_ports.specs.Told.{Answers}
-use Rattle.amt_ports.specs.declared.feed.FeedAnswer.TheVariants.{Packet, Closed as FeedClosed}
-use Rattle.gateway_machine.specs.declared.event.GatewayEvent.{GatewayEvent}
-use Rattle.gateway_machine.specs.Settings.{family_of}
-use Rattle.gateway_machine.specs.declared.settings.GatewaySettings.{GatewaySettings}
-use Rattle.amt_ports.specs.Bursts.{AskedSo, IsNext}
-use Rattle.amt_ports.specs.Devices.{FeedSeen}
-use Rattle.amt_ports.specs.declared.asked.Asked.{Asked}
-use Rattle.amt_ports.specs.declared.end.End.{End}
-use Rattle.amt_ports.proofs.Lists.{AnswersAll-of, one_answer}
-use Rattle.gateway_serving.specs.Counting.{is_bad, is_line, is_starved_line}
-use Rattle.gateway_serving.specs.Events.{call_of, calls_in}
-use Rattle.gateway_serving.specs.Hearing.{HearsControlLine, one_if}
-use Rattle.gateway_serving.specs.Servers.{AtControl, AtWork, GrowsBy, HearsControl, Takes, at_control, counts_in, family_in, settings_in}
-use Rattle.gateway_serving.specs.Turns.{Line, ControlAnswer, a_line, from_control}
-use Rattle.gateway_serving.specs.declared.server.Server.{Server}
-use Rattle.gateway_serving.proofs.Few.{GrowsBy-of}
-use Rattle.gateway_serving.proofs.Hearing.{count_append, few_if}
-use Rattle.gateway_serving.proofs.Taking.{Takes-then, Tallies-as, Tallies-none, Tallies-then, none_first, none_taken}
+use Rattle.std.{proofs.{Common.{◌≡◌, ◌≤◌, ℕ, ◌+◌, Bool, false, cond, List, [], ◌∷◌, ◌++◌, length, refl, sym, ap, subst, arith}, lemmas.List.Elements.{filter_map-append}}, specs.Prelude.{Option, None, Some, Result, filter_map}}
+use Rattle.amt_ports.{specs.{Told.{Answers}, declared.{feed.FeedAnswer.TheVariants.{Packet, Closed as FeedClosed}, asked.Asked.{Asked}, end.End.{End}}, Bursts.{AskedSo, IsNext}, Devices.{FeedSeen}}, proofs.Lists.{AnswersAll-of, one_answer}}
+use Rattle.gateway_machine.specs.{declared.{event.GatewayEvent.{GatewayEvent}, settings.GatewaySettings.{GatewaySettings}}, Settings.{family_of}}
+use Rattle.gateway_serving.specs.{Counting.{is_bad, is_line, is_starved_line}, Events.{call_of, calls_in}, Hearing.{HearsControlLine, one_if}, Servers.{AtControl, AtWork, GrowsBy, HearsControl, Takes, at_control, counts_in, family_in, settings_in}}
+use Rattle.gateway_serving.{specs.{Turns.{Line, ControlAnswer, a_line, from_control}, declared.server.Server.{Server}}, proofs.{Few.{GrowsBy-of}, Hearing.{count_append, few_if}, Taking.{Takes-then, Tallies-as, Tallies-none, Tallies-then, none_first, none_taken}}}
 
 pub calls_in-append : (lines more : List ControlAnswer) → calls_in (lines ++ more) ≡ calls_in lines ++ calls_in more
 calls_in-append lines more = filter_map-append (λ (one : ControlAnswer). call_of one.line) lines more

@@ -1,8 +1,7 @@
 -- How many events happened, and how much is counted, at most.
 use Rattle.std.proofs.Common.{◌≡◌, ◌≤◌, ℕ, ◌+◌, List, length, ap, ◌∙◌, arith, length-append}
 use Rattle.gateway_machine.specs.declared.event.GatewayEvent.{GatewayEvent}
-use Rattle.gateway_serving.specs.Servers.{AreFew, GrowsBy, HasEvents, Tallies, counts_in, events_in}
-use Rattle.gateway_serving.specs.declared.server.Server.{Server}
+use Rattle.gateway_serving.specs.{Servers.{AreFew, GrowsBy, HasEvents, Tallies, counts_in, events_in}, declared.server.Server.{Server}}
 
 within : (number most more : ℕ) → number ≤ most → most ≤ more → number ≤ more
 within number most more few below = omega (arith, few, below)

@@ -1,37 +1,15 @@
 -- A step of the gateway sends at most two datagrams: two Updates where a filter changed, a Teardown and an Update
 -- where a Query was accepted, and else one or none.
 use Rattle.std.proofs.Common.{◌≤◌, ℕ, Bool, true, false, List, [], ◌∷◌, ◌++◌, length, Option, None, Some, Result, Ok, Err, nat_lt, ◌||◌, ◌==◌, if◌then◌else◌, arith, length-append}
-use Rattle.amt_values.specs.EndpointValue.{EndpointValue}
-use Rattle.amt_values.specs.declared.address.Ip.{Ip}
-use Rattle.amt_values.specs.declared.mac.Mac48.{Mac48}
-use Rattle.amt_values.specs.declared.peer.Peer.{Peer}
-use Rattle.amt_messages.specs.Refusal.{message_of}
-use Rattle.amt_messages.specs.declared.message.Message.{Message}
-use Rattle.amt_messages.specs.declared.message.Message.TheVariants.{Discovery, Advertisement, Request, Query, Update, Multicast, Teardown}
-use Rattle.amt_messages.specs.declared.refusal.Refused.{Refused}
-use Rattle.source_filter.specs.declared.query.QueryFields.{QueryFields}
-use Rattle.source_filter.specs.declared.record.Record.{Record}
-use Rattle.socket_merge.specs.FullReport.{is_quiet}
-use Rattle.socket_merge.specs.History.{AcceptedCall, SocketCall, Open, Change, Close, LeaveAll, with_call}
-use Rattle.socket_merge.specs.Changes.{change_records}
+use Rattle.amt_values.specs.{EndpointValue.{EndpointValue}, declared.{address.Ip.{Ip}, mac.Mac48.{Mac48}, peer.Peer.{Peer}}}
+use Rattle.amt_messages.specs.{Refusal.{message_of}, declared.{message.Message.{Message, TheVariants.{Discovery, Advertisement, Request, Query, Update, Multicast, Teardown}}, refusal.Refused.{Refused}}}
+use Rattle.source_filter.specs.{declared.query.QueryFields.{QueryFields}, declared.record.Record.{Record}}
+use Rattle.socket_merge.specs.{FullReport.{is_quiet}, History.{AcceptedCall, SocketCall, Open, Change, Close, LeaveAll, with_call}, Changes.{change_records}}
 use Rattle.gateway_machine.specs.Answers.{Answer, accepted_answer, advertisement_answer, answer_at, ask, begin_with, call_answer, call_by, cause_heard, changed_answer, datagram_answer, due_answer, event_answer, fields_heard, ignored, is_idle, is_opening, asked_relay, joined_relay, packet_by, query_by, query_kept, quiet, refusal_at}
-use Rattle.gateway_machine.specs.Exchange.{active, idle, moved, relay_named, requesting, retried}
-use Rattle.gateway_machine.specs.Reports.{full_records, full_report, same_endpoint, teardown, teardown_by, teardown_if, update, update_by, update_of}
-use Rattle.gateway_machine.specs.Runs.{answer_after, run_of}
-use Rattle.gateway_machine.specs.Sends.{Sending, to_relay}
-use Rattle.gateway_machine.specs.Settings.{family_of}
-use Rattle.gateway_machine.specs.Timing.{farewell_ms}
-use Rattle.gateway_machine.specs.declared.event.GatewayEvent.{GatewayEvent}
+use Rattle.gateway_machine.specs.{Exchange.{active, idle, moved, relay_named, requesting, retried}, Reports.{full_records, full_report, same_endpoint, teardown, teardown_by, teardown_if, update, update_by, update_of}, Runs.{answer_after, run_of}}
+use Rattle.gateway_machine.specs.{Sends.{Sending, to_relay}, Settings.{family_of}, Timing.{farewell_ms}, declared.{event.GatewayEvent.{GatewayEvent}, exchange.{Exchange.{Exchange}, GatewayState.{GatewayState, TheVariants.{Idle, Discovering, Requesting, Active}}}}}
+use Rattle.gateway_machine.specs.declared.{exchange.LastQuery.{LastQuery}, outcome.{Ignored.{Ignored, TheVariants.{Nonce as OtherNonce}}, GatewayOutcome.TheVariants.{Quiet, Idle as GoesIdle}, SocketRefusal.{SocketRefusal}}, settings.GatewaySettings.{GatewaySettings}}
 use Rattle.gateway_machine.specs.declared.event.GatewayEvent.TheVariants as events
-use Rattle.gateway_machine.specs.declared.exchange.Exchange.{Exchange}
-use Rattle.gateway_machine.specs.declared.exchange.GatewayState.{GatewayState}
-use Rattle.gateway_machine.specs.declared.exchange.GatewayState.TheVariants.{Idle, Discovering, Requesting, Active}
-use Rattle.gateway_machine.specs.declared.exchange.LastQuery.{LastQuery}
-use Rattle.gateway_machine.specs.declared.outcome.Ignored.{Ignored}
-use Rattle.gateway_machine.specs.declared.outcome.GatewayOutcome.TheVariants.{Quiet, Idle as GoesIdle}
-use Rattle.gateway_machine.specs.declared.outcome.Ignored.TheVariants.{Nonce as OtherNonce}
-use Rattle.gateway_machine.specs.declared.outcome.SocketRefusal.{SocketRefusal}
-use Rattle.gateway_machine.specs.declared.settings.GatewaySettings.{GatewaySettings}
 
 -- at most two are sent
 abbrev SendsFew : Answer → Type 0

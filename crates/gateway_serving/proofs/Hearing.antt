@@ -1,23 +1,9 @@
 -- Answers of the link, and then more of them.
-use Rattle.std.proofs.Common.{◌≡◌, ◌≤◌, ℕ, ◌+◌, Bool, true, false, cond, List, [], ◌∷◌, ◌++◌, length, refl, sym, subst, arith}
-use Rattle.std.specs.Prelude.{Option, None, Some, count_by, filter_map}
-use Rattle.std.proofs.lemmas.List.Elements.{filter_map-append}
-use Rattle.std.proofs.lemmas.List.Sums.{sum_by-append}
-use Rattle.amt_ports.specs.Told.{Answers}
-use Rattle.amt_ports.specs.declared.link.LinkAnswer.{LinkAnswer}
-use Rattle.amt_ports.specs.declared.link.LinkAnswer.TheVariants.{Datagram as DatagramCame, Closed as LinkClosed}
+use Rattle.std.{proofs.{Common.{◌≡◌, ◌≤◌, ℕ, ◌+◌, Bool, true, false, cond, List, [], ◌∷◌, ◌++◌, length, refl, sym, subst, arith}, lemmas.List.{Elements.{filter_map-append}, Sums.{sum_by-append}}}, specs.Prelude.{Option, None, Some, count_by, filter_map}}
+use Rattle.amt_ports.{specs.{Told.{Answers}, declared.link.LinkAnswer.{LinkAnswer, TheVariants.{Datagram as DatagramCame, Closed as LinkClosed}}, Answers.{Taken, unless_starved}, Devices.{LinkSeen, OutSeen}}, proofs.Lists.{AnswersAll-taken, one_answer}}
 use Rattle.amt_values.specs.declared.peer.Peer.{Peer}
 use Rattle.gateway_machine.specs.declared.event.GatewayEvent.{GatewayEvent}
-use Rattle.amt_ports.specs.Answers.{Taken, unless_starved}
-use Rattle.amt_ports.specs.Devices.{LinkSeen, OutSeen}
-use Rattle.amt_ports.proofs.Lists.{AnswersAll-taken, one_answer}
-use Rattle.gateway_serving.specs.Counting.{is_datagram}
-use Rattle.gateway_serving.specs.Events.{datagram_of, datagrams_in}
-use Rattle.gateway_serving.specs.Hearing.{HearsOne, one_if}
-use Rattle.gateway_serving.specs.Servers.{AtWork, GrowsBy, Hears, Takes, at_work, counts_in}
-use Rattle.gateway_serving.specs.declared.server.Server.{Server}
-use Rattle.gateway_serving.proofs.Few.{GrowsBy-of}
-use Rattle.gateway_serving.proofs.Taking.{IsAlike-none, Takes-from, Takes-none, Takes-then, Tallies-as, Tallies-none, Tallies-then, none_first, none_taken}
+use Rattle.gateway_serving.{specs.{Counting.{is_datagram}, Events.{datagram_of, datagrams_in}, Hearing.{HearsOne, one_if}, Servers.{AtWork, GrowsBy, Hears, Takes, at_work, counts_in}, declared.server.Server.{Server}}, proofs.{Few.{GrowsBy-of}, Taking.{IsAlike-none, Takes-from, Takes-none, Takes-then, Tallies-as, Tallies-none, Tallies-then, none_first, none_taken}}}
 
 pub count_append : {X : Type 0} (test : X → Bool) (xs ys : List X) → count_by test xs + count_by test ys ≡ count_by test (xs ++ ys)
 count_append {X} test xs ys = sym (sum_by-append (λ (one : X). cond (test one) 1 0) xs ys)

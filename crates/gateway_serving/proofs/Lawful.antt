@@ -1,19 +1,10 @@
 -- The configuration of a settings file is one that a gateway may run by.
-use Rattle.std.proofs.Common.{◌≡◌, ℕ, ◌<◌, true, List, [], ◌∷◌, length, Some, sym, subst, arith}
-use Rattle.std.specs.List.{All}
-use Rattle.std.proofs.lemmas.List.Elements.{All-cons, All-nil, All-same}
-use Rattle.amt_config.specs.Gateway.{IsGatewayFile}
-use Rattle.amt_config.specs.Join.{AreJoins, JoinOf, MayOpen, with_join}
-use Rattle.amt_config.specs.declared.config.GatewayConfig.{GatewayConfig}
-use Rattle.amt_config.specs.declared.config.Join.{Join}
-use Rattle.amt_config.proofs.OpenedJoins.{join_forwarded, join_of_group, more_refused}
+use Rattle.std.{proofs.{Common.{◌≡◌, ℕ, ◌<◌, true, List, [], ◌∷◌, length, Some, sym, subst, arith}, lemmas.List.Elements.{All-cons, All-nil, All-same}}, specs.List.{All}}
+use Rattle.amt_config.{specs.{Gateway.{IsGatewayFile}, Join.{AreJoins, JoinOf, MayOpen, with_join}, declared.config.{GatewayConfig.{GatewayConfig}, Join.{Join}}}, proofs.OpenedJoins.{join_forwarded, join_of_group, more_refused}}
 use Rattle.gateway_machine.specs.Events.{IsEventOf}
 use Rattle.gateway_serving.specs.Settings.{IsLawfulConfig, opening_of, settings_of}
-use Rattle.group_records.specs.declared.family.Family.{Family}
-use Rattle.group_records.specs.Written.{is_of_family}
-use Rattle.socket_merge.specs.FullReport.{family_by}
-use Rattle.socket_merge.specs.History.{AcceptedCall}
-use Rattle.socket_merge.proofs.RawOctets.{family_is}
+use Rattle.group_records.specs.{declared.family.Family.{Family}, Written.{is_of_family}}
+use Rattle.socket_merge.{specs.{FullReport.{family_by}, History.{AcceptedCall}}, proofs.RawOctets.{family_is}}
 use Rattle.toml.specs.Data.{Members}
 
 module _ (config : GatewayConfig) where

@@ -4,11 +4,7 @@ use Rattle.gateway_machine.specs.declared.event.GatewayEvent.{GatewayEvent}
 use Rattle.gateway_script.specs.SocketLine.{IsSocketLine}
 use Rattle.amt_ports.specs.Devices.{LinkSeen, OutSeen}
 use Rattle.socket_merge.specs.FullReport.{family_by}
-use Rattle.gateway_serving.specs.Hearing.{HearsControlLine}
-use Rattle.gateway_serving.specs.Servers.{AtWork, IsAlike, Takes, Tallies, at_work, counts_in}
-use Rattle.gateway_serving.specs.Turns.{Bad, Called, Starved}
-use Rattle.gateway_serving.specs.declared.server.Server.{Server}
-use Rattle.gateway_serving.proofs.Taking.{Takes-from, Takes-none, Takes-to, Tallies-then, seen_same}
+use Rattle.gateway_serving.{specs.{Hearing.{HearsControlLine}, Servers.{AtWork, IsAlike, Takes, Tallies, at_work, counts_in}, Turns.{Bad, Called, Starved}, declared.server.Server.{Server}}, proofs.Taking.{Takes-from, Takes-none, Tallies-then, seen_same}}
 
 module _ (server : Server) (link : LinkSeen) (out : OutSeen) (bytes : List ℕ) where
   module _ (counted : Server) (alike : IsAlike server counted) (line : Tallies (counts_in server) (counts_in counted) 0 1 0 0) where
@@ -20,18 +16,6 @@ module _ (server : Server) (link : LinkSeen) (out : OutSeen) (bytes : List ℕ) 
       may = subst (λ (v6 : Bool). IsSocketLine (family_by v6) event bytes) (sym server.family) is;
       takes = Takes-from (at_work server link out) (at_work counted link out) after (event ∷ []) alike (seen_same server counted link out) takes;
       tallies = Tallies-then (counts_in server) (counts_in counted) (counts_in after.server) 0 1 0 0 0 0 0 0 line tallies;
-    }
-
-    -- memory refused its event
-    pub line_starved : (after : AtWork) (last : Server) → Takes (at_work counted link out) after [] → Tallies (counts_in counted) (counts_in after.server) 0 0 0 0
-        → IsAlike after.server last → Tallies (counts_in after.server) (counts_in last) 0 0 0 1 → HearsControlLine bytes (at_work server link out) (at_work last after.link after.out)
-    line_starved after last takes tallies still more = record {
-      line = Starved;
-      may = tt;
-      takes = Takes-to (at_work server link out) after (at_work last after.link after.out) []
-          (Takes-from (at_work server link out) (at_work counted link out) after [] alike (seen_same server counted link out) takes) still (seen_same after.server last after.link after.out);
-      tallies = Tallies-then (counts_in server) (counts_in after.server) (counts_in last) 0 1 0 0 0 0 0 1
-          (Tallies-then (counts_in server) (counts_in counted) (counts_in after.server) 0 1 0 0 0 0 0 0 line tallies) more;
     }
 
     -- memory refused to read it

@@ -1,39 +1,12 @@
 -- What the turns of a run come to together.
 use Rattle.std.proofs.Common.{◌≡◌, ℕ, ◌+◌, ◌*◌, ◌≤◌, ◌<◌, List, [], ◌∷◌, ◌++◌, length, map, None, Some, Ok, Err, refl, sym, ap, subst, ◌∙◌, arith, length-append}
-use Rattle.std.specs.Prelude.{All, sum_by}
-use Rattle.std.specs.List.{flat_map}
-use Rattle.std.proofs.lemmas.Grind.{flat_map-append}
-use Rattle.std.proofs.lemmas.List.{append_assoc}
-use Rattle.std.proofs.lemmas.List.Elements.{All-nil, All-push}
-use Rattle.std.proofs.lemmas.List.Sums.{sum_by-append}
-use Rattle.amt_ports.specs.Causes.{Rose}
-use Rattle.amt_ports.specs.Told.{AppendsAll}
-use Rattle.amt_ports.specs.declared.feed.FeedAnswer.{FeedAnswer}
-use Rattle.amt_ports.specs.declared.feed.FeedAnswer.TheVariants.{Closed as FeedClosed}
-use Rattle.amt_ports.specs.declared.link.LinkAnswer.{LinkAnswer}
-use Rattle.amt_ports.specs.declared.link.LinkAnswer.TheVariants.{Closed as LinkClosed}
-use Rattle.gateway_machine.specs.Settings.{family_of}
-use Rattle.gateway_machine.specs.declared.event.GatewayEvent.{GatewayEvent}
+use Rattle.std.{specs.{Prelude.{All, sum_by}, List.{flat_map}}, proofs.lemmas.{Grind.{flat_map-append}, List.{append_assoc, Elements.{All-nil, All-push}, Sums.{sum_by-append}}}}
+use Rattle.amt_ports.specs.{Causes.{Rose}, Told.{AppendsAll}, declared.{feed.FeedAnswer.{FeedAnswer, TheVariants.{Closed as FeedClosed}}, link.LinkAnswer.{LinkAnswer, TheVariants.{Closed as LinkClosed}}, end.End.{End}}}
+use Rattle.amt_ports.{specs.{declared.end.End.TheVariants.{Turns, LinkFault, FeedFault, WordsFault}, Answers.{Taken}, EndCauses.{IsCauseOf, IsCausedBy}, Devices.{AnswersAll}}, proofs.{Told.{AppendsAll-none, AppendsAll-then}, Lists.{AnswersAll-then}}}
+use Rattle.gateway_machine.specs.{Settings.{family_of}, declared.event.GatewayEvent.{GatewayEvent}}
 use Rattle.group_records.specs.declared.family.Family.{Family}
-use Rattle.amt_ports.specs.Answers.{Taken}
-use Rattle.amt_ports.specs.EndCauses.{IsCauseOf, IsCausedBy}
-use Rattle.amt_ports.specs.Devices.{AnswersAll}
-use Rattle.amt_ports.specs.declared.end.End.{End}
-use Rattle.amt_ports.specs.declared.end.End.TheVariants.{Turns, LinkFault, FeedFault, WordsFault}
-use Rattle.amt_ports.proofs.Told.{AppendsAll-none, AppendsAll-then}
-use Rattle.amt_ports.proofs.Lists.{AnswersAll-then}
-use Rattle.gateway_serving.specs.Counting.{bad_lines_taken, datagrams_heard, lines_taken, starved_in}
-use Rattle.gateway_serving.specs.Devices.{Devices}
-use Rattle.gateway_serving.specs.Events.{events_from, events_of_turn}
-use Rattle.gateway_serving.specs.Servers.{GrowsBy, Takes, counts_in, events_in, family_in, first_in, latest_in, settings_in}
-use Rattle.gateway_serving.specs.Stages.{AreCausesOf, EndsIn, Goes, RunsSo, TurnsSo, work_on}
-use Rattle.gateway_serving.specs.Runs.{IsCut}
-use Rattle.gateway_serving.specs.Turns.{IsWhole, ControlAnswer, Turn, moment_of_turn}
-use Rattle.gateway_serving.specs.declared.server.Server.{Server}
-use Rattle.gateway_serving.proofs.Few.{GrowsBy-none, GrowsBy-then}
-use Rattle.gateway_serving.proofs.Starving.{StarveWhereItSends-more, StarveWhereItSends-same, latest_after}
-use Rattle.gateway_serving.proofs.Taking.{Takes-then, Tallies-as, Tallies-none, Tallies-then, none_taken}
-use Rattle.gateway_serving.proofs.Turning.{no_error}
+use Rattle.gateway_serving.specs.{Counting.{bad_lines_taken, datagrams_heard, lines_taken, starved_in}, Devices.{Devices}, Events.{events_from, events_of_turn}, Servers.{GrowsBy, Takes, counts_in, events_in, family_in, first_in, latest_in, settings_in}, Stages.{AreCausesOf, EndsIn, Goes, RunsSo, TurnsSo, work_on}, Runs.{IsCut}}
+use Rattle.gateway_serving.{specs.{Turns.{IsWhole, ControlAnswer, Turn, moment_of_turn}, declared.server.Server.{Server}}, proofs.{Few.{GrowsBy-none, GrowsBy-then}, Starving.{StarveWhereItSends-more, StarveWhereItSends-same, latest_after}, Taking.{Takes-then, Tallies-as, Tallies-none, Tallies-then, none_taken}, Turning.{no_error}}}
 
 latest_after-more : (latest : ℕ) (turns : List Turn) (turn : Turn) → latest_after latest (turns ++ turn ∷ []) ≡ moment_of_turn (latest_after latest turns) turn
 latest_after-more latest [] turn = refl

@@ -1,15 +1,8 @@
 -- Which moments memory refused, over turns.
 use Rattle.std.proofs.Common.{◌≡◌, ℕ, max, true, List, [], ◌∷◌, ◌++◌, sym, subst, append-nil, append_assoc}
-use Rattle.gateway_machine.specs.Outcomes.{IsAtRest}
-use Rattle.gateway_machine.specs.Runs.{answer_after}
-use Rattle.gateway_machine.specs.declared.event.GatewayEvent.{GatewayEvent}
-use Rattle.gateway_machine.specs.declared.event.GatewayEvent.TheVariants.{Moment}
-use Rattle.gateway_machine.specs.declared.outcome.GatewayOutcome.{GatewayOutcome}
-use Rattle.gateway_machine.specs.declared.settings.GatewaySettings.{GatewaySettings}
+use Rattle.gateway_machine.specs.{Outcomes.{IsAtRest}, Runs.{answer_after}, declared.{event.GatewayEvent.{GatewayEvent, TheVariants.{Moment}}, outcome.GatewayOutcome.{GatewayOutcome}, settings.GatewaySettings.{GatewaySettings}}}
 use Rattle.amt_ports.specs.Answers.{Taken}
-use Rattle.gateway_serving.specs.Events.{events_from, events_of_turn}
-use Rattle.gateway_serving.specs.Starving.{SendsAt, StarveWhereItSends}
-use Rattle.gateway_serving.specs.Turns.{Turn, moment_of_turn}
+use Rattle.gateway_serving.specs.{Events.{events_from, events_of_turn}, Starving.{SendsAt, StarveWhereItSends}, Turns.{Turn, moment_of_turn}}
 
 module _ (settings settings' : GatewaySettings) (first first' : ℕ) (events events' : List GatewayEvent) (latest latest' : ℕ)
     (same_settings : settings ≡ settings') (same_first : first ≡ first') (same_events : events ≡ events') (same_latest : latest ≡ latest') where

@@ -1,28 +1,11 @@
 -- One event that a running gateway takes.
-use Rattle.std.proofs.Common.{◌≡◌, ◌≤◌, ℕ, ◌+◌, List, [], ◌∷◌, ◌++◌, length, map, sym, ap, subst, ◌∙◌, append-nil, arith}
-use Rattle.std.specs.Prelude.{Option}
+use Rattle.std.{proofs.{Common.{◌≡◌, ◌≤◌, ℕ, ◌+◌, List, [], ◌∷◌, ◌++◌, length, map, sym, ap, subst, ◌∙◌, append-nil, arith}, Math.Logic.{∥∥₁_elim, ∥∥₁_map}, Props.{props}, lemmas.List.{length-map}}, specs.Prelude.{Option}}
 use mathlib.Core.Sum.{⊎_set}
-use Rattle.std.proofs.Math.Logic.{∥∥₁_elim, ∥∥₁_map}
-use Rattle.std.proofs.Props.{props}
-use Rattle.std.proofs.lemmas.List.{length-map}
 use Rattle.amt_values.specs.declared.peer.Peer.{Peer}
-use Rattle.gateway_machine.specs.Outcomes.{NeedsNoMemory}
-use Rattle.gateway_machine.specs.Runs.{After, GatewayAt, answer_after, settings_of}
-use Rattle.gateway_machine.specs.Sends.{datagram_of}
-use Rattle.gateway_machine.specs.declared.event.GatewayEvent.{GatewayEvent}
-use Rattle.gateway_machine.specs.declared.gateway.Gateway.{Gateway}
-use Rattle.gateway_machine.specs.declared.settings.GatewaySettings.{GatewaySettings}
-use Rattle.gateway_machine.specs.declared.step.PeerSend.{PeerSend}
+use Rattle.gateway_machine.specs.{Outcomes.{NeedsNoMemory}, Runs.{After, GatewayAt, answer_after, settings_of}, Sends.{datagram_of}, declared.{event.GatewayEvent.{GatewayEvent}, gateway.Gateway.{Gateway}, settings.GatewaySettings.{GatewaySettings}, step.PeerSend.{PeerSend}}}
 use Rattle.amt_ports.specs.Tried.{HasTried}
-use Rattle.gateway_serving.specs.Courses.{events_so_far}
-use Rattle.gateway_serving.specs.Sending.{delivered_to, delivery_to, sends_to, to_peer}
-use Rattle.gateway_serving.specs.Servers.{AtWork, IsSameRun, Takes, counts_in, deliver_in, events_in, first_in, settings_in, wanted_packets, wanted_sends}
-use Rattle.gateway_serving.specs.Taking.{HasHandedOn, HasSent}
-use Rattle.gateway_serving.specs.declared.counts.Counts.{Counts}
-use Rattle.gateway_serving.specs.declared.course.Course.{Course}
-use Rattle.gateway_serving.specs.declared.server.Server.{Server}
-use Rattle.gateway_serving.proofs.FewSends.{answer_after-few}
-use Rattle.gateway_serving.proofs.Taking.{sum_then}
+use Rattle.gateway_serving.specs.{Courses.{events_so_far}, Sending.{delivered_to, delivery_to, sends_to, to_peer}}
+use Rattle.gateway_serving.{specs.{Servers.{AtWork, IsSameRun, Takes, counts_in, deliver_in, events_in, first_in, settings_in, wanted_packets, wanted_sends}, Taking.{HasHandedOn, HasSent}, declared.{counts.Counts.{Counts}, course.Course.{Course}, server.Server.{Server}}}, proofs.{FewSends.{answer_after-few}, Taking.{sum_then}}}
 
 -- lists of sends are equal in one way, and so are packets
 sends_prop : (one other : List PeerSend) → IsProp (one ≡ other)

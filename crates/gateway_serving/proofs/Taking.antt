@@ -1,17 +1,9 @@
 -- Events that a running gateway takes, and then more of them.
-use Rattle.std.proofs.Common.{◌≡◌, ℕ, ◌+◌, List, [], ◌++◌, refl, sym, ap, subst, ◌∙◌, append_assoc, append-nil, arith}
-use Rattle.std.specs.Prelude.{Option}
-use Rattle.amt_ports.specs.Sends.{TriedSend}
+use Rattle.std.{proofs.Common.{◌≡◌, ℕ, ◌+◌, List, [], ◌++◌, refl, sym, ap, subst, ◌∙◌, append_assoc, append-nil, arith}, specs.Prelude.{Option}}
+use Rattle.amt_ports.{specs.{Sends.{TriedSend}, Devices.{LinkSeen, OutSeen}, Tried.{HasTried}}, proofs.Trying.{HasTried-none, HasTried-then}}
 use Rattle.amt_values.specs.declared.peer.Peer.{Peer}
 use Rattle.gateway_machine.specs.declared.event.GatewayEvent.{GatewayEvent}
-use Rattle.amt_ports.specs.Devices.{LinkSeen, OutSeen}
-use Rattle.amt_ports.specs.Tried.{HasTried}
-use Rattle.amt_ports.proofs.Trying.{HasTried-none, HasTried-then}
-use Rattle.gateway_serving.specs.Sending.{delivered_after, sends_after}
-use Rattle.gateway_serving.specs.Servers.{AtWork, HasEvents, IsAlike, IsSameRun, Takes, Tallies, at_work, counts_in, deliver_in, events_in, first_in, settings_in, wanted_packets, wanted_sends}
-use Rattle.gateway_serving.specs.declared.counts.Counts.{Counts}
-use Rattle.gateway_serving.specs.declared.server.Server.{Server}
-use Rattle.gateway_serving.proofs.Sending.{delivered_after-append, sends_after-append}
+use Rattle.gateway_serving.{specs.{Sending.{delivered_after, sends_after}, Servers.{AtWork, HasEvents, IsAlike, IsSameRun, Takes, Tallies, at_work, counts_in, deliver_in, events_in, first_in, settings_in, wanted_packets, wanted_sends}, declared.{counts.Counts.{Counts}, server.Server.{Server}}}, proofs.Sending.{delivered_after-append, sends_after-append}}
 
 pub IsSameRun-none : (server : Server) → IsSameRun server server
 IsSameRun-none server = record { same_settings = refl; same_first = refl; same_deliver = refl }

@@ -1,20 +1,9 @@
 -- One datagram more that a link or an out tried, and what is counted of it.
-use Rattle.std.proofs.Common.{◌≡◌, ℕ, ◌+◌, ◌<◌, List, [], ◌∷◌, ◌++◌, length, get_or, map, take, refl, sym, ap, subst, ◌∙◌, arith}
-use Rattle.std.specs.Prelude.{IsSome, OnOk, Option, Some, Result, Ok, Err, is_ok}
-use Rattle.std.proofs.lemmas.List.{take_more, map-append}
-use Rattle.amt_ports.specs.Causes.{HasCause}
-use Rattle.amt_ports.specs.Sends.{TriedSend, tried_send}
-use Rattle.amt_ports.specs.Told.{Appends}
-use Rattle.amt_ports.specs.declared.fault.Failed.{Failed}
+use Rattle.std.{proofs.{Common.{◌≡◌, ℕ, ◌+◌, ◌<◌, List, [], ◌∷◌, ◌++◌, length, get_or, map, take, refl, sym, ap, subst, ◌∙◌, arith}, lemmas.List.{take_more, map-append}}, specs.Prelude.{IsSome, OnOk, Option, Some, Result, Ok, Err, is_ok}}
+use Rattle.amt_ports.{specs.{Causes.{HasCause}, Sends.{TriedSend, tried_send}, Told.{Appends}, declared.fault.Failed.{Failed}, Devices.{LinkSeen, OutSeen}, Tried.{HasTried}}, proofs.Trying.{HasTried-failed, HasTried-none, HasTried-sent}}
 use Rattle.amt_values.specs.declared.peer.Peer.{Peer}
 use Rattle.gateway_machine.specs.declared.step.PeerSend.{PeerSend}
-use Rattle.amt_ports.specs.Devices.{LinkSeen, OutSeen}
-use Rattle.amt_ports.specs.Tried.{HasTried}
-use Rattle.amt_ports.proofs.Trying.{HasTried-failed, HasTried-none, HasTried-sent}
-use Rattle.gateway_serving.specs.Sending.{delivery_to, to_peer}
-use Rattle.gateway_serving.specs.Servers.{Tallies}
-use Rattle.gateway_serving.specs.Taking.{HasHandedOn, HasSent}
-use Rattle.gateway_serving.specs.declared.counts.Counts.{Counts}
+use Rattle.gateway_serving.specs.{Sending.{delivery_to, to_peer}, Servers.{Tallies}, Taking.{HasHandedOn, HasSent}, declared.counts.Counts.{Counts}}
 
 pub sends_more : (sends : List PeerSend) (place : ℕ) (send : PeerSend) (bytes : List ℕ) → place < length sends → send ≡ get_or sends place send → bytes ≡ send.bytes
     → map to_peer (take place sends) ++ (send.to, bytes) ∷ [] ≡ map to_peer (take (place + 1) sends)

@@ -1,32 +1,10 @@
 -- What the stages of a turn come to together.
-use Rattle.std.proofs.Common.{◌≡◌, ℕ, ◌+◌, List, [], ◌∷◌, ◌++◌, map, Result, Ok, Err, refl, sym, ap, subst, ◌∙◌, arith}
-use Rattle.std.specs.Prelude.{All, IsErrOf, Option, count_by}
-use Rattle.std.proofs.lemmas.List.{append-nil, append_assoc}
-use Rattle.amt_ports.specs.Told.{AppendsAll}
-use Rattle.amt_ports.specs.declared.feed.FeedAnswer.{FeedAnswer}
-use Rattle.amt_ports.specs.declared.feed.FeedAnswer.TheVariants.{Closed as FeedClosed}
-use Rattle.amt_ports.specs.declared.link.LinkAnswer.{LinkAnswer}
-use Rattle.amt_ports.specs.declared.link.LinkAnswer.TheVariants.{Closed as LinkClosed}
-use Rattle.gateway_machine.specs.declared.event.GatewayEvent.{GatewayEvent}
-use Rattle.gateway_machine.specs.Settings.{family_of}
+use Rattle.std.{proofs.{Common.{◌≡◌, ℕ, ◌+◌, List, [], ◌∷◌, ◌++◌, map, Result, Ok, Err, refl, sym, ap, subst, ◌∙◌, arith}, lemmas.List.{append-nil, append_assoc}}, specs.Prelude.{All, IsErrOf, Option, count_by}}
+use Rattle.amt_ports.specs.{Told.{AppendsAll}, declared.{feed.FeedAnswer.{FeedAnswer, TheVariants.{Closed as FeedClosed}}, link.LinkAnswer.{LinkAnswer, TheVariants.{Closed as LinkClosed}}, end.End.{End, TheVariants.{Turns, Closed, LinkFault, FeedFault, WordsFault, SpawnFault, Memory}}}, Answers.{Taken}, Bursts.{AreAsked, AskedSo}, Devices.{AnswersAll}}
+use Rattle.gateway_machine.specs.{declared.event.GatewayEvent.{GatewayEvent}, Settings.{family_of}}
 use Rattle.group_records.specs.declared.family.Family.{Family}
-use Rattle.amt_ports.specs.Answers.{Taken}
-use Rattle.amt_ports.specs.Bursts.{AreAsked, AskedSo}
-use Rattle.amt_ports.specs.Devices.{AnswersAll}
-use Rattle.amt_ports.specs.declared.end.End.{End}
-use Rattle.amt_ports.specs.declared.end.End.TheVariants.{Turns, Closed, LinkFault, FeedFault, WordsFault, SpawnFault, Memory}
-use Rattle.gateway_serving.specs.Counting.{bad_lines_taken, datagrams_heard, lines_taken}
-use Rattle.gateway_serving.specs.Devices.{Devices}
-use Rattle.gateway_serving.specs.Events.{calls_in, datagrams_in, moments_in, nonces_in}
-use Rattle.gateway_serving.specs.Runs.{IsCut, of_control, of_link}
-use Rattle.gateway_serving.specs.Servers.{AtWork, Hears, HearsControl, Takes, Tallies, at_control, counts_in, events_in, family_in, first_in, latest_in, settings_in}
-use Rattle.gateway_serving.specs.Stages.{BeginsTurn, Goes, IsTurnBegun, IsTurnBy, TurnsSo, work_on}
-use Rattle.gateway_serving.specs.Starving.{SendsAt}
-use Rattle.gateway_serving.specs.Turns.{HasBegun, HasHeard, ControlAnswer, Turn, from_control, from_link}
-use Rattle.gateway_serving.specs.declared.server.Server.{Server}
-use Rattle.gateway_serving.proofs.Hearing.{Hears-none}
-use Rattle.gateway_serving.proofs.Taking.{Takes-then, Tallies-as, Tallies-then}
-use Rattle.gateway_serving.proofs.ControlLines.{HearsControl-failed}
+use Rattle.gateway_serving.specs.{Counting.{bad_lines_taken, datagrams_heard, lines_taken}, Devices.{Devices}, Events.{calls_in, datagrams_in, moments_in, nonces_in}, Runs.{IsCut, of_control, of_link}, Servers.{AtWork, Hears, HearsControl, Takes, Tallies, at_control, counts_in, events_in, family_in, first_in, latest_in, settings_in}}
+use Rattle.gateway_serving.{specs.{Stages.{BeginsTurn, Goes, IsTurnBegun, IsTurnBy, TurnsSo, work_on}, Starving.{SendsAt}, Turns.{HasBegun, HasHeard, ControlAnswer, Turn, from_control, from_link}, declared.server.Server.{Server}}, proofs.{Hearing.{Hears-none}, Taking.{Takes-then, Tallies-as, Tallies-then}, ControlLines.{HearsControl-failed}}}
 
 -- the answers of a turn
 abbrev pub turn_of : List ℕ → List (Taken ℕ) → List (Taken LinkAnswer) → List ControlAnswer → Turn

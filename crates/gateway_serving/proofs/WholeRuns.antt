@@ -1,44 +1,15 @@
 -- A whole run, put together.
-use Rattle.std.proofs.Common.{◌≡◌, ◌≢◌, ℕ, ◌+◌, List, [], ◌∷◌, ◌++◌, length, map, refl, sym, ap, subst, ◌∙◌, append-nil, arith}
-use Rattle.std.specs.Prelude.{All, Option, None, Ok, Err, sum_by}
-use Rattle.std.specs.List.{flat_map}
-use Rattle.amt_config.specs.declared.config.GatewayConfig.{GatewayConfig}
-use Rattle.amt_config.specs.declared.config.Join.{Join}
-use Rattle.amt_ports.specs.Causes.{Rose}
-use Rattle.amt_ports.specs.Told.{AppendsAll}
-use Rattle.amt_ports.specs.declared.feed.FeedAnswer.TheVariants.{Closed as FeedClosed}
-use Rattle.amt_ports.specs.declared.link.LinkAnswer.{LinkAnswer}
-use Rattle.amt_ports.specs.declared.link.LinkAnswer.TheVariants.{Closed as LinkClosed}
+use Rattle.std.{proofs.Common.{◌≡◌, ◌≢◌, ℕ, ◌+◌, List, [], ◌∷◌, ◌++◌, length, map, refl, sym, ap, subst, ◌∙◌, append-nil, arith}, specs.{Prelude.{All, Option, None, Ok, Err, sum_by}, List.{flat_map}}}
+use Rattle.amt_config.specs.declared.config.{GatewayConfig.{GatewayConfig}, Join.{Join}}
+use Rattle.amt_ports.specs.{Causes.{Rose}, Told.{AppendsAll}, declared.{feed.FeedAnswer.TheVariants.{Closed as FeedClosed}, link.LinkAnswer.{LinkAnswer, TheVariants.{Closed as LinkClosed}}, end.End.{End}}}
+use Rattle.amt_ports.{specs.{declared.end.End.TheVariants.{LinkFault, FeedFault, WordsFault, Memory}, EndCauses.{IsCauseOf}, Devices.{AnswersAll, FeedSeen, LinkSeen, OutSeen, WordsSeen}, Tried.{HasTried}}, proofs.{Told.{AppendsAll-none, AppendsAll-then}, Trying.{HasTried-none}}}
 use Rattle.amt_values.specs.declared.peer.Peer.{Peer}
-use Rattle.gateway_machine.specs.Settings.{family_of}
-use Rattle.gateway_machine.specs.declared.event.GatewayEvent.{GatewayEvent}
-use Rattle.gateway_machine.specs.declared.event.GatewayEvent.TheVariants.{Moment}
+use Rattle.gateway_machine.specs.{Settings.{family_of}, declared.event.GatewayEvent.{GatewayEvent, TheVariants.{Moment}}}
 use Rattle.group_records.specs.declared.family.Family.{Family}
-use Rattle.amt_ports.specs.EndCauses.{IsCauseOf}
-use Rattle.amt_ports.specs.Devices.{AnswersAll, FeedSeen, LinkSeen, OutSeen, WordsSeen}
-use Rattle.amt_ports.specs.Tried.{HasTried}
-use Rattle.amt_ports.specs.declared.end.End.{End}
-use Rattle.amt_ports.specs.declared.end.End.TheVariants.{LinkFault, FeedFault, WordsFault, Memory}
-use Rattle.amt_ports.proofs.Told.{AppendsAll-none, AppendsAll-then}
-use Rattle.amt_ports.proofs.Trying.{HasTried-none}
-use Rattle.gateway_serving.specs.Counting.{bad_lines_taken, datagrams_heard, lines_taken, no_counts, starved_in}
-use Rattle.gateway_serving.specs.Devices.{Devices, devices_seen}
-use Rattle.gateway_serving.specs.Events.{events_from, events_of, first_moment, first_of, nonce_of}
-use Rattle.gateway_serving.specs.Openings.{OpensSo}
-use Rattle.gateway_serving.specs.Reports.{report_of}
-use Rattle.gateway_serving.specs.Runs.{HasEnded, MayGo, Run, control_answers, link_answers, moments_of, served, turns_of, undrawn, unmade, unopened, with_cut, words_of}
-use Rattle.gateway_serving.specs.Sending.{delivered_after, sends_after}
-use Rattle.gateway_serving.specs.Servers.{Takes, Tallies, at_work, counts_in, deliver_in, events_in, family_in, first_in, latest_in, settings_in}
-use Rattle.gateway_serving.specs.Serving.{Serves}
-use Rattle.gateway_serving.specs.Settings.{opening_of, settings_of}
-use Rattle.gateway_serving.specs.Stages.{EndsIn, RunsSo, work_on}
-use Rattle.gateway_serving.specs.Starving.{StarveWhereItSends}
-use Rattle.gateway_serving.specs.Turns.{IsWhole, Turn}
-use Rattle.gateway_serving.specs.declared.counts.Counts.{Counts}
-use Rattle.gateway_serving.specs.declared.served.GatewayServed.{GatewayServed}
-use Rattle.gateway_serving.specs.declared.server.Server.{Server}
-use Rattle.gateway_serving.proofs.Starving.{StarveWhereItSends-same}
-use Rattle.gateway_serving.proofs.Taking.{Takes-then, Tallies-as, Tallies-then, none_first}
+use Rattle.gateway_serving.specs.{Counting.{bad_lines_taken, datagrams_heard, lines_taken, no_counts, starved_in}, Devices.{Devices, devices_seen}, Events.{events_from, events_of, first_moment, first_of, nonce_of}, Openings.{OpensSo}}
+use Rattle.gateway_serving.specs.{Reports.{report_of}, Runs.{HasEnded, MayGo, Run, control_answers, link_answers, moments_of, served, turns_of, undrawn, unmade, unopened, with_cut, words_of}, Sending.{delivered_after, sends_after}}
+use Rattle.gateway_serving.specs.{Servers.{Takes, Tallies, at_work, counts_in, deliver_in, events_in, family_in, first_in, latest_in, settings_in}, Serving.{Serves}, Settings.{opening_of, settings_of}, Stages.{EndsIn, RunsSo, work_on}}
+use Rattle.gateway_serving.{specs.{Starving.{StarveWhereItSends}, Turns.{IsWhole, Turn}, declared.{counts.Counts.{Counts}, served.GatewayServed.{GatewayServed}, server.Server.{Server}}}, proofs.{Starving.{StarveWhereItSends-same}, Taking.{Takes-then, Tallies-as, Tallies-then, none_first}}}
 
 -- the same of what a call gave
 pub reported : (config : GatewayConfig) (turns : ℕ) (before after : Devices) (report report' : GatewayServed) → report' ≡ report → Serves config turns before after report → Serves config turns before after report'

@@ -1,11 +1,7 @@
 -- What is counted of a run.
 use Rattle.std.specs.Prelude.{◌≡◌, ℕ, ◌+◌, Bool, true, false, List, count_by, sum_by, Option, None, Some}
-use Rattle.amt_ports.specs.declared.feed.FeedAnswer.{FeedAnswer}
-use Rattle.amt_ports.specs.declared.feed.FeedAnswer.TheVariants.{Packet, Nothing as NothingFed, Closed as FeedClosed}
-use Rattle.amt_ports.specs.declared.link.LinkAnswer.{LinkAnswer}
-use Rattle.amt_ports.specs.declared.link.LinkAnswer.TheVariants.{Datagram, Nothing as NothingCame, Closed as LinkClosed}
-use Rattle.gateway_serving.specs.Turns.{Bad, Called, Line, Starved, Turn}
-use Rattle.gateway_serving.specs.declared.counts.Counts.{Counts}
+use Rattle.amt_ports.specs.declared.{feed.FeedAnswer.{FeedAnswer, TheVariants.{Packet, Nothing as NothingFed, Closed as FeedClosed}}, link.LinkAnswer.{LinkAnswer, TheVariants.{Datagram, Nothing as NothingCame, Closed as LinkClosed}}}
+use Rattle.gateway_serving.specs.{Turns.{Bad, Called, Line, Starved, Turn}, declared.counts.Counts.{Counts}}
 
 abbrev pub is_datagram : LinkAnswer → Bool
 is_datagram (Datagram from bytes) = true

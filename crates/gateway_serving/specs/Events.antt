@@ -1,14 +1,9 @@
 -- The events that the answers of devices make, in the order of a turn: a nonce, its moment, each datagram, each
 -- socket call.
-use Rattle.std.specs.Prelude.{ℕ, ◌%◌, ◌^◌, max, List, [], ◌∷◌, ◌++◌, map, Option, None, Some}
-use Rattle.std.specs.List.{filter_map}
-use Rattle.amt_ports.specs.declared.link.LinkAnswer.{LinkAnswer}
-use Rattle.amt_ports.specs.declared.link.LinkAnswer.TheVariants.{Datagram as DatagramCame, Nothing as NothingCame, Closed as LinkClosed}
-use Rattle.gateway_machine.specs.declared.event.GatewayEvent.{GatewayEvent}
-use Rattle.gateway_machine.specs.declared.event.GatewayEvent.TheVariants.{Datagram, Moment, Nonce}
-use Rattle.amt_ports.specs.Answers.{Taken, unless_starved}
-use Rattle.gateway_serving.specs.Runs.{Run, turns_of}
-use Rattle.gateway_serving.specs.Turns.{Bad, Called, Line, Starved, ControlAnswer, Turn, moment_of_turn}
+use Rattle.std.specs.{Prelude.{ℕ, ◌%◌, ◌^◌, max, List, [], ◌∷◌, ◌++◌, map, Option, None, Some}, List.{filter_map}}
+use Rattle.amt_ports.specs.{declared.link.LinkAnswer.{LinkAnswer, TheVariants.{Datagram as DatagramCame, Nothing as NothingCame, Closed as LinkClosed}}, Answers.{Taken, unless_starved}}
+use Rattle.gateway_machine.specs.declared.event.GatewayEvent.{GatewayEvent, TheVariants.{Datagram, Moment, Nonce}}
+use Rattle.gateway_serving.specs.{Runs.{Run, turns_of}, Turns.{Bad, Called, Line, Starved, ControlAnswer, Turn, moment_of_turn}}
 
 -- a nonce is the low 32 bits of a word
 abbrev pub nonce_of : ℕ → ℕ

@@ -2,10 +2,7 @@
 use Rattle.std.specs.Prelude.{ℕ, Bool, List, [], ◌∷◌, if◌then◌else◌}
 use Rattle.amt_ports.specs.declared.link.LinkAnswer.TheVariants.{Datagram as DatagramCame}
 use Rattle.amt_values.specs.declared.peer.Peer.{Peer}
-use Rattle.gateway_serving.specs.Counting.{is_bad, is_starved_line}
-use Rattle.gateway_serving.specs.Events.{calls_in, datagrams_in}
-use Rattle.gateway_serving.specs.Servers.{AtWork, Takes, Tallies, counts_in, family_in}
-use Rattle.gateway_serving.specs.Turns.{Line, MayBecome, a_line}
+use Rattle.gateway_serving.specs.{Counting.{is_bad, is_starved_line}, Events.{calls_in, datagrams_in}, Servers.{AtWork, Takes, Tallies, counts_in, family_in}, Turns.{Line, MayBecome, a_line}}
 
 abbrev pub one_if : Bool → ℕ
 one_if condition = if condition then 1 else 0

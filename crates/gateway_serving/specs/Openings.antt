@@ -2,11 +2,8 @@
 use Rattle.std.specs.Prelude.{◌≡◌, ℕ, List, ◌∷◌, map, Option, Result}
 use Rattle.amt_config.specs.declared.config.Join.{Join}
 use Rattle.amt_ports.specs.Told.{Appends}
-use Rattle.gateway_machine.specs.declared.event.GatewayEvent.{GatewayEvent}
-use Rattle.gateway_machine.specs.declared.event.GatewayEvent.TheVariants.{Moment}
-use Rattle.gateway_serving.specs.Servers.{AtWork, Takes, Tallies, counts_in, latest_in}
-use Rattle.gateway_serving.specs.Settings.{opening_of}
-use Rattle.gateway_serving.specs.Stages.{IsBegunBy}
+use Rattle.gateway_machine.specs.declared.event.GatewayEvent.{GatewayEvent, TheVariants.{Moment}}
+use Rattle.gateway_serving.specs.{Servers.{AtWork, Takes, Tallies, counts_in, latest_in}, Settings.{opening_of}, Stages.{IsBegunBy}}
 
 -- The clock gave one moment, and it became this late, whatever memory there is; then the joins were opened, up to the
 -- one that memory refused.

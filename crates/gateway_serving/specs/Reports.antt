@@ -1,8 +1,7 @@
 -- What is reported of a run.
 use Rattle.std.specs.Prelude.{ℕ}
 use Rattle.amt_ports.specs.declared.end.End.{End}
-use Rattle.gateway_serving.specs.declared.counts.Counts.{Counts}
-use Rattle.gateway_serving.specs.declared.served.GatewayServed.{GatewayServed}
+use Rattle.gateway_serving.specs.declared.{counts.Counts.{Counts}, served.GatewayServed.{GatewayServed}}
 
 abbrev pub report_of : End → ℕ → Counts → GatewayServed
 report_of end turns counts = record {

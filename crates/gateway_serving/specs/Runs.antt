@@ -1,18 +1,10 @@
 -- How a run of a serving gateway may go.
-use Rattle.std.specs.Prelude.{◌≡◌, ℕ, ◌<◌, List, [], ◌∷◌, ◌++◌, All, length, map, Option, None, Some}
-use Rattle.std.specs.List.{flat_map}
+use Rattle.std.specs.{Prelude.{◌≡◌, ℕ, ◌<◌, List, [], ◌∷◌, ◌++◌, All, length, map, Option, None, Some}, List.{flat_map}}
 use Rattle.amt_config.specs.declared.config.GatewayConfig.{GatewayConfig}
-use Rattle.amt_ports.specs.declared.feed.FeedAnswer.{FeedAnswer}
-use Rattle.amt_ports.specs.declared.link.LinkAnswer.{LinkAnswer}
-use Rattle.gateway_machine.specs.Settings.{family_of}
-use Rattle.gateway_machine.specs.declared.event.GatewayEvent.{GatewayEvent}
-use Rattle.gateway_machine.specs.declared.event.GatewayEvent.TheVariants.{Moment}
+use Rattle.amt_ports.specs.{declared.{feed.FeedAnswer.{FeedAnswer}, link.LinkAnswer.{LinkAnswer}, end.End.{End, TheVariants.{Turns, Closed, LinkFault, FeedFault, WordsFault, SpawnFault, Memory}}}, Bursts.{IsBegun, IsClosed}}
+use Rattle.gateway_machine.specs.{Settings.{family_of}, declared.event.GatewayEvent.{GatewayEvent, TheVariants.{Moment}}}
 use Rattle.group_records.specs.declared.family.Family.{Family}
-use Rattle.amt_ports.specs.Bursts.{IsBegun, IsClosed}
-use Rattle.amt_ports.specs.declared.end.End.{End}
-use Rattle.amt_ports.specs.declared.end.End.TheVariants.{Turns, Closed, LinkFault, FeedFault, WordsFault, SpawnFault, Memory}
-use Rattle.gateway_serving.specs.Settings.{first_events, opening_of, settings_of}
-use Rattle.gateway_serving.specs.Turns.{HasBegun, HasHeard, IsWhole, Turn, from_control, from_link}
+use Rattle.gateway_serving.specs.{Settings.{first_events, opening_of, settings_of}, Turns.{HasBegun, HasHeard, IsWhole, Turn, from_control, from_link}}
 
 -- a word couldn't be drawn, and nothing else was asked
 pub record LacksWord (turn : Turn) : Type 0 where

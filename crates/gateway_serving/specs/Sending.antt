@@ -1,12 +1,7 @@
 -- What a serving gateway sends by its link, and hands on by its out.
-use Rattle.std.specs.Prelude.{ℕ, List, [], ◌∷◌, map, Option, None, Some}
-use Rattle.std.specs.List.{flat_map}
+use Rattle.std.specs.{Prelude.{ℕ, List, [], ◌∷◌, map, Option, None, Some}, List.{flat_map}}
 use Rattle.amt_values.specs.declared.peer.Peer.{Peer}
-use Rattle.gateway_machine.specs.Runs.{answer_after}
-use Rattle.gateway_machine.specs.Sends.{datagram_of}
-use Rattle.gateway_machine.specs.declared.event.GatewayEvent.{GatewayEvent}
-use Rattle.gateway_machine.specs.declared.settings.GatewaySettings.{GatewaySettings}
-use Rattle.gateway_machine.specs.declared.step.PeerSend.{PeerSend}
+use Rattle.gateway_machine.specs.{Runs.{answer_after}, Sends.{datagram_of}, declared.{event.GatewayEvent.{GatewayEvent}, settings.GatewaySettings.{GatewaySettings}, step.PeerSend.{PeerSend}}}
 use Rattle.relay_machine.specs.Courses.{each_after}
 
 -- a datagram and its peer

@@ -1,24 +1,10 @@
 -- What is read of a running gateway, and what its calls do to it and its devices.
 use Rattle.std.specs.Prelude.{◌≡◌, ℕ, ◌+◌, ◌≤◌, List, ◌++◌, count_by, length, map}
-use Rattle.amt_ports.specs.declared.feed.FeedAnswer.TheVariants.{Closed as FeedClosed}
-use Rattle.amt_ports.specs.declared.link.LinkAnswer.{LinkAnswer}
-use Rattle.amt_ports.specs.declared.link.LinkAnswer.TheVariants.{Closed as LinkClosed}
+use Rattle.amt_ports.specs.{declared.{feed.FeedAnswer.TheVariants.{Closed as FeedClosed}, link.LinkAnswer.{LinkAnswer, TheVariants.{Closed as LinkClosed}}}, Answers.{Taken}, Devices.{AnswersAll, FeedSeen, LinkSeen, OutSeen}, Tried.{HasTried}}
 use Rattle.amt_values.specs.declared.peer.Peer.{Peer}
-use Rattle.gateway_machine.specs.Runs.{settings_of}
-use Rattle.gateway_machine.specs.Settings.{family_of}
-use Rattle.gateway_machine.specs.declared.event.GatewayEvent.{GatewayEvent}
-use Rattle.gateway_machine.specs.declared.settings.GatewaySettings.{GatewaySettings}
+use Rattle.gateway_machine.specs.{Runs.{settings_of}, Settings.{family_of}, declared.{event.GatewayEvent.{GatewayEvent}, settings.GatewaySettings.{GatewaySettings}}}
 use Rattle.group_records.specs.declared.family.Family.{Family}
-use Rattle.amt_ports.specs.Answers.{Taken}
-use Rattle.amt_ports.specs.Devices.{AnswersAll, FeedSeen, LinkSeen, OutSeen}
-use Rattle.amt_ports.specs.Tried.{HasTried}
-use Rattle.gateway_serving.specs.Counting.{is_bad, is_datagram, is_line, is_starved_line}
-use Rattle.gateway_serving.specs.Courses.{events_so_far}
-use Rattle.gateway_serving.specs.Events.{calls_in, datagrams_in}
-use Rattle.gateway_serving.specs.Sending.{delivered_after, sends_after}
-use Rattle.gateway_serving.specs.Turns.{ControlAnswer}
-use Rattle.gateway_serving.specs.declared.counts.Counts.{Counts}
-use Rattle.gateway_serving.specs.declared.server.Server.{Server}
+use Rattle.gateway_serving.specs.{Counting.{is_bad, is_datagram, is_line, is_starved_line}, Courses.{events_so_far}, Events.{calls_in, datagrams_in}, Sending.{delivered_after, sends_after}, Turns.{ControlAnswer}, declared.{counts.Counts.{Counts}, server.Server.{Server}}}
 
 abbrev pub settings_in : Server → GatewaySettings
 settings_in server = settings_of server.gateway

@@ -1,21 +1,8 @@
 -- What a run of a serving gateway comes to.
 use Rattle.std.specs.Prelude.{◌≡◌, ℕ, ◌+◌, [], length}
 use Rattle.amt_config.specs.declared.config.GatewayConfig.{GatewayConfig}
-use Rattle.amt_ports.specs.Told.{AppendsAll}
-use Rattle.amt_ports.specs.declared.feed.FeedAnswer.TheVariants.{Closed as FeedClosed}
-use Rattle.amt_ports.specs.declared.link.LinkAnswer.TheVariants.{Closed as LinkClosed}
-use Rattle.amt_ports.specs.EndCauses.{IsCauseOf}
-use Rattle.amt_ports.specs.Devices.{AnswersAll}
-use Rattle.amt_ports.specs.Tried.{HasTried}
-use Rattle.amt_ports.specs.declared.end.End.TheVariants.{LinkFault, FeedFault, WordsFault}
-use Rattle.gateway_serving.specs.Counting.{AreCounted}
-use Rattle.gateway_serving.specs.Devices.{Devices}
-use Rattle.gateway_serving.specs.Events.{events_of, first_moment, first_of}
-use Rattle.gateway_serving.specs.Runs.{MayGo, Run, control_answers, link_answers, moments_of, turns_of, words_of}
-use Rattle.gateway_serving.specs.Sending.{delivered_after, sends_after}
-use Rattle.gateway_serving.specs.Settings.{settings_of}
-use Rattle.gateway_serving.specs.Starving.{StarveWhereItSends}
-use Rattle.gateway_serving.specs.declared.served.GatewayServed.{GatewayServed}
+use Rattle.amt_ports.specs.{Told.{AppendsAll}, declared.{feed.FeedAnswer.TheVariants.{Closed as FeedClosed}, link.LinkAnswer.TheVariants.{Closed as LinkClosed}, end.End.TheVariants.{LinkFault, FeedFault, WordsFault}}, EndCauses.{IsCauseOf}, Devices.{AnswersAll}, Tried.{HasTried}}
+use Rattle.gateway_serving.specs.{Counting.{AreCounted}, Devices.{Devices}, Events.{events_of, first_moment, first_of}, Runs.{MayGo, Run, control_answers, link_answers, moments_of, turns_of, words_of}, Sending.{delivered_after, sends_after}, Settings.{settings_of}, Starving.{StarveWhereItSends}, declared.served.GatewayServed.{GatewayServed}}
 
 -- A whole run: the devices gave exactly its answers; the link tried exactly what the machine sends in a run of
 -- its events, in order, and the out exactly the packets that the machine hands on; and so on.

@@ -1,12 +1,7 @@
 -- What the settings file of a gateway makes of it.
 use Rattle.std.specs.Prelude.{◌≤◌, ℕ, List, ◌∷◌, All, map}
-use Rattle.amt_config.specs.declared.config.GatewayConfig.{GatewayConfig}
-use Rattle.amt_config.specs.declared.config.Join.{Join}
-use Rattle.gateway_machine.specs.Events.{IsEventOf}
-use Rattle.gateway_machine.specs.Settings.{HasSourceOfFamily}
-use Rattle.gateway_machine.specs.declared.event.GatewayEvent.{GatewayEvent}
-use Rattle.gateway_machine.specs.declared.event.GatewayEvent.TheVariants.{Moment, Open}
-use Rattle.gateway_machine.specs.declared.settings.GatewaySettings.{GatewaySettings}
+use Rattle.amt_config.specs.declared.config.{GatewayConfig.{GatewayConfig}, Join.{Join}}
+use Rattle.gateway_machine.specs.{Events.{IsEventOf}, Settings.{HasSourceOfFamily}, declared.{event.GatewayEvent.{GatewayEvent, TheVariants.{Moment, Open}}, settings.GatewaySettings.{GatewaySettings}}}
 
 abbrev pub settings_of : GatewayConfig → GatewaySettings
 settings_of config = record {

@@ -1,24 +1,10 @@
 -- What the stages of a run do: its beginning, the beginning of a turn, a turn, and all turns.
-use Rattle.std.specs.Prelude.{◌≡◌, ℕ, List, [], ◌∷◌, ◌++◌, All, count_by, sum_by, length, map, max, Option, Result, Ok, Err}
-use Rattle.std.specs.List.{flat_map}
-use Rattle.amt_ports.specs.Told.{AppendsAll}
-use Rattle.amt_ports.specs.declared.feed.FeedAnswer.TheVariants.{Closed as FeedClosed}
-use Rattle.amt_ports.specs.declared.link.LinkAnswer.TheVariants.{Closed as LinkClosed}
+use Rattle.std.specs.{Prelude.{◌≡◌, ℕ, List, [], ◌∷◌, ◌++◌, All, count_by, sum_by, length, map, max, Option, Result, Ok, Err}, List.{flat_map}}
+use Rattle.amt_ports.specs.{Told.{AppendsAll}, declared.{feed.FeedAnswer.TheVariants.{Closed as FeedClosed}, link.LinkAnswer.TheVariants.{Closed as LinkClosed}, end.End.{End, TheVariants.{Turns, Closed, LinkFault, FeedFault, WordsFault, SpawnFault, Memory}}}, EndCauses.{IsCauseOf, IsCausedBy}, Devices.{AnswersAll}, Answers.{Taken}}
 use Rattle.gateway_machine.specs.declared.event.GatewayEvent.{GatewayEvent}
-use Rattle.amt_ports.specs.EndCauses.{IsCauseOf, IsCausedBy}
-use Rattle.amt_ports.specs.Devices.{AnswersAll}
-use Rattle.amt_ports.specs.declared.end.End.{End}
-use Rattle.amt_ports.specs.declared.end.End.TheVariants.{Turns, Closed, LinkFault, FeedFault, WordsFault, SpawnFault, Memory}
-use Rattle.amt_ports.specs.Answers.{Taken}
 use Rattle.group_records.specs.declared.family.Family.{Family}
-use Rattle.gateway_serving.specs.Counting.{bad_lines_taken, datagrams_heard, lines_taken, starved_in}
-use Rattle.gateway_serving.specs.Devices.{Devices}
-use Rattle.gateway_serving.specs.Events.{events_from, moments_in, nonces_in}
-use Rattle.gateway_serving.specs.Runs.{HasEnded, IsCut, with_cut}
-use Rattle.gateway_serving.specs.Servers.{AtWork, Takes, Tallies, at_work, counts_in, events_in, family_in, first_in, latest_in, settings_in}
-use Rattle.gateway_serving.specs.Starving.{SendsAt, StarveWhereItSends}
-use Rattle.gateway_serving.specs.Turns.{IsWhole, Turn, latest_of}
-use Rattle.gateway_serving.specs.declared.server.Server.{Server}
+use Rattle.gateway_serving.specs.{Counting.{bad_lines_taken, datagrams_heard, lines_taken, starved_in}, Devices.{Devices}, Events.{events_from, moments_in, nonces_in}, Runs.{HasEnded, IsCut, with_cut}}
+use Rattle.gateway_serving.specs.{Servers.{AtWork, Takes, Tallies, at_work, counts_in, events_in, family_in, first_in, latest_in, settings_in}, Starving.{SendsAt, StarveWhereItSends}, Turns.{IsWhole, Turn, latest_of}, declared.server.Server.{Server}}
 
 -- all of the events happened, or memory refused one, and those before it did
 abbrev pub IsBegunBy : {E : Type 0} → Result (Unit {0}) E → List GatewayEvent → List GatewayEvent → Type 0

@@ -1,13 +1,8 @@
 -- Which moments of a turn memory may refuse.
 use Rattle.std.specs.Prelude.{◌≡◌, ℕ, max, true, List, [], ◌∷◌, ◌++◌, All}
-use Rattle.gateway_machine.specs.Outcomes.{IsAtRest}
-use Rattle.gateway_machine.specs.Runs.{answer_after}
-use Rattle.gateway_machine.specs.declared.event.GatewayEvent.{GatewayEvent}
-use Rattle.gateway_machine.specs.declared.event.GatewayEvent.TheVariants.{Moment}
-use Rattle.gateway_machine.specs.declared.settings.GatewaySettings.{GatewaySettings}
+use Rattle.gateway_machine.specs.{Outcomes.{IsAtRest}, Runs.{answer_after}, declared.{event.GatewayEvent.{GatewayEvent, TheVariants.{Moment}}, settings.GatewaySettings.{GatewaySettings}}}
 use Rattle.amt_ports.specs.Answers.{Taken}
-use Rattle.gateway_serving.specs.Events.{events_of_turn, nonces_in}
-use Rattle.gateway_serving.specs.Turns.{Turn, moment_of_turn}
+use Rattle.gateway_serving.specs.{Events.{events_of_turn, nonces_in}, Turns.{Turn, moment_of_turn}}
 
 -- after these events the machine sends something at this moment, if the clock's answer is that late
 abbrev pub SendsAt : GatewaySettings → ℕ → List GatewayEvent → ℕ → Taken ℕ → Type 0

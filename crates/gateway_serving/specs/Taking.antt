@@ -1,8 +1,7 @@
 -- What is tried of the sends and of the packet of one event, and counted.
 use Rattle.std.specs.Prelude.{◌≡◌, ℕ, ◌+◌, List}
 use Rattle.amt_values.specs.declared.peer.Peer.{Peer}
-use Rattle.amt_ports.specs.Devices.{LinkSeen, OutSeen}
-use Rattle.amt_ports.specs.Tried.{HasTried}
+use Rattle.amt_ports.specs.{Devices.{LinkSeen, OutSeen}, Tried.{HasTried}}
 use Rattle.gateway_serving.specs.declared.counts.Counts.{Counts}
 
 -- exactly these datagrams were tried by a link; so many of them it didn't take

@@ -1,14 +1,9 @@
 -- What the devices of a serving gateway answer, turn by turn.
 use Rattle.std.specs.Prelude.{◌≡◌, ℕ, ◌≤◌, max, List, [], ◌∷◌, length, Option, None, Some}
-use Rattle.amt_ports.specs.declared.feed.FeedAnswer.{FeedAnswer}
-use Rattle.amt_ports.specs.declared.feed.FeedAnswer.TheVariants.{Packet, Nothing as NothingFed, Closed as FeedClosed}
-use Rattle.amt_ports.specs.declared.link.LinkAnswer.{LinkAnswer}
-use Rattle.amt_ports.specs.declared.link.LinkAnswer.TheVariants.{Nothing as NothingCame, Closed as LinkClosed}
+use Rattle.amt_ports.specs.{declared.{feed.FeedAnswer.{FeedAnswer, TheVariants.{Packet, Nothing as NothingFed, Closed as FeedClosed}}, link.LinkAnswer.{LinkAnswer, TheVariants.{Nothing as NothingCame, Closed as LinkClosed}}}, Answers.{IsDatagram, Taken, taken}, Bursts.{AnswerKinds, IsBurst}}
 use Rattle.gateway_machine.specs.declared.event.GatewayEvent.{GatewayEvent}
 use Rattle.gateway_script.specs.SocketLine.{IsSocketLine}
 use Rattle.group_records.specs.declared.family.Family.{Family}
-use Rattle.amt_ports.specs.Answers.{IsDatagram, Taken, taken}
-use Rattle.amt_ports.specs.Bursts.{AnswerKinds, IsBurst}
 
 -- What becomes of a line of the control feed: it makes this socket call, which is an event; it makes none; or
 -- memory refused to read it, or refused its event.

@@ -1,7 +1,6 @@
 //! What a run of a serving gateway comes to, in numbers. It must not know how it is run.
 ghost use Rattle.std.specs.Prelude.{◌≡◌};
-ghost use Rattle.gateway_serving.specs.Counting.{no_counts};
-ghost use Rattle.gateway_serving.specs.Reports.{report_of};
+ghost use Rattle.gateway_serving.specs.{Counting.{no_counts}, Reports.{report_of}};
 
 use crate::counts::Counts;
 use amt_ports::End;

@@ -1,9 +1,7 @@
 //! A whole run of a gateway. It must not know which devices it is over.
 ghost use Rattle.std.specs.Prelude.{◌≡◌, ◌≤◌, length};
 ghost use Rattle.amt_ports.specs.Devices.{WaitsBriefly, feed_seen, link_seen, out_seen, words_seen};
-ghost use Rattle.gateway_serving.specs.Devices.{devices_seen};
-ghost use Rattle.gateway_serving.specs.Serving.{Serves};
-ghost use Rattle.gateway_serving.specs.Settings.{AreTurns, IsLawfulConfig};
+ghost use Rattle.gateway_serving.specs.{Devices.{devices_seen}, Serving.{Serves}, Settings.{AreTurns, IsLawfulConfig}};
 
 use crate::served::GatewayServed;
 use crate::server::Server;

@@ -1,12 +1,7 @@
 -- The codes of times: values ascend with codes, and a value shifted back has its code's mantissa.
-use Rattle.std.proofs.Common.{◌≡◌, ◌≢◌, ℕ, zero, suc, ◌+◌, ◌-◌, ◌*◌, ◌/◌, ◌%◌, ◌^◌, ◌<◌, ◌≤◌, ◌⊎◌, Bool, true, false, cond, eqb, bit_and, bit_or, Option, Some, unwrap_or, inl, inr, refl, sym, ap, ◌∙◌, arith}
-use Rattle.std.proofs.Math.Nat.{mul_assoc, mul-le-mul, mul-lt-mul_of_pos_right, mul-div_cancel, pow-le-pow_right}
-use Rattle.std.proofs.lemmas.Bool.{eq-eqb, eqb-true, lt-ltb, le-ltb, cases_lt, cases_order}
-use Rattle.std.proofs.lemmas.Nat.{and_mask, or_shifted, shl_whole, pow-add, mod_below}
-use Rattle.std.specs.List.{find, range_with_len}
-use Rattle.group_records.specs.declared.family.Family.{Family}
-use Rattle.group_records.specs.declared.family.Family.TheVariants.{V4, V6}
-use Rattle.group_records.specs.Code.{code_count, mantissa_bits, mantissa_of, exponent_of, code_value, code_with, code_of}
+use Rattle.std.proofs.Common.{◌≡◌, ◌≢◌, ℕ, zero, suc, ◌+◌, ◌*◌, ◌/◌, ◌%◌, ◌^◌, ◌<◌, ◌≤◌, ◌⊎◌, Bool, true, false, cond, eqb, bit_and, bit_or, Option, Some, unwrap_or, inl, inr, refl, sym, ap, ◌∙◌, arith}
+use Rattle.std.{proofs.{Math.Nat.{mul_assoc, mul-le-mul, mul-lt-mul_of_pos_right, mul-div_cancel, pow-le-pow_right}, lemmas.{Bool.{eq-eqb, eqb-true, lt-ltb, le-ltb, cases_lt, cases_order}, Nat.{and_mask, or_shifted, shl_whole, pow-add, mod_below}}}, specs.List.{find, range_with_len}}
+use Rattle.group_records.specs.{declared.family.Family.{Family, TheVariants.{V4, V6}}, Code.{code_count, mantissa_bits, mantissa_of, exponent_of, code_value, code_with, code_of}}
 
 -- a mantissa with a bit set above it, shifted, is at least that bit shifted by 3, and less than another that is shifted more
 shift_least : (above mantissa exponent : ℕ) → above * 8 ≤ (above + mantissa) * 2 ^ (exponent + 3)
@@ -105,14 +100,6 @@ same_code family a b a_small b_small same =
       | inl one ↦ one
       | inr (inl less) ↦ let lower = ascends family a b less b_small in absurd (omega arith)
       | inr (inr more) ↦ let higher = ascends family b a more a_small in absurd (omega arith)
-    ]
-
--- no code stands for a greater time than the last
-pub code_value-most : (family : Family) (code : ℕ) → code < code_count family → code_value family code ≤ code_value family (code_count family - 1)
-code_value-most family code small =
-    elim (cases_lt code (code_count family - 1)) [
-      | inl before ↦ let lower = ascends family code (code_count family - 1) before (omega arith) in omega arith
-      | inr last ↦ let same : code ≡ code_count family - 1 = omega arith in rw same (omega arith)
     ]
 
 -- the code of a value of the lower half is the value

@@ -1,22 +1,10 @@
 -- A report names no more records and sources than it has octets.
 use Rattle.std.proofs.Common.{◌≡◌, ℕ, zero, suc, ◌+◌, ◌*◌, ◌≤◌, List, ◌++◌, length, length-append, length-drop, drop, Option, Some, None, Result, Ok, Err, sym, subst, arith}
-use Rattle.std.proofs.lemmas.List.{length-map}
-use Rattle.std.proofs.lemmas.List.Sums.{sum_by-append}
-use Rattle.std.specs.Result.{IfOk}
-use Rattle.amt_values.specs.Conditions.{first_holding}
-use Rattle.amt_values.proofs.ConditionLaws.{first_holding-both_none, unless-ok}
-use Rattle.source_filter.specs.declared.record.Record.{Record}
-use Rattle.source_filter.specs.declared.record.RecordKind.{RecordKind}
-use Rattle.source_filter.specs.declared.fault.ReadFault.{ReadFault}
-use Rattle.source_filter.specs.Record.{item_count}
-use Rattle.group_records.specs.declared.family.Family.{Family}
-use Rattle.group_records.specs.declared.family.Family.TheVariants.{V4, V6}
-use Rattle.group_records.specs.CarriedRecord.{CarriedRecord, record_of_kind, known_record, known_records}
-use Rattle.group_records.specs.Family.{address_in, kind_of, width}
-use Rattle.group_records.specs.Reading.{GivesRecords, carried_records_at, all_record_faults, carried_record_at, first_report_fault, head_length, record_count, record_faults, record_length, records_in, report_head_faults, report_of, source_count}
-use Rattle.group_records.proofs.Numbers.{length-numbers_at}
-use Rattle.group_records.proofs.RecordOctets.{whole_record}
-use Rattle.group_records.proofs.RecordLists.{later_faults}
+use Rattle.std.{proofs.lemmas.List.{length-map, Sums.{sum_by-append}}, specs.Result.{IfOk}}
+use Rattle.amt_values.{specs.Conditions.{first_holding}, proofs.ConditionLaws.{first_holding-both_none, unless-ok}}
+use Rattle.source_filter.specs.{declared.record.{Record.{Record}, RecordKind.{RecordKind}}, declared.fault.ReadFault.{ReadFault}, Record.{item_count}}
+use Rattle.group_records.specs.{declared.family.Family.{Family, TheVariants.{V4, V6}}, CarriedRecord.{CarriedRecord, record_of_kind, known_record, known_records}, Family.{address_in, kind_of, width}}
+use Rattle.group_records.{specs.Reading.{GivesRecords, carried_records_at, all_record_faults, carried_record_at, first_report_fault, head_length, record_count, record_faults, record_length, records_in, report_head_faults, report_of, source_count}, proofs.{Numbers.{length-numbers_at}, RecordOctets.{whole_record}, RecordLists.{later_faults}}}
 
 item_count-append : (some others : List Record) → item_count (some ++ others) ≡ item_count some + item_count others
 item_count-append some others =

@@ -1,23 +1,11 @@
 -- The sum of a report's head, and one step of each of the two loops.
 use Rattle.std.proofs.Common.{◌≡◌, ℕ, suc, ◌+◌, ◌-◌, ◌*◌, ◌%◌, ◌<◌, ◌≤◌, List, [], ◌∷◌, ◌++◌, length, length-drop, slice_index, Bool, true, false, ◌||◌, is_some, drop, map, Option, Some, None, Ok, Err, refl, sym, subst, ap, ◌∙◌, arith, append_assoc}
-use Rattle.std.proofs.Math.Nat.{suc-mul}
-use Rattle.std.proofs.lemmas.Bool.{eq-eqb, le-leb, ne_eqb}
-use Rattle.std.proofs.lemmas.List.{append-nil}
+use Rattle.std.proofs.{Math.Nat.{suc-mul}, lemmas.{Bool.{eq-eqb, le-leb, ne_eqb}, List.{append-nil}}}
 use Rattle.byteorder.specs.Endian.{big_number}
-use Rattle.amt_values.specs.Octets.{AreOctets}
-use Rattle.amt_values.specs.declared.address.Ip.{Ip}
-use Rattle.inner_datagrams.specs.Checksum.{words, ones_sum, internet_sum_of}
-use Rattle.inner_datagrams.proofs.Parts.{AreOctets-append, internet_sum_of-all_after, ones_sum-fits}
-use Rattle.amt_values.specs.Conditions.{first_holding, unless}
-use Rattle.amt_values.proofs.ConditionLaws.{first_holding-here, first_holding-later}
-use Rattle.source_filter.specs.declared.record.Record.{Record}
-use Rattle.source_filter.specs.declared.fault.ReportFault.{ReportFault}
-use Rattle.source_filter.specs.declared.fault.ReportFault.TheVariants.{Sum}
-use Rattle.group_records.specs.declared.family.Family.{Family}
-use Rattle.group_records.specs.CarriedRecord.{known_record, known_records}
-use Rattle.group_records.specs.Family.{address_in, kind_of, width}
-use Rattle.group_records.specs.Reading.{carried_records_at, all_record_faults, asks_memory, carried_record_at, numbers_at, record_faults, record_length, records_reading, wanted_sum, wrong_sum}
-use Rattle.group_records.proofs.RecordLists.{later_faults}
+use Rattle.amt_values.{specs.{Octets.{AreOctets}, declared.address.Ip.{Ip}, Conditions.{first_holding, unless}}, proofs.ConditionLaws.{first_holding-here, first_holding-later}}
+use Rattle.inner_datagrams.{specs.Checksum.{words, ones_sum, internet_sum_of}, proofs.Parts.{AreOctets-append, internet_sum_of-all_after, ones_sum-fits}}
+use Rattle.source_filter.specs.{declared.record.Record.{Record}, declared.fault.ReportFault.{ReportFault, TheVariants.{Sum}}}
+use Rattle.group_records.{specs.{declared.family.Family.{Family}, CarriedRecord.{known_record, known_records}, Family.{address_in, kind_of, width}, Reading.{carried_records_at, all_record_faults, asks_memory, carried_record_at, numbers_at, record_faults, record_length, records_reading, wanted_sum, wrong_sum}}, proofs.RecordLists.{later_faults}}
 
 pub wrong_sum-none : (pseudo_header payload : List ℕ) → length pseudo_header % 2 ≡ 0 → AreOctets pseudo_header → AreOctets payload
     → internet_sum_of (pseudo_header ++ [] ++ 0 ∷ 0 ∷ payload) ≡ 0 → first_holding (wrong_sum pseudo_header payload ∷ []) ≡ None
@@ -56,14 +44,6 @@ enough_step octets count counter left rest below after enough =
     let product = suc-mul (count - (counter + 1)) octets in
     let more = rw (next, product) at enough in
     rw after (omega (arith, length-drop octets left))
-
--- and for another one there are octets
-pub enough_for_one : (octets count counter : ℕ) (left : List ℕ) → counter < count → (count - counter) * octets ≤ length left → octets ≤ length left
-enough_for_one octets count counter left below enough =
-    let next : count - counter ≡ suc (count - (counter + 1)) = omega arith in
-    let product = suc-mul (count - (counter + 1)) octets in
-    let more = rw (next, product) at enough in
-    omega arith
 
 -- a fault of the next record is the first
 pub fault_here : (family : Family) (count index : ℕ) (left : List ℕ) (fault : ReportFault) (first : Option ReportFault) → index < count

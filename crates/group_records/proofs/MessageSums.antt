@@ -2,8 +2,7 @@
 use Rattle.std.proofs.Common.{◌≡◌, ℕ, ◌+◌, ◌*◌, ◌/◌, ◌%◌, List, [], ◌∷◌, ◌++◌, length, length-append, subst, arith, append_assoc}
 use Rattle.byteorder.specs.Endian.{big_bytes}
 use Rattle.amt_values.specs.Octets.{AreOctets}
-use Rattle.inner_datagrams.specs.Checksum.{internet_sum_of, IsRight}
-use Rattle.inner_datagrams.proofs.RightSum.{IsRight-filled}
+use Rattle.inner_datagrams.{specs.Checksum.{internet_sum_of, IsRight}, proofs.RightSum.{IsRight-filled}}
 
 pub IsRight-summed : (pseudo_header : List ℕ) (first second : ℕ) (suffix : List ℕ) → length pseudo_header % 2 ≡ 0
     → AreOctets (pseudo_header ++ first ∷ second ∷ 0 ∷ 0 ∷ suffix)

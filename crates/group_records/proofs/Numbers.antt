@@ -1,14 +1,8 @@
 -- Numbers of one width, one after another, as octets.
 use Rattle.std.proofs.Common.{◌≡◌, ℕ, zero, suc, ◌+◌, ◌*◌, ◌^◌, ◌<◌, ◌≤◌, List, [], ◌∷◌, ◌++◌, length, length-append, length-drop, take, drop, refl, sym, ap, ◌∙◌, arith, append_assoc, take-append-drop}
-use Rattle.std.proofs.Math.Nat.{suc-mul}
-use Rattle.std.proofs.Math.Seq.{drop-append_seam, take-append_seam}
-use Rattle.std.proofs.lemmas.List.{drop-drop}
-use Rattle.std.proofs.lemmas.List.Elements.{All-cons, All-head, All-tail}
-use Rattle.std.specs.List.{All, flat_map}
-use Rattle.byteorder.specs.Endian.{big_number, big_bytes}
-use Rattle.byteorder.specs.Numbers.{big_from-lt, big_number-reads_back, length-bytes_high_first}
-use Rattle.amt_values.specs.Octets.{AreOctets}
-use Rattle.amt_values.proofs.NetworkOrder.{AreOctets-drop, bytes_high_first-take}
+use Rattle.std.{proofs.{Math.{Nat.{suc-mul}, Seq.{drop-append_seam, take-append_seam}}, lemmas.List.{drop-drop, Elements.{All-cons, All-head, All-tail}}}, specs.List.{All, flat_map}}
+use Rattle.byteorder.specs.{Endian.{big_number, big_bytes}, Numbers.{big_from-lt, big_number-reads_back, length-bytes_high_first}}
+use Rattle.amt_values.{specs.Octets.{AreOctets}, proofs.NetworkOrder.{AreOctets-drop, bytes_high_first-take}}
 use Rattle.group_records.specs.Reading.{numbers_at}
 
 -- what follows a part of so many items

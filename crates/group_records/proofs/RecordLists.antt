@@ -1,18 +1,9 @@
 -- Records one after another: their octets are read as them, and octets without fault are theirs.
-use Rattle.std.proofs.Common.{◌≡◌, ℕ, zero, suc, List, [], ◌∷◌, ◌++◌, length, drop, None, refl, sym, subst, ap, ◌∙◌, arith, append_assoc}
-use Rattle.std.proofs.lemmas.List.Elements.{All-cons, All-head, All-tail}
-use Rattle.std.specs.List.{All, flat_map}
-use Rattle.amt_values.specs.Octets.{AreOctets}
-use Rattle.amt_values.proofs.NetworkOrder.{AreOctets-drop}
-use Rattle.amt_values.specs.Conditions.{Conditions, first_holding}
-use Rattle.amt_values.proofs.ConditionLaws.{first_holding-both_none, first_holding-later}
-use Rattle.source_filter.specs.declared.record.Record.{Record}
-use Rattle.source_filter.specs.declared.fault.ReportFault.{ReportFault}
-use Rattle.group_records.specs.declared.family.Family.{Family}
-use Rattle.group_records.specs.CarriedRecord.{CarriedRecord, IsCarriedRecord, record_octets, known_record, known_records}
-use Rattle.group_records.specs.Report.{AreRecords}
-use Rattle.group_records.specs.Reading.{carried_records_at, all_record_faults, carried_record_at, record_faults, record_length}
-use Rattle.group_records.proofs.RecordOctets.{carried_record_at-lawful, carried_record_at-spelled, past_record, record_faults-spelled, spelled-carried_record_at, whole_record}
+use Rattle.std.{proofs.{Common.{◌≡◌, ℕ, zero, suc, List, [], ◌∷◌, ◌++◌, length, drop, None, refl, sym, subst, ap, ◌∙◌, arith, append_assoc}, lemmas.List.Elements.{All-cons, All-head, All-tail}}, specs.List.{All, flat_map}}
+use Rattle.amt_values.{specs.{Octets.{AreOctets}, Conditions.{Conditions, first_holding}}, proofs.{NetworkOrder.{AreOctets-drop}, ConditionLaws.{first_holding-both_none, first_holding-later}}}
+use Rattle.source_filter.specs.{declared.record.Record.{Record}, declared.fault.ReportFault.{ReportFault}}
+use Rattle.group_records.specs.{declared.family.Family.{Family}, CarriedRecord.{CarriedRecord, IsCarriedRecord, record_octets, known_record, known_records}, Report.{AreRecords}}
+use Rattle.group_records.{specs.Reading.{carried_records_at, all_record_faults, carried_record_at, record_faults, record_length}, proofs.RecordOctets.{carried_record_at-lawful, carried_record_at-spelled, past_record, record_faults-spelled, spelled-carried_record_at, whole_record}}
 
 -- what is wrong with the records after the one at the head
 abbrev pub later_faults : Family → ℕ → ℕ → List ℕ → Conditions ReportFault

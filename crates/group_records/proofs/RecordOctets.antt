@@ -1,19 +1,9 @@
 -- One record: its octets are read as it, and octets that are no fault are those of what is read.
 use Rattle.std.proofs.Common.{◌≡◌, ℕ, ◌+◌, ◌*◌, ◌/◌, ◌≤◌, List, [], ◌∷◌, ◌++◌, length, length-append, length-drop, take, drop, slice_index, None, refl, sym, ap, ◌∙◌, arith, append_assoc, take-append-drop}
-use Rattle.std.proofs.lemmas.Bool.{ltb-false, le-ltb}
-use Rattle.std.proofs.lemmas.List.{drop-drop, length-take-le}
-use Rattle.std.specs.List.{flat_map}
-use Rattle.byteorder.specs.Endian.{big_number, big_bytes}
-use Rattle.byteorder.specs.Numbers.{big_from-lt, big_number-reads_back, length-bytes_high_first}
-use Rattle.amt_values.specs.Octets.{AreOctets}
-use Rattle.amt_values.proofs.NetworkOrder.{AreOctets-drop, AreOctets-take, bytes_high_first-take}
-use Rattle.amt_values.specs.Conditions.{first_holding}
-use Rattle.amt_values.proofs.ConditionLaws.{NoneHolds-of, first_holding-none}
-use Rattle.group_records.specs.declared.family.Family.{Family}
-use Rattle.group_records.specs.CarriedRecord.{CarriedRecord, IsCarriedRecord, record_octets}
-use Rattle.group_records.specs.Family.{width}
-use Rattle.group_records.specs.Reading.{carried_record_at, head_length, numbers_at, record_faults, record_length, source_count}
-use Rattle.group_records.proofs.Numbers.{drop-past, take-part, length-numbers_at, length-spelled_numbers, numbers_at-fit, numbers_at-spelled, spelled-numbers_at}
+use Rattle.std.{proofs.lemmas.{Bool.{ltb-false, le-ltb}, List.{drop-drop, length-take-le}}, specs.List.{flat_map}}
+use Rattle.byteorder.specs.{Endian.{big_number, big_bytes}, Numbers.{big_from-lt, big_number-reads_back, length-bytes_high_first}}
+use Rattle.amt_values.{specs.{Octets.{AreOctets}, Conditions.{first_holding}}, proofs.{NetworkOrder.{AreOctets-drop, AreOctets-take, bytes_high_first-take}, ConditionLaws.{NoneHolds-of, first_holding-none}}}
+use Rattle.group_records.{specs.{declared.family.Family.{Family}, CarriedRecord.{CarriedRecord, IsCarriedRecord, record_octets}, Family.{width}, Reading.{carried_record_at, head_length, numbers_at, record_faults, record_length, source_count}}, proofs.Numbers.{drop-past, take-part, length-numbers_at, length-spelled_numbers, numbers_at-fit, numbers_at-spelled, spelled-numbers_at}}
 
 same_carried : (one other : CarriedRecord) → one.kind ≡ other.kind → one.group ≡ other.group → one.sources ≡ other.sources
     → one.auxiliary ≡ other.auxiliary → one ≡ other

@@ -1,23 +1,9 @@
 -- From what was answered by the reading of a payload to what it says of the report.
-use Rattle.std.proofs.Common.{◌≡◌, ◌↔◌, ℕ, ◌≤◌, List, length, drop, slice_index, ◌++◌, false, Option, Some, None, Result, Ok, Err, refl, sym, subst, ap, ◌∙◌}
-use Rattle.std.proofs.lemmas.Bool.{ltb-false, le-ltb}
-use Rattle.std.specs.Result.{IfOk, MatchResult}
-use Rattle.amt_values.specs.Octets.{AreOctets}
-use Rattle.amt_values.proofs.NetworkOrder.{AreOctets-drop}
+use Rattle.std.{proofs.{Common.{◌≡◌, ◌↔◌, ℕ, ◌≤◌, List, length, drop, slice_index, ◌++◌, false, Option, Some, None, Result, Ok, Err, refl, sym, subst, ap, ◌∙◌}, lemmas.Bool.{ltb-false, le-ltb}}, specs.Result.{IfOk, MatchResult}}
+use Rattle.amt_values.{specs.{Octets.{AreOctets}, Answer.{Tells}, Conditions.{Conditions, first_holding, unless}}, proofs.{NetworkOrder.{AreOctets-drop}, AnswerLaws.{answer_refused as refused_by}, ConditionLaws.{NoneHolds-of, first_holding-both_none, first_holding-later, first_holding-none, holds_not, skips_same, unless-ok}}}
 use Rattle.inner_datagrams.specs.Checksum.{IsRight}
-use Rattle.amt_values.specs.Answer.{Tells}
-use Rattle.amt_values.specs.Conditions.{Conditions, first_holding, unless}
-use Rattle.amt_values.proofs.AnswerLaws.{answer_refused as refused_by}
-use Rattle.amt_values.proofs.ConditionLaws.{NoneHolds-of, first_holding-both_none, first_holding-later, first_holding-none, holds_not, skips_same, unless-ok}
-use Rattle.source_filter.specs.declared.record.Record.{Record}
-use Rattle.source_filter.specs.declared.fault.ReportFault.{ReportFault}
-use Rattle.source_filter.specs.declared.fault.ReadFault.{ReadFault}
-use Rattle.group_records.specs.declared.family.Family.{Family}
-use Rattle.group_records.specs.declared.family.Family.TheVariants.{V4, V6}
-use Rattle.group_records.specs.Family.{is_old_report, report_type}
-use Rattle.group_records.specs.Report.{IsReport, IsSomeReport}
-use Rattle.group_records.specs.Reading.{GivesRecords, all_record_faults, report_fault_in, first_report_fault, record_count, records_in, report_head_faults, report_of}
-use Rattle.group_records.proofs.RecordLists.{AreRecords-once, AreRecords-read}
+use Rattle.source_filter.specs.{declared.record.Record.{Record}, declared.fault.{ReportFault.{ReportFault}, ReadFault.{ReadFault}}}
+use Rattle.group_records.{specs.{declared.family.Family.{Family, TheVariants.{V4, V6}}, Family.{is_old_report, report_type}, Report.{IsReport, IsSomeReport}, Reading.{GivesRecords, all_record_faults, report_fault_in, first_report_fault, record_count, records_in, report_head_faults, report_of}}, proofs.RecordLists.{AreRecords-once, AreRecords-read}}
 
 -- what is wrong with the records of a payload
 abbrev walk_faults : Family → List ℕ → Conditions ReportFault

@@ -1,15 +1,10 @@
 -- A written General Query is read back, and its length.
-use Rattle.std.proofs.Common.{◌≡◌, ℕ, ◌/◌, ◌%◌, ◌≤◌, List, ◌∷◌, ◌++◌, length, refl, arith}
-use Rattle.std.proofs.lemmas.Bool.{ne_eqb}
-use Rattle.byteorder.specs.Endian.{big_bytes}
-use Rattle.byteorder.specs.Numbers.{big_number-reads_back}
+use Rattle.std.proofs.{Common.{◌≡◌, ℕ, ◌/◌, ◌%◌, ◌≤◌, List, ◌∷◌, ◌++◌, length, refl, arith}, lemmas.Bool.{ne_eqb}}
+use Rattle.byteorder.specs.{Endian.{big_bytes}, Numbers.{big_number-reads_back}}
 use Rattle.amt_values.specs.Octets.{AreOctets}
 use Rattle.inner_datagrams.specs.Checksum.{internet_sum_of, IsRight}
 use Rattle.source_filter.specs.declared.query.QueryFields.{QueryFields}
-use Rattle.group_records.specs.declared.family.Family.{Family}
-use Rattle.group_records.specs.declared.family.Family.TheVariants.{V4, V6}
-use Rattle.group_records.specs.Query.{IsGeneralQuery, every_group, greatest_code, least_query_length, query_type, query_with_sum, written_query}
-use Rattle.group_records.proofs.MessageSums.{IsRight-summed}
+use Rattle.group_records.{specs.{declared.family.Family.{Family, TheVariants.{V4, V6}}, Query.{IsGeneralQuery, every_group, greatest_code, least_query_length, query_type, query_with_sum, written_query}}, proofs.MessageSums.{IsRight-summed}}
 
 pub length-query_with_sum : (checksum : ℕ) (family : Family) (fields : QueryFields) → length (query_with_sum checksum family fields) ≡ least_query_length family
 length-query_with_sum checksum V4 fields = refl

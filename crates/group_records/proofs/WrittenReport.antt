@@ -1,30 +1,12 @@
 -- A written report is read back, and its length.
 use Rattle.std.proofs.Common.{◌≡◌, ℕ, ◌+◌, ◌*◌, ◌%◌, ◌^◌, ◌<◌, ◌≤◌, List, [], ◌∷◌, ◌++◌, length, take, get_or, length-append, map, true, Option, Some, refl, sym, subst, ap, ◌∙◌, arith}
-use Rattle.std.proofs.Math.Nat.{suc-mul}
-use Rattle.std.proofs.lemmas.List.{append-nil, length-map}
-use Rattle.std.proofs.lemmas.List.Elements.{All-cons, All-head, All-nil, All-tail}
-use Rattle.std.proofs.lemmas.List.Sums.{sum_by-cons, sum_by_more_le}
-use Rattle.std.specs.List.{All, flat_map, sum_by}
-use Rattle.byteorder.specs.Endian.{big_bytes}
-use Rattle.byteorder.specs.Numbers.{big_number-reads_back, length-bytes_high_first}
-use Rattle.amt_values.specs.Octets.{AreOctets}
-use Rattle.amt_values.specs.Address.{number_of}
-use Rattle.amt_values.specs.declared.address.Ip.{Ip}
-use Rattle.amt_values.specs.declared.address.Ip.TheVariants.{V4 as Address4, V6 as Address6}
+use Rattle.std.{proofs.{Math.Nat.{suc-mul}, lemmas.List.{append-nil, length-map, Elements.{All-cons, All-head, All-nil, All-tail}, Sums.{sum_by-cons, sum_by_more_le}}}, specs.List.{All, flat_map, sum_by}}
+use Rattle.byteorder.specs.{Endian.{big_bytes}, Numbers.{big_number-reads_back, length-bytes_high_first}}
+use Rattle.amt_values.specs.{Octets.{AreOctets}, Address.{number_of}, declared.address.Ip.{Ip, TheVariants.{V4 as Address4, V6 as Address6}}}
 use Rattle.inner_datagrams.specs.Checksum.{internet_sum_of, IsRight}
-use Rattle.source_filter.specs.declared.record.Record.{Record}
-use Rattle.source_filter.specs.declared.record.RecordKind.{RecordKind}
-use Rattle.source_filter.specs.declared.record.RecordKind.TheVariants.{IsIn, IsEx, ToIn, ToEx, Allow, Block}
-use Rattle.source_filter.specs.Record.{item_count}
-use Rattle.group_records.specs.declared.family.Family.{Family}
-use Rattle.group_records.specs.declared.family.Family.TheVariants.{V4, V6}
-use Rattle.group_records.specs.CarriedRecord.{CarriedRecord, IsCarriedRecord, record_octets, record_of_kind, known_record, known_records}
-use Rattle.group_records.specs.Family.{address_in, kind_of, report_type, width}
-use Rattle.group_records.specs.Reading.{head_length}
-use Rattle.group_records.specs.Report.{AreRecords, IsReport}
-use Rattle.group_records.specs.Written.{FitsOctets, HasFittingAddresses, IsOfFamily, address_octets, is_of_family, kind_number, report_length, report_with_sum, written_record, written_report}
-use Rattle.group_records.proofs.ItemCounts.{width-some}
-use Rattle.group_records.proofs.MessageSums.{IsRight-summed}
+use Rattle.source_filter.specs.{declared.record.{Record.{Record}, RecordKind.{RecordKind, TheVariants.{IsIn, IsEx, ToIn, ToEx, Allow, Block}}}, Record.{item_count}}
+use Rattle.group_records.specs.{declared.family.Family.{Family, TheVariants.{V4, V6}}, CarriedRecord.{CarriedRecord, IsCarriedRecord, record_octets, record_of_kind, known_record, known_records}, Family.{address_in, kind_of, report_type, width}, Reading.{head_length}}
+use Rattle.group_records.{specs.{Report.{AreRecords, IsReport}, Written.{FitsOctets, HasFittingAddresses, IsOfFamily, address_octets, is_of_family, kind_number, report_length, report_with_sum, written_record, written_report}}, proofs.{ItemCounts.{width-some}, MessageSums.{IsRight-summed}}}
 
 abbrev IsOf : Family → Ip → Type 0
 IsOf family address = is_of_family family address ≡ true

@@ -1,13 +1,10 @@
 -- Group records as a report carries them (RFC 3376, sections 4.2.4 to 4.2.11; RFC 3810, sections
 -- 5.2.4 to 5.2.11).
-use Rattle.std.specs.Prelude.{◌≡◌, ℕ, ◌<◌, ◌/◌, ◌%◌, ◌^◌, List, [], ◌∷◌, ◌++◌, length, map, All, Option, Some, None}
-use Rattle.std.specs.List.{flat_map}
+use Rattle.std.specs.{Prelude.{◌≡◌, ℕ, ◌<◌, ◌/◌, ◌%◌, ◌^◌, List, [], ◌∷◌, ◌++◌, length, map, All, Option, Some, None}, List.{flat_map}}
 use Rattle.byteorder.specs.Endian.{big_bytes}
 use Rattle.amt_values.specs.Octets.{AreOctets}
-use Rattle.source_filter.specs.declared.record.Record.{Record}
-use Rattle.source_filter.specs.declared.record.RecordKind.{RecordKind}
-use Rattle.group_records.specs.declared.family.Family.{Family}
-use Rattle.group_records.specs.Family.{width, address_in, kind_of}
+use Rattle.source_filter.specs.declared.record.{Record.{Record}, RecordKind.{RecordKind}}
+use Rattle.group_records.specs.{declared.family.Family.{Family}, Family.{width, address_in, kind_of}}
 
 -- the fields of a record, with addresses as numbers
 pub record CarriedRecord : Type 0 where

@@ -2,8 +2,7 @@
 -- MLDv2 (RFC 3810, section 5.1.3).
 use Rattle.std.specs.Prelude.{ℕ, ◌+◌, ◌*◌, ◌/◌, ◌%◌, ◌^◌, ◌==◌, nat_lt, unwrap_or, if◌then◌else◌}
 use Rattle.std.specs.List.{find, range_with_len}
-use Rattle.group_records.specs.declared.family.Family.{Family}
-use Rattle.group_records.specs.declared.family.Family.TheVariants.{V4, V6}
+use Rattle.group_records.specs.declared.family.Family.{Family, TheVariants.{V4, V6}}
 
 -- how many codes there are
 abbrev pub code_count : Family → ℕ

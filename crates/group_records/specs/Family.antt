@@ -1,11 +1,8 @@
 -- What the two address families differ in, and the types of records that both share.
 use Rattle.std.specs.Prelude.{ℕ, ◌==◌, ◌||◌, Bool, Option, Some, None, if◌then◌else◌}
-use Rattle.amt_values.specs.declared.address.Ip.{Ip}
-use Rattle.amt_values.specs.declared.address.Ip.TheVariants.{V4 as Address4, V6 as Address6}
-use Rattle.source_filter.specs.declared.record.RecordKind.{RecordKind}
-use Rattle.source_filter.specs.declared.record.RecordKind.TheVariants.{IsIn, IsEx, ToIn, ToEx, Allow, Block}
-use Rattle.group_records.specs.declared.family.Family.{Family}
-use Rattle.group_records.specs.declared.family.Family.TheVariants.{V4, V6}
+use Rattle.amt_values.specs.declared.address.Ip.{Ip, TheVariants.{V4 as Address4, V6 as Address6}}
+use Rattle.source_filter.specs.declared.record.RecordKind.{RecordKind, TheVariants.{IsIn, IsEx, ToIn, ToEx, Allow, Block}}
+use Rattle.group_records.specs.declared.family.Family.{Family, TheVariants.{V4, V6}}
 
 -- the octets of an address
 abbrev pub width : Family → ℕ

@@ -4,14 +4,8 @@ use Rattle.std.specs.Prelude.{◌≡◌, ℕ, ◌+◌, ◌*◌, ◌/◌, ◌%◌
 use Rattle.byteorder.specs.Endian.{big_bytes, big_number}
 use Rattle.amt_values.specs.Conditions.{Conditions, first_holding, unless}
 use Rattle.inner_datagrams.specs.Checksum.{internet_sum_of, IsRight}
-use Rattle.source_filter.specs.declared.fault.ReportFault.{ReportFault}
-use Rattle.source_filter.specs.declared.fault.ReportFault.TheVariants.{Short, Kind, OldReport, Sum, RecordShort, SourceShort}
-use Rattle.source_filter.specs.declared.query.QueryFields.{QueryFields}
-use Rattle.source_filter.specs.declared.query.QueryRead.{QueryRead}
-use Rattle.group_records.specs.declared.family.Family.{Family}
-use Rattle.group_records.specs.declared.family.Family.TheVariants.{V4, V6}
-use Rattle.group_records.specs.Family.{width, address_in}
-use Rattle.group_records.specs.Reading.{source_count, wrong_sum}
+use Rattle.source_filter.specs.declared.{fault.ReportFault.{ReportFault, TheVariants.{Short, Kind, OldReport, Sum, RecordShort, SourceShort}}, query.{QueryFields.{QueryFields}, QueryRead.{QueryRead}}}
+use Rattle.group_records.specs.{declared.family.Family.{Family, TheVariants.{V4, V6}}, Family.{width, address_in}, Reading.{source_count, wrong_sum}}
 
 -- the type of a membership query
 abbrev pub query_type : Family → ℕ

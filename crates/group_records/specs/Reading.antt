@@ -1,17 +1,10 @@
 -- The first fault of a payload, its records where there is none, and what may be answered.
 use Rattle.std.specs.Prelude.{◌≡◌, ℕ, zero, suc, ◌+◌, ◌*◌, ◌==◌, nat_lt, nat_le, not, ◌&&◌, ◌||◌, Bool, true, false, is_some, List, [], ◌∷◌, ◌++◌, length, drop, take, slice_index, Option, Some, None, Result}
 use Rattle.byteorder.specs.Endian.{big_number}
-use Rattle.amt_values.specs.Answer.{Gives}
-use Rattle.amt_values.specs.Conditions.{Conditions, first_holding, unless}
+use Rattle.amt_values.specs.{Answer.{Gives}, Conditions.{Conditions, first_holding, unless}}
 use Rattle.inner_datagrams.specs.Checksum.{internet_sum_of, has_right_sum}
-use Rattle.source_filter.specs.declared.record.Record.{Record}
-use Rattle.source_filter.specs.declared.fault.ReportFault.{ReportFault}
-use Rattle.source_filter.specs.declared.fault.ReportFault.TheVariants.{Short, Kind, OldReport, Sum, RecordShort, SourceShort}
-use Rattle.source_filter.specs.declared.fault.ReadFault.{ReadFault}
-use Rattle.source_filter.specs.declared.fault.ReadFault.TheVariants.{Report, Memory}
-use Rattle.group_records.specs.declared.family.Family.{Family}
-use Rattle.group_records.specs.CarriedRecord.{CarriedRecord, known_records}
-use Rattle.group_records.specs.Family.{width, kind_of, report_type, is_old_report}
+use Rattle.source_filter.specs.{declared.record.Record.{Record}, declared.fault.{ReportFault.{ReportFault, TheVariants.{Short, Kind, OldReport, Sum, RecordShort, SourceShort}}, ReadFault.{ReadFault, TheVariants.{Report, Memory}}}}
+use Rattle.group_records.specs.{declared.family.Family.{Family}, CarriedRecord.{CarriedRecord, known_records}, Family.{width, kind_of, report_type, is_old_report}}
 
 -- so many numbers of so many octets each, one after another
 abbrev pub numbers_at : ℕ → ℕ → List ℕ → List ℕ

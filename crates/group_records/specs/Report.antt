@@ -1,12 +1,9 @@
 -- Which octets are a membership report (RFC 3376, section 4.2; RFC 3810, section 5.2).
-use Rattle.std.specs.Prelude.{◌≡◌, ℕ, ◌≤◌, List, ◌++◌, length, drop, slice_index, All}
-use Rattle.std.specs.List.{flat_map}
+use Rattle.std.specs.{Prelude.{◌≡◌, ℕ, ◌≤◌, List, ◌++◌, length, drop, slice_index, All}, List.{flat_map}}
 use Rattle.byteorder.specs.Endian.{big_number}
 use Rattle.inner_datagrams.specs.Checksum.{IsRight}
 use Rattle.source_filter.specs.declared.record.Record.{Record}
-use Rattle.group_records.specs.declared.family.Family.{Family}
-use Rattle.group_records.specs.CarriedRecord.{CarriedRecord, IsCarriedRecord, record_octets, known_records}
-use Rattle.group_records.specs.Family.{report_type}
+use Rattle.group_records.specs.{declared.family.Family.{Family}, CarriedRecord.{CarriedRecord, IsCarriedRecord, record_octets, known_records}, Family.{report_type}}
 
 -- so many records, one after another; what follows the last may be any
 pub record AreRecords (family : Family) (count : ℕ) (records : List Record) (bytes : List ℕ) : Type 0 where

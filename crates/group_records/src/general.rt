@@ -2,9 +2,7 @@
 
 ghost use Rattle.std.specs.Prelude.{◌≡◌, ◌≤◌, ◌%◌, ◌∷◌, ◌++◌, [], length, IfOk};
 ghost use Rattle.byteorder.specs.Endian.{big_bytes};
-ghost use Rattle.group_records.specs.declared.family.Family.TheVariants.{V4, V6};
-ghost use Rattle.group_records.specs.Family.{address_in};
-ghost use Rattle.group_records.specs.Query.{IsGeneralQuery, greatest_code, least_query_length, query_type, query_with_sum, written_query};
+ghost use Rattle.group_records.specs.{declared.family.Family.TheVariants.{V4, V6}, Family.{address_in}, Query.{IsGeneralQuery, greatest_code, least_query_length, query_type, query_with_sum, written_query}};
 
 use crate::family::Family;
 use crate::query::query_type;

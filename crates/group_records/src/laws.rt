@@ -3,9 +3,7 @@
 ghost use Rattle.std.specs.Prelude.{◌≡◌, ◌↔◌, ℕ, List, Ok, None};
 ghost use Rattle.amt_values.specs.Octets.{AreOctets};
 ghost use Rattle.source_filter.specs.declared.record.Record.{Record};
-ghost use Rattle.group_records.specs.declared.family.Family.{Family};
-ghost use Rattle.group_records.specs.Report.{IsReport, IsSomeReport};
-ghost use Rattle.group_records.specs.Reading.{first_report_fault, report_of};
+ghost use Rattle.group_records.specs.{declared.family.Family.{Family}, Report.{IsReport, IsSomeReport}, Reading.{first_report_fault, report_of}};
 
 /// A payload is read as exactly the report that it is, of one list of records at most, and it has a fault
 /// exactly where it is none (RFC 3376, section 4.2; RFC 3810, section 5.2). It holds of every payload, also

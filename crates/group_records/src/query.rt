@@ -1,8 +1,7 @@
 //! A query is read here. It must not know what is answered to one.
 
 ghost use Rattle.std.specs.Prelude.{◌≡◌, ◌≤◌, ◌%◌, [], ◌∷◌, length, IfOk, IfErr, Ok, Err, MatchResult, None, Some};
-ghost use Rattle.source_filter.specs.declared.query.QueryRead.{QueryRead as QueryReadValue};
-ghost use Rattle.source_filter.specs.declared.fault.ReportFault.{ReportFault as ReportFaultValue};
+ghost use Rattle.source_filter.specs.declared.{query.QueryRead.{QueryRead as QueryReadValue}, fault.ReportFault.{ReportFault as ReportFaultValue}};
 ghost use Rattle.amt_values.specs.Conditions.{first_holding};
 ghost use Rattle.group_records.specs.Query.{IsQuery, IsQueryFault, first_query_fault, group_offset, max_code_of, query_values, query_of, least_query_length, stated_query_length, query_type, missing_sources, robustness_in, suppresses};
 

@@ -2,9 +2,7 @@
 
 ghost use Rattle.std.specs.Prelude.{◌≡◌, ◌≤◌, ◌*◌, ◌++◌, drop, length, map, slice_index, is_some, true, IfOk, OnOk, OnErr};
 ghost use Rattle.amt_values.specs.Conditions.{first_holding};
-ghost use Rattle.group_records.specs.Family.{address_in, kind_of, width};
-ghost use Rattle.group_records.specs.CarriedRecord.{known_record};
-ghost use Rattle.group_records.specs.Reading.{carried_record_at, head_length, numbers_at, record_faults, record_length, source_count};
+ghost use Rattle.group_records.specs.{Family.{address_in, kind_of, width}, CarriedRecord.{known_record}, Reading.{carried_record_at, head_length, numbers_at, record_faults, record_length, source_count}};
 
 use crate::family::{Family, first_address, width};
 use byteorder::{BigEndian, ByteOrder};

@@ -1,14 +1,9 @@
 //! A membership report is read here. It must not know the datagram that carries it.
 
 ghost use Rattle.std.specs.Prelude.{◌≡◌, ◌≤◌, ◌%◌, [], ◌∷◌, List, length, IfOk, Ok, Err, MatchResult, None, Some, true};
-ghost use Rattle.amt_values.specs.Answer.{Tells};
-ghost use Rattle.amt_values.specs.Conditions.{first_holding};
-ghost use Rattle.source_filter.specs.Record.{item_count};
-ghost use Rattle.source_filter.specs.declared.record.Record.{Record as RecordValue};
-ghost use Rattle.source_filter.specs.declared.fault.ReadFault.TheVariants.{Memory};
-ghost use Rattle.source_filter.specs.declared.fault.ReportFault.{ReportFault as ReportFaultValue};
-ghost use Rattle.group_records.specs.Report.{IsReport};
-ghost use Rattle.group_records.specs.Reading.{AsksMemory, GivesRecords, asks_memory, report_fault_in, first_report_fault, kind_faults, records_reading, report_head_faults, report_of, wrong_sum};
+ghost use Rattle.amt_values.specs.{Answer.{Tells}, Conditions.{first_holding}};
+ghost use Rattle.source_filter.specs.{Record.{item_count}, declared.record.Record.{Record as RecordValue}, declared.fault.{ReadFault.TheVariants.{Memory}, ReportFault.{ReportFault as ReportFaultValue}}};
+ghost use Rattle.group_records.specs.{Report.{IsReport}, Reading.{AsksMemory, GivesRecords, asks_memory, report_fault_in, first_report_fault, kind_faults, records_reading, report_head_faults, report_of, wrong_sum}};
 
 use crate::family::{Family, is_old_report, report_type};
 use crate::record::{after_record, append_record, record_fault};

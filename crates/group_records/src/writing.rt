@@ -1,14 +1,11 @@
 //! A membership report is written here. It must not know how a report is read.
 
-ghost use Rattle.std.specs.Prelude.{◌≡◌, ◌≤◌, ◌<◌, ◌%◌, ◌∷◌, ◌++◌, length, take, drop, All, IfOk, OnOk};
-ghost use Rattle.std.specs.List.{flat_map};
+ghost use Rattle.std.specs.{Prelude.{◌≡◌, ◌≤◌, ◌<◌, ◌%◌, ◌∷◌, ◌++◌, length, take, drop, All, IfOk, OnOk}, List.{flat_map}};
 ghost use Rattle.byteorder.specs.Endian.{big_bytes};
 ghost use Rattle.amt_values.specs.Octets.{AreOctets};
 ghost use Rattle.inner_datagrams.specs.Checksum.{internet_sum_of};
-ghost use Rattle.group_records.specs.Family.{report_type};
-ghost use Rattle.group_records.specs.Report.{IsReport};
+ghost use Rattle.group_records.specs.{Family.{report_type}, Report.{IsReport}, Written.{address_octets, kind_number, report_length, report_with_sum, written_record, written_report, FitsOctets, HasFittingAddresses, IsOfFamily}};
 ghost use Rattle.source_filter.specs.Record.{item_count};
-ghost use Rattle.group_records.specs.Written.{address_octets, kind_number, report_length, report_with_sum, written_record, written_report, FitsOctets, HasFittingAddresses, IsOfFamily};
 
 use crate::family::{Family, report_type, width};
 use amt_values::{Bytes, INPUT_LIMIT, Ip};

@@ -1,7 +1,6 @@
 -- The codes in which IGMPv3 carries times (RFC 3376, section 4.1.1).
 use Rattle.std.specs.Prelude.{ℕ}
-use Rattle.group_records.specs.declared.family.Family.TheVariants.{V4}
-use Rattle.group_records.specs.Code.{code_value as value_in, code_of as code_in}
+use Rattle.group_records.specs.{declared.family.Family.TheVariants.{V4}, Code.{code_value as value_in, code_of as code_in}}
 
 -- what a code stands for
 abbrev pub code_value : ℕ → ℕ

@@ -1,10 +1,7 @@
 -- Membership queries of IGMPv3 (RFC 3376, section 4.1).
 use Rattle.std.specs.Prelude.{ℕ, List, [], Option, Result}
-use Rattle.source_filter.specs.declared.fault.ReportFault.{ReportFault}
-use Rattle.source_filter.specs.declared.query.QueryFields.{QueryFields}
-use Rattle.source_filter.specs.declared.query.QueryRead.{QueryRead}
-use Rattle.group_records.specs.declared.family.Family.TheVariants.{V4}
-use Rattle.group_records.specs.Query.{IsQuery, first_query_fault, general_query, query_of, written_query}
+use Rattle.source_filter.specs.declared.{fault.ReportFault.{ReportFault}, query.{QueryFields.{QueryFields}, QueryRead.{QueryRead}}}
+use Rattle.group_records.specs.{declared.family.Family.TheVariants.{V4}, Query.{IsQuery, first_query_fault, general_query, query_of, written_query}}
 
 -- a query of these values, whose checksum has no pseudo-header
 abbrev pub IsQuery4 : QueryRead → List ℕ → Type 0

@@ -1,11 +1,7 @@
 -- Membership reports of IGMPv3, whose checksum has no pseudo-header (RFC 3376, section 4.2).
 use Rattle.std.specs.Prelude.{ℕ, List, [], All, Option, Result}
-use Rattle.source_filter.specs.declared.record.Record.{Record}
-use Rattle.source_filter.specs.declared.fault.ReportFault.{ReportFault}
-use Rattle.group_records.specs.declared.family.Family.TheVariants.{V4}
-use Rattle.group_records.specs.Report.{IsReport}
-use Rattle.group_records.specs.Reading.{AsksMemory, first_report_fault, report_of}
-use Rattle.group_records.specs.Written.{IsOfFamily, report_length, written_report}
+use Rattle.source_filter.specs.{declared.record.Record.{Record}, declared.fault.ReportFault.{ReportFault}}
+use Rattle.group_records.specs.{declared.family.Family.TheVariants.{V4}, Report.{IsReport}, Reading.{AsksMemory, first_report_fault, report_of}, Written.{IsOfFamily, report_length, written_report}}
 
 -- a report of these records
 abbrev pub IsReport4 : List Record → List ℕ → Type 0

@@ -1,8 +1,7 @@
 //! Queries of IGMPv3, both ways. It must not know their layout or MLD.
 
 ghost use Rattle.std.specs.Prelude.{◌≡◌, ◌≤◌, length, IfOk, IfErr, Ok, Err, MatchResult, None, Some};
-ghost use Rattle.source_filter.specs.declared.query.QueryRead.{QueryRead as QueryReadValue};
-ghost use Rattle.source_filter.specs.declared.fault.ReportFault.{ReportFault as ReportFaultValue};
+ghost use Rattle.source_filter.specs.declared.{query.QueryRead.{QueryRead as QueryReadValue}, fault.ReportFault.{ReportFault as ReportFaultValue}};
 ghost use Rattle.group_records.specs.Query.{IsQueryFault};
 ghost use Rattle.igmp_records.specs.Query.{first_query_fault4, query4_of, written_query4, IsGeneralQuery, IsQuery4};
 

@@ -1,20 +1,8 @@
 -- Bytes have no fault exactly where they are an inner datagram, of either version.
-use Rattle.std.proofs.Common.{◌≡◌, ℕ, ◌≤◌, List, ◌∷◌, ◌++◌, length, Bool, true, false, not, eqb, cond, ◌||◌, None, refl, ap, ◌∙◌, arith}
-use Rattle.std.proofs.lemmas.Bool.{eqb-true, ne_eqb}
-use Rattle.amt_values.specs.declared.address.Ip.{Ip}
-use Rattle.amt_values.specs.declared.address.Ip.TheVariants.{V4, V6}
-use Rattle.amt_values.specs.Conditions.{Conditions, first_holding}
-use Rattle.amt_values.specs.IpHeader.{ip_version}
-use Rattle.inner_datagrams.specs.Inner.{IsInner, IsInner4, IsInner6}
-use Rattle.inner_datagrams.specs.Fault.{first_inner_fault, version_faults, faults4, faults6}
-use Rattle.inner_datagrams.specs.Reading.{HasParts, inner_at, inner4_at, inner6_at, payload_of, payload_start}
-use Rattle.inner_datagrams.specs.declared.inner.Inner.{Inner}
-use Rattle.inner_datagrams.specs.declared.inner.InnerFault.{InnerFault}
-use Rattle.inner_datagrams.specs.declared.inner.InnerFault.TheVariants.{Version, ShortHeader}
-use Rattle.amt_values.proofs.ConditionLaws.{skipped}
-use Rattle.inner_datagrams.proofs.Lawful4.{inner4_of_no_fault, no_fault_of_inner4}
-use Rattle.inner_datagrams.proofs.Lawful6.{HasWholeHeaders-follows, inner6_of_no_fault, no_fault_of_inner6}
-use Rattle.inner_datagrams.proofs.Payloads.{payload_whole}
+use Rattle.std.proofs.{Common.{◌≡◌, ℕ, ◌≤◌, List, ◌∷◌, ◌++◌, length, Bool, true, false, not, eqb, cond, ◌||◌, None, refl, ap, ◌∙◌, arith}, lemmas.Bool.{eqb-true, ne_eqb}}
+use Rattle.amt_values.{specs.{declared.address.Ip.{Ip, TheVariants.{V4, V6}}, Conditions.{Conditions, first_holding}, IpHeader.{ip_version}}, proofs.ConditionLaws.{skipped}}
+use Rattle.inner_datagrams.specs.{Inner.{IsInner, IsInner4, IsInner6}, Fault.{first_inner_fault, version_faults, faults4, faults6}, Reading.{HasParts, inner_at, inner4_at, inner6_at, payload_of, payload_start}, declared.inner.Inner.{Inner}}
+use Rattle.inner_datagrams.{specs.declared.inner.InnerFault.{InnerFault, TheVariants.{Version, ShortHeader}}, proofs.{Lawful4.{inner4_of_no_fault, no_fault_of_inner4}, Lawful6.{HasWholeHeaders-follows, inner6_of_no_fault, no_fault_of_inner6}, Payloads.{payload_whole}}}
 
 -- these parts are those of an inner datagram
 abbrev pub IsInnerAt : Inner → List ℕ → Type 0

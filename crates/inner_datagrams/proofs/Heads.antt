@@ -1,15 +1,7 @@
 -- Bytes have no fault of their head exactly where they have a head.
-use Rattle.std.proofs.Common.{◌≡◌, inl, inr, ℕ, List, length, Bool, true, false, not, eqb, ltb, cond, ◌||◌, Option, None, Result, Ok, Err, refl, sym, subst, ap, ◌∙◌, arith}
-use Rattle.std.proofs.lemmas.Bool.{le-ltb, ltb-false, eqb-true, ne_eqb}
-use Rattle.std.specs.Result.{IfOk}
-use Rattle.amt_values.specs.declared.address.Ip.{Ip}
-use Rattle.amt_values.specs.Conditions.{unless}
-use Rattle.amt_values.specs.IpHeader.{ip_version}
-use Rattle.inner_datagrams.specs.Head.{IsHead, IsHead4, IsHead6, first_head_fault, head_at, head4_at, head6_at, head_faults, head_of}
-use Rattle.inner_datagrams.specs.declared.head.Head.{Head}
-use Rattle.inner_datagrams.specs.declared.head.HeadFault.{HeadFault}
-use Rattle.amt_values.proofs.ConditionLaws.{NoneHolds-of, unless-ok}
-use Rattle.inner_datagrams.proofs.Faults.{version4}
+use Rattle.std.{proofs.{Common.{◌≡◌, inl, inr, ℕ, List, length, Bool, true, false, not, eqb, ltb, cond, ◌||◌, Option, None, Result, Ok, Err, refl, sym, subst, ap, ◌∙◌, arith}, lemmas.Bool.{le-ltb, ltb-false, eqb-true, ne_eqb}}, specs.Result.{IfOk}}
+use Rattle.amt_values.{specs.{declared.address.Ip.{Ip}, Conditions.{unless}, IpHeader.{ip_version}}, proofs.ConditionLaws.{NoneHolds-of, unless-ok}}
+use Rattle.inner_datagrams.{specs.{Head.{IsHead, IsHead4, IsHead6, first_head_fault, head_at, head4_at, head6_at, head_faults, head_of}, declared.head.{Head.{Head}, HeadFault.{HeadFault}}}, proofs.Faults.{version4}}
 
 head_by_version : (six : Bool) (bytes : List ℕ) → eqb (ip_version bytes) 6 ≡ six
     → not (eqb (ip_version bytes) 4 || eqb (ip_version bytes) 6) ≡ false

@@ -1,14 +1,7 @@
 -- IPv4: bytes have no fault after their version exactly where they are an inner datagram.
-use Rattle.std.proofs.Common.{◌≡◌, ℕ, List, length, ltb, false, None, refl, sym, arith}
-use Rattle.std.proofs.lemmas.Bool.{le-ltb, ltb-false}
-use Rattle.amt_values.specs.Conditions.{first_holding}
-use Rattle.amt_values.specs.IpHeader.{ip_version}
-use Rattle.inner_datagrams.specs.Header.{header_octets, source_number, destination_number}
-use Rattle.inner_datagrams.specs.Inner.{IsInner4}
-use Rattle.inner_datagrams.specs.Fault.{faults4}
-use Rattle.inner_datagrams.specs.Reading.{payload_of}
-use Rattle.amt_values.proofs.ConditionLaws.{NoneHolds-of, first_holding-none, holds_not, skips_same}
-use Rattle.inner_datagrams.proofs.Payloads.{payload_whole}
+use Rattle.std.proofs.{Common.{◌≡◌, ℕ, List, length, ltb, false, None, refl, sym, arith}, lemmas.Bool.{le-ltb, ltb-false}}
+use Rattle.amt_values.{specs.{Conditions.{first_holding}, IpHeader.{ip_version}}, proofs.ConditionLaws.{NoneHolds-of, first_holding-none, holds_not, skips_same}}
+use Rattle.inner_datagrams.{specs.{Header.{header_octets, source_number, destination_number}, Inner.{IsInner4}, Fault.{faults4}, Reading.{payload_of}}, proofs.Payloads.{payload_whole}}
 
 pub inner4_of_no_fault : (bytes : List ℕ) → ip_version bytes ≡ 4 → first_holding (faults4 bytes) ≡ None
     → IsInner4 (source_number bytes) (destination_number bytes) (payload_of (header_octets bytes) (length bytes) bytes) bytes

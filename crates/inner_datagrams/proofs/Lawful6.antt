@@ -1,14 +1,7 @@
 -- IPv6: bytes have no fault after their version exactly where they are an inner datagram.
-use Rattle.std.proofs.Common.{◌≡◌, ◌⊎◌, inl, inr, ℕ, ◌≤◌, List, length, drop, ltb, eqb, cond, Bool, true, false, ◌&&◌, None, refl, sym, arith}
-use Rattle.std.proofs.lemmas.Bool.{le-ltb, ltb-false, eqb-true}
-use Rattle.amt_values.specs.Conditions.{first_holding}
-use Rattle.amt_values.specs.IpHeader.{ip_version}
-use Rattle.inner_datagrams.specs.Header6.{next_header, has_hop_by_hop, hop_by_hop_next, hop_by_hop_end, headers_end6, last_next_header, source_number6, destination_number6}
-use Rattle.inner_datagrams.specs.Inner.{FollowsHeader, FollowsHopByHop, IsInner6}
-use Rattle.inner_datagrams.specs.Fault.{faults6}
-use Rattle.inner_datagrams.specs.Reading.{payload_of}
-use Rattle.amt_values.proofs.ConditionLaws.{NoneHolds-of, first_holding-none, holds_not, skips_same}
-use Rattle.inner_datagrams.proofs.Payloads.{payload_whole}
+use Rattle.std.proofs.{Common.{◌≡◌, ◌⊎◌, inl, inr, ℕ, ◌≤◌, List, length, drop, ltb, eqb, cond, Bool, true, false, ◌&&◌, None, refl, sym, arith}, lemmas.Bool.{le-ltb, ltb-false, eqb-true}}
+use Rattle.amt_values.{specs.{Conditions.{first_holding}, IpHeader.{ip_version}}, proofs.ConditionLaws.{NoneHolds-of, first_holding-none, holds_not, skips_same}}
+use Rattle.inner_datagrams.{specs.{Header6.{next_header, has_hop_by_hop, hop_by_hop_next, hop_by_hop_end, headers_end6, last_next_header, source_number6, destination_number6}, Inner.{FollowsHeader, FollowsHopByHop, IsInner6}, Fault.{faults6}, Reading.{payload_of}}, proofs.Payloads.{payload_whole}}
 
 -- with a hop-by-hop header or without one, ICMPv6 follows the headers
 follows_by : (hop : Bool) (payload bytes : List ℕ) → eqb (next_header bytes) 0 ≡ hop

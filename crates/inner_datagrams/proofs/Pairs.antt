@@ -1,10 +1,6 @@
 -- The words of bytes as the pairs into which a slice is cut, and the octet that is left over.
 use Rattle.std.proofs.Common.{◌≡◌, ℕ, zero, suc, ◌+◌, ◌*◌, ◌/◌, ◌≤◌, List, [], ◌∷◌, length, take, drop, slice_index, sum, refl, arith}
-use Rattle.std.specs.Int.{w16, from_be_bytes}
-use Rattle.std.specs.Prelude.{sum_by}
-use Rattle.std.specs.Simd.{first_chunks}
-use Rattle.std.proofs.lemmas.List.{take_all}
-use Rattle.std.proofs.lemmas.List.Sums.{sum_by-cons}
+use Rattle.std.{specs.{Int.{w16, from_be_bytes}, Prelude.{sum_by}, Simd.{first_chunks}}, proofs.lemmas.List.{take_all, Sums.{sum_by-cons}}}
 use Rattle.inner_datagrams.specs.Checksum.{words}
 
 -- the number of a word of two octets

@@ -1,9 +1,7 @@
 -- The one's complement sum of bytes in parts: an even number of octets is summed for itself.
-use Rattle.std.proofs.Common.{◌≡◌, ℕ, zero, suc, ◌+◌, ◌/◌, ◌%◌, ◌<◌, List, [], ◌∷◌, ◌++◌, length, length-append, sum, refl, arith}
-use Rattle.std.proofs.lemmas.List.Sums.{sum_by-append}
+use Rattle.std.proofs.{Common.{◌≡◌, ℕ, zero, suc, ◌+◌, ◌/◌, ◌%◌, ◌<◌, List, [], ◌∷◌, ◌++◌, length, length-append, sum, refl, arith}, lemmas.List.Sums.{sum_by-append}}
 use Rattle.amt_values.specs.Octets.{AreOctets}
-use Rattle.inner_datagrams.specs.Checksum.{words, ones_add, ones_sum, internet_sum_of}
-use Rattle.inner_datagrams.proofs.OnesComplement.{AreWords-words, StandsFor, StandsFor-ones_sum, same_word, words-append}
+use Rattle.inner_datagrams.{specs.Checksum.{words, ones_add, ones_sum, internet_sum_of}, proofs.OnesComplement.{AreWords-words, StandsFor, StandsFor-ones_sum, same_word, words-append}}
 
 pub AreOctets-append : (prefix suffix : List ℕ) → AreOctets prefix → AreOctets suffix → AreOctets (prefix ++ suffix)
 AreOctets-append [] suffix prefix_small suffix_small k = suffix_small k

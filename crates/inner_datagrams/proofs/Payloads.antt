@@ -1,6 +1,5 @@
 -- What stands after a datagram's headers.
-use Rattle.std.proofs.Common.{◌≡◌, ℕ, ◌-◌, List, length, length-drop, drop, arith}
-use Rattle.std.proofs.lemmas.List.{take_all}
+use Rattle.std.proofs.{Common.{◌≡◌, ℕ, ◌-◌, List, length, length-drop, drop, arith}, lemmas.List.{take_all}}
 use Rattle.inner_datagrams.specs.Reading.{payload_of}
 
 -- the payload reaches to the end of the bytes

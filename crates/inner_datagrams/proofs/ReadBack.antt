@@ -1,16 +1,8 @@
 -- A written datagram is read suffix.
 use Rattle.std.proofs.Common.{◌≡◌, ℕ, ◌+◌, ◌^◌, ◌<◌, ◌≤◌, List, [], ◌∷◌, ◌++◌, length, drop, inr, refl, sym, subst, ap, ◌∙◌, arith, rules}
-use Rattle.byteorder.specs.Endian.{big_bytes}
-use Rattle.byteorder.specs.Numbers.{big_number-reads_back}
-use Rattle.amt_values.specs.declared.address.Ip.{Ip}
-use Rattle.amt_values.specs.declared.address.Ip.TheVariants.{V4, V6}
-use Rattle.amt_values.specs.Octets.{AreOctets}
-use Rattle.inner_datagrams.specs.Checksum.{IsRight}
-use Rattle.inner_datagrams.specs.Inner.{IsInner, IsInner4, IsInner6}
-use Rattle.inner_datagrams.specs.Reading.{payload_start}
-use Rattle.inner_datagrams.specs.Written.{header4_with_sum, header4, written_inner4, written_inner6, IsWrittenInner, written_headers}
-use Rattle.inner_datagrams.proofs.Octets.{AreOctets-from_each}
-use Rattle.inner_datagrams.proofs.RightSum.{IsRight-filled}
+use Rattle.byteorder.specs.{Endian.{big_bytes}, Numbers.{big_number-reads_back}}
+use Rattle.amt_values.specs.{declared.address.Ip.{Ip, TheVariants.{V4, V6}}, Octets.{AreOctets}}
+use Rattle.inner_datagrams.{specs.{Checksum.{IsRight}, Inner.{IsInner, IsInner4, IsInner6}, Reading.{payload_start}, Written.{header4_with_sum, header4, written_inner4, written_inner6, IsWrittenInner, written_headers}}, proofs.{Octets.{AreOctets-from_each}, RightSum.{IsRight-filled}}}
 
 -- what stands before the checksum of a header, and after it
 abbrev before_sum : ℕ → List ℕ

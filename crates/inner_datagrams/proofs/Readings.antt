@@ -1,19 +1,8 @@
 -- What a reading by the first fault says.
-use Rattle.std.proofs.Common.{◌≡◌, ℕ, ◌≤◌, List, length, Bool, true, false, eqb, cond, Option, Some, None, Result, Ok, Err, refl, sym, subst, ap, ◌∙◌}
-use Rattle.std.specs.Result.{IfOk, IsOkAnd, MatchResult}
-use Rattle.amt_values.specs.declared.address.Ip.{Ip}
-use Rattle.amt_values.specs.Conditions.{unless}
-use Rattle.amt_values.specs.IpHeader.{ip_version}
-use Rattle.inner_datagrams.specs.Inner.{IsInner}
-use Rattle.inner_datagrams.specs.Fault.{first_inner_fault}
-use Rattle.inner_datagrams.specs.Reading.{HasParts, inner_at, inner4_at, inner6_at, payload_in, payload_of, payload_start}
-use Rattle.inner_datagrams.specs.Written.{IsWrittenInner, written_headers}
-use Rattle.inner_datagrams.specs.declared.inner.Inner.{Inner}
-use Rattle.inner_datagrams.specs.declared.inner.InnerFault.{InnerFault}
-use Rattle.amt_values.proofs.ConditionLaws.{unless-ok, unless-err}
-use Rattle.inner_datagrams.proofs.Faults.{IsInnerAt, inner_of_no_fault, IsLawful-inner}
-use Rattle.inner_datagrams.proofs.Payloads.{payload_whole}
-use Rattle.inner_datagrams.proofs.ReadBack.{IsInner-written, payload_start-written}
+use Rattle.std.{proofs.Common.{◌≡◌, ℕ, ◌≤◌, List, length, Bool, true, false, eqb, cond, Option, Some, None, Result, Ok, Err, refl, sym, subst, ap, ◌∙◌}, specs.Result.{IfOk, IsOkAnd, MatchResult}}
+use Rattle.amt_values.{specs.{declared.address.Ip.{Ip}, Conditions.{unless}, IpHeader.{ip_version}}, proofs.ConditionLaws.{unless-ok, unless-err}}
+use Rattle.inner_datagrams.specs.{Inner.{IsInner}, Fault.{first_inner_fault}, Reading.{HasParts, inner_at, inner4_at, inner6_at, payload_in, payload_of, payload_start}, Written.{IsWrittenInner, written_headers}}
+use Rattle.inner_datagrams.{specs.declared.inner.{Inner.{Inner}, InnerFault.{InnerFault}}, proofs.{Faults.{IsInnerAt, inner_of_no_fault, IsLawful-inner}, Payloads.{payload_whole}, ReadBack.{IsInner-written, payload_start-written}}}
 
 -- what is answered is by the first fault
 abbrev pub IsReading : Result Inner InnerFault → List ℕ → Type 0

@@ -3,8 +3,7 @@ use Rattle.std.proofs.Common.{◌≡◌, ℕ, zero, suc, ◌+◌, ◌-◌, ◌*�
 use Rattle.std.proofs.lemmas.List.Sums.{sum_by-cons, sum_by-append}
 use Rattle.byteorder.specs.Endian.{big_bytes}
 use Rattle.amt_values.specs.Octets.{AreOctets}
-use Rattle.inner_datagrams.specs.Checksum.{words, ones_sum, internet_sum_of, IsRight, has_right_sum}
-use Rattle.inner_datagrams.proofs.OnesComplement.{AreWords, AreWords-words, StandsFor, StandsFor-ones_sum, words-append}
+use Rattle.inner_datagrams.{specs.Checksum.{words, ones_sum, internet_sum_of, IsRight, has_right_sum}, proofs.OnesComplement.{AreWords, AreWords-words, StandsFor, StandsFor-ones_sum, words-append}}
 
 -- words stay words where one takes another's place
 AreWords-between : (prefix suffix : List ℕ) (word other : ℕ) → AreWords (prefix ++ other ∷ suffix) → word < 65536 → AreWords (prefix ++ word ∷ suffix)

@@ -1,12 +1,8 @@
 -- The first fault of bytes that are no inner datagram.
 use Rattle.std.specs.Prelude.{ℕ, ◌==◌, ◌&&◌, ◌||◌, nat_lt, not, Bool, List, [], ◌∷◌, ◌++◌, length, Option, if◌then◌else◌}
-use Rattle.amt_values.specs.Conditions.{Conditions, first_holding}
-use Rattle.inner_datagrams.specs.Checksum.{internet_sum_of, has_right_sum}
-use Rattle.amt_values.specs.IpHeader.{ip_version, total_length}
-use Rattle.inner_datagrams.specs.Header.{header_words, header_octets, header_of, fragment_bits, protocol_number, header_sum, with_zero_sum}
-use Rattle.inner_datagrams.specs.Header6.{whole_length6, has_hop_by_hop, hop_by_hop_end, last_next_header}
-use Rattle.inner_datagrams.specs.declared.inner.InnerFault.{InnerFault}
-use Rattle.inner_datagrams.specs.declared.inner.InnerFault.TheVariants.{Version, ShortHeader, HeaderLength, TotalLength, HeaderSum, Fragment, Protocol, Extension}
+use Rattle.amt_values.specs.{Conditions.{Conditions, first_holding}, IpHeader.{ip_version, total_length}}
+use Rattle.inner_datagrams.specs.{Checksum.{internet_sum_of, has_right_sum}, Header.{header_words, header_octets, header_of, fragment_bits, protocol_number, header_sum, with_zero_sum}}
+use Rattle.inner_datagrams.specs.{Header6.{whole_length6, has_hop_by_hop, hop_by_hop_end, last_next_header}, declared.inner.InnerFault.{InnerFault, TheVariants.{Version, ShortHeader, HeaderLength, TotalLength, HeaderSum, Fragment, Protocol, Extension}}}
 
 -- no version, or one that isn't read (RFC 791, section 3.1; RFC 8200, section 3)
 abbrev pub version_faults : List ℕ → Conditions InnerFault

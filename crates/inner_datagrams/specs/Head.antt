@@ -1,13 +1,7 @@
 -- The source and the group of a native multicast packet, of which nothing else is read.
 use Rattle.std.specs.Prelude.{◌≡◌, ◌⊎◌, ℕ, ◌≤◌, ◌==◌, ◌||◌, nat_lt, not, Bool, List, [], ◌∷◌, length, Option, Result, if◌then◌else◌}
-use Rattle.amt_values.specs.declared.address.Ip.TheVariants.{V4, V6}
-use Rattle.amt_values.specs.Conditions.{Conditions, first_holding, unless}
-use Rattle.amt_values.specs.IpHeader.{ip_version}
-use Rattle.inner_datagrams.specs.Header.{source_number, destination_number}
-use Rattle.inner_datagrams.specs.Header6.{source_number6, destination_number6}
-use Rattle.inner_datagrams.specs.declared.head.Head.{Head}
-use Rattle.inner_datagrams.specs.declared.head.HeadFault.{HeadFault}
-use Rattle.inner_datagrams.specs.declared.head.HeadFault.TheVariants.{Version, ShortHeader}
+use Rattle.amt_values.specs.{declared.address.Ip.TheVariants.{V4, V6}, Conditions.{Conditions, first_holding, unless}, IpHeader.{ip_version}}
+use Rattle.inner_datagrams.specs.{Header.{source_number, destination_number}, Header6.{source_number6, destination_number6}, declared.head.{Head.{Head}, HeadFault.{HeadFault, TheVariants.{Version, ShortHeader}}}}
 
 -- the addresses of an IPv4 packet whose least header is there (RFC 791, section 3.1). The lengths, the
 -- checksum, the flags and what the packet carries may be any.

@@ -1,11 +1,7 @@
 -- Which bytes are an IP datagram that carries membership messages.
 use Rattle.std.specs.Prelude.{◌≡◌, ◌⊎◌, ℕ, ◌≤◌, List, length, drop}
-use Rattle.amt_values.specs.declared.address.Ip.{Ip}
-use Rattle.amt_values.specs.declared.address.Ip.TheVariants.{V4, V6}
-use Rattle.inner_datagrams.specs.Checksum.{IsRight}
-use Rattle.amt_values.specs.IpHeader.{ip_version, total_length}
-use Rattle.inner_datagrams.specs.Header.{header_words, header_octets, header_of, fragment_bits, protocol_number, source_number, destination_number}
-use Rattle.inner_datagrams.specs.Header6.{whole_length6, next_header, hop_by_hop_next, hop_by_hop_end, source_number6, destination_number6}
+use Rattle.amt_values.specs.{declared.address.Ip.{Ip, TheVariants.{V4, V6}}, IpHeader.{ip_version, total_length}}
+use Rattle.inner_datagrams.specs.{Checksum.{IsRight}, Header.{header_words, header_octets, header_of, fragment_bits, protocol_number, source_number, destination_number}, Header6.{whole_length6, next_header, hop_by_hop_next, hop_by_hop_end, source_number6, destination_number6}}
 
 -- an IPv4 datagram that carries IGMP and is no fragment (RFC 791, section 3.1). The type of service,
 -- the identification, the other flags, the time to live and the options may be any.

@@ -1,11 +1,7 @@
 -- What is read of bytes: an inner datagram, or their first fault.
 use Rattle.std.specs.Prelude.{◌≡◌, ℕ, ◌-◌, ◌==◌, List, length, take, drop, if◌then◌else◌}
-use Rattle.amt_values.specs.declared.address.Ip.{Ip}
-use Rattle.amt_values.specs.declared.address.Ip.TheVariants.{V4, V6}
-use Rattle.amt_values.specs.IpHeader.{ip_version}
-use Rattle.inner_datagrams.specs.Header.{header_octets, source_number, destination_number}
-use Rattle.inner_datagrams.specs.Header6.{headers_end6, source_number6, destination_number6}
-use Rattle.inner_datagrams.specs.declared.inner.Inner.{Inner}
+use Rattle.amt_values.specs.{declared.address.Ip.{Ip, TheVariants.{V4, V6}}, IpHeader.{ip_version}}
+use Rattle.inner_datagrams.specs.{Header.{header_octets, source_number, destination_number}, Header6.{headers_end6, source_number6, destination_number6}, declared.inner.Inner.{Inner}}
 
 -- the bytes between two places
 abbrev pub payload_of : ℕ → ℕ → List ℕ → List ℕ

@@ -1,8 +1,7 @@
 -- The one spelling in which a datagram is written.
 use Rattle.std.specs.Prelude.{◌≡◌, ℕ, ◌+◌, ◌^◌, ◌<◌, List, [], ◌∷◌, ◌++◌, length}
 use Rattle.byteorder.specs.Endian.{big_bytes}
-use Rattle.amt_values.specs.declared.address.Ip.{Ip}
-use Rattle.amt_values.specs.declared.address.Ip.TheVariants.{V4, V6}
+use Rattle.amt_values.specs.declared.address.Ip.{Ip, TheVariants.{V4, V6}}
 use Rattle.inner_datagrams.specs.Checksum.{internet_sum_of}
 
 -- the IPv4 header of an IGMP message with this checksum: type of service c0, time to live 1, protocol

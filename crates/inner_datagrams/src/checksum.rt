@@ -1,8 +1,7 @@
 //! The Internet checksum of octets, and whether it is right. It must not know what they carry.
 
 ghost use Rattle.std.specs.Prelude.{◌≡◌, ◌≤◌, ◌%◌, ◌↔◌, length};
-ghost use Rattle.inner_datagrams.specs.Checksum.{internet_sum_of, has_right_sum};
-ghost use Rattle.inner_datagrams.specs.Header.{with_zero_sum};
+ghost use Rattle.inner_datagrams.specs.{Checksum.{internet_sum_of, has_right_sum}, Header.{with_zero_sum}};
 
 use crate::around::internet_sum_around;
 use amt_values::INPUT_LIMIT;

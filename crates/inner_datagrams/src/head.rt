@@ -2,9 +2,7 @@
 
 ghost use Rattle.std.specs.Prelude.{◌≡◌, ◌≤◌, ◌∷◌, [], length, Err, IfNone, IfOk, MatchResult, None, Ok, Some};
 ghost use Rattle.amt_values.specs.Conditions.{first_holding, unless};
-ghost use Rattle.inner_datagrams.specs.Head.{IsHead, first_head_fault, head4_at, head6_at, head_of, short_header};
-ghost use Rattle.inner_datagrams.specs.declared.head.Head.{Head as HeadValue};
-ghost use Rattle.inner_datagrams.specs.declared.head.HeadFault.{HeadFault as HeadFaultValue};
+ghost use Rattle.inner_datagrams.specs.{Head.{IsHead, first_head_fault, head4_at, head6_at, head_of, short_header}, declared.head.{Head.{Head as HeadValue}, HeadFault.{HeadFault as HeadFaultValue}}};
 
 use amt_values::{INPUT_LIMIT, Ip, u32_at, u128_at};
 

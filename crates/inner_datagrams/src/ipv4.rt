@@ -2,8 +2,7 @@
 
 ghost use Rattle.std.specs.Prelude.{◌≡◌, ◌≤◌, length, IfOk};
 ghost use Rattle.amt_values.specs.declared.address.Ip.TheVariants.{V4};
-ghost use Rattle.inner_datagrams.specs.Inner.{IsInner};
-ghost use Rattle.inner_datagrams.specs.Written.{header4, written_inner4};
+ghost use Rattle.inner_datagrams.specs.{Inner.{IsInner}, Written.{header4, written_inner4}};
 
 use crate::checksum::internet_sum;
 use crate::writing::{PAYLOAD_LIMIT, written_after};

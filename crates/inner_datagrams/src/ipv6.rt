@@ -2,8 +2,7 @@
 
 ghost use Rattle.std.specs.Prelude.{◌≡◌, ◌≤◌, length, IfOk};
 ghost use Rattle.amt_values.specs.declared.address.Ip.TheVariants.{V6};
-ghost use Rattle.inner_datagrams.specs.Inner.{IsInner};
-ghost use Rattle.inner_datagrams.specs.Written.{headers6, written_inner6};
+ghost use Rattle.inner_datagrams.specs.{Inner.{IsInner}, Written.{headers6, written_inner6}};
 
 use crate::writing::{PAYLOAD_LIMIT, written_after};
 use amt_values::Bytes;

@@ -1,12 +1,8 @@
 //! An inner datagram of either version is read here. It must not know what the payload says.
 
 ghost use Rattle.std.specs.Prelude.{◌≡◌, ◌≤◌, ℕ, List, length, IfOk, IsOkAnd, MatchResult, None, Some};
-ghost use Rattle.amt_values.specs.declared.address.Ip.{Ip as IpValue};
-ghost use Rattle.amt_values.specs.Conditions.{unless};
-ghost use Rattle.inner_datagrams.specs.Fault.{first_inner_fault};
-ghost use Rattle.inner_datagrams.specs.Inner.{IsInner};
-ghost use Rattle.inner_datagrams.specs.Reading.{HasParts, inner_at, payload_in, payload_of, payload_start};
-ghost use Rattle.inner_datagrams.specs.Written.{IsWrittenInner, written_headers};
+ghost use Rattle.amt_values.specs.{declared.address.Ip.{Ip as IpValue}, Conditions.{unless}};
+ghost use Rattle.inner_datagrams.specs.{Fault.{first_inner_fault}, Inner.{IsInner}, Reading.{HasParts, inner_at, payload_in, payload_of, payload_start}, Written.{IsWrittenInner, written_headers}};
 
 use crate::inner::{Inner, InnerFault};
 use crate::reading4::read_inner4;

@@ -2,9 +2,7 @@
 
 ghost use Rattle.std.specs.Prelude.{◌≡◌, ◌≤◌, ◌∷◌, ◌++◌, [], length, IfOk};
 ghost use Rattle.amt_values.specs.Conditions.{first_holding, unless};
-ghost use Rattle.inner_datagrams.specs.Fault.{faults4, fragment, header_faults, header_length_faults, length_faults, other_protocol, wrong_header_sum};
-ghost use Rattle.inner_datagrams.specs.Header.{header_octets};
-ghost use Rattle.inner_datagrams.specs.Reading.{inner4_at};
+ghost use Rattle.inner_datagrams.specs.{Fault.{faults4, fragment, header_faults, header_length_faults, length_faults, other_protocol, wrong_header_sum}, Header.{header_octets}, Reading.{inner4_at}};
 
 use crate::checksum::{expected_sum, has_right_sum};
 use crate::inner::{Inner, InnerFault, total_fault};

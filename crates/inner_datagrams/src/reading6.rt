@@ -2,9 +2,7 @@
 
 ghost use Rattle.std.specs.Prelude.{◌≡◌, ◌≤◌, length, IfOk};
 ghost use Rattle.amt_values.specs.Conditions.{first_holding, unless};
-ghost use Rattle.inner_datagrams.specs.Fault.{faults6, hop_by_hop_faults, length_faults6, next_header_faults};
-ghost use Rattle.inner_datagrams.specs.Header6.{headers_end6, hop_by_hop_end, hop_by_hop_next, last_next_header};
-ghost use Rattle.inner_datagrams.specs.Reading.{inner6_at};
+ghost use Rattle.inner_datagrams.specs.{Fault.{faults6, hop_by_hop_faults, length_faults6, next_header_faults}, Header6.{headers_end6, hop_by_hop_end, hop_by_hop_next, last_next_header}, Reading.{inner6_at}};
 
 use crate::inner::{Inner, InnerFault, total_fault};
 use amt_values::{INPUT_LIMIT, Ip, u16_at, u128_at};

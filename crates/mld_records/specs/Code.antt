@@ -1,7 +1,6 @@
 -- The codes in which MLDv2 carries its response delay (RFC 3810, section 5.1.3).
 use Rattle.std.specs.Prelude.{ℕ}
-use Rattle.group_records.specs.declared.family.Family.TheVariants.{V6}
-use Rattle.group_records.specs.Code.{code_value as value_in, code_of as code_in}
+use Rattle.group_records.specs.{declared.family.Family.TheVariants.{V6}, Code.{code_value as value_in, code_of as code_in}}
 
 -- what a code stands for
 abbrev pub code_value : ℕ → ℕ

@@ -1,10 +1,7 @@
 -- Membership queries of MLDv2 between two addresses (RFC 3810, section 5.1).
 use Rattle.std.specs.Prelude.{ℕ, List, length, Option, Result}
-use Rattle.source_filter.specs.declared.fault.ReportFault.{ReportFault}
-use Rattle.source_filter.specs.declared.query.QueryFields.{QueryFields}
-use Rattle.source_filter.specs.declared.query.QueryRead.{QueryRead}
-use Rattle.group_records.specs.declared.family.Family.TheVariants.{V6}
-use Rattle.group_records.specs.Query.{IsQuery, first_query_fault, general_query, query_of, written_query}
+use Rattle.source_filter.specs.declared.{fault.ReportFault.{ReportFault}, query.{QueryFields.{QueryFields}, QueryRead.{QueryRead}}}
+use Rattle.group_records.specs.{declared.family.Family.TheVariants.{V6}, Query.{IsQuery, first_query_fault, general_query, query_of, written_query}}
 use Rattle.mld_records.specs.PseudoHeader.{pseudo_header}
 
 -- a query of these values

@@ -1,11 +1,7 @@
 -- Membership reports of MLDv2 between two addresses (RFC 3810, section 5.2).
 use Rattle.std.specs.Prelude.{ℕ, List, length, All, Option, Result}
-use Rattle.source_filter.specs.declared.record.Record.{Record}
-use Rattle.source_filter.specs.declared.fault.ReportFault.{ReportFault}
-use Rattle.group_records.specs.declared.family.Family.TheVariants.{V6}
-use Rattle.group_records.specs.Report.{IsReport}
-use Rattle.group_records.specs.Reading.{AsksMemory, first_report_fault, report_of}
-use Rattle.group_records.specs.Written.{IsOfFamily, report_length, written_report}
+use Rattle.source_filter.specs.{declared.record.Record.{Record}, declared.fault.ReportFault.{ReportFault}}
+use Rattle.group_records.specs.{declared.family.Family.TheVariants.{V6}, Report.{IsReport}, Reading.{AsksMemory, first_report_fault, report_of}, Written.{IsOfFamily, report_length, written_report}}
 use Rattle.mld_records.specs.PseudoHeader.{pseudo_header}
 
 -- a report of these records

@@ -1,8 +1,7 @@
 //! Queries of MLDv2, both ways. It must not know their layout or IGMP.
 
 ghost use Rattle.std.specs.Prelude.{◌≡◌, ◌≤◌, length, IfOk, IfErr, Ok, Err, MatchResult, None, Some};
-ghost use Rattle.source_filter.specs.declared.query.QueryRead.{QueryRead as QueryReadValue};
-ghost use Rattle.source_filter.specs.declared.fault.ReportFault.{ReportFault as ReportFaultValue};
+ghost use Rattle.source_filter.specs.declared.{query.QueryRead.{QueryRead as QueryReadValue}, fault.ReportFault.{ReportFault as ReportFaultValue}};
 ghost use Rattle.group_records.specs.Query.{IsQueryFault};
 ghost use Rattle.mld_records.specs.Query.{first_query_fault6, query6_of, written_query6, IsGeneralQuery6, IsQuery6};
 

@@ -1,10 +1,7 @@
 //! Reports of MLDv2, both ways. It must not know their layout or IGMP.
 
 ghost use Rattle.std.specs.Prelude.{◌≡◌, ◌≤◌, List, length, IfOk, Ok, Err, MatchResult, None, Some};
-ghost use Rattle.source_filter.specs.Record.{item_count};
-ghost use Rattle.source_filter.specs.declared.record.Record.{Record as RecordValue};
-ghost use Rattle.source_filter.specs.declared.fault.ReadFault.TheVariants.{Memory};
-ghost use Rattle.source_filter.specs.declared.fault.ReportFault.{ReportFault as ReportFaultValue};
+ghost use Rattle.source_filter.specs.{Record.{item_count}, declared.record.Record.{Record as RecordValue}, declared.fault.{ReadFault.TheVariants.{Memory}, ReportFault.{ReportFault as ReportFaultValue}}};
 ghost use Rattle.amt_values.specs.Answer.{Tells};
 ghost use Rattle.group_records.specs.Reading.{GivesRecords, report_fault_in};
 ghost use Rattle.mld_records.specs.Report.{AreRecords6, AsksMemory6, IsReport6, first_report_fault6, report6_of, report_length6, written_report6};

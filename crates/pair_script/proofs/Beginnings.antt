@@ -1,20 +1,12 @@
 -- How a line begins that says something.
 use Rattle.std.proofs.Common.{◌≡◌, ℕ, List, [], ◌∷◌, Option, Some, None, refl, sym, ap, ◌∙◌}
-use Rattle.amt_script.specs.declared.setting.Setting.{Setting}
-use Rattle.amt_script.proofs.Says.{setting_is_fit}
+use Rattle.amt_script.{specs.declared.setting.Setting.{Setting}, proofs.Says.{setting_is_fit}}
 use Rattle.amt_pair.specs.declared.event.PairEvent.{PairEvent}
 use Rattle.amt_pair.specs.declared.event.PairEvent.TheVariants as events
-use Rattle.pair_script.specs.Opening.{IsFree, opening_word}
-use Rattle.pair_script.specs.Says.{SaysEventAfter, SaysItemAfter}
-use Rattle.pair_script.specs.Script.{SaysAfter}
-use Rattle.pair_script.specs.declared.opening.Opening.{Opening}
+use Rattle.pair_script.{specs.{Opening.{IsFree, opening_word}, Says.{SaysEventAfter, SaysItemAfter}, Script.{SaysAfter}, declared.{opening.Opening.{Opening}, script.{PairGateway.{PairGateway}, PairItem.{PairItem}}, statement.PairStatement.{PairStatement}}}, proofs.Openings.{one_opening, same_word}}
 use Rattle.pair_script.specs.declared.opening.Opening.TheVariants as openings
-use Rattle.pair_script.specs.declared.script.PairGateway.{PairGateway}
-use Rattle.pair_script.specs.declared.script.PairItem.{PairItem}
 use Rattle.pair_script.specs.declared.script.PairItem.TheVariants as items
-use Rattle.pair_script.specs.declared.statement.PairStatement.{PairStatement}
 use Rattle.pair_script.specs.declared.statement.PairStatement.TheVariants as statements
-use Rattle.pair_script.proofs.Openings.{one_opening, same_word}
 
 -- the line begins with this word, or with one that begins no line
 pub record IsOpened (opening : Opening) (line : List (List ℕ)) : Type 0 where

@@ -1,21 +1,10 @@
 -- How many datagrams are sent in the parts of an event.
-use Rattle.std.proofs.Common.{◌≡◌, ℕ, ◌+◌, Bool, true, List, [], ◌∷◌, ◌++◌, length, Option, Some, None, refl, sym, ap, ◌∙◌, arith}
-use Rattle.std.specs.List.{filter, flat_map, sum_by}
-use Rattle.std.proofs.lemmas.List.{length-append, length-map}
-use Rattle.std.proofs.lemmas.List.Sums.{sum_by-cons}
-use Rattle.gateway_machine.specs.Sends.{datagram_of}
-use Rattle.gateway_machine.specs.declared.event.GatewayEvent.{GatewayEvent}
-use Rattle.gateway_machine.specs.declared.event.GatewayEvent.TheVariants.{Moment as Passes}
-use Rattle.relay_machine.specs.Answers.{sends_of}
+use Rattle.std.{proofs.{Common.{◌≡◌, ℕ, ◌+◌, Bool, true, List, [], ◌∷◌, ◌++◌, length, Option, Some, None, refl, sym, ap, ◌∙◌, arith}, lemmas.List.{length-append, length-map, Sums.{sum_by-cons}}}, specs.List.{filter, flat_map, sum_by}}
+use Rattle.gateway_machine.specs.{Sends.{datagram_of}, declared.event.GatewayEvent.{GatewayEvent, TheVariants.{Moment as Passes}}}
+use Rattle.relay_machine.specs.{Answers.{sends_of}, declared.sends.OneSend.{OneSend}}
 use Rattle.relay_machine.specs.declared.event.Event.TheVariants as events
-use Rattle.relay_machine.specs.declared.sends.OneSend.{OneSend}
 use Rattle.amt_pair.specs.Parts.{down_parts, gateway_part, gateway_parts, or_absent, parts_of, up_parts}
-use Rattle.amt_pair.specs.Schedule.{Course, Member, Upward, answer_at, delivery_down, delivery_up, down_delivered, has_name, is_at, numbered, run_of_member, up_delivered, upwards_on, with_pair_event}
-use Rattle.amt_pair.specs.Sent.{sent_on}
-use Rattle.amt_pair.specs.Setup.{PairSetup}
-use Rattle.amt_pair.specs.declared.event.PairEvent.{PairEvent}
-use Rattle.amt_pair.specs.declared.event.PairEvent.TheVariants.{Down, Moment as MomentForAll, Packet as PacketComes, Rotate as SecretComes, Socket, Up}
-use Rattle.amt_pair.specs.declared.step.Part.{Part}
+use Rattle.amt_pair.specs.{Schedule.{Course, Member, Upward, answer_at, delivery_down, delivery_up, down_delivered, has_name, is_at, numbered, run_of_member, up_delivered, upwards_on, with_pair_event}, Sent.{sent_on}, Setup.{PairSetup}, declared.{event.PairEvent.{PairEvent, TheVariants.{Down, Moment as MomentForAll, Packet as PacketComes, Rotate as SecretComes, Socket, Up}}, step.Part.{Part}}}
 use Rattle.pair_script.specs.Texts.{downs_in, ups_in}
 
 -- as many as a gateway's part says

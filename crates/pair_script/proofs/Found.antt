@@ -1,14 +1,9 @@
 -- A gateway that a name finds is one of those that were given, and has the name.
-use Rattle.std.proofs.Common.{◌≡◌, ℕ, Bool, true, false, cond, List, [], ◌∷◌, map, Option, Some, refl, sym, subst, ap, ◌∙◌, arith}
-use Rattle.std.specs.List.{Contains}
-use Rattle.std.proofs.lemmas.List.Elements.{Contains-append_right}
-use Rattle.socket_merge.specs.History.{same_name}
-use Rattle.socket_merge.proofs.Amounts.{same_name-exact}
+use Rattle.std.{proofs.{Common.{◌≡◌, ℕ, Bool, true, false, cond, List, [], ◌∷◌, map, Option, Some, refl, sym, subst, ap, ◌∙◌, arith}, lemmas.List.Elements.{Contains-append_right}}, specs.List.{Contains}}
+use Rattle.socket_merge.{specs.History.{same_name}, proofs.Amounts.{same_name-exact}}
 use Rattle.relay_machine.specs.declared.settings.Settings.{Settings}
 use Rattle.amt_pair.specs.Setup.{Host}
-use Rattle.pair_script.specs.Gateways.{gateway_named}
-use Rattle.pair_script.specs.Setup.{host_of}
-use Rattle.pair_script.specs.declared.script.PairGateway.{PairGateway}
+use Rattle.pair_script.specs.{Gateways.{gateway_named}, Setup.{host_of}, declared.script.PairGateway.{PairGateway}}
 
 the_gateway : (one other : PairGateway) → Some one ≡ Some other → one ≡ other
 the_gateway one other same = cc

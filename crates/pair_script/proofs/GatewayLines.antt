@@ -1,23 +1,10 @@
 -- The first reason why a line gives no gateway.
-use Rattle.std.proofs.Common.{◌≡◌, ◌≢◌, ◌↔◌, ℕ, Bool, true, false, List, [], ◌∷◌, ◌==◌, length, IsTrue, Some, inl, inr, refl, sym, subst, ◌∙◌}
-use Rattle.std.proofs.lemmas.Bool.{eqb-true}
-use Rattle.std.proofs.lemmas.List.{nil_from_length}
-use Rattle.amt_values.specs.Text.{IsPeerText}
-use Rattle.amt_values.specs.declared.address.Ip.{Ip}
-use Rattle.amt_values.specs.declared.peer.Peer.{Peer}
-use Rattle.amt_values.proofs.Unique.{IsPeerText-unique}
-use Rattle.amt_values.specs.Conditions.{First}
+use Rattle.std.proofs.{Common.{◌≡◌, ◌≢◌, ◌↔◌, ℕ, Bool, true, false, List, [], ◌∷◌, ◌==◌, length, IsTrue, Some, inl, inr, refl, sym, subst, ◌∙◌}, lemmas.{Bool.{eqb-true}, List.{nil_from_length}}}
+use Rattle.amt_values.{specs.{Text.{IsPeerText}, declared.{address.Ip.{Ip}, peer.Peer.{Peer}}, Conditions.{First}}, proofs.Unique.{IsPeerText-unique}}
 use Rattle.group_records.specs.declared.family.Family.{Family}
-use Rattle.script_lines.specs.Form.{IsAddressText, IsFamilyText}
-use Rattle.script_lines.specs.Reading.{FailsFirst}
-use Rattle.script_lines.specs.declared.fault.LineError.{LineError}
-use Rattle.script_lines.specs.declared.fault.LineError.TheVariants.{Bad, Memory}
+use Rattle.script_lines.specs.{Form.{IsAddressText, IsFamilyText}, Reading.{FailsFirst}, declared.fault.LineError.{LineError, TheVariants.{Bad, Memory}}}
 use Rattle.script_lines.specs.declared.reason.Reason.TheVariants as reasons
-use Rattle.pair_script.specs.Fault.{FailsAsGateway, FailsToAdd, HasNoFamily, IsGivenTwice, RepeatsPeer, order_of_reasons, order_of_values}
-use Rattle.pair_script.specs.Gateways.{is_peer_given}
-use Rattle.pair_script.specs.Opening.{IsGatewayName}
-use Rattle.pair_script.specs.declared.script.PairGateway.{PairGateway}
-use Rattle.pair_script.specs.declared.script.PairItem.{PairItem}
+use Rattle.pair_script.specs.{Fault.{FailsAsGateway, FailsToAdd, HasNoFamily, IsGivenTwice, RepeatsPeer, order_of_reasons, order_of_values}, Gateways.{is_peer_given}, Opening.{IsGatewayName}, declared.script.{PairGateway.{PairGateway}, PairItem.{PairItem}}}
 
 pub peer_repeated : (gateways : List PairGateway) (values rest : List (List ℕ)) (text : List ℕ) (peer : Peer) (given : Bool) → values ≡ text ∷ rest → IsPeerText peer text
     → given ≡ is_peer_given gateways peer → IsTrue given ↔ RepeatsPeer gateways values

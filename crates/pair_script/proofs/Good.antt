@@ -1,39 +1,20 @@
 -- Nothing is wrong with a line that says something.
 use Rattle.std.proofs.Common.{◌≡◌, ℕ, true, is_some, List, [], ◌∷◌, codes, Option, Some, None, IsSome, inl, inr, refl, sym, subst, ap, ◌∙◌}
 use Rattle.amt_values.proofs.Unique.{IsPeerText-unique}
-use Rattle.amt_script.specs.Row.{key_word}
-use Rattle.amt_script.specs.Says.{SaysSetting}
-use Rattle.amt_script.specs.Script.{MaySet}
-use Rattle.amt_script.specs.SetLine.{FailsInKey, FailsToSet}
-use Rattle.amt_script.specs.Setting.{key_of, set_at}
+use Rattle.amt_script.{specs.{Row.{key_word}, Says.{SaysSetting}, Script.{MaySet}, SetLine.{FailsInKey, FailsToSet}, Setting.{key_of, set_at}, declared.setting.Setting.{Setting}}, proofs.{Judging.{fails_as, twice_at}, Says.{setting_is_fit}}}
 use Rattle.amt_script.specs.declared.kind.Kind.TheVariants as kinds
-use Rattle.amt_script.specs.declared.setting.Setting.{Setting}
-use Rattle.amt_script.proofs.Judging.{fails_as, twice_at}
-use Rattle.amt_script.proofs.Says.{setting_is_fit}
-use Rattle.gateway_machine.specs.Answers.{call_in}
-use Rattle.gateway_machine.specs.declared.event.GatewayEvent.{GatewayEvent}
+use Rattle.gateway_machine.specs.{Answers.{call_in}, declared.event.GatewayEvent.{GatewayEvent}}
 use Rattle.gateway_machine.specs.declared.event.GatewayEvent.TheVariants as gateway_events
-use Rattle.gateway_script.specs.Says.{SaysEvent}
-use Rattle.gateway_script.proofs.Fields.{family_fits}
-use Rattle.gateway_script.proofs.SocketCalls.{call_is_good}
+use Rattle.gateway_script.{specs.Says.{SaysEvent}, proofs.{Fields.{family_fits}, SocketCalls.{call_is_good}}}
 use Rattle.group_records.specs.declared.family.Family.{Family}
-use Rattle.script_lines.specs.Form.{a_moment, a_secret, some_octets}
-use Rattle.script_lines.specs.declared.reason.Reason.{Reason}
+use Rattle.script_lines.{specs.{Form.{a_moment, a_secret, some_octets}, declared.reason.Reason.{Reason}}, proofs.Forms.{moment_fits, none_fits, octets_fit, one_fits, secret_fits}}
 use Rattle.script_lines.specs.declared.reason.Reason.TheVariants as reasons
-use Rattle.script_lines.proofs.Forms.{moment_fits, none_fits, octets_fit, one_fits, secret_fits}
 use Rattle.amt_pair.specs.declared.event.PairEvent.{PairEvent}
 use Rattle.amt_pair.specs.declared.event.PairEvent.TheVariants as events
-use Rattle.pair_script.specs.Fault.{FailsAfter, FailsAsGateway, FailsToAdd, FailsToCall}
-use Rattle.pair_script.specs.Gateways.{family_of, gateway_named, is_peer_given}
-use Rattle.pair_script.specs.Says.{SaysEventAfter, SaysGateway, SaysItemAfter}
-use Rattle.pair_script.specs.Script.{MayAdd, SaysAfter}
+use Rattle.pair_script.{specs.{Fault.{FailsAfter, FailsAsGateway, FailsToAdd, FailsToCall}, Gateways.{family_of, gateway_named, is_peer_given}, Says.{SaysEventAfter, SaysGateway, SaysItemAfter}, Script.{MayAdd, SaysAfter}, declared.{script.{PairGateway.{PairGateway}, PairItem.{PairItem}}, statement.PairStatement.{PairStatement}}}, proofs.Judging.{named_fails, opened_fails}}
 use Rattle.pair_script.specs.declared.opening.Opening.TheVariants as openings
-use Rattle.pair_script.specs.declared.script.PairGateway.{PairGateway}
-use Rattle.pair_script.specs.declared.script.PairItem.{PairItem}
 use Rattle.pair_script.specs.declared.script.PairItem.TheVariants as items
-use Rattle.pair_script.specs.declared.statement.PairStatement.{PairStatement}
 use Rattle.pair_script.specs.declared.statement.PairStatement.TheVariants as statements
-use Rattle.pair_script.proofs.Judging.{named_fails, opened_fails}
 
 some_and_none : {X : Type 0} → (o : Option X) → o ≡ None → IsSome o → ⊥
 some_and_none None none some = cc some

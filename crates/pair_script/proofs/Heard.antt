@@ -1,17 +1,8 @@
 -- What has been said, one line more.
-use Rattle.std.proofs.Common.{◌≡◌, ℕ, List, [], ◌∷◌, ◌++◌, refl, sym, ap, subst, ◌∙◌, append-nil}
-use Rattle.std.specs.List.{AllByRecursion}
-use Rattle.std.proofs.lemmas.List.Elements.{filter_map-append}
-use Rattle.amt_script.specs.Reading.{IsAllowed}
-use Rattle.amt_script.specs.declared.setting.Setting.{Setting}
-use Rattle.script_lines.specs.Reading.{FailsFirst}
-use Rattle.script_lines.specs.declared.fault.LineError.{LineError}
-use Rattle.pair_script.specs.Fault.{FailsAfter, order_of_reasons}
-use Rattle.pair_script.specs.Reading.{AreThose}
-use Rattle.pair_script.specs.Script.{SaysAfter, gateway_in, gateways_in, item_in, items_in, setting_in, settings_in}
-use Rattle.pair_script.specs.declared.script.PairGateway.{PairGateway}
-use Rattle.pair_script.specs.declared.script.PairItem.{PairItem}
-use Rattle.pair_script.specs.declared.statement.PairStatement.{PairStatement}
+use Rattle.std.{proofs.{Common.{◌≡◌, ℕ, List, [], ◌∷◌, ◌++◌, refl, sym, ap, subst, ◌∙◌, append-nil}, lemmas.List.Elements.{filter_map-append}}, specs.List.{AllByRecursion}}
+use Rattle.amt_script.specs.{Reading.{IsAllowed}, declared.setting.Setting.{Setting}}
+use Rattle.script_lines.specs.{Reading.{FailsFirst}, declared.fault.LineError.{LineError}}
+use Rattle.pair_script.specs.{Fault.{FailsAfter, order_of_reasons}, Reading.{AreThose}, Script.{SaysAfter, gateway_in, gateways_in, item_in, items_in, setting_in, settings_in}, declared.{script.{PairGateway.{PairGateway}, PairItem.{PairItem}}, statement.PairStatement.{PairStatement}}}
 use Rattle.pair_script.specs.declared.statement.PairStatement.TheVariants as statements
 
 -- what a line says after these settings, gateways and items, it says after the statements that they are of

@@ -1,21 +1,10 @@
 -- The first reason why a line is bad, by its first word.
-use Rattle.std.proofs.Common.{◌≡◌, ◌↔◌, ℕ, List, [], ◌∷◌, Option, None, Some, inl, refl, sym, subst, ap, ◌∙◌}
-use Rattle.std.specs.List.{AllByRecursion}
+use Rattle.std.{proofs.Common.{◌≡◌, ◌↔◌, ℕ, List, [], ◌∷◌, Option, None, Some, inl, refl, sym, subst, ap, ◌∙◌}, specs.List.{AllByRecursion}}
 use Rattle.amt_script.specs.declared.setting.Setting.{Setting}
 use Rattle.amt_values.specs.Conditions.{First}
-use Rattle.script_lines.specs.Reading.{FailsFirst}
-use Rattle.script_lines.specs.declared.fault.LineError.{LineError}
-use Rattle.script_lines.specs.declared.fault.LineError.TheVariants.{Bad, Memory}
-use Rattle.script_lines.specs.declared.reason.Reason.{Reason}
+use Rattle.script_lines.{specs.{Reading.{FailsFirst}, declared.{fault.LineError.{LineError, TheVariants.{Bad, Memory}}, reason.Reason.{Reason}}}, proofs.Firsts.{First-same}}
 use Rattle.script_lines.specs.declared.reason.Reason.TheVariants as reasons
-use Rattle.script_lines.proofs.Firsts.{First-same}
-use Rattle.pair_script.specs.Fault.{FailsAfter, FailsAfterOpening, FailsToCall, of_call, of_none, of_opening, order_of_reasons}
-use Rattle.pair_script.specs.Gateways.{family_of, gateway_named}
-use Rattle.pair_script.specs.Opening.{IsFree, opening_word}
-use Rattle.pair_script.specs.declared.opening.Opening.{Opening}
-use Rattle.pair_script.specs.declared.script.PairGateway.{PairGateway}
-use Rattle.pair_script.specs.declared.script.PairItem.{PairItem}
-use Rattle.pair_script.proofs.Openings.{one_opening, same_values, same_word}
+use Rattle.pair_script.{specs.{Fault.{FailsAfter, FailsAfterOpening, FailsToCall, of_call, of_none, of_opening, order_of_reasons}, Gateways.{family_of, gateway_named}, Opening.{IsFree, opening_word}, declared.{opening.Opening.{Opening}, script.{PairGateway.{PairGateway}, PairItem.{PairItem}}}}, proofs.Openings.{one_opening, same_values, same_word}}
 
 -- what is wrong with a line after a word that begins lines is what is wrong with the fields after the word
 pub opened_fails : (given : List Setting) (gateways : List PairGateway) (items : List PairItem) (opening : Opening) (values line : List (List ℕ)) (reason : Reason)

@@ -2,11 +2,7 @@
 use Rattle.std.proofs.Common.{◌≡◌, List, sym, ◌∙◌}
 use Rattle.amt_script.proofs.Settlings.{settled_values, wrong_at_end}
 use Rattle.script_lines.specs.Kind.{IsLawfulKind}
-use Rattle.pair_script.specs.Script.{MakesPairScript, gateways_in, items_in, pair_kind, settings_in}
-use Rattle.pair_script.specs.declared.script.PairScript.{PairScript}
-use Rattle.pair_script.specs.declared.statement.PairStatement.{PairStatement}
-use Rattle.pair_script.proofs.Good.{no_statement}
-use Rattle.pair_script.proofs.Unique.{one_statement}
+use Rattle.pair_script.{specs.{Script.{MakesPairScript, gateways_in, items_in, pair_kind, settings_in}, declared.{script.PairScript.{PairScript}, statement.PairStatement.{PairStatement}}}, proofs.{Good.{no_statement}, Unique.{one_statement}}}
 
 same_script : (one other : PairScript) → one.settings ≡ other.settings → one.secret ≡ other.secret → one.gateways ≡ other.gateways → one.items ≡ other.items → one ≡ other
 same_script one other same_settings same_secret same_gateways same_items =

@@ -1,7 +1,6 @@
 -- Words that begin lines are apart.
 use Rattle.std.proofs.Common.{◌≡◌, ℕ, ◌+◌, ◌*◌, ◌==◌, List, ◌∷◌, length, get_or, if◌then◌else◌, refl, sym, ap, ◌∙◌}
-use Rattle.pair_script.specs.Opening.{opening_word}
-use Rattle.pair_script.specs.declared.opening.Opening.{Opening}
+use Rattle.pair_script.specs.{Opening.{opening_word}, declared.opening.Opening.{Opening}}
 use Rattle.pair_script.specs.declared.opening.Opening.TheVariants as openings
 
 -- a number that tells the words apart: the first octet, and the length

@@ -1,22 +1,11 @@
 -- The first reason of a line, where more reasons are tried that the line never has.
 use Rattle.std.proofs.Common.{◌≡◌, ◌≢◌, ℕ, List, [], ◌∷◌, ◌++◌, length, None, Option, Some, inl, inr, refl, sym, subst}
 use Rattle.amt_values.specs.Conditions.{First}
-use Rattle.amt_script.specs.Fault.{order_of_values as relay_order_of_values, order_of_reasons as relay_order_of_reasons}
-use Rattle.amt_script.specs.SetLine.{FailsToSet}
-use Rattle.amt_script.specs.Row.{form_of_key}
-use Rattle.amt_script.specs.declared.kind.Key.{Key}
+use Rattle.amt_script.specs.{Fault.{order_of_values as relay_order_of_values, order_of_reasons as relay_order_of_reasons}, SetLine.{FailsToSet}, Row.{form_of_key}, declared.{kind.Key.{Key}, setting.Setting.{Setting}}}
 use Rattle.amt_script.specs.declared.kind.Key.TheVariants as keys
-use Rattle.amt_script.specs.declared.setting.Setting.{Setting}
-use Rattle.gateway_script.specs.Fault.{order_of_values as gateway_order_of_values}
-use Rattle.gateway_script.specs.Row.{shape_of}
-use Rattle.gateway_script.specs.SocketLine.{FailsAsCall}
+use Rattle.gateway_script.specs.{Fault.{order_of_values as gateway_order_of_values}, Row.{shape_of}, SocketLine.{FailsAsCall}}
 use Rattle.group_records.specs.declared.family.Family.{Family}
-use Rattle.script_lines.specs.Form.{Fails, Form, a_family, a_group, a_mode, a_moment, a_name, a_nonce, a_number, a_peer, a_secret, an_address, an_address4, an_address6, an_address_of, some_octets}
-use Rattle.script_lines.specs.Reading.{FailsFirst}
-use Rattle.script_lines.specs.Shape.{FailsIn, SomeFails}
-use Rattle.script_lines.specs.declared.fault.LineError.{LineError}
-use Rattle.script_lines.specs.declared.fault.LineError.TheVariants.{Bad, Memory}
-use Rattle.script_lines.specs.declared.reason.Reason.{Reason}
+use Rattle.script_lines.specs.{Form.{Fails, Form, a_family, a_group, a_mode, a_moment, a_name, a_nonce, a_number, a_peer, a_secret, an_address, an_address4, an_address6, an_address_of, some_octets}, Reading.{FailsFirst}, Shape.{FailsIn, SomeFails}, declared.{fault.LineError.{LineError, TheVariants.{Bad, Memory}}, reason.Reason.{Reason}}}
 use Rattle.script_lines.specs.declared.reason.Reason.TheVariants as reasons
 use Rattle.pair_script.specs.Fault.{FailsAsNumber, FailsToCall, order_of_reasons, order_of_values}
 
@@ -228,15 +217,3 @@ number_counted values count =
         inr (one_never a_moment values reasons.Twice (λ text h. h), inl (count, refl)),
       ),
     )
-
-pub bad_number : (values : List (List ℕ)) (text : List ℕ) → values ≡ text ∷ [] → Fails a_moment text reasons.Number
-    → First (FailsAsNumber values) order_of_reasons reasons.Number
-bad_number values text parts fails =
-    subst (λ (vs : List (List ℕ)). First (FailsAsNumber vs) order_of_reasons reasons.Number) (sym parts)
-    (inr (
-      one_never a_moment (text ∷ []) reasons.Word (λ t h. h),
-      inr (
-        one_never a_moment (text ∷ []) reasons.Late (λ t h. h),
-        inr (one_never a_moment (text ∷ []) reasons.Twice (λ t h. h), inr (λ other. other refl, inl (inl fails, refl))),
-      ),
-    ))

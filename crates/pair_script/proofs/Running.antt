@@ -1,32 +1,15 @@
 -- A script that some octets spell can be run.
-use Rattle.std.proofs.Common.{ℕ, ◌≤◌, not, List, [], ◌∷◌, ◌++◌, length, map, Some, refl, sym, subst, ap, append_assoc, arith}
-use Rattle.std.specs.List.{AllByRecursion, Contains}
-use Rattle.std.specs.Str.Lines.{lines}
-use Rattle.std.proofs.lemmas.List.{map-append}
-use Rattle.std.proofs.lemmas.List.Elements.{All-filter, All-from_recursion, Contains-append_left, filter_map-append, recursion_from_All}
+use Rattle.std.{proofs.{Common.{ℕ, ◌≤◌, not, List, [], ◌∷◌, ◌++◌, length, map, Some, refl, sym, subst, ap, append_assoc, arith}, lemmas.List.{map-append, Elements.{All-filter, All-from_recursion, Contains-append_left, filter_map-append, recursion_from_All}}}, specs.{List.{AllByRecursion, Contains}, Str.Lines.{lines}}}
 use Rattle.gateway_machine.specs.declared.event.GatewayEvent.{GatewayEvent}
 use Rattle.gateway_script.proofs.Running.{event_by_line, event_of_one_family, few_fields}
 use Rattle.relay_machine.specs.declared.settings.Settings.{Settings}
-use Rattle.script_lines.specs.Lines.{IsShort, fields, lines_that_say, says_nothing}
-use Rattle.script_lines.specs.Script.{Say}
-use Rattle.script_lines.proofs.Forms.{hex_sized}
-use Rattle.amt_pair.specs.Schedule.{MayCome}
-use Rattle.amt_pair.specs.Setup.{Host}
-use Rattle.amt_pair.specs.declared.event.PairEvent.{PairEvent}
+use Rattle.script_lines.{specs.{Lines.{IsShort, fields, lines_that_say, says_nothing}, Script.{Say}}, proofs.Forms.{hex_sized}}
+use Rattle.amt_pair.specs.{Schedule.{MayCome}, Setup.{Host}, declared.event.PairEvent.{PairEvent}}
 use Rattle.amt_pair.specs.declared.event.PairEvent.TheVariants as events
-use Rattle.pair_script.specs.Gateways.{family_of}
-use Rattle.pair_script.specs.Running.{CanBeAdded, IsItem, IsRunnable}
-use Rattle.pair_script.specs.Says.{SaysCall, SaysEventAfter, SaysItemAfter}
-use Rattle.pair_script.specs.Script.{IsPairScript, gateway_in, gateways_in, items_in, pair_kind}
-use Rattle.pair_script.specs.Setup.{host_of}
-use Rattle.pair_script.specs.declared.script.PairGateway.{PairGateway}
-use Rattle.pair_script.specs.declared.script.PairItem.{PairItem}
+use Rattle.pair_script.specs.{Gateways.{family_of}, Running.{CanBeAdded, IsItem, IsRunnable}, Says.{SaysCall, SaysEventAfter, SaysItemAfter}, Script.{IsPairScript, gateway_in, gateways_in, items_in, pair_kind}, Setup.{host_of}}
+use Rattle.pair_script.{specs.declared.{script.{PairGateway.{PairGateway}, PairItem.{PairItem}, PairScript.{PairScript}}, statement.PairStatement.{PairStatement}}, proofs.{Found.{found_among, found_has_name}, Heard.{gateways_same}}}
 use Rattle.pair_script.specs.declared.script.PairItem.TheVariants as items
-use Rattle.pair_script.specs.declared.script.PairScript.{PairScript}
-use Rattle.pair_script.specs.declared.statement.PairStatement.{PairStatement}
 use Rattle.pair_script.specs.declared.statement.PairStatement.TheVariants as statements
-use Rattle.pair_script.proofs.Found.{found_among, found_has_name}
-use Rattle.pair_script.proofs.Heard.{gateways_same}
 
 -- each gateway that lines give can be added
 can_be_added : (past said : List PairStatement) (ls : List (List ℕ)) → Say pair_kind past said ls → CanBeAdded (gateways_in past) (gateways_in said)

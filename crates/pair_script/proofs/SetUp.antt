@@ -1,18 +1,12 @@
 -- The gateways of a script, added one by one.
-use Rattle.std.proofs.Common.{◌≡◌, ◌<◌, ℕ, ◌+◌, ◌||◌, zero, suc, Bool, true, false, cond, List, [], ◌∷◌, ◌++◌, length, map, take, get_or, Option, Some, None, refl, sym, subst, ap, ◌∙◌, append-nil, append_assoc, arith}
-use Rattle.std.proofs.lemmas.List.{map-append, take_more}
+use Rattle.std.proofs.{Common.{◌≡◌, ◌<◌, ℕ, ◌+◌, ◌||◌, zero, suc, Bool, true, false, cond, List, [], ◌∷◌, ◌++◌, length, map, take, get_or, Option, Some, None, refl, sym, subst, ap, ◌∙◌, append-nil, append_assoc, arith}, lemmas.List.{map-append, take_more}}
 use Rattle.gateway_machine.specs.Answers.{same_peer}
 use Rattle.group_records.specs.Written.{is_of_family}
 use Rattle.relay_machine.specs.declared.settings.Settings.{Settings}
 use Rattle.response_mac.specs.declared.secret.Secret.{Secret}
 use Rattle.socket_merge.specs.History.{same_name}
-use Rattle.amt_pair.specs.Setup.{Host, PairSetup, has_taken, settings_of_host}
-use Rattle.amt_pair.specs.State.{PairAt}
-use Rattle.amt_pair.specs.declared.pair.Pair.{Pair}
-use Rattle.pair_script.specs.Gateways.{IsNew, family_of, gateway_named, is_peer_given}
-use Rattle.pair_script.specs.Running.{CanBeAdded}
-use Rattle.pair_script.specs.Setup.{host_of}
-use Rattle.pair_script.specs.declared.script.PairGateway.{PairGateway}
+use Rattle.amt_pair.specs.{Setup.{Host, PairSetup, has_taken, settings_of_host}, State.{PairAt}, declared.pair.Pair.{Pair}}
+use Rattle.pair_script.specs.{Gateways.{IsNew, family_of, gateway_named, is_peer_given}, Running.{CanBeAdded}, Setup.{host_of}, declared.script.PairGateway.{PairGateway}}
 
 -- what may be added next is new, and its reports go out from an address of its family
 pub record IsAddable (before : List PairGateway) (gateway : PairGateway) : Type 0 where

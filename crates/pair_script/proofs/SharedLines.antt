@@ -1,12 +1,8 @@
 -- No line that begins with another word says a datagram.
 use Rattle.std.proofs.Common.{◌≡◌, ℕ, List, [], ◌∷◌, ◌++◌, get_or, refl, ap, arith}
 use Rattle.relay_machine.specs.declared.event.Event.TheVariants.{Datagram, Moment, Packet, Rotate}
-use Rattle.amt_script.specs.Row.{words_of}
-use Rattle.amt_script.specs.Says.{SaysItem}
-use Rattle.amt_script.specs.declared.kind.Kind.{Kind}
+use Rattle.amt_script.specs.{Row.{words_of}, Says.{SaysItem}, declared.{kind.Kind.{Kind}, script.RelayItem.{RelayItem, TheVariants.{Event, Show}}}}
 use Rattle.amt_script.specs.declared.kind.Kind.TheVariants as kinds
-use Rattle.amt_script.specs.declared.script.RelayItem.{RelayItem}
-use Rattle.amt_script.specs.declared.script.RelayItem.TheVariants.{Event, Show}
 use Rattle.pair_script.specs.Reading.{IsSharedItem}
 
 -- the first octet of the first word

@@ -1,24 +1,9 @@
 -- A pair after one more event.
-use Rattle.std.proofs.Common.{◌≡◌, ℕ, ◌+◌, List, [], ◌∷◌, ◌++◌, length, Result, Ok, Err, OnOk, sym, subst, ap, ◌∙◌, append-nil, arith}
-use Rattle.std.specs.List.{sum_by}
-use Rattle.std.proofs.lemmas.List.{length-map}
-use Rattle.std.proofs.lemmas.List.Elements.{filter_map-append}
+use Rattle.std.{proofs.{Common.{◌≡◌, ℕ, ◌+◌, List, [], ◌∷◌, ◌++◌, length, Result, Ok, Err, OnOk, sym, subst, ap, ◌∙◌, append-nil, arith}, lemmas.List.{length-map, Elements.{filter_map-append}}}, specs.List.{sum_by}}
 use Rattle.relay_machine.specs.declared.sends.OneSend.{OneSend}
-use Rattle.amt_pair.specs.Members.{kept_upward}
-use Rattle.amt_pair.specs.Parts.{parts_of}
-use Rattle.amt_pair.specs.Schedule.{Course, MayCome, course_of, with_pair_event}
-use Rattle.amt_pair.specs.Setup.{Host, PairSetup}
-use Rattle.amt_pair.specs.State.{PairAt, StandsFor, hosts_of, sent_down, sent_up}
-use Rattle.amt_pair.specs.declared.datagrams.UpDatagram.{UpDatagram}
-use Rattle.amt_pair.specs.declared.event.PairEvent.{PairEvent}
-use Rattle.amt_pair.specs.declared.pair.Pair.{Pair}
-use Rattle.amt_pair.specs.declared.step.Part.{Part}
-use Rattle.amt_pair.proofs.Courses.{course_of-more, course_of-none, pair_hosts}
-use Rattle.pair_script.specs.Running.{IsPairAfter}
-use Rattle.pair_script.specs.Texts.{downs_in, event_in, event_text, events_in, parts_text, ups_in}
-use Rattle.pair_script.specs.declared.script.PairItem.{PairItem}
+use Rattle.amt_pair.{specs.{Members.{kept_upward}, Parts.{parts_of}, Schedule.{Course, MayCome, course_of, with_pair_event}, Setup.{Host, PairSetup}, State.{PairAt, StandsFor, hosts_of, sent_down, sent_up}, declared.{datagrams.UpDatagram.{UpDatagram}, event.PairEvent.{PairEvent}, pair.Pair.{Pair}, step.Part.{Part}}}, proofs.Courses.{course_of-more, course_of-none, pair_hosts}}
+use Rattle.pair_script.{specs.{Running.{IsPairAfter}, Texts.{downs_in, event_in, event_text, events_in, parts_text, ups_in}, declared.script.PairItem.{PairItem}}, proofs.Counts.{downs_counted, ups_counted}}
 use Rattle.pair_script.specs.declared.script.PairItem.TheVariants as items
-use Rattle.pair_script.proofs.Counts.{downs_counted, ups_counted}
 
 -- what was sent to the relay, by the course
 pub up_at : (pair : Pair) (setup : PairSetup) (course : Course) → StandsFor pair setup course → sent_up pair ≡ length course.up

@@ -1,8 +1,5 @@
 -- The text of one more datagram, and of one more part.
-use Rattle.std.proofs.Common.{◌≡◌, ◌<◌, ℕ, ◌+◌, List, [], ◌∷◌, ◌++◌, length, get_or, take, zero, suc, codes, refl, sym, ap, ◌∙◌, append-nil, append_assoc, arith}
-use Rattle.std.specs.List.{sum_by}
-use Rattle.std.proofs.lemmas.List.{take_more}
-use Rattle.std.proofs.lemmas.List.Sums.{sum_by-cons}
+use Rattle.std.{proofs.{Common.{◌≡◌, ◌<◌, ℕ, ◌+◌, List, [], ◌∷◌, ◌++◌, length, get_or, take, zero, suc, codes, refl, sym, ap, ◌∙◌, append-nil, append_assoc, arith}, lemmas.List.{take_more, Sums.{sum_by-cons}}}, specs.List.{sum_by}}
 use Rattle.amt_values.specs.Endpoint.{peer_of}
 use Rattle.gateway_machine.specs.declared.step.PeerSend.{PeerSend}
 use Rattle.relay_machine.specs.declared.sends.OneSend.{OneSend}

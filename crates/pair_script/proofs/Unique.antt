@@ -1,33 +1,21 @@
 -- A line says one thing.
 use Rattle.std.proofs.Common.{◌≡◌, ℕ, Bool, true, false, List, Some, refl, sym, subst, ap, ◌∙◌}
-use Rattle.amt_values.specs.Text.{IsPeerText}
-use Rattle.amt_values.proofs.Unique.{IsPeerText-unique}
+use Rattle.amt_values.{specs.Text.{IsPeerText}, proofs.Unique.{IsPeerText-unique}}
 use Rattle.amt_script.specs.declared.script.RelayItem.TheVariants as relay_items
-use Rattle.amt_script.specs.declared.setting.Setting.{Setting}
-use Rattle.amt_script.proofs.Unique.{SaysItem-unique, SaysSetting-unique}
+use Rattle.amt_script.{specs.declared.setting.Setting.{Setting}, proofs.Unique.{SaysItem-unique, SaysSetting-unique}}
 use Rattle.gateway_machine.specs.declared.event.GatewayEvent.{GatewayEvent}
-use Rattle.gateway_script.specs.Says.{SaysEvent}
-use Rattle.gateway_script.proofs.Fields.{IsAddressText-unique, IsFamilyText-unique}
-use Rattle.gateway_script.proofs.Unique.{SaysEvent-unique}
+use Rattle.gateway_script.{specs.Says.{SaysEvent}, proofs.{Fields.{IsAddressText-unique, IsFamilyText-unique}, Unique.{SaysEvent-unique}}}
 use Rattle.group_records.specs.declared.family.Family.{Family}
 use Rattle.relay_machine.specs.declared.event.Event.TheVariants as relay_events
 use Rattle.response_mac.specs.declared.secret.Secret.{Secret}
-use Rattle.script_lines.specs.Form.{IsAddressText, IsFamilyText, IsMomentText}
-use Rattle.script_lines.proofs.Forms.{IsMomentText-unique, one_field}
+use Rattle.script_lines.{specs.Form.{IsAddressText, IsFamilyText, IsMomentText}, proofs.Forms.{IsMomentText-unique, one_field}}
 use Rattle.socket_merge.specs.FullReport.{family_by}
 use Rattle.amt_pair.specs.declared.event.PairEvent.{PairEvent}
 use Rattle.amt_pair.specs.declared.event.PairEvent.TheVariants as events
-use Rattle.pair_script.specs.Gateways.{family_of, gateway_named}
-use Rattle.pair_script.specs.Says.{SaysCall, SaysEventAfter, SaysGateway, SaysItemAfter}
-use Rattle.pair_script.specs.Script.{SaysAfter}
-use Rattle.pair_script.specs.declared.script.PairGateway.{PairGateway}
-use Rattle.pair_script.specs.declared.script.PairItem.{PairItem}
+use Rattle.pair_script.specs.{Gateways.{family_of, gateway_named}, Says.{SaysCall, SaysEventAfter, SaysGateway, SaysItemAfter}, Script.{SaysAfter}, declared.script.{PairGateway.{PairGateway}, PairItem.{PairItem}}}
+use Rattle.pair_script.{specs.declared.statement.PairStatement.{PairStatement}, proofs.{Beginnings.{opening_of_event, opening_of_item, opening_of_statement, same_beginning, statement_begins}, Judging.{same_gateway}, Openings.{same_values, same_word}}}
 use Rattle.pair_script.specs.declared.script.PairItem.TheVariants as items
-use Rattle.pair_script.specs.declared.statement.PairStatement.{PairStatement}
 use Rattle.pair_script.specs.declared.statement.PairStatement.TheVariants as statements
-use Rattle.pair_script.proofs.Beginnings.{opening_of_event, opening_of_item, opening_of_statement, same_beginning, statement_begins}
-use Rattle.pair_script.proofs.Judging.{same_gateway}
-use Rattle.pair_script.proofs.Openings.{same_values, same_word}
 
 same_family : (one other : Bool) → family_by one ≡ family_by other → one ≡ other
 same_family true true same = refl

@@ -1,23 +1,14 @@
 -- What is wrong with a line of a pair's script.
 use Rattle.std.specs.Prelude.{◌≡◌, ◌≢◌, ℕ, ◌⊎◌, true, List, [], ◌∷◌, length, IsSome, None, Some}
-use Rattle.amt_values.specs.Text.{IsPeerText}
-use Rattle.amt_values.specs.declared.peer.Peer.{Peer}
-use Rattle.amt_script.specs.Fault.{FailsAs as RelayFails}
-use Rattle.amt_script.specs.SetLine.{FailsToSet}
+use Rattle.amt_values.specs.{Text.{IsPeerText}, declared.peer.Peer.{Peer}}
+use Rattle.amt_script.specs.{Fault.{FailsAs as RelayFails}, SetLine.{FailsToSet}, declared.setting.Setting.{Setting}}
 use Rattle.amt_script.specs.declared.kind.Kind.TheVariants as kinds
-use Rattle.amt_script.specs.declared.setting.Setting.{Setting}
 use Rattle.gateway_script.specs.SocketLine.{FailsAsCall}
 use Rattle.group_records.specs.declared.family.Family.{Family}
-use Rattle.script_lines.specs.Form.{Fails, IsFamilyText, a_family, a_moment, a_peer, an_address_of}
-use Rattle.script_lines.specs.Shape.{FailsIn}
-use Rattle.script_lines.specs.declared.reason.Reason.{Reason}
+use Rattle.script_lines.specs.{Form.{Fails, IsFamilyText, a_family, a_moment, a_peer, an_address_of}, Shape.{FailsIn}, declared.reason.Reason.{Reason}}
 use Rattle.script_lines.specs.declared.reason.Reason.TheVariants as reasons
-use Rattle.pair_script.specs.Gateways.{family_of, gateway_named, is_peer_given}
-use Rattle.pair_script.specs.Opening.{IsFree, IsGatewayName, opening_word}
-use Rattle.pair_script.specs.declared.opening.Opening.{Opening}
+use Rattle.pair_script.specs.{Gateways.{family_of, gateway_named, is_peer_given}, Opening.{IsFree, IsGatewayName, opening_word}, declared.{opening.Opening.{Opening}, script.{PairGateway.{PairGateway}, PairItem.{PairItem}}}}
 use Rattle.pair_script.specs.declared.opening.Opening.TheVariants as openings
-use Rattle.pair_script.specs.declared.script.PairGateway.{PairGateway}
-use Rattle.pair_script.specs.declared.script.PairItem.{PairItem}
 
 -- the reasons for which the fields after a line's first word fail
 abbrev pub order_of_values : List Reason

@@ -1,11 +1,9 @@
 -- The gateways that lines have given.
-use Rattle.std.specs.Prelude.{◌≡◌, ℕ, Bool, false, List, Option, None, find}
-use Rattle.std.specs.List.{list_any}
+use Rattle.std.specs.{Prelude.{◌≡◌, ℕ, Bool, false, List, Option, None, find}, List.{list_any}}
 use Rattle.amt_values.specs.declared.peer.Peer.{Peer}
 use Rattle.gateway_machine.specs.Answers.{same_peer}
 use Rattle.group_records.specs.declared.family.Family.{Family}
-use Rattle.socket_merge.specs.FullReport.{family_by}
-use Rattle.socket_merge.specs.History.{same_name}
+use Rattle.socket_merge.specs.{FullReport.{family_by}, History.{same_name}}
 use Rattle.pair_script.specs.declared.script.PairGateway.{PairGateway}
 
 -- the family of a gateway

@@ -1,18 +1,10 @@
 -- What the reader's own answers say.
-use Rattle.std.specs.Prelude.{◌≡◌, ℕ, List, []}
-use Rattle.std.specs.List.{AllByRecursion}
-use Rattle.amt_script.specs.Reading.{IsAllowed}
-use Rattle.amt_script.specs.declared.script.RelayItem.{RelayItem}
+use Rattle.std.specs.{Prelude.{◌≡◌, ℕ, List, []}, List.{AllByRecursion}}
+use Rattle.amt_script.specs.{Reading.{IsAllowed}, declared.{script.RelayItem.{RelayItem}, setting.Setting.{Setting}}}
 use Rattle.amt_script.specs.declared.script.RelayItem.TheVariants as relay_items
-use Rattle.amt_script.specs.declared.setting.Setting.{Setting}
-use Rattle.relay_machine.specs.declared.event.Event.{Event}
-use Rattle.relay_machine.specs.declared.event.Event.TheVariants.{Datagram, Moment, Packet, Rotate}
-use Rattle.script_lines.specs.Form.{IsMomentText}
-use Rattle.script_lines.specs.Shape.{HasField}
-use Rattle.pair_script.specs.Script.{gateways_in, items_in, settings_in}
-use Rattle.pair_script.specs.declared.script.PairGateway.{PairGateway}
-use Rattle.pair_script.specs.declared.script.PairItem.{PairItem}
-use Rattle.pair_script.specs.declared.statement.PairStatement.{PairStatement}
+use Rattle.relay_machine.specs.declared.event.Event.{Event, TheVariants.{Datagram, Moment, Packet, Rotate}}
+use Rattle.script_lines.specs.{Form.{IsMomentText}, Shape.{HasField}}
+use Rattle.pair_script.specs.{Script.{gateways_in, items_in, settings_in}, declared.{script.{PairGateway.{PairGateway}, PairItem.{PairItem}}, statement.PairStatement.{PairStatement}}}
 
 -- these are the settings, gateways and items among the statements
 pub record AreThose (given : List Setting) (gateways : List PairGateway) (items : List PairItem) (said : List PairStatement) : Type 0 where

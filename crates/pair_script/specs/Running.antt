@@ -1,20 +1,9 @@
 -- Runs of a pair over a script, and which scripts it can be run over.
-use Rattle.std.specs.Prelude.{◌≡◌, ℕ, true, List, [], ◌∷◌, ◌++◌}
-use Rattle.std.specs.List.{AllByRecursion}
+use Rattle.std.specs.{Prelude.{◌≡◌, ℕ, true, List, [], ◌∷◌, ◌++◌}, List.{AllByRecursion}}
 use Rattle.group_records.specs.Written.{is_of_family}
 use Rattle.relay_machine.specs.Settings.{AreLawfulSettings}
-use Rattle.amt_pair.specs.Schedule.{MayCome, course_of}
-use Rattle.amt_pair.specs.Setup.{Host, PairSetup}
-use Rattle.amt_pair.specs.State.{StandsFor, sent_down, sent_up}
-use Rattle.amt_pair.specs.declared.event.PairEvent.{PairEvent}
-use Rattle.amt_pair.specs.declared.pair.Pair.{Pair}
-use Rattle.pair_script.specs.Gateways.{IsNew, family_of}
-use Rattle.pair_script.specs.Texts.{events_in}
-use Rattle.pair_script.specs.Setup.{setup_of}
-use Rattle.pair_script.specs.declared.script.PairGateway.{PairGateway}
-use Rattle.pair_script.specs.declared.script.PairItem.{PairItem}
-use Rattle.pair_script.specs.declared.script.PairItem.TheVariants.{Event, Show}
-use Rattle.pair_script.specs.declared.script.PairScript.{PairScript}
+use Rattle.amt_pair.specs.{Schedule.{MayCome, course_of}, Setup.{Host, PairSetup}, State.{StandsFor, sent_down, sent_up}, declared.{event.PairEvent.{PairEvent}, pair.Pair.{Pair}}}
+use Rattle.pair_script.specs.{Gateways.{IsNew, family_of}, Texts.{events_in}, Setup.{setup_of}, declared.script.{PairGateway.{PairGateway}, PairItem.{PairItem, TheVariants.{Event, Show}}, PairScript.{PairScript}}}
 
 -- each gateway can be added after those before it: it has a name and a peer of its own, and its reports go
 -- out from an address of its family

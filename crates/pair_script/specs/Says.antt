@@ -3,19 +3,14 @@ use Rattle.std.specs.Prelude.{◌≡◌, ℕ, true, is_some, List, [], ◌∷◌
 use Rattle.amt_values.specs.Text.{IsPeerText}
 use Rattle.amt_script.specs.Says.{SaysItem as RelaySays}
 use Rattle.amt_script.specs.declared.script.RelayItem.TheVariants as relay_items
-use Rattle.gateway_machine.specs.Answers.{call_in}
-use Rattle.gateway_machine.specs.declared.event.GatewayEvent.{GatewayEvent}
+use Rattle.gateway_machine.specs.{Answers.{call_in}, declared.event.GatewayEvent.{GatewayEvent}}
 use Rattle.gateway_script.specs.Says.{SaysEvent}
 use Rattle.relay_machine.specs.declared.event.Event.TheVariants as relay_events
-use Rattle.script_lines.specs.Form.{IsAddressText, IsFamilyText, IsMomentText}
-use Rattle.script_lines.specs.Shape.{HasField}
+use Rattle.script_lines.specs.{Form.{IsAddressText, IsFamilyText, IsMomentText}, Shape.{HasField}}
 use Rattle.amt_pair.specs.declared.event.PairEvent.{PairEvent}
 use Rattle.amt_pair.specs.declared.event.PairEvent.TheVariants as events
-use Rattle.pair_script.specs.Gateways.{family_of, gateway_named}
-use Rattle.pair_script.specs.Opening.{IsFree, IsGatewayName, opening_word}
+use Rattle.pair_script.specs.{Gateways.{family_of, gateway_named}, Opening.{IsFree, IsGatewayName, opening_word}, declared.script.{PairGateway.{PairGateway}, PairItem.{PairItem}}}
 use Rattle.pair_script.specs.declared.opening.Opening.TheVariants as openings
-use Rattle.pair_script.specs.declared.script.PairGateway.{PairGateway}
-use Rattle.pair_script.specs.declared.script.PairItem.{PairItem}
 use Rattle.pair_script.specs.declared.script.PairItem.TheVariants as items
 
 -- a line `gateway NAME PEER FAMILY SOURCE` of these fields gives the gateway

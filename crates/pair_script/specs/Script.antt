@@ -1,22 +1,9 @@
 -- Scripts of a pair, as a kind of script.
-use Rattle.std.specs.Prelude.{◌≡◌, ℕ, List, [], ◌∷◌, Option, Some, None}
-use Rattle.std.specs.List.{filter_map}
-use Rattle.amt_script.specs.Fault.{FailsAtEnd}
-use Rattle.amt_script.specs.Says.{SaysSetting}
-use Rattle.amt_script.specs.Script.{MaySet}
-use Rattle.amt_script.specs.Settling.{Settles}
-use Rattle.amt_script.specs.declared.setting.Setting.{Setting}
+use Rattle.std.specs.{Prelude.{◌≡◌, ℕ, List, [], ◌∷◌, Option, Some, None}, List.{filter_map}}
+use Rattle.amt_script.specs.{Fault.{FailsAtEnd}, Says.{SaysSetting}, Script.{MaySet}, Settling.{Settles}, declared.setting.Setting.{Setting}}
 use Rattle.relay_machine.specs.Settings.{AreLawfulSettings}
-use Rattle.script_lines.specs.Kind.{Kind}
-use Rattle.script_lines.specs.Script.{Spells}
-use Rattle.script_lines.specs.declared.reason.Reason.TheVariants.{Missing, Range}
-use Rattle.pair_script.specs.Fault.{FailsAfter, order_of_reasons}
-use Rattle.pair_script.specs.Gateways.{IsNew}
-use Rattle.pair_script.specs.Says.{SaysGateway, SaysItemAfter}
-use Rattle.pair_script.specs.declared.script.PairGateway.{PairGateway}
-use Rattle.pair_script.specs.declared.script.PairItem.{PairItem}
-use Rattle.pair_script.specs.declared.script.PairScript.{PairScript}
-use Rattle.pair_script.specs.declared.statement.PairStatement.{PairStatement}
+use Rattle.script_lines.specs.{Kind.{Kind}, Script.{Spells}, declared.reason.Reason.TheVariants.{Missing, Range}}
+use Rattle.pair_script.specs.{Fault.{FailsAfter, order_of_reasons}, Gateways.{IsNew}, Says.{SaysGateway, SaysItemAfter}, declared.{script.{PairGateway.{PairGateway}, PairItem.{PairItem}, PairScript.{PairScript}}, statement.PairStatement.{PairStatement}}}
 use Rattle.pair_script.specs.declared.statement.PairStatement.TheVariants as statements
 
 -- the setting that a statement is, if it is one

@@ -2,8 +2,7 @@
 use Rattle.std.specs.Prelude.{map}
 use Rattle.relay_machine.specs.declared.settings.Settings.{Settings}
 use Rattle.amt_pair.specs.Setup.{Host, PairSetup, settings_of_host}
-use Rattle.pair_script.specs.declared.script.PairGateway.{PairGateway}
-use Rattle.pair_script.specs.declared.script.PairScript.{PairScript}
+use Rattle.pair_script.specs.declared.script.{PairGateway.{PairGateway}, PairScript.{PairScript}}
 
 -- a gateway of a script, at a relay of these settings
 abbrev pub host_of : Settings → PairGateway → Host

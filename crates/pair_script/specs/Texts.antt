@@ -1,26 +1,14 @@
 -- What is written of the steps of a pair.
-use Rattle.std.specs.Prelude.{ℕ, ◌+◌, List, [], ◌∷◌, ◌++◌, length, codes, decimal, Option, Some, None}
-use Rattle.std.specs.List.{filter_map}
-use Rattle.amt_values.specs.Endpoint.{peer_of}
-use Rattle.amt_values.specs.Text.{peer_text}
-use Rattle.amt_values.specs.declared.peer.Peer.{Peer}
+use Rattle.std.specs.{Prelude.{ℕ, ◌+◌, List, [], ◌∷◌, ◌++◌, length, codes, decimal, Option, Some, None}, List.{filter_map}}
+use Rattle.amt_values.specs.{Endpoint.{peer_of}, Text.{peer_text}, declared.peer.Peer.{Peer}}
 use Rattle.amt_script.specs.Texts.{outcome_text as relay_outcome_text, rows_text}
 use Rattle.gateway_machine.specs.declared.step.PeerSend.{PeerSend}
 use Rattle.gateway_script.specs.Texts.{delivery_text, outcome_text as gateway_outcome_text}
-use Rattle.relay_machine.specs.Answers.{rows_after}
-use Rattle.relay_machine.specs.declared.sends.OneSend.{OneSend}
-use Rattle.script_lines.specs.Running.{script_text}
-use Rattle.script_lines.specs.Texts.{hex_text}
-use Rattle.amt_pair.specs.Parts.{parts_of}
-use Rattle.amt_pair.specs.Schedule.{Course, course_of}
-use Rattle.amt_pair.specs.Setup.{PairSetup}
-use Rattle.amt_pair.specs.declared.event.PairEvent.{PairEvent}
-use Rattle.amt_pair.specs.declared.step.Part.{Part}
-use Rattle.amt_pair.specs.declared.step.Part.TheVariants.{Absent, Gateway, Relay}
-use Rattle.pair_script.specs.Setup.{setup_of}
-use Rattle.pair_script.specs.declared.script.PairItem.{PairItem}
+use Rattle.relay_machine.specs.{Answers.{rows_after}, declared.sends.OneSend.{OneSend}}
+use Rattle.script_lines.specs.{Running.{script_text}, Texts.{hex_text}}
+use Rattle.amt_pair.specs.{Parts.{parts_of}, Schedule.{Course, course_of}, Setup.{PairSetup}, declared.{event.PairEvent.{PairEvent}, step.Part.{Part, TheVariants.{Absent, Gateway, Relay}}}}
+use Rattle.pair_script.specs.{Setup.{setup_of}, declared.script.{PairItem.{PairItem}, PairScript.{PairScript}}}
 use Rattle.pair_script.specs.declared.script.PairItem.TheVariants as items
-use Rattle.pair_script.specs.declared.script.PairScript.{PairScript}
 
 -- `= N WHO OUTCOME`
 abbrev pub part_line : ℕ → List ℕ → List ℕ → List ℕ

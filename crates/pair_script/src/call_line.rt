@@ -2,12 +2,8 @@
 
 ghost use Rattle.std.specs.Prelude.{◌≤◌, ◌∷◌, List, length, IfOk, IfErr};
 ghost use Rattle.amt_script.specs.declared.setting.Setting.{Setting as SettingValue};
-ghost use Rattle.script_lines.specs.Lines.{fields};
-ghost use Rattle.script_lines.specs.Reading.{FailsFirst};
-ghost use Rattle.pair_script.specs.Fault.{FailsAfter, order_of_reasons};
-ghost use Rattle.pair_script.specs.Opening.{IsFree};
-ghost use Rattle.pair_script.specs.Says.{SaysEventAfter};
-ghost use Rattle.pair_script.specs.declared.script.PairItem.{PairItem as ItemValue};
+ghost use Rattle.script_lines.specs.{Lines.{fields}, Reading.{FailsFirst}};
+ghost use Rattle.pair_script.specs.{Fault.{FailsAfter, order_of_reasons}, Opening.{IsFree}, Says.{SaysEventAfter}, declared.script.PairItem.{PairItem as ItemValue}};
 
 use crate::given::{family_of, gateway_named};
 use crate::script::PairGateway;

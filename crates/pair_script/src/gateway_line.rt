@@ -2,12 +2,8 @@
 
 ghost use Rattle.std.specs.Prelude.{◌≡◌, ◌≢◌, ◌↔◌, ◌∷◌, [], IsTrue, Some, length, codes, IfOk, IfErr, IfSome, IfNone};
 ghost use Rattle.amt_values.specs.Conditions.{First};
-ghost use Rattle.script_lines.specs.Lines.{fields};
-ghost use Rattle.script_lines.specs.Reading.{FailsFirst};
-ghost use Rattle.script_lines.specs.Form.{IsAddressText, IsFamilyText};
-ghost use Rattle.pair_script.specs.Fault.{FailsAsGateway, FailsToAdd, HasNoFamily, IsGivenTwice, RepeatsPeer, order_of_reasons, order_of_values};
-ghost use Rattle.pair_script.specs.Says.{SaysGateway};
-ghost use Rattle.pair_script.specs.Script.{MayAdd};
+ghost use Rattle.script_lines.specs.{Lines.{fields}, Reading.{FailsFirst}, Form.{IsAddressText, IsFamilyText}};
+ghost use Rattle.pair_script.specs.{Fault.{FailsAsGateway, FailsToAdd, HasNoFamily, IsGivenTwice, RepeatsPeer, order_of_reasons, order_of_values}, Says.{SaysGateway}, Script.{MayAdd}};
 
 use crate::given::{gateway_named, is_peer_given};
 use crate::opening::is_gateway_name;

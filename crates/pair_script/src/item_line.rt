@@ -3,19 +3,12 @@
 
 ghost use Rattle.std.specs.Prelude.{◌∷◌, ℕ, List, IfOk, IfErr};
 ghost use Rattle.amt_values.specs.Conditions.{First};
-ghost use Rattle.amt_script.specs.Fault.{FailsAs as RelayFails};
-ghost use Rattle.amt_script.specs.Says.{SaysItem as RelaySays};
+ghost use Rattle.amt_script.specs.{Fault.{FailsAs as RelayFails}, Says.{SaysItem as RelaySays}};
 ghost use Rattle.amt_script.specs.declared.kind.Kind.TheVariants as kinds;
-ghost use Rattle.script_lines.specs.Form.{IsMomentText};
-ghost use Rattle.script_lines.specs.Lines.{fields};
-ghost use Rattle.script_lines.specs.Reading.{FailsFirst};
-ghost use Rattle.pair_script.specs.Fault.{FailsAsNumber, order_of_reasons};
-ghost use Rattle.pair_script.specs.Opening.{opening_word};
+ghost use Rattle.script_lines.specs.{Form.{IsMomentText}, Lines.{fields}, Reading.{FailsFirst}};
+ghost use Rattle.pair_script.specs.{Fault.{FailsAsNumber, order_of_reasons}, Opening.{opening_word}, Reading.{IsNoDatagram, IsNumberOf, IsSharedItem}, Says.{SaysEventAfter, SaysItemAfter}, declared.script.PairGateway.{PairGateway as GatewayValue}};
 ghost use Rattle.amt_script.specs.declared.script.RelayItem.TheVariants as relay_items;
-ghost use Rattle.pair_script.specs.Reading.{IsNoDatagram, IsNumberOf, IsSharedItem};
-ghost use Rattle.pair_script.specs.Says.{SaysEventAfter, SaysItemAfter};
 ghost use Rattle.pair_script.specs.declared.opening.Opening.TheVariants as openings;
-ghost use Rattle.pair_script.specs.declared.script.PairGateway.{PairGateway as GatewayValue};
 
 use crate::script::PairItem;
 use amt_pair::PairEvent;

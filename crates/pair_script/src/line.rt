@@ -1,11 +1,8 @@
 //! What a line of a pair's script says after the lines before it. It knows no text.
 
 ghost use Rattle.std.specs.Prelude.{◌≡◌, ◌≤◌, ◌∷◌, length, IfOk, IfErr};
-ghost use Rattle.script_lines.specs.Lines.{fields};
-ghost use Rattle.script_lines.specs.Reading.{FailsFirst};
-ghost use Rattle.pair_script.specs.Fault.{FailsAfter, FailsAfterOpening, order_of_reasons};
-ghost use Rattle.pair_script.specs.Opening.{opening_word};
-ghost use Rattle.pair_script.specs.Script.{SaysAfter};
+ghost use Rattle.script_lines.specs.{Lines.{fields}, Reading.{FailsFirst}};
+ghost use Rattle.pair_script.specs.{Fault.{FailsAfter, FailsAfterOpening, order_of_reasons}, Opening.{opening_word}, Script.{SaysAfter}};
 
 use crate::call_line::read_call;
 use crate::gateway_line::read_gateway_line;

@@ -1,8 +1,7 @@
 //! The words that begin the lines of a pair's script, besides the names of gateways. It reads no value.
 
 ghost use Rattle.std.specs.Prelude.{◌≡◌, ◌≢◌, ◌↔◌, IsTrue, IfSome, IfNone};
-ghost use Rattle.pair_script.specs.Opening.{IsGatewayName, opening_word};
-ghost use Rattle.pair_script.specs.declared.opening.Opening.{Opening as OpeningValue};
+ghost use Rattle.pair_script.specs.{Opening.{IsGatewayName, opening_word}, declared.opening.Opening.{Opening as OpeningValue}};
 
 use script_lines::is_name;
 

@@ -2,8 +2,7 @@
 
 ghost use Rattle.std.specs.Prelude.{◌≤◌, length, IfOk, IfErr};
 ghost use Rattle.script_lines.specs.Script.{IsErrorOf, RulesOutScripts, HasOneScript, HasOneFault};
-ghost use Rattle.pair_script.specs.Running.{IsRunnable};
-ghost use Rattle.pair_script.specs.Script.{IsPairScript, pair_kind};
+ghost use Rattle.pair_script.specs.{Running.{IsRunnable}, Script.{IsPairScript, pair_kind}};
 
 use crate::line::read_statement;
 use crate::script::{PairGateways, PairItems, PairScript};
@@ -21,8 +20,7 @@ struct PairLines {
 }
 
 impl ScriptKind for PairLines {
-    ghost use Rattle.pair_script.specs.Reading.{AreThose};
-    ghost use Rattle.pair_script.specs.declared.statement.PairStatement.{PairStatement as StatementValue};
+    ghost use Rattle.pair_script.specs.{Reading.{AreThose}, declared.statement.PairStatement.{PairStatement as StatementValue}};
 
     type Script = PairScript;
 

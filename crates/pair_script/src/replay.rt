@@ -1,19 +1,12 @@
 //! A pair's run over a script, and what is written of it. It knows sinks by their trait alone.
 
-ghost use Rattle.std.specs.Prelude.{◌≡◌, ◌≤◌, [], ◌∷◌, ◌++◌, IfOk, OnOk, OnErr, IsErrOf};
-ghost use Rattle.std.specs.Io.KnownBytes.{Appends};
+ghost use Rattle.std.specs.{Prelude.{◌≡◌, ◌≤◌, [], ◌∷◌, ◌++◌, IfOk, OnOk, OnErr, IsErrOf}, Io.KnownBytes.{Appends}};
 ghost use Rattle.amt_ports.specs.Causes.{Rose};
-ghost use Rattle.script_lines.specs.Counting.{CountsWrites};
-ghost use Rattle.script_lines.specs.Writing.{WritesPrefix, WritesUpTo};
-ghost use Rattle.amt_pair.specs.Schedule.{course_of};
-ghost use Rattle.amt_pair.specs.State.{ForCourse, PairAt};
+ghost use Rattle.script_lines.specs.{Counting.{CountsWrites}, Writing.{WritesPrefix, WritesUpTo}};
+ghost use Rattle.amt_pair.specs.{Schedule.{course_of}, State.{ForCourse, PairAt}};
 ghost use Rattle.amt_script.specs.Texts.{rows_text};
-ghost use Rattle.relay_machine.specs.Answers.{rows_after};
-ghost use Rattle.relay_machine.specs.Settings.{AreLawfulSettings};
-ghost use Rattle.pair_script.specs.Running.{AfterItems, CanBeAdded, CanTake, IsPairAfter, IsRunnable};
-ghost use Rattle.pair_script.specs.Setup.{setup_of};
-ghost use Rattle.pair_script.specs.Texts.{event_text, events_in, pair_script_text};
-ghost use Rattle.pair_script.specs.declared.script.PairItem.TheVariants.{Event as EventItem};
+ghost use Rattle.relay_machine.specs.{Answers.{rows_after}, Settings.{AreLawfulSettings}};
+ghost use Rattle.pair_script.specs.{Running.{AfterItems, CanBeAdded, CanTake, IsPairAfter, IsRunnable}, Setup.{setup_of}, Texts.{event_text, events_in, pair_script_text}, declared.script.PairItem.TheVariants.{Event as EventItem}};
 
 use crate::script::{PairItem, PairScript};
 use crate::text::append_parts;
@@ -34,9 +27,7 @@ struct PairRun {
 
 impl PairRun {
     ghost use Rattle.amt_pair.specs.Schedule.{course_of};
-    ghost use Rattle.pair_script.specs.Running.{AfterItems, CanTake, IsPairAfter};
-    ghost use Rattle.pair_script.specs.Texts.{event_text, events_in};
-    ghost use Rattle.pair_script.specs.declared.script.PairItem.TheVariants.{Event as EventItem};
+    ghost use Rattle.pair_script.specs.{Running.{AfterItems, CanTake, IsPairAfter}, Texts.{event_text, events_in}, declared.script.PairItem.TheVariants.{Event as EventItem}};
 
     // Takes one event, and puts its text after what is held. Where memory runs out on the way of a moment,
     // there is no text of it.
@@ -126,8 +117,7 @@ fn write_shown<O: Sink>(
 
 impl ScriptRun for PairRun {
     ghost use Rattle.amt_pair.specs.Setup.{PairSetup};
-    ghost use Rattle.pair_script.specs.Running.{IsItem, IsPairAfter};
-    ghost use Rattle.pair_script.specs.Texts.{item_text};
+    ghost use Rattle.pair_script.specs.{Running.{IsItem, IsPairAfter}, Texts.{item_text}};
 
     type Item = PairItem;
 

@@ -1,9 +1,7 @@
 //! Calls that no script shows: what a gateway is about and what it wants. It must not know how they are made.
 
 ghost use Rattle.std.specs.Prelude.{◌≡◌, ◌≤◌, false, length, IfOk};
-ghost use Rattle.gateway_machine.specs.Events.{IsEventOf};
-ghost use Rattle.gateway_machine.specs.Runs.{settings_of};
-ghost use Rattle.gateway_machine.specs.declared.settings.GatewaySettings.{GatewaySettings as SettingsValue};
+ghost use Rattle.gateway_machine.specs.{Events.{IsEventOf}, Runs.{settings_of}, declared.settings.GatewaySettings.{GatewaySettings as SettingsValue}};
 
 use amt_values::{Bytes, Ip, Moment, Peer};
 use gateway_machine::{Gateway, GatewayEvent, GatewaySettings, GatewayState};

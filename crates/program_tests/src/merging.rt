@@ -2,8 +2,7 @@
 //! sockets that it was made of. It must not know scripts.
 
 ghost use Rattle.std.specs.Prelude.{◌≡◌, true, All};
-ghost use Rattle.group_records.specs.Written.{is_of_family};
-ghost use Rattle.group_records.specs.declared.family.Family.TheVariants.{V4};
+ghost use Rattle.group_records.specs.{Written.{is_of_family}, declared.family.Family.TheVariants.{V4}};
 
 use Mode::{Exclude, Include};
 use amt_values::{Ip, Moment, forwardable};

@@ -1,15 +1,8 @@
 -- Lists that begin with others, and logs that are of one history.
-use Rattle.std.proofs.Common.{◌≡◌, ◌⊎◌, ℕ, ◌≤◌, inl, inr, zero, suc, List, [], ◌∷◌, ◌++◌, length, take, drop, map, refl, sym, ap, subst, ◌∙◌, arith}
-use Rattle.std.proofs.Math.Seq.{take-append_seam, drop-append_seam, take-length}
-use Rattle.std.proofs.lemmas.List.{append-nil, append_assoc, length-append, map-append, take-append-drop}
-use Rattle.std.proofs.lemmas.List.Elements.{All-cons, All-drop, All-push, All-take}
-use Rattle.std.specs.Prelude.{slice_index_or}
+use Rattle.std.{proofs.{Common.{◌≡◌, ◌⊎◌, ℕ, ◌≤◌, inl, inr, zero, suc, List, [], ◌∷◌, ◌++◌, length, take, drop, map, refl, sym, ap, subst, ◌∙◌, arith}, Math.Seq.{take-append_seam, drop-append_seam, take-length}, lemmas.List.{append-nil, append_assoc, length-append, map-append, take-append-drop, Elements.{All-cons, All-drop, All-push, All-take}}}, specs.Prelude.{slice_index_or}}
 use mathlib.Core.List.{IsPrefix}
 use Rattle.endpoint_membership.specs.declared.change.Change.{Change}
-use Rattle.published_table.specs.History.{AreUnder, IsUnder}
-use Rattle.published_table.specs.Lists.{BeginsWith, BeginsWithEach}
-use Rattle.published_table.specs.Logs.{entries}
-use Rattle.published_table.specs.declared.past.Past.{Past}
+use Rattle.published_table.specs.{History.{AreUnder, IsUnder}, Lists.{BeginsWith, BeginsWithEach}, Logs.{entries}, declared.past.Past.{Past}}
 
 module _ {X : Type 0} where
   pub begins_by : (xs ys rest : List X) → xs ≡ ys ++ rest → BeginsWith xs ys

@@ -1,6 +1,5 @@
 -- What holds of a result or an option in each case.
-use Rattle.std.proofs.Common.{◌≡◌, ℕ, ◌≤◌, false, IfOk, MatchResult, Result, Ok, Err, is_err, sym, subst, arith}
-use Rattle.std.specs.Prelude.{MatchOption, Option, Some, None, OnSome}
+use Rattle.std.{proofs.Common.{◌≡◌, ℕ, ◌≤◌, false, IfOk, MatchResult, Result, Ok, Err, is_err, sym, subst, arith}, specs.Prelude.{MatchOption, Option, Some, None, OnSome}}
 
 pub ok_case : {X E A : Type 0} (B : E → Type 0) (result : Result X E) → MatchResult result (λ _. A) B → is_err result ≡ false → A
 ok_case B (Ok x) one fine = one

@@ -1,16 +1,7 @@
 -- Logs that fit throughout, and the copies that stand for them.
-use Rattle.std.proofs.Common.{◌≤◌, List, [], ◌∷◌, ◌++◌, length, sym, subst, inl, inr}
-use Rattle.std.proofs.Math.Logic.{∥∥₁_elim}
-use Rattle.std.proofs.Math.Seq.{take-length}
-use Rattle.std.proofs.Props.{props}
-use Rattle.endpoint_membership.specs.Limits.{IsWithin, live_count}
-use Rattle.endpoint_membership.specs.declared.change.Change.{Change}
-use Rattle.endpoint_membership.proofs.HoldsAfter.{rows_now}
-use Rattle.published_table.specs.Copies.{log_of}
-use Rattle.published_table.specs.Terms.{Fits, FitsThroughout, settings_by}
-use Rattle.published_table.specs.declared.table_copy.TableCopy.{TableCopy}
-use Rattle.published_table.specs.declared.terms.Terms.{Terms}
-use Rattle.published_table.proofs.Beginnings.{take_last}
+use Rattle.std.proofs.{Common.{◌≤◌, List, [], ◌∷◌, ◌++◌, length, sym, subst, inl, inr}, Math.{Logic.{∥∥₁_elim}, Seq.{take-length}}, Props.{props}}
+use Rattle.endpoint_membership.{specs.{Limits.{IsWithin, live_count}, declared.change.Change.{Change}}, proofs.HoldsAfter.{rows_now}}
+use Rattle.published_table.{specs.{Copies.{log_of}, Terms.{Fits, FitsThroughout, settings_by}, declared.{table_copy.TableCopy.{TableCopy}, terms.Terms.{Terms}}}, proofs.Beginnings.{take_last}}
 
 -- one more entry with which the log fits
 pub FitsThroughout-next : (terms : Terms) (log : List Change) (change : Change) → FitsThroughout terms log → Fits terms (log ++ change ∷ []) → FitsThroughout terms (log ++ change ∷ [])

@@ -1,16 +1,10 @@
 -- The exchange that adds a log to the history keeps its rule.
-use Rattle.std.proofs.Common.{◌≡◌, ℕ, ◌+◌, ◌<◌, ◌==◌, Bool, true, false, List, [], ◌∷◌, ◌++◌, length, map, refl, ap, sym, subst, arith, inl, None}
-use Rattle.std.proofs.lemmas.List.{append-nil, length-append, map-append}
-use Rattle.std.proofs.lemmas.Bool.Decides.{nat_tests}
+use Rattle.std.proofs.{Common.{◌≡◌, ℕ, ◌+◌, ◌<◌, ◌==◌, Bool, true, false, List, [], ◌∷◌, ◌++◌, length, map, refl, ap, sym, subst, arith, inl, None}, lemmas.{List.{append-nil, length-append, map-append}, Bool.Decides.{nat_tests}}}
 use mathlib.Core.List.{IsPrefix}
 use prog.Atomic.{either}
 use Rattle.logbook.specs.Pages.{Cell, Goes, Moves, cell, keeps, no_nib, step}
 use Rattle.endpoint_membership.specs.declared.change.Change.{Change}
-use Rattle.published_table.specs.History.{Adds, IsKept}
-use Rattle.published_table.specs.Lists.{BeginsWithEach}
-use Rattle.published_table.specs.Logs.{entries}
-use Rattle.published_table.specs.declared.past.Past.{Past}
-use Rattle.published_table.proofs.Beginnings.{begins_itself, each_push, prefix_whole}
+use Rattle.published_table.{specs.{History.{Adds, IsKept}, Lists.{BeginsWithEach}, Logs.{entries}, declared.past.Past.{Past}}, proofs.Beginnings.{begins_itself, each_push, prefix_whole}}
 
 abbrev pub shown : List Past → List Past
 shown logs = []

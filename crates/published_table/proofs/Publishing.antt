@@ -1,28 +1,11 @@
 -- What holds of a publisher, said of plain values, and what each part of a publishing makes of it.
-use Rattle.std.proofs.Common.{◌≡◌, ℕ, ◌<◌, ◌^◌, List, [], ◌∷◌, ◌++◌, fold, length, map, MatchResult, Result, Ok, Err, refl, sym, ap, subst, ◌∙◌, arith}
-use Rattle.std.proofs.lemmas.List.{append-nil}
-use Rattle.std.proofs.lemmas.List.Elements.{All-nil}
+use Rattle.std.proofs.{Common.{◌≡◌, ℕ, ◌<◌, ◌^◌, List, [], ◌∷◌, ◌++◌, fold, length, map, MatchResult, Result, Ok, Err, refl, sym, ap, subst, ◌∙◌, arith}, lemmas.List.{append-nil, Elements.{All-nil}}}
 use mathlib.Core.List.{IsPrefix}
 use Rattle.crossbeam_utils.specs.Register.{TurnsAt}
 use Rattle.logbook.specs.Pages.{Book}
 use Rattle.endpoint_membership.specs.declared.change.Change.{Change}
-use Rattle.published_table.specs.Copies.{log_of, origin_of, state_of}
-use Rattle.published_table.specs.Entries.{IsVouched, changes, with_entry}
-use Rattle.published_table.specs.History.{IsUnder}
-use Rattle.published_table.specs.Lists.{BeginsWith, BeginsWithEach}
-use Rattle.published_table.specs.Logs.{entries}
-use Rattle.published_table.specs.Rule.{HasSeen, TableRule}
-use Rattle.published_table.specs.Terms.{FitsThroughout}
-use Rattle.published_table.specs.declared.entry.CopyState.{CopyState}
-use Rattle.published_table.specs.declared.entry.Entry.{Entry}
-use Rattle.published_table.specs.declared.history.Bookmark.{Bookmark}
-use Rattle.published_table.specs.declared.past.Past.{Past, Empty}
-use Rattle.published_table.specs.declared.rule.Known.{Known}
-use Rattle.published_table.specs.declared.table_copy.TableCopy.{TableCopy}
-use Rattle.published_table.specs.declared.terms.Terms.{Terms}
-use Rattle.published_table.proofs.Beginnings.{IsUnder-later, begins_by, begins_itself}
-use Rattle.published_table.proofs.RuleKept.{Seen, steps}
-use Rattle.published_table.proofs.Vouching.{log_after, terms_after}
+use Rattle.published_table.specs.{Copies.{log_of, origin_of, state_of}, Entries.{IsVouched, changes, with_entry}, History.{IsUnder}, Lists.{BeginsWith, BeginsWithEach}, Logs.{entries}, Rule.{HasSeen, TableRule}, Terms.{FitsThroughout}, declared.entry.{CopyState.{CopyState}, Entry.{Entry}}}
+use Rattle.published_table.{specs.declared.{history.Bookmark.{Bookmark}, past.Past.{Past, Empty}, rule.Known.{Known}, table_copy.TableCopy.{TableCopy}, terms.Terms.{Terms}}, proofs.{Beginnings.{IsUnder-later, begins_by, begins_itself}, RuleKept.{Seen, steps}, Vouching.{log_after, terms_after}}}
 
 -- the ghost fields of a publisher
 pub record IsPublisher (known : Known) (shown : TableCopy) (pending : List Entry) (taken : List Change) (owed : ℕ) (whole : Past) (bookmark : Bookmark) (terms : Terms) : Type 0 where

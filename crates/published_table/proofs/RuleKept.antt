@@ -5,15 +5,7 @@ use lib.ListN.{get_elem?}
 use Rattle.crossbeam_utils.specs.Register.{Admits, Forks, Merges, TurnsAt}
 use Rattle.atomic_table.proofs.Lists.{at_set, at_snoc}
 use Rattle.logbook.specs.Pages.{Book}
-use Rattle.published_table.specs.Copies.{log_of, origin_of}
-use Rattle.published_table.specs.History.{IsUnder}
-use Rattle.published_table.specs.Lists.{AreAll, BeginsWith}
-use Rattle.published_table.specs.Rule.{EachKnows, HasSeen, Knows, TableRule, greeted, newcomer}
-use Rattle.published_table.specs.Terms.{FitsThroughout}
-use Rattle.published_table.specs.declared.rule.Known.{Known}
-use Rattle.published_table.specs.declared.table_copy.TableCopy.{TableCopy}
-use Rattle.published_table.specs.declared.terms.Terms.{Terms}
-use Rattle.published_table.proofs.Beginnings.{begins_further, begins_itself}
+use Rattle.published_table.{specs.{Copies.{log_of, origin_of}, History.{IsUnder}, Lists.{AreAll, BeginsWith}, Rule.{EachKnows, HasSeen, Knows, TableRule, greeted, newcomer}, Terms.{FitsThroughout}, declared.{rule.Known.{Known}, table_copy.TableCopy.{TableCopy}, terms.Terms.{Terms}}}, proofs.Beginnings.{begins_further, begins_itself}}
 
 abbrev pub Seen : Known → TableCopy → TableCopy → Known → Type 0
 Seen before old copy after = HasSeen before copy after

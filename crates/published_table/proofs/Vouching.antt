@@ -1,13 +1,7 @@
 -- What is known of a copy once it has the entries that are pending.
-use Rattle.std.proofs.Common.{◌≡◌, List, [], ◌∷◌, ◌++◌, fold, refl, sym, ap, subst, ◌∙◌}
-use Rattle.std.proofs.lemmas.List.{append-nil, append_assoc}
-use Rattle.std.proofs.lemmas.List.Sums.{fold-append}
+use Rattle.std.proofs.{Common.{◌≡◌, List, [], ◌∷◌, ◌++◌, fold, refl, sym, ap, subst, ◌∙◌}, lemmas.List.{append-nil, append_assoc, Sums.{fold-append}}}
 use Rattle.endpoint_membership.specs.declared.change.Change.{Change}
-use Rattle.published_table.specs.Entries.{IsVouched, changes, with_entry}
-use Rattle.published_table.specs.History.{IsUnder}
-use Rattle.published_table.specs.declared.entry.CopyState.{CopyState}
-use Rattle.published_table.specs.declared.entry.Entry.{Entry}
-use Rattle.published_table.proofs.Beginnings.{IsUnder-prefix, begins_by}
+use Rattle.published_table.{specs.{Entries.{IsVouched, changes, with_entry}, History.{IsUnder}, declared.entry.{CopyState.{CopyState}, Entry.{Entry}}}, proofs.Beginnings.{IsUnder-prefix, begins_by}}
 
 pub log_after : (state : CopyState) (pending : List Entry) → (fold with_entry state pending).log ≡ state.log ++ changes pending
 log_after state [] = sym (append-nil state.log)

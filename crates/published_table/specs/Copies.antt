@@ -2,10 +2,7 @@
 use Rattle.std.specs.Prelude.{List}
 use Rattle.logbook.specs.Pages.{Book}
 use Rattle.endpoint_membership.specs.declared.change.Change.{Change}
-use Rattle.published_table.specs.Logs.{entries}
-use Rattle.published_table.specs.declared.entry.CopyState.{CopyState}
-use Rattle.published_table.specs.declared.table_copy.TableCopy.{TableCopy}
-use Rattle.published_table.specs.declared.terms.Terms.{Terms}
+use Rattle.published_table.specs.{Logs.{entries}, declared.{entry.CopyState.{CopyState}, table_copy.TableCopy.{TableCopy}, terms.Terms.{Terms}}}
 
 -- the log that it represents
 abbrev pub log_of : TableCopy → List Change

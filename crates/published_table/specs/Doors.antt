@@ -1,8 +1,7 @@
 -- What is read of a door, and of a reader that went in.
 use Rattle.std.specs.Prelude.{ℕ}
 use Rattle.left_right.specs.Sides.{view}
-use Rattle.published_table.specs.declared.door.Door.{Door}
-use Rattle.published_table.specs.declared.door.Inside.{Inside}
+use Rattle.published_table.specs.declared.door.{Door.{Door}, Inside.{Inside}}
 
 module _ {T V P : Type 0} where
   -- the number of its reader among all who may read

@@ -2,9 +2,7 @@
 use Rattle.std.specs.Prelude.{◌≡◌, List, [], ◌∷◌, ◌++◌, map}
 use Rattle.logbook.specs.Pages.{Book}
 use Rattle.endpoint_membership.specs.declared.change.Change.{Change}
-use Rattle.published_table.specs.History.{IsUnder}
-use Rattle.published_table.specs.declared.entry.CopyState.{CopyState}
-use Rattle.published_table.specs.declared.entry.Entry.{Entry}
+use Rattle.published_table.specs.{History.{IsUnder}, declared.entry.{CopyState.{CopyState}, Entry.{Entry}}}
 
 -- a copy with one more entry
 abbrev pub with_entry : CopyState → Entry → CopyState

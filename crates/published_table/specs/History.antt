@@ -1,11 +1,8 @@
 -- The history of a published log, as a book whose log has each log whole that was to be published.
-use Rattle.std.specs.Prelude.{◌≡◌, ℕ, ◌≤◌, ◌==◌, true, List, [], ◌∷◌, ◌++◌, length, map, MatchBool}
-use Rattle.std.specs.List.{All}
+use Rattle.std.specs.{Prelude.{◌≡◌, ℕ, ◌≤◌, ◌==◌, true, List, [], ◌∷◌, ◌++◌, length, map, MatchBool}, List.{All}}
 use Rattle.logbook.specs.Pages.{Book, Cell, Named, Step, View}
 use Rattle.endpoint_membership.specs.declared.change.Change.{Change}
-use Rattle.published_table.specs.Lists.{BeginsWith, BeginsWithEach}
-use Rattle.published_table.specs.Logs.{entries}
-use Rattle.published_table.specs.declared.past.Past.{Past}
+use Rattle.published_table.specs.{Lists.{BeginsWith, BeginsWithEach}, Logs.{entries}, declared.past.Past.{Past}}
 
 -- The first word is how many logs were to be published; a book has two words, of which this one leaves the
 -- second at 0. Some log begins with each of them.

@@ -1,6 +1,5 @@
 -- Lists that begin with others.
-use Rattle.std.specs.Prelude.{◌≡◌, List, length, take}
-use Rattle.std.specs.List.{All, AllByRecursion}
+use Rattle.std.specs.{Prelude.{◌≡◌, List, length, take}, List.{All, AllByRecursion}}
 
 -- the second list is a prefix of the first
 abbrev pub BeginsWith : {X : Type 0} → List X → List X → Type 0

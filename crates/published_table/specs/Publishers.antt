@@ -2,10 +2,7 @@
 use Rattle.std.specs.Prelude.{◌≡◌, ℕ, ◌-◌, List, [], ◌++◌, drop}
 use Rattle.logbook.specs.Pages.{Book}
 use Rattle.endpoint_membership.specs.declared.change.Change.{Change}
-use Rattle.published_table.specs.Copies.{log_of}
-use Rattle.published_table.specs.Entries.{changes}
-use Rattle.published_table.specs.declared.publisher.Publisher.{Publisher}
-use Rattle.published_table.specs.declared.terms.Terms.{Terms}
+use Rattle.published_table.specs.{Copies.{log_of}, Entries.{changes}, declared.{publisher.Publisher.{Publisher}, terms.Terms.{Terms}}}
 
 -- the log that views read
 abbrev pub published : Publisher → List Change

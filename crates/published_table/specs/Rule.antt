@@ -2,12 +2,7 @@
 use Rattle.std.specs.Prelude.{◌≡◌, ℕ, ◌<◌, ◌^◌, List, [], ◌∷◌, length, map}
 use mathlib.Core.Option.{some}
 use lib.ListN.{get_elem?}
-use Rattle.published_table.specs.Copies.{log_of, origin_of}
-use Rattle.published_table.specs.History.{IsUnder}
-use Rattle.published_table.specs.Lists.{AreAll, BeginsWith}
-use Rattle.published_table.specs.Terms.{FitsThroughout}
-use Rattle.published_table.specs.declared.rule.Known.{Known}
-use Rattle.published_table.specs.declared.table_copy.TableCopy.{TableCopy}
+use Rattle.published_table.specs.{Copies.{log_of, origin_of}, History.{IsUnder}, Lists.{AreAll, BeginsWith}, Terms.{FitsThroughout}, declared.{rule.Known.{Known}, table_copy.TableCopy.{TableCopy}}}
 
 -- it has seen nothing
 abbrev pub newcomer : Known

@@ -1,8 +1,6 @@
 -- By what a log is read, as tables say it.
 use Rattle.std.specs.Prelude.{ℕ, List, take}
-use Rattle.endpoint_membership.specs.Limits.{IsWithin}
-use Rattle.endpoint_membership.specs.Table.{AreLawful, TableSettings, memberships_now}
-use Rattle.endpoint_membership.specs.declared.change.Change.{Change}
+use Rattle.endpoint_membership.specs.{Limits.{IsWithin}, Table.{AreLawful, TableSettings, memberships_now}, declared.change.Change.{Change}}
 use Rattle.published_table.specs.declared.terms.Terms.{Terms}
 
 abbrev pub settings_by : Terms → TableSettings

@@ -1,8 +1,7 @@
 -- Which logs a view was told of.
 use Rattle.std.specs.Prelude.{List, [], ◌∷◌}
 use Rattle.endpoint_membership.specs.declared.change.Change.{Change}
-use Rattle.published_table.specs.Logs.{entries}
-use Rattle.published_table.specs.declared.told.Told.{Told, Nothing, Also'}
+use Rattle.published_table.specs.{Logs.{entries}, declared.told.Told.{Told, Nothing, Also'}}
 
 -- the logs, newest first
 abbrev pub logs_told : Told → List (List Change)

@@ -2,16 +2,8 @@
 use Rattle.std.specs.Prelude.{◌≡◌, ℕ, List, [], length, vec_capacity, Option, Some, None}
 use Rattle.amt_ports.specs.Causes.{Rose}
 use Rattle.logbook.specs.Pages.{Book}
-use Rattle.endpoint_membership.specs.Targets.{TargetsValue, targets_of}
-use Rattle.endpoint_membership.specs.declared.change.Change.{Change}
-use Rattle.published_table.specs.Lists.{BeginsWith, BeginsWithEach}
-use Rattle.published_table.specs.Logs.{entries}
-use Rattle.published_table.specs.Told.{logs_told}
-use Rattle.published_table.specs.declared.terms.Terms.{Terms}
-use Rattle.published_table.specs.declared.view.Note.{Note}
-use Rattle.published_table.specs.declared.view.View.{View}
-use Rattle.published_table.specs.declared.view.reading.Wanted.{Wanted}
-use Rattle.published_table.specs.declared.view.views.Views.{Views}
+use Rattle.endpoint_membership.specs.{Targets.{TargetsValue, targets_of}, declared.change.Change.{Change}}
+use Rattle.published_table.specs.{Lists.{BeginsWith, BeginsWithEach}, Logs.{entries}, Told.{logs_told}, declared.{terms.Terms.{Terms}, view.{Note.{Note}, View.{View}, reading.Wanted.{Wanted}, views.Views.{Views}}}}
 
 -- the log by which the view answered last
 abbrev pub seen : View → List Change

@@ -8,10 +8,7 @@ ghost use Rattle.std.specs.Prelude.{◌≡◌, ◌≤◌, [], ◌∷◌, ◌++�
 ghost use mathlib.Core.List.{IsPrefix};
 ghost use Rattle.endpoint_membership.specs.declared.change.Change.{Change as Entry};
 ghost use Rattle.logbook.specs.Pages.{Cell};
-ghost use Rattle.published_table.specs.History.{IsKept, IsUnder, AreUnder, head_of};
-ghost use Rattle.published_table.specs.Lists.{BeginsWithEach};
-ghost use Rattle.published_table.specs.Logs.{entries};
-ghost use Rattle.published_table.specs.Told.{logs_told};
+ghost use Rattle.published_table.specs.{History.{IsKept, IsUnder, AreUnder, head_of}, Lists.{BeginsWithEach}, Logs.{entries}, Told.{logs_told}};
 
 use crate::past::Past;
 use crate::told::Told;

@@ -1,13 +1,7 @@
 //! The publisher: the one that changes the published table. It must not know who reads it.
-ghost use Rattle.std.specs.Prelude.{◌≡◌, ◌<◌, ◌^◌, [], ◌∷◌, ◌++◌, length, map, drop, fold};
-ghost use Rattle.std.proofs.Props.{props};
+ghost use Rattle.std.{specs.Prelude.{◌≡◌, ◌<◌, ◌^◌, [], ◌∷◌, ◌++◌, length, map, drop, fold}, proofs.Props.{props}};
 ghost use Rattle.left_right.specs.Sides.{view};
-ghost use Rattle.published_table.specs.Copies.{log_of, origin_of, state_of};
-ghost use Rattle.published_table.specs.Entries.{IsVouched, changes, with_entry};
-ghost use Rattle.published_table.specs.History.{IsUnder};
-ghost use Rattle.published_table.specs.Lists.{BeginsWithEach};
-ghost use Rattle.published_table.specs.Logs.{entries};
-ghost use Rattle.published_table.specs.Terms.{FitsThroughout};
+ghost use Rattle.published_table.specs.{Copies.{log_of, origin_of, state_of}, Entries.{IsVouched, changes, with_entry}, History.{IsUnder}, Lists.{BeginsWithEach}, Logs.{entries}, Terms.{FitsThroughout}};
 
 use crate::entry::Entry;
 use crate::history::History;

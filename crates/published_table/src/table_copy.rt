@@ -1,9 +1,7 @@
 //! One of the two copies of the published table. It must not know who reads it.
 ghost use Rattle.std.specs.Prelude.{◌≡◌, ◌%◌, ◌^◌, [], length, IfOk};
 ghost use Rattle.endpoint_membership.specs.Table.{Holds};
-ghost use Rattle.published_table.specs.Entries.{with_entry};
-ghost use Rattle.published_table.specs.Logs.{entries};
-ghost use Rattle.published_table.specs.Terms.{AreLawfulTerms, settings_by};
+ghost use Rattle.published_table.specs.{Entries.{with_entry}, Logs.{entries}, Terms.{AreLawfulTerms, settings_by}};
 
 use crate::door::Counted;
 use crate::entry::{CopyState, Entry};

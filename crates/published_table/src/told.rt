@@ -1,7 +1,6 @@
 //! What a view was told of. None of that is kept either: it is for contracts alone.
 ghost use Rattle.std.specs.Prelude.{◌≡◌, ◌∷◌};
-ghost use Rattle.published_table.specs.Logs.{entries};
-ghost use Rattle.published_table.specs.Told.{logs_told};
+ghost use Rattle.published_table.specs.{Logs.{entries}, Told.{logs_told}};
 
 use crate::past::Past;
 use std::snapshot::Snapshot;

@@ -2,11 +2,7 @@
 //! know who publishes.
 ghost use Rattle.std.specs.Prelude.{◌≡◌, [], ◌∷◌, length, map};
 ghost use Rattle.left_right.specs.Sides.{view};
-ghost use Rattle.published_table.specs.Copies.{origin_of};
-ghost use Rattle.published_table.specs.History.{AreUnder, IsUnder};
-ghost use Rattle.published_table.specs.Lists.{BeginsWith};
-ghost use Rattle.published_table.specs.Logs.{entries};
-ghost use Rattle.published_table.specs.Told.{logs_told};
+ghost use Rattle.published_table.specs.{Copies.{origin_of}, History.{AreUnder, IsUnder}, Lists.{BeginsWith}, Logs.{entries}, Told.{logs_told}};
 
 use crate::door::Door;
 use crate::history::Bookmark;

@@ -1,20 +1,10 @@
 -- The items of a load, one more at a time.
 use Rattle.std.proofs.Common.{◌≡◌, ℕ, ◌+◌, ◌*◌, ◌≤◌, Bool, List, [], ◌∷◌, ◌++◌, map, length, refl, sym, ap, subst, ◌∙◌, append_assoc, arith}
-use Rattle.std.proofs.lemmas.List.{map-append}
-use Rattle.std.proofs.lemmas.List.FromFn.{map-range_with_len_more}
-use Rattle.std.specs.List.{range_with_len, AllByRecursion}
-use Rattle.amt_script.specs.Running.{IsItem}
-use Rattle.amt_script.specs.declared.script.RelayItem.{RelayItem}
-use Rattle.amt_script.specs.declared.script.RelayItem.TheVariants.{Event as EventItem}
-use Rattle.amt_script.specs.declared.script.RelayScript.{RelayScript}
+use Rattle.std.{proofs.lemmas.List.{map-append, FromFn.{map-range_with_len_more}}, specs.List.{range_with_len, AllByRecursion}}
+use Rattle.amt_script.specs.{Running.{IsItem}, declared.script.{RelayItem.{RelayItem, TheVariants.{Event as EventItem}}, RelayScript.{RelayScript}}}
 use Rattle.response_mac.specs.declared.secret.Secret.{Secret}
-use Rattle.relay_machine.specs.declared.event.Event.{Event}
-use Rattle.relay_machine.specs.declared.event.Event.TheVariants.{Moment}
-use Rattle.relay_machine.specs.declared.settings.Settings.{Settings}
-use Rattle.relay_load.specs.Generator.{number_after}
-use Rattle.relay_load.specs.Packets.{packet_to}
-use Rattle.relay_load.specs.Updates.{chosen_exclude, chosen_group, chosen_nonce, chosen_port, chosen_update, record_with, update_at, update_with}
-use Rattle.relay_load.proofs.Draws.{draws_before}
+use Rattle.relay_machine.specs.declared.{event.Event.{Event, TheVariants.{Moment}}, settings.Settings.{Settings}}
+use Rattle.relay_load.{specs.{Generator.{number_after}, Packets.{packet_to}, Updates.{chosen_exclude, chosen_group, chosen_nonce, chosen_port, chosen_update, record_with, update_at, update_with}}, proofs.Draws.{draws_before}}
 
 -- what holds of all items and of one more, holds of all these
 pub all_more : {X : Type 0} (Fact : X → Type 0) (xs : List X) (x : X) → AllByRecursion Fact xs → Fact x → AllByRecursion Fact (xs ++ x ∷ [])

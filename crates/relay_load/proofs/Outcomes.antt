@@ -1,14 +1,8 @@
 -- What is counted after one event more.
 use Rattle.std.proofs.Common.{◌≡◌, ℕ, List, [], ◌∷◌, ◌++◌, sum_by, count_by, if◌then◌else◌, refl, ap, ◌∙◌, length-append}
 use Rattle.response_mac.specs.declared.secret.Secret.{Secret}
-use Rattle.relay_machine.specs.declared.event.Event.{Event}
-use Rattle.relay_machine.specs.declared.settings.Settings.{Settings}
-use Rattle.relay_machine.specs.Answers.{outcome_of}
-use Rattle.relay_load.specs.declared.run.Counts.{Counts}
-use Rattle.relay_load.specs.Counts.{copies_in}
-use Rattle.relay_machine.proofs.Courses.{each_more, sum_more}
-use Rattle.relay_machine.specs.Courses.{is_updated, outcomes_of}
-use Rattle.relay_load.specs.Counting.{counts_of, with_outcome}
+use Rattle.relay_machine.{specs.{declared.{event.Event.{Event}, settings.Settings.{Settings}}, Answers.{outcome_of}, Courses.{is_updated, outcomes_of}}, proofs.Courses.{each_more, sum_more}}
+use Rattle.relay_load.specs.{declared.run.Counts.{Counts}, Counts.{copies_in}, Counting.{counts_of, with_outcome}}
 
 abbrev with_counts : ℕ → ℕ → ℕ → Counts
 with_counts events updated copied = record { events = events; updated = updated; copied = copied }

@@ -1,7 +1,5 @@
 -- The datagrams that Updates carry, and a copy of one of them.
-use Rattle.std.proofs.Common.{◌≡◌, ◌∙◌, ℕ, ◌<◌, ◌≤◌, Bool, List, Result, Ok, Err, IfOk, length, get_or, ap, arith}
-use Rattle.std.proofs.lemmas.List.Elements.{All-get_or}
-use Rattle.std.proofs.lemmas.List.FromFn.{get_or-map-range_with_len, length-map-range_with_len}
+use Rattle.std.proofs.{Common.{◌≡◌, ◌∙◌, ℕ, ◌<◌, ◌≤◌, Bool, List, Result, Ok, Err, IfOk, length, get_or, ap, arith}, lemmas.List.{Elements.{All-get_or}, FromFn.{get_or-map-range_with_len, length-map-range_with_len}}}
 use Rattle.relay_load.specs.Reports.{AreReportsOf, report_at, reports_of}
 
 pub length-reports : (excludes : Bool) (all : List (List ℕ)) → AreReportsOf excludes all → length all ≡ 16

@@ -1,18 +1,10 @@
 -- A run that takes one item more.
-use Rattle.std.proofs.Common.{◌≡◌, Result, Ok, Err, OnOk, List, [], ◌∷◌, ◌++◌, sym, ap, subst, ◌∙◌}
-use Rattle.std.proofs.lemmas.List.{append-nil}
-use Rattle.std.proofs.lemmas.List.Elements.{filter_map-append}
+use Rattle.std.proofs.{Common.{◌≡◌, Result, Ok, Err, OnOk, List, [], ◌∷◌, ◌++◌, sym, ap, subst, ◌∙◌}, lemmas.List.{append-nil, Elements.{filter_map-append}}}
 use Rattle.response_mac.specs.declared.secret.Secret.{Secret}
-use Rattle.relay_machine.specs.declared.event.Event.{Event}
-use Rattle.relay_machine.specs.declared.relay.Relay.{Relay}
-use Rattle.relay_machine.specs.declared.settings.Settings.{Settings}
-use Rattle.relay_machine.specs.Answers.{RelayAt, outcome_of}
-use Rattle.amt_script.specs.declared.script.RelayItem.{RelayItem}
+use Rattle.relay_machine.specs.{declared.{event.Event.{Event}, relay.Relay.{Relay}, settings.Settings.{Settings}}, Answers.{RelayAt, outcome_of}}
+use Rattle.amt_script.specs.{declared.script.RelayItem.{RelayItem}, Texts.{event_in, events_in}}
 use Rattle.amt_script.specs.declared.script.RelayItem.TheVariants as items
-use Rattle.amt_script.specs.Texts.{event_in, events_in}
-use Rattle.relay_load.specs.declared.run.Counts.{Counts}
-use Rattle.relay_load.specs.Counting.{IsCounted, counts_of, with_outcome}
-use Rattle.relay_load.proofs.Outcomes.{counts_more}
+use Rattle.relay_load.{specs.{declared.run.Counts.{Counts}, Counting.{IsCounted, counts_of, with_outcome}}, proofs.Outcomes.{counts_more}}
 
 -- an event was taken and counted
 pub counted_event : (relay : Relay) (counts counts' : Counts) (settings : Settings) (first : Secret) (before : List RelayItem) (event : Event)

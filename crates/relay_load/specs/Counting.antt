@@ -1,16 +1,9 @@
 -- What is counted while a run goes on.
 use Rattle.std.specs.Prelude.{◌≡◌, ◌+◌, ◌*◌, ◌≤◌, ◌^◌, List, length, sum_by, count_by, if◌then◌else◌}
 use Rattle.response_mac.specs.declared.secret.Secret.{Secret}
-use Rattle.relay_machine.specs.declared.event.Event.{Event}
-use Rattle.relay_machine.specs.declared.outcome.Outcome.{Outcome}
-use Rattle.relay_machine.specs.declared.relay.Relay.{Relay}
-use Rattle.relay_machine.specs.declared.settings.Settings.{Settings}
-use Rattle.relay_machine.specs.Answers.{RelayAt}
-use Rattle.amt_script.specs.declared.script.RelayItem.{RelayItem}
-use Rattle.amt_script.specs.Texts.{events_in}
-use Rattle.relay_load.specs.declared.run.Counts.{Counts}
-use Rattle.relay_load.specs.Counts.{copies_in}
-use Rattle.relay_machine.specs.Courses.{is_updated, outcomes_of}
+use Rattle.relay_machine.specs.{declared.{event.Event.{Event}, outcome.Outcome.{Outcome}, relay.Relay.{Relay}, settings.Settings.{Settings}}, Answers.{RelayAt}, Courses.{is_updated, outcomes_of}}
+use Rattle.amt_script.specs.{declared.script.RelayItem.{RelayItem}, Texts.{events_in}}
+use Rattle.relay_load.specs.{declared.run.Counts.{Counts}, Counts.{copies_in}}
 
 -- the counts after one outcome more
 abbrev pub with_outcome : Counts → Outcome → Counts

@@ -1,17 +1,9 @@
 -- What a relay's run over a script comes to, in numbers.
 use Rattle.std.specs.Prelude.{ℕ, List, length, sum_by, count_by}
-use Rattle.endpoint_membership.specs.Limits.{live_count}
-use Rattle.endpoint_membership.specs.Table.{memberships_now}
+use Rattle.endpoint_membership.specs.{Limits.{live_count}, Table.{memberships_now}}
 use Rattle.response_mac.specs.declared.secret.Secret.{Secret}
-use Rattle.relay_machine.specs.declared.event.Event.{Event}
-use Rattle.relay_machine.specs.declared.outcome.Outcome.{Outcome}
-use Rattle.relay_machine.specs.declared.outcome.Outcome.TheVariants.{Copied}
-use Rattle.relay_machine.specs.declared.settings.Settings.{Settings}
-use Rattle.relay_machine.specs.Accepted.{accepted_log}
-use Rattle.relay_machine.specs.Courses.{is_updated, outcomes_of}
-use Rattle.relay_machine.specs.Settings.{table_settings_of}
-use Rattle.amt_script.specs.declared.script.RelayScript.{RelayScript}
-use Rattle.amt_script.specs.Texts.{events_in}
+use Rattle.relay_machine.specs.{declared.{event.Event.{Event}, outcome.Outcome.{Outcome, TheVariants.{Copied}}, settings.Settings.{Settings}}, Accepted.{accepted_log}, Courses.{is_updated, outcomes_of}, Settings.{table_settings_of}}
+use Rattle.amt_script.specs.{declared.script.RelayScript.{RelayScript}, Texts.{events_in}}
 use Rattle.relay_load.specs.declared.summary.LoadSummary.{LoadSummary}
 
 -- the endpoints to which a packet went, none for any other event

@@ -2,8 +2,7 @@
 use Rattle.std.specs.Prelude.{ℕ, ◌+◌, List, [], ◌∷◌, ◌++◌}
 use Rattle.byteorder.specs.Endian.{big_bytes}
 use Rattle.inner_datagrams.specs.Checksum.{internet_sum_of}
-use Rattle.relay_machine.specs.declared.event.Event.{Event}
-use Rattle.relay_machine.specs.declared.event.Event.TheVariants.{Packet}
+use Rattle.relay_machine.specs.declared.event.Event.{Event, TheVariants.{Packet}}
 use Rattle.relay_load.specs.Updates.{group_base, load_source}
 
 -- an IPv4 header with this checksum and nothing after it: 20 octets, time to live 4, protocol 17, which is

@@ -1,8 +1,6 @@
 -- The datagrams that the Updates of a load carry, each written once. No public contract says these words.
-use Rattle.std.specs.Prelude.{◌≡◌, ℕ, ◌+◌, ◌≤◌, Bool, true, false, List, map, length, All}
-use Rattle.std.specs.List.{range_with_len}
-use Rattle.relay_load.specs.declared.reports.Reports.{Reports}
-use Rattle.relay_load.specs.Updates.{group_base, load_report, record_with}
+use Rattle.std.specs.{Prelude.{◌≡◌, ℕ, ◌+◌, ◌≤◌, Bool, true, false, List, map, length, All}, List.{range_with_len}}
+use Rattle.relay_load.specs.{declared.reports.Reports.{Reports}, Updates.{group_base, load_report, record_with}}
 
 -- the group of this index, from 0 on
 abbrev pub group_at : ℕ → ℕ

@@ -1,16 +1,11 @@
 -- The relay script that a number makes: so many Updates, each from another endpoint, and then a packet to
 -- each group.
-use Rattle.std.specs.Prelude.{ℕ, List, ◌∷◌, ◌++◌, map}
-use Rattle.std.specs.List.{range_with_len}
+use Rattle.std.specs.{Prelude.{ℕ, List, ◌∷◌, ◌++◌, map}, List.{range_with_len}}
 use Rattle.amt_values.specs.declared.address.Ip.TheVariants.{V4}
 use Rattle.amt_script.specs.declared.script.RelayItem.TheVariants as items
 use Rattle.amt_script.specs.declared.script.RelayScript.{RelayScript}
-use Rattle.relay_machine.specs.declared.event.Event.{Event}
-use Rattle.relay_machine.specs.declared.event.Event.TheVariants.{Moment}
-use Rattle.relay_machine.specs.declared.settings.Settings.{Settings}
-use Rattle.relay_machine.specs.Settings.{default_settings}
-use Rattle.relay_load.specs.Packets.{packet_at}
-use Rattle.relay_load.specs.Updates.{load_secret, update_at}
+use Rattle.relay_machine.specs.{declared.{event.Event.{Event, TheVariants.{Moment}}, settings.Settings.{Settings}}, Settings.{default_settings}}
+use Rattle.relay_load.specs.{Packets.{packet_at}, Updates.{load_secret, update_at}}
 
 -- the defaults of a relay at 192.0.2.1, with room for so many endpoints, 4 groups of each and 4 sources of
 -- each group

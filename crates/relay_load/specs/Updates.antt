@@ -1,16 +1,11 @@
 -- The Updates of a load. Each is of a tunnel endpoint of its own, and what is in it is chosen by four words,
 -- drawn in the order port, nonce, group, record.
 use Rattle.std.specs.Prelude.{ℕ, ◌+◌, ◌-◌, ◌*◌, ◌%◌, ◌==◌, Bool, true, false, List, [], ◌∷◌, replicate}
-use Rattle.amt_values.specs.EndpointValue.{EndpointValue}
-use Rattle.amt_values.specs.declared.address.Ip.TheVariants.{V4}
-use Rattle.amt_messages.specs.Layout.{spelling_of}
-use Rattle.amt_messages.specs.declared.message.Message.TheVariants.{Update}
-use Rattle.source_filter.specs.declared.record.Record.{Record}
-use Rattle.source_filter.specs.declared.record.RecordKind.TheVariants.{IsIn, IsEx}
-use Rattle.response_mac.specs.ResponseMac.{mac_of}
-use Rattle.response_mac.specs.declared.secret.Secret.{Secret}
-use Rattle.relay_machine.specs.declared.event.Event.{Event}
-use Rattle.relay_machine.specs.declared.event.Event.TheVariants.{Datagram}
+use Rattle.amt_values.specs.{EndpointValue.{EndpointValue}, declared.address.Ip.TheVariants.{V4}}
+use Rattle.amt_messages.specs.{Layout.{spelling_of}, declared.message.Message.TheVariants.{Update}}
+use Rattle.source_filter.specs.declared.record.{Record.{Record}, RecordKind.TheVariants.{IsIn, IsEx}}
+use Rattle.response_mac.specs.{ResponseMac.{mac_of}, declared.secret.Secret.{Secret}}
+use Rattle.relay_machine.specs.declared.event.Event.{Event, TheVariants.{Datagram}}
 use Rattle.gateway_machine.specs.Reports.{report_datagram}
 use Rattle.relay_load.specs.Generator.{number_after, word_after}
 

@@ -1,11 +1,8 @@
 //! The native packets of a load. It must not know the Updates before them.
 
-ghost use Rattle.std.specs.Prelude.{◌≡◌, ◌++◌, map, OnOk};
-ghost use Rattle.std.specs.List.{AllByRecursion};
-ghost use Rattle.amt_script.specs.Running.{IsItem};
-ghost use Rattle.amt_script.specs.declared.script.RelayItem.TheVariants.{Event as EventItem};
-ghost use Rattle.relay_load.specs.Packets.{packet_to};
-ghost use Rattle.relay_load.specs.Script.{load_packets};
+ghost use Rattle.std.specs.{Prelude.{◌≡◌, ◌++◌, map, OnOk}, List.{AllByRecursion}};
+ghost use Rattle.amt_script.specs.{Running.{IsItem}, declared.script.RelayItem.TheVariants.{Event as EventItem}};
+ghost use Rattle.relay_load.specs.{Packets.{packet_to}, Script.{load_packets}};
 
 use crate::record::{GROUP_BASE, GROUPS};
 use amt_script::{RelayItem, RelayItems};

@@ -1,9 +1,7 @@
 //! What four words choose of an Update, and the report of it. It must not know who sends it.
 
 ghost use Rattle.std.specs.Prelude.{◌≡◌, ◌<◌, ◌≤◌, length, IfOk};
-ghost use Rattle.relay_load.specs.Generator.{number_after};
-ghost use Rattle.relay_load.specs.Reports.{group_at};
-ghost use Rattle.relay_load.specs.Updates.{chosen_exclude, chosen_group, chosen_nonce, chosen_port, record_with, load_report};
+ghost use Rattle.relay_load.specs.{Generator.{number_after}, Reports.{group_at}, Updates.{chosen_exclude, chosen_group, chosen_nonce, chosen_port, record_with, load_report}};
 
 use crate::generator::Generator;
 use amt_values::{Bytes, Ip};

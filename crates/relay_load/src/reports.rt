@@ -1,8 +1,7 @@
 //! The datagrams that Updates carry, each written once. It must not know which of them is sent when.
 
 ghost use Rattle.std.specs.Prelude.{◌≡◌, ◌≤◌, ◌<◌, length, IfOk};
-ghost use Rattle.relay_load.specs.Reports.{AreReports, AreReportsOf, group_at};
-ghost use Rattle.relay_load.specs.Updates.{load_report, record_with};
+ghost use Rattle.relay_load.specs.{Reports.{AreReports, AreReportsOf, group_at}, Updates.{load_report, record_with}};
 
 use crate::record::{Choice, GROUP_BASE, GROUPS, write_report};
 use amt_values::{Bytes, Items};

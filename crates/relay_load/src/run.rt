@@ -1,17 +1,10 @@
 //! A relay's run over a script, of which the answers are counted. It must not know what the script is for.
 
-ghost use Rattle.std.specs.Prelude.{◌≡◌, ◌<◌, ◌≤◌, ◌-◌, ◌^◌, ◌+◌, [], ◌∷◌, ◌++◌, List, IfOk, OnOk};
-ghost use Rattle.std.specs.List.{AllByRecursion};
-ghost use Rattle.relay_machine.specs.Answers.{After, RelayAt, outcome_of};
-ghost use Rattle.relay_machine.specs.EventSize.{IsEvent};
-ghost use Rattle.relay_machine.specs.declared.settings.Settings.{Settings};
+ghost use Rattle.std.specs.{Prelude.{◌≡◌, ◌<◌, ◌≤◌, ◌-◌, ◌^◌, ◌+◌, [], ◌∷◌, ◌++◌, List, IfOk, OnOk}, List.{AllByRecursion}};
+ghost use Rattle.relay_machine.specs.{Answers.{After, RelayAt, outcome_of}, EventSize.{IsEvent}, declared.settings.Settings.{Settings}};
 ghost use Rattle.response_mac.specs.declared.secret.Secret.{Secret};
-ghost use Rattle.amt_script.specs.Running.{IsItem, IsRunnable};
-ghost use Rattle.amt_script.specs.declared.script.RelayItem.{RelayItem as ItemValue};
-ghost use Rattle.relay_load.specs.Counts.{summary_of};
-ghost use Rattle.relay_load.specs.Counting.{AreSmall, IsCounted, with_outcome};
-ghost use Rattle.relay_load.specs.Script.{load_script_of};
-ghost use Rattle.relay_load.specs.Texts.{load_text};
+ghost use Rattle.amt_script.specs.{Running.{IsItem, IsRunnable}, declared.script.RelayItem.{RelayItem as ItemValue}};
+ghost use Rattle.relay_load.specs.{Counts.{summary_of}, Counting.{AreSmall, IsCounted, with_outcome}, Script.{load_script_of}, Texts.{load_text}};
 
 use crate::script::load_script;
 use crate::summary::LoadSummary;

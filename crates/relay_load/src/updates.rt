@@ -1,13 +1,9 @@
 //! The Updates of a load. It must not know how their words are drawn.
 
-ghost use Rattle.std.specs.Prelude.{◌≡◌, ◌≤◌, ◌<◌, ◌++◌, map, IfOk, OnOk};
-ghost use Rattle.std.specs.List.{AllByRecursion};
-ghost use Rattle.amt_script.specs.Running.{IsItem};
-ghost use Rattle.amt_script.specs.declared.script.RelayItem.TheVariants.{Event as EventItem};
+ghost use Rattle.std.specs.{Prelude.{◌≡◌, ◌≤◌, ◌<◌, ◌++◌, map, IfOk, OnOk}, List.{AllByRecursion}};
+ghost use Rattle.amt_script.specs.{Running.{IsItem}, declared.script.RelayItem.TheVariants.{Event as EventItem}};
 ghost use Rattle.relay_machine.specs.EventSize.{IsEvent};
-ghost use Rattle.relay_load.specs.Reports.{AreReports, group_at};
-ghost use Rattle.relay_load.specs.Script.{load_updates};
-ghost use Rattle.relay_load.specs.Updates.{load_secret, record_with, update_with};
+ghost use Rattle.relay_load.specs.{Reports.{AreReports, group_at}, Script.{load_updates}, Updates.{load_secret, record_with, update_with}};
 
 use crate::generator::Generator;
 use crate::record::{Choice, draw_choice};

@@ -1,49 +1,15 @@
 -- An accepted Update gives its outcome and entry, and no other event gives them; an accepted Teardown likewise.
-use Rattle.std.proofs.Common.{◌≡◌, ℕ, nat_lt, Bool, true, false, List, length, Option, Some, None, Result, Ok, Err, if◌then◌else◌, refl, sym, ap, subst, ◌∙◌}
-use Rattle.std.specs.Result.{IfOk}
-use Rattle.amt_values.specs.Endpoint.{endpoint_of}
-use Rattle.amt_values.specs.Group.{is_forwardable}
-use Rattle.amt_values.specs.Octets.{AreOctets}
-use Rattle.amt_values.specs.EndpointValue.{EndpointValue}
-use Rattle.amt_values.specs.declared.mac.Mac48.{Mac48}
-use Rattle.amt_values.specs.declared.peer.Peer.{Peer}
-use Rattle.amt_messages.specs.Refusal.{message_of}
-use Rattle.amt_messages.specs.declared.message.Message.{Message}
-use Rattle.amt_messages.specs.declared.message.Message.TheVariants.{Discovery, Advertisement, Request, Query, Update, Multicast, Teardown}
-use Rattle.amt_messages.specs.declared.refusal.Refused.{Refused}
-use Rattle.amt_messages.proofs.Spelled.{spelled_is_read}
-use Rattle.amt_messages.proofs.Unrefused.{read_is_spelled}
+use Rattle.std.{proofs.Common.{◌≡◌, ℕ, nat_lt, Bool, true, false, List, length, Option, Some, None, Result, Ok, Err, if◌then◌else◌, refl, sym, ap, subst, ◌∙◌}, specs.Result.{IfOk}}
+use Rattle.amt_values.{specs.{Endpoint.{endpoint_of}, Group.{is_forwardable}, Octets.{AreOctets}, EndpointValue.{EndpointValue}, declared.{mac.Mac48.{Mac48}, peer.Peer.{Peer}}}, proofs.NetworkOrder.{AreOctets-drop}}
+use Rattle.amt_messages.{specs.{Refusal.{message_of}, declared.{message.Message.{Message, TheVariants.{Discovery, Advertisement, Request, Query, Update, Multicast, Teardown}}, refusal.Refused.{Refused}}}, proofs.{Spelled.{spelled_is_read}, Unrefused.{read_is_spelled}}}
 use Rattle.source_filter.specs.declared.record.Record.{Record}
-use Rattle.response_mac.specs.ResponseMac.{is_good}
-use Rattle.response_mac.specs.declared.secret.Secret.{Secret}
-use Rattle.response_mac.specs.declared.secrets.Secrets.{Secrets}
-use Rattle.endpoint_membership.specs.Memberships.{is_live}
-use Rattle.endpoint_membership.specs.Table.{TableSettings, limit_passed, memberships_now}
-use Rattle.endpoint_membership.specs.declared.change.Change.{Change}
-use Rattle.endpoint_membership.specs.declared.change.Change.TheVariants.{Clear, Reported}
-use Rattle.endpoint_membership.specs.declared.limits.LimitFault.{LimitFault}
-use Rattle.endpoint_membership.proofs.WithinLimits.{none_passed}
-use Rattle.inner_datagrams.specs.Head.{head_of}
-use Rattle.inner_datagrams.specs.declared.head.Head.{Head}
-use Rattle.inner_datagrams.specs.declared.head.HeadFault.{HeadFault}
-use Rattle.relay_machine.specs.declared.event.Event.{Event}
-use Rattle.relay_machine.specs.declared.event.Event.TheVariants.{Moment, Datagram, Packet, Rotate}
-use Rattle.relay_machine.specs.declared.outcome.Outcome.TheVariants.{TooBig, TornDown, Updated}
-use Rattle.relay_machine.specs.declared.outcome.Unlawful.{Unlawful}
-use Rattle.relay_machine.specs.declared.sends.Step.{Step}
-use Rattle.relay_machine.specs.declared.settings.Settings.{Settings}
-use Rattle.relay_machine.specs.Acceptance.{IsAcceptedTeardown, IsAcceptedUpdate, IsSomeAcceptedTeardown, IsSomeAcceptedUpdate}
-use Rattle.relay_machine.specs.Accepted.{accepted_log, change_of, handed_out}
-use Rattle.relay_machine.specs.Answers.{answer_of, outcome_of}
-use Rattle.relay_machine.specs.EventAnswer.{EventAnswer, datagram_answer, entered, limited_answer, packet_answer, teardown_answer, update_answer}
-use Rattle.relay_machine.specs.Events.{now_of, secrets_of}
-use Rattle.relay_machine.specs.Packets.{by_head, by_scope, targets_at}
-use Rattle.relay_machine.specs.Settings.{table_settings_of}
-use Rattle.relay_machine.specs.Updates.{forwardable_records, report_in}
-use Rattle.amt_values.proofs.NetworkOrder.{AreOctets-drop}
-use Rattle.relay_machine.proofs.Goodness.{is_good-true}
-use Rattle.relay_machine.proofs.Lawful.{lawful-report_in, report_in-lawful}
-use Rattle.relay_machine.proofs.Limits.{always_within, within-report}
+use Rattle.response_mac.specs.{ResponseMac.{is_good}, declared.{secret.Secret.{Secret}, secrets.Secrets.{Secrets}}}
+use Rattle.endpoint_membership.{specs.{Memberships.{is_live}, Table.{TableSettings, limit_passed, memberships_now}, declared.{change.Change.{Change, TheVariants.{Clear, Reported}}, limits.LimitFault.{LimitFault}}}, proofs.WithinLimits.{none_passed}}
+use Rattle.inner_datagrams.specs.{Head.{head_of}, declared.head.{Head.{Head}, HeadFault.{HeadFault}}}
+use Rattle.relay_machine.specs.declared.{event.Event.{Event, TheVariants.{Moment, Datagram, Packet, Rotate}}, outcome.{Outcome.TheVariants.{TooBig, TornDown, Updated}, Unlawful.{Unlawful}}, sends.Step.{Step}}
+use Rattle.relay_machine.specs.{declared.settings.Settings.{Settings}, Acceptance.{IsAcceptedTeardown, IsAcceptedUpdate, IsSomeAcceptedTeardown, IsSomeAcceptedUpdate}, Accepted.{accepted_log, change_of, handed_out}}
+use Rattle.relay_machine.specs.{Answers.{answer_of, outcome_of}, EventAnswer.{EventAnswer, datagram_answer, entered, limited_answer, packet_answer, teardown_answer, update_answer}, Events.{now_of, secrets_of}}
+use Rattle.relay_machine.{specs.{Packets.{by_head, by_scope, targets_at}, Settings.{table_settings_of}, Updates.{forwardable_records, report_in}}, proofs.{Goodness.{is_good-true}, Lawful.{lawful-report_in, report_in-lawful}, Limits.{always_within, within-report}}}
 
 -- the answer to an Update with a good MAC, a lawful report and within the limits
 updated_answer : (settings : Settings) (secrets : Secrets) (moment : ℕ) (log : List Change) (from : Option EndpointValue) (reading : Result Message Refused) (source : EndpointValue) (mac : Mac48) (nonce : ℕ)

@@ -2,19 +2,8 @@
 use Rattle.std.proofs.Common.{◌≡◌, ◌++◌, ◌∷◌, ℕ, max, Bool, true, false, List, [], Option, Some, None, Result, Ok, refl, sym, ap, subst, ◌∙◌, arith}
 use Rattle.amt_values.specs.EndpointValue.{EndpointValue}
 use Rattle.source_filter.specs.declared.record.Record.{Record}
-use Rattle.endpoint_membership.specs.Log.{latest}
-use Rattle.endpoint_membership.specs.Memberships.{is_live, memberships_at}
-use Rattle.endpoint_membership.specs.Table.{Holds, TableValue, TableSettings, limit_passed, memberships_now}
-use Rattle.endpoint_membership.specs.declared.change.Change.{Change}
-use Rattle.endpoint_membership.specs.declared.change.Change.TheVariants.{Clear, Reported}
-use Rattle.endpoint_membership.specs.declared.limits.LimitFault.{LimitFault}
-use Rattle.relay_machine.specs.declared.outcome.Outcome.TheVariants.{NoTunnel, Over, TornDown, Updated}
-use Rattle.relay_machine.specs.declared.outcome.Unlawful.{Unlawful}
-use Rattle.relay_machine.specs.declared.sends.Step.{Step}
-use Rattle.relay_machine.specs.Accepted.{handed_out, with_change}
-use Rattle.relay_machine.specs.EventAnswer.{EventAnswer, entered, limited_answer, quiet, teardown_answer, update_answer}
-use Rattle.relay_machine.specs.Logs.{IsAnswered}
-use Rattle.relay_machine.specs.Updates.{forwardable_records}
+use Rattle.endpoint_membership.specs.{Log.{latest}, Memberships.{is_live, memberships_at}, Table.{Holds, TableValue, TableSettings, limit_passed, memberships_now}, declared.{change.Change.{Change, TheVariants.{Clear, Reported}}, limits.LimitFault.{LimitFault}}}
+use Rattle.relay_machine.specs.{declared.{outcome.{Outcome.TheVariants.{NoTunnel, Over, TornDown, Updated}, Unlawful.{Unlawful}}, sends.Step.{Step}}, Accepted.{handed_out, with_change}, EventAnswer.{EventAnswer, entered, limited_answer, quiet, teardown_answer, update_answer}, Logs.{IsAnswered}, Updates.{forwardable_records}}
 
 -- where nothing is entered, nothing is handed out and the table stays
 pub answered-unchanged : (terms : TableSettings) (before after : TableValue) (log : List Change) (answer : EventAnswer) (step : Step) → Holds terms before log → after ≡ before → answer.entry ≡ None

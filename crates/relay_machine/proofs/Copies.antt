@@ -1,40 +1,12 @@
 -- To whom a packet goes.
-use Rattle.std.proofs.Common.{◌≡◌, ◌≤◌, ℕ, ◌↔◌, Bool, true, false, List, [], ◌∷◌, length, nat_lt, None, Result, Ok, Err, refl, sym, ap, subst, ◌∙◌, arith, suc}
-use Rattle.std.proofs.Math.Logic.{∥∥₁_elim}
-use Rattle.std.specs.Coded.{le_prop}
-use Rattle.std.specs.List.{Contains}
-use Rattle.std.proofs.lemmas.Bool.{le-ltb}
-use Rattle.std.proofs.lemmas.List.Elements.{All-map}
-use Rattle.amt_values.specs.Order.{endpoint_order}
-use Rattle.amt_values.specs.EndpointValue.{EndpointValue}
-use Rattle.amt_messages.specs.Layout.{IsCanonical, spelling_of}
-use Rattle.amt_messages.specs.declared.message.Message.TheVariants.{Multicast}
-use Rattle.amt_values.specs.Ascending.{IsAscending}
-use Rattle.inner_datagrams.specs.Head.{head_of}
-use Rattle.inner_datagrams.specs.declared.head.Head.{Head}
-use Rattle.inner_datagrams.proofs.Heads.{answer_only}
+use Rattle.std.{proofs.{Common.{◌≡◌, ◌≤◌, ℕ, ◌↔◌, Bool, true, false, List, [], ◌∷◌, length, nat_lt, None, Result, Ok, Err, refl, sym, ap, subst, ◌∙◌, arith, suc}, Math.Logic.{∥∥₁_elim}, lemmas.{Bool.{le-ltb}, List.Elements.{All-map}}}, specs.{Coded.{le_prop}, List.{Contains}}}
+use Rattle.amt_values.specs.{Order.{endpoint_order}, EndpointValue.{EndpointValue}, Ascending.{IsAscending}}
+use Rattle.amt_messages.specs.{Layout.{IsCanonical, spelling_of}, declared.message.Message.TheVariants.{Multicast}}
+use Rattle.inner_datagrams.{specs.{Head.{head_of}, declared.head.Head.{Head}}, proofs.Heads.{answer_only}}
 use Rattle.response_mac.specs.declared.secret.Secret.{Secret}
-use Rattle.endpoint_membership.specs.Table.{Holds, TableValue, TableSettings}
-use Rattle.endpoint_membership.specs.declared.change.Change.{Change}
-use Rattle.endpoint_membership.specs.declared.limits.Limits.{Limits}
-use Rattle.endpoint_membership.proofs.TargetsByLog.{IsAscending-targets_of, targets_want}
-use Rattle.relay_machine.specs.declared.event.Event.{Event}
-use Rattle.relay_machine.specs.declared.event.Event.TheVariants.{Packet}
-use Rattle.relay_machine.specs.declared.outcome.Outcome.{Outcome}
-use Rattle.relay_machine.specs.declared.outcome.Outcome.TheVariants.{Copied}
-use Rattle.relay_machine.specs.declared.sends.OneSend.{OneSend}
-use Rattle.relay_machine.specs.declared.sends.Step.{Step}
-use Rattle.relay_machine.specs.declared.settings.Settings.{Settings}
-use Rattle.relay_machine.specs.Accepted.{accepted_log}
-use Rattle.relay_machine.specs.Answers.{outcome_of, sends_of, wants_after}
-use Rattle.relay_machine.specs.EventAnswer.{EventAnswer, packet_answer, quiet}
-use Rattle.relay_machine.specs.Events.{now_of}
-use Rattle.relay_machine.specs.Logs.{IsAnswered}
-use Rattle.relay_machine.specs.Packets.{AreCopies, IsToCopy, copies, head_to_copy, receivers, targets_at}
-use Rattle.relay_machine.specs.Sends.{AreShort}
-use Rattle.relay_machine.specs.Settings.{membership_interval_ms, table_settings_of}
-use Rattle.relay_machine.specs.State.{HasLog}
-use Rattle.relay_machine.proofs.Answering.{answered-unchanged}
+use Rattle.endpoint_membership.{specs.{Table.{Holds, TableValue, TableSettings}, declared.{change.Change.{Change}, limits.Limits.{Limits}}}, proofs.TargetsByLog.{IsAscending-targets_of, targets_want}}
+use Rattle.relay_machine.specs.{declared.{event.Event.{Event, TheVariants.{Packet}}, outcome.Outcome.{Outcome, TheVariants.{Copied}}, sends.{OneSend.{OneSend}, Step.{Step}}, settings.Settings.{Settings}}, Accepted.{accepted_log}, Answers.{outcome_of, sends_of, wants_after}}
+use Rattle.relay_machine.{specs.{EventAnswer.{EventAnswer, packet_answer, quiet}, Events.{now_of}, Logs.{IsAnswered}, Packets.{AreCopies, IsToCopy, copies, head_to_copy, receivers, targets_at}, Sends.{AreShort}, Settings.{membership_interval_ms, table_settings_of}, State.{HasLog}}, proofs.Answering.{answered-unchanged}}
 
 -- room for as many endpoints as the settings allow is enough for a table that represents some log by them
 pub table_room : (terms : TableSettings) (table : TableValue) (room : ℕ) → ∥ HasLog terms table ∥₁ → terms.limits.endpoints ≤ room → table.limits.endpoints ≤ room

@@ -1,7 +1,5 @@
 -- What one event more at the end adds.
-use Rattle.std.proofs.Common.{◌≡◌, ℕ, ◌+◌, List, [], ◌∷◌, ◌++◌, sum_by, sym, ap, ◌∙◌, append_assoc, arith}
-use Rattle.std.proofs.lemmas.List.{append-nil}
-use Rattle.std.proofs.lemmas.List.Sums.{sum_by-append}
+use Rattle.std.proofs.{Common.{◌≡◌, ℕ, ◌+◌, List, [], ◌∷◌, ◌++◌, sum_by, sym, ap, ◌∙◌, append_assoc, arith}, lemmas.List.{append-nil, Sums.{sum_by-append}}}
 use Rattle.relay_machine.specs.Courses.{each_after}
 
 -- the last event is answered after all the others

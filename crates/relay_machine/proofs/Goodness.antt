@@ -1,13 +1,7 @@
 -- The test of a response MAC says whether it is good.
-use Rattle.std.proofs.Common.{◌≡◌, ℕ, Bool, true, false, ◌||◌, ◌⊎◌, inl, inr, ⊎_elim, List, Option, Some, None, refl, ap}
-use Rattle.std.specs.Bool.{Decides}
-use Rattle.std.specs.Option.{IsSomeAnd}
-use Rattle.std.proofs.lemmas.Slice.Eq.{bytes_eq-Decides}
-use Rattle.amt_values.specs.EndpointValue.{EndpointValue}
-use Rattle.amt_values.specs.declared.mac.Mac48.{Mac48}
-use Rattle.response_mac.specs.ResponseMac.{IsGood, is_given, is_good, mac_of, same_mac}
-use Rattle.response_mac.specs.declared.secret.Secret.{Secret}
-use Rattle.response_mac.specs.declared.secrets.Secrets.{Secrets}
+use Rattle.std.{proofs.{Common.{◌≡◌, ℕ, Bool, true, false, ◌||◌, ◌⊎◌, inl, inr, ⊎_elim, List, Option, Some, None, refl, ap}, lemmas.Slice.Eq.{bytes_eq-Decides}}, specs.{Bool.{Decides}, Option.{IsSomeAnd}}}
+use Rattle.amt_values.specs.{EndpointValue.{EndpointValue}, declared.mac.Mac48.{Mac48}}
+use Rattle.response_mac.specs.{ResponseMac.{IsGood, is_given, is_good, mac_of, same_mac}, declared.{secret.Secret.{Secret}, secrets.Secrets.{Secrets}}}
 
 same_mac-true : (one other : Mac48) → Decides (same_mac one other) (one ≡ other)
 same_mac-true one other =

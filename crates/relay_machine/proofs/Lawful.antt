@@ -1,29 +1,11 @@
 -- A lawful report is what the inner octets are read as, and what they are read as is one.
 use Rattle.std.proofs.Common.{◌≡◌, ℕ, List, [], length, Option, Some, None, Result, Ok, Err, refl, sym, ap, subst, ◌∙◌}
-use Rattle.amt_values.specs.Address.{number_of}
-use Rattle.amt_values.specs.Octets.{AreOctets}
-use Rattle.amt_values.specs.declared.address.Ip.{Ip}
-use Rattle.amt_values.specs.declared.address.Ip.TheVariants.{V4, V6}
-use Rattle.amt_values.proofs.NetworkOrder.{AreOctets-drop}
-use Rattle.source_filter.specs.declared.record.Record.{Record}
-use Rattle.source_filter.specs.declared.fault.ReadFault.{ReadFault}
-use Rattle.source_filter.specs.declared.fault.ReadFault.TheVariants.{Report}
-use Rattle.source_filter.specs.declared.fault.ReportFault.{ReportFault}
-use Rattle.inner_datagrams.specs.Fault.{first_inner_fault}
-use Rattle.inner_datagrams.specs.Inner.{IsInner}
-use Rattle.amt_values.specs.Conditions.{unless}
-use Rattle.inner_datagrams.specs.Reading.{inner_at, payload_in, payload_start}
-use Rattle.inner_datagrams.specs.declared.inner.InnerFault.{InnerFault}
-use Rattle.inner_datagrams.proofs.Faults.{IsLawful-inner}
-use Rattle.inner_datagrams.proofs.Readings.{IsReading, answer_found, answer_payload}
-use Rattle.group_records.specs.declared.family.Family.{Family}
-use Rattle.group_records.specs.declared.family.Family.TheVariants.{V4 as Igmp, V6 as Mld}
-use Rattle.group_records.specs.Reading.{GivesRecords, report_of}
-use Rattle.group_records.specs.Report.{IsReport}
-use Rattle.group_records.proofs.ReportReadings.{answer_found as report_found, answer_only as report_only}
+use Rattle.amt_values.{specs.{Address.{number_of}, Octets.{AreOctets}, declared.address.Ip.{Ip, TheVariants.{V4, V6}}, Conditions.{unless}}, proofs.NetworkOrder.{AreOctets-drop}}
+use Rattle.source_filter.specs.{declared.record.Record.{Record}, declared.fault.{ReadFault.{ReadFault, TheVariants.{Report}}, ReportFault.{ReportFault}}}
+use Rattle.inner_datagrams.{specs.{Fault.{first_inner_fault}, Inner.{IsInner}, Reading.{inner_at, payload_in, payload_start}, declared.inner.InnerFault.{InnerFault}}, proofs.{Faults.{IsLawful-inner}, Readings.{IsReading, answer_found, answer_payload}}}
+use Rattle.group_records.{specs.{declared.family.Family.{Family, TheVariants.{V4 as Igmp, V6 as Mld}}, Reading.{GivesRecords, report_of}, Report.{IsReport}}, proofs.ReportReadings.{answer_found as report_found, answer_only as report_only}}
 use Rattle.mld_records.specs.PseudoHeader.{pseudo_header}
-use Rattle.relay_machine.specs.Lawful.{IsLawful, IsReportBetween}
-use Rattle.relay_machine.specs.Updates.{carried_report, report_by, report_in}
+use Rattle.relay_machine.specs.{Lawful.{IsLawful, IsReportBetween}, Updates.{carried_report, report_by, report_in}}
 
 -- a reading, as a call answers it
 answer_of : Result (List Record) ReportFault → Result (List Record) ReadFault

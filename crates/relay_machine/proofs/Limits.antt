@@ -1,44 +1,14 @@
 -- The memberships by the accepted log are within the limits, whatever the events.
-use Rattle.std.proofs.Common.{◌≡◌, ℕ, max, Bool, true, false, List, [], ◌∷◌, ◌++◌, reverse, filter, Option, Some, None, Result, Ok, Err, if◌then◌else◌, refl, sym, ap, subst, ◌∙◌, arith}
-use Rattle.std.proofs.lemmas.List.{reverse-append}
-use Rattle.amt_values.specs.Endpoint.{endpoint_of}
-use Rattle.amt_values.specs.EndpointValue.{EndpointValue}
-use Rattle.amt_messages.specs.declared.message.Message.{Message}
-use Rattle.amt_messages.specs.declared.message.Message.TheVariants.{Discovery, Advertisement, Request, Query, Update, Multicast, Teardown}
-use Rattle.amt_messages.specs.declared.refusal.Refused.{Refused}
-use Rattle.amt_messages.specs.Refusal.{message_of}
-use Rattle.response_mac.specs.declared.secret.Secret.{Secret}
-use Rattle.response_mac.specs.declared.secrets.Secrets.{Secrets}
-use Rattle.response_mac.specs.ResponseMac.{is_good}
+use Rattle.std.proofs.{Common.{◌≡◌, ℕ, max, Bool, true, false, List, [], ◌∷◌, ◌++◌, reverse, filter, Option, Some, None, Result, Ok, Err, if◌then◌else◌, refl, sym, ap, subst, ◌∙◌, arith}, lemmas.List.{reverse-append}}
+use Rattle.amt_values.specs.{Endpoint.{endpoint_of}, EndpointValue.{EndpointValue}}
+use Rattle.amt_messages.specs.{declared.{message.Message.{Message, TheVariants.{Discovery, Advertisement, Request, Query, Update, Multicast, Teardown}}, refusal.Refused.{Refused}}, Refusal.{message_of}}
+use Rattle.response_mac.specs.{declared.{secret.Secret.{Secret}, secrets.Secrets.{Secrets}}, ResponseMac.{is_good}}
 use Rattle.source_filter.specs.declared.record.Record.{Record}
 use Rattle.inner_datagrams.specs.declared.head.Head.{Head}
-use Rattle.endpoint_membership.specs.Membership.{is_fresh}
-use Rattle.endpoint_membership.specs.Limits.{IsWithin}
-use Rattle.endpoint_membership.specs.Log.{latest, on_group, records_at}
-use Rattle.endpoint_membership.specs.EndpointGroup.{EndpointGroup, same_endpoint}
-use Rattle.endpoint_membership.specs.Memberships.{is_live, membership_in}
-use Rattle.endpoint_membership.specs.Table.{AreMembershipsAt, Holds, TableValue, TableSettings, limit_passed, memberships_now}
-use Rattle.endpoint_membership.specs.declared.change.Change.{Change}
-use Rattle.endpoint_membership.specs.declared.change.Change.TheVariants.{Mark, Reported}
-use Rattle.endpoint_membership.specs.Membership.{Membership}
-use Rattle.endpoint_membership.specs.declared.limits.LimitFault.{LimitFault}
-use Rattle.endpoint_membership.proofs.MembershipsByLog.{AreMembershipsAt-memberships_at}
-use Rattle.endpoint_membership.proofs.Clearings.{IsWithin-cleared}
-use Rattle.endpoint_membership.proofs.HoldsAfter.{Holds-mark, IsWithin-log, latest-push}
-use Rattle.endpoint_membership.proofs.MembershipAt.{membership_at-other}
-use Rattle.endpoint_membership.proofs.AfterEntries.{AreMembershipsAt-later}
-use Rattle.endpoint_membership.proofs.WithinLimits.{IsWithin-filter, IsWithin-report}
-use Rattle.relay_machine.specs.declared.event.Event.{Event}
-use Rattle.relay_machine.specs.declared.event.Event.TheVariants.{Moment, Datagram, Packet, Rotate}
-use Rattle.relay_machine.specs.declared.outcome.Unlawful.{Unlawful}
-use Rattle.relay_machine.specs.declared.settings.Settings.{Settings}
-use Rattle.relay_machine.specs.declared.outcome.Outcome.{Outcome}
-use Rattle.relay_machine.specs.Accepted.{accepted_back, accepted_log, with_change}
-use Rattle.relay_machine.specs.EventAnswer.{datagram_answer, limited_answer, message_answer, packet_answer, teardown_answer, update_answer}
-use Rattle.relay_machine.specs.Events.{now_of, secrets_of}
-use Rattle.relay_machine.specs.Settings.{table_settings_of}
-use Rattle.relay_machine.specs.Packets.{head_to_copy, targets_at}
-use Rattle.relay_machine.specs.Updates.{forwardable_records, report_in}
+use Rattle.endpoint_membership.specs.{Membership.{is_fresh, Membership}, Limits.{IsWithin}, Log.{latest, on_group, records_at}, EndpointGroup.{EndpointGroup, same_endpoint}, Memberships.{is_live, membership_in}, Table.{AreMembershipsAt, Holds, TableValue, TableSettings, limit_passed, memberships_now}, declared.change.Change.{Change}}
+use Rattle.endpoint_membership.{specs.declared.{change.Change.TheVariants.{Mark, Reported}, limits.LimitFault.{LimitFault}}, proofs.{MembershipsByLog.{AreMembershipsAt-memberships_at}, Clearings.{IsWithin-cleared}, HoldsAfter.{Holds-mark, IsWithin-log, latest-push}, MembershipAt.{membership_at-other}, AfterEntries.{AreMembershipsAt-later}, WithinLimits.{IsWithin-filter, IsWithin-report}}}
+use Rattle.relay_machine.specs.{declared.{event.Event.{Event, TheVariants.{Moment, Datagram, Packet, Rotate}}, outcome.{Unlawful.{Unlawful}, Outcome.{Outcome}}, settings.Settings.{Settings}}, Accepted.{accepted_back, accepted_log, with_change}}
+use Rattle.relay_machine.specs.{EventAnswer.{datagram_answer, limited_answer, message_answer, packet_answer, teardown_answer, update_answer}, Events.{now_of, secrets_of}, Settings.{table_settings_of}, Packets.{head_to_copy, targets_at}, Updates.{forwardable_records, report_in}}
 
 -- the memberships by the log are within the limits
 abbrev IsLogWithin : TableSettings → List Change → Type 0

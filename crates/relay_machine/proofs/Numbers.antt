@@ -1,17 +1,10 @@
 -- The table of numbers: what holds of each key in the list holds of every key, and the defaults are
 -- lawful.
 use Rattle.std.proofs.Common.{◌≤◌, ◌<◌, ◌+◌, ◌*◌, ℕ, List, [], ◌∷◌, length, take, get_or, rules, refl, sym, subst, arith}
-use Rattle.std.proofs.lemmas.List.{take_more}
-use Rattle.std.proofs.lemmas.List.Elements.{All-append, All-cons, All-from_recursion, All-nil}
-use Rattle.std.proofs.lemmas.Nat.{mul-le}
-use Rattle.std.specs.List.{All, AllByRecursion}
+use Rattle.std.{proofs.lemmas.{List.{take_more, Elements.{All-append, All-cons, All-from_recursion, All-nil}}, Nat.{mul-le}}, specs.List.{All, AllByRecursion}}
 use Rattle.amt_values.specs.declared.address.Ip.{Ip}
 use Rattle.endpoint_membership.specs.Table.{AreLawful}
-use Rattle.relay_machine.specs.declared.settings.Settings.{Settings}
-use Rattle.relay_machine.specs.declared.number_key.NumberKey.{NumberKey}
-use Rattle.relay_machine.specs.declared.number_key.NumberKey.TheVariants.{Robustness, QuerySeconds, ResponseTenths, Endpoints, Groups, Sources, PacketLimit}
-use Rattle.relay_machine.specs.declared.number_key.TheConstants.{NUMBER_KEYS}
-use Rattle.relay_machine.specs.Settings.{AreLawfulSettings, IsInKeyRange, default_settings, membership_interval_ms, number_row}
+use Rattle.relay_machine.specs.{declared.{settings.Settings.{Settings}, number_key.{NumberKey.{NumberKey, TheVariants.{Robustness, QuerySeconds, ResponseTenths, Endpoints, Groups, Sources, PacketLimit}}, TheConstants.{NUMBER_KEYS}}}, Settings.{AreLawfulSettings, IsInKeyRange, default_settings, membership_interval_ms, number_row}}
 
 pub All-keys : (P : NumberKey → Type 0) → All P NUMBER_KEYS → (key : NumberKey) → P key
 All-keys P all Robustness = all 0 Robustness (omega arith)

@@ -1,53 +1,15 @@
 -- Where one more event leaves a relay.
-use Rattle.std.proofs.Common.{◌≡◌, ◌≤◌, ℕ, max, Bool, true, false, List, [], ◌∷◌, ◌++◌, Option, Some, None, Result, Ok, Err, refl, sym, ap, subst, ◌∙◌, arith}
+use Rattle.std.{proofs.{Common.{◌≡◌, ◌≤◌, ℕ, max, Bool, true, false, List, [], ◌∷◌, ◌++◌, Option, Some, None, Result, Ok, Err, refl, sym, ap, subst, ◌∙◌, arith}, Math.Logic.{∥∥₁_elim, ∥∥₁_map, ∥∥₁_prop}, Props.{props}, lemmas.List.{append-nil, reverse-append, reverse-reverse, Elements.{filter_map-append}, Sums.{fold-append}}}, specs.{Coded.{le_prop}, List.{fold, filter_map}, Result.{IfOk, OnErr}}}
 use mathlib.Core.HLevel.{is_prop→PathP}
-use Rattle.std.proofs.Math.Logic.{∥∥₁_elim, ∥∥₁_map, ∥∥₁_prop}
-use Rattle.std.proofs.Props.{props}
-use Rattle.std.proofs.lemmas.List.{append-nil, reverse-append, reverse-reverse}
-use Rattle.std.proofs.lemmas.List.Elements.{filter_map-append}
-use Rattle.std.proofs.lemmas.List.Sums.{fold-append}
-use Rattle.std.specs.Coded.{le_prop}
-use Rattle.std.specs.List.{fold, filter_map}
-use Rattle.std.specs.Result.{IfOk, OnErr}
-use Rattle.amt_values.specs.Endpoint.{endpoint_of}
-use Rattle.amt_values.specs.EndpointValue.{EndpointValue}
-use Rattle.amt_messages.specs.declared.message.Message.{Message}
-use Rattle.amt_messages.specs.declared.message.Message.TheVariants.{Discovery, Advertisement, Request, Query, Update, Multicast, Teardown}
-use Rattle.amt_messages.specs.declared.refusal.Refused.{Refused}
-use Rattle.amt_messages.specs.Refusal.{message_of}
-use Rattle.response_mac.specs.declared.secret.Secret.{Secret}
-use Rattle.response_mac.specs.declared.secrets.Secrets.{Secrets}
-use Rattle.response_mac.specs.ResponseMac.{is_good, secrets_after}
+use Rattle.amt_values.specs.{Endpoint.{endpoint_of}, EndpointValue.{EndpointValue}}
+use Rattle.amt_messages.specs.{declared.{message.Message.{Message, TheVariants.{Discovery, Advertisement, Request, Query, Update, Multicast, Teardown}}, refusal.Refused.{Refused}}, Refusal.{message_of}}
+use Rattle.response_mac.specs.{declared.{secret.Secret.{Secret}, secrets.Secrets.{Secrets}}, ResponseMac.{is_good, secrets_after}}
 use Rattle.inner_datagrams.specs.declared.head.Head.{Head}
 use Rattle.source_filter.specs.declared.record.Record.{Record}
-use Rattle.endpoint_membership.specs.Limits.{AreFew, IsWithin}
-use Rattle.endpoint_membership.specs.Log.{latest}
-use Rattle.endpoint_membership.specs.Memberships.{is_live}
-use Rattle.endpoint_membership.specs.Table.{Holds, IsWithinLimits, TableValue, TableSettings, limit_passed, memberships_now}
-use Rattle.endpoint_membership.specs.Targets.{TargetsValue}
-use Rattle.endpoint_membership.specs.declared.change.Change.{Change}
-use Rattle.endpoint_membership.specs.declared.change.Change.TheVariants.{Mark, Clear, Reported}
-use Rattle.endpoint_membership.specs.declared.limits.LimitFault.{LimitFault}
-use Rattle.endpoint_membership.specs.declared.limits.Limits.{Limits}
-use Rattle.endpoint_membership.specs.declared.row.Row.{Row}
-use Rattle.endpoint_membership.proofs.HoldsAfter.{IsWithin-log, latest-push}
-use Rattle.relay_machine.specs.declared.event.Event.{Event}
-use Rattle.relay_machine.specs.declared.event.Event.TheVariants.{Moment, Datagram, Packet, Rotate}
-use Rattle.relay_machine.specs.declared.outcome.Outcome.{Outcome}
-use Rattle.relay_machine.specs.declared.outcome.Unlawful.{Unlawful}
-use Rattle.relay_machine.specs.declared.relay.Relay.{Relay}
-use Rattle.relay_machine.specs.declared.sends.Step.{Step}
-use Rattle.relay_machine.specs.declared.settings.Settings.{Settings}
-use Rattle.relay_machine.specs.Accepted.{accepted_back, accepted_log, entry_after, entry_of, with_change}
-use Rattle.relay_machine.specs.Answers.{RelayAt, StandsFor, answer_of, moment_of, settings_of}
-use Rattle.relay_machine.specs.EventSize.{IsPayload}
-use Rattle.relay_machine.specs.EventAnswer.{EventAnswer, datagram_answer, event_answer, limited_answer, message_answer, packet_answer, teardown_answer, update_answer}
-use Rattle.relay_machine.specs.Events.{moment_in, now_of, secret_in, secrets_of}
-use Rattle.relay_machine.specs.Logs.{AnswersByLog, IsAnswered}
-use Rattle.relay_machine.specs.Packets.{head_to_copy, targets_at}
-use Rattle.relay_machine.specs.Settings.{table_settings_of}
-use Rattle.relay_machine.specs.State.{HasLog}
-use Rattle.relay_machine.specs.Updates.{forwardable_records, report_in}
+use Rattle.endpoint_membership.specs.{Limits.{AreFew, IsWithin}, Log.{latest}, Memberships.{is_live}, Table.{Holds, IsWithinLimits, TableValue, TableSettings, limit_passed, memberships_now}, Targets.{TargetsValue}}
+use Rattle.endpoint_membership.{specs.declared.{change.Change.{Change, TheVariants.{Mark, Clear, Reported}}, limits.{LimitFault.{LimitFault}, Limits.{Limits}}, row.Row.{Row}}, proofs.HoldsAfter.{IsWithin-log, latest-push}}
+use Rattle.relay_machine.specs.{declared.{event.Event.{Event, TheVariants.{Moment, Datagram, Packet, Rotate}}, outcome.{Outcome.{Outcome}, Unlawful.{Unlawful}}, relay.Relay.{Relay}, sends.Step.{Step}, settings.Settings.{Settings}}, Accepted.{accepted_back, accepted_log, entry_after, entry_of, with_change}, Answers.{RelayAt, StandsFor, answer_of, moment_of, settings_of}, EventSize.{IsPayload}}
+use Rattle.relay_machine.specs.{EventAnswer.{EventAnswer, datagram_answer, event_answer, limited_answer, message_answer, packet_answer, teardown_answer, update_answer}, Events.{moment_in, now_of, secret_in, secrets_of}, Logs.{AnswersByLog, IsAnswered}, Packets.{head_to_copy, targets_at}, Settings.{table_settings_of}, State.{HasLog}, Updates.{forwardable_records, report_in}}
 
 pub now_of-moment : (events : List Event) (moment : ℕ) → now_of (events ++ Moment moment ∷ []) ≡ max (now_of events) moment
 unfolding now_of

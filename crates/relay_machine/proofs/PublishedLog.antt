@@ -1,44 +1,15 @@
 -- What steps hand out is the published log.
-use Rattle.std.proofs.Common.{◌≡◌, ◌≤◌, ◌<◌, ◌⊎◌, ℕ, max, not, Bool, true, false, List, [], ◌∷◌, ◌++◌, reverse, take, drop, Option, Some, None, Result, Ok, Err, refl, sym, ap, subst, ◌∙◌, arith, inl, inr, le_refl, ⊎_elim, if◌then◌else◌}
-use Rattle.std.proofs.lemmas.List.{reverse-append, reverse-reverse}
-use Rattle.std.specs.List.{filter_map}
-use Rattle.amt_values.specs.Endpoint.{endpoint_of}
-use Rattle.amt_values.specs.EndpointValue.{EndpointValue}
-use Rattle.amt_messages.specs.declared.message.Message.{Message}
-use Rattle.amt_messages.specs.declared.message.Message.TheVariants.{Discovery, Advertisement, Request, Query, Update, Multicast, Teardown}
-use Rattle.amt_messages.specs.declared.refusal.Refused.{Refused}
-use Rattle.amt_messages.specs.Refusal.{message_of}
-use Rattle.response_mac.specs.declared.secret.Secret.{Secret}
-use Rattle.response_mac.specs.declared.secrets.Secrets.{Secrets}
-use Rattle.response_mac.specs.ResponseMac.{is_good}
+use Rattle.std.{proofs.{Common.{◌≡◌, ◌≤◌, ◌<◌, ◌⊎◌, ℕ, max, not, Bool, true, false, List, [], ◌∷◌, ◌++◌, reverse, take, drop, Option, Some, None, Result, Ok, Err, refl, sym, ap, subst, ◌∙◌, arith, inl, inr, le_refl, ⊎_elim, if◌then◌else◌}, lemmas.List.{reverse-append, reverse-reverse}}, specs.List.{filter_map}}
+use Rattle.amt_values.specs.{Endpoint.{endpoint_of}, EndpointValue.{EndpointValue}}
+use Rattle.amt_messages.specs.{declared.{message.Message.{Message, TheVariants.{Discovery, Advertisement, Request, Query, Update, Multicast, Teardown}}, refusal.Refused.{Refused}}, Refusal.{message_of}}
+use Rattle.response_mac.specs.{declared.{secret.Secret.{Secret}, secrets.Secrets.{Secrets}}, ResponseMac.{is_good}}
 use Rattle.inner_datagrams.specs.declared.head.Head.{Head}
 use Rattle.source_filter.specs.declared.record.Record.{Record}
-use Rattle.endpoint_membership.specs.Limits.{IsWithin}
-use Rattle.endpoint_membership.specs.Log.{brought, latest}
-use Rattle.endpoint_membership.specs.Membership.{Membership}
-use Rattle.endpoint_membership.specs.Memberships.{is_live, memberships_at}
-use Rattle.endpoint_membership.specs.Published.{AnswerAlike, ClearingsLetNoTimePass, IsPublishedPart, clears_nothing, published_of, with_published}
-use Rattle.endpoint_membership.specs.Table.{TableSettings, limit_passed, memberships_now}
-use Rattle.endpoint_membership.specs.declared.change.Change.{Change}
-use Rattle.endpoint_membership.specs.declared.change.Change.TheVariants.{Mark, Clear, Reported}
-use Rattle.endpoint_membership.specs.declared.limits.LimitFault.{LimitFault}
-use Rattle.endpoint_membership.proofs.HoldsAfter.{latest-push}
-use Rattle.endpoint_membership.proofs.PublishedLog.{AnswerAlike-published, IsPublishedPart-prefix, published-next, published-none}
-use Rattle.relay_machine.specs.declared.event.Event.{Event}
-use Rattle.relay_machine.specs.declared.event.Event.TheVariants.{Moment, Datagram, Packet, Rotate}
-use Rattle.relay_machine.specs.declared.outcome.Outcome.{Outcome}
-use Rattle.relay_machine.specs.declared.outcome.Unlawful.{Unlawful}
-use Rattle.relay_machine.specs.declared.settings.Settings.{Settings}
-use Rattle.relay_machine.specs.Accepted.{accepted_back, accepted_log, change_of, entry_after, entry_of, handed_out, with_change}
-use Rattle.relay_machine.specs.EventAnswer.{datagram_answer, event_answer, limited_answer, message_answer, packet_answer, teardown_answer, update_answer}
-use Rattle.relay_machine.specs.Events.{now_of, secrets_of}
-use Rattle.relay_machine.specs.Packets.{head_to_copy, targets_at}
-use Rattle.relay_machine.specs.Published.{published_log}
-use Rattle.relay_machine.specs.Settings.{AreLawfulSettings, membership_interval_ms, table_settings_of}
-use Rattle.relay_machine.specs.Updates.{forwardable_records, report_in}
-use Rattle.relay_machine.proofs.Limits.{always_within}
-use Rattle.relay_machine.proofs.Numbers.{AreLawful-settings}
-use Rattle.relay_machine.proofs.Onward.{accepted-push, now_of-moment, now_of-other}
+use Rattle.endpoint_membership.specs.{Limits.{IsWithin}, Log.{brought, latest}, Membership.{Membership}, Memberships.{is_live, memberships_at}, Published.{AnswerAlike, ClearingsLetNoTimePass, IsPublishedPart, clears_nothing, published_of, with_published}}
+use Rattle.endpoint_membership.{specs.{Table.{TableSettings, limit_passed, memberships_now}, declared.{change.Change.{Change, TheVariants.{Mark, Clear, Reported}}, limits.LimitFault.{LimitFault}}}, proofs.{HoldsAfter.{latest-push}, PublishedLog.{AnswerAlike-published, IsPublishedPart-prefix, published-next, published-none}}}
+use Rattle.relay_machine.specs.declared.{event.Event.{Event, TheVariants.{Moment, Datagram, Packet, Rotate}}, outcome.{Outcome.{Outcome}, Unlawful.{Unlawful}}, settings.Settings.{Settings}}
+use Rattle.relay_machine.specs.{Accepted.{accepted_back, accepted_log, change_of, entry_after, entry_of, handed_out, with_change}, EventAnswer.{datagram_answer, event_answer, limited_answer, message_answer, packet_answer, teardown_answer, update_answer}}
+use Rattle.relay_machine.{specs.{Events.{now_of, secrets_of}, Packets.{head_to_copy, targets_at}, Published.{published_log}, Settings.{AreLawfulSettings, membership_interval_ms, table_settings_of}, Updates.{forwardable_records, report_in}}, proofs.{Limits.{always_within}, Numbers.{AreLawful-settings}, Onward.{accepted-push, now_of-moment, now_of-other}}}
 
 -- an entry, if there is one, is made at this moment
 abbrev IsMadeAt : ℕ → Option Change → Type 0

@@ -1,14 +1,11 @@
 -- How long the datagrams of General Queries are.
 use Rattle.std.proofs.Common.{◌≡◌, ℕ, ◌+◌, ◌≤◌, Bool, true, false, List, [], length, Some, if◌then◌else◌, refl, arith}
 use Rattle.amt_messages.specs.StatedLength.{inner_length_of}
-use Rattle.group_records.specs.declared.family.Family.TheVariants.{V4}
-use Rattle.group_records.specs.Query.{written_query}
-use Rattle.group_records.proofs.WrittenQuery.{length-written_query}
+use Rattle.group_records.{specs.{declared.family.Family.TheVariants.{V4}, Query.{written_query}}, proofs.WrittenQuery.{length-written_query}}
 use Rattle.igmp_records.specs.Query.{written_query4}
 use Rattle.source_filter.specs.declared.query.QueryFields.{QueryFields}
 use Rattle.inner_datagrams.specs.Written.{written_inner4, written_inner6}
-use Rattle.relay_machine.specs.declared.settings.Settings.{Settings}
-use Rattle.relay_machine.specs.Queries.{general_query}
+use Rattle.relay_machine.specs.{declared.settings.Settings.{Settings}, Queries.{general_query}}
 
 pub length-written_query4 : (fields : QueryFields) → length (written_query4 fields) ≡ 12
 length-written_query4 fields = length-written_query V4 [] fields

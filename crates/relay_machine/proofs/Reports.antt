@@ -1,17 +1,9 @@
 -- What the inner octets of an Update are read as.
-use Rattle.std.proofs.Common.{◌≡◌, ◌≤◌, ℕ, List, [], ◌∷◌, length, drop, Bool, true, false, cond, Some, None, Result, Ok, Err, refl, sym, ap, ◌∙◌, arith}
-use Rattle.std.proofs.lemmas.List.Sums.{sum_by-cons}
-use Rattle.source_filter.specs.declared.record.Record.{Record}
-use Rattle.source_filter.specs.Record.{item_count}
-use Rattle.source_filter.specs.declared.fault.ReportFault.{ReportFault}
-use Rattle.amt_values.specs.Group.{is_forwardable}
-use Rattle.inner_datagrams.specs.Fault.{first_inner_fault}
-use Rattle.amt_values.specs.Conditions.{unless}
-use Rattle.inner_datagrams.specs.Reading.{inner_at, payload_in, payload_start}
-use Rattle.inner_datagrams.specs.declared.inner.Inner.{Inner as InnerPlace}
-use Rattle.inner_datagrams.specs.declared.inner.InnerFault.{InnerFault}
-use Rattle.relay_machine.specs.declared.outcome.Unlawful.TheVariants.{Inner, Report}
-use Rattle.relay_machine.specs.Updates.{carried_report, forwardable_records, report_by, report_in}
+use Rattle.std.proofs.{Common.{◌≡◌, ◌≤◌, ℕ, List, [], ◌∷◌, length, drop, Bool, true, false, cond, Some, None, Result, Ok, Err, refl, sym, ap, ◌∙◌, arith}, lemmas.List.Sums.{sum_by-cons}}
+use Rattle.source_filter.specs.{declared.record.Record.{Record}, declared.fault.ReportFault.{ReportFault}, Record.{item_count}}
+use Rattle.amt_values.specs.{Group.{is_forwardable}, Conditions.{unless}}
+use Rattle.inner_datagrams.specs.{Fault.{first_inner_fault}, Reading.{inner_at, payload_in, payload_start}, declared.inner.{Inner.{Inner as InnerPlace}, InnerFault.{InnerFault}}}
+use Rattle.relay_machine.specs.{declared.outcome.Unlawful.TheVariants.{Inner, Report}, Updates.{carried_report, forwardable_records, report_by, report_in}}
 
 pub report_in-inner : (inner : List ℕ) (fault : InnerFault) → first_inner_fault inner ≡ Some fault → report_in inner ≡ Err (Inner fault)
 unfolding report_in

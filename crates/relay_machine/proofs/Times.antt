@@ -1,10 +1,7 @@
 -- Which times a General Query can carry.
-use Rattle.std.proofs.Common.{◌≡◌, ℕ, ◌<◌, ◌↔◌, Option, Some, None, IsTrue, is_some, refl, sym, ap, ◌∙◌}
-use Rattle.std.specs.Option.{IfSome}
-use Rattle.igmp_records.specs.Code.{code_value, code_of}
-use Rattle.igmp_records.proofs.Codes.{code_of-code_value}
-use Rattle.mld_records.specs.Code.{code_value as mld_code_value, code_of as mld_code_of}
-use Rattle.mld_records.proofs.Codes.{code_of-code_value as mld_code_of-mld_code_value}
+use Rattle.std.{proofs.Common.{◌≡◌, ℕ, ◌<◌, ◌↔◌, Option, Some, None, IsTrue, is_some, refl, sym, ap, ◌∙◌}, specs.Option.{IfSome}}
+use Rattle.igmp_records.{specs.Code.{code_value, code_of}, proofs.Codes.{code_of-code_value}}
+use Rattle.mld_records.{specs.Code.{code_value as mld_code_value, code_of as mld_code_of}, proofs.Codes.{code_of-code_value as mld_code_of-mld_code_value}}
 use Rattle.relay_machine.specs.Settings.{HasCode, HasMldCode}
 
 -- the code that was found for a time is its code

@@ -1,26 +1,11 @@
 -- Which Updates and Teardowns change the memberships at a relay (RFC 7450, section 5.3.3).
 use Rattle.std.specs.Prelude.{◌≡◌, ℕ, true, List, [], ◌∷◌, ◌++◌, Some}
-use Rattle.amt_values.specs.Endpoint.{endpoint_of}
-use Rattle.amt_values.specs.EndpointValue.{EndpointValue}
-use Rattle.amt_values.specs.declared.mac.Mac48.{Mac48}
-use Rattle.amt_values.specs.declared.peer.Peer.{Peer}
-use Rattle.amt_messages.specs.Layout.{Spells}
-use Rattle.amt_messages.specs.declared.message.Message.TheVariants.{Teardown, Update}
-use Rattle.response_mac.specs.ResponseMac.{IsGood}
-use Rattle.response_mac.specs.declared.secret.Secret.{Secret}
+use Rattle.amt_values.specs.{Endpoint.{endpoint_of}, EndpointValue.{EndpointValue}, declared.{mac.Mac48.{Mac48}, peer.Peer.{Peer}}}
+use Rattle.amt_messages.specs.{Layout.{Spells}, declared.message.Message.TheVariants.{Teardown, Update}}
+use Rattle.response_mac.specs.{ResponseMac.{IsGood}, declared.secret.Secret.{Secret}}
 use Rattle.source_filter.specs.declared.record.Record.{Record}
-use Rattle.endpoint_membership.specs.Limits.{IsWithin}
-use Rattle.endpoint_membership.specs.Memberships.{is_live}
-use Rattle.endpoint_membership.specs.Table.{memberships_now}
-use Rattle.endpoint_membership.specs.declared.change.Change.TheVariants.{Reported}
-use Rattle.relay_machine.specs.declared.event.Event.{Event}
-use Rattle.relay_machine.specs.declared.event.Event.TheVariants.{Datagram}
-use Rattle.relay_machine.specs.declared.settings.Settings.{Settings}
-use Rattle.relay_machine.specs.Accepted.{accepted_log}
-use Rattle.relay_machine.specs.Events.{now_of, secrets_of}
-use Rattle.relay_machine.specs.Lawful.{IsLawful}
-use Rattle.relay_machine.specs.Settings.{table_settings_of}
-use Rattle.relay_machine.specs.Updates.{forwardable_records}
+use Rattle.endpoint_membership.specs.{Limits.{IsWithin}, Memberships.{is_live}, Table.{memberships_now}, declared.change.Change.TheVariants.{Reported}}
+use Rattle.relay_machine.specs.{declared.{event.Event.{Event, TheVariants.{Datagram}}, settings.Settings.{Settings}}, Accepted.{accepted_log}, Events.{now_of, secrets_of}, Lawful.{IsLawful}, Settings.{table_settings_of}, Updates.{forwardable_records}}
 
 -- the event is an Update of the endpoint: its response MAC is good after these events, it carries a
 -- lawful report of these records, and with those of them on groups that are forwarded the

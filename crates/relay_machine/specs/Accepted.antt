@@ -2,15 +2,8 @@
 -- for it.
 use Rattle.std.specs.Prelude.{List, [], ◌∷◌, ◌++◌, reverse, Option, Some, None, if◌then◌else◌}
 use Rattle.response_mac.specs.declared.secret.Secret.{Secret}
-use Rattle.endpoint_membership.specs.Memberships.{is_live}
-use Rattle.endpoint_membership.specs.Table.{TableSettings, memberships_now}
-use Rattle.endpoint_membership.specs.declared.change.Change.{Change}
-use Rattle.endpoint_membership.specs.declared.change.Change.TheVariants.{Reported, Clear, Mark}
-use Rattle.relay_machine.specs.declared.event.Event.{Event}
-use Rattle.relay_machine.specs.declared.settings.Settings.{Settings}
-use Rattle.relay_machine.specs.EventAnswer.{event_answer}
-use Rattle.relay_machine.specs.Events.{now_of, secrets_of}
-use Rattle.relay_machine.specs.Settings.{table_settings_of}
+use Rattle.endpoint_membership.specs.{Memberships.{is_live}, Table.{TableSettings, memberships_now}, declared.change.Change.{Change, TheVariants.{Reported, Clear, Mark}}}
+use Rattle.relay_machine.specs.{declared.{event.Event.{Event}, settings.Settings.{Settings}}, EventAnswer.{event_answer}, Events.{now_of, secrets_of}, Settings.{table_settings_of}}
 
 -- the log with one more entry, or with none
 abbrev pub with_change : List Change → Option Change → List Change

@@ -3,20 +3,8 @@ use Rattle.std.specs.Prelude.{◌≡◌, ℕ, Bool, List}
 use Rattle.amt_values.specs.EndpointValue.{EndpointValue}
 use Rattle.inner_datagrams.specs.declared.head.Head.{Head}
 use Rattle.response_mac.specs.declared.secret.Secret.{Secret}
-use Rattle.endpoint_membership.specs.Admission.{is_admitted}
-use Rattle.endpoint_membership.specs.Memberships.{rows_of}
-use Rattle.endpoint_membership.specs.Table.{Holds}
-use Rattle.endpoint_membership.specs.declared.change.Change.{Change}
-use Rattle.endpoint_membership.specs.declared.row.Row.{Row}
-use Rattle.relay_machine.specs.declared.event.Event.{Event}
-use Rattle.relay_machine.specs.declared.outcome.Outcome.{Outcome}
-use Rattle.relay_machine.specs.declared.relay.Relay.{Relay}
-use Rattle.relay_machine.specs.declared.sends.OneSend.{OneSend}
-use Rattle.relay_machine.specs.declared.settings.Settings.{Settings}
-use Rattle.relay_machine.specs.Accepted.{accepted_log}
-use Rattle.relay_machine.specs.EventAnswer.{EventAnswer, event_answer}
-use Rattle.relay_machine.specs.Events.{now_of, secrets_of}
-use Rattle.relay_machine.specs.Settings.{membership_interval_ms, table_settings_of}
+use Rattle.endpoint_membership.specs.{Admission.{is_admitted}, Memberships.{rows_of}, Table.{Holds}, declared.{change.Change.{Change}, row.Row.{Row}}}
+use Rattle.relay_machine.specs.{declared.{event.Event.{Event}, outcome.Outcome.{Outcome}, relay.Relay.{Relay}, sends.OneSend.{OneSend}, settings.Settings.{Settings}}, Accepted.{accepted_log}, EventAnswer.{EventAnswer, event_answer}, Events.{now_of, secrets_of}, Settings.{membership_interval_ms, table_settings_of}}
 
 -- what an event comes to, what is sent and what is entered after these events: a Query has its MAC
 -- under the secret that is current then

@@ -1,11 +1,7 @@
 -- What the events of a list come to, one after the other.
 use Rattle.std.specs.Prelude.{Bool, true, false, List, [], ◌∷◌, ◌++◌}
 use Rattle.response_mac.specs.declared.secret.Secret.{Secret}
-use Rattle.relay_machine.specs.declared.event.Event.{Event}
-use Rattle.relay_machine.specs.declared.outcome.Outcome.{Outcome}
-use Rattle.relay_machine.specs.declared.outcome.Outcome.TheVariants.{TornDown, Updated}
-use Rattle.relay_machine.specs.declared.settings.Settings.{Settings}
-use Rattle.relay_machine.specs.Answers.{outcome_of}
+use Rattle.relay_machine.specs.{declared.{event.Event.{Event}, outcome.Outcome.{Outcome, TheVariants.{TornDown, Updated}}, settings.Settings.{Settings}}, Answers.{outcome_of}}
 
 -- what is answered to each event, after these before all of them and those before it
 abbrev pub each_after : {E A : Type 0} → (List E → E → A) → List E → List E → List A

@@ -2,34 +2,15 @@
 -- 7450, section 5.3). It is the one place that says what a message comes to, what is sent and what is
 -- entered in the log.
 use Rattle.std.specs.Prelude.{ℕ, max, nat_le, Bool, true, false, List, [], ◌∷◌, length, Option, Some, None, Result, Ok, Err}
-use Rattle.amt_values.specs.Endpoint.{endpoint_of}
-use Rattle.amt_values.specs.EndpointValue.{EndpointValue}
-use Rattle.amt_messages.specs.declared.message.Message.{Message}
-use Rattle.amt_messages.specs.declared.message.Message.TheVariants.{Discovery, Advertisement, Request, Query, Update, Multicast, Teardown}
-use Rattle.amt_messages.specs.declared.refusal.Refused.{Refused}
-use Rattle.amt_messages.specs.Layout.{spelling_of}
-use Rattle.amt_messages.specs.Refusal.{message_of}
+use Rattle.amt_values.specs.{Endpoint.{endpoint_of}, EndpointValue.{EndpointValue}}
+use Rattle.amt_messages.specs.{declared.{message.Message.{Message, TheVariants.{Discovery, Advertisement, Request, Query, Update, Multicast, Teardown}}, refusal.Refused.{Refused}}, Layout.{spelling_of}, Refusal.{message_of}}
 use Rattle.inner_datagrams.specs.declared.head.Head.{Head}
 use Rattle.source_filter.specs.declared.record.Record.{Record}
-use Rattle.response_mac.specs.declared.secrets.Secrets.{Secrets}
-use Rattle.response_mac.specs.ResponseMac.{is_good}
-use Rattle.endpoint_membership.specs.Limits.{live_count}
-use Rattle.endpoint_membership.specs.Memberships.{is_live}
-use Rattle.endpoint_membership.specs.Table.{TableSettings, limit_passed, memberships_now}
-use Rattle.endpoint_membership.specs.declared.change.Change.{Change}
-use Rattle.endpoint_membership.specs.declared.change.Change.TheVariants.{Clear, Mark, Reported}
-use Rattle.endpoint_membership.specs.declared.limits.LimitFault.{LimitFault}
-use Rattle.relay_machine.specs.declared.event.Event.{Event}
-use Rattle.relay_machine.specs.declared.event.Event.TheVariants.{Moment, Datagram, Packet, Rotate}
-use Rattle.relay_machine.specs.declared.outcome.Outcome.{Outcome}
+use Rattle.response_mac.specs.{declared.secrets.Secrets.{Secrets}, ResponseMac.{is_good}}
+use Rattle.endpoint_membership.specs.{Limits.{live_count}, Memberships.{is_live}, Table.{TableSettings, limit_passed, memberships_now}, declared.{change.Change.{Change, TheVariants.{Clear, Mark, Reported}}, limits.LimitFault.{LimitFault}}}
+use Rattle.relay_machine.specs.declared.{event.Event.{Event, TheVariants.{Moment, Datagram, Packet, Rotate}}, outcome.Outcome.{Outcome}}
 use Rattle.relay_machine.specs.declared.outcome.Outcome.TheVariants.{Moved, Rotated, Advertised, Queried, BadSource, Undecoded, WrongKind, BadMac, Unlawful, Over, Updated, TornDown, NoTunnel, Copied}
-use Rattle.relay_machine.specs.declared.outcome.Unlawful.{Unlawful as Fault}
-use Rattle.relay_machine.specs.declared.sends.OneSend.{OneSend}
-use Rattle.relay_machine.specs.declared.settings.Settings.{Settings}
-use Rattle.relay_machine.specs.Packets.{copies, head_to_copy, targets_at}
-use Rattle.relay_machine.specs.Queries.{query_for}
-use Rattle.relay_machine.specs.Settings.{table_settings_of}
-use Rattle.relay_machine.specs.Updates.{forwardable_records, report_in}
+use Rattle.relay_machine.specs.{declared.{outcome.Unlawful.{Unlawful as Fault}, sends.OneSend.{OneSend}, settings.Settings.{Settings}}, Packets.{copies, head_to_copy, targets_at}, Queries.{query_for}, Settings.{table_settings_of}, Updates.{forwardable_records, report_in}}
 
 -- what an event comes to, what is sent, and what is entered in the accepted log
 pub record EventAnswer : Type 0 where

@@ -1,7 +1,6 @@
 -- Which events there are, and which of them carry a payload.
 use Rattle.std.specs.Prelude.{◌≤◌, length}
-use Rattle.relay_machine.specs.declared.event.Event.{Event}
-use Rattle.relay_machine.specs.declared.event.Event.TheVariants.{Moment, Datagram, Packet, Rotate}
+use Rattle.relay_machine.specs.declared.event.Event.{Event, TheVariants.{Moment, Datagram, Packet, Rotate}}
 
 -- at most 65,535 octets: no UDP payload has more, and no IPv4 packet
 abbrev pub IsEvent : Event → Type 0

@@ -1,11 +1,7 @@
 -- The moment and the secrets that events leave.
-use Rattle.std.specs.Prelude.{ℕ, max, List, Option, Some, None}
-use Rattle.std.specs.List.{fold, filter_map}
-use Rattle.response_mac.specs.declared.secret.Secret.{Secret}
-use Rattle.response_mac.specs.declared.secrets.Secrets.{Secrets}
-use Rattle.response_mac.specs.ResponseMac.{secrets_after}
-use Rattle.relay_machine.specs.declared.event.Event.{Event}
-use Rattle.relay_machine.specs.declared.event.Event.TheVariants.{Moment, Datagram, Packet, Rotate}
+use Rattle.std.specs.{Prelude.{ℕ, max, List, Option, Some, None}, List.{fold, filter_map}}
+use Rattle.response_mac.specs.{declared.{secret.Secret.{Secret}, secrets.Secrets.{Secrets}}, ResponseMac.{secrets_after}}
+use Rattle.relay_machine.specs.declared.event.Event.{Event, TheVariants.{Moment, Datagram, Packet, Rotate}}
 
 -- the moment that an event reports, if it reports one
 abbrev pub moment_in : Event → Option ℕ

@@ -1,8 +1,6 @@
 -- What a membership report in an Update is (RFC 7450, section 5.1.5).
 use Rattle.std.specs.Prelude.{ℕ, List}
-use Rattle.amt_values.specs.Address.{number_of}
-use Rattle.amt_values.specs.declared.address.Ip.{Ip}
-use Rattle.amt_values.specs.declared.address.Ip.TheVariants.{V4, V6}
+use Rattle.amt_values.specs.{Address.{number_of}, declared.address.Ip.{Ip, TheVariants.{V4, V6}}}
 use Rattle.source_filter.specs.declared.record.Record.{Record}
 use Rattle.inner_datagrams.specs.Inner.{IsInner}
 use Rattle.igmp_records.specs.Report.{IsReport4}

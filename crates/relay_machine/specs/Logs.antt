@@ -1,10 +1,7 @@
 -- How a step follows the table of answers, by whatever log a table of memberships represents.
 use Rattle.std.specs.Prelude.{◌≡◌, List, Result, IfOk, None}
-use Rattle.endpoint_membership.specs.Table.{ForLogBy, Holds, TableValue, TableSettings}
-use Rattle.endpoint_membership.specs.declared.change.Change.{Change}
-use Rattle.relay_machine.specs.declared.sends.Step.{Step}
-use Rattle.relay_machine.specs.Accepted.{handed_out, with_change}
-use Rattle.relay_machine.specs.EventAnswer.{EventAnswer}
+use Rattle.endpoint_membership.specs.{Table.{ForLogBy, Holds, TableValue, TableSettings}, declared.change.Change.{Change}}
+use Rattle.relay_machine.specs.{declared.sends.Step.{Step}, Accepted.{handed_out, with_change}, EventAnswer.{EventAnswer}}
 
 -- by every log that the table represents, where the call succeeded
 abbrev pub IfOkForLogBy : {A E : Type 0} → TableSettings → TableValue → Result A E → (List Change → A → Type 0) → Type 0

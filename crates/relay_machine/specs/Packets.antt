@@ -1,22 +1,10 @@
 -- What a native multicast packet comes to, and who gets a copy (RFC 7450, section 5.3.3).
-use Rattle.std.specs.Prelude.{◌≡◌, ℕ, ◌≤◌, ◌↔◌, nat_lt, Bool, true, false, List, length, map, Result, Ok, Err, if◌then◌else◌}
-use Rattle.std.specs.List.{All, Contains}
-use Rattle.amt_values.specs.Group.{is_forwardable}
-use Rattle.amt_values.specs.Order.{endpoint_order}
-use Rattle.amt_values.specs.EndpointValue.{EndpointValue}
-use Rattle.amt_messages.specs.Layout.{IsCanonical, spelling_of}
-use Rattle.amt_messages.specs.declared.message.Message.TheVariants.{Multicast}
-use Rattle.amt_values.specs.Ascending.{IsAscending}
-use Rattle.inner_datagrams.specs.Head.{IsHead, head_of}
-use Rattle.inner_datagrams.specs.declared.head.Head.{Head}
-use Rattle.inner_datagrams.specs.declared.head.HeadFault.{HeadFault}
-use Rattle.endpoint_membership.specs.Table.{TableSettings}
-use Rattle.endpoint_membership.specs.Targets.{targets_of}
-use Rattle.endpoint_membership.specs.declared.change.Change.{Change}
-use Rattle.relay_machine.specs.declared.outcome.NotForwarded.TheVariants.{Head as NoHead, Scope}
-use Rattle.relay_machine.specs.declared.outcome.Outcome.{Outcome}
-use Rattle.relay_machine.specs.declared.outcome.Outcome.TheVariants.{TooBig, NotForwarded}
-use Rattle.relay_machine.specs.declared.sends.OneSend.{OneSend}
+use Rattle.std.specs.{Prelude.{◌≡◌, ℕ, ◌≤◌, ◌↔◌, nat_lt, Bool, true, false, List, length, map, Result, Ok, Err, if◌then◌else◌}, List.{All, Contains}}
+use Rattle.amt_values.specs.{Group.{is_forwardable}, Order.{endpoint_order}, EndpointValue.{EndpointValue}, Ascending.{IsAscending}}
+use Rattle.amt_messages.specs.{Layout.{IsCanonical, spelling_of}, declared.message.Message.TheVariants.{Multicast}}
+use Rattle.inner_datagrams.specs.{Head.{IsHead, head_of}, declared.head.{Head.{Head}, HeadFault.{HeadFault}}}
+use Rattle.endpoint_membership.specs.{Table.{TableSettings}, Targets.{targets_of}, declared.change.Change.{Change}}
+use Rattle.relay_machine.specs.declared.{outcome.{NotForwarded.TheVariants.{Head as NoHead, Scope}, Outcome.{Outcome, TheVariants.{TooBig, NotForwarded}}}, sends.OneSend.{OneSend}}
 
 -- by its group's scope
 abbrev pub by_scope : Bool → Head → Result Head Outcome

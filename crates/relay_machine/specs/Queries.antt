@@ -1,15 +1,11 @@
 -- The Membership Query that answers a Request.
 use Rattle.std.specs.Prelude.{ℕ, ◌*◌, Bool, true, false, List, Some, if◌then◌else◌}
 use Rattle.amt_values.specs.EndpointValue.{EndpointValue}
-use Rattle.amt_messages.specs.declared.message.Message.{Message}
-use Rattle.amt_messages.specs.declared.message.Message.TheVariants.{Query}
-use Rattle.igmp_records.specs.Code.{code_of}
-use Rattle.igmp_records.specs.Query.{written_query4}
-use Rattle.mld_records.specs.Code.{code_of as mld_code_of}
-use Rattle.mld_records.specs.Query.{written_query6}
+use Rattle.amt_messages.specs.declared.message.Message.{Message, TheVariants.{Query}}
+use Rattle.igmp_records.specs.{Code.{code_of}, Query.{written_query4}}
+use Rattle.mld_records.specs.{Code.{code_of as mld_code_of}, Query.{written_query6}}
 use Rattle.inner_datagrams.specs.Written.{written_inner4, written_inner6}
-use Rattle.response_mac.specs.declared.secret.Secret.{Secret}
-use Rattle.response_mac.specs.ResponseMac.{mac_of}
+use Rattle.response_mac.specs.{declared.secret.Secret.{Secret}, ResponseMac.{mac_of}}
 use Rattle.source_filter.specs.declared.query.QueryFields.{QueryFields}
 use Rattle.relay_machine.specs.declared.settings.Settings.{Settings}
 

@@ -2,9 +2,7 @@
 use Rattle.std.specs.Prelude.{List, Option, Some, None, Result}
 use Rattle.amt_values.specs.Answer.{Gives as GivesBy}
 use Rattle.source_filter.specs.declared.record.Record.{Record}
-use Rattle.relay_machine.specs.declared.outcome.Unlawful.{Unlawful as Fault}
-use Rattle.relay_machine.specs.declared.report.Unread.{Unread}
-use Rattle.relay_machine.specs.declared.report.Unread.TheVariants.{Unlawful, Memory}
+use Rattle.relay_machine.specs.declared.{outcome.Unlawful.{Unlawful as Fault}, report.Unread.{Unread, TheVariants.{Unlawful, Memory}}}
 
 -- the fault of the octets in an answer, none where memory ran out
 abbrev pub cause_in : Unread → Option Fault

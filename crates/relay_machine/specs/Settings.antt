@@ -4,9 +4,7 @@ use Rattle.amt_values.specs.declared.address.Ip.{Ip}
 use Rattle.endpoint_membership.specs.Table.{TableSettings}
 use Rattle.igmp_records.specs.Code.{code_value}
 use Rattle.mld_records.specs.Code.{code_value as mld_code_value}
-use Rattle.relay_machine.specs.declared.number_key.NumberKey.{NumberKey}
-use Rattle.relay_machine.specs.declared.number_key.NumberKey.TheVariants.{Robustness, QuerySeconds, ResponseTenths, Endpoints, Groups, Sources, PacketLimit}
-use Rattle.relay_machine.specs.declared.settings.Settings.{Settings}
+use Rattle.relay_machine.specs.declared.{number_key.NumberKey.{NumberKey, TheVariants.{Robustness, QuerySeconds, ResponseTenths, Endpoints, Groups, Sources, PacketLimit}}, settings.Settings.{Settings}}
 
 -- a setting that is one number: its range, its default, the number in settings, and settings with
 -- another

@@ -1,19 +1,11 @@
 -- What an Update carries (RFC 7450, section 5.1.5).
-use Rattle.std.specs.Prelude.{ℕ, List, Option, Some, None, Result, Ok, Err}
-use Rattle.std.specs.List.{filter}
-use Rattle.amt_values.specs.Address.{number_of}
-use Rattle.amt_values.specs.Group.{is_forwardable}
-use Rattle.amt_values.specs.declared.address.Ip.{Ip}
-use Rattle.amt_values.specs.declared.address.Ip.TheVariants.{V4, V6}
-use Rattle.source_filter.specs.declared.record.Record.{Record}
-use Rattle.source_filter.specs.declared.fault.ReportFault.{ReportFault}
-use Rattle.inner_datagrams.specs.Fault.{first_inner_fault}
-use Rattle.inner_datagrams.specs.Reading.{inner_at, payload_in}
-use Rattle.inner_datagrams.specs.declared.inner.InnerFault.{InnerFault}
+use Rattle.std.specs.{Prelude.{ℕ, List, Option, Some, None, Result, Ok, Err}, List.{filter}}
+use Rattle.amt_values.specs.{Address.{number_of}, Group.{is_forwardable}, declared.address.Ip.{Ip, TheVariants.{V4, V6}}}
+use Rattle.source_filter.specs.{declared.record.Record.{Record}, declared.fault.ReportFault.{ReportFault}}
+use Rattle.inner_datagrams.specs.{Fault.{first_inner_fault}, Reading.{inner_at, payload_in}, declared.inner.InnerFault.{InnerFault}}
 use Rattle.igmp_records.specs.Report.{report4_of}
 use Rattle.mld_records.specs.Report.{report6_of}
-use Rattle.relay_machine.specs.declared.outcome.Unlawful.{Unlawful as Fault}
-use Rattle.relay_machine.specs.declared.outcome.Unlawful.TheVariants.{Inner, Report}
+use Rattle.relay_machine.specs.declared.outcome.Unlawful.{Unlawful as Fault, TheVariants.{Inner, Report}}
 
 -- the records of the report in a datagram, unless the one or the other has a fault
 abbrev pub report_by : Option InnerFault → Result (List Record) ReportFault → Result (List Record) Fault

@@ -1,15 +1,9 @@
 //! What a datagram comes to: its source, its octets, its type, and the message by its own file.
 ghost use Rattle.std.specs.Prelude.{◌≡◌, ◌≤◌, length, IfOk, OnErr};
-ghost use Rattle.amt_messages.specs.Messages.{IsSendable};
-ghost use Rattle.amt_messages.specs.Refusal.{message_of};
-ghost use Rattle.amt_values.specs.Endpoint.{endpoint_of};
-ghost use Rattle.amt_values.specs.Octets.{AreOctets};
-ghost use Rattle.endpoint_membership.specs.Log.{latest};
-ghost use Rattle.endpoint_membership.specs.Table.{IsWithinLimits};
-ghost use Rattle.relay_machine.specs.EventAnswer.{datagram_answer, message_answer};
-ghost use Rattle.relay_machine.specs.Logs.{AnswersByLog};
-ghost use Rattle.relay_machine.specs.Sends.{AreShort};
-ghost use Rattle.relay_machine.specs.Settings.{table_settings_of};
+ghost use Rattle.amt_messages.specs.{Messages.{IsSendable}, Refusal.{message_of}};
+ghost use Rattle.amt_values.specs.{Endpoint.{endpoint_of}, Octets.{AreOctets}};
+ghost use Rattle.endpoint_membership.specs.{Log.{latest}, Table.{IsWithinLimits}};
+ghost use Rattle.relay_machine.specs.{EventAnswer.{datagram_answer, message_answer}, Logs.{AnswersByLog}, Sends.{AreShort}, Settings.{table_settings_of}};
 
 use crate::discovery::take_discovery;
 use crate::outcome::Outcome;

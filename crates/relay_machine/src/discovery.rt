@@ -1,9 +1,7 @@
 //! What a Discovery is answered. It knows neither table nor secret.
 ghost use Rattle.std.specs.Prelude.{◌≡◌, [], ◌∷◌, IfOk, None};
 ghost use Rattle.endpoint_membership.specs.Table.{TableValue, TableSettings};
-ghost use Rattle.relay_machine.specs.EventAnswer.{replied};
-ghost use Rattle.relay_machine.specs.Logs.{AnswersByLog};
-ghost use Rattle.relay_machine.specs.Sends.{AreShort};
+ghost use Rattle.relay_machine.specs.{EventAnswer.{replied}, Logs.{AnswersByLog}, Sends.{AreShort}};
 
 use crate::outcome::Outcome;
 use crate::sends::Step;

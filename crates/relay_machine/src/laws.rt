@@ -2,8 +2,7 @@
 ghost use Rattle.std.specs.Prelude.{ℕ, ◌≡◌, ◌↔◌, List, Ok};
 ghost use Rattle.amt_values.specs.Octets.{AreOctets};
 ghost use Rattle.source_filter.specs.declared.record.Record.{Record};
-ghost use Rattle.relay_machine.specs.Lawful.{IsLawful};
-ghost use Rattle.relay_machine.specs.Updates.{report_in};
+ghost use Rattle.relay_machine.specs.{Lawful.{IsLawful}, Updates.{report_in}};
 
 /// What the inner octets of an Update are read as is the report that they are by the standards (RFC
 /// 7450, section 5.1.5; RFC 3376, section 4.2; RFC 3810, section 5.2): an Update is unlawful exactly

@@ -1,13 +1,7 @@
 //! To whom a packet is copied. It reads the packet's head, and leaves the relay as it was.
 ghost use Rattle.std.specs.Prelude.{◌≡◌, ◌≤◌, [], length, nat_lt, IfOk};
-ghost use Rattle.endpoint_membership.specs.Log.{latest};
-ghost use Rattle.endpoint_membership.specs.Table.{ForLogBy, IsWithinLimits, TableSettings};
-ghost use Rattle.relay_machine.specs.EventAnswer.{packet_answer};
-ghost use Rattle.relay_machine.specs.Logs.{AnswersByLog, IfOkForLogBy};
-ghost use Rattle.relay_machine.specs.Packets.{copies, head_to_copy, targets_at};
-ghost use Rattle.relay_machine.specs.Sends.{AreShort};
-ghost use Rattle.relay_machine.specs.Settings.{table_settings_of};
-ghost use Rattle.relay_machine.specs.State.{HasLog};
+ghost use Rattle.endpoint_membership.specs.{Log.{latest}, Table.{ForLogBy, IsWithinLimits, TableSettings}};
+ghost use Rattle.relay_machine.specs.{EventAnswer.{packet_answer}, Logs.{AnswersByLog, IfOkForLogBy}, Packets.{copies, head_to_copy, targets_at}, Sends.{AreShort}, Settings.{table_settings_of}, State.{HasLog}};
 
 use crate::outcome::{NotForwarded, Outcome};
 use crate::sends::{OneSend, Sends, Step};

@@ -1,15 +1,8 @@
 //! What the steps of a relay hand out, all together. It must not know who reads it.
 ghost use Rattle.std.specs.Prelude.{ℕ, ◌≡◌, List, [], ◌∷◌, ◌++◌, take};
 ghost use Rattle.response_mac.specs.declared.secret.Secret.{Secret};
-ghost use Rattle.endpoint_membership.specs.Limits.{IsWithin};
-ghost use Rattle.endpoint_membership.specs.Published.{AnswerAlike, IsPublishedPart};
-ghost use Rattle.endpoint_membership.specs.Table.{memberships_now};
-ghost use Rattle.endpoint_membership.specs.declared.change.Change.{Change};
-ghost use Rattle.relay_machine.specs.Accepted.{accepted_log, change_of, with_change};
-ghost use Rattle.relay_machine.specs.Published.{published_log};
-ghost use Rattle.relay_machine.specs.Settings.{AreLawfulSettings, membership_interval_ms, table_settings_of};
-ghost use Rattle.relay_machine.specs.declared.event.Event.{Event};
-ghost use Rattle.relay_machine.specs.declared.settings.Settings.{Settings};
+ghost use Rattle.endpoint_membership.specs.{Limits.{IsWithin}, Published.{AnswerAlike, IsPublishedPart}, Table.{memberships_now}, declared.change.Change.{Change}};
+ghost use Rattle.relay_machine.specs.{Accepted.{accepted_log, change_of, with_change}, Published.{published_log}, Settings.{AreLawfulSettings, membership_interval_ms, table_settings_of}, declared.{event.Event.{Event}, settings.Settings.{Settings}}};
 
 /// The entries that steps hand out are the published log, in order. It tells what the accepted log of the
 /// events tells; each prefix of it is the published log of a prefix of that one, and tells what that tells;

@@ -1,9 +1,7 @@
 //! The relay as a machine: where it starts, what is read off it, and one step. It knows no message.
-ghost use Rattle.std.specs.Prelude.{◌≡◌, ◌≤◌, []};
+ghost use Rattle.std.{specs.Prelude.{◌≡◌, ◌≤◌, []}, proofs.Props.{props}};
 ghost use Rattle.endpoint_membership.specs.Table.{IsWithinLimits};
-ghost use Rattle.relay_machine.specs.Settings.{table_settings_of};
-ghost use Rattle.relay_machine.specs.State.{HasLog};
-ghost use Rattle.std.proofs.Props.{props};
+ghost use Rattle.relay_machine.specs.{Settings.{table_settings_of}, State.{HasLog}};
 
 use crate::datagram::take_datagram;
 use crate::event::Event;
@@ -43,22 +41,9 @@ impl Relay {
     ghost use Rattle.amt_values.specs.EndpointValue.{EndpointValue};
     ghost use Rattle.source_filter.specs.declared.record.Record.{Record as RecordValue};
     ghost use Rattle.inner_datagrams.specs.declared.head.Head.{Head};
-    ghost use Rattle.endpoint_membership.specs.Limits.{AreFew, IsWithin, live_count};
-    ghost use Rattle.endpoint_membership.specs.Log.{latest};
-    ghost use Rattle.endpoint_membership.specs.Memberships.{rows_of};
-    ghost use Rattle.endpoint_membership.specs.Table.{memberships_now};
-    ghost use Rattle.endpoint_membership.specs.declared.change.Change.TheVariants.{Clear, Reported};
-    ghost use Rattle.relay_machine.specs.declared.event.Event.{Event as EventValue};
-    ghost use Rattle.relay_machine.specs.declared.event.Event.TheVariants.{Packet};
-    ghost use Rattle.relay_machine.specs.declared.outcome.Outcome.TheVariants.{Copied, TornDown, Updated};
-    ghost use Rattle.relay_machine.specs.Acceptance.{IsAcceptedTeardown, IsAcceptedUpdate, IsSomeAcceptedTeardown, IsSomeAcceptedUpdate};
-    ghost use Rattle.relay_machine.specs.Accepted.{accepted_log, change_of, with_change};
-    ghost use Rattle.relay_machine.specs.Answers.{After, ForRelayLog, RelayAt, StandsFor, moment_of, outcome_of, rows_after, sends_of, settings_of, wants_after};
-    ghost use Rattle.relay_machine.specs.EventSize.{IsEvent, IsPayload};
-    ghost use Rattle.relay_machine.specs.Events.{now_of};
-    ghost use Rattle.relay_machine.specs.Packets.{AreCopies, IsToCopy};
-    ghost use Rattle.relay_machine.specs.Updates.{forwardable_records};
-    ghost use Rattle.relay_machine.specs.Settings.{AreLawfulSettings, membership_interval_ms};
+    ghost use Rattle.endpoint_membership.specs.{Limits.{AreFew, IsWithin, live_count}, Log.{latest}, Memberships.{rows_of}, Table.{memberships_now}, declared.change.Change.TheVariants.{Clear, Reported}};
+    ghost use Rattle.relay_machine.specs.{declared.{event.Event.{Event as EventValue, TheVariants.{Packet}}, outcome.Outcome.TheVariants.{Copied, TornDown, Updated}}, Acceptance.{IsAcceptedTeardown, IsAcceptedUpdate, IsSomeAcceptedTeardown, IsSomeAcceptedUpdate}, Accepted.{accepted_log, change_of, with_change}};
+    ghost use Rattle.relay_machine.specs.{Answers.{After, ForRelayLog, RelayAt, StandsFor, moment_of, outcome_of, rows_after, sends_of, settings_of, wants_after}, EventSize.{IsEvent, IsPayload}, Events.{now_of}, Packets.{AreCopies, IsToCopy}, Updates.{forwardable_records}, Settings.{AreLawfulSettings, membership_interval_ms}};
 
     /// A relay at moment 0, whose current secret is this one, without memberships.
     ///

@@ -2,8 +2,7 @@
 ghost use Rattle.std.specs.Prelude.{◌≡◌, ◌≤◌, length, IfOk};
 ghost use Rattle.source_filter.specs.Record.{item_count};
 ghost use Rattle.group_records.specs.Reading.{GivesRecords};
-ghost use Rattle.relay_machine.specs.Reading.{Gives};
-ghost use Rattle.relay_machine.specs.Updates.{carried_report, forwardable_records, report_in};
+ghost use Rattle.relay_machine.specs.{Reading.{Gives}, Updates.{carried_report, forwardable_records, report_in}};
 
 use crate::outcome::Unlawful;
 use amt_values::{Ip, forwardable, wire16};

@@ -1,11 +1,7 @@
 //! What a Request is answered. Nothing of it is kept.
 ghost use Rattle.std.specs.Prelude.{◌≡◌, IfOk};
 ghost use Rattle.endpoint_membership.specs.Table.{ForLogBy, IsWithinLimits};
-ghost use Rattle.relay_machine.specs.EventAnswer.{is_limited, replied};
-ghost use Rattle.relay_machine.specs.Logs.{AnswersByLog};
-ghost use Rattle.relay_machine.specs.Queries.{query_for};
-ghost use Rattle.relay_machine.specs.Sends.{AreShort};
-ghost use Rattle.relay_machine.specs.Settings.{table_settings_of};
+ghost use Rattle.relay_machine.specs.{EventAnswer.{is_limited, replied}, Logs.{AnswersByLog}, Queries.{query_for}, Sends.{AreShort}, Settings.{table_settings_of}};
 
 use crate::outcome::Outcome;
 use crate::sends::Step;

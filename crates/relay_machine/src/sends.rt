@@ -1,7 +1,6 @@
 //! What one event came to: its outcome, the datagrams to send, and the entry that is handed out.
 ghost use Rattle.std.specs.Prelude.{◌≡◌, [], ◌∷◌, IfOk, None, Some};
-ghost use Rattle.amt_messages.specs.Messages.{IsSendable};
-ghost use Rattle.amt_messages.specs.Layout.{spelling_of};
+ghost use Rattle.amt_messages.specs.{Messages.{IsSendable}, Layout.{spelling_of}};
 ghost use Rattle.relay_machine.specs.Sends.{AreShort};
 
 use crate::outcome::Outcome;

@@ -1,7 +1,6 @@
 //! What a relay is set up with, by the table of numbers. It knows no script and no file that says it.
 ghost use Rattle.std.specs.Prelude.{◌≡◌, ◌≤◌, ◌*◌, ◌↔◌, IsTrue, IsFalse};
-ghost use Rattle.relay_machine.specs.declared.number_key.NumberKey.{NumberKey as Key};
-ghost use Rattle.relay_machine.specs.Settings.{AreLawfulSettings, HasCode, HasMldCode, HasQueryTimes, IsInKeyRange, default_settings, membership_interval_ms, number_at, with_number};
+ghost use Rattle.relay_machine.specs.{declared.number_key.NumberKey.{NumberKey as Key}, Settings.{AreLawfulSettings, HasCode, HasMldCode, HasQueryTimes, IsInKeyRange, default_settings, membership_interval_ms, number_at, with_number}};
 
 use crate::number_key::{NUMBER_KEYS, NumberKey};
 use amt_values::Ip;

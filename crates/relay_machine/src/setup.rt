@@ -2,8 +2,7 @@
 ghost use Rattle.std.specs.Prelude.{◌≡◌, ◌≤◌, true, false};
 ghost use Rattle.igmp_records.specs.Code.{code_of};
 ghost use Rattle.mld_records.specs.Code.{code_of as mld_code_of};
-ghost use Rattle.relay_machine.specs.Queries.{query_fields};
-ghost use Rattle.relay_machine.specs.Settings.{HasCode, HasMldCode};
+ghost use Rattle.relay_machine.specs.{Queries.{query_fields}, Settings.{HasCode, HasMldCode}};
 
 use crate::settings::Settings;
 use amt_messages::Message;
@@ -39,8 +38,7 @@ pub struct Setup {
 impl Setup {
     ghost use Rattle.std.specs.Prelude.{IfOk};
     ghost use Rattle.amt_messages.specs.Messages.{IsSendable};
-    ghost use Rattle.relay_machine.specs.Queries.{general_query, query_for};
-    ghost use Rattle.relay_machine.specs.Settings.{AreLawfulSettings};
+    ghost use Rattle.relay_machine.specs.{Queries.{general_query, query_for}, Settings.{AreLawfulSettings}};
 
     pub fn new(settings: Settings) -> Setup
         requires { AreLawfulSettings settings }

@@ -1,10 +1,6 @@
 //! What a Teardown comes to: its MAC, and the endpoint that it names. It knows no datagram.
-ghost use Rattle.endpoint_membership.specs.Log.{latest};
-ghost use Rattle.endpoint_membership.specs.Memberships.{is_live};
-ghost use Rattle.endpoint_membership.specs.Table.{IsWithinLimits, TableSettings, memberships_now};
-ghost use Rattle.relay_machine.specs.EventAnswer.{teardown_answer};
-ghost use Rattle.relay_machine.specs.Logs.{StepAnswers};
-ghost use Rattle.relay_machine.specs.Sends.{AreShort};
+ghost use Rattle.endpoint_membership.specs.{Log.{latest}, Memberships.{is_live}, Table.{IsWithinLimits, TableSettings, memberships_now}};
+ghost use Rattle.relay_machine.specs.{EventAnswer.{teardown_answer}, Logs.{StepAnswers}, Sends.{AreShort}};
 
 use crate::outcome::Outcome;
 use crate::sends::Step;

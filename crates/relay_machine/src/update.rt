@@ -1,13 +1,8 @@
 //! What an Update comes to: its MAC, its report, the limits. It knows no datagram and no other message.
 ghost use Rattle.std.specs.Prelude.{◌≡◌, ◌≤◌, length, IfOk, OnErr};
 ghost use Rattle.source_filter.specs.Record.{item_count};
-ghost use Rattle.endpoint_membership.specs.Log.{latest};
-ghost use Rattle.endpoint_membership.specs.Table.{IsWithinLimits, TableSettings, limit_passed};
-ghost use Rattle.endpoint_membership.specs.declared.change.Change.TheVariants.{Reported};
-ghost use Rattle.relay_machine.specs.EventAnswer.{limited_answer, update_answer};
-ghost use Rattle.relay_machine.specs.Logs.{AnswersByLog};
-ghost use Rattle.relay_machine.specs.Sends.{AreShort};
-ghost use Rattle.relay_machine.specs.Updates.{report_in};
+ghost use Rattle.endpoint_membership.specs.{Log.{latest}, Table.{IsWithinLimits, TableSettings, limit_passed}, declared.change.Change.TheVariants.{Reported}};
+ghost use Rattle.relay_machine.specs.{EventAnswer.{limited_answer, update_answer}, Logs.{AnswersByLog}, Sends.{AreShort}, Updates.{report_in}};
 
 use crate::outcome::Outcome;
 use crate::report::{Unread, forwardable_records, read_report};

@@ -1,19 +1,10 @@
 -- One answer more that a link tried.
-use Rattle.std.proofs.Common.{◌≡◌, ℕ, ◌+◌, ◌<◌, List, [], ◌∷◌, ◌++◌, length, get_or, map, take, sym, ap, subst, ◌∙◌, arith}
-use Rattle.std.specs.Prelude.{IsSome, OnOk, Result, Ok, Err, is_ok}
-use Rattle.std.proofs.lemmas.List.{length_push, take_more, map-append}
-use Rattle.amt_ports.specs.Causes.{HasCause}
-use Rattle.amt_ports.specs.Sends.{tried_send}
-use Rattle.amt_ports.specs.Told.{Appends}
-use Rattle.amt_ports.specs.declared.fault.Failed.{Failed}
-use Rattle.amt_values.specs.Endpoint.{peer_of}
-use Rattle.amt_values.specs.declared.peer.Peer.{Peer}
+use Rattle.std.{proofs.{Common.{◌≡◌, ℕ, ◌+◌, ◌<◌, List, [], ◌∷◌, ◌++◌, length, get_or, map, take, sym, ap, subst, ◌∙◌, arith}, lemmas.List.{length_push, take_more, map-append}}, specs.Prelude.{IsSome, OnOk, Result, Ok, Err, is_ok}}
+use Rattle.amt_ports.{specs.{Causes.{HasCause}, Sends.{tried_send}, Told.{Appends}, declared.fault.Failed.{Failed}, Devices.{LinkSeen}}, proofs.Trying.{HasTried-failed, HasTried-sent}}
+use Rattle.amt_values.specs.{Endpoint.{peer_of}, declared.peer.Peer.{Peer}}
 use Rattle.relay_machine.specs.declared.sends.OneSend.{OneSend}
-use Rattle.amt_ports.specs.Devices.{LinkSeen}
 use Rattle.replication_workers.specs.Replication.{to_peer}
-use Rattle.amt_ports.proofs.Trying.{HasTried-failed, HasTried-sent}
-use Rattle.relay_serving.specs.Counting.{HasAnswered}
-use Rattle.relay_serving.specs.declared.counts.Counts.{Counts}
+use Rattle.relay_serving.specs.{Counting.{HasAnswered}, declared.counts.Counts.{Counts}}
 
 pub answers_more : (sends : List OneSend) (place : ℕ) (send : OneSend) (peer : Peer) (bytes : List ℕ) → place < length sends → send ≡ get_or sends place send → peer ≡ peer_of send.to → bytes ≡ send.bytes
     → map to_peer (take place sends) ++ (peer, bytes) ∷ [] ≡ map to_peer (take (place + 1) sends)

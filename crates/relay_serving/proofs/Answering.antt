@@ -1,20 +1,10 @@
 -- The answers to events, and to more of them.
-use Rattle.std.proofs.Common.{◌≡◌, ℕ, ◌+◌, List, [], ◌∷◌, ◌++◌, length, refl, sym, ap, subst, ◌∙◌, append_assoc, append-nil, arith, length-append}
-use Rattle.std.specs.Prelude.{Option}
-use Rattle.std.specs.List.{flat_map}
-use Rattle.std.proofs.lemmas.List.Concat.{flat_map-append}
-use Rattle.amt_ports.specs.Sends.{TriedSend}
+use Rattle.std.{proofs.{Common.{◌≡◌, ℕ, ◌+◌, List, [], ◌∷◌, ◌++◌, length, refl, sym, ap, subst, ◌∙◌, append_assoc, append-nil, arith, length-append}, lemmas.List.Concat.{flat_map-append}}, specs.{Prelude.{Option}, List.{flat_map}}}
+use Rattle.amt_ports.{specs.{Sends.{TriedSend}, Devices.{LinkSeen}, Tried.{HasTried}}, proofs.Trying.{HasTried-none, HasTried-then}}
 use Rattle.amt_values.specs.declared.peer.Peer.{Peer}
 use Rattle.response_mac.specs.declared.secret.Secret.{Secret}
-use Rattle.relay_machine.specs.Courses.{each_after}
-use Rattle.relay_machine.specs.declared.event.Event.{Event}
-use Rattle.relay_machine.specs.declared.settings.Settings.{Settings}
-use Rattle.amt_ports.specs.Devices.{LinkSeen}
-use Rattle.amt_ports.specs.Tried.{HasTried}
-use Rattle.amt_ports.proofs.Trying.{HasTried-none, HasTried-then}
-use Rattle.relay_serving.specs.Counting.{HasAnswered}
-use Rattle.relay_serving.specs.Sending.{answers_after, answers_to}
-use Rattle.relay_serving.specs.declared.counts.Counts.{Counts}
+use Rattle.relay_machine.specs.{Courses.{each_after}, declared.{event.Event.{Event}, settings.Settings.{Settings}}}
+use Rattle.relay_serving.specs.{Counting.{HasAnswered}, Sending.{answers_after, answers_to}, declared.counts.Counts.{Counts}}
 
 -- later events are answered after all the earlier ones
 pub each_append : {E A : Type 0} (answer : List E → E → A) (before events more : List E)

@@ -1,18 +1,9 @@
 -- What the first stage of a turn comes to.
 use Rattle.std.proofs.Common.{◌≡◌, ℕ, max, ◌<◌, List, [], ◌∷◌, length, Option, Some, Result, refl, sym, ap, subst, arith}
-use Rattle.amt_ports.specs.Told.{Appends, AppendsAll}
-use Rattle.amt_ports.specs.declared.out_link.OutLink.{Ghosts}
+use Rattle.amt_ports.specs.{Told.{Appends, AppendsAll}, declared.{out_link.OutLink.{Ghosts}, end.End.{End}}}
 use Rattle.response_mac.specs.declared.secret.Secret.{Secret}
 use Rattle.relay_machine.specs.declared.event.Event.TheVariants.{Rotate}
-use Rattle.amt_ports.specs.declared.end.End.{End}
-use Rattle.relay_serving.specs.Counting.{HasRefused, one_if}
-use Rattle.relay_serving.specs.Events.{moment_event, rotation, secret_by}
-use Rattle.relay_serving.specs.Servers.{HasEvents, counts_in}
-use Rattle.relay_serving.specs.Stages.{BeginsSo, IsBegunBy, PassesMoment}
-use Rattle.relay_serving.specs.Turns.{Progress, is_due, renewed_after}
-use Rattle.relay_serving.specs.declared.counts.Counts.{Counts}
-use Rattle.relay_serving.specs.declared.server.Server.{Server}
-use Rattle.relay_serving.proofs.Events.{HasEvents-then, SendsAlike-same, SendsAlike-then}
+use Rattle.relay_serving.{specs.{Counting.{HasRefused, one_if}, Events.{moment_event, rotation, secret_by}, Servers.{HasEvents, counts_in}, Stages.{BeginsSo, IsBegunBy, PassesMoment}, Turns.{Progress, is_due, renewed_after}, declared.{counts.Counts.{Counts}, server.Server.{Server}}}, proofs.Events.{HasEvents-then, SendsAlike-same, SendsAlike-then}}
 
 pub rotation-few : (drawn : List ℕ) → length drawn < 4 → rotation drawn ≡ []
 rotation-few [] few = refl

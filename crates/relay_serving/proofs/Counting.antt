@@ -1,43 +1,15 @@
 -- What one event more adds to the counts of a run, and how large they are.
-use Rattle.std.proofs.Common.{◌≡◌, ◌≤◌, ℕ, ◌+◌, Bool, true, false, List, [], ◌∷◌, ◌++◌, length, map, refl, sym, ap, subst, ◌∙◌, arith}
-use Rattle.std.specs.Prelude.{Option, Some, None, Result, Ok, Err, count_by}
-use Rattle.std.proofs.lemmas.List.{length-map}
-use Rattle.std.proofs.lemmas.List.Sums.{count_by-le-length}
-use Rattle.amt_values.specs.Endpoint.{endpoint_of}
-use Rattle.amt_values.specs.EndpointValue.{EndpointValue}
-use Rattle.amt_values.specs.declared.peer.Peer.{Peer}
-use Rattle.amt_messages.specs.declared.message.Message.{Message}
-use Rattle.amt_messages.specs.declared.message.Message.TheVariants.{Discovery, Advertisement, Request, Query, Update, Multicast, Teardown}
-use Rattle.amt_messages.specs.declared.refusal.Refused.{Refused}
-use Rattle.amt_messages.specs.Refusal.{message_of}
-use Rattle.response_mac.specs.declared.secret.Secret.{Secret}
-use Rattle.response_mac.specs.declared.secrets.Secrets.{Secrets}
-use Rattle.response_mac.specs.ResponseMac.{is_good}
+use Rattle.std.{proofs.{Common.{◌≡◌, ◌≤◌, ℕ, ◌+◌, Bool, true, false, List, [], ◌∷◌, ◌++◌, length, map, refl, sym, ap, subst, ◌∙◌, arith}, lemmas.List.{length-map, Sums.{count_by-le-length}}}, specs.Prelude.{Option, Some, None, Result, Ok, Err, count_by}}
+use Rattle.amt_values.specs.{Endpoint.{endpoint_of}, EndpointValue.{EndpointValue}, declared.peer.Peer.{Peer}}
+use Rattle.amt_messages.specs.{declared.{message.Message.{Message, TheVariants.{Discovery, Advertisement, Request, Query, Update, Multicast, Teardown}}, refusal.Refused.{Refused}}, Refusal.{message_of}}
+use Rattle.response_mac.specs.{declared.{secret.Secret.{Secret}, secrets.Secrets.{Secrets}}, ResponseMac.{is_good}}
 use Rattle.source_filter.specs.declared.record.Record.{Record}
-use Rattle.endpoint_membership.specs.Memberships.{is_live}
-use Rattle.endpoint_membership.specs.Table.{limit_passed, memberships_now}
-use Rattle.endpoint_membership.specs.declared.change.Change.{Change}
-use Rattle.endpoint_membership.specs.declared.limits.LimitFault.{LimitFault}
-use Rattle.relay_machine.specs.declared.event.Event.{Event}
-use Rattle.relay_machine.specs.declared.event.Event.TheVariants.{Datagram, Rotate}
-use Rattle.relay_machine.specs.declared.outcome.Outcome.{Outcome}
-use Rattle.relay_machine.specs.declared.outcome.Outcome.TheVariants.{Rotated}
-use Rattle.relay_machine.specs.declared.outcome.Unlawful.{Unlawful}
-use Rattle.relay_machine.specs.declared.sends.OneSend.{OneSend}
-use Rattle.relay_machine.specs.declared.settings.Settings.{Settings}
-use Rattle.relay_machine.specs.Accepted.{accepted_log}
-use Rattle.relay_machine.specs.Answers.{outcome_of, sends_of}
-use Rattle.relay_machine.specs.Courses.{each_after, is_torn, is_updated, outcomes_of}
-use Rattle.relay_machine.specs.EventAnswer.{EventAnswer, datagram_answer, limited_answer, message_answer, teardown_answer, update_answer}
-use Rattle.relay_machine.specs.Events.{now_of, secrets_of}
-use Rattle.relay_machine.specs.Settings.{table_settings_of}
-use Rattle.relay_machine.specs.Updates.{forwardable_records, report_in}
-use Rattle.relay_machine.proofs.Courses.{each_more, sum_more}
+use Rattle.endpoint_membership.specs.{Memberships.{is_live}, Table.{limit_passed, memberships_now}, declared.{change.Change.{Change}, limits.LimitFault.{LimitFault}}}
+use Rattle.relay_machine.specs.{declared.{event.Event.{Event, TheVariants.{Datagram, Rotate}}, outcome.{Outcome.{Outcome, TheVariants.{Rotated}}, Unlawful.{Unlawful}}, sends.OneSend.{OneSend}, settings.Settings.{Settings}}, Accepted.{accepted_log}, Answers.{outcome_of, sends_of}}
+use Rattle.relay_machine.{specs.{Courses.{each_after, is_torn, is_updated, outcomes_of}, EventAnswer.{EventAnswer, datagram_answer, limited_answer, message_answer, teardown_answer, update_answer}, Events.{now_of, secrets_of}, Settings.{table_settings_of}, Updates.{forwardable_records, report_in}}, proofs.Courses.{each_more, sum_more}}
 use Rattle.amt_ports.specs.Devices.{LinkSeen}
 use Rattle.replication_workers.specs.Replication.{to_peer}
-use Rattle.relay_serving.specs.Counting.{CountsAlike, HasAnswered, IsCounted, is_datagram, is_packet, no_counts, one_if, with_late, with_outcome}
-use Rattle.relay_serving.specs.Happenings.{Happening, events_among}
-use Rattle.relay_serving.specs.declared.counts.Counts.{Counts}
+use Rattle.relay_serving.specs.{Counting.{CountsAlike, HasAnswered, IsCounted, is_datagram, is_packet, no_counts, one_if, with_late, with_outcome}, Happenings.{Happening, events_among}, declared.counts.Counts.{Counts}}
 
 count_more : {X : Type 0} (test : X → Bool) (xs : List X) (x : X) → count_by test (xs ++ x ∷ []) ≡ count_by test xs + one_if (test x)
 count_more {X} test xs x = sum_more (λ (one : X). one_if (test one)) xs x
@@ -128,12 +100,6 @@ IsCounted-answered settings first events link link' counts counts' sends answere
     }
 
 -- no count passes the number of events
-pub datagrams-few : (settings : Settings) (first : Secret) (events : List Event) (counts : Counts) → IsCounted settings first events counts → counts.datagrams ≤ length events
-datagrams-few settings first events counts counted = omega (arith, counted.events_are.datagrams_are, count_by-le-length is_datagram events)
-
-pub packets-few : (settings : Settings) (first : Secret) (events : List Event) (counts : Counts) → IsCounted settings first events counts → counts.packets ≤ length events
-packets-few settings first events counts counted = omega (arith, counted.events_are.packets_are, count_by-le-length is_packet events)
-
 outcomes-few : (settings : Settings) (first : Secret) (events : List Event) (test : Outcome → Bool) → count_by test (outcomes_of settings first events) ≤ length events
 outcomes-few settings first events test =
     omega (arith, count_by-le-length test (outcomes_of settings first events), length-each_after (outcome_of settings first) [] events)

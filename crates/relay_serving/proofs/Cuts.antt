@@ -1,15 +1,7 @@
 -- In which turns a run ends, and why.
-use Rattle.std.proofs.Common.{ℕ, List, Result, Ok, Err, refl, subst}
-use Rattle.std.specs.Prelude.{IsErrOf}
-use Rattle.amt_ports.specs.declared.feed.FeedAnswer.{FeedAnswer}
-use Rattle.amt_ports.specs.Answers.{Taken}
-use Rattle.amt_ports.specs.Bursts.{AreAsked}
-use Rattle.amt_ports.specs.declared.end.End.{End}
-use Rattle.amt_ports.specs.declared.end.End.TheVariants.{Turns, Closed, LinkFault, FeedFault, WordsFault, SpawnFault, Memory}
-use Rattle.relay_serving.specs.Runs.{IsCut, IsUnfed, IsUnheard, of_link, of_feed}
-use Rattle.relay_serving.specs.Stages.{IsBegunBy}
-use Rattle.relay_serving.specs.Turning.{IsTurnBy}
-use Rattle.relay_serving.specs.Turns.{Ahead, HasBegun, HasHeard, Progress, Turn, from_feed, from_link, is_due, moment_of_turn}
+use Rattle.std.{proofs.Common.{ℕ, List, Result, Ok, Err, refl, subst}, specs.Prelude.{IsErrOf}}
+use Rattle.amt_ports.specs.{declared.{feed.FeedAnswer.{FeedAnswer}, end.End.{End, TheVariants.{Turns, Closed, LinkFault, FeedFault, WordsFault, SpawnFault, Memory}}}, Answers.{Taken}, Bursts.{AreAsked}}
+use Rattle.relay_serving.specs.{Runs.{IsCut, IsUnfed, IsUnheard, of_link, of_feed}, Stages.{IsBegunBy}, Turning.{IsTurnBy}, Turns.{Ahead, HasBegun, HasHeard, Progress, Turn, from_feed, from_link, is_due, moment_of_turn}}
 
 module _ (rotate : ℕ) (progress : Progress) (turn : Turn) where
   -- in its first stage

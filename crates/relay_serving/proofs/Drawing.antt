@@ -1,7 +1,6 @@
 -- What the words drawn so far are.
 use Rattle.std.proofs.Common.{◌≡◌, ℕ, List, Option, Err, ◌<◌, length, sym, subst}
-use Rattle.amt_ports.specs.Told.{AppendsAll}
-use Rattle.amt_ports.specs.declared.fault.Failed.{Failed}
+use Rattle.amt_ports.specs.{Told.{AppendsAll}, declared.fault.Failed.{Failed}}
 use Rattle.relay_serving.specs.Drawing.{HasDrawn}
 
 -- after these words none could be drawn

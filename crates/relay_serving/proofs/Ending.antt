@@ -1,14 +1,8 @@
 -- Views that are asked one after the other.
-use Rattle.std.proofs.Common.{◌≡◌, ◌≤◌, ℕ, ◌+◌, Bool, true, false, cond, List, [], ◌∷◌, ◌++◌, count_by, length, reverse, Result, Ok, Err, IsOk, OnOk, refl, sym, ap, subst, ◌∙◌, append_assoc, append-nil, arith, true≢false, if◌then◌else◌}
-use Rattle.std.proofs.lemmas.List.{length_push}
-use Rattle.std.proofs.lemmas.List.Elements.{AllZip-push, All-head, All-nil, All-push}
-use Rattle.std.proofs.lemmas.List.Sums.{sum_by_push}
+use Rattle.std.proofs.{Common.{◌≡◌, ◌≤◌, ℕ, ◌+◌, Bool, true, false, cond, List, [], ◌∷◌, ◌++◌, count_by, length, reverse, Result, Ok, Err, IsOk, OnOk, refl, sym, ap, subst, ◌∙◌, append_assoc, append-nil, arith, true≢false, if◌then◌else◌}, lemmas.List.{length_push, Elements.{AllZip-push, All-head, All-nil, All-push}, Sums.{sum_by_push}}}
 use Rattle.endpoint_membership.specs.declared.change.Change.{Change}
-use Rattle.published_table.specs.Lists.{BeginsWith, BeginsWithEach}
-use Rattle.published_table.specs.Views.{seen}
-use Rattle.published_table.specs.declared.view.View.{View}
-use Rattle.relay_serving.specs.Ending.{AreAsked}
-use Rattle.relay_serving.proofs.Starting.{last_first}
+use Rattle.published_table.specs.{Lists.{BeginsWith, BeginsWithEach}, Views.{seen}, declared.view.View.{View}}
+use Rattle.relay_serving.{specs.Ending.{AreAsked}, proofs.Starting.{last_first}}
 
 -- of all views, the last one first, these are still to be asked
 pub record AskedSoFar (published : List Change) (all rest asked : List View) : Type 0 where

@@ -1,34 +1,13 @@
 -- Where one event more, which is no packet, leaves a running relay.
-use Rattle.std.proofs.Common.{◌≡◌, ◌≤◌, ◌+◌, true, false, List, [], ◌∷◌, ◌++◌, length, reverse, refl, sym, ap, subst, ◌∙◌, arith}
-use Rattle.std.specs.Prelude.{Option, Some, None}
-use Rattle.std.specs.List.{flat_map}
-use Rattle.std.proofs.Math.Logic.{∥∥₁_elim, ∥∥₁_map}
-use Rattle.std.proofs.Props.{props}
-use Rattle.std.proofs.lemmas.List.{append-nil, flat_map_more, length-reverse, length_push, reverse-append, reverse-reverse}
+use Rattle.std.{proofs.{Common.{◌≡◌, ◌≤◌, ◌+◌, true, false, List, [], ◌∷◌, ◌++◌, length, reverse, refl, sym, ap, subst, ◌∙◌, arith}, Math.Logic.{∥∥₁_elim, ∥∥₁_map}, Props.{props}, lemmas.List.{append-nil, flat_map_more, length-reverse, length_push, reverse-append, reverse-reverse}}, specs.{Prelude.{Option, Some, None}, List.{flat_map}}}
 use Rattle.amt_ports.specs.declared.out_link.OutLink.{Ghosts}
-use Rattle.endpoint_membership.specs.Limits.{IsWithin}
-use Rattle.endpoint_membership.specs.Table.{memberships_now}
-use Rattle.endpoint_membership.specs.declared.change.Change.{Change}
-use Rattle.published_table.specs.Terms.{Fits}
-use Rattle.published_table.specs.declared.terms.Terms.{Terms}
+use Rattle.endpoint_membership.specs.{Limits.{IsWithin}, Table.{memberships_now}, declared.change.Change.{Change}}
+use Rattle.published_table.specs.{Terms.{Fits}, declared.terms.Terms.{Terms}}
 use Rattle.response_mac.specs.declared.secret.Secret.{Secret}
-use Rattle.relay_machine.specs.Accepted.{change_of, with_change}
-use Rattle.relay_machine.specs.Answers.{RelayAt, settings_of}
-use Rattle.relay_machine.specs.Courses.{each_after}
-use Rattle.relay_machine.specs.Published.{published_log}
-use Rattle.relay_machine.specs.Settings.{AreLawfulSettings, table_settings_of}
-use Rattle.relay_machine.specs.declared.event.Event.{Event}
-use Rattle.relay_machine.specs.declared.event.Event.TheVariants.{Moment, Datagram, Packet, Rotate}
-use Rattle.relay_machine.specs.declared.relay.Relay.{Relay}
-use Rattle.relay_machine.specs.declared.settings.Settings.{Settings}
-use Rattle.relay_machine.proofs.Courses.{each_more}
-use Rattle.relay_machine.proofs.PublishedLog.{published_log-next, published_log-none, published_log-within}
+use Rattle.relay_machine.specs.{Accepted.{change_of, with_change}, Answers.{RelayAt, settings_of}, Courses.{each_after}, Published.{published_log}, Settings.{AreLawfulSettings, table_settings_of}, declared.event.Event.{Event}}
+use Rattle.relay_machine.{specs.declared.{event.Event.TheVariants.{Moment, Datagram, Packet, Rotate}, relay.Relay.{Relay}, settings.Settings.{Settings}}, proofs.{Courses.{each_more}, PublishedLog.{published_log-next, published_log-none, published_log-within}}}
 use Rattle.replication_workers.specs.SlotStates.{SlotState}
-use Rattle.relay_serving.specs.Counting.{is_packet}
-use Rattle.relay_serving.specs.GivenOut.{AreGivenOut, terms_by}
-use Rattle.relay_serving.specs.Happenings.{Happening, Took, published_events_among}
-use Rattle.relay_serving.specs.Sending.{Due, due_to, dues_after}
-use Rattle.relay_serving.proofs.Happenings.{published-next}
+use Rattle.relay_serving.{specs.{Counting.{is_packet}, GivenOut.{AreGivenOut, terms_by}, Happenings.{Happening, Took, published_events_among}, Sending.{Due, due_to, dues_after}}, proofs.Happenings.{published-next}}
 
 -- each event adds at most one entry
 few_more : (log : List Change) (entry : Option Change) → length (with_change log entry) ≤ length log + 1

@@ -1,21 +1,9 @@
 -- The answers and the events of several askings in a row.
-use Rattle.std.proofs.Common.{◌≡◌, ℕ, ◌+◌, cond, List, [], ◌∷◌, ◌++◌, count_by, length, map, refl, sym, ap, subst, ◌∙◌, append_assoc, append-nil, arith, length-append}
-use Rattle.std.proofs.lemmas.List.{map-append}
-use Rattle.std.proofs.lemmas.List.Elements.{filter_map-append}
-use Rattle.std.proofs.lemmas.List.Sums.{sum_by-append}
-use Rattle.amt_ports.specs.declared.feed.FeedAnswer.{FeedAnswer}
-use Rattle.amt_ports.specs.declared.link.LinkAnswer.{LinkAnswer}
-use Rattle.amt_ports.specs.declared.out_link.OutLink.{Ghosts}
+use Rattle.std.proofs.{Common.{◌≡◌, ℕ, ◌+◌, cond, List, [], ◌∷◌, ◌++◌, count_by, length, map, refl, sym, ap, subst, ◌∙◌, append_assoc, append-nil, arith, length-append}, lemmas.List.{map-append, Elements.{filter_map-append}, Sums.{sum_by-append}}}
+use Rattle.amt_ports.specs.{declared.{feed.FeedAnswer.{FeedAnswer}, link.LinkAnswer.{LinkAnswer}, out_link.OutLink.{Ghosts}}, Answers.{Taken, unless_starved}}
 use Rattle.relay_machine.specs.declared.event.Event.{Event}
-use Rattle.amt_ports.specs.Answers.{Taken, unless_starved}
-use Rattle.relay_serving.specs.Counting.{HasRefused, with_starved}
-use Rattle.relay_serving.specs.Events.{datagram_of, datagrams_in, packet_of, packets_in}
-use Rattle.relay_serving.specs.Happenings.{Happening, Took, events_among}
-use Rattle.relay_serving.specs.Servers.{Happens, HasEvents, IsAsBefore, IsSameRun, IsStarved, SendsAlike, counts_in, events_in, happenings_in, tally_in}
-use Rattle.relay_serving.specs.declared.counts.Counts.{Counts}
-use Rattle.relay_serving.specs.declared.server.Server.{Server}
-use Rattle.relay_serving.proofs.Answering.{no_more, sum_then}
-use Rattle.relay_serving.proofs.Happenings.{events_among-append, events_among-taken}
+use Rattle.relay_serving.specs.{Counting.{HasRefused, with_starved}, Events.{datagram_of, datagrams_in, packet_of, packets_in}, Happenings.{Happening, Took, events_among}}
+use Rattle.relay_serving.{specs.{Servers.{Happens, HasEvents, IsAsBefore, IsSameRun, IsStarved, SendsAlike, counts_in, events_in, happenings_in, tally_in}, declared.{counts.Counts.{Counts}, server.Server.{Server}}}, proofs.{Answering.{no_more, sum_then}, Happenings.{events_among-append, events_among-taken}}}
 
 pub datagrams_in-append : (heard more : List (Taken LinkAnswer)) → datagrams_in (heard ++ more) ≡ datagrams_in heard ++ datagrams_in more
 datagrams_in-append heard more = filter_map-append (λ (one : Taken LinkAnswer). unless_starved one.starved (datagram_of one.answer)) heard more

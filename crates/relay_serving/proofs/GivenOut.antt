@@ -1,33 +1,13 @@
 -- One job more, given to the slot of its packet.
-use Rattle.std.proofs.Common.{◌≡◌, ◌≢◌, ◌≤◌, ◌<◌, ◌+◌, ◌^◌, ℕ, zero, suc, Bool, true, false, cond, List, [], ◌∷◌, ◌++◌, length, map, reverse, ⊎_elim, refl, sym, ap, subst, ◌∙◌, append-nil, arith, length-append}
-use Rattle.std.specs.Prelude.{nat_eq, count_by}
-use Rattle.std.specs.List.{All, enumerate_from}
-use Rattle.std.proofs.Math.Logic.{∥∥₁_elim, ∥∥₁_map}
-use Rattle.std.proofs.Props.{props}
-use Rattle.std.proofs.lemmas.Bool.Decides.{eqb_tells}
-use Rattle.std.proofs.lemmas.List.{length-map, length-reverse, length_push, map-append, reverse-append, reverse-reverse}
-use Rattle.std.proofs.lemmas.List.Elements.{All-cons, All-head, All-tail, filter-append}
+use Rattle.std.proofs.{Common.{◌≡◌, ◌≢◌, ◌≤◌, ◌<◌, ◌+◌, ◌^◌, ℕ, zero, suc, Bool, true, false, cond, List, [], ◌∷◌, ◌++◌, length, map, reverse, ⊎_elim, refl, sym, ap, subst, ◌∙◌, append-nil, arith, length-append}, Math.Logic.{∥∥₁_elim, ∥∥₁_map}, Props.{props}}
+use Rattle.std.{proofs.lemmas.{Bool.Decides.{eqb_tells}, List.{length-map, length-reverse, length_push, map-append, reverse-append, reverse-reverse, Elements.{All-cons, All-head, All-tail, filter-append}, Sums.{sum_by-cons}}}, specs.{Prelude.{nat_eq, count_by}, List.{enumerate_from}}}
 use Rattle.logbook.specs.Pages.{Book}
-use Rattle.std.proofs.lemmas.List.Sums.{sum_by-cons}
 use Rattle.amt_ports.specs.declared.out_link.OutLink.{Ghosts}
-use Rattle.published_table.specs.declared.view.Note.{Note}
-use Rattle.published_table.specs.Views.{named, note_publisher, publisher_of}
+use Rattle.published_table.specs.Views.{named, publisher_of}
 use Rattle.response_mac.specs.declared.secret.Secret.{Secret}
-use Rattle.relay_machine.specs.Events.{now_of}
-use Rattle.relay_machine.specs.Published.{published_log}
-use Rattle.relay_machine.specs.declared.event.Event.{Event}
-use Rattle.relay_machine.specs.declared.event.Event.TheVariants.{Moment, Datagram, Packet, Rotate}
-use Rattle.relay_machine.specs.declared.settings.Settings.{Settings}
-use Rattle.replication_workers.specs.Dispatchers.{slot_for}
-use Rattle.replication_workers.specs.Replicators.{view_of}
-use Rattle.replication_workers.specs.SlotStates.{SlotState, jobs_in_all, with_job}
-use Rattle.replication_workers.specs.declared.job.Job.{Job}
-use Rattle.replication_workers.specs.declared.replicator.Replicator.{Replicator}
-use Rattle.relay_serving.specs.Counting.{is_packet}
-use Rattle.relay_serving.specs.GivenOut.{AreGivenOut, AreOfPublisher, jobs_at, slots_after, starts_in}
-use Rattle.relay_serving.specs.Happenings.{Happening, Took, Published, events_among, published_events_among}
-use Rattle.relay_serving.specs.Sending.{due_of, due_to, dues_after}
-use Rattle.relay_serving.proofs.Entering.{dues-next}
+use Rattle.relay_machine.specs.{Events.{now_of}, Published.{published_log}, declared.{event.Event.{Event, TheVariants.{Moment, Datagram, Packet, Rotate}}, settings.Settings.{Settings}}}
+use Rattle.replication_workers.specs.{Dispatchers.{slot_for}, Replicators.{view_of}, SlotStates.{SlotState, jobs_in_all, with_job}, declared.{job.Job.{Job}, replicator.Replicator.{Replicator}}}
+use Rattle.relay_serving.{specs.{Counting.{is_packet}, GivenOut.{AreGivenOut, AreOfPublisher, jobs_at, slots_after, starts_in}, Happenings.{Happening, Took, Published, events_among, published_events_among}, Sending.{due_of, due_to, dues_after}}, proofs.Entering.{dues-next}}
 
 same_number : (a b : ℕ) → a ≡ b → nat_eq a b ≡ true
 same_number a b is = ⊎_elim (λ (yes : (nat_eq a b ≡ true) × (a ≡ b)). yes.0) (λ (no : (nat_eq a b ≡ false) × (a ≢ b)). absurd (no.1 is)) (eqb_tells a b)
@@ -170,11 +150,6 @@ module _ {O : Type 0} {g : Ghosts O} where
   given_out-packet settings first past later slots slots' job bytes place slot put next packet at log given =
       subst (λ (all : List Happening). ∥ AreGivenOut settings first all slots' ∥₁) (sym next)
       (∥∥₁_map given (given_more settings first past slots slots' job bytes place slot put packet at log))
-
-  -- a job's note is of the slots' publisher
-  pub for_slots : (publisher : Book) (note : Note) (slots : List (SlotState O g)) → note_publisher note ≡ publisher → AreOfPublisher publisher slots
-      → All (λ (slot : SlotState O g). note_publisher note ≡ publisher_of (view_of slot.first)) slots
-  for_slots publisher note slots is of = λ number default within. is ∙ sym (of number default within)
 
   -- which stays so
   of_publisher-with : (publisher : Book) (place : ℕ) (job : Job) (slots : List (SlotState O g)) → AreOfPublisher publisher slots → AreOfPublisher publisher (with_job place job slots)

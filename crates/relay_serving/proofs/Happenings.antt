@@ -1,6 +1,5 @@
 -- Of what happened and more: its events, and those before the last publishing.
-use Rattle.std.proofs.Common.{◌≡◌, List, [], ◌∷◌, ◌++◌, map, refl, sym, ap, ◌∙◌, append_assoc, append-nil}
-use Rattle.std.proofs.lemmas.List.Elements.{filter_map-append}
+use Rattle.std.proofs.{Common.{◌≡◌, List, [], ◌∷◌, ◌++◌, map, refl, sym, ap, ◌∙◌, append_assoc, append-nil}, lemmas.List.Elements.{filter_map-append}}
 use Rattle.relay_machine.specs.declared.event.Event.{Event}
 use Rattle.relay_serving.specs.Happenings.{Happening, Took, Published, event_taken, events_among, published_after, published_events_among}
 

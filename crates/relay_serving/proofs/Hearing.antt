@@ -1,31 +1,12 @@
 -- One asking of a link or a feed, and several in a row.
-use Rattle.std.proofs.Common.{◌≡◌, ℕ, List, [], ◌∷◌, ◌++◌, count_by, map, refl, sym, ap, subst, ◌∙◌, append-nil}
-use Rattle.std.specs.Prelude.{Option}
-use Rattle.amt_ports.specs.Sends.{TriedSend}
-use Rattle.amt_ports.specs.Told.{Answers}
-use Rattle.amt_ports.specs.declared.feed.FeedAnswer.{FeedAnswer}
-use Rattle.amt_ports.specs.declared.feed.FeedAnswer.TheVariants.{Packet as PacketFed, Closed as FeedClosed}
-use Rattle.amt_ports.specs.declared.link.LinkAnswer.{LinkAnswer}
-use Rattle.amt_ports.specs.declared.link.LinkAnswer.TheVariants.{Datagram as DatagramCame, Closed as LinkClosed}
-use Rattle.amt_ports.specs.declared.out_link.OutLink.{Ghosts}
+use Rattle.std.{proofs.Common.{◌≡◌, ℕ, List, [], ◌∷◌, ◌++◌, count_by, map, refl, sym, ap, subst, ◌∙◌, append-nil}, specs.Prelude.{Option}}
+use Rattle.amt_ports.specs.{Sends.{TriedSend}, Told.{Answers}, declared.{feed.FeedAnswer.{FeedAnswer, TheVariants.{Packet as PacketFed, Closed as FeedClosed}}, link.LinkAnswer.{LinkAnswer}}}
+use Rattle.amt_ports.{specs.{declared.{link.LinkAnswer.TheVariants.{Datagram as DatagramCame, Closed as LinkClosed}, out_link.OutLink.{Ghosts}}, Answers.{Taken, refused, taken}, Devices.{FeedSeen, LinkSeen}, Tried.{HasTried}}, proofs.{Lists.{AnswersAll-taken, one_answer}, SoFar.{GoesOn}}}
 use Rattle.amt_values.specs.declared.peer.Peer.{Peer}
-use Rattle.relay_machine.specs.Answers.{sends_of}
-use Rattle.relay_machine.specs.declared.event.Event.{Event}
-use Rattle.relay_machine.specs.declared.event.Event.TheVariants.{Datagram, Packet}
-use Rattle.amt_ports.specs.Answers.{Taken, refused, taken}
-use Rattle.amt_ports.specs.Devices.{FeedSeen, LinkSeen}
-use Rattle.amt_ports.proofs.Lists.{AnswersAll-taken, one_answer}
-use Rattle.amt_ports.proofs.SoFar.{GoesOn}
+use Rattle.relay_machine.specs.{Answers.{sends_of}, declared.event.Event.{Event, TheVariants.{Datagram, Packet}}}
 use Rattle.replication_workers.specs.Replication.{to_peer}
-use Rattle.amt_ports.specs.Tried.{HasTried}
-use Rattle.relay_serving.specs.Counting.{HasAnswered, HasRefused, with_packet}
-use Rattle.relay_serving.specs.Events.{datagrams_in, packets_in}
-use Rattle.relay_serving.specs.Sending.{answers_after}
-use Rattle.relay_serving.specs.Servers.{Feeds, FeedsBy, HasEvents, Hears, HearsBy, IsAsBefore, IsStarved, counts_in, events_in, first_in, settings_in}
-use Rattle.relay_serving.specs.declared.counts.Counts.{Counts}
-use Rattle.relay_serving.specs.declared.server.Server.{Server}
-use Rattle.relay_serving.proofs.Answering.{HasAnswered-alike, HasAnswered-none, HasAnswered-then, answers_after-append}
-use Rattle.relay_serving.proofs.Events.{HasEvents-none, HasEvents-starved, HasEvents-then, HasRefused-none, HasRefused-same, HasRefused-starved, HasRefused-then, datagrams_in-append, events_more, packets_in-append, starved-append}
+use Rattle.relay_serving.specs.{Counting.{HasAnswered, HasRefused, with_packet}, Events.{datagrams_in, packets_in}, Sending.{answers_after}, Servers.{Feeds, FeedsBy, HasEvents, Hears, HearsBy, IsAsBefore, IsStarved, counts_in, events_in, first_in, settings_in}, declared.{counts.Counts.{Counts}, server.Server.{Server}}}
+use Rattle.relay_serving.proofs.{Answering.{HasAnswered-alike, HasAnswered-none, HasAnswered-then, answers_after-append}, Events.{HasEvents-none, HasEvents-starved, HasEvents-then, HasRefused-none, HasRefused-same, HasRefused-starved, HasRefused-then, datagrams_in-append, events_more, packets_in-append, starved-append}}
 
 -- a link of which the same was seen
 HasAnswered-from : (link now later : LinkSeen) (counts counts' : Counts) (wanted : List (Peer × List ℕ)) → now.tried ≡ link.tried → now.send_faults ≡ link.send_faults

@@ -1,19 +1,11 @@
 -- In a turn whose publishing was done, all that was entered in the log is published.
-use Rattle.std.proofs.Common.{◌≡◌, ◌≢◌, ℕ, List, [], ◌∷◌, ◌++◌, length, map, refl, sym, ap, subst, ◌∙◌, arith, length-append}
-use Rattle.std.proofs.lemmas.List.{append-nil, append_assoc}
-use Rattle.amt_ports.specs.declared.feed.FeedAnswer.{FeedAnswer}
+use Rattle.std.proofs.{Common.{◌≡◌, ◌≢◌, ℕ, List, [], ◌∷◌, ◌++◌, length, map, refl, sym, ap, subst, ◌∙◌, arith, length-append}, lemmas.List.{append-nil, append_assoc}}
+use Rattle.amt_ports.specs.{declared.feed.FeedAnswer.{FeedAnswer}, Answers.{Taken}}
 use Rattle.endpoint_membership.specs.declared.change.Change.{Change}
 use Rattle.response_mac.specs.declared.secret.Secret.{Secret}
-use Rattle.relay_machine.specs.Published.{published_log}
-use Rattle.relay_machine.specs.declared.settings.Settings.{Settings}
-use Rattle.relay_machine.proofs.PublishedLog.{published_log-none}
-use Rattle.amt_ports.specs.Answers.{Taken}
-use Rattle.relay_serving.specs.Events.{beginning_of, datagrams_in, happenings_from, happenings_of_turn, packets_in, publishing_in}
-use Rattle.relay_serving.specs.Happenings.{Happening, Took, Published, events_among, published_events_among}
-use Rattle.relay_serving.specs.Serving.{IsPrompt}
-use Rattle.relay_serving.specs.Turns.{Done, Publishing, Turn, moment_of_turn}
-use Rattle.relay_serving.proofs.Happenings.{events-shown, events_among-append, events_among-taken, published-shown, published-taken}
-use Rattle.relay_serving.proofs.Packets.{published_log-packets}
+use Rattle.relay_machine.{specs.{Published.{published_log}, declared.settings.Settings.{Settings}}, proofs.PublishedLog.{published_log-none}}
+use Rattle.relay_serving.specs.{Events.{beginning_of, datagrams_in, happenings_from, happenings_of_turn, packets_in, publishing_in}, Happenings.{Happening, Took, Published, events_among, published_events_among}, Serving.{IsPrompt}}
+use Rattle.relay_serving.{specs.Turns.{Done, Publishing, Turn, moment_of_turn}, proofs.{Happenings.{events-shown, events_among-append, events_among-taken, published-shown, published-taken}, Packets.{published_log-packets}}}
 
 module _ (settings : Settings) (first : Secret) where
   -- the published log is the log of all events

@@ -1,23 +1,11 @@
 -- Where memory refused a turn's publishing, something was owed.
-use Rattle.std.proofs.Common.{◌≡◌, ◌≢◌, ◌⊎◌, inl, inr, List, [], ◌∷◌, ◌++◌, length, map, sym, ap, subst, ◌∙◌, arith, length-append}
-use Rattle.std.proofs.lemmas.List.{append-nil}
-use Rattle.amt_ports.specs.declared.feed.FeedAnswer.{FeedAnswer}
-use Rattle.amt_ports.specs.declared.out_link.OutLink.{Ghosts}
+use Rattle.std.proofs.{Common.{◌≡◌, ◌≢◌, ◌⊎◌, inl, inr, List, [], ◌∷◌, ◌++◌, length, map, sym, ap, subst, ◌∙◌, arith, length-append}, lemmas.List.{append-nil}}
+use Rattle.amt_ports.specs.{declared.{feed.FeedAnswer.{FeedAnswer}, out_link.OutLink.{Ghosts}}, Answers.{Taken}}
 use Rattle.endpoint_membership.specs.declared.change.Change.{Change}
 use Rattle.response_mac.specs.declared.secret.Secret.{Secret}
-use Rattle.relay_machine.specs.Published.{published_log}
-use Rattle.relay_machine.specs.declared.event.Event.{Event}
-use Rattle.relay_machine.specs.declared.settings.Settings.{Settings}
-use Rattle.amt_ports.specs.Answers.{Taken}
-use Rattle.relay_serving.specs.Events.{happenings_from, packets_in, publishing_in}
-use Rattle.relay_serving.specs.Happenings.{Happening, Took, events_among, published_events_among}
-use Rattle.relay_serving.specs.Servers.{Happens, HasEvents, first_in, happenings_in, owing_in, published_in, settings_in}
-use Rattle.relay_serving.specs.Serving.{AreOwedLate}
-use Rattle.relay_serving.specs.Turns.{Publishing, Refused, Turn}
-use Rattle.relay_serving.specs.declared.server.Server.{Server}
-use Rattle.relay_serving.proofs.Happenings.{events_among-append, events_among-taken, published-taken}
-use Rattle.relay_serving.proofs.Owed.{no_more_than}
-use Rattle.relay_serving.proofs.Packets.{published_log-packets}
+use Rattle.relay_machine.specs.{Published.{published_log}, declared.{event.Event.{Event}, settings.Settings.{Settings}}}
+use Rattle.relay_serving.specs.{Events.{happenings_from, packets_in, publishing_in}, Happenings.{Happening, Took, events_among, published_events_among}, Servers.{Happens, HasEvents, first_in, happenings_in, owing_in, published_in, settings_in}}
+use Rattle.relay_serving.{specs.{Serving.{AreOwedLate}, Turns.{Publishing, Refused, Turn}, declared.server.Server.{Server}}, proofs.{Happenings.{events_among-append, events_among-taken, published-taken}, Owed.{no_more_than}, Packets.{published_log-packets}}}
 
 -- an item of a list and one more is the last one, or is of the list
 of_more : (turns : List Turn) (turn : Turn) (earlier : List Turn) (one : Turn) (later : List Turn) → turns ++ turn ∷ [] ≡ earlier ++ one ∷ later

@@ -1,37 +1,14 @@
 -- A packet changes nothing of a relay: neither its log nor its moment nor its secrets.
-use Rattle.std.proofs.Common.{◌≡◌, ◌+◌, ℕ, Bool, true, false, List, [], ◌∷◌, ◌++◌, length, nat_lt, if◌then◌else◌, refl, sym, ap, subst, ◌∙◌, append_assoc, append-nil, arith}
-use Rattle.std.specs.Prelude.{Option, None, Result, Ok, Err}
+use Rattle.std.{proofs.Common.{◌≡◌, ◌+◌, ℕ, Bool, true, false, List, [], ◌∷◌, ◌++◌, length, nat_lt, if◌then◌else◌, refl, sym, ap, subst, ◌∙◌, append_assoc, append-nil, arith}, specs.Prelude.{Option, None, Result, Ok, Err}}
 use Rattle.core.specs.List.{cons_option}
-use Rattle.amt_ports.specs.declared.feed.FeedAnswer.{FeedAnswer}
-use Rattle.amt_ports.specs.declared.feed.FeedAnswer.TheVariants.{Packet as PacketFed, Nothing as NothingFed, Closed as FeedClosed}
-use Rattle.amt_values.specs.EndpointValue.{EndpointValue}
+use Rattle.amt_ports.specs.{declared.feed.FeedAnswer.{FeedAnswer, TheVariants.{Packet as PacketFed, Nothing as NothingFed, Closed as FeedClosed}}, Answers.{Taken, unless_starved}}
+use Rattle.amt_values.specs.{EndpointValue.{EndpointValue}, Group.{is_forwardable}}
 use Rattle.response_mac.specs.declared.secret.Secret.{Secret}
-use Rattle.inner_datagrams.specs.Head.{head_of}
-use Rattle.inner_datagrams.specs.declared.head.Head.{Head}
-use Rattle.inner_datagrams.specs.declared.head.HeadFault.{HeadFault}
-use Rattle.amt_values.specs.Group.{is_forwardable}
-use Rattle.endpoint_membership.specs.Table.{Holds}
-use Rattle.endpoint_membership.specs.declared.change.Change.{Change}
-use Rattle.relay_machine.specs.Accepted.{accepted_log, handed_out, with_change}
-use Rattle.relay_machine.specs.Answers.{RelayAt, outcome_of}
-use Rattle.relay_machine.specs.Courses.{is_torn, is_updated}
-use Rattle.relay_machine.specs.EventAnswer.{packet_answer}
-use Rattle.relay_machine.specs.Events.{now_of}
-use Rattle.relay_machine.specs.Packets.{by_head, by_scope, head_to_copy, targets_at}
-use Rattle.relay_machine.specs.Published.{published_log}
-use Rattle.relay_machine.specs.Settings.{table_settings_of}
-use Rattle.relay_machine.specs.declared.event.Event.{Event}
-use Rattle.relay_machine.specs.declared.event.Event.TheVariants.{Packet}
-use Rattle.relay_machine.specs.declared.outcome.Outcome.{Outcome}
-use Rattle.relay_machine.specs.declared.outcome.Outcome.TheVariants.{TooBig}
-use Rattle.relay_machine.specs.declared.relay.Relay.{Relay}
-use Rattle.relay_machine.specs.declared.settings.Settings.{Settings}
-use Rattle.relay_machine.proofs.Onward.{RelayAt-payload}
-use Rattle.relay_machine.proofs.PublishedLog.{published_log-next}
-use Rattle.amt_ports.specs.Answers.{Taken, unless_starved}
-use Rattle.relay_serving.specs.Counting.{with_outcome, with_packet}
-use Rattle.relay_serving.specs.Events.{packet_of, packets_in}
-use Rattle.relay_serving.specs.declared.counts.Counts.{Counts}
+use Rattle.inner_datagrams.specs.{Head.{head_of}, declared.head.{Head.{Head}, HeadFault.{HeadFault}}}
+use Rattle.endpoint_membership.specs.{Table.{Holds}, declared.change.Change.{Change}}
+use Rattle.relay_machine.specs.{Accepted.{accepted_log, handed_out, with_change}, Answers.{RelayAt, outcome_of}, Courses.{is_torn, is_updated}, EventAnswer.{packet_answer}, Events.{now_of}, Packets.{by_head, by_scope, head_to_copy, targets_at}, Published.{published_log}}
+use Rattle.relay_machine.{specs.{Settings.{table_settings_of}, declared.{event.Event.{Event, TheVariants.{Packet}}, outcome.Outcome.{Outcome, TheVariants.{TooBig}}, relay.Relay.{Relay}, settings.Settings.{Settings}}}, proofs.{Onward.{RelayAt-payload}, PublishedLog.{published_log-next}}}
+use Rattle.relay_serving.specs.{Counting.{with_outcome, with_packet}, Events.{packet_of, packets_in}, declared.counts.Counts.{Counts}}
 
 enters_none : (targets : Head → List EndpointValue) (packet : List ℕ) (reading : Result Head Outcome) → (packet_answer targets packet reading).entry ≡ None
 enters_none targets packet (Ok head) = refl

@@ -1,41 +1,12 @@
 -- What the turns of a run come to together.
 use Rattle.std.proofs.Common.{◌≡◌, ℕ, ◌+◌, ◌*◌, ◌≤◌, ◌<◌, cond, List, [], ◌∷◌, ◌++◌, length, map, None, Some, Ok, Err, refl, sym, ap, subst, ◌∙◌, arith, length-append}
-use Rattle.std.specs.Prelude.{Result}
-use Rattle.std.proofs.lemmas.Grind.{flat_map-append}
-use Rattle.std.proofs.lemmas.List.{append_assoc, map-append}
-use Rattle.std.proofs.lemmas.List.Sums.{sum_by-append}
-use Rattle.amt_ports.specs.Causes.{Rose}
-use Rattle.amt_ports.specs.Told.{AppendsAll}
-use Rattle.amt_ports.specs.declared.feed.FeedAnswer.{FeedAnswer}
-use Rattle.amt_ports.specs.declared.feed.FeedAnswer.TheVariants.{Closed as FeedClosed}
-use Rattle.amt_ports.specs.declared.link.LinkAnswer.{LinkAnswer}
-use Rattle.amt_ports.specs.declared.link.LinkAnswer.TheVariants.{Closed as LinkClosed}
-use Rattle.amt_ports.specs.declared.out_link.OutLink.{Ghosts}
+use Rattle.std.{specs.Prelude.{Result}, proofs.lemmas.{Grind.{flat_map-append}, List.{append_assoc, map-append, Sums.{sum_by-append}}}}
+use Rattle.amt_ports.specs.{Causes.{Rose}, Told.{AppendsAll}, declared.{feed.FeedAnswer.{FeedAnswer, TheVariants.{Closed as FeedClosed}}, link.LinkAnswer.{LinkAnswer, TheVariants.{Closed as LinkClosed}}, out_link.OutLink.{Ghosts}}}
+use Rattle.amt_ports.{specs.{declared.end.End.{End, TheVariants.{Turns, LinkFault, FeedFault, WordsFault}}, EndCauses.{IsCauseOf, IsCausedBy}, Devices.{AnswersAll}}, proofs.{Told.{AppendsAll-none, AppendsAll-then}, Lists.{AnswersAll-then}}}
 use Rattle.amt_values.specs.declared.peer.Peer.{Peer}
-use Rattle.amt_ports.specs.EndCauses.{IsCauseOf, IsCausedBy}
-use Rattle.amt_ports.specs.Devices.{AnswersAll}
-use Rattle.amt_ports.specs.declared.end.End.{End}
-use Rattle.amt_ports.specs.declared.end.End.TheVariants.{Turns, LinkFault, FeedFault, WordsFault}
-use Rattle.amt_ports.proofs.Told.{AppendsAll-none, AppendsAll-then}
-use Rattle.amt_ports.proofs.Lists.{AnswersAll-then}
-use Rattle.relay_serving.specs.Counting.{HasAnswered, is_late, no_counts, starved_in}
-use Rattle.relay_serving.specs.Devices.{Devices}
-use Rattle.relay_serving.specs.Events.{happenings_from, happenings_of_turn}
-use Rattle.relay_serving.specs.Happenings.{Happening, events_among}
-use Rattle.relay_serving.specs.Runs.{feed_answers, link_answers, moments_given, words_drawn}
-use Rattle.relay_serving.specs.Sending.{answers_after}
-use Rattle.relay_serving.specs.Servers.{Happens, counts_in, events_in, first_in, happenings_in, settings_in, tally_in}
-use Rattle.relay_serving.specs.Serving.{AreOwedLate}
-use Rattle.relay_serving.specs.Turning.{AreCausesOf, EndsIn, Goes, RunsSo, TurnsSo}
-use Rattle.relay_serving.specs.Turns.{AreWhole, IsWhole, Progress, Turn, after_turn, no_progress}
-use Rattle.relay_serving.specs.declared.counts.Counts.{Counts}
-use Rattle.relay_serving.specs.declared.plan.ServePlan.{ServePlan}
-use Rattle.relay_serving.specs.declared.server.Server.{Server}
-use Rattle.relay_serving.proofs.Answering.{HasAnswered-none, HasAnswered-then, answers_after-append}
-use Rattle.relay_serving.proofs.Cuts.{no_error}
-use Rattle.relay_serving.proofs.Events.{Happens-then, HasEvents-none, HasRefused-same, IsAsBefore-same, events_grown}
-use Rattle.relay_serving.proofs.Happenings.{events_among-append}
-use Rattle.relay_serving.proofs.OwedLate.{AreOwedLate-none, AreOwedLate-then, owed_after}
+use Rattle.relay_serving.specs.{Counting.{HasAnswered, is_late, no_counts, starved_in}, Devices.{Devices}, Events.{happenings_from, happenings_of_turn}, Happenings.{Happening, events_among}, Runs.{feed_answers, link_answers, moments_given, words_drawn}, Sending.{answers_after}}
+use Rattle.relay_serving.specs.{Servers.{Happens, counts_in, events_in, first_in, happenings_in, settings_in, tally_in}, Serving.{AreOwedLate}, Turning.{AreCausesOf, EndsIn, Goes, RunsSo, TurnsSo}, Turns.{AreWhole, IsWhole, Progress, Turn, after_turn, no_progress}, declared.counts.Counts.{Counts}}
+use Rattle.relay_serving.{specs.declared.{plan.ServePlan.{ServePlan}, server.Server.{Server}}, proofs.{Answering.{HasAnswered-none, HasAnswered-then, answers_after-append}, Cuts.{no_error}, Events.{Happens-then, HasEvents-none, HasRefused-same, IsAsBefore-same, events_grown}, Happenings.{events_among-append}, OwedLate.{AreOwedLate-none, AreOwedLate-then, owed_after}}}
 
 -- one whole turn more
 pub AreWhole-more : (rotate : ℕ) (progress last : Progress) (turns : List Turn) (turn : Turn) → AreWhole rotate progress turns last → IsWhole rotate last turn

@@ -1,16 +1,10 @@
 -- Events to which a link sends nothing.
 use Rattle.std.proofs.Common.{◌≡◌, ℕ, Bool, true, false, List, [], ◌∷◌, ◌++◌, refl, ◌∙◌}
 use Rattle.core.specs.List.{cons_option}
-use Rattle.amt_ports.specs.declared.feed.FeedAnswer.{FeedAnswer}
-use Rattle.amt_ports.specs.declared.feed.FeedAnswer.TheVariants.{Packet as PacketFed, Nothing as NothingFed, Closed as FeedClosed}
+use Rattle.amt_ports.specs.{declared.feed.FeedAnswer.{FeedAnswer, TheVariants.{Packet as PacketFed, Nothing as NothingFed, Closed as FeedClosed}}, Answers.{Taken, unless_starved}}
 use Rattle.response_mac.specs.declared.secret.Secret.{Secret}
-use Rattle.relay_machine.specs.declared.event.Event.{Event}
-use Rattle.relay_machine.specs.declared.event.Event.TheVariants.{Packet}
-use Rattle.relay_machine.specs.declared.settings.Settings.{Settings}
-use Rattle.amt_ports.specs.Answers.{Taken, unless_starved}
-use Rattle.relay_serving.specs.Events.{moment_event, packet_of, packets_in, rotation}
-use Rattle.relay_serving.specs.Sending.{answers_after}
-use Rattle.relay_serving.proofs.Answering.{answers_after-append}
+use Rattle.relay_machine.specs.declared.{event.Event.{Event, TheVariants.{Packet}}, settings.Settings.{Settings}}
+use Rattle.relay_serving.{specs.{Events.{moment_event, packet_of, packets_in, rotation}, Sending.{answers_after}}, proofs.Answering.{answers_after-append}}
 
 module _ (settings : Settings) (first : Secret) where
   -- a moment and a new secret

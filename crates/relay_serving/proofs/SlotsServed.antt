@@ -1,40 +1,14 @@
 -- What slots left, as it is seen of a whole run.
 use Rattle.std.proofs.Common.{◌≡◌, ℕ, suc, ◌+◌, ◌*◌, ◌≤◌, ◌==◌, Bool, true, cond, List, [], ◌∷◌, length, map, refl, sym, ap, subst, ◌∙◌, arith}
-use Rattle.std.specs.Prelude.{Result, Ok, Err}
-use Rattle.std.specs.List.{All, AllZip, enumerate_from, filter, sum_by}
-use Rattle.std.proofs.Props.{props}
-use Rattle.std.proofs.Math.Logic.{∥∥₁_elim, ∥∥₁_map, ∥∥₁_prop}
-use Rattle.std.proofs.lemmas.List.{length-map}
-use Rattle.std.proofs.lemmas.List.Elements.{All-cons, All-head, All-nil, All-tail}
-use Rattle.std.proofs.lemmas.List.Sums.{sum_by-cons}
+use Rattle.std.{specs.{Prelude.{Result, Ok, Err}, List.{All, AllZip, enumerate_from, filter, sum_by}}, proofs.{Props.{props}, Math.Logic.{∥∥₁_elim, ∥∥₁_map, ∥∥₁_prop}, lemmas.List.{length-map, Elements.{All-cons, All-head, All-nil, All-tail}, Sums.{sum_by-cons}}}}
 use Rattle.logbook.specs.Pages.{Book}
-use Rattle.amt_ports.specs.declared.out_link.OutLink.{Ghosts}
+use Rattle.amt_ports.specs.{declared.out_link.OutLink.{Ghosts}, Devices.{OutSeen, out_seen}}
 use Rattle.endpoint_membership.specs.declared.change.Change.{Change}
-use Rattle.inner_datagrams.specs.Head.{head_of}
-use Rattle.inner_datagrams.specs.declared.head.Head.{Head}
-use Rattle.inner_datagrams.specs.declared.head.HeadFault.{HeadFault}
-use Rattle.published_table.specs.Lists.{BeginsWith}
-use Rattle.published_table.specs.Terms.{settings_by}
-use Rattle.published_table.specs.Views.{publisher_of, seen, terms_of}
-use Rattle.published_table.specs.declared.terms.Terms.{Terms}
-use Rattle.published_table.specs.declared.view.View.{View}
-use Rattle.relay_machine.specs.Settings.{table_settings_of}
-use Rattle.relay_machine.specs.declared.settings.Settings.{Settings}
-use Rattle.amt_ports.specs.Devices.{OutSeen, out_seen}
-use Rattle.replication_workers.specs.Dispatchers.{slot_by, slot_for}
-use Rattle.replication_workers.specs.Jobs.{Handled}
-use Rattle.replication_workers.specs.Replicators.{limit_of, out_of, view_of}
-use Rattle.replication_workers.specs.SlotStates.{HaveLeft, IsLeft, SlotLeft, SlotState, jobs_in_all}
-use Rattle.replication_workers.specs.Workers.{HasHandled}
-use Rattle.replication_workers.specs.declared.job.Job.{Job}
-use Rattle.replication_workers.specs.declared.replicator.Replicator.{Replicator}
-use Rattle.relay_serving.specs.Devices.{outs_seen}
-use Rattle.relay_serving.specs.GivenOut.{AreOfPublisher, jobs_at, slots_after, starts_in}
-use Rattle.relay_serving.specs.Serving.{AreServed, IsServed, SlotServed, logs_in}
-use Rattle.relay_serving.specs.Starting.{AreStarts, IsStart}
-
-sum_of_two : (sent unsent more less jobs rest : ℕ) → sent + unsent ≤ 65536 * jobs → more + less ≤ 65536 * rest → (sent + more) + (unsent + less) ≤ 65536 * (jobs + rest)
-sum_of_two sent unsent more less jobs rest first second = omega (arith, first, second)
+use Rattle.inner_datagrams.specs.{Head.{head_of}, declared.head.{Head.{Head}, HeadFault.{HeadFault}}}
+use Rattle.published_table.specs.{Lists.{BeginsWith}, Terms.{settings_by}, Views.{publisher_of, seen, terms_of}, declared.{terms.Terms.{Terms}, view.View.{View}}}
+use Rattle.relay_machine.specs.{Settings.{table_settings_of}, declared.settings.Settings.{Settings}}
+use Rattle.replication_workers.specs.{Dispatchers.{slot_by, slot_for}, Jobs.{Handled}, Replicators.{limit_of, out_of, view_of}, SlotStates.{HaveLeft, IsLeft, SlotLeft, SlotState, jobs_in_all}, Workers.{HasHandled}, declared.{job.Job.{Job}, replicator.Replicator.{Replicator}}}
+use Rattle.relay_serving.specs.{Devices.{outs_seen}, GivenOut.{AreOfPublisher, jobs_at, slots_after, starts_in}, Serving.{AreServed, IsServed, SlotServed, logs_in}, Starting.{AreStarts, IsStart}}
 
 -- the first of one slot is the slot of each packet
 of_one : (head : Result Head HeadFault) → slot_by 1 head ≡ 0

@@ -1,14 +1,8 @@
 -- Which workers a run started.
-use Rattle.std.proofs.Common.{◌≡◌, ◌≢◌, ℕ, zero, suc, ◌==◌, ◌≤◌, max, not, Bool, true, false, List, [], ◌∷◌, length, refl, sym, ap, subst, ◌∙◌, arith, length-append}
-use Rattle.std.specs.Prelude.{Option, None, Some}
-use Rattle.amt_ports.specs.declared.end.End.{End}
-use Rattle.amt_ports.specs.declared.end.End.TheVariants.{SpawnFault}
+use Rattle.std.{proofs.Common.{◌≡◌, ◌≢◌, ℕ, zero, suc, ◌==◌, ◌≤◌, max, not, Bool, true, false, List, [], ◌∷◌, length, refl, sym, ap, subst, ◌∙◌, arith, length-append}, specs.Prelude.{Option, None, Some}}
+use Rattle.amt_ports.specs.declared.end.End.{End, TheVariants.{SpawnFault}}
 use Rattle.replication_workers.specs.Starting.{HaveStarted}
-use Rattle.relay_serving.specs.Runs.{HasEnded, with_cut}
-use Rattle.relay_serving.specs.Serving.{StartsWorkers}
-use Rattle.relay_serving.specs.Turns.{Progress, Turn}
-use Rattle.relay_serving.specs.declared.plan.ServePlan.{ServePlan}
-use Rattle.relay_serving.proofs.GivenOut.{other_number}
+use Rattle.relay_serving.{specs.{Runs.{HasEnded, with_cut}, Serving.{StartsWorkers}, Turns.{Progress, Turn}, declared.plan.ServePlan.{ServePlan}}, proofs.GivenOut.{other_number}}
 
 -- no start was tried
 pub starts_none : (workers : ℕ) (end : End) (before after : Option ℕ) → after ≡ before → StartsWorkers workers [] end before after

@@ -1,25 +1,12 @@
 -- Replicators that are made and taken apart from the end of a list, and slots without jobs.
-use Rattle.std.proofs.Common.{◌≡◌, ℕ, suc, ◌+◌, ◌≤◌, List, [], ◌∷◌, ◌++◌, length, map, reverse, refl, sym, ap, subst, ◌∙◌, append_assoc, arith, length-append, false, true≢false}
-use Rattle.std.specs.Prelude.{Result, Ok, Err, IfOk, OnOk, Option, Some}
+use Rattle.std.{proofs.{Common.{◌≡◌, ℕ, suc, ◌+◌, ◌≤◌, List, [], ◌∷◌, ◌++◌, length, map, reverse, refl, sym, ap, subst, ◌∙◌, append_assoc, arith, length-append, false, true≢false}, lemmas.List.{length-map, length-reverse, reverse-append, Elements.{All-cons, All-head, All-nil, All-pop, All-push, All-tail}}}, specs.{Prelude.{Result, Ok, Err, IfOk, OnOk, Option, Some}, List.{All, enumerate_from}}}
 use Rattle.core.specs.Result.{is_err}
-use Rattle.std.specs.List.{All, enumerate_from}
-use Rattle.std.proofs.lemmas.List.{length-map, length-reverse, reverse-append}
-use Rattle.std.proofs.lemmas.List.Elements.{All-cons, All-head, All-nil, All-pop, All-push, All-tail}
 use Rattle.logbook.specs.Pages.{Book}
-use Rattle.amt_ports.specs.declared.out_link.OutLink.{Ghosts}
-use Rattle.published_table.specs.Views.{IsNew, publisher_of, terms_of}
-use Rattle.published_table.specs.declared.terms.Terms.{Terms}
-use Rattle.published_table.specs.declared.view.View.{View}
+use Rattle.amt_ports.specs.{declared.out_link.OutLink.{Ghosts}, Devices.{OutSeen}}
+use Rattle.published_table.specs.{Views.{IsNew, publisher_of, terms_of}, declared.{terms.Terms.{Terms}, view.View.{View}}}
 use Rattle.relay_machine.specs.declared.settings.Settings.{Settings}
-use Rattle.amt_ports.specs.Devices.{OutSeen}
-use Rattle.replication_workers.specs.Backs.{AreBack, IsBack, SlotBack}
-use Rattle.replication_workers.specs.Replicators.{limit_of, out_of, view_of}
-use Rattle.replication_workers.specs.SlotStates.{SlotState, new_slot}
-use Rattle.replication_workers.specs.Starting.{AllButOneBack, HaveStarted}
-use Rattle.replication_workers.specs.declared.replicator.Replicator.{Replicator}
-use Rattle.relay_serving.specs.Devices.{outs_seen}
-use Rattle.relay_serving.specs.GivenOut.{AreOfPublisher, jobs_at, slots_after, starts_in, terms_by}
-use Rattle.relay_serving.specs.Starting.{AreStarts, IsStart, LosesOne}
+use Rattle.replication_workers.specs.{Backs.{AreBack, IsBack, SlotBack}, Replicators.{limit_of, out_of, view_of}, SlotStates.{SlotState, new_slot}, Starting.{AllButOneBack, HaveStarted}, declared.replicator.Replicator.{Replicator}}
+use Rattle.relay_serving.specs.{Devices.{outs_seen}, GivenOut.{AreOfPublisher, jobs_at, slots_after, starts_in, terms_by}, Starting.{AreStarts, IsStart, LosesOne}}
 
 -- the last one comes first
 pub last_first : {A : Type 0} (before after : List A) (one : A) → before ≡ after ++ one ∷ [] → reverse before ≡ one ∷ reverse after
@@ -51,10 +38,6 @@ pub All-reverse : {A : Type 0} (P : A → Type 0) (list : List A) → All P list
 All-reverse P [] all = all
 All-reverse P (one ∷ list) all =
     subst (All P) (sym (reverse-append (one ∷ []) list)) (All-push P (reverse list) one (All-reverse P list (All-tail P one list all)) (All-head P one list all))
-
-pub All-unmap : {A B : Type 0} (P : B → Type 0) (f : A → B) (list : List A) → All P (map f list) → All (λ one. P (f one)) list
-All-unmap P f [] all = All-nil (λ one. P (f one))
-All-unmap P f (one ∷ list) all = All-cons (λ one. P (f one)) one list (All-head P (f one) (map f list) all) (All-unmap P f list (All-tail P (f one) (map f list) all))
 
 -- so many were taken from one list and put in the other
 pub as_many : {A B : Type 0} (f : A → B) (outs all : List B) (made : List A) → outs ++ map f (reverse made) ≡ all → length outs + length made ≡ length all

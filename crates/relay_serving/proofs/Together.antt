@@ -1,24 +1,11 @@
 -- Where no view is apart, receivers are found by prefixes of the whole log.
-use Rattle.std.proofs.Common.{◌≡◌, ◌≤◌, ◌==◌, ℕ, ◌+◌, not, Bool, true, false, cond, List, [], ◌∷◌, length, map, take, count_by, refl, sym, ap, subst, ◌∙◌, arith}
-use Rattle.std.specs.List.{All}
-use Rattle.std.proofs.Math.Seq.{take-length}
-use Rattle.std.proofs.lemmas.Bool.{eqb-true}
-use Rattle.std.proofs.lemmas.List.{length-take-le}
-use Rattle.std.proofs.lemmas.List.Elements.{All-cons, All-head, All-nil, All-tail}
-use Rattle.std.proofs.lemmas.List.Sums.{sum_by-cons}
+use Rattle.std.{proofs.{Common.{◌≡◌, ◌≤◌, ◌==◌, ℕ, ◌+◌, not, Bool, true, false, cond, List, [], ◌∷◌, length, map, take, count_by, refl, sym, ap, subst, ◌∙◌, arith}, Math.Seq.{take-length}, lemmas.{Bool.{eqb-true}, List.{length-take-le, Elements.{All-cons, All-head, All-nil, All-tail}, Sums.{sum_by-cons}}}}, specs.List.{All}}
 use Rattle.amt_values.specs.declared.peer.Peer.{Peer}
-use Rattle.endpoint_membership.specs.Table.{TableSettings}
-use Rattle.endpoint_membership.specs.declared.change.Change.{Change}
-use Rattle.published_table.specs.Lists.{BeginsWith, BeginsWithEach}
-use Rattle.published_table.specs.Views.{seen}
-use Rattle.published_table.specs.declared.view.View.{View}
-use Rattle.published_table.proofs.Beginnings.{begins_further, begins_itself, each_further}
-use Rattle.relay_machine.specs.declared.settings.Settings.{Settings}
-use Rattle.relay_machine.specs.Settings.{table_settings_of}
-use Rattle.replication_workers.specs.Jobs.{Handled}
-use Rattle.replication_workers.specs.declared.job.Job.{Job}
-use Rattle.relay_serving.specs.Serving.{ArePublished, IsServed, ReadPrefixesOf, SlotServed, logs_in}
-use Rattle.relay_serving.specs.Views.{is_apart}
+use Rattle.endpoint_membership.specs.{Table.{TableSettings}, declared.change.Change.{Change}}
+use Rattle.published_table.{specs.{Lists.{BeginsWith, BeginsWithEach}, Views.{seen}, declared.view.View.{View}}, proofs.Beginnings.{begins_further, begins_itself, each_further}}
+use Rattle.relay_machine.specs.{declared.settings.Settings.{Settings}, Settings.{table_settings_of}}
+use Rattle.replication_workers.specs.{Jobs.{Handled}, declared.job.Job.{Job}}
+use Rattle.relay_serving.specs.{Serving.{ArePublished, IsServed, ReadPrefixesOf, SlotServed, logs_in}, Views.{is_apart}}
 
 -- the last log begins with what was seen before all jobs
 last_begins : (settings : TableSettings) (limit : ℕ) (seen : List Change) (jobs : List Job) (wanted : List (Peer × List ℕ)) (last : List Change)

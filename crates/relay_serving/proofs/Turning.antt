@@ -1,34 +1,12 @@
 -- What the stages of a turn come to together.
-use Rattle.std.proofs.Common.{◌≡◌, ℕ, Bool, cond, List, [], ◌∷◌, ◌++◌, count_by, map, refl, sym, ap, subst, ◌∙◌, arith}
-use Rattle.std.specs.List.{sum_by}
-use Rattle.std.proofs.lemmas.List.{append-nil, append_assoc}
-use Rattle.std.proofs.lemmas.List.Sums.{sum_by-cons}
-use Rattle.amt_ports.specs.Told.{Appends, AppendsAll}
-use Rattle.amt_ports.specs.declared.feed.FeedAnswer.{FeedAnswer}
-use Rattle.amt_ports.specs.declared.feed.FeedAnswer.TheVariants.{Closed as FeedClosed}
-use Rattle.amt_ports.specs.declared.link.LinkAnswer.{LinkAnswer}
-use Rattle.amt_ports.specs.declared.link.LinkAnswer.TheVariants.{Closed as LinkClosed}
-use Rattle.amt_ports.specs.declared.out_link.OutLink.{Ghosts}
+use Rattle.std.{proofs.{Common.{◌≡◌, ℕ, Bool, cond, List, [], ◌∷◌, ◌++◌, count_by, map, refl, sym, ap, subst, ◌∙◌, arith}, lemmas.List.{append-nil, append_assoc, Sums.{sum_by-cons}}}, specs.List.{sum_by}}
+use Rattle.amt_ports.specs.{Told.{Appends, AppendsAll}, declared.{feed.FeedAnswer.{FeedAnswer, TheVariants.{Closed as FeedClosed}}, link.LinkAnswer.{LinkAnswer, TheVariants.{Closed as LinkClosed}}, out_link.OutLink.{Ghosts}}, Answers.{Taken}, Devices.{AnswersAll}}
 use Rattle.amt_values.specs.declared.peer.Peer.{Peer}
 use Rattle.response_mac.specs.declared.secret.Secret.{Secret}
-use Rattle.relay_machine.specs.declared.event.Event.{Event}
-use Rattle.relay_machine.specs.declared.settings.Settings.{Settings}
-use Rattle.amt_ports.specs.Answers.{Taken}
-use Rattle.amt_ports.specs.Devices.{AnswersAll}
-use Rattle.relay_serving.specs.Counting.{HasRefused, is_late, one_if, starved_in}
-use Rattle.relay_serving.specs.Devices.{Devices}
-use Rattle.relay_serving.specs.Events.{beginning_of, datagrams_in, happenings_from, happenings_of_turn, moment_event, packets_in, publishing_in, rotation}
-use Rattle.relay_serving.specs.Happenings.{Happening, Took, events_among}
-use Rattle.relay_serving.specs.Sending.{answers_after}
-use Rattle.relay_serving.specs.Servers.{Feeds, Happens, HasEvents, Hears, SendsAlike, counts_in, events_in, first_in, happenings_in, settings_in}
-use Rattle.relay_serving.specs.Turning.{Goes}
-use Rattle.relay_serving.specs.Turns.{Publishing, Ahead, Done, Refused, Turn, moment_of_turn}
-use Rattle.relay_serving.specs.declared.counts.Counts.{Counts}
-use Rattle.relay_serving.specs.declared.server.Server.{Server}
-use Rattle.relay_serving.proofs.Answering.{HasAnswered-alike, answers_after-append}
-use Rattle.relay_serving.proofs.Events.{HasRefused-same, IsSameRun-none, IsSameRun-then, SendsAlike-same, events_more}
-use Rattle.relay_serving.proofs.Happenings.{events_among-append, events_among-taken}
-use Rattle.relay_serving.proofs.Silence.{none-begun, none-packets}
+use Rattle.relay_machine.specs.declared.{event.Event.{Event}, settings.Settings.{Settings}}
+use Rattle.relay_serving.specs.{Counting.{HasRefused, is_late, one_if, starved_in}, Devices.{Devices}, Events.{beginning_of, datagrams_in, happenings_from, happenings_of_turn, moment_event, packets_in, publishing_in, rotation}, Happenings.{Happening, Took, events_among}}
+use Rattle.relay_serving.specs.{Sending.{answers_after}, Servers.{Feeds, Happens, HasEvents, Hears, SendsAlike, counts_in, events_in, first_in, happenings_in, settings_in}, Turning.{Goes}, Turns.{Publishing, Ahead, Done, Refused, Turn, moment_of_turn}, declared.counts.Counts.{Counts}}
+use Rattle.relay_serving.{specs.declared.server.Server.{Server}, proofs.{Answering.{HasAnswered-alike, answers_after-append}, Events.{HasRefused-same, IsSameRun-none, IsSameRun-then, SendsAlike-same, events_more}, Happenings.{events_among-append, events_among-taken}, Silence.{none-begun, none-packets}}}
 
 -- four lots in a row
 four_lots : (before began heard published after first second third fourth : List Happening) → began ≡ before ++ first → heard ≡ began ++ second → published ≡ heard ++ third

@@ -1,31 +1,10 @@
 -- The ways out of a turn.
-use Rattle.std.proofs.Common.{◌≡◌, ℕ, ◌+◌, Bool, true, false, true≢false, cond, List, [], ◌∷◌, Option, None, Result, Ok, Err, refl, sym, ap, ◌∙◌, arith}
-use Rattle.std.proofs.lemmas.List.Sums.{sum_by-append}
-use Rattle.std.specs.Prelude.{IsErrOf}
-use Rattle.std.specs.List.{count_by}
+use Rattle.std.{proofs.{Common.{◌≡◌, ℕ, ◌+◌, Bool, true, false, true≢false, cond, List, [], ◌∷◌, Option, None, Result, Ok, Err, refl, sym, ap, ◌∙◌, arith}, lemmas.List.Sums.{sum_by-append}}, specs.{Prelude.{IsErrOf}, List.{count_by}}}
 use Rattle.core.specs.List.{cons_option}
-use Rattle.amt_ports.specs.declared.link.LinkAnswer.{LinkAnswer}
-use Rattle.amt_ports.specs.declared.link.LinkAnswer.TheVariants.{Datagram as DatagramCame, Nothing as NothingCame, Closed as LinkClosed}
-use Rattle.amt_ports.specs.declared.out_link.OutLink.{Ghosts}
+use Rattle.amt_ports.specs.{declared.{link.LinkAnswer.{LinkAnswer, TheVariants.{Datagram as DatagramCame, Nothing as NothingCame, Closed as LinkClosed}}, out_link.OutLink.{Ghosts}, end.End.{End, TheVariants.{FeedFault, LinkFault}}}, Answers.{Taken, unless_starved}, Bursts.{AreAsked}, Devices.{FeedSeen, LinkSeen, words_seen}}
 use Rattle.relay_machine.specs.declared.event.Event.{Event}
-use Rattle.amt_ports.specs.Answers.{Taken, unless_starved}
-use Rattle.amt_ports.specs.Bursts.{AreAsked}
-use Rattle.amt_ports.specs.Devices.{FeedSeen, LinkSeen, words_seen}
-use Rattle.amt_ports.specs.declared.end.End.{End}
-use Rattle.amt_ports.specs.declared.end.End.TheVariants.{FeedFault, LinkFault}
-use Rattle.relay_serving.specs.Counting.{is_packet}
-use Rattle.relay_serving.specs.Devices.{devices_seen}
-use Rattle.relay_serving.specs.Events.{datagram_of, datagrams_in}
-use Rattle.relay_serving.specs.Servers.{FeedsSo, HasEvents, HearsSo, PublishesSo, counts_in, events_in}
-use Rattle.relay_serving.specs.Stages.{BeginsSo}
-use Rattle.relay_serving.specs.Turning.{TurnsSo}
-use Rattle.relay_serving.specs.Turns.{Progress, Ahead, from_feed, from_link}
-use Rattle.relay_serving.specs.declared.server.Server.{Server}
-use Rattle.relay_serving.proofs.Cuts.{cut_begun, cut_heard, turn_fed}
-use Rattle.relay_serving.proofs.Events.{IsAsBefore-same, events_more}
-use Rattle.relay_serving.proofs.Hearing.{Feeds-none, Hears-none}
-use Rattle.relay_serving.proofs.OwedLate.{owed_since}
-use Rattle.relay_serving.proofs.Turning.{HasStages, Keeps-none, goes_of, turn_of}
+use Rattle.relay_serving.specs.{Counting.{is_packet}, Devices.{devices_seen}, Events.{datagram_of, datagrams_in}, Servers.{FeedsSo, HasEvents, HearsSo, PublishesSo, counts_in, events_in}, Stages.{BeginsSo}, Turning.{TurnsSo}, Turns.{Progress, Ahead, from_feed, from_link}}
+use Rattle.relay_serving.{specs.declared.server.Server.{Server}, proofs.{Cuts.{cut_begun, cut_heard, turn_fed}, Events.{IsAsBefore-same, events_more}, Hearing.{Feeds-none, Hears-none}, OwedLate.{owed_since}, Turning.{HasStages, Keeps-none, goes_of, turn_of}}}
 
 -- datagrams are no packets
 packets-datagram : (later : List Event) (starved : Bool) (answer : LinkAnswer)

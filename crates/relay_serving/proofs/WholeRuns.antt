@@ -1,63 +1,22 @@
 -- A whole run, put together.
 use Rattle.std.proofs.Common.{◌≡◌, ◌≢◌, ℕ, ◌+◌, ◌==◌, ◌<◌, ◌≤◌, ◌^◌, max, not, Bool, true, false, List, [], ◌++◌, length, map, refl, sym, ap, subst, ◌∙◌, append-nil, arith, length-append, inl, inr, if◌then◌else◌}
-use Rattle.std.specs.Prelude.{Option, None, Some, Result, Ok, Err}
-use Rattle.std.specs.List.{All, AllZip}
-use Rattle.std.proofs.Math.Logic.{∥∥₁_elim, ∥∥₁_map, ∥∥₁_prop}
-use Rattle.std.proofs.lemmas.List.{length-map}
-use Rattle.std.proofs.lemmas.Bool.{eqb-true}
-use Rattle.std.proofs.lemmas.List.Sums.{count_by-le-length}
-use Rattle.amt_ports.specs.Causes.{HasCause, Rose}
-use Rattle.amt_ports.specs.declared.fault.Failed.{Failed}
-use Rattle.amt_ports.specs.Told.{AppendsAll}
-use Rattle.amt_ports.specs.declared.out_link.OutLink.{Ghosts}
+use Rattle.std.{proofs.{Math.Logic.{∥∥₁_elim, ∥∥₁_map, ∥∥₁_prop}, lemmas.{List.{length-map, Sums.{count_by-le-length}}, Bool.{eqb-true}}}, specs.{Prelude.{Option, None, Some, Result, Ok, Err}, List.{All, AllZip}}}
+use Rattle.amt_ports.{specs.{Causes.{HasCause, Rose}, declared.{fault.Failed.{Failed}, out_link.OutLink.{Ghosts}, end.End.{End, TheVariants.{Turns, Closed, LinkFault, FeedFault, WordsFault, SpawnFault, Memory}}}, Told.{AppendsAll}, EndCauses.{IsCauseOf}, Devices.{FeedSeen, LinkSeen, OutSeen, WordsSeen}, Tried.{HasTried}}, proofs.{Told.{AppendsAll-none, AppendsAll-then}, Trying.{HasTried-none}}}
 use Rattle.amt_values.specs.declared.peer.Peer.{Peer}
 use Rattle.endpoint_membership.specs.declared.change.Change.{Change}
-use Rattle.published_table.specs.Lists.{BeginsWith}
-use Rattle.published_table.specs.Publishers.{book_of}
-use Rattle.published_table.specs.Views.{seen, views_of}
-use Rattle.published_table.specs.declared.view.View.{View}
-use Rattle.published_table.proofs.Beginnings.{begins_by}
+use Rattle.published_table.{specs.{Lists.{BeginsWith}, Publishers.{book_of}, Views.{seen, views_of}, declared.view.View.{View}}, proofs.Beginnings.{begins_by}}
 use Rattle.response_mac.specs.declared.secret.Secret.{Secret}
-use Rattle.relay_machine.specs.Published.{published_log}
-use Rattle.relay_machine.specs.declared.event.Event.{Event}
-use Rattle.relay_machine.specs.declared.settings.Settings.{Settings}
-use Rattle.amt_ports.specs.EndCauses.{IsCauseOf}
-use Rattle.amt_ports.specs.Devices.{FeedSeen, LinkSeen, OutSeen, WordsSeen}
-use Rattle.amt_ports.specs.declared.end.End.{End}
-use Rattle.amt_ports.specs.declared.end.End.TheVariants.{Turns, Closed, LinkFault, FeedFault, WordsFault, SpawnFault, Memory}
-use Rattle.amt_ports.proofs.Told.{AppendsAll-none, AppendsAll-then}
-use Rattle.replication_workers.specs.Dispatchers.{is_threaded}
-use Rattle.amt_ports.specs.Tried.{HasTried}
-use Rattle.replication_workers.specs.Replicators.{out_of}
-use Rattle.replication_workers.specs.SlotStates.{jobs_in_all}
-use Rattle.replication_workers.specs.Starting.{HaveStarted}
-use Rattle.amt_ports.proofs.Trying.{HasTried-none}
-use Rattle.relay_serving.specs.Counting.{AreCounted, is_datagram}
-use Rattle.relay_serving.specs.Devices.{Devices, devices_seen, outs_seen}
-use Rattle.relay_serving.specs.Drawing.{DrawsSecret, IsDrawn}
-use Rattle.relay_serving.specs.Ending.{Finishes}
-use Rattle.relay_serving.specs.Events.{events_of, first_of, happenings_of, published_events, secret_by}
-use Rattle.relay_serving.specs.GivenOut.{AreGivenOut, starts_in}
-use Rattle.relay_serving.specs.Happenings.{Happening, events_among, published_events_among}
-use Rattle.relay_serving.specs.Reports.{report_of, unused_report}
+use Rattle.relay_machine.specs.{Published.{published_log}, declared.{event.Event.{Event}, settings.Settings.{Settings}}}
+use Rattle.replication_workers.specs.{Dispatchers.{is_threaded}, Replicators.{out_of}, SlotStates.{jobs_in_all}, Starting.{HaveStarted}}
+use Rattle.relay_serving.specs.{Counting.{AreCounted, is_datagram}, Devices.{Devices, devices_seen, outs_seen}, Drawing.{DrawsSecret, IsDrawn}, Ending.{Finishes}}
+use Rattle.relay_serving.specs.{Events.{events_of, first_of, happenings_of, published_events, secret_by}, GivenOut.{AreGivenOut, starts_in}}
+use Rattle.relay_serving.specs.{Happenings.{Happening, events_among, published_events_among}, Reports.{report_of, unused_report}}
 use Rattle.relay_serving.specs.Runs.{HasEnded, IsCut, MayGo, Run, served, turns_of, unstarted, without_secret, words_drawn}
 use Rattle.relay_serving.specs.Sending.{answers_after, due_of, dues_after}
 use Rattle.relay_serving.specs.Serving.{AreOwedLate, ArePublished, IsOwedBy, OutsServed, Serves, StartsWorkers, one_lost, unused, used}
 use Rattle.relay_serving.specs.Servers.{events_in, first_in, happenings_in, owing_in, published_in, settings_in, slots_in, tally_in}
-use Rattle.relay_serving.specs.Starting.{AreLeftBy, AreStarts, IsAtStart}
-use Rattle.relay_serving.specs.Turning.{EndsIn, RunsSo}
-use Rattle.relay_serving.specs.Turns.{Progress, Turn}
-use Rattle.relay_serving.specs.declared.counts.Counts.{Counts}
-use Rattle.relay_serving.specs.declared.plan.ServePlan.{ServePlan}
-use Rattle.relay_serving.specs.declared.plan.ServeReport.{ServeReport}
-use Rattle.relay_serving.specs.declared.server.Server.{Server}
-use Rattle.relay_serving.specs.declared.server.ending.Ending.{Ending}
-use Rattle.relay_serving.proofs.GivenOut.{jobs_count}
-use Rattle.relay_serving.proofs.Owed.{is_prompt, owed_by}
-use Rattle.relay_serving.proofs.OwedLate.{AreOwedLate-none}
-use Rattle.relay_serving.proofs.SlotsServed.{Slotted, all_inline, are_served, slotted}
-use Rattle.relay_serving.proofs.Started.{starts_all, starts_none, starts_refused}
-use Rattle.relay_serving.proofs.Together.{read_prefixes}
+use Rattle.relay_serving.specs.{Starting.{AreLeftBy, AreStarts, IsAtStart}, Turning.{EndsIn, RunsSo}, Turns.{Progress, Turn}, declared.counts.Counts.{Counts}}
+use Rattle.relay_serving.{specs.declared.{plan.{ServePlan.{ServePlan}, ServeReport.{ServeReport}}, server.{Server.{Server}, ending.Ending.{Ending}}}, proofs.{GivenOut.{jobs_count}, Owed.{is_prompt, owed_by}, OwedLate.{AreOwedLate-none}, SlotsServed.{Slotted, all_inline, are_served, slotted}, Started.{starts_all, starts_none, starts_refused}, Together.{read_prefixes}}}
 
 -- which end it is
 abbrev number_of : End → ℕ

@@ -2,15 +2,9 @@
 use Rattle.std.specs.Prelude.{◌≡◌, ℕ, ◌+◌, ◌≤◌, Bool, true, false, List, length, count_by, if◌then◌else◌}
 use Rattle.amt_values.specs.declared.peer.Peer.{Peer}
 use Rattle.response_mac.specs.declared.secret.Secret.{Secret}
-use Rattle.relay_machine.specs.Courses.{is_torn, is_updated, outcomes_of}
-use Rattle.relay_machine.specs.declared.event.Event.{Event}
-use Rattle.relay_machine.specs.declared.event.Event.TheVariants.{Moment, Datagram, Packet, Rotate}
-use Rattle.relay_machine.specs.declared.outcome.Outcome.{Outcome}
-use Rattle.relay_machine.specs.declared.settings.Settings.{Settings}
-use Rattle.amt_ports.specs.Devices.{LinkSeen}
-use Rattle.amt_ports.specs.Tried.{HasTried}
-use Rattle.relay_serving.specs.Turns.{Turn, is_refused}
-use Rattle.relay_serving.specs.declared.counts.Counts.{Counts}
+use Rattle.relay_machine.specs.{Courses.{is_torn, is_updated, outcomes_of}, declared.{event.Event.{Event, TheVariants.{Moment, Datagram, Packet, Rotate}}, outcome.Outcome.{Outcome}, settings.Settings.{Settings}}}
+use Rattle.amt_ports.specs.{Devices.{LinkSeen}, Tried.{HasTried}}
+use Rattle.relay_serving.specs.{Turns.{Turn, is_refused}, declared.counts.Counts.{Counts}}
 
 abbrev pub is_datagram : Event → Bool
 is_datagram (Datagram bytes from) = true

@@ -1,9 +1,7 @@
 -- What has happened in a run so far.
 use Rattle.std.specs.Prelude.{List, [], ◌∷◌, ◌++◌}
-use Rattle.relay_machine.specs.declared.event.Event.{Event}
-use Rattle.relay_machine.specs.declared.event.Event.TheVariants.{Packet}
-use Rattle.relay_serving.specs.Happenings.{Happening, Took, Published, events_among, published_events_among}
-use Rattle.relay_serving.specs.declared.course.Course.{Course, Start, Then', Fed', Shown'}
+use Rattle.relay_machine.specs.declared.event.Event.{Event, TheVariants.{Packet}}
+use Rattle.relay_serving.specs.{Happenings.{Happening, Took, Published, events_among, published_events_among}, declared.course.Course.{Course, Start, Then', Fed', Shown'}}
 
 abbrev pub happenings_so_far : Course → List Happening
 happenings_so_far Start = []

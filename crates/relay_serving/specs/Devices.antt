@@ -1,7 +1,6 @@
 -- What is seen of the devices of a serving relay, before a call and after it.
 use Rattle.std.specs.Prelude.{ℕ, List, map, Option}
-use Rattle.amt_ports.specs.Sends.{TriedSend}
-use Rattle.amt_ports.specs.Devices.{FeedSeen, LinkSeen, OutSeen, WordsSeen, out_seen}
+use Rattle.amt_ports.specs.{Sends.{TriedSend}, Devices.{FeedSeen, LinkSeen, OutSeen, WordsSeen, out_seen}}
 
 -- of outs, in order, by what they tell of their tried sends and how often they failed
 abbrev pub outs_seen : {O : Type 0} → (O → Option (List TriedSend)) → (O → ℕ) → List O → List OutSeen

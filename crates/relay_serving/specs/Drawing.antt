@@ -1,7 +1,6 @@
 -- What is drawn for a secret.
 use Rattle.std.specs.Prelude.{◌≡◌, ℕ, ◌<◌, List, length, Option, Result, Ok, Err}
-use Rattle.amt_ports.specs.Told.{AppendsAll}
-use Rattle.amt_ports.specs.declared.fault.Failed.{Failed}
+use Rattle.amt_ports.specs.{Told.{AppendsAll}, declared.fault.Failed.{Failed}}
 use Rattle.response_mac.specs.declared.secret.Secret.{Secret}
 use Rattle.relay_serving.specs.Events.{secret_by}
 

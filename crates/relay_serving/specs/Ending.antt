@@ -1,17 +1,10 @@
 -- What a running relay leaves.
-use Rattle.std.specs.Prelude.{◌≡◌, List, length, count_by, if◌then◌else◌, length}
-use Rattle.std.specs.List.{All, AllZip}
+use Rattle.std.specs.{Prelude.{◌≡◌, List, length, count_by, if◌then◌else◌}, List.{All, AllZip}}
 use Rattle.amt_ports.specs.declared.out_link.OutLink.{Ghosts}
 use Rattle.endpoint_membership.specs.declared.change.Change.{Change}
-use Rattle.published_table.specs.Lists.{BeginsWith}
-use Rattle.published_table.specs.Views.{seen, views_of}
-use Rattle.published_table.specs.declared.view.View.{View}
-use Rattle.replication_workers.specs.Dispatchers.{is_threaded}
-use Rattle.replication_workers.specs.SlotStates.{HaveLeft, jobs_in_all}
-use Rattle.relay_serving.specs.Servers.{counts_in, owing_in, published_in, slots_in}
-use Rattle.relay_serving.specs.Views.{is_apart}
-use Rattle.relay_serving.specs.declared.server.Server.{Server}
-use Rattle.relay_serving.specs.declared.server.ending.Ending.{Ending}
+use Rattle.published_table.specs.{Lists.{BeginsWith}, Views.{seen, views_of}, declared.view.View.{View}}
+use Rattle.replication_workers.specs.{Dispatchers.{is_threaded}, SlotStates.{HaveLeft, jobs_in_all}}
+use Rattle.relay_serving.specs.{Servers.{counts_in, owing_in, published_in, slots_in}, Views.{is_apart}, declared.server.{Server.{Server}, ending.Ending.{Ending}}}
 
 -- each view has seen more than it had, and all that is published
 pub record AreAsked (published : List Change) (before after : List View) : Type 0 where

@@ -1,19 +1,11 @@
 -- What happens by the answers of devices, in the order of a turn: its moment, a new secret, each datagram, the
 -- publishing, each packet.
-use Rattle.std.specs.Prelude.{ℕ, Bool, true, false, List, [], ◌∷◌, ◌++◌, map, Option, None, Some}
-use Rattle.std.specs.List.{filter_map, flat_map}
+use Rattle.std.specs.{Prelude.{ℕ, Bool, true, false, List, [], ◌∷◌, ◌++◌, map, Option, None, Some}, List.{filter_map, flat_map}}
 use Rattle.byteorder.specs.Endian.{big_bytes}
-use Rattle.amt_ports.specs.declared.feed.FeedAnswer.{FeedAnswer}
-use Rattle.amt_ports.specs.declared.feed.FeedAnswer.TheVariants.{Packet as PacketFed, Nothing as NothingFed, Closed as FeedClosed}
-use Rattle.amt_ports.specs.declared.link.LinkAnswer.{LinkAnswer}
-use Rattle.amt_ports.specs.declared.link.LinkAnswer.TheVariants.{Datagram as DatagramCame, Nothing as NothingCame, Closed as LinkClosed}
+use Rattle.amt_ports.specs.{declared.{feed.FeedAnswer.{FeedAnswer, TheVariants.{Packet as PacketFed, Nothing as NothingFed, Closed as FeedClosed}}, link.LinkAnswer.{LinkAnswer, TheVariants.{Datagram as DatagramCame, Nothing as NothingCame, Closed as LinkClosed}}}, Answers.{Taken, unless_starved}}
 use Rattle.response_mac.specs.declared.secret.Secret.{Secret}
-use Rattle.relay_machine.specs.declared.event.Event.{Event}
-use Rattle.relay_machine.specs.declared.event.Event.TheVariants.{Moment, Datagram, Packet, Rotate}
-use Rattle.amt_ports.specs.Answers.{Taken, unless_starved}
-use Rattle.relay_serving.specs.Turns.{Publishing, Ahead, Refused, Done, Turn, moment_of_turn}
-use Rattle.relay_serving.specs.Happenings.{Happening, Took, Published, events_among, published_events_among}
-use Rattle.relay_serving.specs.Runs.{Run, turns_of}
+use Rattle.relay_machine.specs.declared.event.Event.{Event, TheVariants.{Moment, Datagram, Packet, Rotate}}
+use Rattle.relay_serving.specs.{Turns.{Publishing, Ahead, Refused, Done, Turn, moment_of_turn}, Happenings.{Happening, Took, Published, events_among, published_events_among}, Runs.{Run, turns_of}}
 
 -- a secret is the octets of four words, each from the most significant one on (RFC 7450, section 5.3.6)
 abbrev pub secret_by : List ℕ → Secret

@@ -1,20 +1,12 @@
 -- What the slots of a running relay are given.
-use Rattle.std.specs.Prelude.{◌≡◌, ◌==◌, ℕ, List, [], length, map}
-use Rattle.std.specs.List.{All, enumerate_from, filter}
+use Rattle.std.specs.{Prelude.{◌≡◌, ◌==◌, ℕ, List, [], length, map}, List.{All, enumerate_from, filter}}
 use Rattle.logbook.specs.Pages.{Book}
 use Rattle.amt_ports.specs.declared.out_link.OutLink.{Ghosts}
-use Rattle.published_table.specs.Views.{publisher_of}
-use Rattle.published_table.specs.declared.terms.Terms.{Terms}
+use Rattle.published_table.specs.{Views.{publisher_of}, declared.terms.Terms.{Terms}}
 use Rattle.response_mac.specs.declared.secret.Secret.{Secret}
-use Rattle.relay_machine.specs.Settings.{membership_interval_ms}
-use Rattle.relay_machine.specs.declared.settings.Settings.{Settings}
-use Rattle.replication_workers.specs.Dispatchers.{slot_for}
-use Rattle.replication_workers.specs.Replicators.{view_of}
-use Rattle.replication_workers.specs.SlotStates.{SlotState}
-use Rattle.replication_workers.specs.declared.job.Job.{Job}
-use Rattle.replication_workers.specs.declared.replicator.Replicator.{Replicator}
-use Rattle.relay_serving.specs.Happenings.{Happening}
-use Rattle.relay_serving.specs.Sending.{due_of, dues_after}
+use Rattle.relay_machine.specs.{Settings.{membership_interval_ms}, declared.settings.Settings.{Settings}}
+use Rattle.replication_workers.specs.{Dispatchers.{slot_for}, Replicators.{view_of}, SlotStates.{SlotState}, declared.{job.Job.{Job}, replicator.Replicator.{Replicator}}}
+use Rattle.relay_serving.specs.{Happenings.{Happening}, Sending.{due_of, dues_after}}
 
 -- by what the table of a relay with these settings is read
 abbrev pub terms_by : Settings → Terms

@@ -1,6 +1,5 @@
 -- What happens to a running relay, in order: it takes events, and publishes what it owes.
-use Rattle.std.specs.Prelude.{List, [], ◌∷◌, ◌++◌, Option, None, Some}
-use Rattle.std.specs.List.{filter_map}
+use Rattle.std.specs.{Prelude.{List, [], ◌∷◌, ◌++◌, Option, None, Some}, List.{filter_map}}
 use Rattle.relay_machine.specs.declared.event.Event.{Event}
 
 -- an event was taken, or all that was owed is published

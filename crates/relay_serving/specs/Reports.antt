@@ -1,8 +1,7 @@
 -- What a report says of what a running relay left.
 use Rattle.std.specs.Prelude.{ℕ, ◌+◌}
 use Rattle.amt_ports.specs.declared.end.End.{End}
-use Rattle.relay_serving.specs.declared.plan.ServeReport.{ServeReport}
-use Rattle.relay_serving.specs.declared.server.ending.Ending.{Ending}
+use Rattle.relay_serving.specs.declared.{plan.ServeReport.{ServeReport}, server.ending.Ending.{Ending}}
 
 -- of a run that had no turn
 abbrev pub unused_report : End → ServeReport

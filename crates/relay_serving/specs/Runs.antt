@@ -1,13 +1,7 @@
 -- How a run of a serving relay may go.
-use Rattle.std.specs.Prelude.{◌≡◌, ◌⊎◌, ℕ, ◌<◌, true, List, [], ◌∷◌, ◌++◌, length, map, Option, None, Some}
-use Rattle.std.specs.List.{flat_map}
-use Rattle.amt_ports.specs.declared.feed.FeedAnswer.{FeedAnswer}
-use Rattle.amt_ports.specs.declared.link.LinkAnswer.{LinkAnswer}
-use Rattle.amt_ports.specs.Bursts.{IsBegun, IsClosed}
-use Rattle.amt_ports.specs.declared.end.End.{End}
-use Rattle.amt_ports.specs.declared.end.End.TheVariants.{Turns, Closed, LinkFault, FeedFault, WordsFault, SpawnFault, Memory}
-use Rattle.relay_serving.specs.declared.plan.ServePlan.{ServePlan}
-use Rattle.relay_serving.specs.Turns.{AreWhole, HasBegun, HasHeard, Progress, Publishing, Ahead, Turn, from_feed, from_link, is_due, moment_of_turn, no_progress}
+use Rattle.std.specs.{Prelude.{◌≡◌, ◌⊎◌, ℕ, ◌<◌, true, List, [], ◌∷◌, ◌++◌, length, map, Option, None, Some}, List.{flat_map}}
+use Rattle.amt_ports.specs.{declared.{feed.FeedAnswer.{FeedAnswer}, link.LinkAnswer.{LinkAnswer}, end.End.{End, TheVariants.{Turns, Closed, LinkFault, FeedFault, WordsFault, SpawnFault, Memory}}}, Bursts.{IsBegun, IsClosed}}
+use Rattle.relay_serving.specs.{declared.plan.ServePlan.{ServePlan}, Turns.{AreWhole, HasBegun, HasHeard, Progress, Publishing, Ahead, Turn, from_feed, from_link, is_due, moment_of_turn, no_progress}}
 
 -- the feed was not asked, and so far went the publishing
 abbrev pub IsUnfed : Publishing → Turn → Type 0

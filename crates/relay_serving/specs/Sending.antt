@@ -1,19 +1,11 @@
 -- What a serving relay sends: answers by its link, and copies by its outs.
-use Rattle.std.specs.Prelude.{ℕ, List, [], ◌∷◌, map}
-use Rattle.std.specs.List.{flat_map}
+use Rattle.std.specs.{Prelude.{ℕ, List, [], ◌∷◌, map}, List.{flat_map}}
 use Rattle.amt_values.specs.declared.peer.Peer.{Peer}
 use Rattle.endpoint_membership.specs.declared.change.Change.{Change}
 use Rattle.published_table.specs.Views.{named}
 use Rattle.response_mac.specs.declared.secret.Secret.{Secret}
-use Rattle.relay_machine.specs.declared.event.Event.{Event}
-use Rattle.relay_machine.specs.declared.event.Event.TheVariants.{Moment, Datagram, Packet, Rotate}
-use Rattle.relay_machine.specs.declared.settings.Settings.{Settings}
-use Rattle.relay_machine.specs.Answers.{sends_of}
-use Rattle.relay_machine.specs.Courses.{each_after}
-use Rattle.relay_machine.specs.Events.{now_of}
-use Rattle.relay_machine.specs.Published.{published_log}
-use Rattle.replication_workers.specs.Replication.{to_peer}
-use Rattle.replication_workers.specs.declared.job.Job.{Job}
+use Rattle.relay_machine.specs.{declared.{event.Event.{Event, TheVariants.{Moment, Datagram, Packet, Rotate}}, settings.Settings.{Settings}}, Answers.{sends_of}, Courses.{each_after}, Events.{now_of}, Published.{published_log}}
+use Rattle.replication_workers.specs.{Replication.{to_peer}, declared.job.Job.{Job}}
 use Rattle.relay_serving.specs.Happenings.{Happening, Took, Published, events_among, published_events_among}
 
 -- the answers to a datagram after these events: a packet is no step of the relay here

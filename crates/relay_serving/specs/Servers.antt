@@ -1,30 +1,12 @@
 -- What is read of a running relay, and what its calls do to it and its devices.
 use Rattle.std.specs.Prelude.{◌≡◌, ◌≢◌, ℕ, ◌+◌, List, [], ◌++◌, count_by, length, map}
-use Rattle.amt_ports.specs.declared.feed.FeedAnswer.{FeedAnswer}
-use Rattle.amt_ports.specs.declared.feed.FeedAnswer.TheVariants.{Closed as FeedClosed}
-use Rattle.amt_ports.specs.declared.link.LinkAnswer.{LinkAnswer}
-use Rattle.amt_ports.specs.declared.link.LinkAnswer.TheVariants.{Closed as LinkClosed}
-use Rattle.amt_ports.specs.declared.out_link.OutLink.{Ghosts}
+use Rattle.amt_ports.specs.{declared.{feed.FeedAnswer.{FeedAnswer, TheVariants.{Closed as FeedClosed}}, link.LinkAnswer.{LinkAnswer, TheVariants.{Closed as LinkClosed}}, out_link.OutLink.{Ghosts}}, Answers.{Taken}, Bursts.{AskedSo}, Devices.{AnswersAll, FeedSeen, LinkSeen}}
 use Rattle.endpoint_membership.specs.declared.change.Change.{Change}
 use Rattle.published_table.specs.Publishers.{book_of, owing, published}
 use Rattle.response_mac.specs.declared.secret.Secret.{Secret}
-use Rattle.relay_machine.specs.Answers.{settings_of}
-use Rattle.relay_machine.specs.declared.event.Event.{Event}
-use Rattle.relay_machine.specs.declared.settings.Settings.{Settings}
-use Rattle.amt_ports.specs.Answers.{Taken}
-use Rattle.amt_ports.specs.Bursts.{AskedSo}
-use Rattle.amt_ports.specs.Devices.{AnswersAll, FeedSeen, LinkSeen}
-use Rattle.replication_workers.specs.Dispatchers.{KeepsAllRun, is_threaded, slots_of}
-use Rattle.replication_workers.specs.SlotStates.{SlotState}
-use Rattle.relay_serving.specs.Courses.{events_so_far, happenings_so_far}
-use Rattle.relay_serving.specs.Counting.{HasAnswered, HasRefused, one_if, with_starved}
-use Rattle.relay_serving.specs.Events.{datagrams_in, packets_in, publishing_in}
-use Rattle.relay_serving.specs.GivenOut.{starts_in}
-use Rattle.relay_serving.specs.Happenings.{Happening, Took}
-use Rattle.relay_serving.specs.Sending.{answers_after}
-use Rattle.relay_serving.specs.Turns.{Publishing, Ahead, Refused, is_refused}
-use Rattle.relay_serving.specs.declared.counts.Counts.{Counts}
-use Rattle.relay_serving.specs.declared.server.Server.{Server}
+use Rattle.relay_machine.specs.{Answers.{settings_of}, declared.{event.Event.{Event}, settings.Settings.{Settings}}}
+use Rattle.replication_workers.specs.{Dispatchers.{KeepsAllRun, is_threaded, slots_of}, SlotStates.{SlotState}}
+use Rattle.relay_serving.specs.{Courses.{events_so_far, happenings_so_far}, Counting.{HasAnswered, HasRefused, one_if, with_starved}, Events.{datagrams_in, packets_in, publishing_in}, GivenOut.{starts_in}, Happenings.{Happening, Took}, Sending.{answers_after}, Turns.{Publishing, Ahead, Refused, is_refused}, declared.{counts.Counts.{Counts}, server.Server.{Server}}}
 
 module _ {O : Type 0} {g : Ghosts O} {T : Type 0} where
   abbrev pub settings_in : Server O T g → Settings

@@ -1,39 +1,14 @@
 -- What a run of a serving relay comes to.
-use Rattle.std.specs.Prelude.{◌≡◌, ◌≢◌, ◌==◌, ℕ, ◌+◌, List, [], ◌∷◌, ◌++◌, length, map, count_by, sum_by, Option, if◌then◌else◌}
-use Rattle.std.specs.List.{All, enumerate_from}
-use Rattle.amt_ports.specs.Told.{AppendsAll}
-use Rattle.amt_ports.specs.declared.feed.FeedAnswer.TheVariants.{Closed as FeedClosed}
-use Rattle.amt_ports.specs.declared.link.LinkAnswer.TheVariants.{Closed as LinkClosed}
+use Rattle.std.specs.{Prelude.{◌≡◌, ◌≢◌, ◌==◌, ℕ, ◌+◌, List, [], ◌∷◌, ◌++◌, length, map, count_by, sum_by, Option, if◌then◌else◌}, List.{All, enumerate_from}}
+use Rattle.amt_ports.specs.{Told.{AppendsAll}, declared.{feed.FeedAnswer.TheVariants.{Closed as FeedClosed}, link.LinkAnswer.TheVariants.{Closed as LinkClosed}, end.End.{End, TheVariants.{LinkFault, FeedFault, WordsFault, SpawnFault}}}, EndCauses.{IsCauseOf}, Devices.{AnswersAll, OutSeen}, Tried.{HasTried}}
 use Rattle.amt_values.specs.declared.peer.Peer.{Peer}
-use Rattle.endpoint_membership.specs.Table.{TableSettings}
-use Rattle.endpoint_membership.specs.declared.change.Change.{Change}
-use Rattle.published_table.specs.Lists.{BeginsWith, BeginsWithEach}
-use Rattle.published_table.specs.Views.{seen}
-use Rattle.published_table.specs.declared.view.View.{View}
+use Rattle.endpoint_membership.specs.{Table.{TableSettings}, declared.change.Change.{Change}}
+use Rattle.published_table.specs.{Lists.{BeginsWith, BeginsWithEach}, Views.{seen}, declared.view.View.{View}}
 use Rattle.response_mac.specs.declared.secret.Secret.{Secret}
-use Rattle.relay_machine.specs.Published.{published_log}
-use Rattle.relay_machine.specs.Settings.{table_settings_of}
-use Rattle.relay_machine.specs.declared.settings.Settings.{Settings}
-use Rattle.amt_ports.specs.EndCauses.{IsCauseOf}
-use Rattle.amt_ports.specs.Devices.{AnswersAll, OutSeen}
-use Rattle.amt_ports.specs.declared.end.End.{End}
-use Rattle.amt_ports.specs.declared.end.End.TheVariants.{LinkFault, FeedFault, WordsFault, SpawnFault}
-use Rattle.replication_workers.specs.Jobs.{Handled}
-use Rattle.amt_ports.specs.Tried.{HasTried}
-use Rattle.replication_workers.specs.Starting.{HaveStarted}
-use Rattle.replication_workers.specs.declared.job.Job.{Job}
-use Rattle.relay_serving.specs.Counting.{AreCounted, is_late, starved_in}
-use Rattle.relay_serving.specs.Devices.{Devices}
-use Rattle.relay_serving.specs.Events.{events_of, first_of, happenings_from, happenings_of, published_events}
-use Rattle.relay_serving.specs.Happenings.{events_among, published_events_among}
-use Rattle.relay_serving.specs.Runs.{MayGo, Run, feed_answers, link_answers, moments_given, turns_of, words_drawn}
-use Rattle.relay_serving.specs.Sending.{answers_after, due_of, dues_after}
-use Rattle.relay_serving.specs.GivenOut.{jobs_at}
-use Rattle.relay_serving.specs.Starting.{LosesOne}
-use Rattle.relay_serving.specs.Turns.{Done, Refused, Turn}
-use Rattle.relay_serving.specs.Views.{is_apart}
-use Rattle.relay_serving.specs.declared.plan.ServePlan.{ServePlan}
-use Rattle.relay_serving.specs.declared.plan.ServeReport.{ServeReport}
+use Rattle.relay_machine.specs.{Published.{published_log}, Settings.{table_settings_of}, declared.settings.Settings.{Settings}}
+use Rattle.replication_workers.specs.{Jobs.{Handled}, Starting.{HaveStarted}, declared.job.Job.{Job}}
+use Rattle.relay_serving.specs.{Counting.{AreCounted, is_late, starved_in}, Devices.{Devices}, Events.{events_of, first_of, happenings_from, happenings_of, published_events}, Happenings.{events_among, published_events_among}}
+use Rattle.relay_serving.specs.{Runs.{MayGo, Run, feed_answers, link_answers, moments_given, turns_of, words_drawn}, Sending.{answers_after, due_of, dues_after}, GivenOut.{jobs_at}, Starting.{LosesOne}, Turns.{Done, Refused, Turn}, Views.{is_apart}, declared.plan.{ServePlan.{ServePlan}, ServeReport.{ServeReport}}}
 
 -- One slot: its out before and after, the jobs that it was given, the logs by which it found their receivers,
 -- its view at the end, and how many of its datagrams were sent and how many not.

@@ -1,15 +1,7 @@
 -- What the first stage of a turn does.
 use Rattle.std.specs.Prelude.{◌≡◌, ℕ, ◌<◌, Bool, true, max, List, ◌++◌, length, Option, Some, Result, Ok, Err}
-use Rattle.amt_ports.specs.Told.{Appends, AppendsAll}
-use Rattle.amt_ports.specs.declared.out_link.OutLink.{Ghosts}
-use Rattle.amt_ports.specs.declared.end.End.{End}
-use Rattle.amt_ports.specs.declared.end.End.TheVariants.{Turns, Closed, LinkFault, FeedFault, WordsFault, SpawnFault, Memory}
-use Rattle.relay_serving.specs.Counting.{HasRefused, one_if}
-use Rattle.relay_serving.specs.Events.{moment_event, rotation}
-use Rattle.relay_serving.specs.Servers.{HasEvents, SendsAlike, counts_in}
-use Rattle.relay_serving.specs.Turns.{Progress, is_due, renewed_after, words_due}
-use Rattle.relay_serving.specs.declared.renewal.Renewal.{Renewal}
-use Rattle.relay_serving.specs.declared.server.Server.{Server}
+use Rattle.amt_ports.specs.{Told.{Appends, AppendsAll}, declared.{out_link.OutLink.{Ghosts}, end.End.{End, TheVariants.{Turns, Closed, LinkFault, FeedFault, WordsFault, SpawnFault, Memory}}}}
+use Rattle.relay_serving.specs.{Counting.{HasRefused, one_if}, Events.{moment_event, rotation}, Servers.{HasEvents, SendsAlike, counts_in}, Turns.{Progress, is_due, renewed_after, words_due}, declared.{renewal.Renewal.{Renewal}, server.Server.{Server}}}
 
 -- where the turns so far led
 abbrev pub progress_in : Renewal → Progress

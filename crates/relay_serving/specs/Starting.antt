@@ -1,27 +1,12 @@
 -- How a running relay begins, and what is left where it doesn't.
-use Rattle.std.specs.Prelude.{◌≡◌, ℕ, ◌≤◌, Bool, List, [], ◌∷◌, ◌++◌, length, map, vec_capacity, Option}
-use Rattle.std.specs.List.{All}
+use Rattle.std.specs.{Prelude.{◌≡◌, ℕ, ◌≤◌, Bool, List, [], ◌∷◌, ◌++◌, length, map, vec_capacity, Option}, List.{All}}
 use Rattle.logbook.specs.Pages.{Book}
-use Rattle.amt_ports.specs.Causes.{Rose}
-use Rattle.amt_ports.specs.declared.out_link.OutLink.{Ghosts}
-use Rattle.published_table.specs.Publishers.{book_of}
-use Rattle.published_table.specs.Views.{IsNew, terms_of}
-use Rattle.published_table.specs.declared.terms.Terms.{Terms}
-use Rattle.published_table.specs.declared.view.View.{View}
+use Rattle.amt_ports.specs.{Causes.{Rose}, declared.{out_link.OutLink.{Ghosts}, end.End.{End, TheVariants.{Turns, Closed, LinkFault, FeedFault, WordsFault, SpawnFault, Memory}}}, Devices.{OutSeen}}
+use Rattle.published_table.specs.{Publishers.{book_of}, Views.{IsNew, terms_of}, declared.{terms.Terms.{Terms}, view.View.{View}}}
 use Rattle.response_mac.specs.declared.secret.Secret.{Secret}
 use Rattle.relay_machine.specs.declared.settings.Settings.{Settings}
-use Rattle.amt_ports.specs.Devices.{OutSeen}
-use Rattle.amt_ports.specs.declared.end.End.{End}
-use Rattle.amt_ports.specs.declared.end.End.TheVariants.{Turns, Closed, LinkFault, FeedFault, WordsFault, SpawnFault, Memory}
-use Rattle.replication_workers.specs.Dispatchers.{is_threaded}
-use Rattle.replication_workers.specs.Replicators.{limit_of, out_of, view_of}
-use Rattle.replication_workers.specs.Starting.{HaveStarted}
-use Rattle.replication_workers.specs.declared.replicator.Replicator.{Replicator}
-use Rattle.relay_serving.specs.Counting.{no_counts}
-use Rattle.relay_serving.specs.GivenOut.{starts_in, terms_by}
-use Rattle.relay_serving.specs.Servers.{counts_in, first_in, happenings_in, owing_in, published_in, settings_in, slots_in}
-use Rattle.relay_serving.specs.declared.server.Server.{Server}
-use Rattle.relay_serving.specs.declared.server.starting.Made.{Made}
+use Rattle.replication_workers.specs.{Dispatchers.{is_threaded}, Replicators.{limit_of, out_of, view_of}, Starting.{HaveStarted}, declared.replicator.Replicator.{Replicator}}
+use Rattle.relay_serving.specs.{Counting.{no_counts}, GivenOut.{starts_in, terms_by}, Servers.{counts_in, first_in, happenings_in, owing_in, published_in, settings_in, slots_in}, declared.server.{Server.{Server}, starting.Made.{Made}}}
 
 -- The out of the worker whose start was refused is gone, and the others are as they were: as many starts were
 -- told as there are outs before it.

@@ -1,24 +1,8 @@
 -- What one turn does, and all turns of a run.
 use Rattle.std.specs.Prelude.{◌≡◌, ◌≢◌, ℕ, List, [], ◌∷◌, count_by, length, sum_by, Option, Result, Ok, Err, IsOk}
-use Rattle.amt_ports.specs.Told.{AppendsAll}
-use Rattle.amt_ports.specs.declared.feed.FeedAnswer.TheVariants.{Closed as FeedClosed}
-use Rattle.amt_ports.specs.declared.link.LinkAnswer.TheVariants.{Closed as LinkClosed}
-use Rattle.amt_ports.specs.declared.out_link.OutLink.{Ghosts}
-use Rattle.amt_ports.specs.EndCauses.{IsCauseOf, IsCausedBy}
-use Rattle.amt_ports.specs.Devices.{AnswersAll}
-use Rattle.amt_ports.specs.declared.end.End.{End}
-use Rattle.amt_ports.specs.declared.end.End.TheVariants.{LinkFault, FeedFault, WordsFault}
-use Rattle.relay_serving.specs.Counting.{HasAnswered, HasRefused, is_late, starved_in}
-use Rattle.relay_serving.specs.Devices.{Devices}
-use Rattle.relay_serving.specs.Events.{happenings_from}
-use Rattle.relay_serving.specs.Happenings.{events_among}
-use Rattle.relay_serving.specs.Runs.{HasEnded, IsCut, feed_answers, link_answers, moments_given, with_cut, words_drawn}
-use Rattle.relay_serving.specs.Sending.{answers_after}
-use Rattle.relay_serving.specs.Servers.{Happens, counts_in, events_in, first_in, owing_in, settings_in}
-use Rattle.relay_serving.specs.Serving.{AreOwedLate}
-use Rattle.relay_serving.specs.Turns.{AreWhole, IsWhole, Progress, Refused, Turn, after_turn, no_progress}
-use Rattle.relay_serving.specs.declared.plan.ServePlan.{ServePlan}
-use Rattle.relay_serving.specs.declared.server.Server.{Server}
+use Rattle.amt_ports.specs.{Told.{AppendsAll}, declared.{feed.FeedAnswer.TheVariants.{Closed as FeedClosed}, link.LinkAnswer.TheVariants.{Closed as LinkClosed}, out_link.OutLink.{Ghosts}, end.End.{End, TheVariants.{LinkFault, FeedFault, WordsFault}}}, EndCauses.{IsCauseOf, IsCausedBy}, Devices.{AnswersAll}}
+use Rattle.relay_serving.specs.{Counting.{HasAnswered, HasRefused, is_late, starved_in}, Devices.{Devices}, Events.{happenings_from}, Happenings.{events_among}, Runs.{HasEnded, IsCut, feed_answers, link_answers, moments_given, with_cut, words_drawn}, Sending.{answers_after}}
+use Rattle.relay_serving.specs.{Servers.{Happens, counts_in, events_in, first_in, owing_in, settings_in}, Serving.{AreOwedLate}, Turns.{AreWhole, IsWhole, Progress, Refused, Turn, after_turn, no_progress}, declared.{plan.ServePlan.{ServePlan}, server.Server.{Server}}}
 
 -- the turn is whole, or the run ended in it
 abbrev pub IsTurnBy : Result (Unit {0}) End → ℕ → Progress → Turn → Type 0

@@ -1,11 +1,6 @@
 -- What the devices of a serving relay answer, turn by turn.
 use Rattle.std.specs.Prelude.{◌≡◌, ◌≢◌, ℕ, ◌+◌, max, nat_le, Bool, true, false, List, [], ◌∷◌, length, Option, None, Some, if◌then◌else◌}
-use Rattle.amt_ports.specs.declared.feed.FeedAnswer.{FeedAnswer}
-use Rattle.amt_ports.specs.declared.feed.FeedAnswer.TheVariants.{Nothing as NothingFed, Closed as FeedClosed}
-use Rattle.amt_ports.specs.declared.link.LinkAnswer.{LinkAnswer}
-use Rattle.amt_ports.specs.declared.link.LinkAnswer.TheVariants.{Nothing as NothingCame, Closed as LinkClosed}
-use Rattle.amt_ports.specs.Answers.{IsDatagram, IsPacket, Taken, taken}
-use Rattle.amt_ports.specs.Bursts.{AnswerKinds, IsBurst}
+use Rattle.amt_ports.specs.{declared.{feed.FeedAnswer.{FeedAnswer, TheVariants.{Nothing as NothingFed, Closed as FeedClosed}}, link.LinkAnswer.{LinkAnswer, TheVariants.{Nothing as NothingCame, Closed as LinkClosed}}}, Answers.{IsDatagram, IsPacket, Taken, taken}, Bursts.{AnswerKinds, IsBurst}}
 
 -- how far a turn's publishing went; it is done too where nothing was owed
 pub data Publishing : Type 0 where

@@ -1,8 +1,7 @@
 //! What has happened in a run so far. None of that is kept: it is for contracts alone.
 ghost use Rattle.std.specs.Prelude.{◌≡◌, [], ◌∷◌, ◌++◌};
 ghost use Rattle.relay_machine.specs.declared.event.Event.TheVariants.{Packet};
-ghost use Rattle.relay_serving.specs.Courses.{happenings_so_far};
-ghost use Rattle.relay_serving.specs.Happenings.{Published, Took};
+ghost use Rattle.relay_serving.specs.{Courses.{happenings_so_far}, Happenings.{Published, Took}};
 
 use amt_values::Bytes;
 use relay_machine::Event;

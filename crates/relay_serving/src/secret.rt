@@ -1,8 +1,7 @@
 //! How a secret is drawn. It must not know what it is for.
 ghost use Rattle.std.specs.Prelude.{◌≡◌};
 ghost use Rattle.amt_ports.specs.Causes.{HasCause};
-ghost use Rattle.relay_serving.specs.Drawing.{DrawsSecret, HasDrawn};
-ghost use Rattle.relay_serving.specs.Events.{secret_by};
+ghost use Rattle.relay_serving.specs.{Drawing.{DrawsSecret, HasDrawn}, Events.{secret_by}};
 
 use amt_ports::{Failed, Words};
 use byteorder::{BigEndian, ByteOrder};

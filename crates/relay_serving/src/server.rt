@@ -1,14 +1,9 @@
 //! A running relay: its machine, the published table, and what copies packets by that. It must not know
 //! where datagrams, packets and moments come from.
-ghost use Rattle.std.specs.Prelude.{◌≡◌, ◌++◌};
-ghost use Rattle.std.proofs.Props.{props};
+ghost use Rattle.std.{specs.Prelude.{◌≡◌, ◌++◌}, proofs.Props.{props}};
 ghost use Rattle.published_table.specs.Publishers.{book_of, owing, published, reading_terms};
-ghost use Rattle.relay_machine.specs.Answers.{RelayAt, settings_of};
-ghost use Rattle.relay_machine.specs.Published.{published_log};
-ghost use Rattle.relay_machine.specs.Settings.{AreLawfulSettings};
-ghost use Rattle.relay_serving.specs.Counting.{IsCounted};
-ghost use Rattle.relay_serving.specs.Courses.{events_so_far, happenings_so_far, published_events_so_far};
-ghost use Rattle.relay_serving.specs.GivenOut.{AreGivenOut, AreOfPublisher, terms_by};
+ghost use Rattle.relay_machine.specs.{Answers.{RelayAt, settings_of}, Published.{published_log}, Settings.{AreLawfulSettings}};
+ghost use Rattle.relay_serving.specs.{Counting.{IsCounted}, Courses.{events_so_far, happenings_so_far, published_events_so_far}, GivenOut.{AreGivenOut, AreOfPublisher, terms_by}};
 ghost use Rattle.replication_workers.specs.Dispatchers.{slots_of};
 
 use crate::counts::Counts;

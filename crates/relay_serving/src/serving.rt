@@ -4,10 +4,7 @@ ghost use Rattle.std.specs.Prelude.{◌≡◌, ◌≤◌, ◌<◌, ◌+◌, ◌^
 ghost use Rattle.published_table.specs.Views.{room_of, views_of};
 ghost use Rattle.relay_machine.specs.Settings.{AreLawfulSettings};
 ghost use Rattle.amt_ports.specs.Devices.{WaitsBriefly, feed_seen, link_seen, words_seen};
-ghost use Rattle.relay_serving.specs.Devices.{devices_seen, outs_seen};
-ghost use Rattle.relay_serving.specs.Plans.{IsLawfulPlan};
-ghost use Rattle.relay_serving.specs.Reports.{report_of, unused_report};
-ghost use Rattle.relay_serving.specs.Serving.{Serves};
+ghost use Rattle.relay_serving.specs.{Devices.{devices_seen, outs_seen}, Plans.{IsLawfulPlan}, Reports.{report_of, unused_report}, Serving.{Serves}};
 
 use crate::plan::{ServePlan, ServeReport, Served};
 use crate::secret::draw_secret;

@@ -1,10 +1,7 @@
 -- A table that accepts what a publisher takes, as a relay's does.
 use Rattle.std.specs.Prelude.{List, ◌++◌}
-use Rattle.endpoint_membership.specs.Table.{Holds, IsWithinLimits, TableValue}
-use Rattle.endpoint_membership.specs.declared.change.Change.{Change}
-use Rattle.published_table.specs.Publishers.{owing, published, reading_terms}
-use Rattle.published_table.specs.Terms.{settings_by}
-use Rattle.published_table.specs.declared.publisher.Publisher.{Publisher}
+use Rattle.endpoint_membership.specs.{Table.{Holds, IsWithinLimits, TableValue}, declared.change.Change.{Change}}
+use Rattle.published_table.specs.{Publishers.{owing, published, reading_terms}, Terms.{settings_by}, declared.publisher.Publisher.{Publisher}}
 
 -- what is published, and then what is owed
 abbrev pub whole_log : Publisher → List Change

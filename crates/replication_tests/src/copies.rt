@@ -1,7 +1,6 @@
 //! What a replicator sends, and what it counts.
 ghost use Rattle.std.specs.Prelude.{◌≡◌};
-ghost use Rattle.published_table.specs.Publishers.{book_of};
-ghost use Rattle.published_table.specs.Views.{publisher_of};
+ghost use Rattle.published_table.specs.{Publishers.{book_of}, Views.{publisher_of}};
 ghost use Rattle.replication_workers.specs.Replicators.{view_of};
 
 use crate::fixtures::{ENDPOINTS, GROUP, endpoint};

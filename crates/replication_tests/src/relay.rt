@@ -1,10 +1,7 @@
 //! A relay's part in the tests: it accepts reports and lets time pass, and publishes that. It must not
 //! know who reads the log.
-ghost use Rattle.std.specs.Prelude.{◌≡◌, ◌≤◌, ◌<◌, ◌+◌, ◌^◌, All, length};
-ghost use Rattle.std.proofs.Props.{props};
-ghost use Rattle.std.proofs.lemmas.Map.Keys.{IsStrictlySortedBy-prop};
-ghost use Rattle.published_table.specs.Publishers.{IsSamePublisher, book_of, owing, published};
-ghost use Rattle.published_table.specs.Views.{IsNew, note_publisher, views_of};
+ghost use Rattle.std.{specs.Prelude.{◌≡◌, ◌≤◌, ◌<◌, ◌+◌, ◌^◌, All, length}, proofs.{Props.{props}, lemmas.Map.Keys.{IsStrictlySortedBy-prop}}};
+ghost use Rattle.published_table.specs.{Publishers.{IsSamePublisher, book_of, owing, published}, Views.{IsNew, note_publisher, views_of}};
 ghost use Rattle.replication_tests.specs.Following.{Follows, whole_log};
 
 use crate::fixtures::{TERMS, moment, show, take_mark, take_report_on};

@@ -1,7 +1,6 @@
 //! What a view answers, before and after publishings.
 ghost use Rattle.std.specs.Prelude.{◌≡◌, ◌≤◌};
-ghost use Rattle.published_table.specs.Publishers.{book_of};
-ghost use Rattle.published_table.specs.Views.{publisher_of, terms_of};
+ghost use Rattle.published_table.specs.{Publishers.{book_of}, Views.{publisher_of, terms_of}};
 
 use crate::fixtures::{ENDPOINTS, GROUP, SOURCE, endpoint, moment};
 use crate::relay::Relay;

@@ -1,22 +1,13 @@
 -- What is sent for a packet, by its head and the endpoints that want it.
-use Rattle.std.proofs.Common.{◌≡◌, ℕ, List, [], ◌∷◌, map, Result, Ok, refl, sym, ap, subst, ◌∙◌}
-use Rattle.amt_values.specs.EndpointValue.{EndpointValue}
-use Rattle.amt_values.specs.declared.peer.Peer.{Peer}
-use Rattle.amt_messages.specs.Layout.{spelling_of}
-use Rattle.amt_messages.specs.declared.message.Message.TheVariants.{Multicast}
+use Rattle.std.{proofs.Common.{◌≡◌, ℕ, List, [], ◌∷◌, map, Result, Ok, refl, sym, ap, subst, ◌∙◌}, specs.Prelude.{Option}}
+use Rattle.amt_values.specs.{EndpointValue.{EndpointValue}, declared.peer.Peer.{Peer}}
+use Rattle.amt_messages.specs.{Layout.{spelling_of}, declared.message.Message.TheVariants.{Multicast}}
 use Rattle.inner_datagrams.specs.declared.head.Head.{Head}
-use Rattle.endpoint_membership.specs.Table.{TableSettings}
-use Rattle.endpoint_membership.specs.Targets.{targets_of}
-use Rattle.endpoint_membership.specs.declared.change.Change.{Change}
-use Rattle.relay_machine.specs.EventAnswer.{packet_answer}
-use Rattle.relay_machine.specs.Packets.{head_to_copy, targets_at}
-use Rattle.relay_machine.specs.declared.outcome.Outcome.{Outcome}
-use Rattle.published_table.specs.Terms.{settings_by}
-use Rattle.published_table.specs.declared.terms.Terms.{Terms}
-use Rattle.std.specs.Prelude.{Option}
+use Rattle.endpoint_membership.specs.{Table.{TableSettings}, Targets.{targets_of}, declared.change.Change.{Change}}
+use Rattle.relay_machine.specs.{EventAnswer.{packet_answer}, Packets.{head_to_copy, targets_at}, declared.outcome.Outcome.{Outcome}}
+use Rattle.published_table.specs.{Terms.{settings_by}, declared.terms.Terms.{Terms}}
 use Rattle.replication_workers.specs.Replication.{copies_by, to_peer, with_message}
-use Rattle.amt_ports.specs.Tried.{HasTried}
-use Rattle.amt_ports.specs.Sends.{TriedSend}
+use Rattle.amt_ports.specs.{Tried.{HasTried}, Sends.{TriedSend}}
 
 copies_with : (message : List ℕ) (targets : List EndpointValue) → map to_peer (map (λ endpoint. record { to = endpoint; bytes = message }) targets) ≡ map (with_message message) targets
 copies_with message [] = refl

@@ -1,7 +1,5 @@
 -- A replicator may go to another thread where its link may.
-use denote.RattleType.{RattleType}
-use denote.Param.Send.{IsSend, IsSync, struct_send, sendable}
-use denote.Struct.Declared.{shape}
+use denote.{RattleType.{RattleType}, Param.Send.{IsSend, IsSync, struct_send, sendable}, Struct.Declared.{shape}}
 use Rattle.std.proofs.Crossing.{crosses}
 use Rattle.std.proofs.MapsCrossing as maps
 use Rattle.amt_ports.specs.declared.out_link.OutLink.{Ghosts}

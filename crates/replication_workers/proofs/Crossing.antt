@@ -1,7 +1,5 @@
 -- A worker may go to another thread where its link may.
-use denote.RattleType.{RattleType}
-use denote.Param.Send.{IsSend, struct_send, recorded_send, sendable}
-use denote.Struct.Declared.{shape}
+use denote.{RattleType.{RattleType}, Param.Send.{IsSend, struct_send, recorded_send, sendable}, Struct.Declared.{shape}}
 use Rattle.std.proofs.Crossing.{crosses}
 use Rattle.amt_ports.specs.declared.out_link.OutLink.{Ghosts}
 use Rattle.core.proofs.option.Option.TheSendSync as option

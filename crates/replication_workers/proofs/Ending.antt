@@ -1,20 +1,8 @@
 -- Slots that were ended one after another, and what they left.
-use Rattle.std.proofs.Common.{◌≡◌, ℕ, suc, ◌+◌, ◌≤◌, ◌^◌, false, List, [], ◌∷◌, ◌++◌, length, map, vec_capacity, refl, sym, ap, subst, ◌∙◌, append_assoc, append-nil, arith}
-use Rattle.std.specs.List.{All, sum_by}
-use Rattle.std.proofs.lemmas.List.{map-append, nil_from_length}
-use Rattle.std.proofs.lemmas.List.Elements.{All-head, All-map, All-nil, All-push, All-tail}
-use Rattle.std.proofs.lemmas.List.Sums.{sum_by-append, sum_by-cons}
-use Rattle.std.proofs.lemmas.Simd.{map-map}
+use Rattle.std.{proofs.{Common.{◌≡◌, ℕ, suc, ◌+◌, ◌≤◌, ◌^◌, false, List, [], ◌∷◌, ◌++◌, length, map, vec_capacity, refl, sym, ap, subst, ◌∙◌, append_assoc, append-nil, arith}, lemmas.{List.{map-append, nil_from_length, Elements.{All-head, All-map, All-nil, All-push, All-tail}, Sums.{sum_by-append, sum_by-cons}}, Simd.{map-map}}}, specs.List.{All, sum_by}}
 use Rattle.amt_ports.specs.declared.out_link.OutLink.{Ghosts}
 use Rattle.published_table.specs.Views.{room_of, views_of}
-use Rattle.replication_workers.specs.Gathering.{HasAdded, HasRoom, IsFresh, LeavesRoom}
-use Rattle.replication_workers.specs.KeptSlots.{AreThreaded, IsRunBy, is_threaded_slot, now_of, state_of}
-use Rattle.replication_workers.specs.Replicators.{out_of, view_of}
-use Rattle.replication_workers.specs.SlotStates.{HaveLeft, IsLeft, SlotLeft, SlotState, jobs_in_all}
-use Rattle.replication_workers.specs.declared.dispatcher.gathered.Gathered.{Gathered}
-use Rattle.replication_workers.specs.declared.dispatcher.kept.Kept.{Kept}
-use Rattle.replication_workers.specs.declared.slot.Left.{Left}
-use Rattle.replication_workers.specs.declared.worker.Worker.{Worker}
+use Rattle.replication_workers.specs.{Gathering.{HasAdded, HasRoom, IsFresh, LeavesRoom}, KeptSlots.{AreThreaded, IsRunBy, is_threaded_slot, now_of, state_of}, Replicators.{out_of, view_of}, SlotStates.{HaveLeft, IsLeft, SlotLeft, SlotState, jobs_in_all}, declared.{dispatcher.{gathered.Gathered.{Gathered}, kept.Kept.{Kept}}, slot.Left.{Left}, worker.Worker.{Worker}}}
 
 -- a slot, and what it left
 pub record Ended (O T : Type 0) (g : Ghosts O) : Type 0 where

@@ -1,25 +1,9 @@
 -- Slots that are filled one after another.
-use Rattle.std.proofs.Common.{◌≡◌, ℕ, ◌+◌, ◌≤◌, ◌^◌, suc, Bool, true, false, true≢false, List, [], ◌∷◌, ◌++◌, get_or, length, map, vec_capacity, refl, sym, ap, subst, ◌∙◌, append_assoc, append-nil, arith}
-use Rattle.std.specs.Prelude.{IfErr, Option, Some, None, Result, Ok, Err}
-use Rattle.std.specs.List.{All}
-use Rattle.std.proofs.lemmas.List.{length-map, map-append}
-use Rattle.std.proofs.lemmas.List.Elements.{All-append, All-nil, All-push}
-use Rattle.std.proofs.lemmas.List.Sums.{sum_by-append, sum_by-cons}
-use Rattle.amt_ports.specs.Causes.{next_count}
-use Rattle.amt_ports.specs.Starts.{HasStarted}
-use Rattle.amt_ports.specs.declared.out_link.OutLink.{Ghosts}
+use Rattle.std.{proofs.{Common.{◌≡◌, ℕ, ◌+◌, ◌≤◌, ◌^◌, suc, Bool, true, false, true≢false, List, [], ◌∷◌, ◌++◌, get_or, length, map, vec_capacity, refl, sym, ap, subst, ◌∙◌, append_assoc, append-nil, arith}, lemmas.List.{length-map, map-append, Elements.{All-append, All-nil, All-push}, Sums.{sum_by-append, sum_by-cons}}}, specs.{Prelude.{IfErr, Option, Some, None, Result, Ok, Err}, List.{All}}}
+use Rattle.amt_ports.specs.{Causes.{next_count}, Starts.{HasStarted}, declared.out_link.OutLink.{Ghosts}}
 use Rattle.published_table.specs.Views.{room_of, views_of}
-use Rattle.replication_workers.specs.Gathering.{HasRoom}
-use Rattle.replication_workers.specs.KeptSlots.{AreStarted, AreThreaded, HasKept, IsRunBy, is_threaded_slot, now_of, state_of}
-use Rattle.replication_workers.specs.SlotStates.{SlotState, jobs_in_all, new_slot}
-use Rattle.replication_workers.specs.Starting.{HasRefusedOne, HaveStarted, OnFailed}
-use Rattle.replication_workers.specs.declared.dispatcher.StartFault.{StartFault}
-use Rattle.replication_workers.specs.declared.dispatcher.StartFault.TheVariants.{Memory, Failed}
-use Rattle.replication_workers.specs.declared.dispatcher.gathered.Gathered.{Gathered}
-use Rattle.replication_workers.specs.declared.dispatcher.kept.Kept.{Kept}
-use Rattle.replication_workers.specs.declared.dispatcher.kept.Kept.TheVariants.{Threaded, Inline}
-use Rattle.replication_workers.specs.declared.replicator.Replicator.{Replicator}
-use Rattle.replication_workers.specs.declared.worker.Worker.{Worker}
+use Rattle.replication_workers.specs.{Gathering.{HasRoom}, KeptSlots.{AreStarted, AreThreaded, HasKept, IsRunBy, is_threaded_slot, now_of, state_of}, SlotStates.{SlotState, jobs_in_all, new_slot}, Starting.{HasRefusedOne, HaveStarted, OnFailed}}
+use Rattle.replication_workers.specs.declared.{dispatcher.{StartFault.{StartFault, TheVariants.{Memory, Failed}}, gathered.Gathered.{Gathered}, kept.Kept.{Kept, TheVariants.{Threaded, Inline}}}, replicator.Replicator.{Replicator}, worker.Worker.{Worker}}
 
 -- one start more was told
 pub one_started : (number : ℕ) (before now after : Option ℕ) → HaveStarted number before now → HasStarted now after → HaveStarted (suc number) before after

@@ -1,22 +1,8 @@
 -- One job more for one slot of many.
-use Rattle.std.proofs.Common.{◌≡◌, ℕ, zero, suc, ◌+◌, ◌<◌, ◌≤◌, ◌^◌, Bool, true, false, true≢false, if◌then◌else◌, List, [], ◌∷◌, ◌++◌, get_or, length, map, set, refl, sym, ap, subst, ◌∙◌, arith, length-append}
-use Rattle.std.specs.List.{All, sum_by}
-use Rattle.std.proofs.lemmas.List.{get_or-map, length-map, map-set}
-use Rattle.std.proofs.lemmas.List.Elements.{All-get_or, All-set}
-use Rattle.std.proofs.lemmas.List.Sums.{get_or-le-sum_by, sum_by-set}
+use Rattle.std.{proofs.{Common.{◌≡◌, ℕ, zero, suc, ◌+◌, ◌<◌, ◌≤◌, ◌^◌, Bool, true, false, true≢false, if◌then◌else◌, List, [], ◌∷◌, ◌++◌, get_or, length, map, set, refl, sym, ap, subst, ◌∙◌, arith, length-append}, lemmas.List.{get_or-map, length-map, map-set, Elements.{All-get_or, All-set}, Sums.{get_or-le-sum_by, sum_by-set}}}, specs.List.{All, sum_by}}
 use Rattle.amt_ports.specs.declared.out_link.OutLink.{Ghosts}
-use Rattle.replication_workers.specs.InlineSlots.{first_of, jobs_done, replicator_now}
-use Rattle.replication_workers.specs.KeptSlots.{AreThreaded, IsRunBy, KeepsRun, is_threaded_slot, now_of, state_of}
-use Rattle.replication_workers.specs.Replicators.{HasCopied}
-use Rattle.replication_workers.specs.SlotStates.{CopiedAt, SlotState, jobs_in_all, with_job, with_one_job}
-use Rattle.replication_workers.specs.Slots.{jobs_put, replicator_of, started_of, worker_of}
-use Rattle.replication_workers.specs.declared.dispatcher.inline_slot.InlineSlot.{InlineSlot}
-use Rattle.replication_workers.specs.declared.dispatcher.kept.Kept.{Kept}
-use Rattle.replication_workers.specs.declared.dispatcher.kept.Kept.TheVariants.{Threaded, Inline}
-use Rattle.replication_workers.specs.declared.job.Job.{Job}
-use Rattle.replication_workers.specs.declared.replicator.Replicator.{Replicator}
-use Rattle.replication_workers.specs.declared.slot.Slot.{Slot}
-use Rattle.replication_workers.specs.declared.worker.Worker.{Worker}
+use Rattle.replication_workers.specs.{InlineSlots.{first_of, jobs_done, replicator_now}, KeptSlots.{AreThreaded, IsRunBy, KeepsRun, is_threaded_slot, now_of, state_of}, Replicators.{HasCopied}, SlotStates.{CopiedAt, SlotState, jobs_in_all, with_job, with_one_job}}
+use Rattle.replication_workers.specs.{Slots.{jobs_put, replicator_of, started_of, worker_of}, declared.{dispatcher.{inline_slot.InlineSlot.{InlineSlot}, kept.Kept.{Kept, TheVariants.{Threaded, Inline}}}, job.Job.{Job}, replicator.Replicator.{Replicator}, slot.Slot.{Slot}, worker.Worker.{Worker}}}
 
 none_within : (place : ℕ) → place < 0 → ⊥
 none_within place within = omega (arith, within)

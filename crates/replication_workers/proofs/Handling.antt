@@ -1,30 +1,12 @@
 -- What a worker keeps while it takes jobs.
-use Rattle.std.proofs.Common.{◌≡◌, ℕ, ◌+◌, ◌≤◌, ◌<◌, ◌^◌, true, List, [], ◌∷◌, ◌++◌, length, map, refl, sym, ap, subst, ◌∙◌, append_assoc, arith, length-append}
-use Rattle.std.proofs.lemmas.List.{append-nil}
-use Rattle.std.proofs.lemmas.List.Elements.{All-head}
-use Rattle.crossbeam_channel.specs.Claims.{IsSeatAt, view}
-use Rattle.crossbeam_channel.specs.Ends.{receives_on}
+use Rattle.std.proofs.{Common.{◌≡◌, ℕ, ◌+◌, ◌≤◌, ◌<◌, ◌^◌, true, List, [], ◌∷◌, ◌++◌, length, map, refl, sym, ap, subst, ◌∙◌, append_assoc, arith, length-append}, lemmas.List.{append-nil, Elements.{All-head}}}
+use Rattle.crossbeam_channel.specs.{Claims.{IsSeatAt, view}, Ends.{receives_on}}
 use Rattle.logbook.specs.Pages.{Book}
-use Rattle.amt_ports.specs.declared.out_link.OutLink.{Ghosts}
+use Rattle.amt_ports.{specs.declared.out_link.OutLink.{Ghosts}, proofs.Trying.{HasTried-none, HasTried-then}}
 use Rattle.amt_values.specs.declared.peer.Peer.{Peer}
-use Rattle.endpoint_membership.specs.Table.{TableSettings}
-use Rattle.endpoint_membership.specs.declared.change.Change.{Change}
-use Rattle.published_table.specs.Lists.{BeginsWith, BeginsWithEach}
-use Rattle.published_table.specs.Terms.{settings_by}
-use Rattle.published_table.specs.Views.{named, publisher_of, seen, terms_of, told}
-use Rattle.published_table.specs.declared.view.View.{View}
-use Rattle.replication_workers.proofs.Queues.{jobs_of-append}
-use Rattle.amt_ports.proofs.Trying.{HasTried-none, HasTried-then}
-use Rattle.replication_workers.specs.Jobs.{Handled, copies_of}
-use Rattle.replication_workers.specs.Queue.{HasTaken, jobs_of}
-use Rattle.replication_workers.specs.Replicators.{Tries, copies_due, limit_of, out_of, view_of}
-use Rattle.replication_workers.specs.Workers.{HasHandled, WorkerGives}
-use Rattle.replication_workers.specs.declared.job.Job.{Job}
-use Rattle.replication_workers.specs.declared.queue.End.{End}
-use Rattle.replication_workers.specs.declared.queue.Item.TheVariants.{Home, Work, Stop}
-use Rattle.replication_workers.specs.declared.replicator.Replicator.{Replicator}
-use Rattle.replication_workers.specs.declared.worker.Worker.{Worker}
-use Rattle.replication_workers.specs.declared.worker.WorkerDone.{WorkerDone}
+use Rattle.endpoint_membership.specs.{Table.{TableSettings}, declared.change.Change.{Change}}
+use Rattle.published_table.specs.{Lists.{BeginsWith, BeginsWithEach}, Terms.{settings_by}, Views.{named, publisher_of, seen, terms_of, told}, declared.view.View.{View}}
+use Rattle.replication_workers.{proofs.Queues.{jobs_of-append}, specs.{Jobs.{Handled, copies_of}, Queue.{HasTaken, jobs_of}, Replicators.{Tries, copies_due, limit_of, out_of, view_of}, Workers.{HasHandled, WorkerGives}, declared.{job.Job.{Job}, queue.{End.{End}, Item.TheVariants.{Home, Work, Stop}}, replicator.Replicator.{Replicator}, worker.{Worker.{Worker}, WorkerDone.{WorkerDone}}}}}
 
 -- one more job was handled
 pub handled_more : (settings : TableSettings) (limit : ℕ) (before : List Change) (jobs : List Job) (wanted : List (Peer × List ℕ)) (last : List Change) (job : Job) (log : List Change)

@@ -1,12 +1,7 @@
 -- Lists of items and their jobs.
-use Rattle.std.proofs.Common.{◌≡◌, ◌≤◌, ◌<◌, ◌^◌, List, [], ◌∷◌, ◌++◌, length, refl, sym, ap, subst, ◌∙◌, arith, length-append, false, true≢false}
-use Rattle.std.proofs.lemmas.List.{append-nil}
+use Rattle.std.proofs.{Common.{◌≡◌, ◌≤◌, ◌<◌, ◌^◌, List, [], ◌∷◌, ◌++◌, length, refl, sym, ap, subst, ◌∙◌, arith, length-append, false, true≢false}, lemmas.List.{append-nil}}
 use Rattle.published_table.specs.declared.view.View.{View}
-use Rattle.replication_workers.specs.Queue.{AreOfHome, HasEnded, HasStopped, IsOfHome, IsPutting, MayPut, StopIsLast, has_stop, jobs_of, with_put}
-use Rattle.replication_workers.specs.declared.job.Job.{Job}
-use Rattle.replication_workers.specs.declared.queue.End.{End}
-use Rattle.replication_workers.specs.declared.queue.Item.{Item}
-use Rattle.replication_workers.specs.declared.queue.Item.TheVariants.{Home, Work, Stop}
+use Rattle.replication_workers.specs.{Queue.{AreOfHome, HasEnded, HasStopped, IsOfHome, IsPutting, MayPut, StopIsLast, has_stop, jobs_of, with_put}, declared.{job.Job.{Job}, queue.{End.{End}, Item.{Item, TheVariants.{Home, Work, Stop}}}}}
 
 pub jobs_of-append : (xs ys : List Item) → jobs_of (xs ++ ys) ≡ jobs_of xs ++ jobs_of ys
 jobs_of-append [] ys = refl

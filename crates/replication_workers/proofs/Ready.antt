@@ -1,9 +1,7 @@
 -- Slots that are taken from the end of a list.
 use Rattle.std.proofs.Common.{◌≡◌, ℕ, suc, List, [], ◌∷◌, ◌++◌, Option, Some, None, length, option_to_list, refl, sym, ap, ◌∙◌, append_assoc, append-nil, arith, length-append}
 use Rattle.amt_ports.specs.declared.out_link.OutLink.{Ghosts}
-use Rattle.replication_workers.specs.Slots.{from_the_end, ready_worker, replicator_of}
-use Rattle.replication_workers.specs.declared.replicator.Replicator.{Replicator}
-use Rattle.replication_workers.specs.declared.slot.ReadySlot.{ReadySlot}
+use Rattle.replication_workers.specs.{Slots.{from_the_end, ready_worker, replicator_of}, declared.{replicator.Replicator.{Replicator}, slot.ReadySlot.{ReadySlot}}}
 
 one_longer : {A : Type 0} (list longer : List A) (one : A) (count : ℕ) → longer ≡ list ++ one ∷ [] → length list ≡ count → length longer ≡ suc count
 one_longer list longer one count is same = omega (arith, ap length is, length-append list (one ∷ []), same)

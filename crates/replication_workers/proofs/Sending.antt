@@ -1,17 +1,8 @@
 -- One message to many endpoints: one more of them.
-use Rattle.std.proofs.Common.{◌≡◌, ℕ, ◌+◌, ◌<◌, List, [], ◌∷◌, ◌++◌, length, get_or, map, take, sym, ap, subst, ◌∙◌}
-use Rattle.std.specs.Prelude.{IsSome, OnOk, Option, Result, Ok, Err, is_ok}
-use Rattle.std.proofs.lemmas.List.{take_more, map-append}
-use Rattle.amt_ports.specs.Causes.{HasCause}
-use Rattle.amt_ports.specs.declared.fault.Failed.{Failed}
-use Rattle.amt_values.specs.Endpoint.{peer_of}
-use Rattle.amt_values.specs.EndpointValue.{EndpointValue}
-use Rattle.amt_values.specs.declared.peer.Peer.{Peer}
+use Rattle.std.{proofs.{Common.{◌≡◌, ℕ, ◌+◌, ◌<◌, List, [], ◌∷◌, ◌++◌, length, get_or, map, take, sym, ap, subst, ◌∙◌}, lemmas.List.{take_more, map-append}}, specs.Prelude.{IsSome, OnOk, Option, Result, Ok, Err, is_ok}}
+use Rattle.amt_ports.{specs.{Causes.{HasCause}, declared.fault.Failed.{Failed}, Tried.{HasTried}, Sends.{TriedSend, tried_send}, Told.{Appends}}, proofs.Trying.{HasTried-failed, HasTried-sent}}
+use Rattle.amt_values.specs.{Endpoint.{peer_of}, EndpointValue.{EndpointValue}, declared.peer.Peer.{Peer}}
 use Rattle.replication_workers.specs.Replication.{with_message}
-use Rattle.amt_ports.specs.Tried.{HasTried}
-use Rattle.amt_ports.specs.Sends.{TriedSend, tried_send}
-use Rattle.amt_ports.specs.Told.{Appends}
-use Rattle.amt_ports.proofs.Trying.{HasTried-failed, HasTried-sent}
 
 one_more : (message : List ℕ) (targets : List EndpointValue) (place : ℕ) (to : EndpointValue) (peer : Peer) → place < length targets → to ≡ get_or targets place to → peer ≡ peer_of to
     → map (with_message message) (take place targets) ++ (peer, message) ∷ [] ≡ map (with_message message) (take (place + 1) targets)

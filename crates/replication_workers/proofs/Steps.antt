@@ -1,17 +1,11 @@
 -- Each step keeps the rule of the queue.
-use Rattle.std.proofs.Common.{◌≡◌, ◌≢◌, ℕ, zero, suc, ◌≤◌, ◌^◌, true, true≢false, List, [], ◌∷◌, ◌++◌, length, set, refl, sym, ap, subst, ◌∙◌, ⊎_elim, append_assoc, arith, length-append}
+use Rattle.std.{proofs.Common.{◌≡◌, ◌≢◌, ℕ, zero, suc, ◌≤◌, ◌^◌, true, true≢false, List, [], ◌∷◌, ◌++◌, length, set, refl, sym, ap, subst, ◌∙◌, ⊎_elim, append_assoc, arith, length-append}, specs.declared.snapshot.Snapshot.{Snapshot}}
 use mathlib.Core.Option.{some, some-ne-none}
 use lib.ListN.{get_elem?}
 use Rattle.crossbeam_channel.specs.Fifo.{Forks, Learns, Merges, Pops, Pushes}
 use Rattle.atomic_table.proofs.Lists.{at_set, at_snoc}
 use Rattle.published_table.specs.declared.view.View.{View}
-use Rattle.std.specs.declared.snapshot.Snapshot.{Snapshot}
-use Rattle.replication_workers.proofs.Queues.{jobs_of-append, of_home-append, of_home-first, of_home-later}
-use Rattle.replication_workers.specs.Queue.{AddsUp, AreOfHome, FitsEnd, HasTaken, MayPut, QueueRule, StopIsLast, jobs_of, joined_end, putting_end, settled, spent_end, taking_end, whole_end, with_put, with_taken}
-use Rattle.replication_workers.specs.declared.job.Job.{Job}
-use Rattle.replication_workers.specs.declared.queue.End.{End}
-use Rattle.replication_workers.specs.declared.queue.Item.{Item}
-use Rattle.replication_workers.specs.declared.queue.Item.TheVariants.{Home}
+use Rattle.replication_workers.{proofs.Queues.{jobs_of-append, of_home-append, of_home-first, of_home-later}, specs.{Queue.{AddsUp, AreOfHome, FitsEnd, HasTaken, MayPut, QueueRule, StopIsLast, jobs_of, joined_end, putting_end, settled, spent_end, taking_end, whole_end, with_put, with_taken}, declared.{job.Job.{Job}, queue.{End.{End}, Item.{Item, TheVariants.{Home}}}}}}
 
 abbrev Holds : List Item → List End → Type 0
 Holds items ends = QueueRule items ends

@@ -1,11 +1,8 @@
 -- What comes back as it was.
-use Rattle.std.specs.Prelude.{◌≡◌, List, map}
-use Rattle.std.specs.List.{All}
+use Rattle.std.specs.{Prelude.{◌≡◌, List, map}, List.{All}}
 use Rattle.amt_ports.specs.declared.out_link.OutLink.{Ghosts}
-use Rattle.published_table.specs.Views.{publisher_of, seen, terms_of}
-use Rattle.published_table.specs.declared.view.View.{View}
-use Rattle.replication_workers.specs.Replicators.{out_of, view_of}
-use Rattle.replication_workers.specs.declared.replicator.Replicator.{Replicator}
+use Rattle.published_table.specs.{Views.{publisher_of, seen, terms_of}, declared.view.View.{View}}
+use Rattle.replication_workers.specs.{Replicators.{out_of, view_of}, declared.replicator.Replicator.{Replicator}}
 
 -- a replicator as it was given, and the link and the view that came back
 pub record SlotBack (O : Type 0) (g : Ghosts O) : Type 0 where

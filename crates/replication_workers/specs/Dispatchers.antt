@@ -1,19 +1,10 @@
 -- What is read of a dispatcher.
-use Rattle.std.specs.Prelude.{◌≡◌, ℕ, ◌+◌, ◌%◌, ◌^◌, Bool, List, [], if◌then◌else◌, map, Result, Ok, Err}
-use Rattle.std.specs.List.{All}
+use Rattle.std.specs.{Prelude.{◌≡◌, ℕ, ◌+◌, ◌%◌, ◌^◌, Bool, List, [], if◌then◌else◌, map, Result, Ok, Err}, List.{All}}
 use Rattle.amt_ports.specs.declared.out_link.OutLink.{Ghosts}
 use Rattle.amt_values.specs.Address.{number_of}
-use Rattle.inner_datagrams.specs.Head.{head_of}
-use Rattle.inner_datagrams.specs.declared.head.Head.{Head}
-use Rattle.inner_datagrams.specs.declared.head.HeadFault.{HeadFault}
+use Rattle.inner_datagrams.specs.{Head.{head_of}, declared.head.{Head.{Head}, HeadFault.{HeadFault}}}
 use Rattle.published_table.specs.Views.{note_publisher, publisher_of}
-use Rattle.replication_workers.specs.KeptSlots.{IsRunBy, now_of, state_of}
-use Rattle.replication_workers.specs.Replicators.{view_of}
-use Rattle.replication_workers.specs.SlotStates.{SlotState}
-use Rattle.replication_workers.specs.declared.dispatcher.Dispatcher.{Dispatcher}
-use Rattle.replication_workers.specs.declared.job.Job.{Job}
-use Rattle.replication_workers.specs.declared.replicator.Replicator.{Replicator}
-use Rattle.replication_workers.specs.declared.worker.Worker.{Worker}
+use Rattle.replication_workers.specs.{KeptSlots.{IsRunBy, now_of, state_of}, Replicators.{view_of}, SlotStates.{SlotState}, declared.{dispatcher.Dispatcher.{Dispatcher}, job.Job.{Job}, replicator.Replicator.{Replicator}, worker.Worker.{Worker}}}
 
 -- of so many slots, the one for packets with this head: group and source as 128-bit numbers, whose sum
 -- wraps; the first one where there is no head

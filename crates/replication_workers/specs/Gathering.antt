@@ -1,9 +1,7 @@
 -- What is read of what slots left.
-use Rattle.std.specs.Prelude.{◌≡◌, ℕ, ◌≤◌, ◌+◌, List, ◌++◌, length, map, vec_capacity}
-use Rattle.std.specs.List.{sum_by}
+use Rattle.std.specs.{Prelude.{◌≡◌, ℕ, ◌≤◌, ◌+◌, List, ◌++◌, length, map, vec_capacity}, List.{sum_by}}
 use Rattle.published_table.specs.Views.{room_of, views_of}
-use Rattle.replication_workers.specs.declared.dispatcher.gathered.Gathered.{Gathered}
-use Rattle.replication_workers.specs.declared.slot.Left.{Left}
+use Rattle.replication_workers.specs.declared.{dispatcher.gathered.Gathered.{Gathered}, slot.Left.{Left}}
 
 module _ {O : Type 0} where
   -- nothing was left yet

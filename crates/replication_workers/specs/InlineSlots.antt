@@ -1,11 +1,7 @@
 -- What is read of a slot whose replicator the dispatcher keeps.
 use Rattle.std.specs.Prelude.{List}
 use Rattle.amt_ports.specs.declared.out_link.OutLink.{Ghosts}
-use Rattle.replication_workers.specs.JobsSoFar.{jobs_listed}
-use Rattle.replication_workers.specs.SlotStates.{SlotState}
-use Rattle.replication_workers.specs.declared.dispatcher.inline_slot.InlineSlot.{InlineSlot}
-use Rattle.replication_workers.specs.declared.job.Job.{Job}
-use Rattle.replication_workers.specs.declared.replicator.Replicator.{Replicator}
+use Rattle.replication_workers.specs.{JobsSoFar.{jobs_listed}, SlotStates.{SlotState}, declared.{dispatcher.inline_slot.InlineSlot.{InlineSlot}, job.Job.{Job}, replicator.Replicator.{Replicator}}}
 
 module _ {O : Type 0} {g : Ghosts O} where
   -- the replicator as it was given

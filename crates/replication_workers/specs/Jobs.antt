@@ -1,12 +1,9 @@
 -- What the handling of jobs sends.
 use Rattle.std.specs.Prelude.{◌≡◌, ℕ, List, [], ◌∷◌, ◌++◌, map}
 use Rattle.amt_values.specs.declared.peer.Peer.{Peer}
-use Rattle.endpoint_membership.specs.Table.{TableSettings}
-use Rattle.endpoint_membership.specs.declared.change.Change.{Change}
-use Rattle.published_table.specs.Lists.{BeginsWith}
-use Rattle.published_table.specs.Views.{named}
-use Rattle.replication_workers.specs.Replication.{copies_by, to_peer}
-use Rattle.replication_workers.specs.declared.job.Job.{Job}
+use Rattle.endpoint_membership.specs.{Table.{TableSettings}, declared.change.Change.{Change}}
+use Rattle.published_table.specs.{Lists.{BeginsWith}, Views.{named}}
+use Rattle.replication_workers.specs.{Replication.{copies_by, to_peer}, declared.job.Job.{Job}}
 
 -- the datagrams of a job, if this is the log by which its receivers are found
 abbrev pub copies_of : TableSettings → ℕ → List Change → Job → List (Peer × List ℕ)

@@ -1,7 +1,6 @@
 -- Which jobs a list has of which no job is kept.
 use Rattle.std.specs.Prelude.{List, [], ◌∷◌, ◌++◌}
-use Rattle.replication_workers.specs.declared.job.Job.{Job}
-use Rattle.replication_workers.specs.declared.dispatcher.jobs_so_far.JobsSoFar.{JobsSoFar, Nothing, Then'}
+use Rattle.replication_workers.specs.declared.{job.Job.{Job}, dispatcher.jobs_so_far.JobsSoFar.{JobsSoFar, Nothing, Then'}}
 
 -- the jobs, oldest first
 abbrev pub jobs_listed : JobsSoFar → List Job

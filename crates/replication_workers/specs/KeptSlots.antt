@@ -1,14 +1,7 @@
 -- What is read of a dispatcher's slot.
-use Rattle.std.specs.Prelude.{◌≡◌, Bool, true, false, List, ◌++◌, map}
-use Rattle.std.specs.List.{All}
+use Rattle.std.specs.{Prelude.{◌≡◌, Bool, true, false, List, ◌++◌, map}, List.{All}}
 use Rattle.amt_ports.specs.declared.out_link.OutLink.{Ghosts}
-use Rattle.replication_workers.specs.InlineSlots.{inline_state, replicator_now}
-use Rattle.replication_workers.specs.SlotStates.{SlotState, new_slot}
-use Rattle.replication_workers.specs.Slots.{jobs_put, replicator_of, started_of, worker_of}
-use Rattle.replication_workers.specs.declared.dispatcher.kept.Kept.{Kept}
-use Rattle.replication_workers.specs.declared.dispatcher.kept.Kept.TheVariants.{Threaded, Inline}
-use Rattle.replication_workers.specs.declared.replicator.Replicator.{Replicator}
-use Rattle.replication_workers.specs.declared.worker.Worker.{Worker}
+use Rattle.replication_workers.specs.{InlineSlots.{inline_state, replicator_now}, SlotStates.{SlotState, new_slot}, Slots.{jobs_put, replicator_of, started_of, worker_of}, declared.{dispatcher.kept.Kept.{Kept, TheVariants.{Threaded, Inline}}, replicator.Replicator.{Replicator}, worker.Worker.{Worker}}}
 
 module _ {O T : Type 0} {g : Ghosts O} where
   -- its replicator as it was given, and the jobs that it was given since

@@ -1,14 +1,9 @@
 -- The rule of a worker's queue, and what its ends know.
-use Rattle.std.specs.Prelude.{◌≡◌, ℕ, ◌≤◌, ◌^◌, Bool, true, false, List, [], ◌∷◌, ◌++◌, length, map}
-use Rattle.std.specs.List.{AllByRecursion}
+use Rattle.std.specs.{Prelude.{◌≡◌, ℕ, ◌≤◌, ◌^◌, Bool, true, false, List, [], ◌∷◌, ◌++◌, length, map}, List.{AllByRecursion}}
 use mathlib.Core.Option.{some}
 use lib.ListN.{get_elem?}
-use Rattle.published_table.specs.Views.{note_publisher, publisher_of}
-use Rattle.published_table.specs.declared.view.View.{View}
-use Rattle.replication_workers.specs.declared.job.Job.{Job}
-use Rattle.replication_workers.specs.declared.queue.End.{End}
-use Rattle.replication_workers.specs.declared.queue.Item.{Item}
-use Rattle.replication_workers.specs.declared.queue.Item.TheVariants.{Home, Work, Stop}
+use Rattle.published_table.specs.{Views.{note_publisher, publisher_of}, declared.view.View.{View}}
+use Rattle.replication_workers.specs.declared.{job.Job.{Job}, queue.{End.{End}, Item.{Item, TheVariants.{Home, Work, Stop}}}}
 
 -- the jobs among the items, in order
 abbrev pub jobs_of : List Item → List Job

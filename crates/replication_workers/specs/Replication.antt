@@ -1,13 +1,8 @@
 -- What a replicator sends for a packet (RFC 7450, section 5.3.3.2).
 use Rattle.std.specs.Prelude.{ℕ, List}
-use Rattle.amt_values.specs.Endpoint.{peer_of}
-use Rattle.amt_values.specs.EndpointValue.{EndpointValue}
-use Rattle.amt_values.specs.declared.peer.Peer.{Peer}
-use Rattle.endpoint_membership.specs.Table.{TableSettings}
-use Rattle.endpoint_membership.specs.declared.change.Change.{Change}
-use Rattle.relay_machine.specs.EventAnswer.{packet_answer}
-use Rattle.relay_machine.specs.Packets.{head_to_copy, targets_at}
-use Rattle.relay_machine.specs.declared.sends.OneSend.{OneSend}
+use Rattle.amt_values.specs.{Endpoint.{peer_of}, EndpointValue.{EndpointValue}, declared.peer.Peer.{Peer}}
+use Rattle.endpoint_membership.specs.{Table.{TableSettings}, declared.change.Change.{Change}}
+use Rattle.relay_machine.specs.{EventAnswer.{packet_answer}, Packets.{head_to_copy, targets_at}, declared.sends.OneSend.{OneSend}}
 
 -- what a relay of this log sends for the packet at the moment, or at the log's latest one if that is later
 abbrev pub copies_by : TableSettings → ℕ → List Change → ℕ → List ℕ → List OneSend

@@ -2,15 +2,9 @@
 use Rattle.std.specs.Prelude.{◌≡◌, ℕ, List, map}
 use Rattle.amt_values.specs.declared.peer.Peer.{Peer}
 use Rattle.endpoint_membership.specs.declared.change.Change.{Change}
-use Rattle.published_table.specs.Lists.{BeginsWith}
-use Rattle.published_table.specs.Terms.{settings_by}
-use Rattle.published_table.specs.Views.{named, publisher_of, seen, terms_of}
-use Rattle.published_table.specs.declared.view.View.{View}
-use Rattle.replication_workers.specs.Replication.{copies_by, to_peer}
-use Rattle.amt_ports.specs.Tried.{HasTried}
-use Rattle.amt_ports.specs.declared.out_link.OutLink.{Ghosts}
-use Rattle.replication_workers.specs.declared.job.Job.{Job}
-use Rattle.replication_workers.specs.declared.replicator.Replicator.{Replicator}
+use Rattle.published_table.specs.{Lists.{BeginsWith}, Terms.{settings_by}, Views.{named, publisher_of, seen, terms_of}, declared.view.View.{View}}
+use Rattle.replication_workers.specs.{Replication.{copies_by, to_peer}, declared.{job.Job.{Job}, replicator.Replicator.{Replicator}}}
+use Rattle.amt_ports.specs.{Tried.{HasTried}, declared.out_link.OutLink.{Ghosts}}
 
 module _ {O : Type 0} {g : Ghosts O} where
   -- by which the receivers of a packet are found

@@ -2,14 +2,8 @@
 use Rattle.std.specs.Prelude.{◌≡◌, ◌≤◌, ◌+◌, ◌*◌, ℕ, zero, suc, List, [], ◌∷◌, ◌++◌, length, map}
 use Rattle.std.specs.List.{All, sum_by}
 use Rattle.amt_ports.specs.declared.out_link.OutLink.{Ghosts}
-use Rattle.published_table.specs.Views.{publisher_of, terms_of}
-use Rattle.published_table.specs.declared.view.View.{View}
-use Rattle.replication_workers.specs.Backs.{IsBack}
-use Rattle.replication_workers.specs.Replicators.{HasCopied, view_of}
-use Rattle.replication_workers.specs.Workers.{HasHandled}
-use Rattle.replication_workers.specs.declared.job.Job.{Job}
-use Rattle.replication_workers.specs.declared.replicator.Replicator.{Replicator}
-use Rattle.replication_workers.specs.declared.slot.Left.{Left}
+use Rattle.published_table.specs.{Views.{publisher_of, terms_of}, declared.view.View.{View}}
+use Rattle.replication_workers.specs.{Backs.{IsBack}, Replicators.{HasCopied, view_of}, Workers.{HasHandled}, declared.{job.Job.{Job}, replicator.Replicator.{Replicator}, slot.Left.{Left}}}
 
 -- a slot's replicator as it was given, and the jobs that the slot was given since, in order
 pub record SlotState (O : Type 0) (g : Ghosts O) : Type 0 where

@@ -2,14 +2,7 @@
 use Rattle.std.specs.Prelude.{◌≡◌, List, [], ◌∷◌, ◌++◌, length}
 use Rattle.crossbeam_channel.specs.Claims.{view}
 use Rattle.amt_ports.specs.declared.out_link.OutLink.{Ghosts}
-use Rattle.replication_workers.specs.Queue.{jobs_of}
-use Rattle.replication_workers.specs.Workers.{HasHandled}
-use Rattle.replication_workers.specs.declared.job.Job.{Job}
-use Rattle.replication_workers.specs.declared.replicator.Replicator.{Replicator}
-use Rattle.replication_workers.specs.declared.slot.Left.{Left}
-use Rattle.replication_workers.specs.declared.slot.ReadySlot.{ReadySlot}
-use Rattle.replication_workers.specs.declared.slot.Slot.{Slot}
-use Rattle.replication_workers.specs.declared.worker.Worker.{Worker}
+use Rattle.replication_workers.specs.{Queue.{jobs_of}, Workers.{HasHandled}, declared.{job.Job.{Job}, replicator.Replicator.{Replicator}, slot.{Left.{Left}, ReadySlot.{ReadySlot}, Slot.{Slot}}, worker.Worker.{Worker}}}
 
 module _ {O : Type 0} {g : Ghosts O} where
   -- what its worker had when it was started

@@ -1,16 +1,8 @@
 -- What a start of several workers does.
 use Rattle.std.specs.Prelude.{◌≡◌, ℕ, zero, suc, List, ◌∷◌, ◌++◌, length, Option, Some, None}
-use Rattle.amt_ports.specs.Causes.{next_count}
-use Rattle.amt_ports.specs.declared.out_link.OutLink.{Ghosts}
-use Rattle.published_table.specs.Views.{views_of}
-use Rattle.published_table.specs.declared.view.View.{View}
-use Rattle.replication_workers.specs.Backs.{AreBack}
-use Rattle.replication_workers.specs.KeptSlots.{AreStarted}
-use Rattle.replication_workers.specs.declared.dispatcher.StartFault.{StartFault}
-use Rattle.replication_workers.specs.declared.dispatcher.StartFault.TheVariants.{Memory, Failed}
-use Rattle.replication_workers.specs.declared.dispatcher.kept.Kept.{Kept}
-use Rattle.replication_workers.specs.declared.replicator.Replicator.{Replicator}
-use Rattle.replication_workers.specs.declared.worker.Worker.{Worker}
+use Rattle.amt_ports.specs.{Causes.{next_count}, declared.out_link.OutLink.{Ghosts}}
+use Rattle.published_table.specs.{Views.{views_of}, declared.view.View.{View}}
+use Rattle.replication_workers.specs.{Backs.{AreBack}, KeptSlots.{AreStarted}, declared.{dispatcher.{StartFault.{StartFault, TheVariants.{Memory, Failed}}, kept.Kept.{Kept}}, replicator.Replicator.{Replicator}, worker.Worker.{Worker}}}
 
 -- so many more, but for the last value of a counter, which stays
 abbrev pub count_on : ℕ → ℕ → ℕ

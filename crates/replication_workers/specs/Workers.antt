@@ -1,21 +1,11 @@
 -- What a worker gives.
 use Rattle.std.specs.Prelude.{◌≡◌, ◌≤◌, ◌+◌, ◌*◌, ℕ, List, length}
-use Rattle.crossbeam_channel.specs.Claims.{IsSeatAt, view}
-use Rattle.crossbeam_channel.specs.Ends.{receives_on}
-use Rattle.amt_ports.specs.declared.out_link.OutLink.{Ghosts}
+use Rattle.crossbeam_channel.specs.{Claims.{IsSeatAt, view}, Ends.{receives_on}}
+use Rattle.amt_ports.specs.{declared.out_link.OutLink.{Ghosts}, Tried.{HasTried}}
 use Rattle.amt_values.specs.declared.peer.Peer.{Peer}
 use Rattle.endpoint_membership.specs.declared.change.Change.{Change}
-use Rattle.published_table.specs.Terms.{settings_by}
-use Rattle.published_table.specs.Views.{publisher_of, seen, terms_of}
-use Rattle.published_table.specs.declared.view.View.{View}
-use Rattle.replication_workers.specs.Jobs.{Handled}
-use Rattle.replication_workers.specs.Queue.{HasEnded, jobs_of}
-use Rattle.amt_ports.specs.Tried.{HasTried}
-use Rattle.replication_workers.specs.Replicators.{limit_of, out_of, view_of}
-use Rattle.replication_workers.specs.declared.job.Job.{Job}
-use Rattle.replication_workers.specs.declared.replicator.Replicator.{Replicator}
-use Rattle.replication_workers.specs.declared.worker.Worker.{Worker}
-use Rattle.replication_workers.specs.declared.worker.WorkerDone.{WorkerDone}
+use Rattle.published_table.specs.{Terms.{settings_by}, Views.{publisher_of, seen, terms_of}, declared.view.View.{View}}
+use Rattle.replication_workers.specs.{Jobs.{Handled}, Queue.{HasEnded, jobs_of}, Replicators.{limit_of, out_of, view_of}, declared.{job.Job.{Job}, replicator.Replicator.{Replicator}, worker.{Worker.{Worker}, WorkerDone.{WorkerDone}}}}
 
 -- the jobs that a worker took before Stop
 abbrev pub jobs_taken : {O : Type 0} → WorkerDone O → List Job

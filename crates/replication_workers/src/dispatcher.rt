@@ -1,9 +1,7 @@
 //! What gives jobs to slots: to workers, each in a thread of its own, or to replicators on the calling
 //! thread. It must not know where jobs come from.
 ghost use Rattle.std.specs.Prelude.{◌≡◌, ◌≤◌, ◌^◌, length, map};
-ghost use Rattle.replication_workers.specs.Gathering.{HasRoom, IsFresh};
-ghost use Rattle.replication_workers.specs.KeptSlots.{AreThreaded, state_of};
-ghost use Rattle.replication_workers.specs.SlotStates.{jobs_in_all};
+ghost use Rattle.replication_workers.specs.{Gathering.{HasRoom, IsFresh}, KeptSlots.{AreThreaded, state_of}, SlotStates.{jobs_in_all}};
 
 use crate::batch::Batch;
 use crate::replicator::Replicator;

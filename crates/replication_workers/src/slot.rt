@@ -1,10 +1,8 @@
 //! One started worker, with the putting end of its queue. It must not know how many there are.
 ghost use Rattle.std.specs.Prelude.{◌≡◌, [], ◌∷◌, length, map};
-ghost use Rattle.crossbeam_channel.specs.Claims.{IsSeatAt, view};
-ghost use Rattle.crossbeam_channel.specs.Ends.{receives_on, sends_on};
+ghost use Rattle.crossbeam_channel.specs.{Claims.{IsSeatAt, view}, Ends.{receives_on, sends_on}};
 ghost use Rattle.published_table.specs.Views.{publisher_of};
-ghost use Rattle.replication_workers.specs.Queue.{IsPutting, jobs_of};
-ghost use Rattle.replication_workers.specs.Replicators.{view_of};
+ghost use Rattle.replication_workers.specs.{Queue.{IsPutting, jobs_of}, Replicators.{view_of}};
 
 use crate::queue::{QueuePass, Sender};
 use crate::worker::Worker;

@@ -1,11 +1,8 @@
 //! What takes jobs from a queue and copies their packets. It must not know who puts them.
 ghost use Rattle.std.specs.Prelude.{◌≡◌, ◌≤◌, ◌<◌, ◌+◌, ◌^◌, [], ◌∷◌, map};
-ghost use Rattle.crossbeam_channel.specs.Claims.{IsSeatAt, view};
-ghost use Rattle.crossbeam_channel.specs.Ends.{receives_on};
-ghost use Rattle.published_table.specs.Lists.{BeginsWith, BeginsWithEach};
-ghost use Rattle.published_table.specs.Views.{named, note_publisher, publisher_of, seen, terms_of, told};
-ghost use Rattle.replication_workers.specs.Queue.{IsTaking};
-ghost use Rattle.replication_workers.specs.Replicators.{Tries, copies_due, limit_of, view_of};
+ghost use Rattle.crossbeam_channel.specs.{Claims.{IsSeatAt, view}, Ends.{receives_on}};
+ghost use Rattle.published_table.specs.{Lists.{BeginsWith, BeginsWithEach}, Views.{named, note_publisher, publisher_of, seen, terms_of, told}};
+ghost use Rattle.replication_workers.specs.{Queue.{IsTaking}, Replicators.{Tries, copies_due, limit_of, view_of}};
 
 use crate::job::{Copied, Job};
 use crate::queue::{Item, QueuePass, Receiver, Takes};

@@ -1,10 +1,5 @@
 -- Octets that differ in no bit are one: what an accumulated `^` says.
-use Rattle.std.proofs.Common.{◌≡◌, ℕ, ◌+◌, ◌%◌, ◌<◌, ◌↔◌, List, length, take, get_or, bit_or, bit_xor, refl, sym, ap, ◌∙◌, arith}
-use Rattle.std.specs.Int.{bit_at}
-use Rattle.std.specs.Int.Bits.{xor_self}
-use Rattle.std.proofs.lemmas.Nat.{le_or_l, le_or_r}
-use Rattle.std.proofs.lemmas.Nat.Bits.{bit_at_xor, bit_at-zero, bit_at-lt, same_from_bits}
-use Rattle.std.proofs.lemmas.List.{get_or-take, take-take, take_more_same}
+use Rattle.std.{proofs.{Common.{◌≡◌, ℕ, ◌+◌, ◌%◌, ◌<◌, ◌↔◌, List, length, take, get_or, bit_or, bit_xor, refl, sym, ap, ◌∙◌, arith}, lemmas.{Nat.{le_or_l, le_or_r, Bits.{bit_at_xor, bit_at-zero, bit_at-lt, same_from_bits}}, List.{get_or-take, take-take, take_more_same}}}, specs.Int.{bit_at, Bits.{xor_self}}}
 
 same_bit : (a b : ℕ) → a < 2 → b < 2 → (a + b) % 2 ≡ 0 → a ≡ b
 same_bit a b a_small b_small even = omega arith

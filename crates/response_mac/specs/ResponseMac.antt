@@ -1,12 +1,8 @@
 -- The response MAC (RFC 7450, section 5.3.5), and the secrets that give it.
-use Rattle.std.specs.Prelude.{◌≡◌, ℕ, ◌⊎◌, ◌||◌, Bool, false, Option, Some, None, List, ◌∷◌, ◌++◌, take, reverse, slice_get, slice_index_or, IsSomeAnd}
-use Rattle.std.specs.Str.{bytes_eq}
+use Rattle.std.specs.{Prelude.{◌≡◌, ℕ, ◌⊎◌, ◌||◌, Bool, false, Option, Some, None, List, ◌∷◌, ◌++◌, take, reverse, slice_get, slice_index_or, IsSomeAnd}, Str.{bytes_eq}}
 use Rattle.byteorder.specs.Endian.{big_bytes}
-use Rattle.amt_values.specs.declared.mac.Mac48.{Mac48}
-use Rattle.amt_values.specs.EndpointValue.{EndpointValue}
-use Rattle.response_mac.specs.declared.secret.Secret.{Secret}
-use Rattle.response_mac.specs.declared.secrets.Secrets.{Secrets}
-use Rattle.response_mac.specs.Hmac.{hmac_of}
+use Rattle.amt_values.specs.{declared.mac.Mac48.{Mac48}, EndpointValue.{EndpointValue}}
+use Rattle.response_mac.specs.{declared.{secret.Secret.{Secret}, secrets.Secrets.{Secrets}}, Hmac.{hmac_of}}
 
 -- the endpoint's address in 16 octets, its port in 2, the nonce in 4
 abbrev pub authenticated_octets : EndpointValue → ℕ → List ℕ

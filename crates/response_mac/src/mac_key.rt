@@ -24,8 +24,7 @@ pub struct MacKey {
 
 impl Model for MacKey {
     ghost use Rattle.sha2.specs.Hashers.{Holds256};
-    ghost use Rattle.response_mac.specs.declared.secret.Secret.{Secret};
-    ghost use Rattle.response_mac.specs.Hmac.{ipad, opad, padded_key};
+    ghost use Rattle.response_mac.specs.{declared.secret.Secret.{Secret}, Hmac.{ipad, opad, padded_key}};
 
     ghost Value = { Secret };
 

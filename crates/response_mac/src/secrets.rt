@@ -1,8 +1,7 @@
 //! The secrets of a relay, and which MACs are good by them. It must not know where secrets come from.
 
 ghost use Rattle.std.specs.Prelude.{◌≡◌, ◌↔◌, ◌≤◌, Some, List, [], ◌∷◌, ◌++◌, IsTrue};
-ghost use Rattle.response_mac.specs.declared.secret.Secret.{Secret};
-ghost use Rattle.response_mac.specs.ResponseMac.{IsGood, is_good, mac_of, same_mac, secrets_after};
+ghost use Rattle.response_mac.specs.{declared.secret.Secret.{Secret}, ResponseMac.{IsGood, is_good, mac_of, same_mac, secrets_after}};
 
 use crate::mac_key::MacKey;
 use crate::secret::Secret;

@@ -1,12 +1,6 @@
 -- A bad line breaks each script that the lines before it begin; lines say one list of statements.
-use Rattle.std.proofs.Common.{◌≡◌, ℕ, List, [], ◌∷◌, ◌++◌, inl, inr, refl, sym, ap, subst, ◌∙◌, append_assoc, append-nil}
-use Rattle.std.specs.List.{AllByRecursion}
-use Rattle.script_lines.specs.declared.reason.Reason.{Reason}
-use Rattle.script_lines.specs.Kind.{Kind, IsLawfulKind}
-use Rattle.script_lines.specs.Lines.{fields, lines_that_say, IsShort, IsPlain}
-use Rattle.script_lines.specs.Script.{Say, Begins, IsWrong, IsBadLine}
-use Rattle.script_lines.proofs.Begun.{lines_that_say-append, stated}
-use Rattle.script_lines.proofs.Firsts.{First-holds}
+use Rattle.std.{proofs.Common.{◌≡◌, ℕ, List, [], ◌∷◌, ◌++◌, inl, inr, refl, sym, ap, subst, ◌∙◌, append_assoc, append-nil}, specs.List.{AllByRecursion}}
+use Rattle.script_lines.{specs.{declared.reason.Reason.{Reason}, Kind.{Kind, IsLawfulKind}, Lines.{fields, lines_that_say, IsShort, IsPlain}, Script.{Say, Begins, IsWrong, IsBadLine}}, proofs.{Begun.{lines_that_say-append, stated}, Firsts.{First-holds}}}
 
 short_inside : (before : List (List ℕ)) (line : List ℕ) (after : List (List ℕ)) → AllByRecursion IsShort (before ++ line ∷ after) → IsShort line
 short_inside [] line after all = all.0

@@ -1,17 +1,9 @@
 -- Lines that begin a script, line by line.
-use Rattle.std.proofs.Common.{◌≡◌, ℕ, true, false, not, List, [], ◌∷◌, ◌++◌, refl, sym, ap, subst, ◌∙◌, append_assoc, append-nil}
-use Rattle.std.proofs.lemmas.List.Elements.{filter-append}
-use Rattle.std.specs.List.{AllByRecursion}
-use Rattle.script_lines.specs.Kind.{Kind}
-use Rattle.script_lines.specs.Lines.{fields, says_nothing, lines_that_say, IsShort, IsPlain}
-use Rattle.script_lines.specs.Reading.{HasBegun}
-use Rattle.script_lines.specs.Script.{Say, Begins}
+use Rattle.std.{proofs.{Common.{◌≡◌, ℕ, false, not, List, [], ◌∷◌, ◌++◌, refl, sym, ap, subst, ◌∙◌, append_assoc, append-nil}, lemmas.List.Elements.{filter-append}}, specs.List.{AllByRecursion}}
+use Rattle.script_lines.specs.{Kind.{Kind}, Lines.{fields, says_nothing, lines_that_say, IsShort, IsPlain}, Reading.{HasBegun}, Script.{Say, Begins}}
 
 pub lines_that_say-append : (ls others : List (List ℕ)) → lines_that_say (ls ++ others) ≡ lines_that_say ls ++ lines_that_say others
 lines_that_say-append ls others = filter-append (λ line. not (says_nothing (fields line))) ls others
-
-silent : (line : List ℕ) → says_nothing (fields line) ≡ true → lines_that_say (line ∷ []) ≡ []
-silent line nothing = rw nothing refl
 
 pub stated : (line : List ℕ) (ls : List (List ℕ)) → says_nothing (fields line) ≡ false → lines_that_say (line ∷ ls) ≡ line ∷ lines_that_say ls
 stated line ls something = rw something refl
@@ -36,15 +28,6 @@ module _ {S W : Type 0} (kind : Kind S W) where
   begins_start : Begins kind [] []
   begins_start = record { short = tt; says = tt }
 
-  begins_silent : (said : List S) (ls : List (List ℕ)) (line : List ℕ) → Begins kind said ls → IsShort line → says_nothing (fields line) ≡ true
-      → Begins kind said (ls ++ line ∷ [])
-  begins_silent said ls line before short nothing = record {
-    short = short_more ls line before.short short;
-    says = subst (Say kind [] said)
-        (sym (lines_that_say-append ls (line ∷ [])
-        ∙ (ap (λ (more : List (List ℕ)). lines_that_say ls ++ more) (silent line nothing) ∙ append-nil (lines_that_say ls)))) before.says;
-  }
-
   begins_said : (said : List S) (ls : List (List ℕ)) (line : List ℕ) (one : S) → Begins kind said ls → IsShort line → says_nothing (fields line) ≡ false → IsPlain line
       → kind.Says said one (fields line) → Begins kind (said ++ one ∷ []) (ls ++ line ∷ [])
   begins_said said ls line one before short something plain says = record {
@@ -57,14 +40,6 @@ module _ {S W : Type 0} (kind : Kind S W) where
   module _ {X : Type 0} (HasHeard : X → List S → Type 0) where
     pub has_begun_start : (value : X) → HasHeard value [] → HasBegun kind HasHeard value []
     has_begun_start value heard = record { said = []; begun = begins_start; heard = heard }
-
-    pub has_begun_silent : (value : X) (ls : List (List ℕ)) (line : List ℕ) → HasBegun kind HasHeard value ls → IsShort line → says_nothing (fields line) ≡ true
-        → HasBegun kind HasHeard value (ls ++ line ∷ [])
-    has_begun_silent value ls line before short nothing = record {
-      said = before.said;
-      begun = begins_silent before.said ls line before.begun short nothing;
-      heard = before.heard;
-    }
 
     pub has_begun_said : (value after : X) (ls : List (List ℕ)) (line : List ℕ) (before : HasBegun kind HasHeard value ls) (one : S) → IsShort line
         → says_nothing (fields line) ≡ false → IsPlain line → kind.Says before.said one (fields line) → HasHeard after (before.said ++ one ∷ [])

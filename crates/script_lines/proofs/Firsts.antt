@@ -1,6 +1,5 @@
 -- The first condition that holds.
-use Rattle.std.proofs.Common.{◌≡◌, ◌↔◌, List, [], ◌∷◌, inl, inr, sym, subst, ◌∙◌}
-use Rattle.std.specs.List.{AllByRecursion}
+use Rattle.std.{proofs.Common.{◌≡◌, ◌↔◌, List, [], ◌∷◌, inl, inr, sym, subst, ◌∙◌}, specs.List.{AllByRecursion}}
 use Rattle.amt_values.specs.Conditions.{First}
 
 pub First-same : {R : Type 0} (P Q : R → Type 0) (order : List R) (reason : R) → AllByRecursion (λ r. P r ↔ Q r) order

@@ -1,19 +1,10 @@
 -- A text of a form fails for no reason, and names one value.
-use Rattle.std.proofs.Common.{◌≡◌, ℕ, ◌^◌, ◌<◌, ◌≤◌, List, [], ◌∷◌, ◌++◌, length, codes, None, Ok, inl, inr, refl, sym, subst, ap, ◌∙◌, arith}
-use Rattle.std.proofs.lemmas.Fmt.{decimal_injective}
-use Rattle.std.specs.Int.{IsInRange}
-use Rattle.hex.specs.Hex.{decode_of}
-use Rattle.hex.proofs.HexLemmas.{decode_of-odd, decode_of-ok, decode_of-same}
-use Rattle.amt_values.specs.declared.address.Ip.{Ip}
-use Rattle.amt_values.specs.declared.address.Ip.TheVariants.{V4, V6}
-use Rattle.amt_values.specs.declared.peer.Peer.{Peer}
-use Rattle.amt_values.specs.Text.{IsIpText, IsPeerText}
+use Rattle.std.{proofs.{Common.{◌≡◌, ℕ, ◌^◌, ◌<◌, ◌≤◌, List, [], ◌∷◌, ◌++◌, length, codes, None, Ok, inl, inr, refl, sym, subst, ap, ◌∙◌, arith}, lemmas.Fmt.{decimal_injective}}, specs.Int.{IsInRange}}
+use Rattle.hex.{specs.Hex.{decode_of}, proofs.HexLemmas.{decode_of-odd, decode_of-ok, decode_of-same}}
+use Rattle.amt_values.specs.{declared.{address.Ip.{Ip, TheVariants.{V4, V6}}, peer.Peer.{Peer}}, Text.{IsIpText, IsPeerText}}
 use Rattle.response_mac.specs.declared.secret.Secret.{Secret}
-use Rattle.script_lines.specs.declared.reason.Reason.{Reason}
+use Rattle.script_lines.{specs.{declared.reason.Reason.{Reason}, Form.{Form, Fails, IsMomentText, IsNumberText, IsHexText, IsSecretText, a_moment, a_number, some_octets, a_secret, an_address, an_address4, an_address6, a_peer}, Shape.{FailsIn, SomeFails, HasField}}, proofs.Numbers.{value_of_number, numeral_of_number}}
 use Rattle.script_lines.specs.declared.reason.Reason.TheVariants as reasons
-use Rattle.script_lines.specs.Form.{Form, Fails, IsMomentText, IsNumberText, IsHexText, IsSecretText, a_moment, a_number, some_octets, a_secret, an_address, an_address4, an_address6, a_peer}
-use Rattle.script_lines.specs.Shape.{FailsIn, SomeFails, HasField}
-use Rattle.script_lines.proofs.Numbers.{value_of_number, numeral_of_number}
 
 -- a text of a form fails for no reason
 pub moment_fits : (ms : ℕ) (text : List ℕ) → IsMomentText ms text → (reason : Reason) → Fails a_moment text reason → ⊥

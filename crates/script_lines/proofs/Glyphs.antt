@@ -1,9 +1,5 @@
 -- What the words of a printed line are made of.
-use Rattle.std.proofs.Common.{ℕ, ◌^◌, ◌<◌, List, All, decimal, arith}
-use Rattle.std.proofs.lemmas.Fmt.{decimal_is_IsNumeral}
-use Rattle.std.proofs.lemmas.List.Elements.{All-from_get_or}
-use Rattle.std.proofs.lemmas.Str.Parse.{digit_at}
-use Rattle.std.specs.Int.{IsInRange}
+use Rattle.std.{proofs.{Common.{ℕ, ◌^◌, ◌<◌, List, All, decimal, arith}, lemmas.{Fmt.{decimal_is_IsNumeral}, List.Elements.{All-from_get_or}, Str.Parse.{digit_at}}}, specs.Int.{IsInRange}}
 
 -- printable and no space
 abbrev pub IsGlyph : ℕ → Type 0

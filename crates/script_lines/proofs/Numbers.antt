@@ -1,8 +1,6 @@
 -- What the digits of a number say.
-use Rattle.std.proofs.Common.{◌≡◌, ℕ, ◌^◌, ◌<◌, List, decimal, sym, subst, ap, ◌∙◌}
-use Rattle.std.proofs.lemmas.Fmt.{decimal_is_IsNumeral}
-use Rattle.amt_values.specs.Numeral.{IsNumeral, numeral_value}
-use Rattle.amt_values.proofs.Numerals.{IsNumeral-decimal}
+use Rattle.std.proofs.{Common.{◌≡◌, ℕ, ◌^◌, ◌<◌, List, decimal, sym, subst, ap, ◌∙◌}, lemmas.Fmt.{decimal_is_IsNumeral}}
+use Rattle.amt_values.{specs.Numeral.{IsNumeral, numeral_value}, proofs.Numerals.{IsNumeral-decimal}}
 
 pub value_of_number : (text : List ℕ) (number : ℕ) → number < 2 ^ 64 → text ≡ decimal number → numeral_value text ≡ number
 value_of_number text number small same = ap numeral_value same ∙ (decimal_is_IsNumeral number small).1

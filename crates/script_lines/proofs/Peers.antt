@@ -1,17 +1,6 @@
 -- What a printed peer is made of, and how long it is.
-use Rattle.std.proofs.Common.{ℕ, ◌^◌, ◌<◌, ◌≤◌, [], ◌∷◌, ◌++◌, length, slice_index, decimal, length-append, inl, inr, arith}
-use Rattle.std.proofs.lemmas.Fmt.{length-decimal-le}
-use Rattle.std.proofs.lemmas.List.Elements.{All-cons, All-append, All-weaker}
-use Rattle.std.proofs.NetLemmas.Alphabet.{IsDigitOrDot, IsHexOrColon, All-ipv4_text, All-hex_groups_text}
-use Rattle.std.specs.Int.{w32, to_be_bytes}
-use Rattle.std.specs.Net.Text.{dotted_text}
-use Rattle.amt_values.proofs.NetworkOrder.{AreOctets-bytes_high_first}
-use Rattle.amt_values.proofs.Lengths.{length-v6_text}
-use Rattle.amt_values.proofs.Segments.{AllSegments-address_segments}
-use Rattle.amt_values.specs.declared.address.Ip.{Ip}
-use Rattle.amt_values.specs.declared.address.Ip.TheVariants.{V4, V6}
-use Rattle.amt_values.specs.Segments.{address_segments}
-use Rattle.amt_values.specs.Text.{v4_text, v6_text, address_and_port}
+use Rattle.std.{proofs.{Common.{ℕ, ◌^◌, ◌<◌, ◌≤◌, [], ◌∷◌, ◌++◌, length, slice_index, decimal, length-append, inl, inr, arith}, lemmas.{Fmt.{length-decimal-le}, List.Elements.{All-cons, All-append, All-weaker}}, NetLemmas.Alphabet.{IsDigitOrDot, IsHexOrColon, All-ipv4_text, All-hex_groups_text}}, specs.{Int.{w32, to_be_bytes}, Net.Text.{dotted_text}}}
+use Rattle.amt_values.{proofs.{NetworkOrder.{AreOctets-bytes_high_first}, Lengths.{length-v6_text}, Segments.{AllSegments-address_segments}}, specs.{declared.address.Ip.{Ip, TheVariants.{V4, V6}}, Segments.{address_segments}, Text.{v4_text, v6_text, address_and_port}}}
 use Rattle.script_lines.proofs.Glyphs.{IsGlyph, AreGlyphs, glyphs_of_digits}
 
 glyph_of_dotted : (octet : ℕ) → IsDigitOrDot octet → IsGlyph octet

@@ -1,9 +1,5 @@
 -- Whether a line is plain, octet by octet.
-use Rattle.std.proofs.Common.{◌<◌, ◌≤◌, ◌↔◌, ◌+◌, ℕ, Bool, true, false, ◌&&◌, IsTrue, List, [], ◌∷◌, ◌++◌, length, take, get_or, subst, sym, rules}
-use Rattle.std.specs.Int.{IsInRange}
-use Rattle.std.specs.List.{AllByRecursion}
-use Rattle.std.proofs.lemmas.List.{take_more, take_all}
-use Rattle.std.proofs.lemmas.List.Elements.{All-from_recursion, recursion_from_All}
+use Rattle.std.{proofs.{Common.{◌<◌, ◌≤◌, ◌↔◌, ◌+◌, ℕ, Bool, true, false, ◌&&◌, IsTrue, List, [], ◌∷◌, ◌++◌, length, take, get_or, subst, sym, rules}, lemmas.List.{take_more, take_all, Elements.{All-from_recursion, recursion_from_All}}}, specs.{Int.{IsInRange}, List.{AllByRecursion}}}
 use Rattle.script_lines.specs.Lines.{IsPlain}
 
 abbrev is_glyph : ℕ → Type 0

@@ -1,12 +1,6 @@
 -- A run over the items of a script, item by item.
-use Rattle.std.proofs.Common.{◌≡◌, ℕ, suc, ◌+◌, ◌<◌, ◌≤◌, Option, List, [], ◌∷◌, ◌++◌, length, take, drop, get_or, sym, ap, subst, ◌∙◌, append_assoc, arith, add-one, length-take}
-use Rattle.std.proofs.Math.Seq.{drop-cons}
-use Rattle.std.proofs.lemmas.List.{take_more, drop_all}
-use Rattle.std.specs.Io.KnownBytes.{Appends}
-use Rattle.script_lines.specs.Running.{items_text, script_text}
-use Rattle.script_lines.specs.Texts.{closing_text}
-use Rattle.script_lines.specs.Writing.{WritesUpTo, WritesPrefix}
-use Rattle.script_lines.proofs.Writes.{written_more, written_prefix, written_prefix_of_last, written_start, written_whole}
+use Rattle.std.proofs.{Common.{◌≡◌, ℕ, suc, ◌+◌, ◌<◌, ◌≤◌, Option, List, [], ◌∷◌, ◌++◌, length, take, drop, get_or, sym, ap, subst, ◌∙◌, append_assoc, arith, add-one, length-take}, Math.Seq.{drop-cons}, lemmas.List.{take_more, drop_all}}
+use Rattle.script_lines.{specs.{Running.{items_text, script_text}, Texts.{closing_text}, Writing.{WritesUpTo, WritesPrefix}}, proofs.Writes.{written_more, written_prefix, written_prefix_of_last}}
 
 -- the value has taken so many of the items, and of all their text what is held and what is left isn't written
 pub record IsRunning {X I : Type 0} (IsAt : X → List I → Type 0) (text_of : List I → ℕ → I → List ℕ) (value : X) (items : List I) (taken : ℕ) (held : List ℕ) (old new : Option (List ℕ)) : Type 0 where
@@ -42,9 +36,6 @@ module _ {I : Type 0} (text_of : List I → ℕ → I → List ℕ) where
       ∙ ap (λ (taken : List I). text_of before (i + 1) item ++ (items_text text_of taken (drop (i + 1) items) ++ closing)) (sym (taken_more items i item within is))))
 
   module _ {X : Type 0} (IsAt : X → List I → Type 0) where
-    pub run_start : (value : X) (items : List I) (out : Option (List ℕ)) → IsAt value [] → IsRunning IsAt text_of value items 0 [] out out
-    run_start value items out at = record { at = at; text = written_start out (script_text text_of items) }
-
     -- what is held, and the text of the next item, come next
     next_text : (value : X) (items : List I) (i : ℕ) (item : I) (held : List ℕ) (old new : Option (List ℕ))
         → i < length items → item ≡ get_or items i item → IsRunning IsAt text_of value items i held old new
@@ -88,10 +79,3 @@ module _ {I : Type 0} (text_of : List I → ℕ → I → List ℕ) where
         → WritesPrefix old newer (script_text text_of items)
     run_closed value items i held old new newer past before prefix =
         written_prefix_of_last old new newer _ _ (last_text value items i held old new past before) prefix
-
-    -- they were written whole
-    pub run_ended : (value : X) (items : List I) (i : ℕ) (held : List ℕ) (old new newer : Option (List ℕ))
-        → length items ≤ i → IsRunning IsAt text_of value items i held old new → Appends new newer (held ++ closing_text (length items))
-        → Appends old newer (script_text text_of items)
-    run_ended value items i held old new newer past before written =
-        written_whole old new newer _ _ (last_text value items i held old new past before) written

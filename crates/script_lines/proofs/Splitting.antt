@@ -1,9 +1,6 @@
 -- The first line of a text, and the first field of a line.
 use Rattle.std.proofs.Common.{◌≡◌, ◌≢◌, ℕ, zero, suc, ◌<◌, ◌==◌, false, List, [], ◌∷◌, ◌++◌, length, take, drop, slice_index, All, filter, refl, sym, ap, ◌∙◌, ne_eqb, arith, subst}
-use Rattle.std.proofs.lemmas.List.Elements.{All-weaker, recursion_from_All}
-use Rattle.std.proofs.lemmas.List.Splits.{slice_split_at, slice_split_none, length-slice_split}
-use Rattle.std.specs.List.{slice_split, AllByRecursion}
-use Rattle.std.specs.Str.Lines.{lines, lines_of_parts, strip_carriage_return}
+use Rattle.std.{proofs.lemmas.List.{Elements.{All-weaker, recursion_from_All}, Splits.{slice_split_at, slice_split_none, length-slice_split}}, specs.{List.{slice_split, AllByRecursion}, Str.Lines.{lines, lines_of_parts, strip_carriage_return}}}
 use Rattle.script_lines.specs.Lines.{fields, is_filled}
 
 differs : (at : ℕ) (text : List ℕ) → All (λ octet. octet ≢ at) text → All (λ octet. (octet == at) ≡ false) text

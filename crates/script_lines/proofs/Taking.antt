@@ -1,15 +1,8 @@
 -- A text's lines that were read so far, and those that are left.
-use Rattle.std.proofs.Common.{◌≡◌, ℕ, ◌+◌, ◌<◌, ◌≤◌, ◌==◌, false, List, [], ◌∷◌, ◌++◌, length, slice_index, inr, refl, sym, ap, subst, ◌∙◌, append_assoc, append-nil, length-append, arith}
-use Rattle.std.specs.Str.Lines.{lines}
-use Rattle.script_lines.specs.declared.fault.LineError.{LineError}
+use Rattle.std.{proofs.Common.{◌≡◌, ℕ, ◌+◌, ◌<◌, ◌≤◌, ◌==◌, false, List, [], ◌∷◌, ◌++◌, length, slice_index, inr, refl, sym, ap, subst, ◌∙◌, append_assoc, length-append, arith}, specs.Str.Lines.{lines}}
+use Rattle.script_lines.{specs.{declared.fault.LineError.{LineError}, Kind.{Kind}, Lines.{fields, says_nothing, IsShort, IsPlain}, Reading.{HasBegun, FailsAfter, FailsOnLine}}, proofs.Begun.{has_begun_start}}
 use Rattle.script_lines.specs.declared.fault.LineError.TheVariants as line_errors
-use Rattle.script_lines.specs.declared.reason.Reason.{Reason}
 use Rattle.amt_values.specs.Conditions.{First}
-use Rattle.script_lines.specs.Kind.{Kind}
-use Rattle.script_lines.specs.Lines.{fields, says_nothing, IsShort, IsPlain}
-use Rattle.script_lines.specs.Reading.{HasBegun, FailsAfter, FailsOnLine}
-use Rattle.script_lines.specs.Script.{IsBadLine, IsFaultInLine}
-use Rattle.script_lines.proofs.Begun.{has_begun_start}
 
 -- the line of this first field says something
 pub something : (line first : List ℕ) (rest : List (List ℕ)) → fields line ≡ first ∷ rest → (slice_index first 0 == 35) ≡ false → says_nothing (fields line) ≡ false
@@ -51,28 +44,3 @@ module _ {S W : Type 0} (kind : Kind S W) where
       counted = omega (arith, taking.counted, length-append taking.before (line ∷ []));
       room = omega (arith, taking.room, shorter);
     }
-
-    pub taking_bad : (text left line rest : List ℕ) (value : X) (count : ℕ) (reason : Reason) (taking : IsTaking kind HasHeard text left value count)
-        → lines left ≡ line ∷ lines rest → IsBadLine kind taking.begun.said line reason → IsFaultInLine kind (count + 1) reason (lines text)
-    taking_bad text left line rest value count reason taking cut bad = record {
-      before = taking.before;
-      line = line;
-      after = lines rest;
-      parts = taking.parts ∙ ap (λ (ls : List (List ℕ)). taking.before ++ ls) cut;
-      counted = ap (λ (n : ℕ). n + 1) taking.counted;
-      said = taking.begun.said;
-      begun = taking.begun.begun;
-      bad = bad;
-    }
-
-    all_lines : (text left : List ℕ) (value : X) (count : ℕ) (taking : IsTaking kind HasHeard text left value count) → left ≡ [] → taking.before ≡ lines text
-    all_lines text left value count taking none =
-        sym (taking.parts ∙ (ap (λ (t : List ℕ). taking.before ++ lines t) none ∙ append-nil taking.before))
-
-    pub taken_all : (text left : List ℕ) (value : X) (count : ℕ) → IsTaking kind HasHeard text left value count → left ≡ []
-        → HasBegun kind HasHeard value (lines text)
-    taken_all text left value count taking none = subst (HasBegun kind HasHeard value) (all_lines text left value count taking none) taking.begun
-
-    pub counted_all : (text left : List ℕ) (value : X) (count : ℕ) → IsTaking kind HasHeard text left value count → left ≡ []
-        → count ≡ length (lines text)
-    counted_all text left value count taking none = taking.counted ∙ ap length (all_lines text left value count taking none)

@@ -1,15 +1,8 @@
 -- Octets spell one script of a kind, or have one fault.
-use Rattle.std.proofs.Common.{◌≡◌, ℕ, ◌+◌, ◌⊎◌, List, [], ◌∷◌, ◌++◌, length, inl, inr, refl, sym, ap, subst, ◌∙◌}
-use Rattle.std.specs.Str.Lines.{lines}
-use Rattle.script_lines.specs.declared.fault.ScriptError.{ScriptError}
+use Rattle.std.{proofs.Common.{◌≡◌, ℕ, ◌+◌, ◌⊎◌, List, [], ◌∷◌, ◌++◌, length, inl, inr, refl, sym, ap, subst, ◌∙◌}, specs.Str.Lines.{lines}}
+use Rattle.script_lines.{specs.{declared.{fault.ScriptError.{ScriptError}, reason.Reason.{Reason}}, Kind.{Kind, IsLawfulKind}, Lines.{fields}, Script.{Begins, Spells, IsWrong, IsBadLine, IsFaultAt, IsFaultInLine, IsFaultAtEnd, IsErrorOf, RulesOutScripts, HasOneScript, HasOneFault}}, proofs.{Bad.{bad_line_breaks, begun_once}, Firsts.{First-holds, First-unique}}}
 use Rattle.script_lines.specs.declared.fault.ScriptError.TheVariants as errors
-use Rattle.script_lines.specs.declared.reason.Reason.{Reason}
 use Rattle.amt_values.specs.Conditions.{First}
-use Rattle.script_lines.specs.Kind.{Kind, IsLawfulKind}
-use Rattle.script_lines.specs.Lines.{fields}
-use Rattle.script_lines.specs.Script.{Begins, Spells, IsWrong, IsBadLine, IsFaultAt, IsFaultInLine, IsFaultAtEnd, IsErrorOf, RulesOutScripts, HasOneScript, HasOneFault}
-use Rattle.script_lines.proofs.Bad.{bad_line_breaks, begun_once}
-use Rattle.script_lines.proofs.Firsts.{First-holds, First-unique}
 
 record AreEqual (before before' : List (List ℕ)) (line line' : List ℕ) : Type 0 where
   lists : before ≡ before'

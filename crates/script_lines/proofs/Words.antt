@@ -1,20 +1,8 @@
 -- Words of printed lines, and the fields that they are read back as.
-use Rattle.std.proofs.Common.{◌≡◌, ◌≢◌, ℕ, zero, suc, ◌/◌, ◌%◌, ◌-◌, ◌<◌, ◌≤◌, ◌==◌, false, List, [], ◌∷◌, ◌++◌, length, slice_index, Ok, codes, inl, inr, refl, ap, ◌∙◌, ne_eqb, arith, rules}
-use Rattle.std.proofs.lemmas.List.Elements.{All-nil, All-cons, All-append, All-weaker, All-get_or, All-from_recursion}
-use Rattle.std.specs.Int.{IsInRange}
-use Rattle.std.specs.List.{AllByRecursion}
-use Rattle.std.specs.Str.Lines.{lines, strip_carriage_return}
-use Rattle.hex.specs.Hex.{IsBytes, encode_lower, encode_with, lower_digits, decode_of}
-use Rattle.hex.proofs.HexLemmas.{decode_of-encode_lower, length-encode_with}
-use Rattle.amt_values.specs.Octets.{AreOctets}
-use Rattle.amt_values.specs.Text.{peer_text, IsPeerText}
-use Rattle.amt_values.specs.declared.peer.Peer.{Peer}
-use Rattle.script_lines.specs.Form.{IsHexText}
-use Rattle.script_lines.specs.Lines.{fields, IsPlain}
-use Rattle.script_lines.specs.Texts.{hex_text}
-use Rattle.script_lines.proofs.Glyphs.{IsGlyph, AreGlyphs}
-use Rattle.script_lines.proofs.Peers.{glyphs_of_peer, peer_some}
-use Rattle.script_lines.proofs.Splitting.{lines-ended, fields-ended, fields-last}
+use Rattle.std.{proofs.{Common.{◌≡◌, ◌≢◌, ℕ, zero, suc, ◌/◌, ◌%◌, ◌-◌, ◌<◌, ◌≤◌, ◌==◌, false, List, [], ◌∷◌, ◌++◌, length, slice_index, Ok, codes, inl, inr, refl, ap, ◌∙◌, ne_eqb, arith, rules}, lemmas.List.Elements.{All-nil, All-cons, All-append, All-weaker, All-get_or, All-from_recursion}}, specs.{Int.{IsInRange}, List.{AllByRecursion}, Str.Lines.{lines, strip_carriage_return}}}
+use Rattle.hex.{specs.Hex.{IsBytes, encode_lower, encode_with, lower_digits, decode_of}, proofs.HexLemmas.{decode_of-encode_lower, length-encode_with}}
+use Rattle.amt_values.specs.{Octets.{AreOctets}, Text.{peer_text, IsPeerText}, declared.peer.Peer.{Peer}}
+use Rattle.script_lines.{specs.{Form.{IsHexText}, Lines.{fields, IsPlain}, Texts.{hex_text}}, proofs.{Glyphs.{IsGlyph, AreGlyphs}, Peers.{glyphs_of_peer, peer_some}, Splitting.{lines-ended, fields-ended, fields-last}}}
 
 glyphs_of_table : AreGlyphs lower_digits
 glyphs_of_table = All-from_recursion IsGlyph lower_digits (search rules)

@@ -1,7 +1,5 @@
 -- What was written of a text, piece by piece.
-use Rattle.std.proofs.Common.{ℕ, Option, List, [], ◌++◌, take, drop, refl, sym, ap, subst, ◌∙◌, append_assoc, append-nil, take-append-drop}
-use Rattle.std.proofs.KnownBytes.{Appends-nil, Appends-trans}
-use Rattle.std.specs.Io.KnownBytes.{Appends}
+use Rattle.std.{proofs.{Common.{ℕ, Option, List, [], ◌++◌, take, drop, refl, sym, ap, ◌∙◌, append_assoc, append-nil, take-append-drop}, KnownBytes.{Appends-nil, Appends-trans}}, specs.Io.KnownBytes.{Appends}}
 use Rattle.script_lines.specs.Writing.{WritesUpTo, WritesPrefix}
 
 pub written_start : (a : Option (List ℕ)) (text : List ℕ) → WritesUpTo a a text text
@@ -23,10 +21,6 @@ written_more a b c text piece rest held before next = record {
       ∙ (ap (λ (xs : List ℕ). before.prefix ++ xs) (append_assoc next.prefix held rest) ∙ sym (append_assoc before.prefix next.prefix (held ++ rest))));
   written = Appends-trans a b c before.prefix next.prefix before.written next.written;
 }
-
--- the last piece was written whole
-pub written_whole : (a b c : Option (List ℕ)) (text piece : List ℕ) → WritesUpTo a b text piece → Appends b c piece → Appends a c text
-written_whole a b c text piece before written = subst (Appends a c) (sym before.parts) (Appends-trans a b c before.prefix piece before.written written)
 
 -- a prefix of the next piece was written
 pub written_prefix : (a b c : Option (List ℕ)) (text piece rest : List ℕ) → WritesUpTo a b text (piece ++ rest) → WritesPrefix b c piece → WritesPrefix a c text

@@ -1,12 +1,9 @@
 -- What is wrong with octets that come in, as several kinds of script print it.
-use Rattle.std.specs.Prelude.{ℕ, List, ◌++◌, codes, decimal}
-use Rattle.std.specs.Int.{w16, to_be_bytes}
+use Rattle.std.specs.{Prelude.{ℕ, List, ◌++◌, codes, decimal}, Int.{w16, to_be_bytes}}
 use Rattle.hex.specs.Hex.{encode_lower}
-use Rattle.amt_messages.specs.declared.refusal.Refused.{Refused}
-use Rattle.amt_messages.specs.declared.refusal.Refused.TheVariants.{Empty, Version, Kind, NoInner, Short, Long}
-use Rattle.inner_datagrams.specs.declared.head.HeadFault.{HeadFault}
+use Rattle.amt_messages.specs.declared.refusal.Refused.{Refused, TheVariants.{Empty, Version, Kind, NoInner, Short, Long}}
+use Rattle.inner_datagrams.specs.declared.{head.HeadFault.{HeadFault}, inner.InnerFault.{InnerFault}}
 use Rattle.inner_datagrams.specs.declared.head.HeadFault.TheVariants as head
-use Rattle.inner_datagrams.specs.declared.inner.InnerFault.{InnerFault}
 use Rattle.inner_datagrams.specs.declared.inner.InnerFault.TheVariants as inner
 use Rattle.source_filter.specs.declared.fault.ReportFault.{ReportFault}
 use Rattle.source_filter.specs.declared.fault.ReportFault.TheVariants as report

@@ -1,20 +1,12 @@
 -- Which text a field of each form may have, and why another fails.
-use Rattle.std.specs.Prelude.{◌≡◌, ℕ, ◌<◌, ◌≤◌, ◌^◌, ◌⊎◌, Bool, true, List, [], length, codes, decimal, All, Option, None, Some, Ok}
-use Rattle.std.specs.Int.{IsInRange}
+use Rattle.std.specs.{Prelude.{◌≡◌, ℕ, ◌<◌, ◌≤◌, ◌^◌, ◌⊎◌, Bool, true, List, [], length, codes, decimal, All, Option, None, Some, Ok}, Int.{IsInRange}}
 use Rattle.byteorder.specs.Endian.{big_bytes}
 use Rattle.hex.specs.Hex.{decode_of}
-use Rattle.amt_values.specs.declared.address.Ip.{Ip}
-use Rattle.amt_values.specs.declared.address.Ip.TheVariants.{V4, V6}
-use Rattle.amt_values.specs.declared.peer.Peer.{Peer}
-use Rattle.amt_values.specs.Numeral.{IsNumeral, numeral_value}
-use Rattle.amt_values.specs.Group.{is_forwardable}
-use Rattle.amt_values.specs.Text.{IsIpText, IsPeerText}
+use Rattle.amt_values.specs.{declared.{address.Ip.{Ip, TheVariants.{V4, V6}}, peer.Peer.{Peer}}, Numeral.{IsNumeral, numeral_value}, Group.{is_forwardable}, Text.{IsIpText, IsPeerText}}
 use Rattle.response_mac.specs.declared.secret.Secret.{Secret}
 use Rattle.source_filter.specs.declared.mode.Mode.{Mode}
-use Rattle.group_records.specs.declared.family.Family.{Family}
-use Rattle.group_records.specs.Written.{is_of_family}
-use Rattle.script_lines.specs.Texts.{family_text, mode_text}
-use Rattle.script_lines.specs.declared.reason.Reason.{Reason}
+use Rattle.group_records.specs.{declared.family.Family.{Family}, Written.{is_of_family}}
+use Rattle.script_lines.specs.{Texts.{family_text, mode_text}, declared.reason.Reason.{Reason}}
 use Rattle.script_lines.specs.declared.reason.Reason.TheVariants as reasons
 
 -- what a field may be: a moment, a number from a least to a most one, octets, a secret, a nonce, an address

@@ -1,7 +1,5 @@
 -- Lines, their fields, and which lines say something.
-use Rattle.std.specs.Prelude.{ℕ, ◌≤◌, ◌==◌, Bool, true, false, not, List, [], ◌∷◌, filter, length, slice_index, All}
-use Rattle.std.specs.Int.{IsInRange}
-use Rattle.std.specs.List.{slice_split}
+use Rattle.std.specs.{Prelude.{ℕ, ◌≤◌, ◌==◌, Bool, true, false, not, List, [], ◌∷◌, filter, length, slice_index, All}, Int.{IsInRange}, List.{slice_split}}
 
 -- there is some octet
 abbrev pub is_filled : List ℕ → Bool

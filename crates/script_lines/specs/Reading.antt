@@ -1,13 +1,8 @@
 -- What the reader's own answers say.
 use Rattle.std.specs.Prelude.{ℕ, List, [], ◌∷◌, ◌++◌}
-use Rattle.script_lines.specs.declared.reason.Reason.{Reason}
-use Rattle.script_lines.specs.declared.fault.LineError.{LineError}
-use Rattle.script_lines.specs.declared.fault.LineError.TheVariants.{Bad, Memory}
-use Rattle.script_lines.specs.declared.fault.ScriptError.{ScriptError}
+use Rattle.script_lines.specs.{declared.{reason.Reason.{Reason}, fault.{LineError.{LineError, TheVariants.{Bad, Memory}}, ScriptError.{ScriptError}}}, Kind.{Kind}, Script.{Begins, IsBadLine, IsFaultInLine}}
 use Rattle.script_lines.specs.declared.fault.ScriptError.TheVariants as errors
 use Rattle.amt_values.specs.Conditions.{First}
-use Rattle.script_lines.specs.Kind.{Kind}
-use Rattle.script_lines.specs.Script.{Begins, IsBadLine, IsFaultInLine}
 
 -- the reason is the first that holds; out of memory says nothing
 abbrev pub FailsFirst : (Reason → Type 0) → List Reason → LineError → Type 0

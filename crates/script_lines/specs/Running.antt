@@ -1,6 +1,5 @@
 -- Runs over the items of a script, and their text.
-use Rattle.std.specs.Prelude.{ℕ, ◌+◌, List, [], ◌∷◌, ◌++◌, length}
-use Rattle.std.specs.List.{AllByRecursion}
+use Rattle.std.specs.{Prelude.{ℕ, ◌+◌, List, [], ◌∷◌, ◌++◌, length}, List.{AllByRecursion}}
 use Rattle.script_lines.specs.Texts.{closing_text}
 
 -- the items that follow those before, numbered from 1, by the text of one after those before it

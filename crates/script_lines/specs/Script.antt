@@ -1,14 +1,8 @@
 -- Which octets spell which script of a kind, and which line of others is the first bad one.
-use Rattle.std.specs.Prelude.{◌≡◌, ℕ, ◌+◌, ◌⊎◌, false, List, [], ◌∷◌, ◌++◌, length}
-use Rattle.std.specs.List.{AllByRecursion}
-use Rattle.std.specs.Str.Lines.{lines}
-use Rattle.script_lines.specs.declared.reason.Reason.{Reason}
-use Rattle.script_lines.specs.declared.reason.Reason.TheVariants.{Long, Word}
-use Rattle.script_lines.specs.declared.fault.ScriptError.{ScriptError}
+use Rattle.std.specs.{Prelude.{◌≡◌, ℕ, ◌+◌, ◌⊎◌, false, List, [], ◌∷◌, ◌++◌, length}, List.{AllByRecursion}, Str.Lines.{lines}}
+use Rattle.script_lines.specs.{declared.{reason.Reason.{Reason, TheVariants.{Long, Word}}, fault.ScriptError.{ScriptError}}, Kind.{Kind}, Lines.{fields, says_nothing, lines_that_say, IsShort, IsPlain}}
 use Rattle.script_lines.specs.declared.fault.ScriptError.TheVariants as errors
 use Rattle.amt_values.specs.Conditions.{First}
-use Rattle.script_lines.specs.Kind.{Kind}
-use Rattle.script_lines.specs.Lines.{fields, says_nothing, lines_that_say, IsShort, IsPlain}
 
 -- each line says the next of these statements, after those before it
 abbrev pub Say : {S W : Type 0} → Kind S W → List S → List S → List (List ℕ) → Type 0

@@ -1,8 +1,6 @@
 -- The shape of a line: how many fields follow its first words, and of which forms.
 use Rattle.std.specs.Prelude.{◌≡◌, ◌≢◌, ◌<◌, ◌⊎◌, ℕ, List, [], ◌∷◌, ◌++◌, length, Option, None, Some}
-use Rattle.script_lines.specs.declared.reason.Reason.{Reason}
-use Rattle.script_lines.specs.declared.reason.Reason.TheVariants.{Count}
-use Rattle.script_lines.specs.Form.{Form, Fails}
+use Rattle.script_lines.specs.{declared.reason.Reason.{Reason, TheVariants.{Count}}, Form.{Form, Fails}}
 
 -- fields of these forms, and then any number of fields of the last form where there is one
 pub record Shape : Type 0 where

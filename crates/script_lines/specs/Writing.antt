@@ -1,6 +1,5 @@
 -- How much of a text was written.
-use Rattle.std.specs.Prelude.{◌≡◌, ℕ, List, ◌++◌, Option}
-use Rattle.std.specs.Io.KnownBytes.{Appends}
+use Rattle.std.specs.{Prelude.{◌≡◌, ℕ, List, ◌++◌, Option}, Io.KnownBytes.{Appends}}
 
 -- what was written goes on to the text where this rest follows it
 pub record WritesUpTo (old new : Option (List ℕ)) (text rest : List ℕ) : Type 0 where

@@ -1,10 +1,7 @@
 //! Text that is held back until there is much of it. It knows sinks by their trait alone.
 
-ghost use Rattle.std.specs.Prelude.{◌≡◌, ◌<◌, ◌++◌, [], length, OnOk, OnErr, IfErr};
-ghost use Rattle.std.specs.Io.KnownBytes.{Appends};
-ghost use Rattle.script_lines.specs.declared.held.TheConstants.{HELD_SIZE};
-ghost use Rattle.script_lines.specs.Counting.{CountsWrites};
-ghost use Rattle.script_lines.specs.Writing.{WritesPrefix, WritesUpTo};
+ghost use Rattle.std.specs.{Prelude.{◌≡◌, ◌<◌, ◌++◌, [], length, OnOk, OnErr, IfErr}, Io.KnownBytes.{Appends}};
+ghost use Rattle.script_lines.specs.{declared.held.TheConstants.{HELD_SIZE}, Counting.{CountsWrites}, Writing.{WritesPrefix, WritesUpTo}};
 
 use crate::fault::RunFault;
 use amt_ports::{Sink, write_all_own};

@@ -2,9 +2,7 @@
 
 ghost use Rattle.std.specs.Prelude.{List, ◌≤◌, length, ◌∷◌, [], OnOk, IfOk, IfErr};
 ghost use Rattle.amt_values.specs.Conditions.{First};
-ghost use Rattle.script_lines.specs.Kind.{Kind, IsLawfulKind};
-ghost use Rattle.script_lines.specs.Lines.{fields};
-ghost use Rattle.script_lines.specs.Reading.{Hears, FailsAfter};
+ghost use Rattle.script_lines.specs.{Kind.{Kind, IsLawfulKind}, Lines.{fields}, Reading.{Hears, FailsAfter}};
 
 use crate::fault::LineError;
 use crate::reason::Reason;

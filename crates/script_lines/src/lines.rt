@@ -1,7 +1,6 @@
 //! The first line of a text. It knows no fields.
 
-ghost use Rattle.std.specs.Prelude.{◌≡◌, ◌<◌, ◌∷◌, length};
-ghost use Rattle.std.specs.Str.Lines.{lines, strip_carriage_return};
+ghost use Rattle.std.specs.{Prelude.{◌≡◌, ◌<◌, ◌∷◌, length}, Str.Lines.{lines, strip_carriage_return}};
 
 use amt_values::cut_at;
 

@@ -1,12 +1,7 @@
 //! Reads the lines of a script of any kind. What a line says is its kind's affair.
 
-ghost use Rattle.std.specs.Prelude.{◌≡◌, ◌↔◌, ◌≤◌, ◌<◌, ◌==◌, ℕ, List, [], ◌∷◌, ◌++◌, length, slice_index, true, false, IsTrue, IfSome, IfNone, IfOk, IfErr, OnOk};
-ghost use Rattle.std.specs.Int.{IsInRange};
-ghost use Rattle.std.specs.Str.Lines.{lines};
-ghost use Rattle.script_lines.specs.Kind.{IsLawfulKind};
-ghost use Rattle.script_lines.specs.Lines.{IsPlain, fields, says_nothing};
-ghost use Rattle.script_lines.specs.Reading.{HasBegun, FailsOnLine, FailsInLines};
-ghost use Rattle.script_lines.specs.Script.{Spells, IsErrorOf, RulesOutScripts, HasOneScript, HasOneFault};
+ghost use Rattle.std.specs.{Prelude.{◌≡◌, ◌↔◌, ◌≤◌, ◌<◌, ◌==◌, ℕ, List, [], ◌∷◌, ◌++◌, length, slice_index, true, false, IsTrue, IfSome, IfNone, IfOk, IfErr, OnOk}, Int.{IsInRange}, Str.Lines.{lines}};
+ghost use Rattle.script_lines.specs.{Kind.{IsLawfulKind}, Lines.{IsPlain, fields, says_nothing}, Reading.{HasBegun, FailsOnLine, FailsInLines}, Script.{Spells, IsErrorOf, RulesOutScripts, HasOneScript, HasOneFault}};
 
 use crate::fault::{LineError, ScriptError};
 use crate::fields::next_field;

@@ -1,11 +1,7 @@
 //! A run over the items of a script, and what is written of it. It knows no item, and sinks by their trait alone.
 
-ghost use Rattle.std.specs.Prelude.{◌≡◌, ℕ, List, [], ◌∷◌, ◌++◌, OnOk, OnErr};
-ghost use Rattle.std.specs.Io.KnownBytes.{Appends};
-ghost use Rattle.script_lines.specs.Counting.{CountsWrites};
-ghost use Rattle.script_lines.specs.Running.{After, MayRun, MayTake, script_text};
-ghost use Rattle.script_lines.specs.Texts.{closing_text};
-ghost use Rattle.script_lines.specs.Writing.{WritesPrefix, WritesUpTo};
+ghost use Rattle.std.specs.{Prelude.{◌≡◌, ℕ, List, [], ◌∷◌, ◌++◌, OnOk, OnErr}, Io.KnownBytes.{Appends}};
+ghost use Rattle.script_lines.specs.{Counting.{CountsWrites}, Running.{After, MayRun, MayTake, script_text}, Texts.{closing_text}, Writing.{WritesPrefix, WritesUpTo}};
 
 use crate::fault::RunFault;
 use crate::held::write_held;

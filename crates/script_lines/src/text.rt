@@ -3,8 +3,7 @@
 ghost use Rattle.std.specs.Prelude.{◌≡◌, ◌≤◌, ◌++◌, decimal, length, OnOk, OnErr};
 ghost use Rattle.hex.specs.Hex.{encode_lower};
 ghost use Rattle.amt_values.specs.Octets.{AreOctets};
-ghost use Rattle.script_lines.specs.declared.text.TheConstants.{PIECE};
-ghost use Rattle.script_lines.specs.Texts.{BeginsWith, hex_text, closing_text, nonce_text, send_line};
+ghost use Rattle.script_lines.specs.{declared.text.TheConstants.{PIECE}, Texts.{BeginsWith, hex_text, closing_text, nonce_text, send_line}};
 
 use crate::addresses::append_peer;
 use amt_values::{Bytes, Peer, append_numeral};

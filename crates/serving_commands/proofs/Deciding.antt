@@ -1,18 +1,9 @@
 -- What octets are taken for.
-use Rattle.std.proofs.Common.{◌≡◌, ◌⊎◌, ℕ, ◌<◌, ◌≤◌, List, length, Option, None, Some, Result, Ok, Err, IfOk, IfErr, IsErrOf, inl, inr, refl, sym, subst, ap, arith, ◌∙◌}
-use Rattle.amt_config.specs.declared.fault.ConfigFault.{ConfigFault}
-use Rattle.amt_config.specs.declared.fault.ConfigFault.TheVariants.{Memory as ConfigMemory, NotToml, Unknown, Missing, Kind, Address, Range}
-use Rattle.amt_ports.specs.Contents.{HasAtLeast, IsContent}
+use Rattle.std.proofs.Common.{◌≡◌, ◌⊎◌, ℕ, ◌<◌, ◌≤◌, List, length, Option, Some, Result, Ok, Err, IfOk, IfErr, IsErrOf, inl, inr, refl, sym, subst, ap, arith, ◌∙◌}
+use Rattle.amt_config.specs.declared.fault.ConfigFault.{ConfigFault, TheVariants.{Memory as ConfigMemory, NotToml, Unknown, Missing, Kind, Address, Range}}
+use Rattle.amt_ports.specs.Contents.{IsContent}
 use Rattle.amt_values.specs.declared.bytes.TheConstants.{INPUT_LIMIT}
-use Rattle.serving_commands.specs.Kinds.{SettingsKind}
-use Rattle.serving_commands.specs.Reading.{BlamesNoFile, Decides, IsConfigured, IsFaultIn, IsFaultOfReading, IsOverlong, IsUnread, TellsFault, fault_by}
-use Rattle.serving_commands.specs.declared.fault.ServingFault.{ServingFault}
-use Rattle.serving_commands.specs.declared.fault.ServingFault.TheVariants.{Memory, NotOpened, NotRead, Settings, TooLong}
-
--- more octets than the limit were seen
-pub overlong_by : (content : Option (List ℕ)) (seen : ℕ) → 16777216 < seen → HasAtLeast content seen → IsOverlong content
-overlong_by None seen past most = tt
-overlong_by (Some content) seen past most = omega (arith, past, most)
+use Rattle.serving_commands.specs.{Kinds.{SettingsKind}, Reading.{BlamesNoFile, Decides, IsConfigured, IsFaultIn, IsFaultOfReading, IsOverlong, IsUnread, TellsFault, fault_by}, declared.fault.ServingFault.{ServingFault, TheVariants.{Memory, NotOpened, NotRead, Settings, TooLong}}}
 
 -- no configuration, for this fault
 abbrev refusal : {S : Type 0} → ServingFault → Result S ServingFault

@@ -1,19 +1,9 @@
 -- A run on devices that were opened and given back, put together.
 use Rattle.std.proofs.Common.{◌≡◌, ℕ, List, Option, IsSome}
 use Rattle.amt_config.specs.declared.config.GatewayConfig.{GatewayConfig}
-use Rattle.serving_commands.specs.Sets.{TakesFirst, less_room, more_room}
-use Rattle.serving_commands.specs.declared.opening.devices.DeviceSet.TheVariants.{Gateway as GatewaySet}
-use Rattle.serving_commands.specs.declared.opening.devices.GatewayDevices.{GatewayDevices}
+use Rattle.serving_commands.{specs.{Sets.{TakesFirst, less_room, more_room}, declared.opening.devices.{DeviceSet.TheVariants.{Gateway as GatewaySet}, GatewayDevices.{GatewayDevices}}, GatewayLives.{set_seen}, GatewayOpenings.{opening_by}, GatewayRunning.{Runs, RunsBy}, Kinds.{gateway_file}, Lives.{Tells}, Reading.{IsConfigured}}, proofs.Lending.{lent}}
 use Rattle.amt_ports.specs.Told.{Appends}
-use Rattle.serving_commands.specs.GatewayLives.{set_seen}
-use Rattle.serving_commands.specs.GatewayOpenings.{opening_by}
-use Rattle.serving_commands.specs.GatewayRunning.{Runs, RunsBy}
-use Rattle.gateway_serving.specs.Serving.{Serves}
-use Rattle.gateway_serving.specs.declared.served.GatewayServed.{GatewayServed}
-use Rattle.serving_commands.specs.Kinds.{gateway_file}
-use Rattle.serving_commands.specs.Lives.{Tells}
-use Rattle.serving_commands.specs.Reading.{IsConfigured}
-use Rattle.serving_commands.proofs.Lending.{lent}
+use Rattle.gateway_serving.specs.{Serving.{Serves}, declared.served.GatewayServed.{GatewayServed}}
 
 module _ {V L F C W O P T : Type 0} (told : Tells V L F C W O P T) where
   pub ran : (config : GatewayConfig) (turns : ℕ) (before between after : V) (opened left : GatewayDevices L F O C W) (report : GatewayServed)

@@ -1,11 +1,7 @@
 -- Devices that were opened and given back, or refused, put together from what each call says.
 use Rattle.std.proofs.Common.{◌≡◌, ℕ, List, Option, None, Some, IsSome, sym, subst, ap, arith, ◌∙◌}
-use Rattle.serving_commands.specs.Sets.{HasRoom, TakesFirst, less_room, more_room}
-use Rattle.serving_commands.specs.declared.opening.asked.Opening.{Opening}
-use Rattle.serving_commands.specs.declared.opening.devices.DeviceSet.{DeviceSet}
-use Rattle.serving_commands.specs.declared.opening.live.Live.{Ghosts as LiveTells}
+use Rattle.serving_commands.specs.{Sets.{HasRoom, TakesFirst, less_room, more_room}, declared.opening.{asked.Opening.{Opening}, devices.DeviceSet.{DeviceSet}, live.Live.{Ghosts as LiveTells}}, Openings.{IsLent}}
 use Rattle.amt_ports.specs.Told.{Appends}
-use Rattle.serving_commands.specs.Openings.{IsLent}
 
 -- what was opened can be given back
 pub has_room : (before after : Option ℕ) → after ≡ more_room before → HasRoom after

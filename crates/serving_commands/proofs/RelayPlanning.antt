@@ -1,15 +1,10 @@
 -- The plan of a settings file and a command is lawful.
 use Rattle.std.proofs.Common.{◌≡◌, ℕ, ◌≤◌, List, codes, Option, None, Some, unwrap_or, inl, inr, subst, sym, arith}
 use Rattle.toml.specs.Data.{Members}
-use Rattle.relay_machine.specs.Settings.{AreLawfulSettings}
-use Rattle.relay_machine.specs.declared.number_key.NumberRange.{NumberRange}
+use Rattle.relay_machine.specs.{Settings.{AreLawfulSettings}, declared.number_key.NumberRange.{NumberRange}}
 use Rattle.relay_serving.specs.Plans.{IsLawfulPlan}
-use Rattle.amt_config.specs.Key.{HasWholeNumber}
-use Rattle.amt_config.specs.Relay.{rotate_range, settings_of, workers_range}
-use Rattle.amt_config.specs.declared.config.RelayConfig.{RelayConfig}
-use Rattle.serving_commands.specs.RelayPlans.{AreTurns, AreWorkers, plan_by}
-use Rattle.serving_commands.specs.Kinds.{relay_file}
-use Rattle.serving_commands.specs.Reading.{IsConfigured}
+use Rattle.amt_config.specs.{Key.{HasWholeNumber}, Relay.{rotate_range, settings_of, workers_range}, declared.config.RelayConfig.{RelayConfig}}
+use Rattle.serving_commands.specs.{RelayPlans.{AreTurns, AreWorkers, plan_by}, Kinds.{relay_file}, Reading.{IsConfigured}}
 
 -- a number of a file is in the range of its key, as its default is
 in_range : (word : List ℕ) (range : NumberRange) (table : Members) (number : ℕ) → HasWholeNumber word range table number

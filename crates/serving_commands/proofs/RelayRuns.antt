@@ -1,28 +1,12 @@
 -- A run on devices that were opened and given back, put together.
 use Rattle.std.proofs.Common.{◌≡◌, ℕ, List, length, Option, IsSome, subst, ◌∙◌}
-use Rattle.amt_config.specs.Relay.{settings_of}
-use Rattle.amt_config.specs.declared.config.RelayConfig.{RelayConfig}
-use Rattle.serving_commands.specs.Sets.{TakesFirst, less_room, more_room}
-use Rattle.serving_commands.specs.declared.opening.asked.Opening.{Opening}
-use Rattle.serving_commands.specs.declared.opening.asked.Opening.TheVariants.{Relay as AskedRelay}
-use Rattle.serving_commands.specs.declared.opening.devices.DeviceSet.TheVariants.{Relay as RelaySet}
-use Rattle.serving_commands.specs.declared.opening.devices.RelayDevices.{RelayDevices}
-use Rattle.serving_commands.specs.declared.opening.live.Live.{Ghosts as LiveTells}
+use Rattle.amt_config.specs.{Relay.{settings_of}, declared.config.RelayConfig.{RelayConfig}}
+use Rattle.serving_commands.specs.{Sets.{TakesFirst, less_room, more_room}, declared.opening.{asked.Opening.{Opening, TheVariants.{Relay as AskedRelay}}, devices.{DeviceSet.TheVariants.{Relay as RelaySet}, RelayDevices.{RelayDevices}}, live.Live.{Ghosts as LiveTells}}}
+use Rattle.serving_commands.{specs.{RelayLives.{links_out_seen, set_seen}, RelayOpenings.{IsRefusedBy, opening_by, slots_of}, RelayPlans.{plan_by}, RelayRunning.{Runs, RunsBy}, Kinds.{relay_file}, Lives.{Tells}, Openings.{IsRefused}, Reading.{IsConfigured}}, proofs.Lending.{lent}}
 use Rattle.amt_ports.specs.Told.{Appends}
 use Rattle.published_table.specs.declared.view.View.{View}
 use Rattle.relay_machine.specs.declared.settings.Settings.{Settings}
-use Rattle.relay_serving.specs.Serving.{Serves}
-use Rattle.relay_serving.specs.declared.plan.ServePlan.{ServePlan}
-use Rattle.relay_serving.specs.declared.plan.ServeReport.{ServeReport}
-use Rattle.serving_commands.specs.RelayLives.{links_out_seen, set_seen}
-use Rattle.serving_commands.specs.RelayOpenings.{IsRefusedBy, opening_by, slots_of}
-use Rattle.serving_commands.specs.RelayPlans.{plan_by}
-use Rattle.serving_commands.specs.RelayRunning.{Runs, RunsBy}
-use Rattle.serving_commands.specs.Kinds.{relay_file}
-use Rattle.serving_commands.specs.Lives.{Tells}
-use Rattle.serving_commands.specs.Openings.{IsRefused}
-use Rattle.serving_commands.specs.Reading.{IsConfigured}
-use Rattle.serving_commands.proofs.Lending.{lent}
+use Rattle.relay_serving.specs.{Serving.{Serves}, declared.plan.{ServePlan.{ServePlan}, ServeReport.{ServeReport}}}
 
 -- the opening that was asked for is the plan's
 asks : (before after : Option (List Opening)) (config : RelayConfig) (plan : ServePlan) (slots : ℕ) → slots ≡ slots_of plan

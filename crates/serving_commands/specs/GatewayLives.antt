@@ -1,7 +1,6 @@
 -- What is seen of a set of devices that a gateway runs on.
-use Rattle.serving_commands.specs.declared.opening.devices.GatewayDevices.{GatewayDevices}
+use Rattle.serving_commands.specs.{declared.opening.devices.GatewayDevices.{GatewayDevices}, Lives.{Tells}}
 use Rattle.gateway_serving.specs.Devices.{Devices, devices_seen}
-use Rattle.serving_commands.specs.Lives.{Tells}
 use Rattle.amt_ports.specs.Devices.{feed_seen, link_seen, out_seen, words_seen}
 
 module _ {V L F C W O P T : Type 0} where

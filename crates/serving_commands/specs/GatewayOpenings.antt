@@ -1,11 +1,7 @@
 -- How devices are opened for a run.
 use Rattle.std.specs.Prelude.{ℕ, List, Option}
 use Rattle.amt_config.specs.declared.config.GatewayConfig.{GatewayConfig}
-use Rattle.serving_commands.specs.declared.opening.asked.Opening.{Opening}
-use Rattle.serving_commands.specs.declared.opening.asked.Opening.TheVariants.{Gateway as AskedGateway}
-use Rattle.serving_commands.specs.declared.opening.live.Live.{Ghosts as LiveTells}
-use Rattle.serving_commands.specs.Kinds.{gateway_file}
-use Rattle.serving_commands.specs.Openings.{IsRefusedFor}
+use Rattle.serving_commands.specs.{declared.opening.{asked.Opening.{Opening, TheVariants.{Gateway as AskedGateway}}, live.Live.{Ghosts as LiveTells}}, Kinds.{gateway_file}, Openings.{IsRefusedFor}}
 
 -- what a run asks for: the link and the control feed are those of the settings
 abbrev pub opening_by : GatewayConfig → Opening

@@ -1,16 +1,8 @@
 -- A run of a gateway on devices that are opened for it.
 use Rattle.std.specs.Prelude.{ℕ, List, Option}
 use Rattle.amt_config.specs.declared.config.GatewayConfig.{GatewayConfig}
-use Rattle.serving_commands.specs.declared.opening.devices.DeviceSet.TheVariants.{Gateway as GatewaySet}
-use Rattle.serving_commands.specs.declared.opening.devices.GatewayDevices.{GatewayDevices}
-use Rattle.gateway_serving.specs.Serving.{Serves}
-use Rattle.gateway_serving.specs.declared.served.GatewayServed.{GatewayServed}
-use Rattle.serving_commands.specs.GatewayLives.{set_seen}
-use Rattle.serving_commands.specs.GatewayOpenings.{opening_by}
-use Rattle.serving_commands.specs.Kinds.{gateway_file}
-use Rattle.serving_commands.specs.Lives.{Tells}
-use Rattle.serving_commands.specs.Openings.{IsLent}
-use Rattle.serving_commands.specs.Reading.{IsConfigured}
+use Rattle.serving_commands.specs.{declared.opening.devices.{DeviceSet.TheVariants.{Gateway as GatewaySet}, GatewayDevices.{GatewayDevices}}, GatewayLives.{set_seen}, GatewayOpenings.{opening_by}, Kinds.{gateway_file}, Lives.{Tells}, Openings.{IsLent}, Reading.{IsConfigured}}
+use Rattle.gateway_serving.specs.{Serving.{Serves}, declared.served.GatewayServed.{GatewayServed}}
 
 module _ {V L F C W O P T : Type 0} (told : Tells V L F C W O P T) where
   -- The gateway of this configuration ran for so many turns at most on one set of devices, which was then given back.

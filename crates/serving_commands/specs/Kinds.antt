@@ -1,10 +1,6 @@
 -- The kinds of settings files.
 use Rattle.std.specs.Prelude.{ℕ, List}
-use Rattle.amt_config.specs.Gateway.{IsGatewayFault, IsGatewayFile}
-use Rattle.amt_config.specs.Relay.{IsRelayFault, IsRelayFile}
-use Rattle.amt_config.specs.declared.config.GatewayConfig.{GatewayConfig}
-use Rattle.amt_config.specs.declared.config.RelayConfig.{RelayConfig}
-use Rattle.amt_config.specs.declared.fault.ConfigFault.{ConfigFault}
+use Rattle.amt_config.specs.{Gateway.{IsGatewayFault, IsGatewayFile}, Relay.{IsRelayFault, IsRelayFile}, declared.{config.{GatewayConfig.{GatewayConfig}, RelayConfig.{RelayConfig}}, fault.ConfigFault.{ConfigFault}}}
 
 -- A kind of settings file.
 -- `IsFile config octets`: the octets are a file with this configuration.

@@ -1,11 +1,7 @@
 -- What a place tells where devices are opened, and what each of its devices does.
 use Rattle.std.specs.Prelude.{ℕ, Option}
 use Rattle.serving_commands.specs.declared.opening.live.Live.{Ghosts as LiveTells}
-use Rattle.amt_ports.specs.declared.clock.Clock.{Ghosts as ClockTells}
-use Rattle.amt_ports.specs.declared.feed.Feed.{Ghosts as FeedTells}
-use Rattle.amt_ports.specs.declared.link.Link.{Ghosts as LinkTells}
-use Rattle.amt_ports.specs.declared.out_link.OutLink.{Ghosts as OutTells}
-use Rattle.amt_ports.specs.declared.words.Words.{Ghosts as WordsTells}
+use Rattle.amt_ports.specs.declared.{clock.Clock.{Ghosts as ClockTells}, feed.Feed.{Ghosts as FeedTells}, link.Link.{Ghosts as LinkTells}, out_link.OutLink.{Ghosts as OutTells}, words.Words.{Ghosts as WordsTells}}
 
 -- What a place tells, and what each device of its sets does. Of what starts workers, giving a T for each, that is
 -- how many it started and how often it failed.

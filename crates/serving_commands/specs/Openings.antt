@@ -1,14 +1,7 @@
 -- How devices are opened for a run, and given back.
 use Rattle.std.specs.Prelude.{◌≡◌, ℕ, List, Option, IsSome}
-use Rattle.serving_commands.specs.Sets.{TakesFirst}
-use Rattle.serving_commands.specs.declared.opening.asked.Opening.{Opening}
-use Rattle.serving_commands.specs.declared.opening.devices.DeviceSet.{DeviceSet}
-use Rattle.serving_commands.specs.declared.opening.live.Live.{Ghosts as LiveTells}
+use Rattle.serving_commands.specs.{Sets.{TakesFirst}, declared.{opening.{asked.Opening.{Opening}, devices.DeviceSet.{DeviceSet}, live.Live.{Ghosts as LiveTells}}, fault.ServingFault.{ServingFault, TheVariants.{Memory, NotOpened, NotRead, Settings, TooLong}}}, Kinds.{SettingsKind}, Reading.{IsConfigured}}
 use Rattle.amt_ports.specs.Told.{Appends}
-use Rattle.serving_commands.specs.Kinds.{SettingsKind}
-use Rattle.serving_commands.specs.Reading.{IsConfigured}
-use Rattle.serving_commands.specs.declared.fault.ServingFault.{ServingFault}
-use Rattle.serving_commands.specs.declared.fault.ServingFault.TheVariants.{Memory, NotOpened, NotRead, Settings, TooLong}
 
 module _ {V L F C W O P T : Type 0} (live : LiveTells V L F C W O P T) where
   -- Devices were asked for once: this set, which was the first to come. It was given back as it is left.

@@ -1,12 +1,9 @@
 -- What a settings file is read as.
 use Rattle.std.specs.Prelude.{◌≡◌, ◌≢◌, ◌⊎◌, ℕ, ◌<◌, ◌≤◌, List, length, Option, None, Some, Result, Ok, Err}
-use Rattle.amt_config.specs.declared.fault.ConfigFault.{ConfigFault}
-use Rattle.amt_config.specs.declared.fault.ConfigFault.TheVariants.{Memory as ConfigMemory}
+use Rattle.amt_config.specs.declared.fault.ConfigFault.{ConfigFault, TheVariants.{Memory as ConfigMemory}}
 use Rattle.amt_ports.specs.Contents.{IsContent}
 use Rattle.amt_values.specs.declared.bytes.TheConstants.{INPUT_LIMIT}
-use Rattle.serving_commands.specs.Kinds.{SettingsKind}
-use Rattle.serving_commands.specs.declared.fault.ServingFault.{ServingFault}
-use Rattle.serving_commands.specs.declared.fault.ServingFault.TheVariants.{Memory, NotOpened, NotRead, Settings, TooLong}
+use Rattle.serving_commands.specs.{Kinds.{SettingsKind}, declared.fault.ServingFault.{ServingFault, TheVariants.{Memory, NotOpened, NotRead, Settings, TooLong}}}
 
 -- where the content is told, it has more octets than an input may have
 abbrev pub IsOverlong : Option (List ℕ) → Type 0

@@ -1,8 +1,7 @@
 -- What is seen of a set of devices that a relay runs on.
 use Rattle.std.specs.Prelude.{List}
-use Rattle.serving_commands.specs.declared.opening.devices.RelayDevices.{RelayDevices}
+use Rattle.serving_commands.specs.{declared.opening.devices.RelayDevices.{RelayDevices}, Lives.{Tells}}
 use Rattle.relay_serving.specs.Devices.{Devices, devices_seen, outs_seen}
-use Rattle.serving_commands.specs.Lives.{Tells}
 use Rattle.amt_ports.specs.Devices.{OutSeen, feed_seen, link_seen, words_seen}
 
 module _ {V L F C W O P T : Type 0} where

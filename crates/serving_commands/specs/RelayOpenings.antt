@@ -1,13 +1,8 @@
 -- How devices are opened for a run.
 use Rattle.std.specs.Prelude.{ℕ, List, Option, max}
 use Rattle.amt_config.specs.declared.config.RelayConfig.{RelayConfig}
-use Rattle.serving_commands.specs.declared.opening.asked.Opening.{Opening}
-use Rattle.serving_commands.specs.declared.opening.asked.Opening.TheVariants.{Relay as AskedRelay}
-use Rattle.serving_commands.specs.declared.opening.live.Live.{Ghosts as LiveTells}
+use Rattle.serving_commands.specs.{declared.opening.{asked.Opening.{Opening, TheVariants.{Relay as AskedRelay}}, live.Live.{Ghosts as LiveTells}}, RelayPlans.{plan_by}, Kinds.{relay_file}, Openings.{IsRefusedFor}}
 use Rattle.relay_serving.specs.declared.plan.ServePlan.{ServePlan}
-use Rattle.serving_commands.specs.RelayPlans.{plan_by}
-use Rattle.serving_commands.specs.Kinds.{relay_file}
-use Rattle.serving_commands.specs.Openings.{IsRefusedFor}
 
 -- a link out for each worker, and one where there is none
 abbrev pub slots_of : ServePlan → ℕ

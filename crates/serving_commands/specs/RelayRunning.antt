@@ -1,20 +1,9 @@
 -- A run of a relay on devices that are opened for it.
 use Rattle.std.specs.Prelude.{◌≡◌, ℕ, List, length, Option}
-use Rattle.amt_config.specs.Relay.{settings_of}
-use Rattle.amt_config.specs.declared.config.RelayConfig.{RelayConfig}
-use Rattle.serving_commands.specs.declared.opening.devices.DeviceSet.TheVariants.{Relay as RelaySet}
-use Rattle.serving_commands.specs.declared.opening.devices.RelayDevices.{RelayDevices}
+use Rattle.amt_config.specs.{Relay.{settings_of}, declared.config.RelayConfig.{RelayConfig}}
+use Rattle.serving_commands.specs.{declared.opening.devices.{DeviceSet.TheVariants.{Relay as RelaySet}, RelayDevices.{RelayDevices}}, RelayLives.{links_out_seen, set_seen}, RelayOpenings.{opening_by, slots_of}, RelayPlans.{plan_by}, Kinds.{relay_file}, Lives.{Tells}, Openings.{IsLent}, Reading.{IsConfigured}}
 use Rattle.published_table.specs.declared.view.View.{View}
-use Rattle.relay_serving.specs.Serving.{Serves}
-use Rattle.relay_serving.specs.declared.plan.ServePlan.{ServePlan}
-use Rattle.relay_serving.specs.declared.plan.ServeReport.{ServeReport}
-use Rattle.serving_commands.specs.RelayLives.{links_out_seen, set_seen}
-use Rattle.serving_commands.specs.RelayOpenings.{opening_by, slots_of}
-use Rattle.serving_commands.specs.RelayPlans.{plan_by}
-use Rattle.serving_commands.specs.Kinds.{relay_file}
-use Rattle.serving_commands.specs.Lives.{Tells}
-use Rattle.serving_commands.specs.Openings.{IsLent}
-use Rattle.serving_commands.specs.Reading.{IsConfigured}
+use Rattle.relay_serving.specs.{Serving.{Serves}, declared.plan.{ServePlan.{ServePlan}, ServeReport.{ServeReport}}}
 
 module _ {V L F C W O P T : Type 0} (told : Tells V L F C W O P T) where
   -- The relay of these settings ran by the plan on one set of devices, which was then given back.

@@ -1,7 +1,6 @@
 -- Sets of devices: those to come, and the room for those that come back.
 use Rattle.std.specs.Prelude.{◌≡◌, ◌<◌, ℕ, ◌+◌, ◌-◌, ◌==◌, Bool, true, false, List, [], ◌∷◌, length, Option, Some, None}
-use Rattle.serving_commands.specs.declared.opening.devices.DeviceSet.{DeviceSet}
-use Rattle.serving_commands.specs.declared.opening.devices.DeviceSet.TheVariants.{Relay, Gateway}
+use Rattle.serving_commands.specs.declared.opening.devices.DeviceSet.{DeviceSet, TheVariants.{Relay, Gateway}}
 
 -- where the sets to come are still told, this one was the first of them, and the others stay
 abbrev pub TakesFirst : {X : Type 0} → Option (List X) → Option (List X) → X → Type 0

@@ -2,8 +2,7 @@
 use Rattle.std.specs.Prelude.{ℕ, List, [], ◌∷◌, ◌++◌, codes, decimal}
 use Rattle.amt_config.specs.declared.fault.ConfigFault.{ConfigFault}
 use Rattle.amt_config.specs.declared.fault.ConfigFault.TheVariants as faults
-use Rattle.amt_ports.specs.declared.end.End.{End}
-use Rattle.amt_ports.specs.declared.end.End.TheVariants.{Turns, Closed}
+use Rattle.amt_ports.specs.declared.end.End.{End, TheVariants.{Turns, Closed}}
 
 -- all turns were done, or a device that is heard was closed
 abbrev pub IsDone : End → Type 0

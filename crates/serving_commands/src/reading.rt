@@ -1,8 +1,7 @@
 //! The settings of a file. It knows no device but that of files.
 ghost use Rattle.std.specs.Prelude.{◌≡◌, ◌⊎◌, ◌≤◌, ℕ, List, Err, IfErr, IfOk, IsErrOf, Ok, Some, length};
 ghost use Rattle.amt_config.specs.declared.fault.ConfigFault.{ConfigFault as Fault};
-ghost use Rattle.amt_ports.specs.Causes.{Rose};
-ghost use Rattle.amt_ports.specs.Contents.{IsContent};
+ghost use Rattle.amt_ports.specs.{Causes.{Rose}, Contents.{IsContent}};
 ghost use Rattle.amt_values.specs.declared.bytes.TheConstants.{INPUT_LIMIT};
 ghost use Rattle.serving_commands.specs.Reading.{Decides, IsConfigured, IsFaultIn, IsFaultOfReading, TellsFault, fault_by};
 

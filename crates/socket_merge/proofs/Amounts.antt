@@ -1,13 +1,8 @@
 -- What the sockets of a group come to: a sum over all sockets, and what a call makes of it.
-use Rattle.std.proofs.Common.{◌≡◌, ℕ, ◌+◌, ◌≤◌, Bool, true, false, not, cond, List, [], ◌∷◌, ◌++◌, length, map, filter, Option, Some, None, refl, sym, ap, ◌∙◌, arith}
-use Rattle.std.specs.List.{count_by, find, sum_by}
-use Rattle.std.proofs.lemmas.List.Filters.{sum_by-filter_both}
-use Rattle.std.proofs.lemmas.List.Sums.{sum_by-cons, sum_by_push}
-use Rattle.std.proofs.lemmas.Slice.Eq.{bytes_eq-Decides}
+use Rattle.std.{proofs.{Common.{◌≡◌, ℕ, ◌+◌, ◌≤◌, Bool, true, false, not, cond, List, [], ◌∷◌, ◌++◌, length, map, filter, Option, Some, None, refl, sym, ap, ◌∙◌, arith}, lemmas.{List.{Filters.{sum_by-filter_both}, Sums.{sum_by-cons, sum_by_push}}, Slice.Eq.{bytes_eq-Decides}}}, specs.List.{count_by, find, sum_by}}
 use Rattle.amt_values.specs.declared.address.Ip.{Ip}
 use Rattle.source_filter.specs.Filter.{FilterValue}
-use Rattle.socket_merge.specs.History.{Socket, refiltered, same_name, socket_named}
-use Rattle.socket_merge.specs.Interface.{on_group, same_group}
+use Rattle.socket_merge.specs.{History.{Socket, refiltered, same_name, socket_named}, Interface.{on_group, same_group}}
 
 sum_by-cond : {X : Type 0} (f : X → ℕ) (test : Bool) (x : X) (xs : List X) → sum_by f (cond test (x ∷ xs) xs) ≡ cond test (f x) 0 + sum_by f xs
 sum_by-cond f true x xs = sum_by-cons f x xs

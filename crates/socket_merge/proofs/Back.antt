@@ -1,22 +1,7 @@
 -- The tallies come to what the sockets and farewells do, so that contracts see all that is kept.
-use Rattle.std.proofs.Common.{◌≡◌, ℕ, ◌≤◌, Bool, true, false, not, ◌&&◌, ◌||◌, cond, ltb, is_some, List, [], ◌∷◌, ◌++◌, length, map, Option, Some, refl, sym, ap, ◌∙◌, arith}
-use Rattle.std.specs.List.{AllByRecursion, find, sum_by}
-use Rattle.std.specs.Map.{keys_of}
-use Rattle.std.specs.Option.{option_map}
-use Rattle.std.proofs.lemmas.Bool.{le-ltb, ltb-false}
-use Rattle.std.proofs.lemmas.List.Elements.{recursion_from_All}
-use Rattle.amt_values.specs.declared.address.Ip.{Ip}
-use Rattle.amt_values.specs.Order.{ip_order}
-use Rattle.amt_values.proofs.Orders.{ip_order-exact, ip_order-total}
-use Rattle.amt_values.specs.Ascending.{ascending, has}
-use Rattle.amt_values.proofs.AscendingLaws.{IsAscending-ascending, has-append, has-ascending, same_ascending}
-use Rattle.socket_merge.specs.History.{Socket}
-use Rattle.socket_merge.specs.Interface.{on_group, same_group}
-use Rattle.socket_merge.specs.Kept.{IsConsistent, IsSound, blank, farewells_in, is_blank, tallies_of, tally_at, tally_of}
-use Rattle.socket_merge.specs.Sockets.{Farewell, left_in}
-use Rattle.socket_merge.specs.declared.stored.Tally.{Tally}
-use Rattle.socket_merge.proofs.ByGroup.{AreAt, AreAt-ordered, left_in-farewells, tally_at-absent, tally_at-cons}
-use Rattle.socket_merge.proofs.Counted.{Counts-of, list_any-counted, wanting_few}
+use Rattle.std.{proofs.{Common.{◌≡◌, ℕ, ◌≤◌, Bool, true, false, not, ◌&&◌, ◌||◌, cond, ltb, is_some, List, [], ◌∷◌, ◌++◌, length, map, Option, Some, refl, sym, ap, ◌∙◌, arith}, lemmas.{Bool.{le-ltb, ltb-false}, List.Elements.{recursion_from_All}}}, specs.{List.{AllByRecursion, find, sum_by}, Map.{keys_of}, Option.{option_map}}}
+use Rattle.amt_values.{specs.{declared.address.Ip.{Ip}, Order.{ip_order}, Ascending.{ascending, has}}, proofs.{Orders.{ip_order-exact, ip_order-total}, AscendingLaws.{IsAscending-ascending, has-append, has-ascending, same_ascending}}}
+use Rattle.socket_merge.{specs.{History.{Socket}, Interface.{on_group, same_group}, Kept.{IsConsistent, IsSound, blank, farewells_in, is_blank, tallies_of, tally_at, tally_of}, Sockets.{Farewell, left_in}, declared.stored.Tally.{Tally}}, proofs.{ByGroup.{AreAt, AreAt-ordered, left_in-farewells, tally_at-absent, tally_at-cons}, Counted.{Counts-of, list_any-counted, wanting_few}}}
 
 some_first : (test listed : Bool) (tally rest : Tally) → is_blank tally ≡ false → (listed ≡ true → is_blank rest ≡ false) → (test || listed) ≡ true → is_blank (cond test tally rest) ≡ false
 some_first true listed tally rest here more is = here

@@ -1,24 +1,8 @@
 -- Sums and lists over groups that ascend, and over tallies that ascend by group.
-use Rattle.std.proofs.Common.{◌≡◌, ℕ, ◌+◌, ◌≤◌, Bool, true, false, not, ◌&&◌, ◌||◌, cond, List, [], ◌∷◌, ◌++◌, filter, Option, Some, None, refl, sym, ap, ◌∙◌, arith}
-use Rattle.std.specs.List.{AllByRecursion, cons_option, find, flat_map, list_any, sum_by}
-use Rattle.std.specs.Map.{keys_of}
-use Rattle.std.specs.Option.{option_map, unwrap_or}
-use Rattle.std.specs.Ordering.{is_eq, ordering_reverse}
-use Rattle.std.specs.declared.cmp.Ordering.{Ordering}
-use Rattle.std.specs.declared.cmp.Ordering.TheVariants.{Less, Equal, Greater}
-use Rattle.std.proofs.lemmas.List.Filters.{sum_by-filter_both}
-use Rattle.std.proofs.lemmas.List.Sums.{sum_by-cons, sum_by-le-sum_by}
-use Rattle.std.proofs.lemmas.Map.Keys.{sorted_head, sorted_tail}
-use Rattle.amt_values.specs.declared.address.Ip.{Ip}
-use Rattle.amt_values.specs.Order.{ip_order}
-use Rattle.amt_values.proofs.Orders.{ip_order-exact, ip_order-total}
-use Rattle.amt_values.specs.Ascending.{IsAscending, has}
-use Rattle.amt_values.proofs.AscendingLaws.{IsAscending-filter, has-filter, same_ascending}
-use Rattle.socket_merge.specs.Interface.{same_group}
-use Rattle.socket_merge.specs.Kept.{AreNeeded, blank, farewells_in, tally_at}
-use Rattle.socket_merge.specs.Sockets.{Farewell, left_in}
-use Rattle.socket_merge.specs.declared.stored.Tally.{Tally}
-use Rattle.socket_merge.proofs.Wanted.{same_group-exact, same_group-itself, some_item}
+use Rattle.std.proofs.{Common.{◌≡◌, ℕ, ◌+◌, ◌≤◌, Bool, true, false, not, ◌&&◌, ◌||◌, cond, List, [], ◌∷◌, ◌++◌, filter, Option, Some, None, refl, sym, ap, ◌∙◌, arith}, lemmas.List.{Filters.{sum_by-filter_both}, Sums.{sum_by-cons, sum_by-le-sum_by}}}
+use Rattle.std.{proofs.lemmas.Map.Keys.{sorted_head, sorted_tail}, specs.{List.{AllByRecursion, cons_option, find, flat_map, list_any, sum_by}, Map.{keys_of}, Option.{option_map, unwrap_or}, Ordering.{is_eq, ordering_reverse}, declared.cmp.Ordering.{Ordering, TheVariants.{Less, Equal, Greater}}}}
+use Rattle.amt_values.{specs.{declared.address.Ip.{Ip}, Order.{ip_order}, Ascending.{IsAscending, has}}, proofs.{Orders.{ip_order-exact, ip_order-total}, AscendingLaws.{IsAscending-filter, has-filter, same_ascending}}}
+use Rattle.socket_merge.{specs.{Interface.{same_group}, Kept.{AreNeeded, blank, farewells_in, tally_at}, Sockets.{Farewell, left_in}, declared.stored.Tally.{Tally}}, proofs.Wanted.{same_group-exact, same_group-itself, some_item}}
 
 -- both lists have each group that passes
 both_have : (one other passes : Bool) → (passes ≡ true → one ≡ true) → (passes ≡ true → other ≡ true) → (one && passes) ≡ (other && passes)

@@ -1,29 +1,15 @@
 -- What each call of the sockets leaves, by what its private calls answer.
-use Rattle.std.proofs.Common.{◌≡◌, ℕ, ◌+◌, ◌-◌, ◌≤◌, ltb, max, Bool, true, false, cond, is_some, List, [], ◌∷◌, ◌++◌, length, Option, Some, None, refl, sym, ap, subst, ◌∙◌, arith}
-use Rattle.std.specs.List.{All, cons_option}
-use Rattle.std.specs.Option.{option_map}
-use Rattle.std.proofs.lemmas.Bool.{leb-true, lt-ltb}
-use Rattle.std.proofs.lemmas.List.Elements.{All-cons, All-nil}
-use Rattle.amt_values.specs.Group.{is_forwardable}
-use Rattle.amt_values.specs.declared.address.Ip.{Ip}
-use Rattle.amt_values.specs.Conditions.{first_holding}
+use Rattle.std.{proofs.{Common.{◌≡◌, ℕ, ◌+◌, ◌-◌, ◌≤◌, ltb, max, Bool, true, false, cond, is_some, List, [], ◌∷◌, ◌++◌, length, Option, Some, None, refl, sym, ap, subst, ◌∙◌, arith}, lemmas.{Bool.{leb-true, lt-ltb}, List.Elements.{All-cons, All-nil}}}, specs.{List.{All, cons_option}, Option.{option_map}}}
+use Rattle.amt_values.specs.{Group.{is_forwardable}, declared.address.Ip.{Ip}, Conditions.{first_holding}}
 use Rattle.source_filter.specs.Filter.{FilterValue}
 use Rattle.socket_merge.specs.History.{AcceptedCall, Change, Close, LeaveAll, Open, Socket, latest, open_sockets, socket_named, sockets_after, with_call}
-use Rattle.socket_merge.specs.FullReport.{longest_farewell}
-use Rattle.socket_merge.specs.Interface.{left_at}
+use Rattle.socket_merge.specs.{FullReport.{longest_farewell}, Interface.{left_at}}
 use Rattle.socket_merge.specs.Kept.{AreNeeded, HasTallies, HasTally, IsConsistent, farewells_in, octets_besides, raw_octets, share_of, tally_at, tally_changed, tally_fresh, tally_left, tally_with, tally_without}
 use Rattle.socket_merge.specs.Refusal.{family_of, is_open, may_be_due, refusal_of}
-use Rattle.socket_merge.specs.Sockets.{AreOfGroup, Farewell, HasNoOldFarewell, IsKept, SocketsHold, SocketsValue}
-use Rattle.socket_merge.specs.declared.fault.SocketFault.{SocketFault}
-use Rattle.socket_merge.specs.declared.stored.Share.{Share}
-use Rattle.socket_merge.specs.declared.stored.Tally.{Tally}
-use Rattle.socket_merge.proofs.Amounts.{some_is}
-use Rattle.socket_merge.proofs.ByGroup.{AreAt, AreAt-ordered, left_in-farewells}
+use Rattle.socket_merge.specs.{Sockets.{AreOfGroup, Farewell, HasNoOldFarewell, IsKept, SocketsHold, SocketsValue}, declared.fault.SocketFault.{SocketFault}}
+use Rattle.socket_merge.{specs.declared.stored.{Share.{Share}, Tally.{Tally}}, proofs.{Amounts.{some_is}, ByGroup.{AreAt, AreAt-ordered, left_in-farewells}}}
 use Rattle.socket_merge.proofs.Consistent.{IsConsistent-closed, IsConsistent-fresh, IsConsistent-left, IsConsistent-replaced, IsFit-changed, IsFit-opened}
-use Rattle.socket_merge.proofs.Counted.{AreTallied, Counts-of, CountsOne-of, IsNamed, others_changed, others_opened, replaced}
-use Rattle.socket_merge.proofs.HoldsAfter.{Stands, Stands-changed, Stands-closed, Stands-fresh, Stands-left, Stands-opened, Stands-same}
-use Rattle.socket_merge.proofs.RawOctets.{octets_besides-le}
-use Rattle.socket_merge.proofs.Refused.{IsWithin-of, limits_of, refusal-changed, refusal-opened}
+use Rattle.socket_merge.proofs.{Counted.{AreTallied, Counts-of, CountsOne-of, IsNamed, others_changed, others_opened, replaced}, HoldsAfter.{Stands, Stands-changed, Stands-closed, Stands-fresh, Stands-left, Stands-opened, Stands-same}, RawOctets.{octets_besides-le}, Refused.{IsWithin-of, limits_of, refusal-changed, refusal-opened}}
 
 -- what contracts see of sockets that are kept so
 abbrev pub value_of : ℕ → List Socket → List (Ip × Tally) → SocketsValue

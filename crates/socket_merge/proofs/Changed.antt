@@ -1,38 +1,10 @@
 -- The change records from some sockets to others: those of calls, and whose they are.
-use Rattle.std.proofs.Common.{◌≡◌, ℕ, ◌≤◌, ◌<◌, Bool, true, false, not, cond, List, [], ◌∷◌, ◌++◌, filter, length, map, refl, sym, ap, subst, ◌∙◌, arith}
-use Rattle.std.specs.List.{All, flat_map}
-use Rattle.std.proofs.lemmas.Bool.{ltb-false}
-use Rattle.std.proofs.lemmas.List.Elements.{All-append, All-cons, All-filter, All-head, All-map, All-nil, All-tail}
-use Rattle.std.proofs.lemmas.List.Sums.{sum_by-append, sum_by-cons}
-use Rattle.amt_values.specs.declared.address.Ip.{Ip}
-use Rattle.amt_values.specs.Group.{is_forwardable}
-use Rattle.amt_values.specs.Order.{ip_order}
-use Rattle.amt_values.proofs.Orders.{ip_order-total}
-use Rattle.amt_values.specs.Ascending.{ascending, difference, has}
-use Rattle.amt_values.proofs.AscendingLaws.{IsAscending-ascending, has-append, has-ascending}
-use Rattle.source_filter.specs.Changes.{changes_by, changes_on, record_of_some}
-use Rattle.source_filter.specs.Filter.{FilterValue}
-use Rattle.source_filter.specs.Merging.{merged}
-use Rattle.source_filter.specs.declared.mode.Mode.{Mode}
-use Rattle.source_filter.specs.declared.mode.Mode.TheVariants.{Include, Exclude}
-use Rattle.source_filter.specs.declared.record.Record.{Record}
-use Rattle.source_filter.specs.declared.record.RecordKind.{RecordKind}
-use Rattle.source_filter.specs.declared.record.RecordKind.TheVariants.{ToIn, ToEx, Allow, Block}
-use Rattle.group_records.specs.Written.{IsOfFamily, is_of_family}
-use Rattle.group_records.specs.declared.family.Family.{Family}
-use Rattle.socket_merge.specs.Changes.{change_records, changed_on, changes_between}
-use Rattle.socket_merge.specs.History.{AcceptedCall, Socket, SocketCall, group_opened, groups_opened, moment_read, open_sockets, with_call}
-use Rattle.socket_merge.specs.Interface.{filters_on, on_group, same_group}
-use Rattle.socket_merge.specs.Kept.{IsConsistent, tally_at}
-use Rattle.socket_merge.specs.Sockets.{SocketsHold, SocketsValue}
-use Rattle.socket_merge.specs.declared.stored.Tally.{Tally}
-use Rattle.socket_merge.proofs.Amounts.{part}
-use Rattle.socket_merge.proofs.ByGroup.{flat_map-same}
-use Rattle.socket_merge.proofs.Consistent.{not_blank}
-use Rattle.socket_merge.proofs.Counted.{Counts-of, amount, list_any-counted, number-is, one, own_part}
-use Rattle.socket_merge.proofs.RawOctets.{either_false, unopened}
-use Rattle.socket_merge.proofs.Reports.{filters_of_family, flat_map-filter}
-use Rattle.socket_merge.proofs.Wanted.{All-ascending, All-merged}
+use Rattle.std.{proofs.{Common.{◌≡◌, ℕ, ◌≤◌, ◌<◌, Bool, true, false, not, cond, List, [], ◌∷◌, ◌++◌, filter, length, map, refl, sym, ap, subst, ◌∙◌, arith}, lemmas.{Bool.{ltb-false}, List.{Elements.{All-append, All-cons, All-filter, All-head, All-map, All-nil, All-tail}, Sums.{sum_by-append, sum_by-cons}}}}, specs.List.{All, flat_map}}
+use Rattle.amt_values.{specs.{declared.address.Ip.{Ip}, Group.{is_forwardable}, Order.{ip_order}, Ascending.{ascending, difference, has}}, proofs.{Orders.{ip_order-total}, AscendingLaws.{IsAscending-ascending, has-append, has-ascending}}}
+use Rattle.source_filter.specs.{Changes.{changes_by, changes_on, record_of_some}, Filter.{FilterValue}, Merging.{merged}, declared.mode.Mode.{Mode, TheVariants.{Include, Exclude}}, declared.record.{Record.{Record}, RecordKind.{RecordKind, TheVariants.{ToIn, ToEx, Allow, Block}}}}
+use Rattle.group_records.specs.{Written.{IsOfFamily, is_of_family}, declared.family.Family.{Family}}
+use Rattle.socket_merge.specs.{Changes.{change_records, changed_on, changes_between}, History.{AcceptedCall, Socket, SocketCall, group_opened, groups_opened, moment_read, open_sockets, with_call}, Interface.{filters_on, on_group, same_group}, Kept.{IsConsistent, tally_at}, Sockets.{SocketsHold, SocketsValue}}
+use Rattle.socket_merge.{specs.declared.stored.Tally.{Tally}, proofs.{Amounts.{part}, ByGroup.{flat_map-same}, Consistent.{not_blank}, Counted.{Counts-of, amount, list_any-counted, number-is, one, own_part}, RawOctets.{either_false, unopened}, Reports.{filters_of_family, flat_map-filter}, Wanted.{All-ascending, All-merged}}}
 
 -- ---- which groups give no record
 

@@ -1,25 +1,15 @@
 -- Tallies stay those of the sockets, and the raw report within the limits, through each call.
 use Rattle.std.proofs.Common.{◌≡◌, ℕ, zero, suc, ◌+◌, ◌-◌, ◌^◌, ◌≤◌, ◌<◌, Bool, true, false, not, ◌&&◌, cond, ltb, is_some, List, [], ◌∷◌, ◌++◌, filter, length, map, Option, Some, None, refl, sym, ap, subst, ◌∙◌, arith}
-use Rattle.std.specs.List.{All, count_by}
-use Rattle.std.proofs.lemmas.Bool.{lt-ltb}
-use Rattle.std.proofs.lemmas.List.Elements.{All-cons, All-filter, All-head, All-nil, All-push, All-same, All-tail}
-use Rattle.std.proofs.lemmas.List.Sums.{sum_by-cons, sum_by-le-sum_by}
-use Rattle.amt_values.specs.declared.address.Ip.{Ip}
-use Rattle.amt_values.specs.Group.{is_forwardable}
+use Rattle.std.{proofs.lemmas.{Bool.{lt-ltb}, List.{Elements.{All-cons, All-filter, All-head, All-nil, All-push, All-same, All-tail}, Sums.{sum_by-cons, sum_by-le-sum_by}}}, specs.List.{All, count_by}}
+use Rattle.amt_values.specs.{declared.address.Ip.{Ip}, Group.{is_forwardable}}
 use Rattle.source_filter.specs.Filter.{FilterValue}
-use Rattle.group_records.specs.Written.{is_of_family}
-use Rattle.group_records.specs.declared.family.Family.{Family}
-use Rattle.socket_merge.specs.History.{Change, Close, Socket, refiltered, socket_named, sockets_after}
-use Rattle.socket_merge.specs.Interface.{same_group}
+use Rattle.group_records.specs.{Written.{is_of_family}, declared.family.Family.{Family}}
+use Rattle.socket_merge.specs.{History.{Change, Close, Socket, refiltered, socket_named, sockets_after}, Interface.{same_group}}
 use Rattle.socket_merge.specs.Kept.{AreNeeded, HasRoom, HasTallies, HasTally, IsConsistent, is_blank, left_without, octets_besides, octets_in, octets_of, raw_octets, share_of, tally_at, tally_changed, tally_fresh, tally_left, tally_with, tally_without}
-use Rattle.socket_merge.specs.Refusal.{family_of, may_be_due}
-use Rattle.socket_merge.specs.Sockets.{AreOfGroup}
-use Rattle.socket_merge.specs.declared.stored.Share.{Share}
-use Rattle.socket_merge.specs.declared.stored.Tally.{Tally}
+use Rattle.socket_merge.specs.{Refusal.{family_of, may_be_due}, Sockets.{AreOfGroup}, declared.stored.{Share.{Share}, Tally.{Tally}}}
 use Rattle.socket_merge.proofs.Amounts.{AreApart, AreApart-changed, AreApart-closed, AreApart-opened, has_name, length-as_sum, none_refiltered, part, with_filter}
 use Rattle.socket_merge.proofs.Counted.{AreOthersSame, AreTallied, AreTallied-fresh, AreTallied-left, AreTallied-replaced, AreTallied-same, Counts, Counts-changed, Counts-closed, Counts-of, Counts-opened, CountsOne-of, IsNamed, one, others_closed, replaced, wanting_few}
-use Rattle.socket_merge.proofs.RawOctets.{IsLess, IsLess-fresh, IsLess-later, IsLess-left, IsLess-without, family_is, octets-after, octets-fall, octets_besides-le, octets_in-other, octets_in-own}
-use Rattle.socket_merge.proofs.Wanted.{same_group-exact}
+use Rattle.socket_merge.proofs.{RawOctets.{IsLess, IsLess-fresh, IsLess-later, IsLess-left, IsLess-without, family_is, octets-after, octets-fall, octets_besides-le, octets_in-other, octets_in-own}, Wanted.{same_group-exact}}
 
 -- each socket's sources are of its group's family
 abbrev pub IsOfOwnFamily : Socket → Type 0

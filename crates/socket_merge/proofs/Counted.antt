@@ -1,18 +1,9 @@
 -- Tallies that count the sockets of groups, and what each call makes of them.
-use Rattle.std.proofs.Common.{◌≡◌, ℕ, ◌+◌, ◌≤◌, ◌<◌, Bool, true, false, ◌||◌, cond, ltb, List, [], ◌∷◌, ◌++◌, length, map, Option, Some, refl, sym, ap, subst, ◌∙◌, arith}
-use Rattle.std.specs.List.{count_by, list_any, sum_by}
-use Rattle.std.proofs.lemmas.Bool.{lt-ltb}
-use Rattle.std.proofs.lemmas.Cmp.{eq_by_cmp_equiv}
-use Rattle.std.proofs.lemmas.List.Sums.{sum_by-cons, sum_by-le-sum_by, sum_by_push}
-use Rattle.amt_values.specs.declared.address.Ip.{Ip}
-use Rattle.amt_values.proofs.Orders.{ip_order-total}
+use Rattle.std.{proofs.{Common.{◌≡◌, ℕ, ◌+◌, ◌≤◌, ◌<◌, Bool, true, false, ◌||◌, cond, ltb, List, [], ◌∷◌, ◌++◌, length, map, Option, Some, refl, sym, ap, subst, ◌∙◌, arith}, lemmas.{Bool.{lt-ltb}, Cmp.{eq_by_cmp_equiv}, List.Sums.{sum_by-cons, sum_by-le-sum_by, sum_by_push}}}, specs.List.{count_by, list_any, sum_by}}
+use Rattle.amt_values.{specs.declared.address.Ip.{Ip}, proofs.Orders.{ip_order-total}}
 use Rattle.source_filter.specs.Filter.{FilterValue, wants_any}
-use Rattle.socket_merge.specs.History.{AcceptedCall, Change, Close, Socket, open_sockets, socket_named, sockets_after}
-use Rattle.socket_merge.specs.Interface.{filters_on, is_wanted, on_group, same_group}
-use Rattle.socket_merge.specs.Kept.{share_of, tally_changed, tally_fresh, tally_left, tally_of, tally_with, tally_without}
-use Rattle.socket_merge.specs.declared.stored.Tally.{Tally}
-use Rattle.socket_merge.proofs.Amounts.{AreApart, length-as_sum, part, sum_by-changed, sum_by-closed, sum_by-on_group, with_filter}
-use Rattle.socket_merge.proofs.Wanted.{same_group-exact, same_group-itself, wants_any-merged}
+use Rattle.socket_merge.specs.{History.{AcceptedCall, Change, Close, Socket, open_sockets, socket_named, sockets_after}, Interface.{filters_on, is_wanted, on_group, same_group}}
+use Rattle.socket_merge.{specs.{Kept.{share_of, tally_changed, tally_fresh, tally_left, tally_of, tally_with, tally_without}, declared.stored.Tally.{Tally}}, proofs.{Amounts.{AreApart, length-as_sum, part, sum_by-changed, sum_by-closed, sum_by-on_group, with_filter}, Wanted.{same_group-exact, same_group-itself, wants_any-merged}}}
 
 pub same_group-turned : (one other : Ip) → same_group one other ≡ same_group other one
 same_group-turned one other = (eq_by_cmp_equiv ip_order-total).symm one other

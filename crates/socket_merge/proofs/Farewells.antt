@@ -1,13 +1,7 @@
 -- What is kept of when a group was left, and what a call makes of it.
-use Rattle.std.proofs.Common.{◌≡◌, ℕ, ◌+◌, ◌≤◌, ◌<◌, min, Bool, true, false, cond, leb, List, [], ◌∷◌, Option, Some, None, refl, sym, ap, ◌∙◌, arith}
-use Rattle.std.proofs.lemmas.Bool.{le-ltb, lt-leb, leb-false, leb-true}
+use Rattle.std.proofs.{Common.{◌≡◌, ℕ, ◌+◌, ◌≤◌, ◌<◌, min, Bool, true, false, cond, leb, List, [], ◌∷◌, Option, Some, None, refl, sym, ap, ◌∙◌, arith}, lemmas.Bool.{le-ltb, lt-leb, leb-false, leb-true}}
 use Rattle.amt_values.specs.declared.address.Ip.{Ip}
-use Rattle.socket_merge.specs.History.{AcceptedCall, latest}
-use Rattle.socket_merge.specs.Interface.{is_wanted, left_at}
-use Rattle.socket_merge.specs.FullReport.{is_recent, longest_farewell}
-use Rattle.socket_merge.specs.Refusal.{may_be_due}
-use Rattle.socket_merge.specs.Sockets.{IsKept}
-use Rattle.socket_merge.proofs.Amounts.{some_is}
+use Rattle.socket_merge.{specs.{History.{AcceptedCall, latest}, Interface.{is_wanted, left_at}, FullReport.{is_recent, longest_farewell}, Refusal.{may_be_due}, Sockets.{IsKept}}, proofs.Amounts.{some_is}}
 
 -- what is kept of a farewell, by when the group was left and the moment of the newest call
 pub record KeptBy (left : Option ℕ) (at : ℕ) (kept : Option ℕ) : Type 0 where

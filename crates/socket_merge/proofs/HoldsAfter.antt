@@ -1,16 +1,9 @@
 -- Tallies of all groups that stand for a history, and what each call makes of them.
-use Rattle.std.proofs.Common.{◌≡◌, ℕ, ◌+◌, ◌-◌, ◌≤◌, ◌<◌, max, Bool, true, false, not, ◌&&◌, cond, ltb, List, ◌∷◌, Option, Some, None, refl, sym, subst, ◌∙◌, arith}
-use Rattle.std.proofs.lemmas.Bool.{lt-ltb, ltb-true, ltb-false}
+use Rattle.std.proofs.{Common.{◌≡◌, ℕ, ◌+◌, ◌-◌, ◌≤◌, ◌<◌, max, Bool, true, false, not, ◌&&◌, cond, ltb, List, ◌∷◌, Option, Some, None, refl, sym, subst, ◌∙◌, arith}, lemmas.Bool.{lt-ltb, ltb-true, ltb-false}}
 use Rattle.amt_values.specs.declared.address.Ip.{Ip}
 use Rattle.source_filter.specs.Filter.{FilterValue, wants_any}
-use Rattle.socket_merge.specs.History.{AcceptedCall, Change, Close, LeaveAll, Open, Socket, SocketCall, latest, open_sockets, with_call}
-use Rattle.socket_merge.specs.Interface.{is_wanted, same_group}
-use Rattle.socket_merge.specs.Kept.{left_without, one_where, share_of, tally_changed, tally_fresh, tally_left, tally_with, tally_without}
-use Rattle.socket_merge.specs.Sockets.{IsKept}
-use Rattle.socket_merge.specs.declared.stored.Tally.{Tally}
-use Rattle.socket_merge.proofs.Counted.{AreOthersSame, AreTallied, AreTallied-fresh, AreTallied-same, Counts, Counts-changed, Counts-closed, Counts-left, Counts-of, Counts-opened, IsNamed, amount, is_wanted-counted, others_changed, others_closed, others_opened, replaced, same_counts, tally_of-counts}
-use Rattle.socket_merge.proofs.Farewells.{Follows, IsKept-after, IsKept-fresh, none_kept}
-use Rattle.socket_merge.proofs.Wanted.{same_group-exact}
+use Rattle.socket_merge.specs.{History.{AcceptedCall, Change, Close, LeaveAll, Open, Socket, SocketCall, latest, open_sockets, with_call}, Interface.{is_wanted, same_group}, Kept.{left_without, one_where, share_of, tally_changed, tally_fresh, tally_left, tally_with, tally_without}, Sockets.{IsKept}, declared.stored.Tally.{Tally}}
+use Rattle.socket_merge.proofs.{Counted.{AreOthersSame, AreTallied, AreTallied-fresh, AreTallied-same, Counts, Counts-changed, Counts-closed, Counts-left, Counts-of, Counts-opened, IsNamed, amount, is_wanted-counted, others_changed, others_closed, others_opened, replaced, same_counts, tally_of-counts}, Farewells.{Follows, IsKept-after, IsKept-fresh, none_kept}, Wanted.{same_group-exact}}
 
 -- the tallies of all groups stand for a history
 pub record Stands (history : List AcceptedCall) (tally : Ip → Tally) : Type 0 where

@@ -1,17 +1,9 @@
 -- Calls other than opening drop no farewell.
-use Rattle.std.proofs.Common.{◌≡◌, ℕ, max, List, ◌∷◌, Some, sym, ap, subst, ◌∙◌}
-use Rattle.std.specs.Option.{option_map}
+use Rattle.std.{proofs.Common.{◌≡◌, ℕ, max, List, ◌∷◌, Some, sym, ap, subst, ◌∙◌}, specs.Option.{option_map}}
 use Rattle.amt_values.specs.declared.address.Ip.{Ip}
 use Rattle.source_filter.specs.Filter.{FilterValue}
-use Rattle.socket_merge.specs.History.{AcceptedCall, Change, Close, LeaveAll, Socket, latest, socket_named, with_call}
-use Rattle.socket_merge.specs.Kept.{AreNeeded, HasTallies, HasTally, IsConsistent, share_of, tally_at, tally_changed, tally_left, tally_without}
-use Rattle.socket_merge.specs.Sockets.{KeepsFarewells, SocketsHold}
-use Rattle.socket_merge.specs.declared.stored.Share.{Share}
-use Rattle.socket_merge.specs.declared.stored.Tally.{Tally}
-use Rattle.socket_merge.proofs.ByGroup.{left_in-farewells}
-use Rattle.socket_merge.proofs.Calls.{IsChanged, IsClosed, IsFound-of, IsLeft, IsNamed-of, Stands-of, changed_tally, closed_tally, told_of, value_of}
-use Rattle.socket_merge.proofs.Counted.{replaced}
-use Rattle.socket_merge.proofs.HoldsAfter.{AreNext, AreNext-changed, AreNext-closed, AreNext-left, Stands, farewell_stays}
+use Rattle.socket_merge.specs.{History.{AcceptedCall, Change, Close, LeaveAll, Socket, latest, socket_named, with_call}, Kept.{AreNeeded, HasTallies, HasTally, IsConsistent, share_of, tally_at, tally_changed, tally_left, tally_without}, Sockets.{KeepsFarewells, SocketsHold}, declared.stored.{Share.{Share}, Tally.{Tally}}}
+use Rattle.socket_merge.proofs.{ByGroup.{left_in-farewells}, Calls.{IsChanged, IsClosed, IsFound-of, IsLeft, IsNamed-of, Stands-of, changed_tally, closed_tally, told_of, value_of}, Counted.{replaced}, HoldsAfter.{AreNext, AreNext-changed, AreNext-closed, AreNext-left, Stands, farewell_stays}}
 
 keeps : (moment later : ℕ) (sockets left : List Socket) (before after : List (Ip × Tally)) (newest : AcceptedCall) (history : List AcceptedCall) (now : Ip → Tally) → AreNeeded before → AreNeeded after
     → Stands history (tally_at before) → AreNext newest history (tally_at before) now → ((group : Ip) → tally_at after group ≡ now group)

@@ -1,17 +1,9 @@
 -- The counts that are limited, by the tallies, and what closing makes of them.
-use Rattle.std.proofs.Common.{◌≡◌, ℕ, ◌≤◌, max, List, Some, ap, ◌∙◌, arith}
-use Rattle.std.specs.Option.{option_map}
+use Rattle.std.{proofs.Common.{◌≡◌, ℕ, ◌≤◌, max, List, Some, ap, ◌∙◌, arith}, specs.Option.{option_map}}
 use Rattle.amt_values.specs.declared.address.Ip.{Ip}
 use Rattle.group_records.specs.declared.family.Family.{Family}
-use Rattle.socket_merge.specs.History.{AcceptedCall, Close, LeaveAll, Socket, socket_named, with_call}
-use Rattle.socket_merge.specs.Kept.{IsConsistent, octets_of, tally_at}
-use Rattle.socket_merge.specs.Refusal.{FillsNoMore, IsWithinLimits, raw_report_length}
-use Rattle.socket_merge.specs.Sockets.{SocketsHold}
-use Rattle.socket_merge.specs.declared.stored.Share.{Share}
-use Rattle.socket_merge.specs.declared.stored.Tally.{Tally}
-use Rattle.socket_merge.proofs.Calls.{IsClosed, IsFound-of, IsLeft, Stands-of, closed_tally, consistent_closed, consistent_left, holds_closed, holds_left, told_of, value_of}
-use Rattle.socket_merge.proofs.Consistent.{less_closed, less_left}
-use Rattle.socket_merge.proofs.RawOctets.{IsLess, octets-fall, octets-raw, sources-are}
+use Rattle.socket_merge.specs.{History.{AcceptedCall, Close, LeaveAll, Socket, socket_named, with_call}, Kept.{IsConsistent, octets_of, tally_at}, Refusal.{FillsNoMore, IsWithinLimits, raw_report_length}, Sockets.{SocketsHold}, declared.stored.{Share.{Share}, Tally.{Tally}}}
+use Rattle.socket_merge.proofs.{Calls.{IsClosed, IsFound-of, IsLeft, Stands-of, closed_tally, consistent_closed, consistent_left, holds_closed, holds_left, told_of, value_of}, Consistent.{less_closed, less_left}, RawOctets.{IsLess, octets-fall, octets-raw, sources-are}}
 
 -- tallies that are consistent and stand for the history
 pub record StandsFor (moment : ℕ) (sockets : List Socket) (tallies : List (Ip × Tally)) (history : List AcceptedCall) : Type 0 where

@@ -1,18 +1,9 @@
 -- Named sockets by the entries of their map.
-use Rattle.std.proofs.Common.{◌≡◌, ℕ, Bool, true, false, cond, not, ◌&&◌, ◌||◌, List, [], ◌∷◌, ◌++◌, map, filter, nat_eq, None, Some, if◌then◌else◌, refl, sym, ap, ◌∙◌}
-use Rattle.std.specs.Cmp.{IsEquivalence, nat_eq_equiv}
-use Rattle.std.specs.Cmp.Lexicographic.{pointwise, lists_equiv}
-use Rattle.std.specs.Global.{Vec}
-use Rattle.std.specs.List.{find, list_any, IsDistinct, AllByRecursion}
-use Rattle.std.specs.Map.{lookup, keys_of, values_of, remove_entry, set_value}
-use Rattle.std.specs.Option.{option_map}
-use Rattle.std.proofs.lemmas.Map.Keys.{IsDistinct-head, IsDistinct-tail}
+use Rattle.std.proofs.{Common.{◌≡◌, ℕ, Bool, true, false, cond, not, ◌&&◌, ◌||◌, List, [], ◌∷◌, ◌++◌, map, filter, nat_eq, None, Some, if◌then◌else◌, refl, sym, ap, ◌∙◌}, lemmas.Map.Keys.{IsDistinct-head, IsDistinct-tail}}
+use Rattle.std.specs.{Cmp.{IsEquivalence, nat_eq_equiv, Lexicographic.{pointwise, lists_equiv}}, Global.{Vec}, List.{find, list_any, IsDistinct, AllByRecursion}, Map.{lookup, keys_of, values_of, remove_entry, set_value}, Option.{option_map}}
 use Rattle.amt_values.specs.declared.address.Ip.{Ip}
 use Rattle.source_filter.specs.Filter.{FilterValue, admits}
-use Rattle.socket_merge.specs.History.{Socket, refiltered, same_name}
-use Rattle.socket_merge.specs.Interface.{filters_on, same_group, some_admits}
-use Rattle.socket_merge.specs.Kept.{socket_of}
-use Rattle.socket_merge.specs.declared.stored.StoredSocket.{StoredSocket}
+use Rattle.socket_merge.specs.{History.{Socket, refiltered, same_name}, Interface.{filters_on, same_group, some_admits}, Kept.{socket_of}, declared.stored.StoredSocket.{StoredSocket}}
 
 -- the test of a key's octets
 abbrev pub key_test : (List ℕ → Bool) → Vec ℕ → Bool
@@ -49,17 +40,6 @@ module _ (test : List ℕ → Bool) where
   pub absent-lookup : (es : List (Vec ℕ × StoredSocket)) → find (name_test test) (map socket_of es) ≡ None → lookup (key_test test) es ≡ None
   absent-lookup [] none = refl
   absent-lookup (e ∷ es) none = absent_by (test e.0.items) e es (absent-lookup es) none
-
-  absent_back_by : (b : Bool) (e : Vec ℕ × StoredSocket) (es : List (Vec ℕ × StoredSocket))
-      → (lookup (key_test test) es ≡ None → find (name_test test) (map socket_of es) ≡ None)
-      → cond b (Some e.1) (lookup (key_test test) es) ≡ None → cond b (Some (socket_of e)) (find (name_test test) (map socket_of es)) ≡ None
-  absent_back_by true e es rest none = cc
-  absent_back_by false e es rest none = rest none
-
-  -- what is no key is a name of no socket
-  pub lookup-absent : (es : List (Vec ℕ × StoredSocket)) → lookup (key_test test) es ≡ None → find (name_test test) (map socket_of es) ≡ None
-  lookup-absent [] none = refl
-  lookup-absent (e ∷ es) none = absent_back_by (test e.0.items) e es (lookup-absent es) none
 
   -- without the sockets of the name
   abbrev pub others : List Socket → List Socket

@@ -1,38 +1,12 @@
 -- The octets of the raw report by the tallies, and what calls make of them.
 use Rattle.std.proofs.Common.{◌≡◌, ℕ, zero, suc, ◌+◌, ◌*◌, ◌≤◌, ◌<◌, Bool, true, false, not, ◌&&◌, ◌||◌, cond, ltb, List, [], ◌∷◌, ◌++◌, filter, length, map, Option, Some, None, refl, sym, ap, subst, ◌∙◌, arith}
-use Rattle.std.specs.List.{sum_by}
-use Rattle.std.specs.Map.{keys_of}
-use Rattle.std.proofs.lemmas.Bool.{le-leb, leb-true, lt-ltb}
-use Rattle.std.proofs.lemmas.List.Concat.{length-flat_map}
-use Rattle.std.proofs.lemmas.List.Filters.{sum_by-filter_both}
-use Rattle.std.proofs.lemmas.List.Folds.{fold-map}
-use Rattle.std.proofs.lemmas.List.Sums.{sum_by-cons, sum_by-le-sum_by, sum_by_push}
-use Rattle.amt_values.specs.declared.address.Ip.{Ip}
-use Rattle.amt_values.specs.declared.address.Ip.TheVariants.{V4 as Address4, V6 as Address6}
-use Rattle.amt_values.specs.Order.{ip_order}
-use Rattle.amt_values.proofs.Orders.{ip_order-total}
-use Rattle.amt_values.specs.Ascending.{IsAscending, ascending, has}
-use Rattle.amt_values.proofs.AscendingLaws.{IsAscending-ascending, has-append, has-ascending}
-use Rattle.source_filter.specs.Filter.{FilterValue}
-use Rattle.source_filter.specs.declared.record.Record.{Record}
-use Rattle.group_records.specs.Family.{width}
-use Rattle.group_records.specs.Reading.{head_length}
-use Rattle.group_records.specs.Written.{is_of_family}
-use Rattle.group_records.specs.declared.family.Family.{Family}
-use Rattle.group_records.specs.declared.family.Family.TheVariants.{V4, V6}
-use Rattle.socket_merge.specs.FullReport.{is_empty, longest_farewell}
-use Rattle.socket_merge.specs.History.{AcceptedCall, Change, Close, LeaveAll, Open, Socket, SocketCall, group_opened, groups_opened, latest, open_sockets, refiltered, sockets_after}
-use Rattle.socket_merge.specs.Interface.{is_wanted, left_at, on_group, same_group}
-use Rattle.socket_merge.specs.Kept.{AreNeeded, HasTally, has_place_by, left_without, octets_besides, octets_in, octets_of, raw_octets, tally_at, tally_fresh, tally_left, tally_of, tally_without}
-use Rattle.socket_merge.specs.Refusal.{family_of, has_place, may_be_due, raw_record, raw_report_length, raw_sources}
-use Rattle.socket_merge.specs.declared.stored.Share.{Share}
-use Rattle.socket_merge.specs.declared.stored.Tally.{Tally}
-use Rattle.socket_merge.proofs.Amounts.{has_name, part, sum_by-filter, with_filter}
-use Rattle.socket_merge.proofs.ByGroup.{besides, sum_by-keys, sum_by-split, sum_by-within, tally_at-absent}
-use Rattle.socket_merge.proofs.Counted.{Counts-of, amount, is_wanted-counted, one, replaced, wanting, wanting-le}
-use Rattle.socket_merge.proofs.Farewells.{KeptBy, KeptBy-of, may_be_due-kept, nothing_kept}
-use Rattle.socket_merge.proofs.HoldsAfter.{Stands}
-use Rattle.socket_merge.proofs.Wanted.{same_group-itself}
+use Rattle.std.{specs.{List.{sum_by}, Map.{keys_of}}, proofs.lemmas.{Bool.{le-leb, leb-true, lt-ltb}, List.{Concat.{length-flat_map}, Filters.{sum_by-filter_both}, Folds.{fold-map}, Sums.{sum_by-cons, sum_by-le-sum_by, sum_by_push}}}}
+use Rattle.amt_values.{specs.{declared.address.Ip.{Ip, TheVariants.{V4 as Address4, V6 as Address6}}, Order.{ip_order}, Ascending.{IsAscending, ascending, has}}, proofs.{Orders.{ip_order-total}, AscendingLaws.{IsAscending-ascending, has-append, has-ascending}}}
+use Rattle.source_filter.specs.{Filter.{FilterValue}, declared.record.Record.{Record}}
+use Rattle.group_records.specs.{Family.{width}, Reading.{head_length}, Written.{is_of_family}, declared.family.Family.{Family, TheVariants.{V4, V6}}}
+use Rattle.socket_merge.specs.{FullReport.{is_empty, longest_farewell}, History.{AcceptedCall, Change, Close, LeaveAll, Open, Socket, SocketCall, group_opened, groups_opened, latest, open_sockets, refiltered, sockets_after}, Interface.{is_wanted, left_at, on_group, same_group}}
+use Rattle.socket_merge.specs.{Kept.{AreNeeded, HasTally, has_place_by, left_without, octets_besides, octets_in, octets_of, raw_octets, tally_at, tally_fresh, tally_left, tally_of, tally_without}, Refusal.{family_of, has_place, may_be_due, raw_record, raw_report_length, raw_sources}, declared.stored.{Share.{Share}, Tally.{Tally}}}
+use Rattle.socket_merge.proofs.{Amounts.{has_name, part, sum_by-filter, with_filter}, ByGroup.{besides, sum_by-keys, sum_by-split, sum_by-within, tally_at-absent}, Counted.{Counts-of, amount, is_wanted-counted, one, replaced, wanting, wanting-le}, Farewells.{KeptBy, KeptBy-of, may_be_due-kept, nothing_kept}, HoldsAfter.{Stands}, Wanted.{same_group-itself}}
 
 pub either_false : (first second : Bool) → (first || second) ≡ false → (first ≡ false) × (second ≡ false)
 either_false true second is = absurd cc

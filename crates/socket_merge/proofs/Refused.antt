@@ -1,23 +1,9 @@
 -- Why calls are refused, by the tallies.
-use Rattle.std.proofs.Common.{◌≡◌, ℕ, ◌+◌, ◌-◌, ◌≤◌, ◌<◌, max, Bool, true, false, ◌||◌, cond, List, length, Option, Some, None, Ok, Err, refl, sym, ap, subst, ◌∙◌, arith}
-use Rattle.std.proofs.lemmas.Bool.{ltb-false}
-use Rattle.amt_values.specs.declared.address.Ip.{Ip}
-use Rattle.amt_values.specs.Order.{ip_order}
-use Rattle.amt_values.specs.Ascending.{has}
-use Rattle.amt_values.specs.Conditions.{Conditions, first_holding}
-use Rattle.amt_values.proofs.ConditionLaws.{NoneHolds-of}
+use Rattle.std.proofs.{Common.{◌≡◌, ℕ, ◌+◌, ◌-◌, ◌≤◌, ◌<◌, max, Bool, true, false, ◌||◌, cond, List, length, Option, Some, None, Ok, Err, refl, sym, ap, subst, ◌∙◌, arith}, lemmas.Bool.{ltb-false}}
+use Rattle.amt_values.{specs.{declared.address.Ip.{Ip}, Order.{ip_order}, Ascending.{has}, Conditions.{Conditions, first_holding}}, proofs.ConditionLaws.{NoneHolds-of}}
 use Rattle.source_filter.specs.Filter.{FilterValue}
-use Rattle.socket_merge.specs.History.{AcceptedCall, Change, Open, Socket, groups_opened, latest, open_sockets, socket_named, with_call}
-use Rattle.socket_merge.specs.Kept.{AreNeeded, octets_besides, raw_octets, share_of, tally_at, tally_changed, tally_of, tally_with}
-use Rattle.socket_merge.specs.Refusal.{change_conditions, family_of, is_open, limit_conditions, limits_after, raw_report_length, raw_sources, refusal_of}
-use Rattle.socket_merge.specs.Sockets.{AnswersRefusal}
-use Rattle.socket_merge.specs.declared.fault.SocketFault.{SocketFault}
-use Rattle.socket_merge.specs.declared.fault.SocketFault.TheVariants.{Memory, NoSocket, Taken}
-use Rattle.socket_merge.specs.declared.stored.Tally.{Tally}
-use Rattle.socket_merge.proofs.Counted.{Counts-of, CountsOne-of, IsNamed, replaced}
-use Rattle.socket_merge.proofs.HoldsAfter.{Stands, Stands-changed, Stands-opened}
-use Rattle.socket_merge.proofs.RawOctets.{listed_by, octets_in-own, of_own_family, own_after, raw-replaced, sources-are, unopened}
-use Rattle.socket_merge.proofs.Wanted.{same_group-itself}
+use Rattle.socket_merge.specs.{History.{AcceptedCall, Change, Open, Socket, groups_opened, latest, open_sockets, socket_named, with_call}, Kept.{AreNeeded, octets_besides, raw_octets, share_of, tally_at, tally_changed, tally_of, tally_with}, Refusal.{change_conditions, family_of, is_open, limit_conditions, limits_after, raw_report_length, raw_sources, refusal_of}, Sockets.{AnswersRefusal}}
+use Rattle.socket_merge.{specs.declared.{fault.SocketFault.{SocketFault, TheVariants.{Memory, NoSocket, Taken}}, stored.Tally.{Tally}}, proofs.{Counted.{Counts-of, CountsOne-of, IsNamed, replaced}, HoldsAfter.{Stands, Stands-changed, Stands-opened}, RawOctets.{listed_by, octets_in-own, of_own_family, own_after, raw-replaced, sources-are, unopened}, Wanted.{same_group-itself}}}
 
 -- the limits of a group with so many sources
 abbrev pub limits_of : ℕ → Ip → List (Ip × Tally) → ℕ → Conditions SocketFault

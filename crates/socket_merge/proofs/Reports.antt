@@ -1,38 +1,12 @@
 -- What a full report says by the tallies, and how long it is.
 use Rattle.std.proofs.Common.{◌≡◌, ℕ, ◌+◌, ◌*◌, ◌≤◌, min, Bool, true, false, not, ◌&&◌, ◌||◌, cond, ltb, is_some, List, [], ◌∷◌, ◌++◌, filter, length, map, Option, Some, None, refl, sym, ap, subst, ◌∙◌, arith}
-use Rattle.std.specs.List.{All, flat_map, list_any, sum_by}
-use Rattle.std.specs.Map.{keys_of}
-use Rattle.std.proofs.lemmas.Bool.{lt-ltb, ltb-true, le-leb}
-use Rattle.std.proofs.lemmas.List.Elements.{All-append, All-cons, All-head, All-nil, All-tail}
-use Rattle.std.proofs.lemmas.List.Folds.{fold-map}
-use Rattle.std.proofs.lemmas.List.Sums.{sum_by-append, sum_by-cons, sum_by-le-sum_by}
-use Rattle.amt_values.specs.declared.address.Ip.{Ip}
-use Rattle.amt_values.specs.Group.{is_forwardable}
-use Rattle.amt_values.specs.Order.{ip_order}
-use Rattle.amt_values.proofs.Orders.{ip_order-total}
-use Rattle.amt_values.specs.Ascending.{ascending, has}
-use Rattle.amt_values.proofs.AscendingLaws.{IsAscending-ascending, has-ascending}
-use Rattle.source_filter.specs.Filter.{FilterValue}
-use Rattle.source_filter.specs.Merging.{merged}
-use Rattle.source_filter.specs.declared.record.Record.{Record}
-use Rattle.group_records.specs.Family.{width}
-use Rattle.group_records.specs.Reading.{head_length}
-use Rattle.group_records.specs.Written.{IsOfFamily, is_of_family, report_length}
-use Rattle.group_records.specs.declared.family.Family.{Family}
-use Rattle.group_records.specs.declared.family.Family.TheVariants.{V4, V6}
-use Rattle.socket_merge.specs.FullReport.{farewell, full_on, full_report_of, is_empty, is_quiet, is_recent, longest_farewell, states}
-use Rattle.socket_merge.specs.History.{AcceptedCall, Socket, groups_opened, latest, open_sockets}
-use Rattle.socket_merge.specs.Interface.{filters_on, interface, is_wanted, left_at, on_group, same_group}
-use Rattle.socket_merge.specs.Kept.{AreNeeded, IsConsistent, has_place_by, octets_in, octets_of, raw_octets, said_of, some_recent, tally_at}
-use Rattle.socket_merge.specs.Refusal.{family_of, may_be_due}
-use Rattle.socket_merge.specs.declared.stored.Tally.{Tally}
-use Rattle.socket_merge.proofs.ByGroup.{flat_map-keys, flat_map-same, list_any-keys, sum_by-keys, tally_at-absent}
-use Rattle.socket_merge.proofs.Consistent.{IsOfOwnFamily}
-use Rattle.socket_merge.proofs.Counted.{Counts-of, is_wanted-counted, wanting_few}
-use Rattle.socket_merge.proofs.Farewells.{KeptBy-of, is_recent-kept}
-use Rattle.socket_merge.proofs.HoldsAfter.{Stands}
-use Rattle.socket_merge.proofs.RawOctets.{HasNone-absent, HasNone-unopened, family_is, never_left}
-use Rattle.socket_merge.proofs.Wanted.{All-merged, length-merged, same_group-exact, source_number}
+use Rattle.std.{specs.{List.{All, flat_map, list_any, sum_by}, Map.{keys_of}}, proofs.lemmas.{Bool.{lt-ltb, ltb-true, le-leb}, List.{Elements.{All-append, All-cons, All-head, All-nil, All-tail}, Folds.{fold-map}, Sums.{sum_by-append, sum_by-cons, sum_by-le-sum_by}}}}
+use Rattle.amt_values.{specs.{declared.address.Ip.{Ip}, Group.{is_forwardable}, Order.{ip_order}, Ascending.{ascending, has}}, proofs.{Orders.{ip_order-total}, AscendingLaws.{IsAscending-ascending, has-ascending}}}
+use Rattle.source_filter.specs.{Filter.{FilterValue}, Merging.{merged}, declared.record.Record.{Record}}
+use Rattle.group_records.specs.{Family.{width}, Reading.{head_length}, Written.{IsOfFamily, is_of_family, report_length}, declared.family.Family.{Family, TheVariants.{V4, V6}}}
+use Rattle.socket_merge.specs.{FullReport.{farewell, full_on, full_report_of, is_empty, is_quiet, is_recent, longest_farewell, states}, History.{AcceptedCall, Socket, groups_opened, latest, open_sockets}, Interface.{filters_on, interface, is_wanted, left_at, on_group, same_group}}
+use Rattle.socket_merge.{specs.{Kept.{AreNeeded, IsConsistent, has_place_by, octets_in, octets_of, raw_octets, said_of, some_recent, tally_at}, Refusal.{family_of, may_be_due}, declared.stored.Tally.{Tally}}, proofs.ByGroup.{flat_map-keys, flat_map-same, list_any-keys, sum_by-keys, tally_at-absent}}
+use Rattle.socket_merge.proofs.{Consistent.{IsOfOwnFamily}, Counted.{Counts-of, is_wanted-counted, wanting_few}, Farewells.{KeptBy-of, is_recent-kept}, HoldsAfter.{Stands}, RawOctets.{HasNone-absent, HasNone-unopened, family_is, never_left}, Wanted.{All-merged, length-merged, same_group-exact, source_number}}
 
 or_there : (first second : Bool) → second ≡ true → (first || second) ≡ true
 or_there true second some = refl

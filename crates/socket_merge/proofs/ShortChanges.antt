@@ -1,40 +1,11 @@
 -- The change records of one call make a report of at most 1,400 octets.
-use Rattle.std.proofs.Common.{◌≡◌, ℕ, ◌+◌, ◌≤◌, Bool, true, false, not, ◌&&◌, ◌||◌, cond, ltb, List, [], ◌∷◌, ◌++◌, filter, length, map, Option, None, refl, sym, ap, subst, ◌∙◌, arith, append-nil}
-use Rattle.std.specs.List.{All, count_by, sum_by}
-use Rattle.std.specs.Map.{keys_of}
-use Rattle.std.proofs.lemmas.Bool.{ltb-false, ltb-true}
-use Rattle.std.proofs.lemmas.List.Elements.{All-cons, All-head, All-nil, All-tail, filter-append}
-use Rattle.std.proofs.lemmas.List.Sums.{sum_by-append, sum_by-cons}
-use Rattle.amt_values.specs.declared.address.Ip.{Ip}
-use Rattle.amt_values.specs.declared.address.Ip.TheVariants.{V4 as Address4}
-use Rattle.amt_values.specs.Order.{ip_order}
-use Rattle.amt_values.proofs.Orders.{ip_order-exact, ip_order-total}
-use Rattle.amt_values.specs.Ascending.{IsAscending, ascending, difference, has}
-use Rattle.amt_values.proofs.AscendingLaws.{IsAscending-ascending, has-ascending, has-difference}
-use Rattle.source_filter.specs.Changes.{changes_by, changes_on, record_of_some}
-use Rattle.source_filter.specs.Filter.{FilterValue}
-use Rattle.source_filter.specs.Merging.{merged}
-use Rattle.source_filter.specs.declared.mode.Mode.{Mode}
-use Rattle.source_filter.specs.declared.mode.Mode.TheVariants.{Include, Exclude}
-use Rattle.source_filter.specs.declared.record.Record.{Record}
-use Rattle.source_filter.specs.declared.record.RecordKind.{RecordKind}
-use Rattle.source_filter.specs.declared.record.RecordKind.TheVariants.{ToIn, ToEx, Allow, Block}
-use Rattle.group_records.specs.Written.{is_of_family, report_length}
-use Rattle.group_records.specs.declared.family.Family.{Family}
-use Rattle.group_records.specs.declared.family.Family.TheVariants.{V4, V6}
-use Rattle.socket_merge.specs.Changes.{IsOneCallAfter, changed_on, changes_between}
-use Rattle.socket_merge.specs.History.{Change, Close, LeaveAll, Open, Socket, SocketCall, refiltered, sockets_after}
-use Rattle.socket_merge.specs.Interface.{filters_on, on_group, same_group}
-use Rattle.socket_merge.specs.Kept.{IsConsistent, octets_in, raw_octets, tally_at, tally_of}
-use Rattle.socket_merge.specs.Refusal.{may_be_due}
-use Rattle.socket_merge.specs.declared.stored.Tally.{Tally}
-use Rattle.socket_merge.proofs.Amounts.{AreApart, has_name, with_filter}
-use Rattle.socket_merge.proofs.ByGroup.{sum_by-keys, sum_by-within}
-use Rattle.socket_merge.proofs.Changed.{group_of, none_listed, unchanged}
-use Rattle.socket_merge.proofs.Counted.{Counts-of, amount, listing, number-is, one, sources-is}
-use Rattle.socket_merge.proofs.RawOctets.{IsLess, either_false, either_weaker, none_absent, octets_in-le, octets_in-none, octets_in-own, raw_octets-le}
-use Rattle.socket_merge.proofs.Reports.{flat_map-filter, octets_of_record, sum_by-flat_map, sum_by-mapped}
-use Rattle.socket_merge.proofs.Wanted.{length-filter_le, length-merged, same_group-itself, source_number}
+use Rattle.std.{proofs.{Common.{◌≡◌, ℕ, ◌+◌, ◌≤◌, Bool, true, false, not, ◌&&◌, ◌||◌, cond, ltb, List, [], ◌∷◌, ◌++◌, filter, length, map, Option, None, refl, sym, ap, subst, ◌∙◌, arith, append-nil}, lemmas.{Bool.{ltb-false, ltb-true}, List.{Elements.{All-cons, All-head, All-nil, All-tail, filter-append}, Sums.{sum_by-append, sum_by-cons}}}}, specs.{List.{All, count_by, sum_by}, Map.{keys_of}}}
+use Rattle.amt_values.{specs.{declared.address.Ip.{Ip, TheVariants.{V4 as Address4}}, Order.{ip_order}, Ascending.{IsAscending, ascending, difference, has}}, proofs.{Orders.{ip_order-exact, ip_order-total}, AscendingLaws.{IsAscending-ascending, has-ascending, has-difference}}}
+use Rattle.source_filter.specs.{Changes.{changes_by, changes_on, record_of_some}, Filter.{FilterValue}, Merging.{merged}, declared.mode.Mode.{Mode, TheVariants.{Include, Exclude}}, declared.record.{Record.{Record}, RecordKind.{RecordKind, TheVariants.{ToIn, ToEx, Allow, Block}}}}
+use Rattle.group_records.specs.{Written.{is_of_family, report_length}, declared.family.Family.{Family, TheVariants.{V4, V6}}}
+use Rattle.socket_merge.specs.{Changes.{IsOneCallAfter, changed_on, changes_between}, History.{Change, Close, LeaveAll, Open, Socket, SocketCall, refiltered, sockets_after}, Interface.{filters_on, on_group, same_group}, Kept.{IsConsistent, octets_in, raw_octets, tally_at, tally_of}}
+use Rattle.socket_merge.{specs.{Refusal.{may_be_due}, declared.stored.Tally.{Tally}}, proofs.{Amounts.{AreApart, has_name, with_filter}, ByGroup.{sum_by-keys, sum_by-within}, Changed.{group_of, none_listed, unchanged}, Counted.{Counts-of, amount, listing, number-is, one, sources-is}}}
+use Rattle.socket_merge.proofs.{RawOctets.{IsLess, either_false, either_weaker, none_absent, octets_in-le, octets_in-none, octets_in-own, raw_octets-le}, Reports.{flat_map-filter, octets_of_record, sum_by-flat_map, sum_by-mapped}, Wanted.{length-filter_le, length-merged, same_group-itself, source_number}}
 
 -- ---- how long the records of one group are
 

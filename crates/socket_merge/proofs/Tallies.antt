@@ -1,28 +1,9 @@
 -- The tally of a group after the map of tallies changes.
-use Rattle.std.proofs.Common.{◌≡◌, ℕ, Bool, true, false, cond, not, ◌&&◌, ◌||◌, ◌+◌, List, [], ◌∷◌, ◌++◌, map, filter, nat_lt, is_some, Option, None, Some, if◌then◌else◌, refl, sym, ap, subst, ◌∙◌, arith}
-use Rattle.std.specs.BTreeMap.{BTreeMap, IsOrdered, get, get_by, insert_entry, is_at}
-use Rattle.std.specs.Cmp.{eq_by_cmp_equiv}
-use Rattle.std.specs.List.{All, AllByRecursion, find, list_any, IsDistinct}
-use Rattle.std.specs.Map.{lookup, keys_of, values_of, remove_entry, set_value}
-use Rattle.std.specs.Map.Calls.{RetainsPairs}
-use Rattle.std.specs.Option.{option_map, unwrap_or}
-use Rattle.std.specs.List.Sorted.{IsStrictlySortedBy}
-use Rattle.std.specs.Ordering.{eq_by_cmp, match_ordering, ordering_reverse}
-use Rattle.std.specs.declared.cmp.Ordering.{Ordering}
-use Rattle.std.specs.declared.cmp.Ordering.TheVariants.{Less, Equal, Greater}
-use Rattle.std.proofs.lemmas.Bool.Decides.{nat_tests}
-use Rattle.std.proofs.lemmas.List.Elements.{All-from_recursion, recursion_from_All, All-map, All-weaker, filter_passes}
-use Rattle.std.proofs.lemmas.Map.Entries.{lookup-filter-values, option_filter}
-use Rattle.std.proofs.lemmas.Map.Keys.{IsDistinct-from_sorted, sorted_head, sorted_tail}
-use Rattle.std.proofs.lemmas.Map.Made.{lookup-map_values, keys_of-map_values}
-use Rattle.std.proofs.lemmas.Map.Views.{All-values-insert_entry, All-map-remove_entry, All-values-set_value}
-use Rattle.amt_values.proofs.Orders.{ip_order-total}
-use Rattle.amt_values.specs.Order.{ip_order}
-use Rattle.amt_values.specs.declared.address.Ip.{Ip}
-use Rattle.socket_merge.specs.Interface.{same_group}
-use Rattle.socket_merge.specs.Kept.{AreNeeded, HasTallies, HasTally, blank, is_blank, tally_at, tally_with}
-use Rattle.socket_merge.specs.declared.stored.Share.{Share}
-use Rattle.socket_merge.specs.declared.stored.Tally.{Tally}
+use Rattle.std.proofs.{Common.{◌≡◌, ℕ, Bool, true, false, cond, not, ◌&&◌, ◌||◌, ◌+◌, List, [], ◌∷◌, ◌++◌, map, filter, nat_lt, is_some, Option, None, Some, if◌then◌else◌, refl, sym, ap, subst, ◌∙◌, arith}, lemmas.{Bool.Decides.{nat_tests}, List.Elements.{All-from_recursion, recursion_from_All, All-map, All-weaker, filter_passes}}}
+use Rattle.std.{proofs.lemmas.Map.{Entries.{lookup-filter-values, option_filter}, Keys.{IsDistinct-from_sorted, sorted_head, sorted_tail}, Made.{lookup-map_values, keys_of-map_values}, Views.{All-values-insert_entry, All-map-remove_entry, All-values-set_value}}, specs.BTreeMap.{BTreeMap, IsOrdered, get, get_by, insert_entry, is_at}}
+use Rattle.std.specs.{Cmp.{eq_by_cmp_equiv}, List.{All, AllByRecursion, find, list_any, IsDistinct, Sorted.{IsStrictlySortedBy}}, Map.{lookup, keys_of, values_of, remove_entry, set_value, Calls.{RetainsPairs}}, Option.{option_map, unwrap_or}, Ordering.{eq_by_cmp, match_ordering, ordering_reverse}, declared.cmp.Ordering.{Ordering, TheVariants.{Less, Equal, Greater}}}
+use Rattle.amt_values.{proofs.Orders.{ip_order-total}, specs.{Order.{ip_order}, declared.address.Ip.{Ip}}}
+use Rattle.socket_merge.specs.{Interface.{same_group}, Kept.{AreNeeded, HasTallies, HasTally, blank, is_blank, tally_at, tally_with}, declared.stored.{Share.{Share}, Tally.{Tally}}}
 
 -- an entry is kept where its tally isn't blank
 abbrev pub is_kept : Tally → Bool

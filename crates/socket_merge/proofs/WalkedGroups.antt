@@ -1,27 +1,11 @@
 -- A walk over the tallies, group by group: what it counts, and what it says.
-use Rattle.std.proofs.Common.{◌≡◌, ℕ, ◌+◌, ◌≤◌, Bool, true, false, not, List, [], ◌∷◌, ◌++◌, if◌then◌else◌, nat_lt, refl, sym, ap, ◌∙◌, arith}
-use Rattle.std.specs.Cmp.{eq_by_cmp_equiv}
-use Rattle.std.specs.List.{flat_map, sum_by}
-use Rattle.std.proofs.lemmas.List.{append-nil}
-use Rattle.std.proofs.lemmas.List.Concat.{flat_map-append}
-use Rattle.std.proofs.lemmas.List.Sums.{sum_by-append, sum_by-cons, sum_by_push}
-use Rattle.amt_values.proofs.Orders.{ip_order-total}
+use Rattle.std.{proofs.{Common.{◌≡◌, ℕ, ◌+◌, ◌≤◌, Bool, true, false, not, List, [], ◌∷◌, ◌++◌, if◌then◌else◌, nat_lt, refl, sym, ap, ◌∙◌, arith}, lemmas.List.{append-nil, Concat.{flat_map-append}, Sums.{sum_by-append, sum_by-cons, sum_by_push}}}, specs.{Cmp.{eq_by_cmp_equiv}, List.{flat_map, sum_by}}}
+use Rattle.amt_values.{proofs.Orders.{ip_order-total}, specs.declared.address.Ip.{Ip, TheVariants.{V4 as Address4, V6 as Address6}}}
 use Rattle.amt_values.specs.contracts.address.IpPartialEq as ips
-use Rattle.amt_values.specs.declared.address.Ip.{Ip}
-use Rattle.amt_values.specs.declared.address.Ip.TheVariants.{V4 as Address4, V6 as Address6}
-use Rattle.group_records.specs.Written.{is_of_family}
+use Rattle.group_records.specs.{Written.{is_of_family}, declared.family.Family.{Family, TheVariants.{V4, V6}}}
 use Rattle.group_records.specs.contracts.family.FamilyPartialEq as families
-use Rattle.group_records.specs.declared.family.Family.{Family}
-use Rattle.group_records.specs.declared.family.Family.TheVariants.{V4, V6}
-use Rattle.source_filter.specs.Merging.{merged}
-use Rattle.source_filter.specs.declared.record.Record.{Record}
-use Rattle.source_filter.proofs.Compared.{tied}
-use Rattle.socket_merge.specs.FullReport.{farewell, is_recent, states}
-use Rattle.socket_merge.specs.History.{Socket}
-use Rattle.socket_merge.specs.Interface.{filters_on, same_group}
-use Rattle.socket_merge.specs.Kept.{octets_besides, octets_in, said_of}
-use Rattle.socket_merge.specs.Refusal.{family_of}
-use Rattle.socket_merge.specs.declared.stored.Tally.{Tally}
+use Rattle.source_filter.{specs.{Merging.{merged}, declared.record.Record.{Record}}, proofs.Compared.{tied}}
+use Rattle.socket_merge.specs.{FullReport.{farewell, is_recent, states}, History.{Socket}, Interface.{filters_on, same_group}, Kept.{octets_besides, octets_in, said_of}, Refusal.{family_of}, declared.stored.Tally.{Tally}}
 
 differ_by : (b differ : Bool) → differ ≡ not b → differ ≡ true → b ≡ false
 differ_by true differ is found = cc

@@ -1,25 +1,8 @@
 -- What the filters of a group want merged, by what each of them wants.
-use Rattle.std.proofs.Common.{◌≡◌, ℕ, ◌+◌, ◌≤◌, Bool, true, false, not, ◌||◌, List, [], ◌∷◌, ◌++◌, length, filter, refl, ap, ◌∙◌, arith}
-use Rattle.std.specs.List.{All, list_any, sum_by}
-use Rattle.std.specs.Ordering.{is_eq, match_ordering}
-use Rattle.std.specs.declared.cmp.Ordering.{Ordering}
-use Rattle.std.specs.declared.cmp.Ordering.TheVariants.{Less, Equal, Greater}
-use Rattle.std.proofs.Math.Bool.{or-true}
-use Rattle.std.proofs.lemmas.Cmp.{tied_itself}
-use Rattle.std.proofs.lemmas.List.{length-append}
-use Rattle.std.proofs.lemmas.List.Elements.{All-append, All-cons, All-filter, All-head, All-nil, All-tail}
-use Rattle.std.proofs.lemmas.List.Filters.{length-filter_both}
-use Rattle.std.proofs.lemmas.List.Sums.{sum_by-cons}
-use Rattle.std.proofs.lemmas.Map.Views.{tells_apart}
-use Rattle.amt_values.specs.declared.address.Ip.{Ip}
-use Rattle.amt_values.specs.Order.{ip_order}
-use Rattle.amt_values.proofs.Orders.{ip_order-exact, ip_order-total}
-use Rattle.amt_values.specs.Ascending.{ascending, has, intersection, placed}
-use Rattle.amt_values.proofs.AscendingLaws.{length-ascending}
-use Rattle.source_filter.specs.Filter.{FilterValue, wants_any, wants_any_by}
-use Rattle.source_filter.specs.Merging.{all_sources, common_sources, exclude_list, exclude_lists, include_list, include_lists, intersection_of, merged, merged_by, union_of}
-use Rattle.source_filter.specs.declared.mode.Mode.{Mode}
-use Rattle.source_filter.specs.declared.mode.Mode.TheVariants.{Include, Exclude}
+use Rattle.std.proofs.{Common.{◌≡◌, ℕ, ◌+◌, ◌≤◌, Bool, true, false, not, ◌||◌, List, [], ◌∷◌, ◌++◌, length, filter, refl, ap, ◌∙◌, arith}, Math.Bool.{or-true}, lemmas.{Cmp.{tied_itself}, List.{length-append}}}
+use Rattle.std.{proofs.lemmas.{List.{Elements.{All-append, All-cons, All-filter, All-head, All-nil, All-tail}, Filters.{length-filter_both}, Sums.{sum_by-cons}}, Map.Views.{tells_apart}}, specs.{List.{All, list_any, sum_by}, Ordering.{is_eq, match_ordering}, declared.cmp.Ordering.{Ordering, TheVariants.{Less, Equal, Greater}}}}
+use Rattle.amt_values.{specs.{declared.address.Ip.{Ip}, Order.{ip_order}, Ascending.{ascending, has, intersection, placed}}, proofs.{Orders.{ip_order-exact, ip_order-total}, AscendingLaws.{length-ascending}}}
+use Rattle.source_filter.specs.{Filter.{FilterValue, wants_any, wants_any_by}, Merging.{all_sources, common_sources, exclude_list, exclude_lists, include_list, include_lists, intersection_of, merged, merged_by, union_of}, declared.mode.Mode.{Mode, TheVariants.{Include, Exclude}}}
 use Rattle.socket_merge.specs.Interface.{same_group}
 
 pub same_group-exact : (one other : Ip) → same_group one other ≡ true → one ≡ other

@@ -1,17 +1,9 @@
 -- The change records of a host: what becomes of its groups' filters (RFC 3376, section 5.1; RFC 3810, section 6.1).
-use Rattle.std.specs.Prelude.{◌≡◌, List, ◌++◌, map}
-use Rattle.std.specs.List.{filter, flat_map}
-use Rattle.amt_values.specs.declared.address.Ip.{Ip}
-use Rattle.amt_values.specs.Order.{ip_order}
-use Rattle.amt_values.specs.Ascending.{ascending}
-use Rattle.source_filter.specs.Changes.{changes_on}
-use Rattle.source_filter.specs.Merging.{merged}
-use Rattle.source_filter.specs.declared.record.Record.{Record}
-use Rattle.group_records.specs.Written.{is_of_family}
-use Rattle.group_records.specs.declared.family.Family.{Family}
-use Rattle.socket_merge.specs.FullReport.{groups_of}
-use Rattle.socket_merge.specs.History.{AcceptedCall, Socket, SocketCall, sockets_after}
-use Rattle.socket_merge.specs.Interface.{filters_on, interface}
+use Rattle.std.specs.{Prelude.{◌≡◌, List, ◌++◌, map}, List.{filter, flat_map}}
+use Rattle.amt_values.specs.{declared.address.Ip.{Ip}, Order.{ip_order}, Ascending.{ascending}}
+use Rattle.source_filter.specs.{Changes.{changes_on}, Merging.{merged}, declared.record.Record.{Record}}
+use Rattle.group_records.specs.{Written.{is_of_family}, declared.family.Family.{Family}}
+use Rattle.socket_merge.specs.{FullReport.{groups_of}, History.{AcceptedCall, Socket, SocketCall, sockets_after}, Interface.{filters_on, interface}}
 
 -- the groups of the family that some of the sockets has, ascending
 abbrev pub groups_among : Family → List Socket → List Ip

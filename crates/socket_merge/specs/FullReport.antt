@@ -1,21 +1,10 @@
 -- The full report of a host: the answer to a General Query, with a farewell for each group that was
 -- left not long ago, so that a lost report of leaving it is made good (RFC 3376, sections 5.1 and 5.2).
-use Rattle.std.specs.Prelude.{ℕ, ◌+◌, min, nat_lt, not, ◌&&◌, Bool, true, false, List, [], ◌∷◌, Option, Some, None, if◌then◌else◌}
-use Rattle.std.specs.List.{filter, flat_map, list_any}
-use Rattle.amt_values.specs.declared.address.Ip.{Ip}
-use Rattle.amt_values.specs.Order.{ip_order}
-use Rattle.amt_values.specs.Ascending.{ascending}
-use Rattle.source_filter.specs.Filter.{FilterValue}
-use Rattle.source_filter.specs.declared.mode.Mode.{Mode}
-use Rattle.source_filter.specs.declared.mode.Mode.TheVariants.{Include, Exclude}
-use Rattle.source_filter.specs.declared.record.Record.{Record}
-use Rattle.source_filter.specs.declared.record.RecordKind.{RecordKind}
-use Rattle.source_filter.specs.declared.record.RecordKind.TheVariants.{IsIn, IsEx, ToIn}
-use Rattle.group_records.specs.declared.family.Family.{Family}
-use Rattle.group_records.specs.declared.family.Family.TheVariants.{V4, V6}
-use Rattle.group_records.specs.Written.{is_of_family}
-use Rattle.socket_merge.specs.History.{AcceptedCall, groups_opened, open_sockets}
-use Rattle.socket_merge.specs.Interface.{interface, is_wanted, left_at}
+use Rattle.std.specs.{Prelude.{ℕ, ◌+◌, min, nat_lt, not, ◌&&◌, Bool, true, false, List, [], ◌∷◌, Option, Some, None, if◌then◌else◌}, List.{filter, flat_map, list_any}}
+use Rattle.amt_values.specs.{declared.address.Ip.{Ip}, Order.{ip_order}, Ascending.{ascending}}
+use Rattle.source_filter.specs.{Filter.{FilterValue}, declared.mode.Mode.{Mode, TheVariants.{Include, Exclude}}, declared.record.{Record.{Record}, RecordKind.{RecordKind, TheVariants.{IsIn, IsEx, ToIn}}}}
+use Rattle.group_records.specs.{declared.family.Family.{Family, TheVariants.{V4, V6}}, Written.{is_of_family}}
+use Rattle.socket_merge.specs.{History.{AcceptedCall, groups_opened, open_sockets}, Interface.{interface, is_wanted, left_at}}
 
 -- how long a farewell may last, in milliseconds: a longer time is read as this one
 abbrev pub longest_farewell : ℕ

@@ -2,9 +2,7 @@
 --
 -- A history stands newest call first: what is said of it by recursion reads it from its newest call,
 -- and the next call is put before it. Each call has the moment as which it was read.
-use Rattle.std.specs.Prelude.{ℕ, max, nat_eq, not, Bool, List, [], ◌∷◌, ◌++◌, map, Option, if◌then◌else◌}
-use Rattle.std.specs.Cmp.Lexicographic.{pointwise}
-use Rattle.std.specs.List.{filter, find}
+use Rattle.std.specs.{Prelude.{ℕ, max, nat_eq, not, Bool, List, [], ◌∷◌, ◌++◌, map, Option, if◌then◌else◌}, Cmp.Lexicographic.{pointwise}, List.{filter, find}}
 use Rattle.amt_values.specs.declared.address.Ip.{Ip}
 use Rattle.source_filter.specs.Filter.{FilterValue}
 

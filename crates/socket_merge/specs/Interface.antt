@@ -1,11 +1,7 @@
 -- What a host wants of each group by its socket calls (RFC 3376, section 3.2), and when it left one.
-use Rattle.std.specs.Prelude.{ℕ, Bool, List, [], ◌∷◌, map, Option, Some, None, if◌then◌else◌}
-use Rattle.std.specs.List.{filter, list_any}
-use Rattle.std.specs.Ordering.{eq_by_cmp}
-use Rattle.amt_values.specs.declared.address.Ip.{Ip}
-use Rattle.amt_values.specs.Order.{ip_order}
-use Rattle.source_filter.specs.Filter.{FilterValue, admits, wants_any}
-use Rattle.source_filter.specs.Merging.{merged}
+use Rattle.std.specs.{Prelude.{ℕ, Bool, List, [], ◌∷◌, map, Option, Some, None, if◌then◌else◌}, List.{filter, list_any}, Ordering.{eq_by_cmp}}
+use Rattle.amt_values.specs.{declared.address.Ip.{Ip}, Order.{ip_order}}
+use Rattle.source_filter.specs.{Filter.{FilterValue, admits, wants_any}, Merging.{merged}}
 use Rattle.socket_merge.specs.History.{AcceptedCall, Socket, open_sockets}
 
 -- the groups are one

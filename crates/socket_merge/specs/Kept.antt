@@ -1,28 +1,10 @@
 -- How sockets are kept: by name, with a tally of each group. No public contract says these words.
 use Rattle.std.specs.Prelude.{◌≡◌, ℕ, ◌+◌, ◌-◌, ◌*◌, ◌^◌, ◌<◌, ◌≤◌, nat_lt, not, ◌&&◌, ◌||◌, Bool, true, false, is_some, List, [], ◌∷◌, ◌++◌, length, map, All, sum_by, count_by, Option, Some, None, if◌then◌else◌}
-use Rattle.std.specs.Global.{Vec}
-use Rattle.std.specs.List.{filter_map, find, list_any}
-use Rattle.std.specs.Map.{keys_of}
-use Rattle.std.specs.Option.{option_map, unwrap_or}
-use Rattle.amt_values.specs.declared.address.Ip.{Ip}
-use Rattle.amt_values.specs.Group.{is_forwardable}
-use Rattle.amt_values.specs.Order.{ip_order}
-use Rattle.amt_values.specs.Ascending.{IsAscending, ascending}
-use Rattle.source_filter.specs.Filter.{FilterValue, wants_any}
-use Rattle.source_filter.specs.Merging.{merged}
-use Rattle.source_filter.specs.declared.record.Record.{Record}
-use Rattle.group_records.specs.Family.{width}
-use Rattle.group_records.specs.Reading.{head_length}
-use Rattle.group_records.specs.Written.{is_of_family}
-use Rattle.group_records.specs.declared.family.Family.{Family}
-use Rattle.socket_merge.specs.FullReport.{farewell, is_recent, states}
-use Rattle.socket_merge.specs.History.{Socket, same_name}
-use Rattle.socket_merge.specs.Interface.{filters_on, on_group, same_group}
-use Rattle.socket_merge.specs.Refusal.{may_be_due, report_limit, source_limit}
-use Rattle.socket_merge.specs.Sockets.{AreOfGroup, Farewell, left_in}
-use Rattle.socket_merge.specs.declared.stored.Share.{Share}
-use Rattle.socket_merge.specs.declared.stored.StoredSocket.{StoredSocket}
-use Rattle.socket_merge.specs.declared.stored.Tally.{Tally}
+use Rattle.std.specs.{Global.{Vec}, List.{filter_map, find, list_any}, Map.{keys_of}, Option.{option_map, unwrap_or}}
+use Rattle.amt_values.specs.{declared.address.Ip.{Ip}, Group.{is_forwardable}, Order.{ip_order}, Ascending.{IsAscending, ascending}}
+use Rattle.source_filter.specs.{Filter.{FilterValue, wants_any}, Merging.{merged}, declared.record.Record.{Record}}
+use Rattle.group_records.specs.{Family.{width}, Reading.{head_length}, Written.{is_of_family}, declared.family.Family.{Family}}
+use Rattle.socket_merge.specs.{FullReport.{farewell, is_recent, states}, History.{Socket, same_name}, Interface.{filters_on, on_group, same_group}, Refusal.{may_be_due, report_limit, source_limit}, Sockets.{AreOfGroup, Farewell, left_in}, declared.stored.{Share.{Share}, StoredSocket.{StoredSocket}, Tally.{Tally}}}
 
 -- the socket that an entry stands for
 abbrev pub socket_of : Vec ℕ × StoredSocket → Socket

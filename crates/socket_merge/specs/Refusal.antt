@@ -1,20 +1,10 @@
 -- Which socket calls are refused: the sockets of a host may list only so many sources that a full
 -- report of either family is one datagram, even where merging saves nothing.
-use Rattle.std.specs.Prelude.{ℕ, ◌+◌, ◌≤◌, not, nat_le, nat_lt, ◌||◌, Bool, true, false, is_some, List, [], ◌∷◌, length, map, Option, Some, None}
-use Rattle.std.specs.List.{filter, flat_map}
-use Rattle.amt_values.specs.declared.address.Ip.{Ip}
-use Rattle.amt_values.specs.declared.address.Ip.TheVariants.{V4 as Address4, V6 as Address6}
-use Rattle.amt_values.specs.Conditions.{Conditions, first_holding}
-use Rattle.source_filter.specs.declared.record.Record.{Record}
-use Rattle.source_filter.specs.declared.record.RecordKind.TheVariants.{IsIn}
-use Rattle.group_records.specs.declared.family.Family.{Family}
-use Rattle.group_records.specs.declared.family.Family.TheVariants.{V4, V6}
-use Rattle.group_records.specs.Written.{report_length}
-use Rattle.socket_merge.specs.History.{AcceptedCall, Open, Change, Close, LeaveAll, Socket, SocketCall, latest, open_sockets, socket_named, with_call}
-use Rattle.socket_merge.specs.Interface.{left_at, on_group}
-use Rattle.socket_merge.specs.FullReport.{groups_of, is_empty, longest_farewell}
-use Rattle.socket_merge.specs.declared.fault.SocketFault.{SocketFault}
-use Rattle.socket_merge.specs.declared.fault.SocketFault.TheVariants.{NoSocket, ReportFull, SourcesFull, Taken}
+use Rattle.std.specs.{Prelude.{ℕ, ◌+◌, ◌≤◌, not, nat_le, nat_lt, ◌||◌, Bool, true, false, is_some, List, [], ◌∷◌, length, map, Option, Some, None}, List.{filter, flat_map}}
+use Rattle.amt_values.specs.{declared.address.Ip.{Ip, TheVariants.{V4 as Address4, V6 as Address6}}, Conditions.{Conditions, first_holding}}
+use Rattle.source_filter.specs.declared.record.{Record.{Record}, RecordKind.TheVariants.{IsIn}}
+use Rattle.group_records.specs.{declared.family.Family.{Family, TheVariants.{V4, V6}}, Written.{report_length}}
+use Rattle.socket_merge.specs.{History.{AcceptedCall, Open, Change, Close, LeaveAll, Socket, SocketCall, latest, open_sockets, socket_named, with_call}, Interface.{left_at, on_group}, FullReport.{groups_of, is_empty, longest_farewell}, declared.fault.SocketFault.{SocketFault, TheVariants.{NoSocket, ReportFull, SourcesFull, Taken}}}
 
 -- the family of a group
 abbrev pub family_of : Ip → Family

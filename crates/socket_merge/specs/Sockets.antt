@@ -1,17 +1,9 @@
 -- What the sockets of a host stand for.
-use Rattle.std.specs.Prelude.{◌≡◌, ℕ, ◌+◌, ◌≤◌, true, false, List, All, Option, Some, Result, IfErr}
-use Rattle.std.specs.List.{find}
-use Rattle.std.specs.Option.{option_map}
-use Rattle.amt_values.specs.declared.address.Ip.{Ip}
-use Rattle.amt_values.specs.Answer.{TellsCause}
+use Rattle.std.specs.{Prelude.{◌≡◌, ℕ, ◌+◌, ◌≤◌, true, false, List, All, Option, Some, Result, IfErr}, List.{find}, Option.{option_map}}
+use Rattle.amt_values.specs.{declared.address.Ip.{Ip}, Answer.{TellsCause}}
 use Rattle.source_filter.specs.Filter.{FilterValue}
 use Rattle.group_records.specs.Written.{is_of_family}
-use Rattle.socket_merge.specs.History.{AcceptedCall, Socket, latest, open_sockets, socket_named}
-use Rattle.socket_merge.specs.Interface.{is_wanted, left_at, same_group}
-use Rattle.socket_merge.specs.FullReport.{longest_farewell}
-use Rattle.socket_merge.specs.Refusal.{family_of}
-use Rattle.socket_merge.specs.declared.fault.SocketFault.{SocketFault}
-use Rattle.socket_merge.specs.declared.fault.SocketFault.TheVariants.{Memory}
+use Rattle.socket_merge.specs.{History.{AcceptedCall, Socket, latest, open_sockets, socket_named}, Interface.{is_wanted, left_at, same_group}, FullReport.{longest_farewell}, Refusal.{family_of}, declared.fault.SocketFault.{SocketFault, TheVariants.{Memory}}}
 
 -- a group that isn't wanted any more, and when it was left
 pub record Farewell : Type 0 where

@@ -4,8 +4,7 @@
 ghost use Rattle.std.specs.Prelude.{◌≡◌, ◌++◌, IfOk, OnOk};
 ghost use Rattle.group_records.specs.Written.{is_of_family};
 ghost use Rattle.source_filter.specs.Merging.{merged};
-ghost use Rattle.socket_merge.specs.Changes.{changed_on, changes_between, groups_among};
-ghost use Rattle.socket_merge.specs.Interface.{filters_on};
+ghost use Rattle.socket_merge.specs.{Changes.{changed_on, changes_between, groups_among}, Interface.{filters_on}};
 
 use crate::family::family_of;
 use crate::named::NamedSockets;

@@ -21,8 +21,7 @@ pub struct Groups {
 impl Model for Groups {
     ghost use Rattle.std.specs.Prelude.{List};
     ghost use Rattle.amt_values.specs.declared.address.Ip.{Ip};
-    ghost use Rattle.socket_merge.specs.Kept.{AreNeeded};
-    ghost use Rattle.socket_merge.specs.declared.stored.Tally.{Tally};
+    ghost use Rattle.socket_merge.specs.{Kept.{AreNeeded}, declared.stored.Tally.{Tally}};
 
     ghost Value = { List (Ip × Tally) };
 

@@ -2,8 +2,7 @@
 
 ghost use Rattle.std.specs.Prelude.{◌≡◌, ◌+◌, ◌-◌, ◌≤◌};
 ghost use Rattle.amt_values.specs.Conditions.{first_holding};
-ghost use Rattle.socket_merge.specs.Kept.{octets_besides, raw_octets, tally_at};
-ghost use Rattle.socket_merge.specs.Refusal.{family_of, limit_conditions};
+ghost use Rattle.socket_merge.specs.{Kept.{octets_besides, raw_octets, tally_at}, Refusal.{family_of, limit_conditions}};
 
 use crate::family::family_of;
 use crate::fault::SocketFault;

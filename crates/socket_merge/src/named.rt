@@ -1,12 +1,8 @@
 //! Open sockets by name. They must not know moments, farewells or reports.
 
-ghost use Rattle.std.specs.Prelude.{◌≡◌, ◌<◌, ◌^◌, List, [], ◌∷◌, ◌++◌, ◌&&◌, None, length, map, IfOk, OnOk, OnErr};
-ghost use Rattle.std.specs.Option.{option_map};
-ghost use Rattle.socket_merge.specs.History.{Change, Close, Socket, sockets_after, socket_named};
-ghost use Rattle.socket_merge.specs.FullReport.{is_empty};
-ghost use Rattle.socket_merge.specs.Interface.{filters_on, same_group, some_admits};
+ghost use Rattle.std.specs.{Prelude.{◌≡◌, ◌<◌, ◌^◌, List, [], ◌∷◌, ◌++◌, ◌&&◌, None, length, map, IfOk, OnOk, OnErr}, Option.{option_map}};
+ghost use Rattle.socket_merge.specs.{History.{Change, Close, Socket, sockets_after, socket_named}, FullReport.{is_empty}, Interface.{filters_on, same_group, some_admits}, Kept.{share_of}};
 ghost use Rattle.source_filter.specs.Filter.{admits};
-ghost use Rattle.socket_merge.specs.Kept.{share_of};
 
 use crate::stored::{Share, StoredSocket, share_of};
 use amt_values::Ip;
@@ -25,8 +21,7 @@ pub struct NamedSockets {
 
 impl Model for NamedSockets {
     ghost use Rattle.std.specs.Prelude.{List, map};
-    ghost use Rattle.socket_merge.specs.History.{Socket};
-    ghost use Rattle.socket_merge.specs.Kept.{socket_of};
+    ghost use Rattle.socket_merge.specs.{History.{Socket}, Kept.{socket_of}};
 
     ghost Value = { List Socket };
 

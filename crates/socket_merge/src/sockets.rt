@@ -1,17 +1,11 @@
 //! The sockets of a host. They must not know messages, tunnels or clocks.
 
 ghost use Rattle.std.specs.Prelude.{◌≡◌, ℕ, ◌≤◌, ◌<◌, ◌^◌, ◌+◌, ◌↔◌, [], ◌∷◌, ◌++◌, true, false, None, length, All, IfOk, OnOk, OnErr, IsErr};
-ghost use Rattle.amt_values.specs.Group.{is_forwardable};
-ghost use Rattle.amt_values.specs.declared.address.Ip.{Ip};
+ghost use Rattle.amt_values.specs.{Group.{is_forwardable}, declared.address.Ip.{Ip}};
 ghost use Rattle.source_filter.specs.Filter.{admits};
 ghost use Rattle.group_records.specs.Written.{IsOfFamily, report_length};
-ghost use Rattle.socket_merge.specs.Changes.{IsOneCallAfter, changes_between};
-ghost use Rattle.socket_merge.specs.FullReport.{family_by, full_report_of, is_quiet};
-ghost use Rattle.socket_merge.specs.History.{Change, Close, LeaveAll, Open, moment_read, socket_named, sockets_after, with_call};
-ghost use Rattle.socket_merge.specs.Interface.{interface, wants};
-ghost use Rattle.socket_merge.specs.Kept.{AreNeeded, HasRoom, HasTally, share_of, tally_at, tally_with};
-ghost use Rattle.socket_merge.specs.Refusal.{FillsNoMore, IsWithinLimits, is_open, raw_report_length, refusal_of};
-ghost use Rattle.socket_merge.specs.Sockets.{AnswersRefusal, AreOfGroup, AreOfSocket, ForHistory, HasNoOldFarewell, KeepsFarewells, SocketsHold};
+ghost use Rattle.socket_merge.specs.{Changes.{IsOneCallAfter, changes_between}, FullReport.{family_by, full_report_of, is_quiet}, History.{Change, Close, LeaveAll, Open, moment_read, socket_named, sockets_after, with_call}, Interface.{interface, wants}};
+ghost use Rattle.socket_merge.specs.{Kept.{AreNeeded, HasRoom, HasTally, share_of, tally_at, tally_with}, Refusal.{FillsNoMore, IsWithinLimits, is_open, raw_report_length, refusal_of}, Sockets.{AnswersRefusal, AreOfGroup, AreOfSocket, ForHistory, HasNoOldFarewell, KeepsFarewells, SocketsHold}};
 
 use crate::changes::changes_between;
 use crate::fault::{NoSocket, SocketFault};
@@ -38,8 +32,7 @@ pub struct Sockets {
 }
 
 impl Model for Sockets {
-    ghost use Rattle.socket_merge.specs.Kept.{IsSound, farewells_in, tallies_of};
-    ghost use Rattle.socket_merge.specs.Sockets.{SocketsValue};
+    ghost use Rattle.socket_merge.specs.{Kept.{IsSound, farewells_in, tallies_of}, Sockets.{SocketsValue}};
 
     ghost Value = { SocketsValue };
 

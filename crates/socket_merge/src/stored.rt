@@ -2,9 +2,7 @@
 
 ghost use Rattle.std.specs.Prelude.{◌≡◌};
 ghost use Rattle.source_filter.specs.Filter.{wants_any};
-ghost use Rattle.socket_merge.specs.FullReport.{is_recent};
-ghost use Rattle.socket_merge.specs.Refusal.{may_be_due};
-ghost use Rattle.socket_merge.specs.Kept.{HasRoom, blank, is_blank, left_with, left_without, one_where, share_of, tally_changed, tally_fresh, tally_left, tally_with, tally_without};
+ghost use Rattle.socket_merge.specs.{FullReport.{is_recent}, Refusal.{may_be_due}, Kept.{HasRoom, blank, is_blank, left_with, left_without, one_where, share_of, tally_changed, tally_fresh, tally_left, tally_with, tally_without}};
 
 use amt_values::{Ip, Moment};
 use source_filter::{Filter, Mode};

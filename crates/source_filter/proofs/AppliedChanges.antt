@@ -1,18 +1,7 @@
 -- Change records, applied in order to the old filter, give the new one.
-use Rattle.std.proofs.Common.{◌≡◌, Bool, true, false, not, ◌&&◌, ◌||◌, List, [], ◌∷◌, ◌++◌, refl, sym, ap, ◌∙◌}
-use Rattle.std.proofs.lemmas.List.{append-nil}
-use Rattle.amt_values.specs.declared.address.Ip.{Ip}
-use Rattle.amt_values.specs.Order.{ip_order}
-use Rattle.amt_values.proofs.Orders.{ip_order-total, ip_order-exact}
-use Rattle.source_filter.specs.Changes.{changes_by, changes_on, record_of_some}
-use Rattle.source_filter.specs.Filter.{FilterValue, filter_after_all}
-use Rattle.source_filter.specs.declared.mode.Mode.{Mode}
-use Rattle.source_filter.specs.declared.mode.Mode.TheVariants.{Include, Exclude}
-use Rattle.source_filter.specs.declared.record.Record.{Record}
-use Rattle.source_filter.specs.declared.record.RecordKind.TheVariants.{Allow, Block}
-use Rattle.amt_values.specs.Ascending.{IsAscending, ascending, difference, has, union}
-use Rattle.amt_values.proofs.AscendingLaws.{IsAscending-ascending, IsAscending-filter, ascending-fixed, has-difference, has-union, same_ascending}
-use Rattle.source_filter.proofs.SourceSets.{listing}
+use Rattle.std.proofs.{Common.{◌≡◌, Bool, true, false, not, ◌&&◌, ◌||◌, List, [], ◌∷◌, ◌++◌, refl, sym, ap, ◌∙◌}, lemmas.List.{append-nil}}
+use Rattle.amt_values.{specs.{declared.address.Ip.{Ip}, Order.{ip_order}, Ascending.{IsAscending, ascending, difference, has, union}}, proofs.{Orders.{ip_order-total, ip_order-exact}, AscendingLaws.{IsAscending-ascending, IsAscending-filter, ascending-fixed, has-difference, has-union, same_ascending}}}
+use Rattle.source_filter.{specs.{Changes.{changes_by, changes_on, record_of_some}, Filter.{FilterValue, filter_after_all}, declared.mode.Mode.{Mode, TheVariants.{Include, Exclude}}, declared.record.{Record.{Record}, RecordKind.TheVariants.{Allow, Block}}}, proofs.SourceSets.{listing}}
 
 -- nothing is put in
 union_none : (old : List Ip) → IsAscending ip_order old → union ip_order old [] ≡ old

@@ -1,12 +1,8 @@
 -- The derived order and equality of addresses are those of the definitions.
-use Rattle.std.proofs.Common.{◌≡◌, refl}
-use Rattle.std.specs.Cmp.{unsigned_ties}
-use Rattle.std.specs.Ordering.{eq_by_cmp}
+use Rattle.std.{proofs.Common.{◌≡◌, refl}, specs.{Cmp.{unsigned_ties}, Ordering.{eq_by_cmp}}}
 use Rattle.amt_values.specs.contracts.address.IpOrd as ord
 use Rattle.amt_values.specs.contracts.address.IpPartialEq as eq
-use Rattle.amt_values.specs.declared.address.Ip.{Ip}
-use Rattle.amt_values.specs.declared.address.Ip.TheVariants.{V4, V6}
-use Rattle.amt_values.specs.Order.{ip_order}
+use Rattle.amt_values.specs.{declared.address.Ip.{Ip, TheVariants.{V4, V6}}, Order.{ip_order}}
 
 compared_at : (x y : Ip) → (ord.TheImpl.ghosts).cmp x y ≡ ip_order x y
 compared_at (V4 a) (V4 b) = refl

@@ -1,17 +1,7 @@
 -- What a filter admits after a record, and that its sources ascend.
 use Rattle.std.proofs.Common.{◌≡◌, Bool, true, false, not, ◌&&◌, ◌||◌, if◌then◌else◌, List, ◌++◌, refl, ap, ◌∙◌}
-use Rattle.amt_values.specs.declared.address.Ip.{Ip}
-use Rattle.amt_values.specs.Order.{ip_order}
-use Rattle.amt_values.proofs.Orders.{ip_order-total, ip_order-exact}
-use Rattle.source_filter.specs.Filter.{FilterValue, admits, admits_by, filter_after, mode_after, ascending_sources, sources_after}
-use Rattle.source_filter.specs.Record.{is_full, lists, says, says_by, speaks}
-use Rattle.amt_values.specs.Ascending.{IsAscending, has}
-use Rattle.source_filter.specs.declared.mode.Mode.{Mode}
-use Rattle.source_filter.specs.declared.mode.Mode.TheVariants.{Include, Exclude}
-use Rattle.source_filter.specs.declared.record.Record.{Record}
-use Rattle.source_filter.specs.declared.record.RecordKind.{RecordKind}
-use Rattle.source_filter.specs.declared.record.RecordKind.TheVariants.{IsIn, IsEx, ToIn, ToEx, Allow, Block}
-use Rattle.amt_values.proofs.AscendingLaws.{has-ascending, has-union, has-difference, IsAscending-ascending, IsAscending-filter}
+use Rattle.amt_values.{specs.{declared.address.Ip.{Ip}, Order.{ip_order}, Ascending.{IsAscending, has}}, proofs.{Orders.{ip_order-total, ip_order-exact}, AscendingLaws.{has-ascending, has-union, has-difference, IsAscending-ascending, IsAscending-filter}}}
+use Rattle.source_filter.specs.{Filter.{FilterValue, admits, admits_by, filter_after, mode_after, ascending_sources, sources_after}, Record.{is_full, lists, says, says_by, speaks}, declared.mode.Mode.{Mode, TheVariants.{Include, Exclude}}, declared.record.{Record.{Record}, RecordKind.{RecordKind, TheVariants.{IsIn, IsEx, ToIn, ToEx, Allow, Block}}}}
 
 IsAscending-sources_after : (kind : RecordKind) (mode : Mode) (old listed : List Ip) → IsAscending ip_order old → IsAscending ip_order (sources_after kind mode old listed)
 IsAscending-sources_after Allow Include old listed ascends = IsAscending-ascending ip_order-total (old ++ listed)

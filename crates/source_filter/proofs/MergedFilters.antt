@@ -1,19 +1,7 @@
 -- A merged filter admits what some of the filters admits, and its steps.
-use Rattle.std.proofs.Common.{◌≡◌, ℕ, ◌+◌, ◌<◌, length, take, get_or, Bool, true, false, not, ◌&&◌, ◌||◌, List, [], ◌∷◌, ◌++◌, Some, refl, sym, ap, ◌∙◌}
-use Rattle.std.specs.List.{list_any}
-use Rattle.std.specs.Option.{option_to_list}
-use Rattle.std.proofs.Math.Bool.{or-false}
-use Rattle.std.proofs.lemmas.List.{append-nil, append_assoc, take_more}
-use Rattle.amt_values.specs.declared.address.Ip.{Ip}
-use Rattle.amt_values.specs.Order.{ip_order}
-use Rattle.amt_values.proofs.Orders.{ip_order-total, ip_order-exact}
-use Rattle.source_filter.specs.Filter.{FilterValue, admits, admits_by}
-use Rattle.source_filter.specs.Record.{lists}
-use Rattle.source_filter.specs.Merging.{exclude_list, exclude_lists, include_list, include_lists, intersection_of, all_sources, merged, merged_by, common_sources, union_of}
-use Rattle.source_filter.specs.declared.mode.Mode.{Mode}
-use Rattle.source_filter.specs.declared.mode.Mode.TheVariants.{Include, Exclude}
-use Rattle.amt_values.specs.Ascending.{intersection}
-use Rattle.amt_values.proofs.AscendingLaws.{has-append, has-ascending, has-difference, has-intersection}
+use Rattle.std.{proofs.{Common.{◌≡◌, ℕ, ◌+◌, ◌<◌, length, take, get_or, Bool, true, false, not, ◌&&◌, ◌||◌, List, [], ◌∷◌, ◌++◌, Some, refl, sym, ap, ◌∙◌}, Math.Bool.{or-false}, lemmas.List.{append-nil, append_assoc, take_more}}, specs.{List.{list_any}, Option.{option_to_list}}}
+use Rattle.amt_values.{specs.{declared.address.Ip.{Ip}, Order.{ip_order}, Ascending.{intersection}}, proofs.{Orders.{ip_order-total, ip_order-exact}, AscendingLaws.{has-append, has-ascending, has-difference, has-intersection}}}
+use Rattle.source_filter.specs.{Filter.{FilterValue, admits, admits_by}, Record.{lists}, Merging.{exclude_list, exclude_lists, include_list, include_lists, intersection_of, all_sources, merged, merged_by, common_sources, union_of}, declared.mode.Mode.{Mode, TheVariants.{Include, Exclude}}}
 
 -- some list has the source
 abbrev some_has : List (List Ip) → Ip → Bool

@@ -1,18 +1,7 @@
 -- Sets of sources, as listed sources are put into them or taken out one by one.
-use Rattle.std.proofs.Common.{◌≡◌, ℕ, ◌+◌, ◌<◌, Bool, true, false, not, cond, ◌&&◌, ◌||◌, List, [], ◌∷◌, ◌++◌, length, take, get_or, refl, sym, ap, subst, ◌∙◌}
-use Rattle.std.specs.BTreeSet.{BTreeSet, IsOrdered, Updates}
-use Rattle.std.specs.Ordering.{eq_by_cmp}
-use Rattle.std.specs.declared.cmp.Ordering.{Ordering}
-use Rattle.std.proofs.lemmas.Cmp.{eq_by_cmp_equiv}
-use Rattle.std.proofs.lemmas.List.{take_more}
-use Rattle.amt_values.specs.declared.address.Ip.{Ip}
-use Rattle.amt_values.specs.declared.address.Ip.TheVariants.{V4}
-use Rattle.amt_values.specs.Order.{ip_order}
-use Rattle.amt_values.proofs.Orders.{ip_order-exact, ip_order-total}
-use Rattle.source_filter.specs.Filter.{FilterValue, ascending_sources}
-use Rattle.amt_values.specs.Ascending.{IsAscending, difference, has, union}
-use Rattle.source_filter.specs.declared.mode.Mode.{Mode}
-use Rattle.amt_values.proofs.AscendingLaws.{IsAscending-filter, IsAscending-ascending, has-append, has-difference, has-union, ascending-fixed, same_ascending}
+use Rattle.std.{proofs.{Common.{◌≡◌, ℕ, ◌+◌, ◌<◌, Bool, true, false, not, cond, ◌&&◌, ◌||◌, List, [], ◌∷◌, ◌++◌, length, take, get_or, refl, sym, ap, subst, ◌∙◌}, lemmas.{Cmp.{eq_by_cmp_equiv}, List.{take_more}}}, specs.{BTreeSet.{BTreeSet, IsOrdered, Updates}, Ordering.{eq_by_cmp}, declared.cmp.Ordering.{Ordering}}}
+use Rattle.amt_values.{specs.{declared.address.Ip.{Ip, TheVariants.{V4}}, Order.{ip_order}, Ascending.{IsAscending, difference, has, union}}, proofs.{Orders.{ip_order-exact, ip_order-total}, AscendingLaws.{IsAscending-filter, IsAscending-ascending, has-append, has-difference, has-union, ascending-fixed, same_ascending}}}
+use Rattle.source_filter.specs.{Filter.{FilterValue, ascending_sources}, declared.mode.Mode.{Mode}}
 
 -- the set after some sources: whether it has one, by whether it was in the old ones, and is among those
 pub record IsHeld (keeps : Bool → Bool → Bool) (old done held : List Ip) : Type 0 where

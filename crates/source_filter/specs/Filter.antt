@@ -1,15 +1,8 @@
 -- Filters of one group (RFC 3376, section 3.2), and what a group record of the same listener makes
 -- of them (section 4.2.12).
 use Rattle.std.specs.Prelude.{Bool, true, false, not, List, [], ◌∷◌}
-use Rattle.amt_values.specs.declared.address.Ip.{Ip}
-use Rattle.amt_values.specs.Order.{ip_order}
-use Rattle.source_filter.specs.Record.{lists}
-use Rattle.amt_values.specs.Ascending.{ascending, union, difference}
-use Rattle.source_filter.specs.declared.mode.Mode.{Mode}
-use Rattle.source_filter.specs.declared.mode.Mode.TheVariants.{Include, Exclude}
-use Rattle.source_filter.specs.declared.record.Record.{Record}
-use Rattle.source_filter.specs.declared.record.RecordKind.{RecordKind}
-use Rattle.source_filter.specs.declared.record.RecordKind.TheVariants.{IsIn, IsEx, ToIn, ToEx, Allow, Block}
+use Rattle.amt_values.specs.{declared.address.Ip.{Ip}, Order.{ip_order}, Ascending.{ascending, union, difference}}
+use Rattle.source_filter.specs.{Record.{lists}, declared.mode.Mode.{Mode, TheVariants.{Include, Exclude}}, declared.record.{Record.{Record}, RecordKind.{RecordKind, TheVariants.{IsIn, IsEx, ToIn, ToEx, Allow, Block}}}}
 
 -- what contracts see of a filter: its mode, and its sources, which ascend
 pub record FilterValue : Type 0 where

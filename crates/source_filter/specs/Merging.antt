@@ -1,11 +1,7 @@
 -- The one filter of an interface for all its sockets (RFC 3376, section 3.2).
 use Rattle.std.specs.Prelude.{List, [], ◌∷◌, ◌++◌, Option, Some, None}
-use Rattle.amt_values.specs.declared.address.Ip.{Ip}
-use Rattle.amt_values.specs.Order.{ip_order}
-use Rattle.amt_values.specs.Ascending.{difference, intersection}
-use Rattle.source_filter.specs.Filter.{FilterValue, ascending_sources}
-use Rattle.source_filter.specs.declared.mode.Mode.{Mode}
-use Rattle.source_filter.specs.declared.mode.Mode.TheVariants.{Include, Exclude}
+use Rattle.amt_values.specs.{declared.address.Ip.{Ip}, Order.{ip_order}, Ascending.{difference, intersection}}
+use Rattle.source_filter.specs.{Filter.{FilterValue, ascending_sources}, declared.mode.Mode.{Mode, TheVariants.{Include, Exclude}}}
 
 -- the list of a filter in INCLUDE mode
 abbrev pub include_list : Mode → List Ip → List (List Ip)

@@ -1,11 +1,7 @@
 -- What one group record says of a source (RFC 3376, section 4.2.12).
 use Rattle.std.specs.Prelude.{ℕ, ◌+◌, Bool, true, false, not, List, length, sum_by, ◌||◌}
-use Rattle.amt_values.specs.declared.address.Ip.{Ip}
-use Rattle.amt_values.specs.Order.{ip_order}
-use Rattle.amt_values.specs.Ascending.{has}
-use Rattle.source_filter.specs.declared.record.RecordKind.{RecordKind}
-use Rattle.source_filter.specs.declared.record.RecordKind.TheVariants.{IsIn, IsEx, ToIn, ToEx, Allow, Block}
-use Rattle.source_filter.specs.declared.record.Record.{Record}
+use Rattle.amt_values.specs.{declared.address.Ip.{Ip}, Order.{ip_order}, Ascending.{has}}
+use Rattle.source_filter.specs.declared.record.{RecordKind.{RecordKind, TheVariants.{IsIn, IsEx, ToIn, ToEx, Allow, Block}}, Record.{Record}}
 
 -- the source is one of these
 abbrev pub lists : List Ip → Ip → Bool

@@ -1,11 +1,8 @@
 //! The records that tell of a change of a filter. It must not know sockets or moments.
 
 ghost use Rattle.std.specs.Prelude.{◌≡◌, [], ◌∷◌, ◌++◌, IfOk, OnOk};
-ghost use Rattle.amt_values.specs.Order.{ip_order};
-ghost use Rattle.amt_values.specs.Ascending.{IsAscending, difference};
-ghost use Rattle.source_filter.specs.Changes.{changes_on, record_of_some};
-ghost use Rattle.source_filter.specs.Filter.{filter_after_all};
-ghost use Rattle.source_filter.specs.declared.record.RecordKind.TheVariants.{Allow, Block};
+ghost use Rattle.amt_values.specs.{Order.{ip_order}, Ascending.{IsAscending, difference}};
+ghost use Rattle.source_filter.specs.{Changes.{changes_on, record_of_some}, Filter.{filter_after_all}, declared.record.RecordKind.TheVariants.{Allow, Block}};
 
 use crate::filter::Filter;
 use crate::ips::{Ips, difference};

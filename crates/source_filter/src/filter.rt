@@ -1,10 +1,8 @@
 //! Filters of one group. It must not know lists of records, endpoints or moments.
 
 ghost use Rattle.std.specs.Prelude.{◌≡◌, true, false, IfOk};
-ghost use Rattle.amt_values.specs.Order.{ip_order};
-ghost use Rattle.amt_values.specs.declared.address.Ip.{Ip};
+ghost use Rattle.amt_values.specs.{Order.{ip_order}, declared.address.Ip.{Ip}, Ascending.{IsAscending}};
 ghost use Rattle.source_filter.specs.Record.{lists};
-ghost use Rattle.amt_values.specs.Ascending.{IsAscending};
 
 use crate::ips::{Ips, ascending_ips, is_among};
 use crate::mode::Mode;
@@ -25,9 +23,8 @@ pub struct Filter {
 }
 
 impl Model for Filter {
-    ghost use Rattle.amt_values.specs.Order.{ip_order};
+    ghost use Rattle.amt_values.specs.{Order.{ip_order}, Ascending.{IsAscending}};
     ghost use Rattle.source_filter.specs.Filter.{FilterValue};
-    ghost use Rattle.amt_values.specs.Ascending.{IsAscending};
 
     ghost Value = { FilterValue };
 
@@ -39,8 +36,7 @@ impl Model for Filter {
 }
 
 impl Filter {
-    ghost use Rattle.source_filter.specs.Filter.{admits, ascending_sources, filter_after};
-    ghost use Rattle.source_filter.specs.Record.{says, speaks};
+    ghost use Rattle.source_filter.specs.{Filter.{admits, ascending_sources, filter_after}, Record.{says, speaks}};
 
     /// A filter of these sources, in any order and with any repeats.
     pub fn new(alloc: Global, mode: Mode, sources: &[Ip]) -> Result<Filter, AllocError>

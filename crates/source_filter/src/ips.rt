@@ -1,8 +1,7 @@
 //! Addresses that own their memory, and their ascending order. It must not know what they are sources of.
 
 ghost use Rattle.std.specs.Prelude.{◌≡◌, IfOk};
-ghost use Rattle.amt_values.specs.Order.{ip_order};
-ghost use Rattle.amt_values.specs.Ascending.{IsAscending, difference, has, intersection};
+ghost use Rattle.amt_values.specs.{Order.{ip_order}, Ascending.{IsAscending, difference, has, intersection}};
 ghost use Rattle.source_filter.specs.Filter.{ascending_sources};
 
 use amt_values::{Ip, Items};

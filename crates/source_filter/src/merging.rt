@@ -1,13 +1,8 @@
 //! The one filter of an interface for all its sockets. It must not know records, names or moments.
 
-ghost use Rattle.std.specs.Prelude.{◌≡◌, [], ◌∷◌, ◌++◌, Some, IfOk, IfSome, OnOk};
-ghost use Rattle.std.specs.List.{list_any};
-ghost use Rattle.std.specs.Option.{option_to_list};
-ghost use Rattle.amt_values.specs.Order.{ip_order};
-ghost use Rattle.amt_values.specs.declared.address.Ip.{Ip};
-ghost use Rattle.amt_values.specs.Ascending.{IsAscending};
-ghost use Rattle.source_filter.specs.Filter.{admits};
-ghost use Rattle.source_filter.specs.Merging.{exclude_list, exclude_lists, include_list, include_lists, intersection_of, all_sources, merged, union_of};
+ghost use Rattle.std.specs.{Prelude.{◌≡◌, [], ◌∷◌, ◌++◌, Some, IfOk, IfSome, OnOk}, List.{list_any}, Option.{option_to_list}};
+ghost use Rattle.amt_values.specs.{Order.{ip_order}, declared.address.Ip.{Ip}, Ascending.{IsAscending}};
+ghost use Rattle.source_filter.specs.{Filter.{admits}, Merging.{exclude_list, exclude_lists, include_list, include_lists, intersection_of, all_sources, merged, union_of}};
 
 use crate::filter::Filter;
 use crate::ips::{Ips, ascending_ips, difference, intersection};

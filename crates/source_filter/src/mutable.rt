@@ -1,8 +1,7 @@
 //! A filter that records change in place. It must not know lists of records, endpoints or moments.
 
 ghost use Rattle.std.specs.Prelude.{◌≡◌, IfOk, OnOk, OnErr};
-ghost use Rattle.amt_values.specs.Order.{ip_order};
-ghost use Rattle.amt_values.specs.Ascending.{IsAscending, difference, union};
+ghost use Rattle.amt_values.specs.{Order.{ip_order}, Ascending.{IsAscending, difference, union}};
 
 use crate::filter::Filter;
 use crate::mode::Mode;
@@ -23,8 +22,7 @@ pub struct MutableFilter {
 }
 
 impl Model for MutableFilter {
-    ghost use Rattle.amt_values.specs.Order.{ip_order};
-    ghost use Rattle.amt_values.specs.Ascending.{IsAscending};
+    ghost use Rattle.amt_values.specs.{Order.{ip_order}, Ascending.{IsAscending}};
     ghost use Rattle.source_filter.specs.Filter.{FilterValue};
 
     ghost Value = { FilterValue };
@@ -35,8 +33,7 @@ impl Model for MutableFilter {
 }
 
 impl MutableFilter {
-    ghost use Rattle.source_filter.specs.Filter.{ascending_sources, filter_after, mode_after, nothing, sources_after, wants_any};
-    ghost use Rattle.source_filter.specs.declared.record.RecordKind.TheVariants.{Allow, Block};
+    ghost use Rattle.source_filter.specs.{Filter.{ascending_sources, filter_after, mode_after, nothing, sources_after, wants_any}, declared.record.RecordKind.TheVariants.{Allow, Block}};
 
     /// Nothing is wanted. It takes no memory.
     pub fn new(alloc: Global) -> Self

@@ -1,9 +1,6 @@
 //! A std reader as a source. It must not know which reader.
 
-ghost use Rattle.std.specs.Prelude.{◌≡◌, ◌≢◌, IfErr, OnOk, OnErr};
-ghost use Rattle.std.specs.Io.{ReadsAtMost};
-ghost use Rattle.std.specs.IoError.{error_kind};
-ghost use Rattle.std.specs.Io.KnownBytes.{ReadConsumes};
+ghost use Rattle.std.specs.{Prelude.{◌≡◌, ◌≢◌, IfErr, OnOk, OnErr}, Io.{ReadsAtMost, KnownBytes.{ReadConsumes}}, IoError.{error_kind}};
 ghost use Rattle.amt_ports.specs.Causes.{HasCause, next_count};
 
 use crate::adapters::adapted::Adapted;

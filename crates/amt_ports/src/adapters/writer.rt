@@ -1,9 +1,6 @@
 //! A std writer as a sink. It must not know which writer.
 
-ghost use Rattle.std.specs.Prelude.{◌≡◌, ◌≢◌, ◌<◌, length, IfOk, IfErr, OnOk, OnErr};
-ghost use Rattle.std.specs.Io.{WritesAtMost};
-ghost use Rattle.std.specs.IoError.{error_kind};
-ghost use Rattle.std.specs.Io.KnownBytes.{WriteAppends};
+ghost use Rattle.std.specs.{Prelude.{◌≡◌, ◌≢◌, ◌<◌, length, IfOk, IfErr, OnOk, OnErr}, Io.{WritesAtMost, KnownBytes.{WriteAppends}}, IoError.{error_kind}};
 ghost use Rattle.amt_ports.specs.Causes.{HasCause, next_count};
 
 use crate::adapters::adapted::Adapted;

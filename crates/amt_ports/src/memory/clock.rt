@@ -1,7 +1,6 @@
 //! A clock in memory, for tests and callers. It must not know the machine's clock.
 ghost use Rattle.std.specs.Prelude.{◌≡◌, ◌≤◌, [], Some, drop};
-ghost use Rattle.amt_ports.specs.Scripted.{head_or, last_or};
-ghost use Rattle.amt_ports.specs.Told.{Appends};
+ghost use Rattle.amt_ports.specs.{Scripted.{head_or, last_or}, Told.{Appends}};
 
 use crate::Clock;
 use crate::script::Scripted;

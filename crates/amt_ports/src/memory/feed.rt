@@ -1,10 +1,6 @@
 //! Feeds in memory, for tests and callers. They must not know the real devices.
 ghost use Rattle.std.specs.Prelude.{◌≡◌, ◌≤◌, ◌↔◌, [], Some, All, Contains, length, IsErr, IsOk, IfOk, OnOk, OnErr};
-ghost use Rattle.amt_ports.specs.Arrivals.{IsShortFeedAnswer, IsShortFeedGot, feed_answer};
-ghost use Rattle.amt_ports.specs.Causes.{HasCause, next_count};
-ghost use Rattle.amt_ports.specs.Tally.{fresh_tally, with_call, with_fault};
-ghost use Rattle.amt_ports.specs.Told.{Answers};
-ghost use Rattle.amt_ports.specs.declared.feed.FeedAnswer.TheVariants.{Closed as ClosedFeed};
+ghost use Rattle.amt_ports.specs.{Arrivals.{IsShortFeedAnswer, IsShortFeedGot, feed_answer}, Causes.{HasCause, next_count}, Tally.{fresh_tally, with_call, with_fault}, Told.{Answers}, declared.feed.FeedAnswer.TheVariants.{Closed as ClosedFeed}};
 
 use super::buffer::put_at_start;
 use crate::tally::CallTally;
@@ -24,8 +20,7 @@ pub struct FaultlessFeed {
 
 impl Model for FaultlessFeed {
     ghost use Rattle.std.specs.Prelude.{List, All};
-    ghost use Rattle.amt_ports.specs.Arrivals.{IsShortFeedAnswer};
-    ghost use Rattle.amt_ports.specs.declared.feed.FeedAnswer.{FeedAnswer};
+    ghost use Rattle.amt_ports.specs.{Arrivals.{IsShortFeedAnswer}, declared.feed.FeedAnswer.{FeedAnswer}};
 
     ghost Value = { List FeedAnswer };
 

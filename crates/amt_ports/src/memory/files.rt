@@ -1,9 +1,6 @@
 //! Files in memory, for tests and callers. They must not know the file system.
 ghost use Rattle.std.specs.Prelude.{◌≡◌, ◌≤◌, ◌↔◌, ◌⊎◌, ℕ, [], List, Some, None, Contains, find, length, option_copied, IfOk, IfErr, IsErrOf};
-ghost use Rattle.amt_ports.specs.Causes.{Rose, next_count};
-ghost use Rattle.amt_ports.specs.Contents.{IsContent, IsLonger};
-ghost use Rattle.amt_ports.specs.MemFiles.{SaysLength, content_named, has_name};
-ghost use Rattle.amt_ports.specs.Tally.{fresh_tally, with_call, with_fault};
+ghost use Rattle.amt_ports.specs.{Causes.{Rose, next_count}, Contents.{IsContent, IsLonger}, MemFiles.{SaysLength, content_named, has_name}, Tally.{fresh_tally, with_call, with_fault}};
 
 use crate::tally::CallTally;
 use crate::{FileFault, Files};

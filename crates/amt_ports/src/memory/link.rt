@@ -1,12 +1,6 @@
 //! A link in memory, for tests and callers. It must not know the real devices.
 ghost use Rattle.std.specs.Prelude.{◌≡◌, ◌≤◌, ◌↔◌, [], Some, All, Contains, length, IsErr, IsSome, IfOk, OnOk, OnErr};
-ghost use Rattle.amt_ports.specs.Arrivals.{IsShortAnswer, IsShortGot, link_answer};
-ghost use Rattle.amt_ports.specs.Causes.{HasCause, next_count};
-ghost use Rattle.amt_ports.specs.MemOut.{Shows};
-ghost use Rattle.amt_ports.specs.Sends.{tried_send};
-ghost use Rattle.amt_ports.specs.Tally.{fresh_tally, with_call, with_fault};
-ghost use Rattle.amt_ports.specs.Told.{Answers, Appends};
-ghost use Rattle.amt_ports.specs.declared.link.LinkAnswer.TheVariants.{Closed as ClosedLink};
+ghost use Rattle.amt_ports.specs.{Arrivals.{IsShortAnswer, IsShortGot, link_answer}, Causes.{HasCause, next_count}, MemOut.{Shows}, Sends.{tried_send}, Tally.{fresh_tally, with_call, with_fault}, Told.{Answers, Appends}, declared.link.LinkAnswer.TheVariants.{Closed as ClosedLink}};
 
 use super::buffer::put_at_start;
 use crate::tally::CallTally;
@@ -31,8 +25,7 @@ pub struct MemLink {
 
 impl Model for MemLink {
     ghost use Rattle.std.specs.Prelude.{All};
-    ghost use Rattle.amt_ports.specs.Arrivals.{IsShortAnswer};
-    ghost use Rattle.amt_ports.specs.MemLink.{LinkCalls};
+    ghost use Rattle.amt_ports.specs.{Arrivals.{IsShortAnswer}, MemLink.{LinkCalls}};
 
     ghost Value = { LinkCalls };
 

@@ -1,10 +1,6 @@
 //! An out link in memory, for tests and callers. It must not know the real devices.
 ghost use Rattle.std.specs.Prelude.{◌≡◌, [], Some, Contains, IsErr, IsSome, OnOk, OnErr};
-ghost use Rattle.amt_ports.specs.Causes.{HasCause, next_count};
-ghost use Rattle.amt_ports.specs.MemOut.{Shows};
-ghost use Rattle.amt_ports.specs.Sends.{tried_send};
-ghost use Rattle.amt_ports.specs.Tally.{fresh_tally, with_call, with_fault};
-ghost use Rattle.amt_ports.specs.Told.{Appends};
+ghost use Rattle.amt_ports.specs.{Causes.{HasCause, next_count}, MemOut.{Shows}, Sends.{tried_send}, Tally.{fresh_tally, with_call, with_fault}, Told.{Appends}};
 
 use crate::tally::CallTally;
 use crate::tried::{SendLog, Tried, send_by};

@@ -1,10 +1,7 @@
 //! A sink in memory, for tests and callers. It must not know the real devices.
 
-ghost use Rattle.std.specs.Prelude.{◌≡◌, ◌<◌, [], length, Some, Contains, IsErr, IfOk, OnOk, OnErr};
-ghost use Rattle.std.specs.Io.{WritesAtMost};
-ghost use Rattle.std.specs.Io.KnownBytes.{WriteAppends};
-ghost use Rattle.amt_ports.specs.Causes.{HasCause, next_count};
-ghost use Rattle.amt_ports.specs.Tally.{fresh_tally, with_call, with_fault};
+ghost use Rattle.std.specs.{Prelude.{◌≡◌, ◌<◌, [], length, Some, Contains, IsErr, IfOk, OnOk, OnErr}, Io.{WritesAtMost, KnownBytes.{WriteAppends}}};
+ghost use Rattle.amt_ports.specs.{Causes.{HasCause, next_count}, Tally.{fresh_tally, with_call, with_fault}};
 
 use crate::tally::CallTally;
 use crate::{Failed, Sink};

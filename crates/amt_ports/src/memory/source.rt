@@ -1,10 +1,7 @@
 //! Sources in memory, for tests and callers. They must not know the real devices.
 
-ghost use Rattle.std.specs.Prelude.{◌≡◌, ◌↔◌, [], min, length, take, drop, Some, Ok, Contains, IsErr, IfOk, OnOk, OnErr};
-ghost use Rattle.std.specs.Io.{ReadsAtMost};
-ghost use Rattle.std.specs.Io.KnownBytes.{ReadConsumes};
-ghost use Rattle.amt_ports.specs.Causes.{HasCause, next_count};
-ghost use Rattle.amt_ports.specs.Tally.{fresh_tally, with_call, with_fault};
+ghost use Rattle.std.specs.{Prelude.{◌≡◌, ◌↔◌, [], min, length, take, drop, Some, Ok, Contains, IsErr, IfOk, OnOk, OnErr}, Io.{ReadsAtMost, KnownBytes.{ReadConsumes}}};
+ghost use Rattle.amt_ports.specs.{Causes.{HasCause, next_count}, Tally.{fresh_tally, with_call, with_fault}};
 
 use crate::tally::CallTally;
 use crate::{Failed, Source};

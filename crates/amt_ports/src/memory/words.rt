@@ -1,9 +1,6 @@
 //! Random words in memory, for tests and callers. They must not know the machine's random source.
 ghost use Rattle.std.specs.Prelude.{◌≡◌, ◌↔◌, [], Some, Ok, Contains, drop, IsErr, IfOk, OnOk, OnErr};
-ghost use Rattle.amt_ports.specs.Causes.{HasCause, next_count};
-ghost use Rattle.amt_ports.specs.Scripted.{head_or};
-ghost use Rattle.amt_ports.specs.Tally.{fresh_tally, with_call, with_fault};
-ghost use Rattle.amt_ports.specs.Told.{Appends};
+ghost use Rattle.amt_ports.specs.{Causes.{HasCause, next_count}, Scripted.{head_or}, Tally.{fresh_tally, with_call, with_fault}, Told.{Appends}};
 
 use crate::script::Scripted;
 use crate::tally::CallTally;

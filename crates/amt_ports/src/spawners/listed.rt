@@ -1,8 +1,6 @@
 //! A spawner of which some starts are refused, for tests and callers. It must not know what the tasks are.
 ghost use Rattle.std.specs.Prelude.{◌≡◌, [], Some, Contains, IsErr, IfOk, OnOk, OnErr};
-ghost use Rattle.amt_ports.specs.Causes.{HasCause, next_count};
-ghost use Rattle.amt_ports.specs.Starts.{HasStarted};
-ghost use Rattle.amt_ports.specs.Tally.{fresh_tally, with_call, with_fault};
+ghost use Rattle.amt_ports.specs.{Causes.{HasCause, next_count}, Starts.{HasStarted}, Tally.{fresh_tally, with_call, with_fault}};
 
 use super::promised::{GivenBy, Starts};
 use crate::tally::CallTally;

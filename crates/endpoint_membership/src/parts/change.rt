@@ -1,17 +1,8 @@
 //! One membership more, and one less. It must not know when a membership expires.
 
-ghost use Rattle.std.specs.Prelude.{◌≡◌, ◌<◌, ◌^◌, None, Some, OnOk, OnErr};
-ghost use Rattle.std.specs.BTreeMap.{get, insert_entry, IsUnchanged};
-ghost use Rattle.std.specs.List.{filter};
-ghost use Rattle.std.specs.Map.{count_at};
-ghost use Rattle.amt_values.specs.Ascending.{placed};
-ghost use Rattle.amt_values.specs.Order.{endpoint_order};
-ghost use Rattle.endpoint_membership.specs.EndpointGroup.{endpoint_group_order};
-ghost use Rattle.endpoint_membership.specs.Filters.{AreOrdered, IsSetAt, filter_at};
-ghost use Rattle.endpoint_membership.specs.Membership.{membership_order};
-ghost use Rattle.endpoint_membership.specs.Memberships.{membership_in};
-ghost use Rattle.endpoint_membership.specs.Parts.{HasNumber, one_less, one_more, stored_membership};
-ghost use Rattle.endpoint_membership.specs.Stored.{is_not_at};
+ghost use Rattle.std.specs.{Prelude.{◌≡◌, ◌<◌, ◌^◌, None, Some, OnOk, OnErr}, BTreeMap.{get, insert_entry, IsUnchanged}, List.{filter}, Map.{count_at}};
+ghost use Rattle.amt_values.specs.{Ascending.{placed}, Order.{endpoint_order}};
+ghost use Rattle.endpoint_membership.specs.{EndpointGroup.{endpoint_group_order}, Filters.{AreOrdered, IsSetAt, filter_at}, Membership.{membership_order}, Memberships.{membership_in}, Parts.{HasNumber, one_less, one_more, stored_membership}, Stored.{is_not_at}};
 
 use super::StoredMemberships;
 use crate::filters::StoredFilters;

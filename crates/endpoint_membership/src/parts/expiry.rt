@@ -1,11 +1,8 @@
 //! Memberships that end: in time, or with their endpoint. It must not know filters.
 
-ghost use Rattle.std.specs.Prelude.{◌≡◌, ◌≤◌, IfSome, IfNone, IsSome, None};
-ghost use Rattle.std.specs.List.{filter};
+ghost use Rattle.std.specs.{Prelude.{◌≡◌, ◌≤◌, IfSome, IfNone, IsSome, None}, List.{filter}};
 ghost use Rattle.amt_values.specs.Ascending.{IsAscending};
-ghost use Rattle.endpoint_membership.specs.Membership.{is_fresh, membership_order};
-ghost use Rattle.endpoint_membership.specs.Memberships.{membership_in};
-ghost use Rattle.endpoint_membership.specs.Stored.{is_of_another, only};
+ghost use Rattle.endpoint_membership.specs.{Membership.{is_fresh, membership_order}, Memberships.{membership_in}, Stored.{is_of_another, only}};
 
 use super::StoredMemberships;
 use crate::keys::EndpointGroup;

@@ -1,11 +1,7 @@
 //! How many endpoints are live. It must not know limits.
 
-ghost use Rattle.std.specs.Prelude.{◌≡◌, ◌≤◌, is_some, if◌then◌else◌};
-ghost use Rattle.std.specs.List.{filter};
-ghost use Rattle.endpoint_membership.specs.Limits.{live_count};
-ghost use Rattle.endpoint_membership.specs.Memberships.{is_live, membership_in};
-ghost use Rattle.endpoint_membership.specs.Parts.{stored_membership};
-ghost use Rattle.endpoint_membership.specs.Stored.{ends_with, is_counted, is_of_another, only};
+ghost use Rattle.std.specs.{Prelude.{◌≡◌, ◌≤◌, is_some, if◌then◌else◌}, List.{filter}};
+ghost use Rattle.endpoint_membership.specs.{Limits.{live_count}, Memberships.{is_live, membership_in}, Parts.{stored_membership}, Stored.{ends_with, is_counted, is_of_another, only}};
 
 use super::StoredMemberships;
 use crate::keys::EndpointGroup;

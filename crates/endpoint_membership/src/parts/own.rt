@@ -1,13 +1,8 @@
 //! What an endpoint wants of each group before a report. It must not know the log or limits.
 
-ghost use Rattle.std.specs.Prelude.{◌≡◌, ◌≤◌, IfOk};
-ghost use Rattle.std.specs.BTreeMap.{get};
-ghost use Rattle.amt_values.specs.declared.address.Ip.{Ip as Address};
-ghost use Rattle.amt_values.specs.Order.{ip_order};
-ghost use Rattle.endpoint_membership.specs.EndpointMemberships.{renewed_filter_of};
-ghost use Rattle.endpoint_membership.specs.Membership.{is_fresh};
-ghost use Rattle.endpoint_membership.specs.Memberships.{membership_in};
-ghost use Rattle.endpoint_membership.specs.Stored.{only};
+ghost use Rattle.std.specs.{Prelude.{◌≡◌, ◌≤◌, IfOk}, BTreeMap.{get}};
+ghost use Rattle.amt_values.specs.{declared.address.Ip.{Ip as Address}, Order.{ip_order}};
+ghost use Rattle.endpoint_membership.specs.{EndpointMemberships.{renewed_filter_of}, Membership.{is_fresh}, Memberships.{membership_in}, Stored.{only}};
 
 use super::StoredMemberships;
 use crate::after_report::{RenewedFilter, set_filter};

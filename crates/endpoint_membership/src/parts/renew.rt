@@ -1,16 +1,8 @@
 //! Memberships that are renewed, all or none. It must not know reports.
 
-ghost use Rattle.std.specs.Prelude.{◌≡◌, [], true, not, ◌&&◌, ◌||◌, is_some, Some, option_map, OnOk, OnErr};
-ghost use Rattle.std.specs.BTreeSet.{contains};
-ghost use Rattle.std.specs.List.{AllByRecursion};
-ghost use Rattle.std.specs.Option.{option_or};
+ghost use Rattle.std.specs.{Prelude.{◌≡◌, [], true, not, ◌&&◌, ◌||◌, is_some, Some, option_map, OnOk, OnErr}, BTreeSet.{contains}, List.{AllByRecursion}, Option.{option_or}};
 ghost use Rattle.amt_values.specs.Ascending.{IsAscending};
-ghost use Rattle.endpoint_membership.specs.EndpointGroup.{EndpointGroup as Pair};
-ghost use Rattle.endpoint_membership.specs.Filters.{IsSetAt, filter_at, pairs_of};
-ghost use Rattle.endpoint_membership.specs.Membership.{endpoint_group_of, membership_order};
-ghost use Rattle.endpoint_membership.specs.Memberships.{membership_in};
-ghost use Rattle.endpoint_membership.specs.Parts.{AreRenewalsOf, is_renewal_in, is_stored, renewal_of, renewal_order, stored_filter};
-ghost use Rattle.endpoint_membership.specs.declared.keys.LastRenewal.{LastRenewal as Renewed};
+ghost use Rattle.endpoint_membership.specs.{EndpointGroup.{EndpointGroup as Pair}, Filters.{IsSetAt, filter_at, pairs_of}, Membership.{endpoint_group_of, membership_order}, Memberships.{membership_in}, Parts.{AreRenewalsOf, is_renewal_in, is_stored, renewal_of, renewal_order, stored_filter}, declared.keys.LastRenewal.{LastRenewal as Renewed}};
 
 use super::StoredMemberships;
 use crate::filters::StoredFilters;

@@ -1,13 +1,8 @@
 //! Memberships that are set and taken away together, or not at all. It must not know reports.
 
-ghost use Rattle.std.specs.Prelude.{◌≡◌, None, true, not, is_some, map, IfOk, OnOk, OnErr, if◌then◌else◌};
-ghost use Rattle.std.specs.List.{AllByRecursion, filter};
-ghost use Rattle.std.specs.Option.{option_or};
+ghost use Rattle.std.specs.{Prelude.{◌≡◌, None, true, not, is_some, map, IfOk, OnOk, OnErr, if◌then◌else◌}, List.{AllByRecursion, filter}, Option.{option_or}};
 ghost use Rattle.amt_values.specs.Ascending.{IsAscending, has};
-ghost use Rattle.endpoint_membership.specs.EndpointGroup.{EndpointGroup as Pair, endpoint_group_order};
-ghost use Rattle.endpoint_membership.specs.Membership.{endpoint_group_of, membership_order};
-ghost use Rattle.endpoint_membership.specs.Memberships.{membership_in};
-ghost use Rattle.endpoint_membership.specs.Stored.{is_known};
+ghost use Rattle.endpoint_membership.specs.{EndpointGroup.{EndpointGroup as Pair, endpoint_group_order}, Membership.{endpoint_group_of, membership_order}, Memberships.{membership_in}, Stored.{is_known}};
 
 use super::StoredMemberships;
 use crate::keys::EndpointGroup;

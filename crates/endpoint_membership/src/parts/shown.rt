@@ -1,8 +1,7 @@
 //! Memberships as they are shown. It must not know limits.
 
 ghost use Rattle.std.specs.Prelude.{◌≡◌, [], ◌∷◌, ◌++◌, map, IfOk, OnOk};
-ghost use Rattle.endpoint_membership.specs.Memberships.{row_of};
-ghost use Rattle.endpoint_membership.specs.Parts.{stored_membership};
+ghost use Rattle.endpoint_membership.specs.{Memberships.{row_of}, Parts.{stored_membership}};
 
 use super::StoredMemberships;
 use crate::keys::EndpointGroup;

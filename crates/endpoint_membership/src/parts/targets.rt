@@ -2,8 +2,7 @@
 
 ghost use Rattle.std.specs.Prelude.{◌≡◌, ◌≤◌, ◌+◌, ◌&&◌, length, nat_lt};
 ghost use Rattle.source_filter.specs.Filter.{admits};
-ghost use Rattle.endpoint_membership.specs.EndpointGroup.{same_group};
-ghost use Rattle.endpoint_membership.specs.Stored.{targets_in};
+ghost use Rattle.endpoint_membership.specs.{EndpointGroup.{same_group}, Stored.{targets_in}};
 
 use super::StoredMemberships;
 use crate::keys::GroupMember;

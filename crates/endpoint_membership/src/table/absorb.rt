@@ -1,7 +1,6 @@
 //! A table that follows another one's log, entry by entry. It must not know who accepts the entries.
 ghost use Rattle.std.specs.Prelude.{◌≡◌, [], ◌∷◌, ◌++◌, OnOk, OnErr};
-ghost use Rattle.endpoint_membership.specs.Table.{ForLog, Holds};
-ghost use Rattle.endpoint_membership.specs.declared.change.Change.TheVariants.{Reported};
+ghost use Rattle.endpoint_membership.specs.{Table.{ForLog, Holds}, declared.change.Change.TheVariants.{Reported}};
 
 use super::Table;
 use crate::after_report::OwnAfter;

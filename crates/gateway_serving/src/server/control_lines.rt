@@ -1,11 +1,7 @@
 //! How a running gateway takes socket calls from its control feed. It must not know turns.
 ghost use Rattle.std.specs.Prelude.{◌≡◌, ◌≤◌, ◌-◌, ◌^◌, length, IsErrOf};
-ghost use Rattle.amt_ports.specs.Bursts.{AreAsked, AskedSo, IsNext};
-ghost use Rattle.amt_ports.specs.EndCauses.{IsCausedBy};
-ghost use Rattle.amt_ports.specs.Devices.{WaitsBriefly, feed_seen, link_seen, out_seen};
-ghost use Rattle.gateway_serving.specs.Hearing.{HearsControlLine};
-ghost use Rattle.gateway_serving.specs.Servers.{AreFew, GrowsBy, HearsControl, at_control, at_work, family_in, latest_in};
-ghost use Rattle.gateway_serving.specs.Turns.{from_control};
+ghost use Rattle.amt_ports.specs.{Bursts.{AreAsked, AskedSo, IsNext}, EndCauses.{IsCausedBy}, Devices.{WaitsBriefly, feed_seen, link_seen, out_seen}};
+ghost use Rattle.gateway_serving.specs.{Hearing.{HearsControlLine}, Servers.{AreFew, GrowsBy, HearsControl, at_control, at_work, family_in, latest_in}, Turns.{from_control}};
 
 use super::Server;
 use amt_ports::{Asked, BURST, End, Feed, FeedGot, Link, OutLink, WAIT_MS};

@@ -1,12 +1,8 @@
 //! How a running gateway hears its link. It must not know turns.
 ghost use Rattle.std.specs.Prelude.{◌≡◌, ◌≤◌, ◌-◌, ◌^◌, [], ◌∷◌, length, IsErrOf, OnErr, OnOk};
 ghost use Rattle.gateway_machine.specs.declared.event.GatewayEvent.TheVariants.{Datagram as DatagramEvent};
-ghost use Rattle.amt_ports.specs.Bursts.{AreAsked, AskedSo, IsNext};
-ghost use Rattle.amt_ports.specs.EndCauses.{IsCausedBy};
-ghost use Rattle.amt_ports.specs.Devices.{WaitsBriefly, link_seen, out_seen};
-ghost use Rattle.gateway_serving.specs.Hearing.{HearsOne};
-ghost use Rattle.gateway_serving.specs.Servers.{AreFew, GrowsBy, Hears, Takes, Tallies, at_work, counts_in, latest_in};
-ghost use Rattle.gateway_serving.specs.Turns.{from_link};
+ghost use Rattle.amt_ports.specs.{Bursts.{AreAsked, AskedSo, IsNext}, EndCauses.{IsCausedBy}, Devices.{WaitsBriefly, link_seen, out_seen}};
+ghost use Rattle.gateway_serving.specs.{Hearing.{HearsOne}, Servers.{AreFew, GrowsBy, Hears, Takes, Tallies, at_work, counts_in, latest_in}, Turns.{from_link}};
 
 use super::Server;
 use amt_ports::{Asked, BURST, End, Got, Link, OutLink, WAIT_MS};

@@ -1,15 +1,9 @@
 //! How a running gateway begins: its machine, its first moment, and the joins of its settings. It must not know
 //! turns.
 ghost use Rattle.std.specs.Prelude.{◌≡◌, ◌≤◌, ◌<◌, ◌+◌, ◌^◌, [], ◌∷◌, All, IfOk, OnErr, OnOk, length, map};
-ghost use Rattle.amt_ports.specs.Told.{Appends};
+ghost use Rattle.amt_ports.specs.{Told.{Appends}, Devices.{link_seen, out_seen}};
 ghost use Rattle.gateway_machine.specs.Events.{IsEventOf};
-ghost use Rattle.amt_ports.specs.Devices.{link_seen, out_seen};
-ghost use Rattle.gateway_serving.specs.Counting.{no_counts};
-ghost use Rattle.gateway_serving.specs.Events.{nonce_of};
-ghost use Rattle.gateway_serving.specs.Openings.{OpensSo};
-ghost use Rattle.gateway_serving.specs.Servers.{AreFew, GrowsBy, Takes, Tallies, at_work, counts_in, deliver_in, events_in, first_in, latest_in, settings_in};
-ghost use Rattle.gateway_serving.specs.Settings.{IsLawfulConfig, opening_of, settings_of};
-ghost use Rattle.gateway_serving.specs.Stages.{BeginsWith};
+ghost use Rattle.gateway_serving.specs.{Counting.{no_counts}, Events.{nonce_of}, Openings.{OpensSo}, Servers.{AreFew, GrowsBy, Takes, Tallies, at_work, counts_in, deliver_in, events_in, first_in, latest_in, settings_in}, Settings.{IsLawfulConfig, opening_of, settings_of}, Stages.{BeginsWith}};
 
 use super::Server;
 use crate::counts::Counts;

@@ -1,13 +1,9 @@
 //! How a running gateway takes an event, sends what the machine says, and hands on a packet. It must not know where
 //! the event comes from.
 ghost use Rattle.std.specs.Prelude.{◌≡◌, ◌≤◌, ◌<◌, ◌+◌, ◌^◌, [], ◌∷◌, length, map, IsOk, OnErr, OnOk};
-ghost use Rattle.gateway_machine.specs.Events.{IsDraw, IsEventOf};
-ghost use Rattle.gateway_machine.specs.Outcomes.{NeedsNoMemory};
-ghost use Rattle.gateway_machine.specs.Runs.{answer_after};
+ghost use Rattle.gateway_machine.specs.{Events.{IsDraw, IsEventOf}, Outcomes.{NeedsNoMemory}, Runs.{answer_after}};
 ghost use Rattle.amt_ports.specs.Devices.{link_seen, out_seen};
-ghost use Rattle.gateway_serving.specs.Sending.{delivery_to, to_peer};
-ghost use Rattle.gateway_serving.specs.Servers.{AreFew, IsAlike, Takes, Tallies, at_work, counts_in, events_in, first_in, latest_in, settings_in};
-ghost use Rattle.gateway_serving.specs.Taking.{HasHandedOn, HasSent};
+ghost use Rattle.gateway_serving.specs.{Sending.{delivery_to, to_peer}, Servers.{AreFew, IsAlike, Takes, Tallies, at_work, counts_in, events_in, first_in, latest_in, settings_in}, Taking.{HasHandedOn, HasSent}};
 
 use super::Server;
 use crate::counts::Counts;

@@ -1,13 +1,8 @@
 //! One turn of a running gateway, and all of a run. It must not know how a gateway begins.
 ghost use Rattle.std.specs.Prelude.{◌≡◌, ◌≤◌, ◌-◌, ◌^◌, [], ◌∷◌, length};
-ghost use Rattle.amt_ports.specs.EndCauses.{IsCausedBy};
-ghost use Rattle.amt_ports.specs.Devices.{WaitsBriefly, feed_seen, link_seen, out_seen, words_seen};
-ghost use Rattle.gateway_serving.specs.Devices.{devices_seen};
+ghost use Rattle.amt_ports.specs.{EndCauses.{IsCausedBy}, Devices.{WaitsBriefly, feed_seen, link_seen, out_seen, words_seen}};
+ghost use Rattle.gateway_serving.specs.{Devices.{devices_seen}, Events.{nonce_of}, Servers.{AreFew, GrowsBy, Takes, Tallies, at_work, counts_in, latest_in}, Settings.{AreTurns}, Stages.{AreCausesOf, BeginsTurn, EndsIn, PassesMoment, RunsSo, TurnsSo}};
 ghost use Rattle.gateway_machine.specs.declared.event.GatewayEvent.TheVariants.{Nonce as NonceEvent};
-ghost use Rattle.gateway_serving.specs.Events.{nonce_of};
-ghost use Rattle.gateway_serving.specs.Servers.{AreFew, GrowsBy, Takes, Tallies, at_work, counts_in, latest_in};
-ghost use Rattle.gateway_serving.specs.Settings.{AreTurns};
-ghost use Rattle.gateway_serving.specs.Stages.{AreCausesOf, BeginsTurn, EndsIn, PassesMoment, RunsSo, TurnsSo};
 
 use super::Server;
 use amt_ports::{Clock, End, Feed, Link, OutLink, Words};

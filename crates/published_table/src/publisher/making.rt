@@ -1,8 +1,6 @@
 //! How a publisher and its views are made. It must not know what they are for.
 ghost use Rattle.std.specs.Prelude.{◌≡◌, ◌≤◌, [], All, length, IfOk};
-ghost use Rattle.published_table.specs.Publishers.{IsSamePublisher, ShowsAlike, book_of, owing, published, reading_terms};
-ghost use Rattle.published_table.specs.Terms.{AreLawfulTerms};
-ghost use Rattle.published_table.specs.Views.{IsNew, views_of};
+ghost use Rattle.published_table.specs.{Publishers.{IsSamePublisher, ShowsAlike, book_of, owing, published, reading_terms}, Terms.{AreLawfulTerms}, Views.{IsNew, views_of}};
 
 use super::{Publisher, TableWriter};
 use crate::door::Door;

@@ -1,12 +1,7 @@
 //! How a publisher shows what it owes. It must not know who reads it.
 ghost use Rattle.std.specs.Prelude.{◌≡◌, [], ◌++◌, drop, fold, map, IfOk, MatchResult};
 ghost use mathlib.Core.List.{IsPrefix};
-ghost use Rattle.published_table.specs.Copies.{log_of, state_of};
-ghost use Rattle.published_table.specs.Entries.{IsVouched, changes, with_entry};
-ghost use Rattle.published_table.specs.History.{IsUnder};
-ghost use Rattle.published_table.specs.Lists.{BeginsWithEach};
-ghost use Rattle.published_table.specs.Logs.{entries};
-ghost use Rattle.published_table.specs.Publishers.{HasPublished, IsSamePublisher, ShowsAlike};
+ghost use Rattle.published_table.specs.{Copies.{log_of, state_of}, Entries.{IsVouched, changes, with_entry}, History.{IsUnder}, Lists.{BeginsWithEach}, Logs.{entries}, Publishers.{HasPublished, IsSamePublisher, ShowsAlike}};
 
 use super::{Publisher, TableWriter};
 use crate::entry::Entry;

@@ -1,8 +1,6 @@
 //! What a publisher takes, and what is read of it. It must not know how it publishes.
 ghost use Rattle.std.specs.Prelude.{◌≡◌, ◌<◌, ◌+◌, ◌^◌, [], ◌∷◌, ◌++◌, length, OnOk, OnErr};
-ghost use Rattle.published_table.specs.Publishers.{IsSamePublisher, ShowsAlike, book_of, owing, published, reading_terms, spare};
-ghost use Rattle.published_table.specs.Terms.{Fits};
-ghost use Rattle.published_table.specs.Views.{named, note_publisher};
+ghost use Rattle.published_table.specs.{Publishers.{IsSamePublisher, ShowsAlike, book_of, owing, published, reading_terms, spare}, Terms.{Fits}, Views.{named, note_publisher}};
 
 use super::Publisher;
 use crate::view::Note;

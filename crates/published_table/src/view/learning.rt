@@ -1,8 +1,6 @@
 //! How a view is told of a log. It must not know how the table is read.
 ghost use Rattle.std.specs.Prelude.{◌≡◌, ◌∷◌};
-ghost use Rattle.published_table.specs.Logs.{entries};
-ghost use Rattle.published_table.specs.Told.{logs_told};
-ghost use Rattle.published_table.specs.Views.{handed, named, note_publisher, publisher_of, seen, terms_of, told};
+ghost use Rattle.published_table.specs.{Logs.{entries}, Told.{logs_told}, Views.{handed, named, note_publisher, publisher_of, seen, terms_of, told}};
 
 use super::{Note, Reader, View};
 

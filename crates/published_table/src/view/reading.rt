@@ -1,15 +1,7 @@
 //! How a view reads the table. It must not know how a copy is published.
 ghost use Rattle.std.specs.Prelude.{◌≡◌, ◌≤◌, ℕ, Some, length, IfSome, OnSome, MatchOption};
-ghost use Rattle.endpoint_membership.specs.Limits.{live_count};
-ghost use Rattle.endpoint_membership.specs.Table.{Holds};
-ghost use Rattle.endpoint_membership.specs.Targets.{targets_of};
-ghost use Rattle.endpoint_membership.specs.declared.change.Change.{Change as LogEntry};
-ghost use Rattle.published_table.specs.History.{AreUnder, IsUnder};
-ghost use Rattle.published_table.specs.Lists.{BeginsWithEach};
-ghost use Rattle.published_table.specs.Logs.{entries};
-ghost use Rattle.published_table.specs.Terms.{settings_by};
-ghost use Rattle.published_table.specs.Told.{logs_told};
-ghost use Rattle.published_table.specs.Views.{Fills, HasRead, IsHandedBack, IsSameView, handed, publisher_of, seen, terms_of, told};
+ghost use Rattle.endpoint_membership.specs.{Limits.{live_count}, Table.{Holds}, Targets.{targets_of}, declared.change.Change.{Change as LogEntry}};
+ghost use Rattle.published_table.specs.{History.{AreUnder, IsUnder}, Lists.{BeginsWithEach}, Logs.{entries}, Terms.{settings_by}, Told.{logs_told}, Views.{Fills, HasRead, IsHandedBack, IsSameView, handed, publisher_of, seen, terms_of, told}};
 
 use super::{Reader, View};
 use crate::history::{Bookmark, compare};

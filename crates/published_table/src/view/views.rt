@@ -1,8 +1,7 @@
 //! Views that are handed out one by one. It must not know what a view reads.
 ghost use Rattle.std.specs.Prelude.{◌≡◌, ◌≤◌, ◌<◌, ℕ, [], ◌∷◌, ◌++◌, All, length, IfSome, IfNone, IfOk, IfErr, IsOk, OnOk, OnErr};
 ghost use Rattle.logbook.specs.Pages.{Book};
-ghost use Rattle.published_table.specs.Views.{IsNew, room_of, views_of};
-ghost use Rattle.published_table.specs.declared.terms.Terms.{Terms as ReadingTerms};
+ghost use Rattle.published_table.specs.{Views.{IsNew, room_of, views_of}, declared.terms.Terms.{Terms as ReadingTerms}};
 
 use super::View;
 use std::alloc::{AllocError, Global};

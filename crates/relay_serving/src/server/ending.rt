@@ -1,12 +1,8 @@
 //! How a running relay is ended. It must not know turns.
 ghost use Rattle.std.specs.Prelude.{◌≡◌, ◌≤◌, ◌<◌, ◌+◌, ◌^◌, [], ◌∷◌, ◌++◌, All, cond, count_by, length, reverse};
-ghost use Rattle.published_table.specs.Lists.{BeginsWith};
-ghost use Rattle.published_table.specs.Publishers.{book_of, published};
-ghost use Rattle.published_table.specs.Views.{publisher_of, room_of, seen, views_of};
+ghost use Rattle.published_table.specs.{Lists.{BeginsWith}, Publishers.{book_of, published}, Views.{publisher_of, room_of, seen, views_of}};
 ghost use Rattle.replication_workers.specs.Dispatchers.{AllRun};
-ghost use Rattle.relay_serving.specs.Ending.{AreAsked, Finishes};
-ghost use Rattle.relay_serving.specs.Servers.{slots_in};
-ghost use Rattle.relay_serving.specs.Views.{is_apart};
+ghost use Rattle.relay_serving.specs.{Ending.{AreAsked, Finishes}, Servers.{slots_in}, Views.{is_apart}};
 
 use super::Server;
 use crate::counts::Counts;

@@ -1,12 +1,8 @@
 //! How a running relay takes packets from its feed. It must not know turns.
 ghost use Rattle.std.specs.Prelude.{◌≡◌, ◌≤◌, ◌<◌, ◌+◌, ◌^◌, [], ◌∷◌, length, IsErrOf, OnOk, OnErr};
 ghost use Rattle.relay_machine.specs.declared.event.Event.TheVariants.{Packet};
-ghost use Rattle.amt_ports.specs.Bursts.{AreAsked, IsNext};
-ghost use Rattle.amt_ports.specs.EndCauses.{IsCausedBy};
-ghost use Rattle.amt_ports.specs.Devices.{WaitsBriefly, feed_seen};
-ghost use Rattle.relay_serving.specs.Counting.{with_packet};
-ghost use Rattle.relay_serving.specs.Servers.{FeedsSo, HasEvents, IsAsBefore, counts_in, tally_in};
-ghost use Rattle.relay_serving.specs.Turns.{from_feed};
+ghost use Rattle.amt_ports.specs.{Bursts.{AreAsked, IsNext}, EndCauses.{IsCausedBy}, Devices.{WaitsBriefly, feed_seen}};
+ghost use Rattle.relay_serving.specs.{Counting.{with_packet}, Servers.{FeedsSo, HasEvents, IsAsBefore, counts_in, tally_in}, Turns.{from_feed}};
 
 use super::Server;
 use amt_ports::{Asked, BURST, End, Feed, FeedGot, OutLink, WAIT_MS};

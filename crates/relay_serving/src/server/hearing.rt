@@ -1,14 +1,9 @@
 //! How a running relay hears its link. It must not know turns.
 ghost use Rattle.std.specs.Prelude.{◌≡◌, ◌≤◌, ◌<◌, ◌+◌, ◌^◌, [], ◌∷◌, length, map, IsErrOf, OnOk, OnErr};
-ghost use Rattle.relay_machine.specs.Answers.{sends_of};
-ghost use Rattle.relay_machine.specs.declared.event.Event.TheVariants.{Datagram};
-ghost use Rattle.amt_ports.specs.Bursts.{AreAsked, IsNext};
-ghost use Rattle.amt_ports.specs.EndCauses.{IsCausedBy};
-ghost use Rattle.amt_ports.specs.Devices.{WaitsBriefly, link_seen};
+ghost use Rattle.relay_machine.specs.{Answers.{sends_of}, declared.event.Event.TheVariants.{Datagram}};
+ghost use Rattle.amt_ports.specs.{Bursts.{AreAsked, IsNext}, EndCauses.{IsCausedBy}, Devices.{WaitsBriefly, link_seen}};
 ghost use Rattle.replication_workers.specs.Replication.{to_peer};
-ghost use Rattle.relay_serving.specs.Counting.{CountsAlike, HasAnswered, HasRefused};
-ghost use Rattle.relay_serving.specs.Servers.{HasEvents, HearsSo, IsAsBefore, counts_in, events_in, first_in, settings_in, tally_in};
-ghost use Rattle.relay_serving.specs.Turns.{from_link};
+ghost use Rattle.relay_serving.specs.{Counting.{CountsAlike, HasAnswered, HasRefused}, Servers.{HasEvents, HearsSo, IsAsBefore, counts_in, events_in, first_in, settings_in, tally_in}, Turns.{from_link}};
 
 use super::Server;
 use crate::counts::Counts;

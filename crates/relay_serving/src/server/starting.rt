@@ -4,13 +4,8 @@ ghost use Rattle.logbook.specs.Pages.{Book};
 ghost use Rattle.amt_ports.specs.Causes.{Rose};
 ghost use Rattle.published_table.specs.Views.{IsNew, views_of};
 ghost use Rattle.relay_machine.specs.Settings.{AreLawfulSettings};
-ghost use Rattle.replication_workers.specs.Replicators.{out_of};
-ghost use Rattle.replication_workers.specs.Dispatchers.{AllRun, is_threaded, slots_of};
-ghost use Rattle.replication_workers.specs.SlotStates.{new_slot};
-ghost use Rattle.replication_workers.specs.Starting.{HaveStarted};
-ghost use Rattle.relay_serving.specs.Devices.{outs_seen};
-ghost use Rattle.relay_serving.specs.GivenOut.{starts_in, terms_by};
-ghost use Rattle.relay_serving.specs.Starting.{AreLeftBy, AreReadBy, AreStarts, HasRoomBack, IsAtStart};
+ghost use Rattle.replication_workers.specs.{Replicators.{out_of}, Dispatchers.{AllRun, is_threaded, slots_of}, SlotStates.{new_slot}, Starting.{HaveStarted}};
+ghost use Rattle.relay_serving.specs.{Devices.{outs_seen}, GivenOut.{starts_in, terms_by}, Starting.{AreLeftBy, AreReadBy, AreStarts, HasRoomBack, IsAtStart}};
 
 use super::Server;
 use crate::counts::Counts;

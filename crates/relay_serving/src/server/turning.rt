@@ -1,13 +1,7 @@
 //! One turn of a running relay, and all of a run. It must not know how a relay is started or ended.
 ghost use Rattle.std.specs.Prelude.{◌≡◌, ◌≤◌, ◌<◌, ◌+◌, ◌^◌, [], length, None};
-ghost use Rattle.amt_ports.specs.EndCauses.{IsCausedBy};
-ghost use Rattle.amt_ports.specs.Devices.{WaitsBriefly, feed_seen, link_seen, words_seen};
-ghost use Rattle.relay_serving.specs.Counting.{no_counts};
-ghost use Rattle.relay_serving.specs.Devices.{devices_seen};
-ghost use Rattle.relay_serving.specs.Plans.{IsLawfulPlan};
-ghost use Rattle.relay_serving.specs.Servers.{counts_in, happenings_in, tally_in};
-ghost use Rattle.relay_serving.specs.Stages.{BeginsSo, progress_in};
-ghost use Rattle.relay_serving.specs.Turning.{AreCausesOf, EndsIn, RunsSo, TurnsSo};
+ghost use Rattle.amt_ports.specs.{EndCauses.{IsCausedBy}, Devices.{WaitsBriefly, feed_seen, link_seen, words_seen}};
+ghost use Rattle.relay_serving.specs.{Counting.{no_counts}, Devices.{devices_seen}, Plans.{IsLawfulPlan}, Servers.{counts_in, happenings_in, tally_in}, Stages.{BeginsSo, progress_in}, Turning.{AreCausesOf, EndsIn, RunsSo, TurnsSo}};
 
 use super::Server;
 use crate::plan::ServePlan;

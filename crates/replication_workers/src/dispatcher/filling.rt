@@ -2,9 +2,7 @@
 //! not know jobs.
 ghost use Rattle.std.specs.Prelude.{◌≡◌, ◌≤◌, ◌+◌, [], OnErr, OnOk, length, vec_capacity};
 ghost use Rattle.amt_ports.specs.Causes.{HasCause};
-ghost use Rattle.replication_workers.specs.KeptSlots.{AreStarted, HasKept};
-ghost use Rattle.replication_workers.specs.Slots.{from_the_end};
-ghost use Rattle.replication_workers.specs.Starting.{HasRefusedOne, HaveStarted};
+ghost use Rattle.replication_workers.specs.{KeptSlots.{AreStarted, HasKept}, Slots.{from_the_end}, Starting.{HasRefusedOne, HaveStarted}};
 
 use super::inline_slot::InlineSlot;
 use super::kept::Kept;

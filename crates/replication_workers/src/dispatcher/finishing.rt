@@ -1,11 +1,7 @@
 //! How all slots are ended. It must not know why.
-ghost use Rattle.std.specs.Prelude.{◌≡◌, ◌≤◌, ◌^◌, false, length, map};
-ghost use Rattle.std.specs.List.{All};
+ghost use Rattle.std.specs.{Prelude.{◌≡◌, ◌≤◌, ◌^◌, false, length, map}, List.{All}};
 ghost use Rattle.published_table.specs.Views.{views_of};
-ghost use Rattle.replication_workers.specs.Gathering.{HasRoom, IsFresh};
-ghost use Rattle.replication_workers.specs.KeptSlots.{AreThreaded, IsRunBy, now_of, state_of};
-ghost use Rattle.replication_workers.specs.Replicators.{out_of, view_of};
-ghost use Rattle.replication_workers.specs.SlotStates.{HaveLeft, jobs_in_all};
+ghost use Rattle.replication_workers.specs.{Gathering.{HasRoom, IsFresh}, KeptSlots.{AreThreaded, IsRunBy, now_of, state_of}, Replicators.{out_of, view_of}, SlotStates.{HaveLeft, jobs_in_all}};
 
 use super::gathered::Gathered;
 use super::kept::{Kept, finish_kept};

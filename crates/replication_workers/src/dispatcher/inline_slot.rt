@@ -2,10 +2,7 @@
 //! slots there are.
 ghost use Rattle.std.specs.Prelude.{◌≡◌, ◌≤◌, ◌+◌, ◌*◌, length};
 ghost use Rattle.published_table.specs.Views.{publisher_of, terms_of};
-ghost use Rattle.replication_workers.specs.Backs.{IsBack};
-ghost use Rattle.replication_workers.specs.JobsSoFar.{jobs_listed};
-ghost use Rattle.replication_workers.specs.Replicators.{limit_of, out_of, view_of};
-ghost use Rattle.replication_workers.specs.Workers.{HasHandled};
+ghost use Rattle.replication_workers.specs.{Backs.{IsBack}, JobsSoFar.{jobs_listed}, Replicators.{limit_of, out_of, view_of}, Workers.{HasHandled}};
 
 use crate::dispatcher::jobs_so_far::JobsSoFar;
 use crate::replicator::Replicator;

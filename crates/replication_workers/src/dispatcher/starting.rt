@@ -1,14 +1,8 @@
 //! How a dispatcher is started. It must not know jobs.
-ghost use Rattle.std.specs.Prelude.{◌≡◌, ◌≤◌, ◌+◌, [], true, false, length, map, vec_capacity, IfErr, IfOk, OnErr, OnOk};
-ghost use Rattle.std.specs.List.{All};
+ghost use Rattle.std.specs.{Prelude.{◌≡◌, ◌≤◌, ◌+◌, [], true, false, length, map, vec_capacity, IfErr, IfOk, OnErr, OnOk}, List.{All}};
 ghost use Rattle.amt_ports.specs.Causes.{Rose};
 ghost use Rattle.published_table.specs.Views.{views_of};
-ghost use Rattle.replication_workers.specs.Dispatchers.{AllRun, held_by, is_threaded, slots_of};
-ghost use Rattle.replication_workers.specs.Gathering.{HasRoom, IsFresh};
-ghost use Rattle.replication_workers.specs.KeptSlots.{IsRunBy, state_of};
-ghost use Rattle.replication_workers.specs.SlotStates.{jobs_in_all, new_slot};
-ghost use Rattle.replication_workers.specs.Slots.{from_the_end};
-ghost use Rattle.replication_workers.specs.Starting.{AllButOneBack, GivesAllButOne, HaveStarted, OnFailed, OnMemory};
+ghost use Rattle.replication_workers.specs.{Dispatchers.{AllRun, held_by, is_threaded, slots_of}, Gathering.{HasRoom, IsFresh}, KeptSlots.{IsRunBy, state_of}, SlotStates.{jobs_in_all, new_slot}, Slots.{from_the_end}, Starting.{AllButOneBack, GivesAllButOne, HaveStarted, OnFailed, OnMemory}};
 
 use super::filling::{keep_inline, start_each};
 use super::finishing::finish_all;

@@ -1,10 +1,7 @@
 //! How a dispatcher is given jobs, and ended. It must not know how it was started.
-ghost use Rattle.std.specs.Prelude.{◌≡◌, ◌<◌, ◌^◌, true, false, length, map};
-ghost use Rattle.std.specs.List.{All};
+ghost use Rattle.std.specs.{Prelude.{◌≡◌, ◌<◌, ◌^◌, true, false, length, map}, List.{All}};
 ghost use Rattle.published_table.specs.Views.{views_of};
-ghost use Rattle.replication_workers.specs.Dispatchers.{AllRun, IsForSlot, KeepsAllRun, held_by, is_threaded, slot_for, slots_of};
-ghost use Rattle.replication_workers.specs.Replicators.{out_of, view_of};
-ghost use Rattle.replication_workers.specs.SlotStates.{CopiedAt, HaveLeft, jobs_in_all, with_job};
+ghost use Rattle.replication_workers.specs.{Dispatchers.{AllRun, IsForSlot, KeepsAllRun, held_by, is_threaded, slot_for, slots_of}, Replicators.{out_of, view_of}, SlotStates.{CopiedAt, HaveLeft, jobs_in_all, with_job}};
 
 use super::choosing::choose_slot;
 use super::finishing::finish_all;

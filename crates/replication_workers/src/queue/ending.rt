@@ -1,7 +1,6 @@
 //! How a queue ends. It must not know who ends it.
 ghost use Rattle.std.specs.Prelude.{◌≡◌};
-ghost use Rattle.crossbeam_channel.specs.Claims.{IsSeatAt, view};
-ghost use Rattle.crossbeam_channel.specs.Ends.{sends_on};
+ghost use Rattle.crossbeam_channel.specs.{Claims.{IsSeatAt, view}, Ends.{sends_on}};
 ghost use Rattle.replication_workers.specs.Queue.{HasEnded, HasStopped, jobs_of};
 
 use super::{Ends, QueuePass, Sender, Totals};

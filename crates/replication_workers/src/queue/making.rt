@@ -1,9 +1,7 @@
 //! How a queue is made. It must not know jobs.
 ghost use Rattle.std.specs.Prelude.{◌≡◌, [], ◌∷◌, IfOk};
-ghost use Rattle.crossbeam_channel.specs.Claims.{IsSeatAt, view};
-ghost use Rattle.crossbeam_channel.specs.Ends.{receives_on, ruled_capacity, sends_on};
-ghost use Rattle.replication_workers.specs.Queue.{IsPutting, IsTaking, jobs_of, settled, whole_end};
-ghost use Rattle.replication_workers.specs.declared.queue.Item.TheVariants.{Home};
+ghost use Rattle.crossbeam_channel.specs.{Claims.{IsSeatAt, view}, Ends.{receives_on, ruled_capacity, sends_on}};
+ghost use Rattle.replication_workers.specs.{Queue.{IsPutting, IsTaking, jobs_of, settled, whole_end}, declared.queue.Item.TheVariants.{Home}};
 
 use super::{End, Ends, InOrder, Item, QueuePass, Receiver, Sender, Settles};
 use crossbeam_channel::bounded_with;

@@ -1,7 +1,6 @@
 //! How items are put. It must not know what takes them.
 ghost use Rattle.std.specs.Prelude.{◌≡◌, ◌<◌, ◌^◌, [], ◌∷◌, ◌++◌, length, MatchResult};
-ghost use Rattle.crossbeam_channel.specs.Claims.{IsSeatAt, view};
-ghost use Rattle.crossbeam_channel.specs.Ends.{sends_on};
+ghost use Rattle.crossbeam_channel.specs.{Claims.{IsSeatAt, view}, Ends.{sends_on}};
 ghost use Rattle.replication_workers.specs.Queue.{HasStopped, IsOfHome, IsPutting, MayPut, jobs_of, with_put};
 
 use super::{Item, Puts, QueuePass, Sender};

@@ -1,7 +1,6 @@
 //! One message to many endpoints. It must not know who wants it.
 ghost use Rattle.std.specs.Prelude.{◌≡◌, ◌≤◌, ◌∷◌, ◌+◌, length, map, vec_capacity};
-ghost use Rattle.amt_messages.specs.Layout.{spelling_of};
-ghost use Rattle.amt_messages.specs.declared.message.Message.TheVariants.{Multicast};
+ghost use Rattle.amt_messages.specs.{Layout.{spelling_of}, declared.message.Message.TheVariants.{Multicast}};
 ghost use Rattle.replication_workers.specs.Replication.{with_message};
 ghost use Rattle.amt_ports.specs.Tried.{HasTried};
 

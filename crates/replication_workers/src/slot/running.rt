@@ -1,10 +1,8 @@
 //! How a slot is made, started, used and ended. It must not know how many there are.
 ghost use Rattle.std.specs.Prelude.{◌≡◌, ◌<◌, ◌^◌, [], ◌∷◌, ◌++◌, length, IfOk, MatchResult, OnErr};
-ghost use Rattle.amt_ports.specs.Causes.{HasCause};
-ghost use Rattle.amt_ports.specs.Starts.{HasStarted};
+ghost use Rattle.amt_ports.specs.{Causes.{HasCause}, Starts.{HasStarted}};
 ghost use Rattle.published_table.specs.Views.{note_publisher, publisher_of};
-ghost use Rattle.replication_workers.specs.Replicators.{view_of};
-ghost use Rattle.replication_workers.specs.Slots.{LeftAfter, jobs_put, ready_worker, replicator_of, started_of, worker_of};
+ghost use Rattle.replication_workers.specs.{Replicators.{view_of}, Slots.{LeftAfter, jobs_put, ready_worker, replicator_of, started_of, worker_of}};
 
 use super::{Left, ReadySlot, Slot};
 use crate::job::Job;

@@ -1,7 +1,6 @@
 //! The text of a run's report. It knows no device.
 ghost use Rattle.std.specs.Prelude.{◌≡◌, ◌++◌, IfOk, OnOk};
-ghost use Rattle.serving_commands.specs.GatewayTexts.{report_text, sent_text, taken_text};
-ghost use Rattle.serving_commands.specs.Texts.{IsDone};
+ghost use Rattle.serving_commands.specs.{GatewayTexts.{report_text, sent_text, taken_text}, Texts.{IsDone}};
 
 use crate::report::report_head;
 use amt_values::Bytes;

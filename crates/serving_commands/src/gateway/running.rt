@@ -1,13 +1,8 @@
 //! A gateway is run on devices that are opened for it. It must not know what they are over.
 ghost use Rattle.std.specs.Prelude.{◌≡◌, ◌⊎◌, ℕ, List, IfErr, IfOk, IsErrOf, OnErr, Some};
 ghost use Rattle.amt_ports.specs.Causes.{Rose};
-ghost use Rattle.serving_commands.specs.GatewayOpenings.{IsRefusedBy, opening_by};
-ghost use Rattle.serving_commands.specs.GatewayRunning.{Runs, RunsBy};
+ghost use Rattle.serving_commands.specs.{GatewayOpenings.{IsRefusedBy, opening_by}, GatewayRunning.{Runs, RunsBy}, Kinds.{gateway_file}, Lives.{tells}, Openings.{ComesFirst, IsRefused}, Reading.{Decides, TellsFault}};
 ghost use Rattle.gateway_serving.specs.Settings.{AreTurns, IsLawfulConfig};
-ghost use Rattle.serving_commands.specs.Kinds.{gateway_file};
-ghost use Rattle.serving_commands.specs.Lives.{tells};
-ghost use Rattle.serving_commands.specs.Openings.{ComesFirst, IsRefused};
-ghost use Rattle.serving_commands.specs.Reading.{Decides, TellsFault};
 
 use crate::fault::ServingFault;
 use crate::opening::{GatewayDevices, Live, OpenFault};

@@ -36,8 +36,7 @@ pub(crate) struct AskedLog {
 
 impl Model for AskedLog {
     ghost use Rattle.std.specs.Prelude.{List, Option};
-    ghost use Rattle.serving_commands.specs.MemLive.{told_openings};
-    ghost use Rattle.serving_commands.specs.declared.opening.asked.Opening.{Opening as Asked};
+    ghost use Rattle.serving_commands.specs.{MemLive.{told_openings}, declared.opening.asked.Opening.{Opening as Asked}};
 
     ghost Value = { Option (List Asked) };
 

@@ -1,12 +1,7 @@
 //! What opens the devices of a run. It must not know what they are over.
 ghost use Rattle.std.specs.Prelude.{◌≡◌, ◌≤◌, ℕ, IfOk, IsErrOf, IsSome, List, OnErr, OnOk, Option, length};
-ghost use Rattle.amt_ports.specs.Causes.{Rose};
-ghost use Rattle.amt_ports.specs.Told.{Appends};
-ghost use Rattle.serving_commands.specs.Sets.{HasRoom, TakesFirst, less_room, more_room};
-ghost use Rattle.serving_commands.specs.declared.opening.asked.Opening.{Opening as Asked};
-ghost use Rattle.serving_commands.specs.declared.opening.asked.Opening.TheVariants.{Relay as AskedRelay, Gateway as AskedGateway};
-ghost use Rattle.serving_commands.specs.declared.opening.devices.DeviceSet.{DeviceSet as Set};
-ghost use Rattle.serving_commands.specs.declared.opening.devices.DeviceSet.TheVariants.{Relay as RelaySet, Gateway as GatewaySet};
+ghost use Rattle.amt_ports.specs.{Causes.{Rose}, Told.{Appends}};
+ghost use Rattle.serving_commands.specs.{Sets.{HasRoom, TakesFirst, less_room, more_room}, declared.opening.{asked.Opening.{Opening as Asked, TheVariants.{Relay as AskedRelay, Gateway as AskedGateway}}, devices.DeviceSet.{DeviceSet as Set, TheVariants.{Relay as RelaySet, Gateway as GatewaySet}}}};
 
 use crate::opening::asked::Opening;
 use crate::opening::devices::{GatewayDevices, RelayDevices};

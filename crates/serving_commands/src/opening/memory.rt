@@ -1,12 +1,7 @@
 //! Sets of devices in memory, for tests and callers. They must not know what the devices are.
 ghost use Rattle.std.specs.Prelude.{◌≡◌, ◌≤◌, ◌<◌, ◌⊎◌, [], ◌∷◌, Contains, IfOk, IsErr, IsErrOf, IsSome, OnErr, OnOk, Some, false, length, true};
-ghost use Rattle.amt_ports.specs.Causes.{HasCause, Rose, next_count};
-ghost use Rattle.amt_ports.specs.Tally.{fresh_tally, with_call, with_fault};
-ghost use Rattle.amt_ports.specs.Told.{Appends};
-ghost use Rattle.serving_commands.specs.MemLive.{with_room, with_set};
-ghost use Rattle.serving_commands.specs.Sets.{HasRoom, TakesFirst, fits_gateway, fits_relay, less_room, more_room};
-ghost use Rattle.serving_commands.specs.declared.opening.asked.Opening.TheVariants.{Relay as AskedRelay, Gateway as AskedGateway};
-ghost use Rattle.serving_commands.specs.declared.opening.devices.DeviceSet.TheVariants.{Relay as RelaySet, Gateway as GatewaySet};
+ghost use Rattle.amt_ports.specs.{Causes.{HasCause, Rose, next_count}, Tally.{fresh_tally, with_call, with_fault}, Told.{Appends}};
+ghost use Rattle.serving_commands.specs.{MemLive.{with_room, with_set}, Sets.{HasRoom, TakesFirst, fits_gateway, fits_relay, less_room, more_room}, declared.opening.{asked.Opening.TheVariants.{Relay as AskedRelay, Gateway as AskedGateway}, devices.DeviceSet.TheVariants.{Relay as RelaySet, Gateway as GatewaySet}}};
 
 use crate::opening::asked::{AskedLog, Opening};
 use crate::opening::devices::{DeviceSet, GatewayDevices, RelayDevices};
@@ -32,8 +27,7 @@ pub struct MemLive<L, F, C, W, O, P> {
 }
 
 impl<L, F, C, W, O, P> Model for MemLive<L, F, C, W, O, P> {
-    ghost use Rattle.serving_commands.specs.MemLive.{OpenCalls};
-    ghost use Rattle.serving_commands.specs.declared.opening.devices.DeviceSet.{DeviceSet as Set};
+    ghost use Rattle.serving_commands.specs.{MemLive.{OpenCalls}, declared.opening.devices.DeviceSet.{DeviceSet as Set}};
 
     ghost Value = { OpenCalls (Set L F C W O P) };
 

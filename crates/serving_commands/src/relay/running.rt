@@ -1,16 +1,10 @@
 //! A relay is run on devices that are opened for it. It must not know what they are over.
 ghost use Rattle.std.specs.Prelude.{◌≡◌, ◌⊎◌, ℕ, List, IfErr, IfOk, IsErrOf, OnErr, Some};
 ghost use Rattle.amt_ports.specs.Causes.{Rose};
-ghost use Rattle.serving_commands.specs.RelayOpenings.{IsRefusedBy, opening_by};
-ghost use Rattle.serving_commands.specs.RelayPlans.{AreTurns, AreWorkers};
-ghost use Rattle.serving_commands.specs.RelayRunning.{Runs, RunsBy};
+ghost use Rattle.serving_commands.specs.{RelayOpenings.{IsRefusedBy, opening_by}, RelayPlans.{AreTurns, AreWorkers}, RelayRunning.{Runs, RunsBy}, Kinds.{relay_file}, Lives.{tells}, Openings.{ComesFirst, IsRefused}, Reading.{Decides, TellsFault}};
 ghost use Rattle.relay_machine.specs.Settings.{AreLawfulSettings};
 ghost use Rattle.amt_config.specs.Relay.{settings_of};
 ghost use Rattle.relay_serving.specs.Plans.{IsLawfulPlan};
-ghost use Rattle.serving_commands.specs.Kinds.{relay_file};
-ghost use Rattle.serving_commands.specs.Lives.{tells};
-ghost use Rattle.serving_commands.specs.Openings.{ComesFirst, IsRefused};
-ghost use Rattle.serving_commands.specs.Reading.{Decides, TellsFault};
 
 use crate::fault::ServingFault;
 use crate::opening::{Live, OpenFault, RelayDevices};

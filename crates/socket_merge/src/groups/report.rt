@@ -1,11 +1,8 @@
 //! What a full report says of each group. It must not know how sockets are opened or closed.
 
-ghost use Rattle.std.specs.Prelude.{◌≡◌, ◌++◌, nat_lt, [], ◌∷◌, IfOk, OnOk, if◌then◌else◌};
-ghost use Rattle.std.specs.List.{flat_map};
+ghost use Rattle.std.specs.{Prelude.{◌≡◌, ◌++◌, nat_lt, [], ◌∷◌, IfOk, OnOk, if◌then◌else◌}, List.{flat_map}};
 ghost use Rattle.source_filter.specs.Merging.{merged};
-ghost use Rattle.socket_merge.specs.FullReport.{farewell, is_recent, states};
-ghost use Rattle.socket_merge.specs.Interface.{filters_on};
-ghost use Rattle.socket_merge.specs.Kept.{said_of, some_recent};
+ghost use Rattle.socket_merge.specs.{FullReport.{farewell, is_recent, states}, Interface.{filters_on}, Kept.{said_of, some_recent}};
 
 use super::Groups;
 use crate::family::family_of;

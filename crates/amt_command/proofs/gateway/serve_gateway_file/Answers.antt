@@ -1,7 +1,5 @@
 use Rattle.std.proofs.Common.{◌≡◌, Err}
-use Rattle.amt_command.specs.Running.{gateway_reporting}
-use Rattle.amt_command.specs.declared.ending.Ending.TheVariants.{Fault}
-use Rattle.amt_command.proofs.Shown.{settings_told, shown}
+use Rattle.amt_command.{specs.{Running.{gateway_reporting}, declared.ending.Ending.TheVariants.{Fault}}, proofs.Shown.{settings_told, shown}}
 use Rattle.amt_command.proofs.gateway.serve_gateway_file.Goals as goal
 
 pub returns-in-Err-clause-answered : goal.returns-in-Err-clause-answered

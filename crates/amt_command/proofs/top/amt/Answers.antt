@@ -1,14 +1,7 @@
-use Rattle.std.proofs.Common.{◌≡◌, ◌⊎◌, ℕ, List, map, string_bytes, sym, ap, subst, ◌∙◌, rules}
-use Rattle.std.specs.Io.KnownBytes.{Appends}
+use Rattle.std.{proofs.Common.{◌≡◌, ◌⊎◌, ℕ, List, map, string_bytes, sym, ap, subst, ◌∙◌, rules}, specs.Io.KnownBytes.{Appends}}
 use Rattle.script_lines.specs.Writing.{WritesPrefix}
-use Rattle.amt_words.specs.declared.command.Command.{Command}
-use Rattle.amt_words.specs.Line.{IsCommandLine}
-use Rattle.amt_command.specs.Command.{status_line, work_of}
-use Rattle.amt_command.specs.Ending.{line_of, status_of}
-use Rattle.amt_command.specs.Status.{AnswersFor, IsLineOfStatus}
-use Rattle.amt_command.proofs.Answering.{answered, line_told}
-use Rattle.amt_command.proofs.Commands.{accepted, one_fault_of, one_value_of, refused_by}
-use Rattle.amt_command.proofs.Endings.{done_of, usage_line, usage_of, usage_status, words_status}
+use Rattle.amt_words.specs.{declared.command.Command.{Command}, Line.{IsCommandLine}}
+use Rattle.amt_command.{specs.{Command.{status_line, work_of}, Ending.{line_of, status_of}, Status.{AnswersFor, IsLineOfStatus}}, proofs.{Answering.{answered, line_told}, Commands.{accepted, one_fault_of, one_value_of, refused_by}, Endings.{done_of, usage_line, usage_of, usage_status, words_status}}}
 use Rattle.amt_command.proofs.top.amt.Goals as goal
 
 pub returns-clause-answers : goal.returns-clause-answers

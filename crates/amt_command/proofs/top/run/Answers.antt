@@ -1,8 +1,5 @@
 use Rattle.std.proofs.Common.{Err, map, string_bytes, ap, subst}
-use Rattle.amt_words.specs.Line.{IsCommandLine}
-use Rattle.amt_words.specs.declared.command.Command.{Command}
-use Rattle.amt_words.specs.declared.command.Command.TheVariants.{Gateway as GatewayServing, Relay as RelayServing}
-use Rattle.amt_words.specs.declared.command.WordsFault.{WordsFault}
+use Rattle.amt_words.specs.{Line.{IsCommandLine}, declared.command.{Command.{Command, TheVariants.{Gateway as GatewayServing, Relay as RelayServing}}, WordsFault.{WordsFault}}}
 use Rattle.amt_command.proofs.top.run.Goals as goal
 
 pub returns-in-Err-Usage-clause-of_command : goal.returns-in-Err-Usage-clause-of_command

@@ -1,7 +1,6 @@
 use Rattle.std.proofs.Common.{◌≡◌, List, ℕ, Option, ap, refl, sym, ◌∙◌}
 use Rattle.amt_words.specs.declared.command.Command.TheVariants.{Gateway as GatewayServing, Relay as RelayServing}
-use Rattle.amt_command.specs.Serving.{answered}
-use Rattle.amt_command.proofs.Commands.{for_gateway, for_relay}
+use Rattle.amt_command.{specs.Serving.{answered}, proofs.Commands.{for_gateway, for_relay}}
 use Rattle.amt_command.proofs.top.run_command.Goals as goal
 
 pub returns-in-Relay-clause-relays : goal.returns-in-Relay-clause-relays

@@ -1,9 +1,6 @@
 use Rattle.std.proofs.Common.{Some, inl, inr, refl, ap, ◌∙◌}
 use Rattle.toml.specs.View.{table_view, view}
-use Rattle.amt_config.specs.FileKey.{word_of}
-use Rattle.amt_config.specs.Key.{optional, some_tables}
-use Rattle.amt_config.proofs.KeyFaults.{first_kind}
-use Rattle.amt_config.proofs.ReadTexts.{looked_none, looked_some}
+use Rattle.amt_config.{specs.{FileKey.{word_of}, Key.{optional, some_tables}}, proofs.{KeyFaults.{first_kind}, ReadTexts.{looked_none, looked_some}}}
 use Rattle.amt_config.proofs.arrays.tables_at.Goals as goal
 
 pub returns-in-None-clause-found : goal.returns-in-None-clause-found

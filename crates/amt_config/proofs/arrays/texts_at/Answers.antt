@@ -1,9 +1,6 @@
 use Rattle.std.proofs.Common.{Some, refl, ap, ◌∙◌}
 use Rattle.toml.specs.View.{table_view, view}
-use Rattle.amt_config.specs.FileKey.{word_of}
-use Rattle.amt_config.specs.Key.{required, some_texts}
-use Rattle.amt_config.proofs.KeyFaults.{first_kind, first_missing}
-use Rattle.amt_config.proofs.ReadTexts.{looked_none, looked_some}
+use Rattle.amt_config.{specs.{FileKey.{word_of}, Key.{required, some_texts}}, proofs.{KeyFaults.{first_kind, first_missing}, ReadTexts.{looked_none, looked_some}}}
 use Rattle.amt_config.proofs.arrays.texts_at.Goals as goal
 
 pub returns-in-None-clause-fault : goal.returns-in-None-clause-fault

@@ -1,6 +1,4 @@
-use Rattle.amt_config.specs.Gateway.{GatewayConfigOf, IsGatewayTableFault}
-use Rattle.amt_config.proofs.Exactness.{exact_config, exact_fault}
-use Rattle.amt_config.proofs.GatewayLaws.{not_both, one_config, one_fault}
+use Rattle.amt_config.{specs.Gateway.{GatewayConfigOf, IsGatewayTableFault}, proofs.{Exactness.{exact_config, exact_fault}, GatewayLaws.{not_both, one_config, one_fault}}}
 use Rattle.amt_config.proofs.gateway.gateway_settings.Goals as goal
 
 pub returns-clause-only : goal.returns-clause-only

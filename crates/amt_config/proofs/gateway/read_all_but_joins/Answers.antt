@@ -1,7 +1,6 @@
 use Rattle.std.proofs.lemmas.Result.{err_from_is_err_and}
 use Rattle.toml.specs.View.{table_view}
-use Rattle.amt_config.specs.FileKey.{word_of}
-use Rattle.amt_config.proofs.GatewayParts.{bad_control, bad_deliver, bad_discovery, bad_family, bad_listen, bad_port, bad_relay, bad_source}
+use Rattle.amt_config.{specs.FileKey.{word_of}, proofs.GatewayParts.{bad_control, bad_deliver, bad_discovery, bad_family, bad_listen, bad_port, bad_relay, bad_source}}
 use Rattle.amt_config.proofs.gateway.read_all_but_joins.Goals as goal
 
 pub returns-in_err-family-clause-fault : goal.returns-in_err-family-clause-fault

@@ -1,9 +1,6 @@
 use Rattle.std.proofs.Common.{sym, subst}
 use Rattle.toml.specs.View.{items_view, table_view}
-use Rattle.amt_config.specs.Scanned.{tables_in}
-use Rattle.amt_config.specs.FileKey.{word_of}
-use Rattle.amt_config.specs.Gateway.{HasGatewayValues}
-use Rattle.amt_config.proofs.GatewayParts.{found_in_ends, found_in_joins, found_in_key, values_of}
+use Rattle.amt_config.{specs.{Scanned.{tables_in}, FileKey.{word_of}, Gateway.{HasGatewayValues}}, proofs.GatewayParts.{found_in_ends, found_in_joins, found_in_key, values_of}}
 use Rattle.amt_config.proofs.gateway.read_values.Goals as goal
 
 pub returns-in-Err-clause-fault : goal.returns-in-Err-clause-fault

@@ -1,10 +1,7 @@
-use Rattle.std.proofs.Common.{Some}
-use Rattle.std.proofs.lemmas.Result.{err_from_is_err_and}
+use Rattle.std.proofs.{Common.{Some}, lemmas.Result.{err_from_is_err_and}}
 use Rattle.script_lines.specs.Form.{an_address_of}
 use Rattle.toml.specs.View.{items_view, table_view}
-use Rattle.amt_config.specs.Scanned.{texts_in}
-use Rattle.amt_config.specs.FileKey.{word_of}
-use Rattle.amt_config.proofs.JoinParts.{bad_mode, bad_sources, bad_texts}
+use Rattle.amt_config.{specs.{Scanned.{texts_in}, FileKey.{word_of}}, proofs.JoinParts.{bad_mode, bad_sources, bad_texts}}
 use Rattle.amt_config.proofs.join.read_filter.Goals as goal
 
 pub returns-in_err-mode-clause-fault : goal.returns-in_err-mode-clause-fault

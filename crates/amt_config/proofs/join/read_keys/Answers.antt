@@ -1,8 +1,6 @@
-use Rattle.std.proofs.Common.{Some}
-use Rattle.std.proofs.lemmas.Result.{err_from_is_err_and}
+use Rattle.std.proofs.{Common.{Some}, lemmas.Result.{err_from_is_err_and}}
 use Rattle.toml.specs.View.{table_view}
-use Rattle.amt_config.specs.FileKey.{word_of}
-use Rattle.amt_config.proofs.JoinParts.{bad_filter, bad_group, bad_name}
+use Rattle.amt_config.{specs.FileKey.{word_of}, proofs.JoinParts.{bad_filter, bad_group, bad_name}}
 use Rattle.amt_config.proofs.join.read_keys.Goals as goal
 
 pub returns-in_err-name-clause-fault : goal.returns-in_err-name-clause-fault

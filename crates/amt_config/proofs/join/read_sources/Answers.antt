@@ -3,9 +3,7 @@ use Rattle.amt_values.specs.declared.address.Ip.{Ip}
 use Rattle.toml.specs.View.{items_view}
 use Rattle.script_lines.specs.Form.{IsAddressText}
 use Rattle.gateway_script.proofs.Addresses.{reading_end, reading_more, reading_start, IsReading}
-use Rattle.amt_config.specs.Scanned.{texts_in}
-use Rattle.amt_config.proofs.ItemParts.{no_text_next, text_next, texts_end, texts_from}
-use Rattle.amt_config.proofs.join.read_sources.Goals.{in-Some+in-Some-read_address+in-Ok, in_default}
+use Rattle.amt_config.{specs.Scanned.{texts_in}, proofs.{ItemParts.{no_text_next, text_next, texts_end, texts_from}, join.read_sources.Goals.{in-Some+in-Some-read_address+in-Ok, in_default}}}
 use Rattle.amt_config.proofs.join.read_sources.Goals as goal
 
 pub loop-item-init : goal.loop-item-init

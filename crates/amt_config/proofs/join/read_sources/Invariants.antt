@@ -1,8 +1,7 @@
 use Rattle.std.proofs.Common.{Some}
 use Rattle.toml.specs.View.{items_view}
 use Rattle.gateway_script.proofs.Addresses.{IsReading}
-use Rattle.amt_config.specs.Scanned.{texts_in}
-use Rattle.amt_config.proofs.ItemParts.{texts_from}
+use Rattle.amt_config.{specs.Scanned.{texts_in}, proofs.ItemParts.{texts_from}}
 use Rattle.amt_config.proofs.join.read_sources.Given as goal
 
 abbrev pub invariant-loop-item : goal.invariant-loop-item

@@ -1,13 +1,7 @@
 use Rattle.std.proofs.Common.{◌≡◌, ◌+◌, List, [], ◌∷◌, ◌++◌, Some, sym, subst}
 use Rattle.socket_merge.specs.Sockets.{ForHistory, SocketsHold, SocketsValue}
 use Rattle.toml.specs.View.{items_view, table_view}
-use Rattle.amt_config.specs.declared.config.Join.{Join}
-use Rattle.amt_config.specs.Scanned.{tables_in}
-use Rattle.amt_config.specs.Join.{with_join}
-use Rattle.amt_config.specs.Reading.{AreOpened}
-use Rattle.amt_config.proofs.ItemParts.{no_table_next, table_next, tables_end, tables_from}
-use Rattle.amt_config.proofs.OpenedJoins.{bad_open, bad_table, join_of_group, opened_end, opened_more, opened_start}
-use Rattle.amt_config.proofs.joins.read_joins.Goals.{in-Some+in-Ok-read_join+in-Ok-open+in-Ok-push, in_default-as_table}
+use Rattle.amt_config.{specs.{declared.config.Join.{Join}, Scanned.{tables_in}, Join.{with_join}, Reading.{AreOpened}}, proofs.{ItemParts.{no_table_next, table_next, tables_end, tables_from}, OpenedJoins.{bad_open, bad_table, join_of_group, opened_end, opened_more, opened_start}, joins.read_joins.Goals.{in-Some+in-Ok-read_join+in-Ok-open+in-Ok-push, in_default-as_table}}}
 use Rattle.amt_config.proofs.joins.read_joins.Goals as goal
 
 pub loop-item-init : goal.loop-item-init

@@ -1,8 +1,6 @@
 use Rattle.std.proofs.Common.{Some}
 use Rattle.toml.specs.View.{items_view}
-use Rattle.amt_config.specs.Scanned.{tables_in}
-use Rattle.amt_config.specs.Reading.{AreOpened}
-use Rattle.amt_config.proofs.ItemParts.{tables_from}
+use Rattle.amt_config.{specs.{Scanned.{tables_in}, Reading.{AreOpened}}, proofs.ItemParts.{tables_from}}
 use Rattle.amt_config.proofs.joins.read_joins.Given as goal
 
 abbrev pub invariant-loop-item : goal.invariant-loop-item

@@ -1,10 +1,6 @@
 use Rattle.std.proofs.Common.{◌≡◌, ℤ, Some, inl, inr, of_z, refl, rules, subst, sym, to_z, w64, ap, ◌∙◌}
-use Rattle.toml.specs.Data.{integer}
-use Rattle.toml.specs.View.{table_view, view}
-use Rattle.amt_config.specs.FileKey.{word_of}
-use Rattle.amt_config.specs.Key.{IsOutside, a_whole, optional}
-use Rattle.amt_config.proofs.KeyFaults.{first_kind, first_outside}
-use Rattle.amt_config.proofs.ReadTexts.{looked_none, looked_some, number_of}
+use Rattle.toml.specs.{Data.{integer}, View.{table_view, view}}
+use Rattle.amt_config.{specs.{FileKey.{word_of}, Key.{IsOutside, a_whole, optional}}, proofs.{KeyFaults.{first_kind, first_outside}, ReadTexts.{looked_none, looked_some, number_of}}}
 use Rattle.amt_config.proofs.numbers.number_at.Goals as goal
 
 pub returns-in-None-clause-found : goal.returns-in-None-clause-found

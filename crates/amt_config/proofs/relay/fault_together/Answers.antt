@@ -1,6 +1,5 @@
 use Rattle.std.proofs.Common.{inl, inr, refl, sym, subst}
-use Rattle.relay_machine.specs.declared.number_key.NumberKey.TheVariants.{Endpoints, Groups, Sources}
-use Rattle.relay_machine.specs.Settings.{AreLawfulSettings}
+use Rattle.relay_machine.specs.{declared.number_key.NumberKey.TheVariants.{Endpoints, Groups, Sources}, Settings.{AreLawfulSettings}}
 use Rattle.amt_config.proofs.RelayLaws.{not_carried, too_many}
 use Rattle.amt_config.proofs.relay.fault_together.Goals as goal
 

@@ -1,11 +1,8 @@
-use Rattle.std.proofs.Common.{subst}
-use Rattle.std.specs.Result.{IfErr}
+use Rattle.std.{proofs.Common.{subst}, specs.Result.{IfErr}}
 use Rattle.relay_machine.specs.declared.number_key.NumberRange.{NumberRange}
 use Rattle.amt_script.specs.Row.{number_word}
 use Rattle.toml.specs.View.{table_view}
-use Rattle.amt_config.specs.FileKey.{word_of}
-use Rattle.amt_config.specs.Key.{FailsAt, a_whole, optional}
-use Rattle.amt_config.proofs.RelayParts.{same_range}
+use Rattle.amt_config.{specs.{FileKey.{word_of}, Key.{FailsAt, a_whole, optional}}, proofs.RelayParts.{same_range}}
 use Rattle.amt_config.proofs.relay.number_of.Goals as goal
 
 pub returns-clause-fault : goal.returns-clause-fault

@@ -1,13 +1,8 @@
-use Rattle.std.proofs.Common.{codes, inl, inr}
-use Rattle.std.proofs.lemmas.Result.{err_from_is_err_and}
+use Rattle.std.proofs.{Common.{codes, inl, inr}, lemmas.Result.{err_from_is_err_and}}
 use Rattle.amt_script.specs.declared.kind.Key.TheVariants as words
 use Rattle.amt_script.specs.Row.{key_word}
 use Rattle.toml.specs.View.{table_view}
-use Rattle.amt_config.specs.FileKey.{word_of}
-use Rattle.amt_config.specs.Key.{FailsFirstAt}
-use Rattle.amt_config.specs.Parts.{place_keys}
-use Rattle.amt_config.proofs.RelayLaws.{right_ip}
-use Rattle.amt_config.proofs.SharedLaws.{right_peer}
+use Rattle.amt_config.{specs.{FileKey.{word_of}, Key.{FailsFirstAt}, Parts.{place_keys}}, proofs.{RelayLaws.{right_ip}, SharedLaws.{right_peer}}}
 use Rattle.amt_config.proofs.relay.read_places.Goals as goal
 
 pub returns-in_err-peer_at-2-clause-fault : goal.returns-in_err-peer_at-2-clause-fault

@@ -1,17 +1,10 @@
-use Rattle.std.proofs.Common.{◌≡◌, inl, inr, refl, subst}
-use Rattle.std.proofs.lemmas.Result.{err_from_is_err_and}
-use Rattle.amt_values.specs.declared.address.Ip.TheVariants.{V4, V6}
-use Rattle.amt_values.specs.Text.{IsIpText}
-use Rattle.relay_machine.specs.declared.number_key.NumberKey.TheVariants.{Robustness, QuerySeconds}
-use Rattle.relay_machine.specs.declared.settings.Settings.{Settings}
+use Rattle.std.proofs.{Common.{◌≡◌, inl, inr, refl, subst}, lemmas.Result.{err_from_is_err_and}}
+use Rattle.amt_values.specs.{declared.address.Ip.TheVariants.{V4, V6}, Text.{IsIpText}}
+use Rattle.relay_machine.specs.declared.{number_key.NumberKey.TheVariants.{Robustness, QuerySeconds}, settings.Settings.{Settings}}
 use Rattle.amt_script.specs.declared.kind.Key.TheVariants as words
 use Rattle.amt_script.specs.Row.{key_word}
 use Rattle.toml.specs.View.{table_view}
-use Rattle.amt_config.specs.FileKey.{word_of}
-use Rattle.amt_config.specs.Key.{FailsFirstAt, HasTextOr}
-use Rattle.amt_config.specs.Parts.{setting_keys}
-use Rattle.amt_config.proofs.RelayLaws.{right_of_key}
-use Rattle.amt_config.proofs.RelayParts.{after_queries, after_times, in_limits, last_setting, numbers_of}
+use Rattle.amt_config.{specs.{FileKey.{word_of}, Key.{FailsFirstAt, HasTextOr}, Parts.{setting_keys}}, proofs.{RelayLaws.{right_of_key}, RelayParts.{after_queries, after_times, in_limits, last_setting, numbers_of}}}
 use Rattle.amt_config.proofs.relay.read_settings.Goals as goal
 
 pub returns-in_err-number_of-clause-fault : goal.returns-in_err-number_of-clause-fault

@@ -1,11 +1,6 @@
-use Rattle.std.proofs.Common.{codes, inl, inr}
-use Rattle.std.proofs.lemmas.Result.{err_from_is_err_and}
+use Rattle.std.proofs.{Common.{codes, inl, inr}, lemmas.Result.{err_from_is_err_and}}
 use Rattle.toml.specs.View.{table_view}
-use Rattle.amt_config.specs.FileKey.{word_of}
-use Rattle.amt_config.specs.Key.{FailsFirstAt}
-use Rattle.amt_config.specs.Relay.{relay_keys, rotate_range}
-use Rattle.amt_config.proofs.KeyFaults.{right_number}
-use Rattle.amt_config.proofs.RelayParts.{after_places, after_settings}
+use Rattle.amt_config.{specs.{FileKey.{word_of}, Key.{FailsFirstAt}, Relay.{relay_keys, rotate_range}}, proofs.{KeyFaults.{right_number}, RelayParts.{after_places, after_settings}}}
 use Rattle.amt_config.proofs.relay.read_values.Goals as goal
 
 pub returns-in_err-settings-clause-fault : goal.returns-in_err-settings-clause-fault

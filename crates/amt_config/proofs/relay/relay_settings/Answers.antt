@@ -1,7 +1,4 @@
-use Rattle.amt_config.specs.Relay.{IsFaultTogether, RelayConfigOf, relay_keys}
-use Rattle.amt_config.specs.Table.{IsFirstFault}
-use Rattle.amt_config.proofs.Exactness.{exact_config, exact_fault}
-use Rattle.amt_config.proofs.RelayLaws.{not_both, one_config, one_fault}
+use Rattle.amt_config.{specs.{Relay.{IsFaultTogether, RelayConfigOf, relay_keys}, Table.{IsFirstFault}}, proofs.{Exactness.{exact_config, exact_fault}, RelayLaws.{not_both, one_config, one_fault}}}
 use Rattle.amt_config.proofs.relay.relay_settings.Goals as goal
 
 pub returns-clause-only : goal.returns-clause-only

@@ -1,8 +1,6 @@
 use Rattle.std.proofs.Common.{◌≡◌, ◌≢◌, true, List, ◌∷◌, map, String, Global, string_bytes, rules, sym, subst, ap, ◌∙◌}
 use Rattle.toml.specs.View.{table_view}
-use Rattle.amt_config.specs.Table.{IsLeastUnknown, is_among}
-use Rattle.amt_config.specs.Words.{words_in}
-use Rattle.amt_config.proofs.Scanning.{IsScanned, scan_found, scan_more, scan_start}
+use Rattle.amt_config.{specs.{Table.{IsLeastUnknown, is_among}, Words.{words_in}}, proofs.Scanning.{IsScanned, scan_found, scan_more, scan_start}}
 use Rattle.amt_config.proofs.table.least_unknown.Goals as goal
 
 pub loop-key-init : goal.loop-key-init

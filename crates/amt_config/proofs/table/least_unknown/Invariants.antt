@@ -1,7 +1,6 @@
 use Rattle.std.proofs.Common.{map, string_bytes}
 use Rattle.toml.specs.View.{table_view}
-use Rattle.amt_config.specs.Words.{words_in}
-use Rattle.amt_config.proofs.Scanning.{IsScanned}
+use Rattle.amt_config.{specs.Words.{words_in}, proofs.Scanning.{IsScanned}}
 use Rattle.amt_config.proofs.table.least_unknown.Given as goal
 
 abbrev pub invariant-loop-key : goal.invariant-loop-key

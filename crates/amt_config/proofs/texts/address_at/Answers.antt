@@ -2,9 +2,7 @@ use Rattle.std.proofs.Common.{true, refl}
 use Rattle.script_lines.specs.declared.reason.Reason.TheVariants as reasons
 use Rattle.script_lines.specs.Form.{an_address}
 use Rattle.toml.specs.View.{table_view}
-use Rattle.amt_config.specs.FileKey.{word_of}
-use Rattle.amt_config.proofs.KeyFaults.{first_address}
-use Rattle.amt_config.proofs.ReadTexts.{no_ip}
+use Rattle.amt_config.{specs.FileKey.{word_of}, proofs.{KeyFaults.{first_address}, ReadTexts.{no_ip}}}
 use Rattle.amt_config.proofs.texts.address_at.Goals as goal
 
 pub returns-in-Err-clause-fault : goal.returns-in-Err-clause-fault

@@ -2,8 +2,7 @@ use Rattle.std.proofs.Common.{Some, true, refl, subst}
 use Rattle.script_lines.specs.declared.reason.Reason.TheVariants as reasons
 use Rattle.script_lines.specs.Form.{Fails, an_address_of}
 use Rattle.toml.specs.View.{table_view}
-use Rattle.amt_config.specs.FileKey.{word_of}
-use Rattle.amt_config.proofs.KeyFaults.{first_address}
+use Rattle.amt_config.{specs.FileKey.{word_of}, proofs.KeyFaults.{first_address}}
 use Rattle.amt_config.proofs.texts.address_of.Goals as goal
 
 pub returns-in-Err-clause-fault : goal.returns-in-Err-clause-fault

@@ -2,9 +2,7 @@ use Rattle.std.proofs.Common.{true, refl, sym, subst}
 use Rattle.script_lines.specs.declared.reason.Reason.TheVariants as reasons
 use Rattle.script_lines.specs.Form.{IsName, a_name}
 use Rattle.toml.specs.View.{table_view}
-use Rattle.amt_config.specs.FileKey.{word_of}
-use Rattle.amt_config.proofs.KeyFaults.{first_word}
-use Rattle.amt_config.proofs.ReadTexts.{no_address_name}
+use Rattle.amt_config.{specs.FileKey.{word_of}, proofs.{KeyFaults.{first_word}, ReadTexts.{no_address_name}}}
 use Rattle.amt_config.proofs.texts.name_at.Goals as goal
 
 pub returns-in-Err-clause-fault : goal.returns-in-Err-clause-fault

@@ -1,11 +1,8 @@
 use Rattle.std.proofs.Common.{◌≡◌, rules, Some, false, refl}
 use Rattle.script_lines.specs.declared.reason.Reason.TheVariants as reasons
 use Rattle.script_lines.specs.Form.{a_peer}
-use Rattle.toml.specs.Data.{get_member, string}
-use Rattle.toml.specs.View.{table_view}
-use Rattle.amt_config.specs.FileKey.{word_of}
-use Rattle.amt_config.proofs.KeyFaults.{first_address}
-use Rattle.amt_config.proofs.ReadTexts.{no_peer}
+use Rattle.toml.specs.{Data.{get_member, string}, View.{table_view}}
+use Rattle.amt_config.{specs.FileKey.{word_of}, proofs.{KeyFaults.{first_address}, ReadTexts.{no_peer}}}
 use Rattle.amt_config.proofs.texts.peer_or_none.Goals as goal
 
 pub returns-in-Err-clause-fault : goal.returns-in-Err-clause-fault

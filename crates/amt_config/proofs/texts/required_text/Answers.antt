@@ -1,7 +1,5 @@
 use Rattle.toml.specs.View.{table_view}
-use Rattle.amt_config.specs.FileKey.{word_of}
-use Rattle.amt_config.specs.Key.{a_text}
-use Rattle.amt_config.proofs.KeyFaults.{must_fails}
+use Rattle.amt_config.{specs.{FileKey.{word_of}, Key.{a_text}}, proofs.KeyFaults.{must_fails}}
 use Rattle.amt_config.proofs.texts.required_text.Goals as goal
 
 pub returns-in-Err-clause-fault : goal.returns-in-Err-clause-fault

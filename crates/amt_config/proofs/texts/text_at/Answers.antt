@@ -1,9 +1,6 @@
 use Rattle.std.proofs.Common.{Some, ap, ◌∙◌}
 use Rattle.toml.specs.View.{table_view, view}
-use Rattle.amt_config.specs.FileKey.{word_of}
-use Rattle.amt_config.specs.Key.{a_text, optional}
-use Rattle.amt_config.proofs.KeyFaults.{first_kind}
-use Rattle.amt_config.proofs.ReadTexts.{looked_none, looked_some, no_text_read, text_read}
+use Rattle.amt_config.{specs.{FileKey.{word_of}, Key.{a_text, optional}}, proofs.{KeyFaults.{first_kind}, ReadTexts.{looked_none, looked_some, no_text_read, text_read}}}
 use Rattle.amt_config.proofs.texts.text_at.Goals as goal
 
 pub returns-in-None-clause-none : goal.returns-in-None-clause-none

@@ -1,7 +1,5 @@
-use Rattle.std.proofs.Common.{◌≡◌, ◌++◌, codes, decimal, length}
-use Rattle.std.proofs.lemmas.Result.{on_ok_weaker}
-use Rattle.amt_dump.specs.Texts.{packet_words}
-use Rattle.amt_dump.proofs.Joining.{joined_three}
+use Rattle.std.proofs.{Common.{◌≡◌, ◌++◌, codes, decimal, length}, lemmas.Result.{on_ok_weaker}}
+use Rattle.amt_dump.{specs.Texts.{packet_words}, proofs.Joining.{joined_three}}
 use Rattle.amt_dump.proofs.message_text.append_data.Goals as goal
 
 pub returns : goal.returns

@@ -1,5 +1,4 @@
-use Rattle.std.proofs.Common.{codes}
-use Rattle.std.proofs.lemmas.Result.{on_ok_weaker}
+use Rattle.std.proofs.{Common.{codes}, lemmas.Result.{on_ok_weaker}}
 use Rattle.script_lines.specs.Texts.{nonce_text}
 use Rattle.amt_dump.proofs.Joining.{joined}
 use Rattle.amt_dump.proofs.message_text.append_discovery.Goals as goal

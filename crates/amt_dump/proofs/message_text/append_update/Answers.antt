@@ -1,7 +1,5 @@
-use Rattle.std.proofs.Common.{codes, decimal, length}
-use Rattle.std.proofs.lemmas.Result.{on_ok_weaker}
-use Rattle.amt_dump.specs.Texts.{mac_words}
-use Rattle.amt_dump.proofs.Joining.{joined_four}
+use Rattle.std.proofs.{Common.{codes, decimal, length}, lemmas.Result.{on_ok_weaker}}
+use Rattle.amt_dump.{specs.Texts.{mac_words}, proofs.Joining.{joined_four}}
 use Rattle.amt_dump.proofs.message_text.append_update.Goals as goal
 
 pub returns : goal.returns

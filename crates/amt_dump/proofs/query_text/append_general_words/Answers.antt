@@ -1,7 +1,5 @@
-use Rattle.std.proofs.Common.{◌≡◌, ◌++◌, codes, decimal}
-use Rattle.std.proofs.lemmas.Result.{on_ok_weaker}
-use Rattle.group_records.specs.Code.{code_value}
-use Rattle.group_records.specs.declared.family.Family.TheVariants.{V4}
+use Rattle.std.proofs.{Common.{◌≡◌, ◌++◌, codes, decimal}, lemmas.Result.{on_ok_weaker}}
+use Rattle.group_records.specs.{Code.{code_value}, declared.family.Family.TheVariants.{V4}}
 use Rattle.socket_merge.specs.Refusal.{family_of}
 use Rattle.amt_dump.proofs.Joining.{joined_six}
 use Rattle.amt_dump.proofs.query_text.append_general_words.Goals as goal

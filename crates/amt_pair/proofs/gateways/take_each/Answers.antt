@@ -1,14 +1,6 @@
-use Rattle.std.proofs.Common.{◌≡◌, ◌<◌, ◌++◌, map, length, get_or, ap, sym, ◌∙◌, refl, subst, arith, length-set}
-use Rattle.std.proofs.Math.Seq.{map-set_same}
-use Rattle.gateway_machine.specs.Events.{IsEventOf}
-use Rattle.gateway_machine.specs.Runs.{settings_of}
-use Rattle.gateway_machine.specs.declared.event.GatewayEvent.{GatewayEvent}
-use Rattle.amt_pair.specs.Members.{IsMemberAt, host_of, kept_upward}
-use Rattle.amt_pair.specs.Parts.{gateway_part}
-use Rattle.amt_pair.specs.Schedule.{upwards_on, with_gateway_event}
-use Rattle.amt_pair.specs.declared.gateways.NamedGateway.{NamedGateway}
-use Rattle.amt_pair.proofs.MembersAt.{lengths_are}
-use Rattle.amt_pair.proofs.Moments.{come_to_all, come_to_next, come_to_none, come_to_some}
+use Rattle.std.proofs.{Common.{◌≡◌, ◌<◌, ◌++◌, map, length, get_or, ap, sym, ◌∙◌, refl, subst, arith, length-set}, Math.Seq.{map-set_same}}
+use Rattle.gateway_machine.specs.{Events.{IsEventOf}, Runs.{settings_of}, declared.event.GatewayEvent.{GatewayEvent}}
+use Rattle.amt_pair.{specs.{Members.{IsMemberAt, host_of, kept_upward}, Parts.{gateway_part}, Schedule.{upwards_on, with_gateway_event}, declared.gateways.NamedGateway.{NamedGateway}}, proofs.{MembersAt.{lengths_are}, Moments.{come_to_all, come_to_next, come_to_none, come_to_some}}}
 use Rattle.amt_pair.proofs.gateways.take_each.Goals as goal
 
 pub loop-gateway-init : goal.loop-gateway-init

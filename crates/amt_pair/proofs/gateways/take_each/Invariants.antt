@@ -1,12 +1,6 @@
 use Rattle.std.proofs.Common.{◌≡◌, ◌+◌, ◌≤◌, ℕ, List, map, length, vec_len, vec_capacity}
-use Rattle.gateway_machine.specs.declared.event.GatewayEvent.{GatewayEvent}
-use Rattle.gateway_machine.specs.declared.event.GatewayEvent.TheVariants.{Moment as Passes}
-use Rattle.amt_pair.specs.Members.{AreMembersAt, AreShort, host_of}
-use Rattle.amt_pair.specs.Schedule.{Member}
-use Rattle.amt_pair.specs.declared.datagrams.UpDatagram.{UpDatagram}
-use Rattle.amt_pair.specs.declared.gateways.NamedGateway.{NamedGateway}
-use Rattle.amt_pair.specs.declared.step.Part.{Part}
-use Rattle.amt_pair.proofs.Moments.{HasComeUpTo}
+use Rattle.gateway_machine.specs.declared.event.GatewayEvent.{GatewayEvent, TheVariants.{Moment as Passes}}
+use Rattle.amt_pair.{specs.{Members.{AreMembersAt, AreShort, host_of}, Schedule.{Member}, declared.{datagrams.UpDatagram.{UpDatagram}, gateways.NamedGateway.{NamedGateway}, step.Part.{Part}}}, proofs.Moments.{HasComeUpTo}}
 use Rattle.amt_pair.proofs.gateways.take_each.Given as goal
 
 -- the moment has come to the gateways before the place, and there is room for the parts of the others

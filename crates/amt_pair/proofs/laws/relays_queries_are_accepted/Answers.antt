@@ -1,6 +1,4 @@
-use Rattle.amt_pair.proofs.HeardQueries.{query_for-accepted}
-use Rattle.amt_pair.proofs.QueryTimes.{interval_of-query_fields, lifetime_of-query_fields}
-use Rattle.amt_pair.proofs.ReadQueries.{general_query_in-general_query}
+use Rattle.amt_pair.proofs.{HeardQueries.{query_for-accepted}, QueryTimes.{interval_of-query_fields, lifetime_of-query_fields}, ReadQueries.{general_query_in-general_query}}
 use Rattle.amt_pair.proofs.laws.relays_queries_are_accepted.Goals as goal
 
 pub returns-clause-read : goal.returns-clause-read

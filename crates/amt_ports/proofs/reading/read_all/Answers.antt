@@ -1,6 +1,5 @@
 -- A read that failed took nothing more.
-use Rattle.std.proofs.Common.{arith}
-use Rattle.std.proofs.KnownBytes.{Consumes-kept}
+use Rattle.std.proofs.{Common.{arith}, KnownBytes.{Consumes-kept}}
 use Rattle.amt_ports.proofs.reading.read_all.Goals as goal
 
 pub returns-in-Err-clause-within : goal.returns-in-Err-clause-within

@@ -1,7 +1,5 @@
-use Rattle.std.proofs.Common.{◌≡◌, ◌+◌, ◌≤◌, length, take, replicate, arith, rules, ◌∙◌}
-use Rattle.std.proofs.lemmas.List.{length-take}
-use Rattle.amt_ports.specs.declared.reading.TheConstants.{READ_SIZE}
-use Rattle.amt_ports.proofs.Taken.{read_into}
+use Rattle.std.proofs.{Common.{◌≡◌, ◌+◌, ◌≤◌, length, take, replicate, arith, rules, ◌∙◌}, lemmas.List.{length-take}}
+use Rattle.amt_ports.{specs.declared.reading.TheConstants.{READ_SIZE}, proofs.Taken.{read_into}}
 use Rattle.amt_ports.proofs.reading.read_more.Goals as goal
 
 pub returns-clause-next : goal.returns-clause-next

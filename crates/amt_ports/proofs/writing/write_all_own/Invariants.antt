@@ -1,6 +1,5 @@
 -- What is gone from `rest` was appended, each write takes some of it, and none of them failed.
-use Rattle.std.proofs.Common.{◌≡◌, ◌++◌, ℕ, List, length}
-use Rattle.std.specs.Io.KnownBytes.{Appends}
+use Rattle.std.{proofs.Common.{◌≡◌, ◌++◌, ℕ, List, length}, specs.Io.KnownBytes.{Appends}}
 use Rattle.amt_ports.proofs.writing.write_all_own.Given as goal
 
 abbrev pub invariant-loop-rest : goal.invariant-loop-rest

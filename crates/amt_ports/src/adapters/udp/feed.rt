@@ -1,9 +1,7 @@
 //! A UDP socket as a feed. It must not know what packets say.
 
 ghost use Rattle.std.specs.Prelude.{◌≡◌, ◌≢◌, ◌≤◌, None, length, IfOk};
-ghost use Rattle.amt_ports.specs.Arrivals.{IsShortFeedGot};
-ghost use Rattle.amt_ports.specs.Causes.{HasCause};
-ghost use Rattle.amt_ports.specs.RealDevices.{feed_failed};
+ghost use Rattle.amt_ports.specs.{Arrivals.{IsShortFeedGot}, Causes.{HasCause}, RealDevices.{feed_failed}};
 
 use super::sources::source_peer;
 use super::watch::WatchedSocket;

@@ -1,9 +1,7 @@
 //! A UDP socket as a link. It must not know what datagrams say.
 
 ghost use Rattle.std.specs.Prelude.{◌≡◌, ◌≢◌, ◌≤◌, true, None, Ok, length, IfOk};
-ghost use Rattle.amt_ports.specs.Arrivals.{IsShortGot};
-ghost use Rattle.amt_ports.specs.Causes.{HasCause};
-ghost use Rattle.amt_ports.specs.RealDevices.{answers_may_wait, copies_may_wait, out_failed, receivings_failed, sends_failed};
+ghost use Rattle.amt_ports.specs.{Arrivals.{IsShortGot}, Causes.{HasCause}, RealDevices.{answers_may_wait, copies_may_wait, out_failed, receivings_failed, sends_failed}};
 
 use super::out::UdpOut;
 use super::outlet::Outlet;

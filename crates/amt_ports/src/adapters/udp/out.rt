@@ -1,8 +1,7 @@
 //! A worker's end, at the address and port of the listening socket. It must not know who else sends through it.
 
 ghost use Rattle.std.specs.Prelude.{◌≡◌, true, None, OnOk, OnErr};
-ghost use Rattle.amt_ports.specs.Causes.{HasCause};
-ghost use Rattle.amt_ports.specs.RealDevices.{copies_may_wait, out_failed};
+ghost use Rattle.amt_ports.specs.{Causes.{HasCause}, RealDevices.{copies_may_wait, out_failed}};
 
 use super::outlet::Outlet;
 use crate::fault::count_fault;

@@ -5,9 +5,7 @@
 //! outlet's owner lets them: else a few peers that are gone would stop a relay for everybody.
 
 ghost use Rattle.std.specs.Prelude.{◌≡◌, true, false, IsTrue, IsFalse, List, None, Ok, Option, OnErr};
-ghost use Rattle.amt_ports.specs.Outlets.{SendsSo, TriesSo, Use, tried, try_of, waited};
-ghost use Rattle.amt_ports.specs.Told.{Appends};
-ghost use Rattle.amt_ports.specs.declared.adapters.udp.outlet.Attempt.TheVariants.{Full};
+ghost use Rattle.amt_ports.specs.{Outlets.{SendsSo, TriesSo, Use, tried, try_of, waited}, Told.{Appends}, declared.adapters.udp.outlet.Attempt.TheVariants.{Full}};
 
 use super::sources::std_peer;
 use super::watch::{readiness, wait_until_ready};

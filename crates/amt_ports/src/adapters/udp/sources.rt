@@ -1,7 +1,6 @@
 //! Peers from and to std's socket addresses. It must not know any socket.
 
-ghost use Rattle.std.specs.Prelude.{◌≡◌};
-ghost use Rattle.std.specs.Net.Socket.{socket_ip, socket_port};
+ghost use Rattle.std.specs.{Prelude.{◌≡◌}, Net.Socket.{socket_ip, socket_port}};
 ghost use Rattle.amt_ports.specs.Peers.{IsStdAddress, source_ip, unmapped};
 
 use amt_values::{Ip, Peer};

@@ -1,8 +1,5 @@
-use Rattle.std.proofs.Common.{◌≢◌, ◌≡◌, ℕ, subst, take, arith}
-use Rattle.std.specs.List.{All}
-use Rattle.relay_machine.specs.declared.number_key.NumberKey.{NumberKey}
-use Rattle.relay_machine.specs.declared.number_key.TheConstants.{NUMBER_KEYS}
-use Rattle.relay_machine.proofs.Numbers.{All-keys}
+use Rattle.std.{proofs.Common.{◌≢◌, ◌≡◌, ℕ, subst, take, arith}, specs.List.{All}}
+use Rattle.relay_machine.{specs.declared.number_key.{NumberKey.{NumberKey}, TheConstants.{NUMBER_KEYS}}, proofs.Numbers.{All-keys}}
 use Rattle.amt_script.specs.Row.{number_word}
 use Rattle.amt_script.proofs.kind.number_key_of_word.Goals as goal
 

@@ -1,5 +1,4 @@
-use Rattle.std.proofs.Common.{◌≢◌, take}
-use Rattle.std.specs.List.{All}
+use Rattle.std.{proofs.Common.{◌≢◌, take}, specs.List.{All}}
 use Rattle.amt_script.specs.Row.{number_word}
 use Rattle.amt_script.proofs.kind.number_key_of_word.Given as goal
 

@@ -1,8 +1,7 @@
 use Rattle.std.proofs.Common.{◌≡◌, ◌∷◌, ◌++◌, rules}
 use Rattle.script_lines.specs.Lines.{fields}
 use Rattle.amt_script.specs.declared.kind.Kind.TheVariants as kinds
-use Rattle.amt_script.specs.Row.{words_of}
-use Rattle.amt_script.proofs.Judging.{setting_judged}
+use Rattle.amt_script.{specs.Row.{words_of}, proofs.Judging.{setting_judged}}
 use Rattle.amt_script.proofs.line.read_statement.Goals as goal
 
 pub returns-in-Err-clause-reason : goal.returns-in-Err-clause-reason

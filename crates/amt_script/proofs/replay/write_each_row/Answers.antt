@@ -1,9 +1,7 @@
 use Rattle.std.proofs.Common.{ℕ, List, ◌+◌, ◌++◌, take, flat_map, sym, ap, subst, ◌∙◌}
-use Rattle.script_lines.specs.Writing.{WritesUpTo, WritesPrefix}
-use Rattle.script_lines.proofs.Writes.{written_on, prefix_on}
+use Rattle.script_lines.{specs.Writing.{WritesUpTo, WritesPrefix}, proofs.Writes.{written_on, prefix_on}}
 use Rattle.endpoint_membership.specs.declared.row.Row.{Row}
-use Rattle.amt_script.specs.Texts.{row_text}
-use Rattle.amt_script.proofs.RowLines.{row_more, prefix_of_rows}
+use Rattle.amt_script.{specs.Texts.{row_text}, proofs.RowLines.{row_more, prefix_of_rows}}
 use Rattle.amt_script.proofs.replay.write_each_row.Goals as goal
 
 pub returns-in_default-clause-begun : goal.returns-in_default-clause-begun

@@ -1,8 +1,6 @@
-use Rattle.std.specs.Result.{OnOk}
-use Rattle.script_lines.specs.declared.fault.RunFault.{RunFault}
-use Rattle.std.proofs.Common.{Result, Ok, Err, List, ℕ, ◌++◌, ap, ◌∙◌}
+use Rattle.std.{specs.Result.{OnOk}, proofs.Common.{Result, Ok, Err, List, ℕ, ◌++◌, ap, ◌∙◌}}
+use Rattle.script_lines.{specs.declared.fault.RunFault.{RunFault}, proofs.Writes.{nothing_written}}
 use Rattle.amt_script.proofs.Runs.{same_step}
-use Rattle.script_lines.proofs.Writes.{nothing_written}
 use Rattle.amt_script.proofs.replay.write_step.Goals as goal
 
 pub returns-in_default-clause-begun : goal.returns-in_default-clause-begun

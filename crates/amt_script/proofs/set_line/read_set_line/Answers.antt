@@ -1,6 +1,5 @@
 use Rattle.script_lines.specs.Lines.{fields}
-use Rattle.amt_script.proofs.Heard.{allowed_by_line}
-use Rattle.amt_script.proofs.SetLines.{key_judged}
+use Rattle.amt_script.proofs.{Heard.{allowed_by_line}, SetLines.{key_judged}}
 use Rattle.amt_script.proofs.set_line.read_set_line.Goals as goal
 
 pub returns-in-Ok-read_set-clause-allowed : goal.returns-in-Ok-read_set-clause-allowed

@@ -1,8 +1,6 @@
-use Rattle.std.proofs.Common.{◌≡◌, take}
-use Rattle.std.specs.List.{AllByRecursion}
+use Rattle.std.{proofs.Common.{◌≡◌, take}, specs.List.{AllByRecursion}}
 use Rattle.relay_machine.specs.Settings.{default_settings}
-use Rattle.amt_script.specs.Reading.{IsAllowed}
-use Rattle.amt_script.specs.Settling.{with_settings}
+use Rattle.amt_script.specs.{Reading.{IsAllowed}, Settling.{with_settings}}
 use Rattle.amt_script.proofs.settling.settings_of.Given as goal
 
 abbrev pub invariant-loop-setting : goal.invariant-loop-setting

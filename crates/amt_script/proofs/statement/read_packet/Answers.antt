@@ -1,6 +1,5 @@
 use Rattle.std.proofs.Common.{Err, ap}
-use Rattle.script_lines.specs.declared.values.OctetsError.{OctetsError}
-use Rattle.script_lines.proofs.Forms.{hex_sized}
+use Rattle.script_lines.{specs.declared.values.OctetsError.{OctetsError}, proofs.Forms.{hex_sized}}
 use Rattle.amt_script.proofs.Failures.{bad_octets}
 use Rattle.amt_script.proofs.statement.read_packet.Goals as goal
 

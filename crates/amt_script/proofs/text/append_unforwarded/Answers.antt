@@ -1,5 +1,4 @@
-use Rattle.std.proofs.Common.{ℕ, List, ◌++◌, codes, ap, ◌∙◌, append_assoc}
-use Rattle.std.proofs.lemmas.Result.{on_ok_weaker}
+use Rattle.std.proofs.{Common.{ℕ, List, ◌++◌, codes, ap, ◌∙◌, append_assoc}, lemmas.Result.{on_ok_weaker}}
 use Rattle.amt_script.specs.Texts.{not_forwarded_text}
 use Rattle.amt_script.proofs.text.append_unforwarded.Goals as goal
 

@@ -1,10 +1,8 @@
 use Rattle.std.proofs.Common.{◌≡◌, ◌++◌, codes, rules, sym, subst, append_assoc}
-use Rattle.amt_values.specs.Octets.{AreOctets}
-use Rattle.amt_values.specs.Text.{peer_text}
+use Rattle.amt_values.specs.{Octets.{AreOctets}, Text.{peer_text}}
 use Rattle.relay_machine.specs.declared.event.Event.TheVariants.{Datagram}
-use Rattle.amt_script.specs.Printed.{IsLineThatSays}
+use Rattle.amt_script.{specs.Printed.{IsLineThatSays}, proofs.Printed.{datagram_said}}
 use Rattle.script_lines.specs.Texts.{hex_text}
-use Rattle.amt_script.proofs.Printed.{datagram_said}
 use Rattle.amt_script.proofs.text.print_datagram_line.Goals as goal
 
 pub returns-clause-says : goal.returns-clause-says

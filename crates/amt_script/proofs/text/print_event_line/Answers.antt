@@ -1,8 +1,7 @@
 use Rattle.std.proofs.Common.{◌≡◌, ◌++◌, length, codes, decimal, sym, subst, rules}
 use Rattle.amt_values.specs.Octets.{AreOctets}
-use Rattle.amt_script.specs.Printed.{IsLineThatSays}
+use Rattle.amt_script.{specs.Printed.{IsLineThatSays}, proofs.Printed.{moment_said, secret_said}}
 use Rattle.script_lines.specs.Texts.{hex_text}
-use Rattle.amt_script.proofs.Printed.{moment_said, secret_said}
 use Rattle.amt_script.proofs.text.print_event_line.Goals as goal
 
 pub returns-in_ok-append_numeral-in-Moment-clause-says : goal.returns-in_ok-append_numeral-in-Moment-clause-says

@@ -1,8 +1,7 @@
 use Rattle.std.proofs.Common.{◌≡◌, ◌++◌, codes, rules, sym, subst, append_assoc}
 use Rattle.relay_machine.specs.declared.event.Event.TheVariants.{Packet}
-use Rattle.amt_script.specs.Printed.{IsLineThatSays}
+use Rattle.amt_script.{specs.Printed.{IsLineThatSays}, proofs.Printed.{packet_said}}
 use Rattle.script_lines.specs.Texts.{hex_text}
-use Rattle.amt_script.proofs.Printed.{packet_said}
 use Rattle.amt_script.proofs.text.print_packet_line.Goals as goal
 
 pub returns-clause-says : goal.returns-clause-says

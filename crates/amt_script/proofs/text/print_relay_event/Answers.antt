@@ -1,5 +1,4 @@
-use Rattle.std.proofs.Common.{◌∙◌, ap}
-use Rattle.std.specs.Str.Lines.{lines}
+use Rattle.std.{proofs.Common.{◌∙◌, ap}, specs.Str.Lines.{lines}}
 use Rattle.script_lines.proofs.Words.{lines-plain}
 use Rattle.amt_script.proofs.text.print_relay_event.Goals as goal
 

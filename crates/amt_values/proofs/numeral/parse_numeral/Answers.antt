@@ -1,7 +1,5 @@
-use Rattle.std.proofs.Common.{◌≡◌, ℕ, sym, subst, ap, ◌∙◌, Ok}
-use Rattle.std.proofs.lemmas.Fmt.{parse-decimal}
-use Rattle.amt_values.specs.Numeral.{IsNumeral}
-use Rattle.amt_values.proofs.Numerals.{IsUtf8-from_numeral, parsed_number, parsed_too_large, no_number}
+use Rattle.std.proofs.{Common.{◌≡◌, ℕ, sym, subst, ap, ◌∙◌, Ok}, lemmas.Fmt.{parse-decimal}}
+use Rattle.amt_values.{specs.Numeral.{IsNumeral}, proofs.Numerals.{IsUtf8-from_numeral, parsed_number, parsed_too_large, no_number}}
 use Rattle.amt_values.proofs.numeral.parse_numeral.Goals as goal
 
 pub returns-then-not-is_numeral-clause-only : goal.returns-then-not-is_numeral-clause-only

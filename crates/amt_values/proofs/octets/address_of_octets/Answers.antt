@@ -1,7 +1,5 @@
-use Rattle.std.proofs.Common.{ℕ, ◌≡◌, ◌∙◌, sym, ap, length, rules}
-use Rattle.std.specs.Int.{bytes_high_first}
-use Rattle.amt_values.proofs.NetworkOrder.{bytes_high_first-big_from}
-use Rattle.amt_values.specs.Octets.{AreOctets}
+use Rattle.std.{proofs.Common.{ℕ, ◌≡◌, ◌∙◌, sym, ap, length, rules}, specs.Int.{bytes_high_first}}
+use Rattle.amt_values.{proofs.NetworkOrder.{bytes_high_first-big_from}, specs.Octets.{AreOctets}}
 use Rattle.amt_values.proofs.octets.address_of_octets.Goals as goal
 
 pub returns-clause-octets : goal.returns-clause-octets

@@ -1,7 +1,5 @@
 use Rattle.std.proofs.Common.{◌≡◌, decimal, Some, ap, sym, ◌∙◌}
-use Rattle.amt_values.specs.declared.address.Ip.TheVariants.{V6}
-use Rattle.amt_values.specs.declared.peer.Peer.{Peer}
-use Rattle.amt_values.proofs.PeerTexts.{bracketed_parts, no_bracketed_peer, same_peer}
+use Rattle.amt_values.{specs.declared.{address.Ip.TheVariants.{V6}, peer.Peer.{Peer}}, proofs.PeerTexts.{bracketed_parts, no_bracketed_peer, same_peer}}
 use Rattle.amt_values.proofs.text.parse_bracketed_peer.Goals as goal
 
 pub returns-in_default-clause-only : goal.returns-in_default-clause-only

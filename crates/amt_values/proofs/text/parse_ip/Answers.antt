@@ -1,8 +1,5 @@
 use Rattle.std.proofs.Common.{ℕ, List, Some, ap}
-use Rattle.amt_values.specs.declared.address.Ip.{Ip}
-use Rattle.amt_values.specs.declared.address.Ip.TheVariants.{V4, V6}
-use Rattle.amt_values.specs.Text.{IsIpText}
-use Rattle.amt_values.proofs.Unique.{IsIpText-unique}
+use Rattle.amt_values.{specs.{declared.address.Ip.{Ip, TheVariants.{V4, V6}}, Text.{IsIpText}}, proofs.Unique.{IsIpText-unique}}
 use Rattle.amt_values.proofs.text.parse_ip.Goals as goal
 
 pub returns-in-Some-clause-only : goal.returns-in-Some-clause-only

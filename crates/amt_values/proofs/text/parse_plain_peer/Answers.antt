@@ -1,7 +1,5 @@
 use Rattle.std.proofs.Common.{◌≡◌, Some, ap, sym, ◌∙◌}
-use Rattle.amt_values.specs.declared.address.Ip.TheVariants.{V4}
-use Rattle.amt_values.specs.declared.peer.Peer.{Peer}
-use Rattle.amt_values.proofs.PeerTexts.{plain_parts, no_plain_peer, same_peer}
+use Rattle.amt_values.{specs.declared.{address.Ip.TheVariants.{V4}, peer.Peer.{Peer}}, proofs.PeerTexts.{plain_parts, no_plain_peer, same_peer}}
 use Rattle.amt_values.proofs.text.parse_plain_peer.Goals as goal
 
 pub returns-in_default-clause-only : goal.returns-in_default-clause-only

@@ -1,6 +1,5 @@
 use Rattle.std.proofs.Common.{ℕ, Some, sym, ap, ◌∙◌}
-use Rattle.amt_values.specs.Text.{v4_text}
-use Rattle.amt_values.proofs.Dotted.{v4_found, v4_only, v4_none}
+use Rattle.amt_values.{specs.Text.{v4_text}, proofs.Dotted.{v4_found, v4_only, v4_none}}
 use Rattle.amt_values.proofs.text.parse_v4.Goals as goal
 
 pub returns-in-Ok-clause-found : goal.returns-in-Ok-clause-found

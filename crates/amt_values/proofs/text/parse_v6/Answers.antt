@@ -1,9 +1,5 @@
-use Rattle.std.proofs.Common.{◌≡◌, ℕ, length, Some, sym, subst, ap, ◌∙◌, arith, rules, Fits, get_or, w16}
-use Rattle.std.proofs.NetLemmas.Texts.{AllSegments}
-use Rattle.amt_values.specs.Segments.{address_segments, IsV6Text}
-use Rattle.amt_values.proofs.Cuts.{Lacks}
-use Rattle.amt_values.proofs.Joined.{Lacks-v6}
-use Rattle.amt_values.proofs.V6Texts.{v6_found, v6_only, v6_none}
+use Rattle.std.proofs.{Common.{◌≡◌, ℕ, length, Some, sym, subst, ap, ◌∙◌, arith, rules, Fits, get_or, w16}, NetLemmas.Texts.{AllSegments}}
+use Rattle.amt_values.{specs.Segments.{address_segments, IsV6Text}, proofs.{Cuts.{Lacks}, Joined.{Lacks-v6}, V6Texts.{v6_found, v6_only, v6_none}}}
 use Rattle.amt_values.proofs.text.parse_v6.Goals as goal
 
 pub returns-then-has_dot-clause-only : goal.returns-then-has_dot-clause-only

@@ -1,6 +1,5 @@
 use Rattle.std.proofs.Common.{◌≡◌, refl, sym, subst, rules}
-use Rattle.amt_values.specs.Text.{ip_text, peer_text, IsPeerText}
-use Rattle.amt_values.proofs.PrintedTexts.{printed_peer}
+use Rattle.amt_values.{specs.Text.{ip_text, peer_text, IsPeerText}, proofs.PrintedTexts.{printed_peer}}
 use Rattle.amt_values.proofs.text.print_peer.Goals as goal
 
 pub returns-in_err-write-clause-rule : goal.returns-in_err-write-clause-rule

@@ -1,8 +1,6 @@
 use Rattle.std.proofs.Common.{IfErr, sym, subst}
-use Rattle.script_lines.specs.Lines.{fields}
-use Rattle.script_lines.specs.Reading.{FailsFirst}
-use Rattle.amt_vectors.specs.declared.kind.RowKind.{RowKind}
-use Rattle.amt_vectors.specs.Fault.{FailsAs, order_of_values}
+use Rattle.script_lines.specs.{Lines.{fields}, Reading.{FailsFirst}}
+use Rattle.amt_vectors.specs.{declared.kind.RowKind.{RowKind}, Fault.{FailsAs, order_of_values}}
 use Rattle.amt_vectors.proofs.line.read_kind.Goals as goal
 
 pub returns-in-Code4-clause-reason : goal.returns-in-Code4-clause-reason

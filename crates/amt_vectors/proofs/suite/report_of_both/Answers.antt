@@ -1,5 +1,4 @@
-use Rattle.std.proofs.Common.{arith}
-use Rattle.std.proofs.lemmas.Result.{IfOk-weaker}
+use Rattle.std.proofs.{Common.{arith}, lemmas.Result.{IfOk-weaker}}
 use Rattle.amt_vectors.proofs.Reports.{both_pass, first_fails, first_passed}
 use Rattle.amt_vectors.proofs.suite.report_of_both.Goals as goal
 

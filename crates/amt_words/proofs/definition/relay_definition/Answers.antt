@@ -1,5 +1,4 @@
-use Rattle.std.proofs.Common.{ap}
-use Rattle.std.proofs.lemmas.Result.{IfOk-weaker}
+use Rattle.std.proofs.{Common.{ap}, lemmas.Result.{IfOk-weaker}}
 use Rattle.clap.specs.Words.{Rule}
 use Rattle.amt_words.proofs.Optional.{relay_given}
 use Rattle.amt_words.proofs.definition.relay_definition.Goals as goal

@@ -1,5 +1,4 @@
-use Rattle.std.proofs.Common.{◌∙◌, sym, ap, map, string_bytes}
-use Rattle.std.specs.Prelude.{option_map}
+use Rattle.std.{proofs.Common.{◌∙◌, sym, ap, map, string_bytes}, specs.Prelude.{option_map}}
 use Rattle.amt_words.proofs.Naming.{entered_name, known_name}
 use Rattle.amt_words.proofs.replay.read_replay.Goals as goal
 

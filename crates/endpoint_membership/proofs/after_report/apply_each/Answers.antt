@@ -1,12 +1,7 @@
-use Rattle.std.proofs.Common.{List, sym, ap, ◌∙◌}
-use Rattle.std.specs.Borrow.{Bor}
-use Rattle.std.specs.BTreeMap.{get}
+use Rattle.std.{proofs.Common.{List, sym, ap, ◌∙◌}, specs.{Borrow.{Bor}, BTreeMap.{get}}}
 use Rattle.amt_values.specs.Order.{ip_order}
 use Rattle.source_filter.specs.declared.record.Record.{Record}
-use Rattle.endpoint_membership.specs.Effective.{lent}
-use Rattle.endpoint_membership.specs.EndpointMemberships.{renewed_filter_after_all}
-use Rattle.endpoint_membership.specs.Log.{on_group}
-use Rattle.endpoint_membership.proofs.EnoughRecords.{one_first}
+use Rattle.endpoint_membership.{specs.{Effective.{lent}, EndpointMemberships.{renewed_filter_after_all}, Log.{on_group}}, proofs.EnoughRecords.{one_first}}
 use Rattle.endpoint_membership.proofs.after_report.apply_each.Goals as goal
 
 pub loop-group_record-preserved : goal.loop-group_record-preserved

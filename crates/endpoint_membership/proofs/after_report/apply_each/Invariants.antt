@@ -1,10 +1,6 @@
-use Rattle.std.proofs.Common.{◌≡◌}
-use Rattle.std.specs.BTreeMap.{get}
-use Rattle.amt_values.specs.declared.address.Ip.{Ip}
-use Rattle.amt_values.specs.Order.{ip_order}
-use Rattle.endpoint_membership.specs.Effective.{lent}
-use Rattle.endpoint_membership.specs.EndpointMemberships.{renewed_filter_after_all}
-use Rattle.endpoint_membership.specs.Log.{on_group}
+use Rattle.std.{proofs.Common.{◌≡◌}, specs.BTreeMap.{get}}
+use Rattle.amt_values.specs.{declared.address.Ip.{Ip}, Order.{ip_order}}
+use Rattle.endpoint_membership.specs.{Effective.{lent}, EndpointMemberships.{renewed_filter_after_all}, Log.{on_group}}
 use Rattle.endpoint_membership.proofs.after_report.apply_each.Given as goal
 
 -- what is left to apply makes of the filters what all of it made of the first ones

@@ -1,13 +1,7 @@
-use Rattle.std.proofs.Common.{rules, Some, ap, cond, ◌∙◌}
-use Rattle.std.specs.BTreeMap.{get}
-use Rattle.std.proofs.lemmas.Result.{on_ok_weaker}
-use Rattle.std.specs.declared.cmp.Ordering.{Ordering}
-use Rattle.amt_values.specs.declared.address.Ip.{Ip}
-use Rattle.amt_values.specs.Order.{ip_order}
+use Rattle.std.{proofs.{Common.{rules, Some, ap, cond, ◌∙◌}, lemmas.Result.{on_ok_weaker}}, specs.{BTreeMap.{get}, declared.cmp.Ordering.{Ordering}}}
+use Rattle.amt_values.specs.{declared.address.Ip.{Ip}, Order.{ip_order}}
 use Rattle.source_filter.proofs.Compared.{compared}
-use Rattle.endpoint_membership.specs.declared.after_report.RenewedFilter.{RenewedFilter}
-use Rattle.endpoint_membership.specs.EndpointGroup.{same_group}
-use Rattle.endpoint_membership.proofs.FilterMap.{one_applied, same_group-back, set_here, updated}
+use Rattle.endpoint_membership.{specs.{declared.after_report.RenewedFilter.{RenewedFilter}, EndpointGroup.{same_group}}, proofs.FilterMap.{one_applied, same_group-back, set_here, updated}}
 use Rattle.endpoint_membership.proofs.after_report.apply_record.Goals as goal
 
 -- src/after_report.rt:91:9

@@ -1,20 +1,8 @@
-use Rattle.std.proofs.Common.{◌≡◌, ℕ, List, Result, Ok, Err, IfOk, OnOk, sym, ap, subst, ◌∙◌}
-use Rattle.std.specs.BTreeMap.{BTreeMap, IsOrdered, get}
-use Rattle.std.specs.List.{filter_map}
-use Rattle.amt_values.specs.declared.address.Ip.{Ip}
-use Rattle.amt_values.specs.Order.{ip_order}
-use Rattle.amt_values.specs.EndpointValue.{EndpointValue}
-use Rattle.amt_values.specs.Ascending.{IsAscending}
+use Rattle.std.{proofs.Common.{◌≡◌, ℕ, List, Result, Ok, Err, IfOk, OnOk, sym, ap, subst, ◌∙◌}, specs.{BTreeMap.{BTreeMap, IsOrdered, get}, List.{filter_map}}}
+use Rattle.amt_values.specs.{declared.address.Ip.{Ip}, Order.{ip_order}, EndpointValue.{EndpointValue}, Ascending.{IsAscending}}
 use Rattle.source_filter.specs.declared.record.Record.{Record}
-use Rattle.endpoint_membership.specs.declared.after_report.OwnAfter.{OwnAfter}
-use Rattle.endpoint_membership.specs.declared.after_report.RenewedFilter.{RenewedFilter}
-use Rattle.endpoint_membership.specs.EndpointMemberships.{AreGone, AreOf, AreOwn, gone_of_entry, membership_of_entry, membership_of_renewed, renewed_filter_after_all, renewed_filter_of}
-use Rattle.endpoint_membership.specs.Log.{on_group}
-use Rattle.endpoint_membership.specs.Membership.{Membership, is_fresh, membership_order}
-use Rattle.endpoint_membership.specs.Memberships.{membership_in}
-use Rattle.endpoint_membership.specs.Stored.{only}
-use Rattle.endpoint_membership.proofs.FilterMap.{AreOf-filters, IsAscending-filters, membership_in-filters}
-use Rattle.endpoint_membership.proofs.GonePairs.{AreGone-filters}
+use Rattle.endpoint_membership.specs.{declared.after_report.{OwnAfter.{OwnAfter}, RenewedFilter.{RenewedFilter}}, EndpointMemberships.{AreGone, AreOf, AreOwn, gone_of_entry, membership_of_entry, membership_of_renewed, renewed_filter_after_all, renewed_filter_of}}
+use Rattle.endpoint_membership.{specs.{Log.{on_group}, Membership.{Membership, is_fresh, membership_order}, Memberships.{membership_in}, Stored.{only}}, proofs.{FilterMap.{AreOf-filters, IsAscending-filters, membership_in-filters}, GonePairs.{AreGone-filters}}}
 use Rattle.endpoint_membership.proofs.after_report.memberships_after.Goals as goal
 
 own_by : {E : Type 0} (lifetime moment : ℕ) (endpoint : EndpointValue) (records : List Record) (rows : List Membership) (filters : BTreeMap Ip RenewedFilter) (answer : Result OwnAfter E)

@@ -1,9 +1,5 @@
 use Rattle.std.proofs.Common.{Bool, Some, None, Vec, Global, ◌++◌, ◌∷◌, [], if◌then◌else◌, sym, ap, ◌∙◌}
-use Rattle.endpoint_membership.specs.EndpointGroup.{EndpointGroup}
-use Rattle.endpoint_membership.specs.EndpointMemberships.{gone_of_entry, membership_of_entry}
-use Rattle.endpoint_membership.specs.Membership.{Membership}
-use Rattle.endpoint_membership.proofs.FilterMap.{made, none_more_given, one_more_given}
-use Rattle.endpoint_membership.proofs.after_report.memberships_of_filters.Goals.{then-wants_any+in_ok-membership_of+in_ok-push, else-wants_any+in_ok-push-2}
+use Rattle.endpoint_membership.{specs.{EndpointGroup.{EndpointGroup}, EndpointMemberships.{gone_of_entry, membership_of_entry}, Membership.{Membership}}, proofs.{FilterMap.{made, none_more_given, one_more_given}, after_report.memberships_of_filters.Goals.{then-wants_any+in_ok-membership_of+in_ok-push, else-wants_any+in_ok-push-2}}}
 use Rattle.endpoint_membership.proofs.after_report.memberships_of_filters.Goals as goal
 
 pub loop-group-preserved : goal.loop-group-preserved

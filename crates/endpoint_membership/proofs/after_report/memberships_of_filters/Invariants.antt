@@ -1,5 +1,4 @@
-use Rattle.std.proofs.Common.{◌≡◌}
-use Rattle.std.specs.List.{filter_map}
+use Rattle.std.{proofs.Common.{◌≡◌}, specs.List.{filter_map}}
 use Rattle.endpoint_membership.specs.EndpointMemberships.{gone_of_entry, membership_of_entry}
 use Rattle.endpoint_membership.proofs.after_report.memberships_of_filters.Given as goal
 

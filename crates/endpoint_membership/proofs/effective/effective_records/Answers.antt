@@ -1,5 +1,4 @@
-use Rattle.std.proofs.Common.{◌≡◌, ◌+◌, ◌-◌, ◌<◌, ◌∷◌, drop, length, sym, ap, subst, ◌∙◌, ℕ, arith}
-use Rattle.std.proofs.lemmas.List.{drop_more}
+use Rattle.std.proofs.{Common.{◌≡◌, ◌+◌, ◌-◌, ◌<◌, ◌∷◌, drop, length, sym, ap, subst, ◌∙◌, ℕ, arith}, lemmas.List.{drop_more}}
 use Rattle.source_filter.specs.declared.record.Record.{Record}
 use Rattle.endpoint_membership.specs.Effective.{AreEnough, lent}
 use Rattle.endpoint_membership.proofs.effective.effective_records.Goals as goal

@@ -1,9 +1,6 @@
-use Rattle.std.proofs.Common.{List, sym, ap, subst, ◌∙◌, ◌∷◌}
-use Rattle.std.specs.Borrow.{Bor}
-use Rattle.source_filter.proofs.Compared.{compared}
-use Rattle.source_filter.specs.declared.record.Record.{Record}
-use Rattle.endpoint_membership.specs.Effective.{AreDecided, lent}
-use Rattle.endpoint_membership.proofs.EnoughRecords.{decided_more, inserted}
+use Rattle.std.{proofs.Common.{List, sym, ap, subst, ◌∙◌, ◌∷◌}, specs.Borrow.{Bor}}
+use Rattle.source_filter.{proofs.Compared.{compared}, specs.declared.record.Record.{Record}}
+use Rattle.endpoint_membership.{specs.Effective.{AreDecided, lent}, proofs.EnoughRecords.{decided_more, inserted}}
 use Rattle.endpoint_membership.proofs.effective.keep.Goals as goal
 
 -- src/effective.rt:23:1

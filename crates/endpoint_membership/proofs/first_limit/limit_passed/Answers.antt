@@ -1,10 +1,7 @@
 use Rattle.std.proofs.Common.{◌<◌, ◌^◌, List, length, ap, arith}
 use Rattle.amt_values.specs.declared.address.Ip.{Ip}
 use Rattle.source_filter.specs.Filter.{FilterValue}
-use Rattle.endpoint_membership.specs.Membership.{Membership}
-use Rattle.endpoint_membership.specs.Limits.{size}
-use Rattle.endpoint_membership.specs.EndpointMemberships.{is_over}
-use Rattle.endpoint_membership.proofs.ReportBounds.{All-find}
+use Rattle.endpoint_membership.{specs.{Membership.{Membership}, Limits.{size}, EndpointMemberships.{is_over}}, proofs.ReportBounds.{All-find}}
 use Rattle.endpoint_membership.proofs.first_limit.limit_passed.Goals as goal
 
 pub overflow_cast-result : goal.overflow_cast-result

@@ -1,9 +1,5 @@
-use Rattle.std.proofs.Common.{◌≡◌, ◌∙◌}
-use Rattle.std.proofs.lemmas.Result.{IfOk-weaker}
-use Rattle.socket_merge.specs.Changes.{change_records, changes_between}
-use Rattle.socket_merge.specs.FullReport.{family_by}
-use Rattle.socket_merge.specs.History.{with_call}
-use Rattle.socket_merge.proofs.Changed.{changes-of_call}
+use Rattle.std.proofs.{Common.{◌≡◌, ◌∙◌}, lemmas.Result.{IfOk-weaker}}
+use Rattle.socket_merge.{specs.{Changes.{change_records, changes_between}, FullReport.{family_by}, History.{with_call}}, proofs.Changed.{changes-of_call}}
 use Rattle.gateway_machine.proofs.calls.call_changes.Goals as goal
 
 pub returns-clause-records : goal.returns-clause-records

@@ -1,6 +1,5 @@
 use Rattle.std.proofs.Common.{ap, ◌∙◌}
-use Rattle.socket_merge.specs.History.{Change, sockets_after}
-use Rattle.socket_merge.specs.Sockets.{SocketsValue}
+use Rattle.socket_merge.specs.{History.{Change, sockets_after}, Sockets.{SocketsValue}}
 use Rattle.gateway_machine.proofs.calls.change_socket.Goals as goal
 
 pub returns-in-Ok-change-clause-one_call : goal.returns-in-Ok-change-clause-one_call

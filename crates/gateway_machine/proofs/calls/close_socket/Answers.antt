@@ -1,6 +1,5 @@
 use Rattle.std.proofs.Common.{refl, ap, ◌∙◌}
-use Rattle.socket_merge.specs.History.{Close, sockets_after}
-use Rattle.socket_merge.specs.Sockets.{SocketsValue}
+use Rattle.socket_merge.specs.{History.{Close, sockets_after}, Sockets.{SocketsValue}}
 use Rattle.gateway_machine.proofs.CallRefusals.{close-accepted, close-refused}
 use Rattle.gateway_machine.proofs.calls.close_socket.Goals as goal
 

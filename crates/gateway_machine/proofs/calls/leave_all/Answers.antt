@@ -1,6 +1,5 @@
 use Rattle.std.proofs.Common.{ap, ◌∙◌}
-use Rattle.socket_merge.specs.History.{LeaveAll, sockets_after}
-use Rattle.socket_merge.specs.Sockets.{SocketsValue}
+use Rattle.socket_merge.specs.{History.{LeaveAll, sockets_after}, Sockets.{SocketsValue}}
 use Rattle.gateway_machine.proofs.CallRefusals.{leave_all-accepted}
 use Rattle.gateway_machine.proofs.calls.leave_all.Goals as goal
 

@@ -1,6 +1,5 @@
 use Rattle.std.proofs.Common.{ap, ◌∙◌}
-use Rattle.socket_merge.specs.History.{Open, sockets_after}
-use Rattle.socket_merge.specs.Sockets.{SocketsValue}
+use Rattle.socket_merge.specs.{History.{Open, sockets_after}, Sockets.{SocketsValue}}
 use Rattle.gateway_machine.proofs.calls.open_socket.Goals as goal
 
 pub returns-in-Ok-open-clause-one_call : goal.returns-in-Ok-open-clause-one_call

@@ -1,6 +1,4 @@
-use Rattle.std.proofs.Common.{◌≤◌, length}
-use Rattle.std.proofs.lemmas.List.Elements.{All-push}
-use Rattle.std.proofs.lemmas.Result.{IfOk-weaker}
+use Rattle.std.proofs.{Common.{◌≤◌, length}, lemmas.{List.Elements.{All-push}, Result.{IfOk-weaker}}}
 use Rattle.gateway_machine.specs.declared.step.PeerSend.{PeerSend}
 use Rattle.gateway_machine.proofs.report.push_to_relay.Goals as goal
 

@@ -1,10 +1,8 @@
-use Rattle.std.proofs.Common.{◌≡◌, ◌≤◌, ℕ, List, length, ap, ◌∙◌, arith}
-use Rattle.std.proofs.lemmas.Result.{IfOk-weaker}
+use Rattle.std.proofs.{Common.{◌≡◌, ◌≤◌, ℕ, List, length, ap, ◌∙◌, arith}, lemmas.Result.{IfOk-weaker}}
 use Rattle.inner_datagrams.specs.Written.{written_inner4, written_inner6}
 use Rattle.igmp_records.specs.Report.{written_report4}
 use Rattle.mld_records.specs.Report.{written_report6}
-use Rattle.gateway_machine.specs.Reports.{igmp_routers, mld_routers, report_datagram}
-use Rattle.gateway_machine.proofs.ReportSizes.{length-inner6}
+use Rattle.gateway_machine.{specs.Reports.{igmp_routers, mld_routers, report_datagram}, proofs.ReportSizes.{length-inner6}}
 use Rattle.gateway_machine.proofs.report.report_datagram.Goals as goal
 
 pub returns-in_ok-report-in-V4-clause-written : goal.returns-in_ok-report-in-V4-clause-written

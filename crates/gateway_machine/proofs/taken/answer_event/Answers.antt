@@ -1,5 +1,4 @@
-use Rattle.gateway_machine.specs.Settings.{family_of}
-use Rattle.gateway_machine.proofs.OwnSockets.{filter-of_socket}
+use Rattle.gateway_machine.{specs.Settings.{family_of}, proofs.OwnSockets.{filter-of_socket}}
 use Rattle.gateway_machine.proofs.taken.answer_event.Goals as goal
 
 pub change_socket-called-requires-clause-family : goal.change_socket-called-requires-clause-family

@@ -1,14 +1,6 @@
 use Rattle.std.proofs.Common.{◌≡◌, Bool, List, Some, None, subst}
-use Rattle.socket_merge.specs.History.{AcceptedCall, SocketCall, with_call}
-use Rattle.socket_merge.specs.Refusal.{refusal_of}
-use Rattle.socket_merge.specs.Sockets.{SocketsHold, SocketsValue}
-use Rattle.gateway_machine.specs.Answers.{accepted_answer, is_opening}
-use Rattle.gateway_machine.specs.Calls.{AnswersCall}
-use Rattle.gateway_machine.specs.State.{IsReply, IsTakenCall}
-use Rattle.gateway_machine.specs.declared.exchange.Exchange.{Exchange}
-use Rattle.gateway_machine.specs.declared.reply.Reply.{Reply}
-use Rattle.gateway_machine.specs.declared.settings.GatewaySettings.{GatewaySettings}
-use Rattle.gateway_machine.proofs.Steady.{heeded_accepted}
+use Rattle.socket_merge.specs.{History.{AcceptedCall, SocketCall, with_call}, Refusal.{refusal_of}, Sockets.{SocketsHold, SocketsValue}}
+use Rattle.gateway_machine.{specs.{Answers.{accepted_answer, is_opening}, Calls.{AnswersCall}, State.{IsReply, IsTakenCall}, declared.{exchange.Exchange.{Exchange}, reply.Reply.{Reply}, settings.GatewaySettings.{GatewaySettings}}}, proofs.Steady.{heeded_accepted}}
 use Rattle.gateway_machine.proofs.taken.take_call.Goals as goal
 
 -- the reply to an accepted call, with the sockets after it

@@ -1,8 +1,7 @@
 use Rattle.std.proofs.Common.{ℕ, List, length, ap, refl, ◌∙◌, arith}
 use Rattle.source_filter.specs.Filter.{ascending_sources}
 use Rattle.script_lines.specs.Lines.{fields}
-use Rattle.gateway_script.proofs.Calls.{open_group, open_mode, open_name, open_sources}
-use Rattle.gateway_script.proofs.Running.{few_fields, filter_of_addresses}
+use Rattle.gateway_script.proofs.{Calls.{open_group, open_mode, open_name, open_sources}, Running.{few_fields, filter_of_addresses}}
 use Rattle.gateway_script.proofs.call_line.read_open.Goals as goal
 
 pub returns-in-Err-clause-reason : goal.returns-in-Err-clause-reason

@@ -1,7 +1,6 @@
 use Rattle.std.proofs.Common.{◌≢◌, ◌≤◌, [], length, inl, inr, refl, rules}
 use Rattle.script_lines.specs.Lines.{fields}
-use Rattle.gateway_script.specs.Settling.{family_given}
-use Rattle.gateway_script.proofs.Events.{none_there, set_failed}
+use Rattle.gateway_script.{specs.Settling.{family_given}, proofs.Events.{none_there, set_failed}}
 use Rattle.gateway_script.proofs.line.read_set.Goals as goal
 
 pub returns-then-lacks_family-clause-reason : goal.returns-then-lacks_family-clause-reason

@@ -1,9 +1,7 @@
 use Rattle.std.proofs.Common.{◌≡◌, ◌∷◌, ◌++◌, rules}
 use Rattle.script_lines.specs.Lines.{fields}
 use Rattle.gateway_script.specs.declared.kind.LineKind.TheVariants as kinds
-use Rattle.gateway_script.specs.Reading.{IsEventKind}
-use Rattle.gateway_script.specs.Row.{words_of}
-use Rattle.gateway_script.proofs.Judging.{event_failed, setting_judged}
+use Rattle.gateway_script.{specs.{Reading.{IsEventKind}, Row.{words_of}}, proofs.Judging.{event_failed, setting_judged}}
 use Rattle.gateway_script.proofs.line.read_statement.Goals as goal
 
 pub returns-in-Err-clause-reason : goal.returns-in-Err-clause-reason

@@ -1,8 +1,6 @@
 use Rattle.std.proofs.Common.{ℕ, List, ◌∷◌, subst, sym}
-use Rattle.script_lines.specs.Reading.{FailsFirst}
-use Rattle.script_lines.specs.declared.reason.Reason.TheVariants.{Word}
-use Rattle.gateway_script.specs.Fault.{order_of_values}
-use Rattle.gateway_script.specs.SocketLine.{FailsAsCall}
+use Rattle.script_lines.specs.{Reading.{FailsFirst}, declared.reason.Reason.TheVariants.{Word}}
+use Rattle.gateway_script.specs.{Fault.{order_of_values}, SocketLine.{FailsAsCall}}
 use Rattle.gateway_script.proofs.socket_line.read_call.Goals as goal
 
 pub returns-in-Err-clause-reason : goal.returns-in-Err-clause-reason

@@ -1,9 +1,6 @@
 use Rattle.std.proofs.Common.{◌≡◌, ◌∷◌, ◌++◌, rules}
 use Rattle.script_lines.specs.Lines.{fields}
-use Rattle.gateway_script.specs.Row.{words_of}
-use Rattle.gateway_script.specs.SocketLine.{MakesCall}
-use Rattle.gateway_script.proofs.Running.{event_of_one_family}
-use Rattle.gateway_script.proofs.SocketCalls.{call_judged, says_call}
+use Rattle.gateway_script.{specs.{Row.{words_of}, SocketLine.{MakesCall}}, proofs.{Running.{event_of_one_family}, SocketCalls.{call_judged, says_call}}}
 use Rattle.gateway_script.proofs.socket_line.read_socket_call.Goals as goal
 
 pub returns-in-Ok-read_event-clause-call : goal.returns-in-Ok-read_event-clause-call

@@ -1,12 +1,9 @@
 use Rattle.std.proofs.Common.{◌≡◌, rules, subst}
 use Rattle.group_records.specs.declared.family.Family.{Family}
 use Rattle.socket_merge.specs.FullReport.{family_by}
-use Rattle.script_lines.specs.declared.fault.ScriptError.TheVariants.{Fault}
-use Rattle.script_lines.specs.Lines.{IsPlain, IsShort}
-use Rattle.gateway_script.specs.SocketLine.{IsSocketError}
-use Rattle.gateway_script.proofs.SocketCalls.{IsSocketLine-unique, fault_rules_out, line_fault}
+use Rattle.script_lines.specs.{declared.fault.ScriptError.TheVariants.{Fault}, Lines.{IsPlain, IsShort}}
+use Rattle.gateway_script.{specs.SocketLine.{IsSocketError}, proofs.{SocketCalls.{IsSocketLine-unique, fault_rules_out, line_fault}, socket_line.read_socket_line.Goals.{then-v6, else-v6}}}
 use Rattle.gateway_script.proofs.socket_line.read_socket_line.Goals as goal
-use Rattle.gateway_script.proofs.socket_line.read_socket_line.Goals.{then-v6, else-v6}
 
 pub returns-in-Ok-clause-one : goal.returns-in-Ok-clause-one
 returns-in-Ok-clause-one c = λ event other. IsSocketLine-unique (family_by c.args.v6) event other c.args.line.now

@@ -1,7 +1,6 @@
 use Rattle.std.proofs.Common.{Err, ap}
-use Rattle.script_lines.specs.declared.values.OctetsError.{OctetsError}
+use Rattle.script_lines.{specs.declared.values.OctetsError.{OctetsError}, proofs.Forms.{hex_sized}}
 use Rattle.gateway_script.proofs.Failures.{bad_hex, bad_peer}
-use Rattle.script_lines.proofs.Forms.{hex_sized}
 use Rattle.gateway_script.proofs.statement.read_datagram.Goals as goal
 
 pub returns-in-Err-NotHex-clause-reason : goal.returns-in-Err-NotHex-clause-reason

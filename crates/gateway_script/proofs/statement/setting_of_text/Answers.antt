@@ -1,6 +1,5 @@
 use Rattle.std.proofs.Common.{ap}
-use Rattle.gateway_script.specs.Row.{form_of_key}
-use Rattle.gateway_script.proofs.Failures.{bad_setting_peer}
+use Rattle.gateway_script.{specs.Row.{form_of_key}, proofs.Failures.{bad_setting_peer}}
 use Rattle.gateway_script.proofs.statement.setting_of_text.Goals as goal
 
 pub returns-in-None-parse_peer-clause-reason : goal.returns-in-None-parse_peer-clause-reason

@@ -1,12 +1,8 @@
-use Rattle.std.proofs.Common.{List, refl, sym, ap, subst, ◌∙◌}
-use Rattle.std.specs.Prelude.{All}
+use Rattle.std.{proofs.Common.{List, refl, sym, ap, subst, ◌∙◌}, specs.Prelude.{All}}
 use Rattle.amt_config.specs.declared.config.Join.{Join}
 use Rattle.amt_ports.proofs.Waits.{no_waits, waits_then}
-use Rattle.gateway_machine.specs.Events.{IsEventOf}
-use Rattle.gateway_machine.specs.declared.settings.GatewaySettings.{GatewaySettings}
-use Rattle.gateway_serving.specs.Reports.{report_of}
-use Rattle.gateway_serving.specs.Settings.{opening_of, settings_of}
-use Rattle.gateway_serving.proofs.WholeRuns.{IsFresh, reported, serves_run, serves_undrawn, serves_unmade, serves_unopened}
+use Rattle.gateway_machine.specs.{Events.{IsEventOf}, declared.settings.GatewaySettings.{GatewaySettings}}
+use Rattle.gateway_serving.{specs.{Reports.{report_of}, Settings.{opening_of, settings_of}}, proofs.WholeRuns.{IsFresh, reported, serves_run, serves_undrawn, serves_unmade, serves_unopened}}
 use Rattle.gateway_serving.proofs.serving.serve_gateway.Goals as goal
 
 pub returns-in_default : goal.returns-in_default

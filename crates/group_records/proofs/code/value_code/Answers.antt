@@ -1,6 +1,5 @@
 use Rattle.std.proofs.Common.{◌<◌, Some, sym, ap, ◌∙◌, arith}
-use Rattle.group_records.specs.Code.{code_with}
-use Rattle.group_records.proofs.Codes.{lower_code, same_code, next_exponent}
+use Rattle.group_records.{specs.Code.{code_with}, proofs.Codes.{lower_code, same_code, next_exponent}}
 use Rattle.group_records.proofs.code.value_code.Goals as goal
 
 pub returns-then-value-code_count-clause-only : goal.returns-then-value-code_count-clause-only

@@ -1,8 +1,7 @@
 use Rattle.std.proofs.Common.{List, ℕ, sym, subst, ◌∙◌, rules}
 use Rattle.amt_values.specs.Octets.{AreOctets}
 use Rattle.inner_datagrams.proofs.Parts.{AreOctets-append}
-use Rattle.group_records.specs.Query.{IsGeneralQuery, query_with_sum, written_query}
-use Rattle.group_records.proofs.WrittenQuery.{IsGeneralQuery-written_query}
+use Rattle.group_records.{specs.Query.{IsGeneralQuery, query_with_sum, written_query}, proofs.WrittenQuery.{IsGeneralQuery-written_query}}
 use Rattle.group_records.proofs.general.write_query.Goals as goal
 
 pub returns-clause-written : goal.returns-clause-written

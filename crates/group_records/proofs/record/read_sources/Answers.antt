@@ -1,6 +1,5 @@
 use Rattle.std.proofs.Common.{◌≡◌, ℕ, drop, ap, ◌∙◌}
-use Rattle.group_records.specs.Family.{width}
-use Rattle.group_records.proofs.LoopSteps.{enough_step, sources_step}
+use Rattle.group_records.{specs.Family.{width}, proofs.LoopSteps.{enough_step, sources_step}}
 use Rattle.group_records.proofs.record.read_sources.Goals as goal
 
 pub loop-preserved : goal.loop-preserved

@@ -1,6 +1,5 @@
 use Rattle.std.proofs.Common.{◌≡◌, ◌≤◌, ◌*◌, ◌-◌, ◌++◌, length, map}
-use Rattle.group_records.specs.Family.{address_in, width}
-use Rattle.group_records.specs.Reading.{numbers_at}
+use Rattle.group_records.specs.{Family.{address_in, width}, Reading.{numbers_at}}
 use Rattle.group_records.proofs.record.read_sources.Given as goal
 
 abbrev pub invariant-loop : goal.invariant-loop

@@ -1,8 +1,6 @@
 use Rattle.std.proofs.Common.{◌≡◌, drop, Some, None, rules}
 use Rattle.amt_values.specs.Conditions.{first_holding}
-use Rattle.group_records.specs.Reading.{record_faults, record_length}
-use Rattle.group_records.proofs.LoopSteps.{asks_here, asks_later, fault_here, fault_step, known_step, reading-err, reading-ok}
-use Rattle.group_records.proofs.RecordOctets.{whole_record}
+use Rattle.group_records.{specs.Reading.{record_faults, record_length}, proofs.{LoopSteps.{asks_here, asks_later, fault_here, fault_step, known_step, reading-err, reading-ok}, RecordOctets.{whole_record}}}
 use Rattle.group_records.proofs.report.read_records.Goals as goal
 
 pub returns-in-Some-clause-value : goal.returns-in-Some-clause-value

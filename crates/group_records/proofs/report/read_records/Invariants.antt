@@ -1,7 +1,6 @@
 use Rattle.std.proofs.Common.{◌≡◌, true, ◌-◌, ◌++◌}
 use Rattle.amt_values.specs.Conditions.{first_holding}
-use Rattle.group_records.specs.CarriedRecord.{known_records}
-use Rattle.group_records.specs.Reading.{carried_records_at, all_record_faults, asks_memory}
+use Rattle.group_records.specs.{CarriedRecord.{known_records}, Reading.{carried_records_at, all_record_faults, asks_memory}}
 use Rattle.group_records.proofs.report.read_records.Given as goal
 
 abbrev pub invariant-loop-index : goal.invariant-loop-index

@@ -1,7 +1,6 @@
 use Rattle.std.proofs.Common.{rules}
 use Rattle.amt_values.specs.Octets.{AreOctets}
-use Rattle.group_records.proofs.ReportReadings.{answer_fault, answer_found, answer_only, answer_refused}
-use Rattle.group_records.proofs.ItemCounts.{answer_few}
+use Rattle.group_records.proofs.{ReportReadings.{answer_fault, answer_found, answer_only, answer_refused}, ItemCounts.{answer_few}}
 use Rattle.group_records.proofs.report.read_report.Goals as goal
 
 pub returns-clause-found : goal.returns-clause-found

@@ -1,6 +1,4 @@
-use Rattle.std.proofs.Common.{subst, arith}
-use Rattle.std.proofs.lemmas.Grind.{common_steps}
-use Rattle.std.proofs.lemmas.List.Elements.{All-more}
+use Rattle.std.proofs.{Common.{subst, arith}, lemmas.{Grind.{common_steps}, List.Elements.{All-more}}}
 use Rattle.group_records.specs.Written.{HasFittingAddresses}
 use Rattle.group_records.proofs.writing.append_all_written.Goals as goal
 

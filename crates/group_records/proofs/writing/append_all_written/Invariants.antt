@@ -1,5 +1,4 @@
-use Rattle.std.proofs.Common.{◌≡◌, ◌++◌, take, All}
-use Rattle.std.specs.List.{flat_map}
+use Rattle.std.{proofs.Common.{◌≡◌, ◌++◌, take, All}, specs.List.{flat_map}}
 use Rattle.group_records.specs.Written.{HasFittingAddresses, written_record}
 use Rattle.group_records.proofs.writing.append_all_written.Given as goal
 

@@ -1,6 +1,4 @@
-use Rattle.std.proofs.lemmas.Grind.{common_steps}
-use Rattle.std.proofs.lemmas.List.Elements.{All-more}
-use Rattle.std.proofs.Common.{arith}
+use Rattle.std.proofs.{lemmas.{Grind.{common_steps}, List.Elements.{All-more}}, Common.{arith}}
 use Rattle.group_records.specs.Written.{FitsOctets}
 use Rattle.group_records.proofs.writing.append_sources.Goals as goal
 

@@ -1,5 +1,4 @@
-use Rattle.std.proofs.Common.{sym, ◌∙◌, arith, rules}
-use Rattle.std.proofs.lemmas.Grind.{common_steps}
+use Rattle.std.proofs.{Common.{sym, ◌∙◌, arith, rules}, lemmas.Grind.{common_steps}}
 use Rattle.amt_values.specs.Octets.{AreOctets}
 use Rattle.inner_datagrams.proofs.Parts.{internet_sum_of-all_after}
 use Rattle.group_records.proofs.writing.fill_sum.Goals as goal

@@ -1,5 +1,4 @@
-use Rattle.std.proofs.Common.{◌≡◌, ◌+◌, take}
-use Rattle.std.specs.List.{sum_by}
+use Rattle.std.{proofs.Common.{◌≡◌, ◌+◌, take}, specs.List.{sum_by}}
 use Rattle.group_records.proofs.WrittenReport.{written_length}
 use Rattle.group_records.proofs.writing.report_length.Given as goal
 

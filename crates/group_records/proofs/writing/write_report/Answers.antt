@@ -1,10 +1,7 @@
-use Rattle.std.proofs.Common.{List, ℕ, length, ap, sym, subst, ◌∙◌, arith, rules}
-use Rattle.std.proofs.lemmas.Grind.{common_steps}
+use Rattle.std.proofs.{Common.{List, ℕ, length, ap, sym, subst, ◌∙◌, arith, rules}, lemmas.Grind.{common_steps}}
 use Rattle.amt_values.specs.Octets.{AreOctets}
 use Rattle.inner_datagrams.proofs.Parts.{AreOctets-append}
-use Rattle.group_records.specs.Report.{IsReport}
-use Rattle.group_records.specs.Written.{report_with_sum, written_report}
-use Rattle.group_records.proofs.WrittenReport.{IsReport-written_report, length-report_with_sum, length-written_report}
+use Rattle.group_records.{specs.{Report.{IsReport}, Written.{report_with_sum, written_report}}, proofs.WrittenReport.{IsReport-written_report, length-report_with_sum, length-written_report}}
 use Rattle.group_records.proofs.writing.write_report.Goals as goal
 
 pub fill_sum-requires-clause-most : goal.fill_sum-requires-clause-most

@@ -1,9 +1,7 @@
 use Rattle.std.proofs.Common.{◌≡◌, ℕ, ◌-◌, ◌+◌, ◌*◌, ◌%◌, ◌^◌, slice_index, sum, ap, arith, rules}
 use Rattle.std.proofs.lemmas.Grind.{common_steps}
 use Rattle.amt_values.specs.Octets.{AreOctets}
-use Rattle.inner_datagrams.specs.Checksum.{words}
-use Rattle.inner_datagrams.proofs.OnesComplement.{AreWords-words, same_word, StandsFor-zero_alone, StandsFor-ones_sum}
-use Rattle.inner_datagrams.proofs.Pairs.{sum_of_pairs}
+use Rattle.inner_datagrams.{specs.Checksum.{words}, proofs.{OnesComplement.{AreWords-words, same_word, StandsFor-zero_alone, StandsFor-ones_sum}, Pairs.{sum_of_pairs}}}
 use Rattle.inner_datagrams.proofs.checksum.internet_sum.Goals as goal
 
 pub returns : goal.returns

@@ -1,8 +1,5 @@
-use Rattle.std.proofs.Common.{rules, ℕ, List, sym, subst}
-use Rattle.std.proofs.lemmas.Result.{IfOk-weaker}
-use Rattle.inner_datagrams.specs.Inner.{IsInner4}
-use Rattle.inner_datagrams.specs.Written.{written_inner4}
-use Rattle.inner_datagrams.proofs.ReadBack.{IsInner4-written_inner4}
+use Rattle.std.proofs.{Common.{rules, ℕ, List, sym, subst}, lemmas.Result.{IfOk-weaker}}
+use Rattle.inner_datagrams.{specs.{Inner.{IsInner4}, Written.{written_inner4}}, proofs.ReadBack.{IsInner4-written_inner4}}
 use Rattle.inner_datagrams.proofs.ipv4.write_inner4.Goals as goal
 
 pub returns-clause-written : goal.returns-clause-written

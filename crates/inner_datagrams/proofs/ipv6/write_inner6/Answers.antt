@@ -1,8 +1,5 @@
-use Rattle.std.proofs.Common.{rules, ℕ, List, sym, subst}
-use Rattle.std.proofs.lemmas.Result.{IfOk-weaker}
-use Rattle.inner_datagrams.specs.Inner.{IsInner6}
-use Rattle.inner_datagrams.specs.Written.{written_inner6}
-use Rattle.inner_datagrams.proofs.ReadBack.{IsInner6-written_inner6}
+use Rattle.std.proofs.{Common.{rules, ℕ, List, sym, subst}, lemmas.Result.{IfOk-weaker}}
+use Rattle.inner_datagrams.{specs.{Inner.{IsInner6}, Written.{written_inner6}}, proofs.ReadBack.{IsInner6-written_inner6}}
 use Rattle.inner_datagrams.proofs.ipv6.write_inner6.Goals as goal
 
 pub returns-clause-written : goal.returns-clause-written

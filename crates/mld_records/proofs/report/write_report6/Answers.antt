@@ -1,5 +1,4 @@
-use Rattle.group_records.specs.declared.family.Family.TheVariants.{V6}
-use Rattle.group_records.proofs.WrittenReport.{short-few_items}
+use Rattle.group_records.{specs.declared.family.Family.TheVariants.{V6}, proofs.WrittenReport.{short-few_items}}
 use Rattle.mld_records.proofs.report.write_report6.Goals as goal
 
 pub report_length-message_length-requires : goal.report_length-message_length-requires

@@ -1,13 +1,7 @@
 use Rattle.std.proofs.Common.{◌≡◌, [], Some, subst, rules}
 use Rattle.group_records.specs.declared.family.Family.{Family}
-use Rattle.script_lines.specs.Lines.{fields}
-use Rattle.script_lines.specs.Reading.{FailsFirst}
-use Rattle.script_lines.specs.declared.fault.LineError.TheVariants.{Bad}
-use Rattle.script_lines.specs.declared.reason.Reason.TheVariants.{Count}
-use Rattle.pair_script.specs.Fault.{FailsToCall, order_of_reasons}
-use Rattle.pair_script.specs.Gateways.{family_of, gateway_named}
-use Rattle.pair_script.proofs.Judging.{named_judged, unknown_word}
-use Rattle.pair_script.proofs.Orders.{call_judged, name_alone}
+use Rattle.script_lines.specs.{Lines.{fields}, Reading.{FailsFirst}, declared.{fault.LineError.TheVariants.{Bad}, reason.Reason.TheVariants.{Count}}}
+use Rattle.pair_script.{specs.{Fault.{FailsToCall, order_of_reasons}, Gateways.{family_of, gateway_named}}, proofs.{Judging.{named_judged, unknown_word}, Orders.{call_judged, name_alone}}}
 use Rattle.pair_script.proofs.call_line.read_call.Goals as goal
 
 pub returns-in_default-clause-reason : goal.returns-in_default-clause-reason

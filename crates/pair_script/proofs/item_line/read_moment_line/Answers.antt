@@ -1,7 +1,6 @@
 use Rattle.script_lines.specs.Lines.{fields}
 use Rattle.amt_script.specs.declared.kind.Kind.TheVariants as kinds
-use Rattle.pair_script.proofs.Orders.{moment_judged}
-use Rattle.pair_script.proofs.SharedLines.{is_shared}
+use Rattle.pair_script.proofs.{Orders.{moment_judged}, SharedLines.{is_shared}}
 use Rattle.pair_script.proofs.item_line.read_moment_line.Goals as goal
 
 pub shared_item-requires : goal.shared_item-requires

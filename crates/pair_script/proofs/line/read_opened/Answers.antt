@@ -1,10 +1,7 @@
 use Rattle.std.proofs.Common.{sym, subst}
 use Rattle.amt_values.specs.Conditions.{First}
-use Rattle.script_lines.specs.Lines.{fields}
-use Rattle.script_lines.specs.Reading.{FailsFirst}
-use Rattle.pair_script.specs.Fault.{FailsAfterOpening, order_of_reasons}
-use Rattle.pair_script.specs.declared.opening.Opening.{Opening}
-use Rattle.pair_script.proofs.Orders.{set_judged}
+use Rattle.script_lines.specs.{Lines.{fields}, Reading.{FailsFirst}}
+use Rattle.pair_script.{specs.{Fault.{FailsAfterOpening, order_of_reasons}, declared.opening.Opening.{Opening}}, proofs.Orders.{set_judged}}
 use Rattle.pair_script.proofs.line.read_opened.Goals as goal
 
 pub returns-in-Err-clause-reason : goal.returns-in-Err-clause-reason

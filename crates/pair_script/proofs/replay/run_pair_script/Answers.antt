@@ -1,6 +1,5 @@
 use Rattle.script_lines.proofs.Writes.{nothing_written}
-use Rattle.pair_script.specs.Setup.{setup_of}
-use Rattle.pair_script.proofs.Steps.{at_start}
+use Rattle.pair_script.{specs.Setup.{setup_of}, proofs.Steps.{at_start}}
 use Rattle.pair_script.proofs.replay.run_pair_script.Goals as goal
 
 pub returns-in_default-clause-begun : goal.returns-in_default-clause-begun

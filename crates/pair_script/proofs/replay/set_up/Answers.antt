@@ -1,12 +1,7 @@
 use Rattle.std.proofs.Common.{◌≡◌, true, [], Err, subst, sym, ap, map, take}
 use Rattle.group_records.specs.Written.{is_of_family}
-use Rattle.amt_pair.specs.Setup.{PairSetup}
-use Rattle.amt_pair.specs.declared.pair.PairFault.{PairFault}
-use Rattle.amt_pair.proofs.Courses.{pair_hosts}
-use Rattle.pair_script.specs.Gateways.{family_of}
-use Rattle.pair_script.specs.Setup.{host_of}
-use Rattle.pair_script.specs.declared.script.PairGateway.{PairGateway}
-use Rattle.pair_script.proofs.SetUp.{added_at, never_taken, pair_more}
+use Rattle.amt_pair.{specs.{Setup.{PairSetup}, declared.pair.PairFault.{PairFault}}, proofs.Courses.{pair_hosts}}
+use Rattle.pair_script.{specs.{Gateways.{family_of}, Setup.{host_of}, declared.script.PairGateway.{PairGateway}}, proofs.SetUp.{added_at, never_taken, pair_more}}
 use Rattle.pair_script.proofs.replay.set_up.Goals as goal
 
 pub add-requires : goal.add-requires

@@ -1,7 +1,6 @@
 use Rattle.std.proofs.Common.{◌≡◌, ◌+◌, ◌++◌, List, ℕ, take, get_or, codes, ap, sym, ◌∙◌, append_assoc, rules}
 use Rattle.amt_values.specs.Endpoint.{peer_of}
-use Rattle.pair_script.specs.Texts.{datagram_line, downs_text}
-use Rattle.pair_script.proofs.Texts.{downs_more}
+use Rattle.pair_script.{specs.Texts.{datagram_line, downs_text}, proofs.Texts.{downs_more}}
 use Rattle.pair_script.proofs.text.append_downs.Goals as goal
 
 pub loop-index-preserved : goal.loop-index-preserved

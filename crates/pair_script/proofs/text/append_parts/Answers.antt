@@ -1,9 +1,6 @@
-use Rattle.std.proofs.Common.{◌≡◌, ◌+◌, ◌++◌, List, ℕ, take, get_or, ap, sym, ◌∙◌, append_assoc, arith}
-use Rattle.std.specs.List.{sum_by}
-use Rattle.std.proofs.lemmas.List.Sums.{sum_by_more}
+use Rattle.std.{proofs.{Common.{◌≡◌, ◌+◌, ◌++◌, List, ℕ, take, get_or, ap, sym, ◌∙◌, append_assoc, arith}, lemmas.List.Sums.{sum_by_more}}, specs.List.{sum_by}}
 use Rattle.amt_pair.specs.declared.step.Part.{Part}
-use Rattle.pair_script.specs.Texts.{downs_in, part_text, parts_text, ups_in}
-use Rattle.pair_script.proofs.Texts.{parts_more, same_counts}
+use Rattle.pair_script.{specs.Texts.{downs_in, part_text, parts_text, ups_in}, proofs.Texts.{parts_more, same_counts}}
 use Rattle.pair_script.proofs.text.append_parts.Goals as goal
 
 pub loop-part-preserved : goal.loop-part-preserved

@@ -1,5 +1,4 @@
-use Rattle.std.proofs.Common.{◌≡◌, ◌+◌, ◌++◌, take}
-use Rattle.std.specs.List.{sum_by}
+use Rattle.std.{proofs.Common.{◌≡◌, ◌+◌, ◌++◌, take}, specs.List.{sum_by}}
 use Rattle.pair_script.specs.Texts.{downs_in, parts_text, ups_in}
 use Rattle.pair_script.proofs.text.append_parts.Given as goal
 

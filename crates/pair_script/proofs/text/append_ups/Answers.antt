@@ -1,6 +1,5 @@
 use Rattle.std.proofs.Common.{◌≡◌, ◌+◌, ◌++◌, List, ℕ, take, get_or, codes, ap, sym, ◌∙◌, append_assoc, rules}
-use Rattle.pair_script.specs.Texts.{datagram_line, ups_text}
-use Rattle.pair_script.proofs.Texts.{ups_more}
+use Rattle.pair_script.{specs.Texts.{datagram_line, ups_text}, proofs.Texts.{ups_more}}
 use Rattle.pair_script.proofs.text.append_ups.Goals as goal
 
 pub loop-index-preserved : goal.loop-index-preserved

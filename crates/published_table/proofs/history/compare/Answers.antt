@@ -1,9 +1,6 @@
 use Rattle.std.proofs.Common.{subst, arith}
 use mathlib.Core.List.{IsPrefix}
-use Rattle.published_table.specs.Logs.{entries}
-use Rattle.published_table.specs.Told.{logs_told}
-use Rattle.published_table.specs.declared.history.Bookmark.{Bookmark}
-use Rattle.published_table.proofs.Beginnings.{AreUnder-later, IsUnder-later, begins_each}
+use Rattle.published_table.{specs.{Logs.{entries}, Told.{logs_told}, declared.history.Bookmark.{Bookmark}}, proofs.Beginnings.{AreUnder-later, IsUnder-later, begins_each}}
 use Rattle.published_table.proofs.history.compare.Goals as goal
 
 pub returns : goal.returns

@@ -1,10 +1,7 @@
-use Rattle.std.proofs.Common.{◌≡◌, ◌++◌, ◌∙◌, ℕ, List, map, ap, arith}
-use Rattle.std.specs.List.{range_with_len}
+use Rattle.std.{proofs.Common.{◌≡◌, ◌++◌, ◌∙◌, ℕ, List, map, ap, arith}, specs.List.{range_with_len}}
 use Rattle.amt_script.specs.declared.script.RelayItem.TheVariants.{Event as EventItem}
 use Rattle.relay_machine.specs.declared.event.Event.TheVariants.{Packet}
-use Rattle.relay_load.specs.Packets.{packet_at}
-use Rattle.relay_load.specs.Script.{load_packets}
-use Rattle.relay_load.proofs.Items.{packet_size, pushed, pushed_sized}
+use Rattle.relay_load.{specs.{Packets.{packet_at}, Script.{load_packets}}, proofs.Items.{packet_size, pushed, pushed_sized}}
 use Rattle.relay_load.proofs.packets.append_packets.Goals as goal
 
 pub loop-before-preserved : goal.loop-before-preserved

@@ -1,7 +1,5 @@
-use Rattle.std.proofs.Common.{◌≡◌, ◌++◌, map}
-use Rattle.std.specs.List.{AllByRecursion, range_with_len}
-use Rattle.amt_script.specs.declared.script.RelayItem.TheVariants.{Event as EventItem}
-use Rattle.amt_script.specs.Running.{IsItem}
+use Rattle.std.{proofs.Common.{◌≡◌, ◌++◌, map}, specs.List.{AllByRecursion, range_with_len}}
+use Rattle.amt_script.specs.{declared.script.RelayItem.TheVariants.{Event as EventItem}, Running.{IsItem}}
 use Rattle.relay_load.specs.Packets.{packet_at}
 use Rattle.relay_load.proofs.packets.append_packets.Given as goal
 

@@ -1,7 +1,4 @@
-use Rattle.std.proofs.Common.{◌≡◌, ◌≤◌, ◌∙◌, ◌++◌, ◌∷◌, [], ℕ, List, All, length, ap, subst, sym, map, arith}
-use Rattle.std.proofs.lemmas.List.Elements.{All-push}
-use Rattle.std.proofs.lemmas.List.FromFn.{map-range_with_len_more}
-use Rattle.std.specs.List.{range_with_len}
+use Rattle.std.{proofs.{Common.{◌≡◌, ◌≤◌, ◌∙◌, ◌++◌, ◌∷◌, [], ℕ, List, All, length, ap, subst, sym, map, arith}, lemmas.List.{Elements.{All-push}, FromFn.{map-range_with_len_more}}}, specs.List.{range_with_len}}
 use Rattle.relay_load.specs.Reports.{report_at, reports_of}
 use Rattle.relay_load.proofs.reports.reports_of.Goals as goal
 

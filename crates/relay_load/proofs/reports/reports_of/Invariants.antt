@@ -1,5 +1,4 @@
-use Rattle.std.proofs.Common.{◌≡◌, ◌≤◌, All, length, map}
-use Rattle.std.specs.List.{range_with_len}
+use Rattle.std.{proofs.Common.{◌≡◌, ◌≤◌, All, length, map}, specs.List.{range_with_len}}
 use Rattle.relay_load.specs.Reports.{report_at}
 use Rattle.relay_load.proofs.reports.reports_of.Given as goal
 

@@ -1,7 +1,6 @@
 use Rattle.std.proofs.Common.{◌≤◌, [], take}
 use Rattle.response_mac.specs.declared.secret.Secret.{Secret}
-use Rattle.relay_machine.specs.declared.settings.Settings.{Settings}
-use Rattle.relay_machine.specs.Answers.{RelayAt}
+use Rattle.relay_machine.specs.{declared.settings.Settings.{Settings}, Answers.{RelayAt}}
 use Rattle.relay_load.specs.Counting.{AreSmall, IsCounted}
 use Rattle.relay_load.proofs.run.count_answers.Given as goal
 

@@ -1,6 +1,5 @@
 use Rattle.std.proofs.Common.{◌≡◌, ℕ, Option, IfSome, subst}
-use Rattle.relay_load.specs.Script.{load_packets, load_script_of, load_updates}
-use Rattle.relay_load.proofs.Items.{same_script, whole}
+use Rattle.relay_load.{specs.Script.{load_packets, load_script_of, load_updates}, proofs.Items.{same_script, whole}}
 use Rattle.relay_load.proofs.script.load_script.Goals as goal
 
 pub returns-clause-script : goal.returns-clause-script

@@ -1,9 +1,5 @@
-use Rattle.std.proofs.Common.{ℕ, ◌∙◌, sym, ap}
-use Rattle.std.proofs.lemmas.List.{append-nil}
-use Rattle.relay_load.specs.Generator.{number_after}
-use Rattle.relay_load.specs.Updates.{update_at}
-use Rattle.relay_load.proofs.Draws.{four_more}
-use Rattle.relay_load.proofs.Items.{next_update, pushed, pushed_sized, same_update}
+use Rattle.std.proofs.{Common.{ℕ, ◌∙◌, sym, ap}, lemmas.List.{append-nil}}
+use Rattle.relay_load.{specs.{Generator.{number_after}, Updates.{update_at}}, proofs.{Draws.{four_more}, Items.{next_update, pushed, pushed_sized, same_update}}}
 use Rattle.relay_load.proofs.updates.append_updates.Goals as goal
 
 pub loop-before-init : goal.loop-before-init

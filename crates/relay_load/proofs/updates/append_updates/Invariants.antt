@@ -1,9 +1,7 @@
 use Rattle.std.proofs.Common.{◌≡◌, ◌*◌, ◌++◌, map}
 use Rattle.std.specs.List.{AllByRecursion}
-use Rattle.amt_script.specs.declared.script.RelayItem.TheVariants.{Event as EventItem}
-use Rattle.amt_script.specs.Running.{IsItem}
-use Rattle.relay_load.specs.Generator.{number_after}
-use Rattle.relay_load.specs.Script.{load_updates}
+use Rattle.amt_script.specs.{declared.script.RelayItem.TheVariants.{Event as EventItem}, Running.{IsItem}}
+use Rattle.relay_load.specs.{Generator.{number_after}, Script.{load_updates}}
 use Rattle.relay_load.proofs.updates.append_updates.Given as goal
 
 abbrev pub invariant-loop-before : goal.invariant-loop-before

@@ -1,9 +1,6 @@
 use Rattle.std.proofs.Common.{◌≡◌, refl, sym}
 use Rattle.response_mac.specs.ResponseMac.{is_good}
-use Rattle.relay_machine.specs.declared.outcome.Outcome.TheVariants.{WrongKind}
-use Rattle.relay_machine.specs.EventAnswer.{quiet}
-use Rattle.relay_machine.specs.Settings.{table_settings_of}
-use Rattle.relay_machine.proofs.Answering.{answered-unchanged}
+use Rattle.relay_machine.{specs.{declared.outcome.Outcome.TheVariants.{WrongKind}, EventAnswer.{quiet}, Settings.{table_settings_of}}, proofs.Answering.{answered-unchanged}}
 use Rattle.relay_machine.proofs.datagram.take_message.Goals as goal
 
 pub returns-in-Discovery-clause-answers : goal.returns-in-Discovery-clause-answers

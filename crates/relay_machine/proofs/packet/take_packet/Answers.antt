@@ -1,11 +1,7 @@
 use Rattle.std.proofs.Common.{◌≡◌, ◌≤◌, ℕ, List, length, Ok, Err, refl, ap, ◌∙◌, arith}
 use Rattle.amt_values.specs.EndpointValue.{EndpointValue}
 use Rattle.endpoint_membership.specs.Log.{latest}
-use Rattle.relay_machine.specs.declared.outcome.Outcome.TheVariants.{Copied}
-use Rattle.relay_machine.specs.declared.sends.OneSend.{OneSend}
-use Rattle.relay_machine.specs.Packets.{copies, head_to_copy, targets_at}
-use Rattle.relay_machine.specs.Settings.{table_settings_of}
-use Rattle.relay_machine.proofs.Copies.{answered-copied, answered-not_copied, length-copies, table_room}
+use Rattle.relay_machine.{specs.{declared.{outcome.Outcome.TheVariants.{Copied}, sends.OneSend.{OneSend}}, Packets.{copies, head_to_copy, targets_at}, Settings.{table_settings_of}}, proofs.Copies.{answered-copied, answered-not_copied, length-copies, table_room}}
 use Rattle.relay_machine.proofs.packet.take_packet.Goals as goal
 
 pub copies_for-requires-clause-room : goal.copies_for-requires-clause-room

@@ -1,5 +1,4 @@
-use Rattle.std.proofs.Common.{rules, ap, ◌∙◌}
-use Rattle.std.proofs.lemmas.Fn.{filter_same}
+use Rattle.std.proofs.{Common.{rules, ap, ◌∙◌}, lemmas.Fn.{filter_same}}
 use Rattle.relay_machine.specs.Updates.{forwardable_records}
 use Rattle.relay_machine.proofs.report.forwardable_records.Goals as goal
 

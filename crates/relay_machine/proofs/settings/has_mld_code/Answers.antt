@@ -1,5 +1,4 @@
-use Rattle.std.proofs.Common.{◌<◌, rules}
-use Rattle.std.specs.Option.{IfSome}
+use Rattle.std.{proofs.Common.{◌<◌, rules}, specs.Option.{IfSome}}
 use Rattle.relay_machine.proofs.Times.{HasMldCode-from_answer}
 use Rattle.relay_machine.proofs.settings.has_mld_code.Goals as goal
 

@@ -1,12 +1,7 @@
-use Rattle.std.proofs.Common.{◌≡◌, ◌∙◌, List, Option, Ok, true, sym, ap, arith}
-use Rattle.std.proofs.lemmas.Result.{IfOk-weaker}
+use Rattle.std.proofs.{Common.{◌≡◌, ◌∙◌, List, Option, Ok, true, sym, ap, arith}, lemmas.Result.{IfOk-weaker}}
 use Rattle.source_filter.specs.declared.record.Record.{Record}
-use Rattle.endpoint_membership.specs.Log.{latest}
-use Rattle.endpoint_membership.specs.Table.{limit_passed}
-use Rattle.endpoint_membership.specs.declared.limits.LimitFault.{LimitFault}
-use Rattle.relay_machine.specs.Updates.{report_in}
-use Rattle.relay_machine.proofs.Answering.{answered-read}
-use Rattle.relay_machine.proofs.Reports.{item_count-forwardable}
+use Rattle.endpoint_membership.specs.{Log.{latest}, Table.{limit_passed}, declared.limits.LimitFault.{LimitFault}}
+use Rattle.relay_machine.{specs.Updates.{report_in}, proofs.{Answering.{answered-read}, Reports.{item_count-forwardable}}}
 use Rattle.relay_machine.proofs.update.take_update.Goals as goal
 
 pub accept-requires-clause-items : goal.accept-requires-clause-items

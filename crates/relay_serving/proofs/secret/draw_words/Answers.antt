@@ -1,5 +1,4 @@
-use Rattle.std.proofs.Common.{arith}
-use Rattle.std.proofs.lemmas.Result.{err_from_is_err_and}
+use Rattle.std.proofs.{Common.{arith}, lemmas.Result.{err_from_is_err_and}}
 use Rattle.amt_ports.proofs.Told.{AppendsAll-then}
 use Rattle.relay_serving.proofs.Drawing.{HasDrawn-fewer}
 use Rattle.relay_serving.proofs.secret.draw_words.Goals as goal

@@ -1,13 +1,7 @@
-use Rattle.std.proofs.Common.{◌∙◌, length, refl, sym, ap, subst, arith}
-use Rattle.std.proofs.Math.Logic.{∥∥₁_map}
-use Rattle.std.proofs.lemmas.List.{length-map}
+use Rattle.std.proofs.{Common.{◌∙◌, length, refl, sym, ap, subst, arith}, Math.Logic.{∥∥₁_map}, lemmas.List.{length-map}}
 use Rattle.amt_ports.proofs.Waits.{no_waits}
-use Rattle.replication_workers.specs.Replicators.{out_of}
-use Rattle.replication_workers.specs.Starting.{HaveStarted}
-use Rattle.relay_serving.specs.Devices.{outs_seen}
-use Rattle.relay_serving.specs.GivenOut.{starts_in}
-use Rattle.relay_serving.specs.Servers.{slots_in}
-use Rattle.relay_serving.proofs.WholeRuns.{few_in_all, few_words, four_words, has_risen, is_quiet, reported, serves_run, serves_unstarted, serves_without_secret}
+use Rattle.replication_workers.specs.{Replicators.{out_of}, Starting.{HaveStarted}}
+use Rattle.relay_serving.{specs.{Devices.{outs_seen}, GivenOut.{starts_in}, Servers.{slots_in}}, proofs.WholeRuns.{few_in_all, few_words, four_words, has_risen, is_quiet, reported, serves_run, serves_unstarted, serves_without_secret}}
 use Rattle.relay_serving.proofs.serving.serve_relay.Goals as goal
 
 pub returns-in_default : goal.returns-in_default

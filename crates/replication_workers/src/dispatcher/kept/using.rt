@@ -1,9 +1,7 @@
 //! How a slot is given a job, and ended. It must not know how many there are.
 ghost use Rattle.std.specs.Prelude.{◌≡◌, ◌<◌, ◌^◌, false, length};
 ghost use Rattle.published_table.specs.Views.{note_publisher, publisher_of};
-ghost use Rattle.replication_workers.specs.KeptSlots.{IsRunBy, KeepsRun, is_threaded_slot, now_of, state_of};
-ghost use Rattle.replication_workers.specs.Replicators.{HasCopied, out_of, view_of};
-ghost use Rattle.replication_workers.specs.SlotStates.{IsLeft, with_one_job};
+ghost use Rattle.replication_workers.specs.{KeptSlots.{IsRunBy, KeepsRun, is_threaded_slot, now_of, state_of}, Replicators.{HasCopied, out_of, view_of}, SlotStates.{IsLeft, with_one_job}};
 
 use super::Kept;
 use crate::job::Job;

@@ -1,5 +1,4 @@
-use Rattle.std.proofs.Common.{rules}
-use Rattle.std.proofs.lemmas.List.{drop-replicate}
+use Rattle.std.proofs.{Common.{rules}, lemmas.List.{drop-replicate}}
 use Rattle.response_mac.proofs.hmac.block_of.Goals as goal
 
 pub returns : goal.returns

@@ -1,6 +1,4 @@
-use Rattle.std.proofs.Common.{ℕ, bit_xor, arith}
-use Rattle.std.proofs.lemmas.List.{get_or_default}
-use Rattle.std.proofs.lemmas.List.Edits.{map_over_more}
+use Rattle.std.proofs.{Common.{ℕ, bit_xor, arith}, lemmas.List.{get_or_default, Edits.{map_over_more}}}
 use Rattle.response_mac.proofs.hmac.padded_block.Goals as goal
 
 pub loop-octet-preserved : goal.loop-octet-preserved

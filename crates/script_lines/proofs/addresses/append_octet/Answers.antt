@@ -1,5 +1,4 @@
-use Rattle.std.proofs.Common.{◌<◌, ◌≤◌, arith, rules}
-use Rattle.std.proofs.lemmas.Result.{on_ok_weaker}
+use Rattle.std.proofs.{Common.{◌<◌, ◌≤◌, arith, rules}, lemmas.Result.{on_ok_weaker}}
 use Rattle.script_lines.proofs.OctetDigits.{two_put, three_put}
 use Rattle.script_lines.proofs.addresses.append_octet.Goals as goal
 

@@ -1,7 +1,5 @@
 use Rattle.std.proofs.Common.{ℕ, List, sym, subst, rules}
-use Rattle.script_lines.specs.Lines.{IsPlain}
-use Rattle.script_lines.proofs.Begun.{has_begun_said}
-use Rattle.script_lines.proofs.Taking.{fails_on_line}
+use Rattle.script_lines.{specs.Lines.{IsPlain}, proofs.{Begun.{has_begun_said}, Taking.{fails_on_line}}}
 use Rattle.script_lines.proofs.reading.take_line.Goals as goal
 
 pub returns-in-Ok-clause-taken : goal.returns-in-Ok-clause-taken

@@ -1,7 +1,5 @@
-use Rattle.std.proofs.Common.{take, ◌∙◌}
-use Rattle.std.proofs.lemmas.Result.{on_err_weaker}
-use Rattle.script_lines.specs.Writing.{WritesPrefix}
-use Rattle.script_lines.proofs.Runs.{run_more, run_cut, run_closed}
+use Rattle.std.proofs.{Common.{take, ◌∙◌}, lemmas.Result.{on_err_weaker}}
+use Rattle.script_lines.{specs.Writing.{WritesPrefix}, proofs.Runs.{run_more, run_cut, run_closed}}
 use Rattle.script_lines.proofs.running.run_script.Goals as goal
 
 pub returns-in-Err-clause-begun : goal.returns-in-Err-clause-begun

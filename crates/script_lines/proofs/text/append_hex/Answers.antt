@@ -1,6 +1,5 @@
 use Rattle.std.proofs.Common.{◌≡◌, ◌++◌, rules}
-use Rattle.script_lines.proofs.Digits.{one_piece_more}
-use Rattle.script_lines.proofs.Beginnings.{begins_on}
+use Rattle.script_lines.proofs.{Digits.{one_piece_more}, Beginnings.{begins_on}}
 use Rattle.script_lines.proofs.text.append_hex.Goals as goal
 
 pub loop-rest-preserved : goal.loop-rest-preserved

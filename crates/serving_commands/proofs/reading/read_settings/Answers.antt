@@ -1,6 +1,5 @@
 use Rattle.std.proofs.Common.{Err}
-use Rattle.serving_commands.specs.Reading.{IsFaultIn, IsFaultOfReading}
-use Rattle.serving_commands.proofs.Deciding.{configured_by, decided, fault_is, fault_of_reading, fault_told_by, of_file, undecided}
+use Rattle.serving_commands.{specs.Reading.{IsFaultIn, IsFaultOfReading}, proofs.Deciding.{configured_by, decided, fault_is, fault_of_reading, fault_told_by, of_file, undecided}}
 use Rattle.serving_commands.proofs.reading.read_settings.Goals as goal
 
 pub returns-in-Err-clause-fault : goal.returns-in-Err-clause-fault

@@ -1,5 +1,4 @@
-use Rattle.std.proofs.Common.{◌≡◌, take}
-use Rattle.std.specs.List.{flat_map}
+use Rattle.std.{proofs.Common.{◌≡◌, take}, specs.List.{flat_map}}
 use Rattle.socket_merge.specs.Changes.{changed_on}
 use Rattle.socket_merge.proofs.changes.changes_between.Given as goal
 

@@ -1,11 +1,5 @@
-use Rattle.std.proofs.Common.{rules, ◌≡◌, ◌++◌, List, filter, map, subst, sym, ap, ◌∙◌, IsSorted}
-use Rattle.std.proofs.lemmas.Fn.{filter_same}
-use Rattle.std.proofs.lemmas.List.{map-append}
-use Rattle.amt_values.specs.declared.address.Ip.{Ip}
-use Rattle.amt_values.specs.Order.{ip_order}
-use Rattle.amt_values.proofs.Orders.{ip_order-exact, ip_order-total}
-use Rattle.amt_values.specs.Ascending.{ascending}
-use Rattle.amt_values.proofs.Sorting.{ascending-sorted}
+use Rattle.std.proofs.{Common.{rules, ◌≡◌, ◌++◌, List, filter, map, subst, sym, ap, ◌∙◌, IsSorted}, lemmas.{Fn.{filter_same}, List.{map-append}}}
+use Rattle.amt_values.{specs.{declared.address.Ip.{Ip}, Order.{ip_order}, Ascending.{ascending}}, proofs.{Orders.{ip_order-exact, ip_order-total}, Sorting.{ascending-sorted}}}
 use Rattle.source_filter.proofs.Compared.{compared, tied}
 use Rattle.group_records.specs.Written.{is_of_family}
 use Rattle.socket_merge.proofs.Changed.{group_of}

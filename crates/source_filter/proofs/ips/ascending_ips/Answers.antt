@@ -1,10 +1,6 @@
 use Rattle.std.proofs.Common.{◌≡◌, subst, sym, ◌∙◌, IsSorted}
-use Rattle.amt_values.specs.Order.{ip_order}
-use Rattle.amt_values.proofs.Orders.{ip_order-total, ip_order-exact}
-use Rattle.amt_values.specs.Ascending.{IsAscending, ascending}
+use Rattle.amt_values.{specs.{Order.{ip_order}, Ascending.{IsAscending, ascending}}, proofs.{Orders.{ip_order-total, ip_order-exact}, AscendingLaws.{IsAscending-ascending}, Sorting.{ascending-sorted}}}
 use Rattle.source_filter.proofs.Compared.{compared, tied}
-use Rattle.amt_values.proofs.AscendingLaws.{IsAscending-ascending}
-use Rattle.amt_values.proofs.Sorting.{ascending-sorted}
 use Rattle.source_filter.proofs.ips.ascending_ips.Goals as goal
 
 pub returns : goal.returns

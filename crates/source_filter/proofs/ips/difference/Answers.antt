@@ -1,9 +1,5 @@
-use Rattle.std.proofs.Common.{rules, List, not, subst, sym, ap, ◌∙◌}
-use Rattle.std.proofs.lemmas.Fn.{filter_same}
-use Rattle.amt_values.specs.declared.address.Ip.{Ip}
-use Rattle.amt_values.specs.Order.{ip_order}
-use Rattle.amt_values.specs.Ascending.{IsAscending, difference, has}
-use Rattle.amt_values.proofs.AscendingLaws.{IsAscending-filter}
+use Rattle.std.proofs.{Common.{rules, List, not, subst, sym, ap, ◌∙◌}, lemmas.Fn.{filter_same}}
+use Rattle.amt_values.{specs.{declared.address.Ip.{Ip}, Order.{ip_order}, Ascending.{IsAscending, difference, has}}, proofs.AscendingLaws.{IsAscending-filter}}
 use Rattle.source_filter.proofs.ips.difference.Goals as goal
 
 pub returns-clause-value : goal.returns-clause-value

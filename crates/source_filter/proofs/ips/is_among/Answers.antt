@@ -1,8 +1,6 @@
-use Rattle.std.proofs.Common.{subst, ◌∙◌}
-use Rattle.std.specs.List.Sorted.{IsBinarySearchResult}
-use Rattle.amt_values.proofs.Orders.{ip_order-total}
+use Rattle.std.{proofs.Common.{subst, ◌∙◌}, specs.List.Sorted.{IsBinarySearchResult}}
+use Rattle.amt_values.proofs.{Orders.{ip_order-total}, Sorting.{has-searched}}
 use Rattle.source_filter.proofs.Compared.{compared}
-use Rattle.amt_values.proofs.Sorting.{has-searched}
 use Rattle.source_filter.proofs.ips.is_among.Goals as goal
 
 pub returns : goal.returns

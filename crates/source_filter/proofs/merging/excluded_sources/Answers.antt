@@ -1,8 +1,6 @@
-use Rattle.std.proofs.Common.{List, Option, ◌++◌, ap, ◌∙◌}
-use Rattle.std.specs.Option.{option_to_list}
+use Rattle.std.{proofs.Common.{List, Option, ◌++◌, ap, ◌∙◌}, specs.Option.{option_to_list}}
 use Rattle.amt_values.specs.declared.address.Ip.{Ip}
-use Rattle.source_filter.specs.Merging.{exclude_list, intersection_of}
-use Rattle.source_filter.proofs.MergedFilters.{intersection_of-more}
+use Rattle.source_filter.{specs.Merging.{exclude_list, intersection_of}, proofs.MergedFilters.{intersection_of-more}}
 use Rattle.source_filter.proofs.merging.excluded_sources.Goals as goal
 
 pub loop-filter-preserved : goal.loop-filter-preserved

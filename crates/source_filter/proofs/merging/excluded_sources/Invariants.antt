@@ -1,7 +1,5 @@
-use Rattle.std.proofs.Common.{◌≡◌, take}
-use Rattle.std.specs.Option.{IfSome}
-use Rattle.amt_values.specs.Order.{ip_order}
-use Rattle.amt_values.specs.Ascending.{IsAscending}
+use Rattle.std.{proofs.Common.{◌≡◌, take}, specs.Option.{IfSome}}
+use Rattle.amt_values.specs.{Order.{ip_order}, Ascending.{IsAscending}}
 use Rattle.source_filter.specs.Merging.{exclude_lists, intersection_of}
 use Rattle.source_filter.proofs.merging.excluded_sources.Given as goal
 

@@ -1,7 +1,6 @@
 use Rattle.std.proofs.Common.{List, ◌++◌, ap, ◌∙◌}
 use Rattle.amt_values.specs.declared.address.Ip.{Ip}
-use Rattle.source_filter.specs.Merging.{include_list, all_sources}
-use Rattle.source_filter.proofs.MergedFilters.{all_sources-more}
+use Rattle.source_filter.{specs.Merging.{include_list, all_sources}, proofs.MergedFilters.{all_sources-more}}
 use Rattle.source_filter.proofs.merging.included_sources.Goals as goal
 
 pub loop-filter-preserved : goal.loop-filter-preserved

@@ -1,8 +1,6 @@
 use Rattle.std.proofs.Common.{true, ap, take, ◌∙◌, take_all}
-use Rattle.amt_values.specs.Order.{ip_order}
-use Rattle.amt_values.specs.Ascending.{union}
-use Rattle.source_filter.proofs.Compared.{compared}
-use Rattle.source_filter.proofs.SourceSets.{IsHeld-more, put_in, one_in, union_held}
+use Rattle.amt_values.specs.{Order.{ip_order}, Ascending.{union}}
+use Rattle.source_filter.proofs.{Compared.{compared}, SourceSets.{IsHeld-more, put_in, one_in, union_held}}
 use Rattle.source_filter.proofs.mutable.insert_all.Goals as goal
 
 pub loop-source-preserved : goal.loop-source-preserved

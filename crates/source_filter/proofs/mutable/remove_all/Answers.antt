@@ -1,8 +1,6 @@
 use Rattle.std.proofs.Common.{false, ap, take, ◌∙◌, take_all}
-use Rattle.amt_values.specs.Order.{ip_order}
-use Rattle.amt_values.specs.Ascending.{difference}
-use Rattle.source_filter.proofs.Compared.{compared}
-use Rattle.source_filter.proofs.SourceSets.{IsHeld-more, taken_out, one_out, difference_held}
+use Rattle.amt_values.specs.{Order.{ip_order}, Ascending.{difference}}
+use Rattle.source_filter.proofs.{Compared.{compared}, SourceSets.{IsHeld-more, taken_out, one_out, difference_held}}
 use Rattle.source_filter.proofs.mutable.remove_all.Goals as goal
 
 pub loop-source-preserved : goal.loop-source-preserved

@@ -1,6 +1,5 @@
 use Rattle.std.proofs.Common.{List, ℕ, ◌∷◌, ◌++◌, [], Err, ap}
-use Rattle.script_lines.specs.declared.values.OctetsError.{OctetsError}
-use Rattle.script_lines.specs.Lines.{fields}
+use Rattle.script_lines.specs.{declared.values.OctetsError.{OctetsError}, Lines.{fields}}
 use Rattle.amt_dump.proofs.Lawful.{says_datagram, fails_by_count, fails_by_digits}
 use Rattle.amt_dump.proofs.datagrams.DumpLinesScriptKind.take.Goals as goal
 

@@ -1,8 +1,6 @@
 use Rattle.std.proofs.Common.{rules}
 use Rattle.amt_values.specs.Endpoint.{endpoint_of}
-use Rattle.amt_pair.specs.Schedule.{is_endpoint}
-use Rattle.amt_pair.specs.declared.gateways.NamedGateway.{NamedGateway}
-use Rattle.amt_pair.proofs.MembersAt.{placed_by}
+use Rattle.amt_pair.{specs.{Schedule.{is_endpoint}, declared.gateways.NamedGateway.{NamedGateway}}, proofs.MembersAt.{placed_by}}
 use Rattle.amt_pair.proofs.gateways.Gateways.place_of_endpoint.Goals as goal
 
 pub returns-clause-found : goal.returns-clause-found

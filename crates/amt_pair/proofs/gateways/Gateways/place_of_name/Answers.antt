@@ -1,7 +1,6 @@
 use Rattle.std.proofs.Common.{rules}
 use Rattle.socket_merge.specs.History.{same_name}
-use Rattle.amt_pair.specs.declared.gateways.NamedGateway.{NamedGateway}
-use Rattle.amt_pair.proofs.MembersAt.{placed_by}
+use Rattle.amt_pair.{specs.declared.gateways.NamedGateway.{NamedGateway}, proofs.MembersAt.{placed_by}}
 use Rattle.amt_pair.proofs.gateways.Gateways.place_of_name.Goals as goal
 
 pub returns-clause-found : goal.returns-clause-found

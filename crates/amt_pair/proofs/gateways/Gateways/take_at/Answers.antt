@@ -1,12 +1,6 @@
-use Rattle.std.proofs.Common.{◌≡◌, List, ◌∷◌, ◌++◌, map, get_or, sym, ap, ◌∙◌, subst}
-use Rattle.std.proofs.Math.Seq.{map-set_same}
-use Rattle.std.proofs.lemmas.Result.{IfOk-weaker}
-use Rattle.gateway_machine.specs.Events.{IsEventOf}
-use Rattle.gateway_machine.specs.Runs.{settings_of}
-use Rattle.amt_pair.specs.Members.{AreMembersAt, IsMemberAt, host_of}
-use Rattle.amt_pair.specs.Schedule.{with_gateway_event}
-use Rattle.amt_pair.specs.declared.gateways.NamedGateway.{NamedGateway}
-use Rattle.amt_pair.proofs.MembersAt.{member_at_place, members_set_place, split_place}
+use Rattle.std.proofs.{Common.{◌≡◌, List, ◌∷◌, ◌++◌, map, get_or, sym, ap, ◌∙◌, subst}, Math.Seq.{map-set_same}, lemmas.Result.{IfOk-weaker}}
+use Rattle.gateway_machine.specs.{Events.{IsEventOf}, Runs.{settings_of}}
+use Rattle.amt_pair.{specs.{Members.{AreMembersAt, IsMemberAt, host_of}, Schedule.{with_gateway_event}, declared.gateways.NamedGateway.{NamedGateway}}, proofs.MembersAt.{member_at_place, members_set_place, split_place}}
 use Rattle.amt_pair.proofs.gateways.Gateways.take_at.Goals as goal
 
 pub take-requires-clause-event : goal.take-requires-clause-event

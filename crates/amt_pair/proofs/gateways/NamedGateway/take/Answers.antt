@@ -1,8 +1,6 @@
 use Rattle.std.proofs.Common.{sym, subst}
-use Rattle.gateway_machine.specs.Runs.{GatewayAt}
-use Rattle.gateway_machine.specs.declared.gateway.Gateway.{Gateway}
-use Rattle.amt_pair.specs.Setup.{first_nonce}
-use Rattle.amt_pair.proofs.MembersAt.{sent_by, short_more}
+use Rattle.gateway_machine.specs.{Runs.{GatewayAt}, declared.gateway.Gateway.{Gateway}}
+use Rattle.amt_pair.{specs.Setup.{first_nonce}, proofs.MembersAt.{sent_by, short_more}}
 use Rattle.amt_pair.proofs.gateways.NamedGateway.take.Goals as goal
 
 pub returns-clause-sent : goal.returns-clause-sent

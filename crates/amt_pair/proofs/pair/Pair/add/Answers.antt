@@ -1,17 +1,8 @@
-use Rattle.std.proofs.Common.{◌≡◌, ℕ, List, [], ◌∷◌, ◌++◌, All, None, map, refl, sym, ap, ◌∙◌, subst}
-use Rattle.std.proofs.lemmas.List.Elements.{All-push}
-use Rattle.amt_values.proofs.OnePeer.{peer_again}
-use Rattle.amt_values.specs.declared.peer.Peer.{Peer}
+use Rattle.std.proofs.{Common.{◌≡◌, ℕ, List, [], ◌∷◌, ◌++◌, All, None, map, refl, sym, ap, ◌∙◌, subst}, lemmas.List.Elements.{All-push}}
+use Rattle.amt_values.{proofs.OnePeer.{peer_again}, specs.declared.peer.Peer.{Peer}}
 use Rattle.gateway_machine.specs.Runs.{GatewayAt}
-use Rattle.amt_pair.specs.Members.{host_of}
-use Rattle.amt_pair.specs.OwnEndpoints.{HasOwnEndpoint}
-use Rattle.amt_pair.specs.Schedule.{Course, start}
-use Rattle.amt_pair.specs.Setup.{AreApart, Host, IsHost, PairSetup, amt_port, first_nonce, has_taken, relay_peer, settings_of_host}
-use Rattle.amt_pair.specs.State.{StandsFor, hosts_of}
-use Rattle.amt_pair.specs.declared.gateways.NamedGateway.{NamedGateway}
-use Rattle.amt_pair.proofs.Courses.{course_of-none, pair_hosts}
-use Rattle.amt_pair.proofs.HostsApart.{apart_more}
-use Rattle.amt_pair.proofs.PairStates.{after_push, hosts_more, members_at_start, pair_at_start}
+use Rattle.amt_pair.specs.{Members.{host_of}, OwnEndpoints.{HasOwnEndpoint}, Schedule.{Course, start}, Setup.{AreApart, Host, IsHost, PairSetup, amt_port, first_nonce, has_taken, relay_peer, settings_of_host}}
+use Rattle.amt_pair.{specs.{State.{StandsFor, hosts_of}, declared.gateways.NamedGateway.{NamedGateway}}, proofs.{Courses.{course_of-none, pair_hosts}, HostsApart.{apart_more}, PairStates.{after_push, hosts_more, members_at_start, pair_at_start}}}
 use Rattle.amt_pair.proofs.pair.Pair.add.Goals as goal
 
 pub invariant_of-self-clause-apart : goal.invariant_of-self-clause-apart

@@ -1,15 +1,8 @@
-use Rattle.std.proofs.Common.{◌≡◌, ◌≤◌, ℕ, List, [], ◌∷◌, length, Some, refl, sym, ap, ◌∙◌, subst}
-use Rattle.std.proofs.lemmas.Result.{IfOk-weaker}
+use Rattle.std.proofs.{Common.{◌≡◌, ◌≤◌, ℕ, List, [], ◌∷◌, length, Some, refl, sym, ap, ◌∙◌, subst}, lemmas.Result.{IfOk-weaker}}
 use Rattle.gateway_machine.specs.declared.event.GatewayEvent.{GatewayEvent}
 use Rattle.relay_machine.specs.declared.sends.OneSend.{OneSend}
-use Rattle.amt_pair.specs.Parts.{gateway_part}
-use Rattle.amt_pair.specs.Schedule.{Course, delivery_down, is_at, numbered, with_pair_event, with_member_event}
-use Rattle.amt_pair.specs.Setup.{relay_peer}
-use Rattle.amt_pair.specs.State.{StandsFor, with_member_at}
-use Rattle.amt_pair.specs.declared.event.PairEvent.TheVariants.{Down}
-use Rattle.amt_pair.proofs.Deliveries.{no_part, none_reached}
-use Rattle.amt_pair.proofs.Numbers.{all_numbered, down_parts_are, down_reaches, is_delivery_down}
-use Rattle.amt_pair.proofs.PairStates.{addressed_one, if_ok_by, none_addressed}
+use Rattle.amt_pair.specs.{Parts.{gateway_part}, Schedule.{Course, delivery_down, is_at, numbered, with_pair_event, with_member_event}, Setup.{relay_peer}, State.{StandsFor, with_member_at}}
+use Rattle.amt_pair.{specs.declared.event.PairEvent.TheVariants.{Down}, proofs.{Deliveries.{no_part, none_reached}, Numbers.{all_numbered, down_parts_are, down_reaches, is_delivery_down}, PairStates.{addressed_one, if_ok_by, none_addressed}}}
 use Rattle.amt_pair.proofs.pair.Pair.deliver_down.Goals as goal
 
 pub returns-in_default-place_of_endpoint-clause-parts : goal.returns-in_default-place_of_endpoint-clause-parts

@@ -1,11 +1,5 @@
-use Rattle.std.proofs.Common.{List, [], All, map, sym, ap, subst}
-use Rattle.std.proofs.lemmas.List.Elements.{All-nil}
-use Rattle.amt_pair.specs.Members.{AreMembersAt, host_of}
-use Rattle.amt_pair.specs.OwnEndpoints.{HasOwnEndpoint}
-use Rattle.amt_pair.specs.Setup.{AreApart, Host, IsHost, relay_peer}
-use Rattle.amt_pair.specs.declared.gateways.NamedGateway.{NamedGateway}
-use Rattle.amt_pair.proofs.HostsApart.{none_apart}
-use Rattle.amt_pair.proofs.PairStates.{pair_at_start}
+use Rattle.std.proofs.{Common.{List, [], All, map, sym, ap, subst}, lemmas.List.Elements.{All-nil}}
+use Rattle.amt_pair.{specs.{Members.{AreMembersAt, host_of}, OwnEndpoints.{HasOwnEndpoint}, Setup.{AreApart, Host, IsHost, relay_peer}, declared.gateways.NamedGateway.{NamedGateway}}, proofs.{HostsApart.{none_apart}, PairStates.{pair_at_start}}}
 use Rattle.amt_pair.proofs.pair.Pair.new.Goals as goal
 
 pub invariant_of-result-clause-peer_is : goal.invariant_of-result-clause-peer_is

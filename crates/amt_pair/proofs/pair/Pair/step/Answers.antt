@@ -1,9 +1,6 @@
-use Rattle.std.proofs.Common.{List, ℕ, None, sym, ◌∙◌, subst}
-use Rattle.std.proofs.lemmas.Result.{IfOk-weaker}
+use Rattle.std.proofs.{Common.{List, ℕ, None, sym, ◌∙◌, subst}, lemmas.Result.{IfOk-weaker}}
 use Rattle.relay_machine.specs.declared.event.Event.TheVariants.{Packet}
-use Rattle.amt_pair.specs.Schedule.{with_pair_event, with_relay_event}
-use Rattle.amt_pair.specs.State.{StandsFor}
-use Rattle.amt_pair.specs.declared.event.PairEvent.{PairEvent}
+use Rattle.amt_pair.specs.{Schedule.{with_pair_event, with_relay_event}, State.{StandsFor}, declared.event.PairEvent.{PairEvent}}
 use Rattle.amt_pair.proofs.pair.Pair.step.Goals as goal
 
 pub returns-in-Rotate-clause-next : goal.returns-in-Rotate-clause-next

@@ -1,12 +1,6 @@
-use Rattle.std.proofs.Common.{sym, ◌∙◌, subst, Option, ℕ, IfSome}
-use Rattle.std.proofs.lemmas.Result.{IfOk-weaker}
+use Rattle.std.proofs.{Common.{sym, ◌∙◌, subst, Option, ℕ, IfSome}, lemmas.Result.{IfOk-weaker}}
 use Rattle.socket_merge.specs.History.{same_name}
-use Rattle.amt_pair.specs.Members.{IsPlaceOf}
-use Rattle.amt_pair.specs.Schedule.{Course}
-use Rattle.amt_pair.specs.State.{StandsFor}
-use Rattle.amt_pair.specs.declared.gateways.NamedGateway.{NamedGateway}
-use Rattle.amt_pair.proofs.Numbers.{call_may_come}
-use Rattle.amt_pair.proofs.PairStates.{named_one, some_named}
+use Rattle.amt_pair.{specs.{Members.{IsPlaceOf}, Schedule.{Course}, State.{StandsFor}, declared.gateways.NamedGateway.{NamedGateway}}, proofs.{Numbers.{call_may_come}, PairStates.{named_one, some_named}}}
 use Rattle.amt_pair.proofs.pair.Pair.take_call.Goals as goal
 
 pub unwrap-place-requires : goal.unwrap-place-requires

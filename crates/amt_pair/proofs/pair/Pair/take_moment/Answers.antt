@@ -1,11 +1,7 @@
 use Rattle.std.proofs.Common.{List, [], ◌∷◌, ◌++◌, refl, sym, ap, ◌∙◌, flat_map, append-nil}
 use Rattle.gateway_machine.specs.declared.event.GatewayEvent.TheVariants.{Moment as Passes}
 use Rattle.relay_machine.specs.declared.event.Event.TheVariants.{Moment}
-use Rattle.amt_pair.specs.Parts.{gateway_parts}
-use Rattle.amt_pair.specs.Schedule.{upwards_on}
-use Rattle.amt_pair.specs.declared.step.Part.{Part}
-use Rattle.amt_pair.specs.declared.step.Part.TheVariants.{Relay}
-use Rattle.amt_pair.proofs.PairStates.{all_are, false_by, relay_step_is, true_by, up_more, up_of_all}
+use Rattle.amt_pair.{specs.{Parts.{gateway_parts}, Schedule.{upwards_on}, declared.step.Part.{Part, TheVariants.{Relay}}}, proofs.PairStates.{all_are, false_by, relay_step_is, true_by, up_more, up_of_all}}
 use Rattle.amt_pair.proofs.pair.Pair.take_moment.Goals as goal
 
 pub returns-clause-next : goal.returns-clause-next

@@ -1,6 +1,5 @@
 -- A read that is asked again took nothing.
-use Rattle.std.proofs.Common.{◌≡◌, length}
-use Rattle.std.specs.Io.KnownBytes.{Keeps}
+use Rattle.std.{proofs.Common.{◌≡◌, length}, specs.Io.KnownBytes.{Keeps}}
 use Rattle.amt_ports.proofs.adapters.reader.read_uninterrupted.Given as goal
 
 abbrev pub invariant-loop : goal.invariant-loop

@@ -1,8 +1,6 @@
 -- The value that is given next stands at the end of those that were given.
 use Rattle.std.proofs.Common.{rules, ◌<◌, ◌^◌, length, ◌≡◌, List, drop, ap, ◌∙◌, subst}
-use Rattle.amt_ports.specs.Scripted.{head_or, given_of, Script}
-use Rattle.amt_ports.specs.Told.{Appends}
-use Rattle.amt_ports.proofs.Given.{given_more, coming_less}
+use Rattle.amt_ports.{specs.{Scripted.{head_or, given_of, Script}, Told.{Appends}}, proofs.Given.{given_more, coming_less}}
 use Rattle.amt_ports.proofs.script.Scripted.next.Goals as goal
 
 pub returns-clause-given : goal.returns-clause-given

@@ -1,8 +1,6 @@
-use Rattle.std.proofs.Common.{◌∷◌, ◌++◌, []}
-use Rattle.std.proofs.lemmas.Result.{on_ok_weaker}
+use Rattle.std.proofs.{Common.{◌∷◌, ◌++◌, []}, lemmas.Result.{on_ok_weaker}}
 use Rattle.relay_machine.specs.Answers.{RelayAt}
-use Rattle.amt_script.specs.Texts.{events_in}
-use Rattle.amt_script.proofs.Runs.{one_more}
+use Rattle.amt_script.{specs.Texts.{events_in}, proofs.Runs.{one_more}}
 use Rattle.amt_script.proofs.replay.RelayRunScriptRun.write_item.Goals as goal
 
 pub returns-clause-next : goal.returns-clause-next

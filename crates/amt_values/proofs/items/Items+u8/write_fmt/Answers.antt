@@ -1,7 +1,4 @@
-use Rattle.std.proofs.Common.{◌≡◌, ◌++◌, ℕ, List, Option, Some, None}
-use Rattle.std.specs.Option.{IfSome}
-use Rattle.std.specs.Fmt.{WritesInCalls}
-use Rattle.std.proofs.lemmas.Fmt.{contents_after_writes}
+use Rattle.std.{proofs.{Common.{◌≡◌, ◌++◌, ℕ, List, Option, Some, None}, lemmas.Fmt.{contents_after_writes}}, specs.{Option.{IfSome}, Fmt.{WritesInCalls}}}
 use Rattle.amt_values.proofs.items.Items+u8.write_fmt.Goals as goal
 
 -- each call of a writer puts its text at the end

@@ -1,6 +1,5 @@
 use Rattle.std.proofs.Common.{refl}
-use Rattle.endpoint_membership.specs.Filters.{group_member_order, pair_of}
-use Rattle.endpoint_membership.proofs.KeptFilters.{found_as}
+use Rattle.endpoint_membership.{specs.Filters.{group_member_order, pair_of}, proofs.KeptFilters.{found_as}}
 use Rattle.endpoint_membership.proofs.filters.StoredFilters.by_group.Goals as goal
 
 pub returns : goal.returns

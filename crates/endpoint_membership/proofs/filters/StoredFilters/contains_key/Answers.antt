@@ -1,6 +1,5 @@
 use Rattle.std.proofs.Common.{◌∙◌}
-use Rattle.endpoint_membership.proofs.KeptFilters.{there_as}
-use Rattle.endpoint_membership.proofs.PartOrders.{pairs_compared}
+use Rattle.endpoint_membership.proofs.{KeptFilters.{there_as}, PartOrders.{pairs_compared}}
 use Rattle.endpoint_membership.proofs.filters.StoredFilters.contains_key.Goals as goal
 
 pub returns : goal.returns

@@ -1,6 +1,5 @@
 use Rattle.std.proofs.Common.{◌∙◌}
-use Rattle.endpoint_membership.proofs.KeptFilters.{found_as}
-use Rattle.endpoint_membership.proofs.PartOrders.{members_compared}
+use Rattle.endpoint_membership.proofs.{KeptFilters.{found_as}, PartOrders.{members_compared}}
 use Rattle.endpoint_membership.proofs.filters.StoredFilters.get.Goals as goal
 
 pub returns : goal.returns

@@ -1,12 +1,6 @@
-use Rattle.std.proofs.Common.{◌≡◌, None, Some, is_some, true, ap, subst, ◌∙◌}
-use Rattle.std.specs.BTreeMap.{insert_entry}
+use Rattle.std.{proofs.Common.{◌≡◌, None, Some, is_some, true, ap, subst, ◌∙◌}, specs.{BTreeMap.{insert_entry}, BTreeSet.{insert_key}, declared.cmp.Ordering.{Ordering}}}
 use Rattle.std.specs.BTreeSet as sorted
-use Rattle.std.specs.BTreeSet.{insert_key}
-use Rattle.std.specs.declared.cmp.Ordering.{Ordering}
-use Rattle.endpoint_membership.specs.EndpointGroup.{EndpointGroup, endpoint_group_order}
-use Rattle.endpoint_membership.specs.Filters.{FiltersValue}
-use Rattle.endpoint_membership.proofs.KeptFilters.{AreOrdered-filters_of, HaveSamePairs-same, HaveSamePairs-set, IsSet-updated, entries-inserted, kept_as, same_filters, set_as, undone}
-use Rattle.endpoint_membership.proofs.PartOrders.{members_compared, pairs_compared}
+use Rattle.endpoint_membership.{specs.{EndpointGroup.{EndpointGroup, endpoint_group_order}, Filters.{FiltersValue}}, proofs.{KeptFilters.{AreOrdered-filters_of, HaveSamePairs-same, HaveSamePairs-set, IsSet-updated, entries-inserted, kept_as, same_filters, set_as, undone}, PartOrders.{members_compared, pairs_compared}}}
 use Rattle.endpoint_membership.proofs.filters.StoredFilters.insert.Goals as goal
 
 abbrev Order : Type 0

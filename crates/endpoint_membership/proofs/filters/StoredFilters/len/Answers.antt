@@ -1,6 +1,5 @@
 use Rattle.std.proofs.Common.{length, ap, ◌∙◌}
-use Rattle.endpoint_membership.specs.Filters.{FiltersValue}
-use Rattle.endpoint_membership.proofs.KeptFilters.{length-filters_of}
+use Rattle.endpoint_membership.{specs.Filters.{FiltersValue}, proofs.KeptFilters.{length-filters_of}}
 use Rattle.endpoint_membership.proofs.filters.StoredFilters.len.Goals as goal
 
 pub returns-clause-len : goal.returns-clause-len

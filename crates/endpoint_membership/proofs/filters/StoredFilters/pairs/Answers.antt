@@ -1,6 +1,5 @@
 use Rattle.std.proofs.Common.{sym, ap, ◌∙◌}
-use Rattle.endpoint_membership.specs.Filters.{pairs_of}
-use Rattle.endpoint_membership.proofs.KeptFilters.{pairs_of-filters_of}
+use Rattle.endpoint_membership.{specs.Filters.{pairs_of}, proofs.KeptFilters.{pairs_of-filters_of}}
 use Rattle.endpoint_membership.proofs.filters.StoredFilters.pairs.Goals as goal
 
 pub returns : goal.returns

@@ -1,7 +1,5 @@
 use Rattle.std.proofs.Common.{Some, is_some, sym, ap, ◌∙◌}
-use Rattle.endpoint_membership.specs.Filters.{pairs_of}
-use Rattle.endpoint_membership.proofs.KeptFilters.{HaveSamePairs-put, IsSet-updated, found_as, kept_as, pairs_of-filters_of, set_as}
-use Rattle.endpoint_membership.proofs.PartOrders.{members_compared}
+use Rattle.endpoint_membership.{specs.Filters.{pairs_of}, proofs.{KeptFilters.{HaveSamePairs-put, IsSet-updated, found_as, kept_as, pairs_of-filters_of, set_as}, PartOrders.{members_compared}}}
 use Rattle.endpoint_membership.proofs.filters.StoredFilters.put.Goals as goal
 
 pub unreachable-requires : goal.unreachable-requires

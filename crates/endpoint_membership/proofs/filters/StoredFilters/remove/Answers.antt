@@ -1,13 +1,6 @@
-use Rattle.std.proofs.Common.{◌≡◌, None, false, ap, subst, ◌∙◌}
-use Rattle.std.specs.BTreeMap.{is_at}
+use Rattle.std.{proofs.Common.{◌≡◌, None, false, ap, subst, ◌∙◌}, specs.{BTreeMap.{is_at}, Map.{remove_entry}, Set.{remove_key}, declared.cmp.Ordering.{Ordering}}}
 use Rattle.std.specs.BTreeSet as sorted
-use Rattle.std.specs.Map.{remove_entry}
-use Rattle.std.specs.Set.{remove_key}
-use Rattle.std.specs.declared.cmp.Ordering.{Ordering}
-use Rattle.endpoint_membership.specs.EndpointGroup.{EndpointGroup, endpoint_group_order}
-use Rattle.endpoint_membership.specs.Filters.{FiltersValue}
-use Rattle.endpoint_membership.proofs.KeptFilters.{AreOrdered-filters_of, HaveSamePairs-set, IsSet-updated, entries-removed, found_as, set_as}
-use Rattle.endpoint_membership.proofs.PartOrders.{members_compared, pairs_compared}
+use Rattle.endpoint_membership.{specs.{EndpointGroup.{EndpointGroup, endpoint_group_order}, Filters.{FiltersValue}}, proofs.{KeptFilters.{AreOrdered-filters_of, HaveSamePairs-set, IsSet-updated, entries-removed, found_as, set_as}, PartOrders.{members_compared, pairs_compared}}}
 use Rattle.endpoint_membership.proofs.filters.StoredFilters.remove.Goals as goal
 
 abbrev Order : Type 0

@@ -1,13 +1,6 @@
-use Rattle.std.proofs.Common.{true, false, List, ◌++◌, length, sym, ap, subst, ◌∙◌, arith}
-use Rattle.std.specs.BTreeMap.{IsOrdered, keys}
-use Rattle.std.specs.Map.{keys_of}
-use Rattle.std.specs.declared.cmp.Ordering.{Ordering}
-use Rattle.std.proofs.lemmas.List.{append-nil}
+use Rattle.std.{proofs.{Common.{true, false, List, ◌++◌, length, sym, ap, subst, ◌∙◌, arith}, lemmas.List.{append-nil}}, specs.{BTreeMap.{IsOrdered, keys}, Map.{keys_of}, declared.cmp.Ordering.{Ordering}}}
 use Rattle.amt_values.specs.EndpointValue.{EndpointValue}
-use Rattle.endpoint_membership.specs.declared.keys.GroupMember.{GroupMember}
-use Rattle.endpoint_membership.specs.declared.stored.StoredFilter.{StoredFilter}
-use Rattle.endpoint_membership.proofs.GroupMembers.{decided, lets_in-kept, next_found, seen_members, targets_among-end, targets_among-more, targets_among-room, targets_among-stop, targets_among-table, walked}
-use Rattle.endpoint_membership.proofs.PartOrders.{members_compared}
+use Rattle.endpoint_membership.{specs.declared.{keys.GroupMember.{GroupMember}, stored.StoredFilter.{StoredFilter}}, proofs.{GroupMembers.{decided, lets_in-kept, next_found, seen_members, targets_among-end, targets_among-more, targets_among-room, targets_among-stop, targets_among-table, walked}, PartOrders.{members_compared}}}
 use Rattle.endpoint_membership.proofs.parts.StoredMemberships.collect_targets.Goals as goal
 
 pub push-requires : goal.push-requires

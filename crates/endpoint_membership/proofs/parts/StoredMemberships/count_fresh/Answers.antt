@@ -1,15 +1,6 @@
-use Rattle.std.proofs.Common.{◌≡◌, Bool, List, Some, ◌+◌, ◌++◌, ◌∷◌, [], filter, map, if◌then◌else◌, sym, ap, subst, ◌∙◌, arith}
-use Rattle.std.specs.Map.Iter.{deref}
-use Rattle.std.proofs.lemmas.List.{length_push}
-use Rattle.amt_values.specs.EndpointValue.{EndpointValue}
-use Rattle.amt_values.specs.Ascending.{IsAscending}
-use Rattle.endpoint_membership.specs.EndpointGroup.{EndpointGroup}
-use Rattle.endpoint_membership.specs.Filters.{pairs_of}
-use Rattle.endpoint_membership.specs.Limits.{live_count}
-use Rattle.endpoint_membership.specs.Membership.{Membership, membership_order}
-use Rattle.endpoint_membership.specs.Stored.{ends_with, is_counted}
-use Rattle.endpoint_membership.proofs.PairsWalked.{IsCounted, IsCounted-more, IsCounted-same, all_seen, memberships_of-all, pairs_walked, seen_memberships}
-use Rattle.endpoint_membership.proofs.StoredView.{IsAscending-stored}
+use Rattle.std.{proofs.{Common.{◌≡◌, Bool, List, Some, ◌+◌, ◌++◌, ◌∷◌, [], filter, map, if◌then◌else◌, sym, ap, subst, ◌∙◌, arith}, lemmas.List.{length_push}}, specs.Map.Iter.{deref}}
+use Rattle.amt_values.specs.{EndpointValue.{EndpointValue}, Ascending.{IsAscending}}
+use Rattle.endpoint_membership.{specs.{EndpointGroup.{EndpointGroup}, Filters.{pairs_of}, Limits.{live_count}, Membership.{Membership, membership_order}, Stored.{ends_with, is_counted}}, proofs.{PairsWalked.{IsCounted, IsCounted-more, IsCounted-same, all_seen, memberships_of-all, pairs_walked, seen_memberships}, StoredView.{IsAscending-stored}}}
 use Rattle.endpoint_membership.proofs.parts.StoredMemberships.count_fresh.Goals as goal
 
 pub loop-at-preserved-then-counts_at : goal.loop-at-preserved-then-counts_at

@@ -1,6 +1,5 @@
 use Rattle.std.proofs.Common.{◌≤◌, length}
-use Rattle.endpoint_membership.specs.Stored.{is_counted}
-use Rattle.endpoint_membership.proofs.PairsWalked.{IsCounted, seen_memberships}
+use Rattle.endpoint_membership.{specs.Stored.{is_counted}, proofs.PairsWalked.{IsCounted, seen_memberships}}
 use Rattle.endpoint_membership.proofs.parts.StoredMemberships.count_fresh.Given as goal
 
 abbrev pub invariant-loop-at : goal.invariant-loop-at

@@ -1,8 +1,5 @@
 use Rattle.std.proofs.Common.{List, ap, filter, length, ◌∙◌, arith}
-use Rattle.endpoint_membership.specs.Membership.{Membership}
-use Rattle.endpoint_membership.specs.Stored.{is_of_another}
-use Rattle.endpoint_membership.proofs.EndpointRange.{not_another}
-use Rattle.endpoint_membership.proofs.Expiry.{filter-drained, length-drained}
+use Rattle.endpoint_membership.{specs.{Membership.{Membership}, Stored.{is_of_another}}, proofs.{EndpointRange.{not_another}, Expiry.{filter-drained, length-drained}}}
 use Rattle.endpoint_membership.proofs.parts.StoredMemberships.drop_endpoint.Goals as goal
 
 pub loop-at-smaller : goal.loop-at-smaller

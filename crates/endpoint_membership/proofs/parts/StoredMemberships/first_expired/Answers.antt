@@ -1,15 +1,7 @@
-use Rattle.std.proofs.Common.{◌≡◌, None, IsSome, List, sym, subst, filter, true, ◌∙◌, arith}
-use Rattle.std.proofs.lemmas.Bool.Decides.{nat_tests}
+use Rattle.std.{proofs.{Common.{◌≡◌, None, IsSome, List, sym, subst, filter, true, ◌∙◌, arith}, lemmas.Bool.Decides.{nat_tests}}, specs.declared.cmp.Ordering.{Ordering}}
 use Rattle.std.specs.BTreeSet as sorted
-use Rattle.std.specs.declared.cmp.Ordering.{Ordering}
 use Rattle.amt_values.specs.Ascending.{IsAscending}
-use Rattle.endpoint_membership.specs.Membership.{Membership, is_fresh, membership_order}
-use Rattle.endpoint_membership.specs.Memberships.{membership_in}
-use Rattle.endpoint_membership.specs.Stored.{only}
-use Rattle.endpoint_membership.specs.declared.keys.LastRenewal.{LastRenewal}
-use Rattle.endpoint_membership.proofs.Expiry.{IfNone-from, all_fresh, expired, fresh_after, fresh_none}
-use Rattle.endpoint_membership.proofs.PartOrders.{renewals_compared}
-use Rattle.endpoint_membership.proofs.StoredView.{IsAscending-stored}
+use Rattle.endpoint_membership.{specs.{Membership.{Membership, is_fresh, membership_order}, Memberships.{membership_in}, Stored.{only}, declared.keys.LastRenewal.{LastRenewal}}, proofs.{Expiry.{IfNone-from, all_fresh, expired, fresh_after, fresh_none}, PartOrders.{renewals_compared}, StoredView.{IsAscending-stored}}}
 use Rattle.endpoint_membership.proofs.parts.StoredMemberships.first_expired.Goals as goal
 
 pub returns-in_err-first-clause-none : goal.returns-in_err-first-clause-none

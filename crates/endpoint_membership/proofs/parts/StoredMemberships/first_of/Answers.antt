@@ -1,13 +1,6 @@
 use Rattle.std.proofs.Common.{◌≡◌, List, ◌∷◌, IfNone, IfSome, IsSome, sym, ap, subst, filter, ◌∙◌}
 use Rattle.amt_values.specs.Ascending.{IsAscending}
-use Rattle.endpoint_membership.specs.EndpointGroup.{EndpointGroup}
-use Rattle.endpoint_membership.specs.Membership.{Membership, membership_order}
-use Rattle.endpoint_membership.specs.Memberships.{membership_in}
-use Rattle.endpoint_membership.specs.Stored.{is_of_another}
-use Rattle.endpoint_membership.proofs.EndpointRange.{first_found, none_found, none_of}
-use Rattle.endpoint_membership.proofs.Expiry.{IfNone-from}
-use Rattle.endpoint_membership.proofs.PartOrders.{pairs_compared}
-use Rattle.endpoint_membership.proofs.StoredView.{IsAscending-stored}
+use Rattle.endpoint_membership.{specs.{EndpointGroup.{EndpointGroup}, Membership.{Membership, membership_order}, Memberships.{membership_in}, Stored.{is_of_another}}, proofs.{EndpointRange.{first_found, none_found, none_of}, Expiry.{IfNone-from}, PartOrders.{pairs_compared}, StoredView.{IsAscending-stored}}}
 use Rattle.endpoint_membership.proofs.parts.StoredMemberships.first_of.Goals as goal
 
 pub returns-in_err-first-clause-none : goal.returns-in_err-first-clause-none

@@ -1,9 +1,5 @@
 use Rattle.std.proofs.Common.{is_some, List, sym, ap, ◌∙◌}
-use Rattle.endpoint_membership.specs.Filters.{filter_at}
-use Rattle.endpoint_membership.specs.Membership.{Membership}
-use Rattle.endpoint_membership.specs.Memberships.{membership_in}
-use Rattle.endpoint_membership.proofs.StoredView.{membership_in-stored}
-use Rattle.endpoint_membership.proofs.SetTogether.{some_with}
+use Rattle.endpoint_membership.{specs.{Filters.{filter_at}, Membership.{Membership}, Memberships.{membership_in}}, proofs.{StoredView.{membership_in-stored}, SetTogether.{some_with}}}
 use Rattle.endpoint_membership.proofs.parts.StoredMemberships.has.Goals as goal
 
 pub returns : goal.returns

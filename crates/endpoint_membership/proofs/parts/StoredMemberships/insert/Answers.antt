@@ -1,12 +1,7 @@
-use Rattle.std.proofs.Common.{map, ap, subst, true, false, ◌∙◌}
+use Rattle.std.{proofs.Common.{map, ap, subst, true, false, ◌∙◌}, specs.declared.cmp.Ordering.{Ordering}}
 use Rattle.std.specs.BTreeSet as sorted
-use Rattle.std.specs.declared.cmp.Ordering.{Ordering}
 use Rattle.amt_values.specs.Ascending.{placed}
-use Rattle.endpoint_membership.specs.Membership.{membership_order}
-use Rattle.endpoint_membership.specs.Parts.{stored_membership}
-use Rattle.endpoint_membership.specs.declared.keys.LastRenewal.{LastRenewal}
-use Rattle.endpoint_membership.proofs.OneMembership.{AreAgreed-more, AreAgreed-same, get-absent, renewal-absent, rows-placed, undone-key}
-use Rattle.endpoint_membership.proofs.PartOrders.{renewal_at, renewal_order-total, renewals_compared}
+use Rattle.endpoint_membership.{specs.{Membership.{membership_order}, Parts.{stored_membership}, declared.keys.LastRenewal.{LastRenewal}}, proofs.{OneMembership.{AreAgreed-more, AreAgreed-same, get-absent, renewal-absent, rows-placed, undone-key}, PartOrders.{renewal_at, renewal_order-total, renewals_compared}}}
 use Rattle.endpoint_membership.proofs.parts.StoredMemberships.insert.Goals as goal
 
 abbrev Order : Type 0

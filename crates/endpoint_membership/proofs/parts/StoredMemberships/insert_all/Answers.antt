@@ -1,14 +1,7 @@
 use Rattle.std.proofs.Common.{◌≡◌, None, Some, Option, if◌then◌else◌, List, sym, ap, subst, ◌∙◌}
-use Rattle.amt_values.specs.Ascending.{IsAscending, placed}
-use Rattle.amt_values.proofs.AscendingLaws.{IsAscending-placed}
-use Rattle.endpoint_membership.specs.EndpointGroup.{EndpointGroup, same_endpoint_group}
-use Rattle.endpoint_membership.specs.Membership.{Membership, endpoint_group_of, membership_order}
-use Rattle.endpoint_membership.specs.Memberships.{membership_in}
-use Rattle.endpoint_membership.specs.Parts.{stored_membership}
-use Rattle.endpoint_membership.specs.declared.stored.StoredFilter.{StoredFilter}
-use Rattle.endpoint_membership.proofs.Drained.{begun, given_so_far}
-use Rattle.endpoint_membership.proofs.EndpointGroupOrder.{membership_order-total}
-use Rattle.endpoint_membership.proofs.SetTogether.{absent_still, ascend_so_far, at_hand, membership_in-placed, one_more_set, others_stay}
+use Rattle.amt_values.{specs.Ascending.{IsAscending, placed}, proofs.AscendingLaws.{IsAscending-placed}}
+use Rattle.endpoint_membership.specs.{EndpointGroup.{EndpointGroup, same_endpoint_group}, Membership.{Membership, endpoint_group_of, membership_order}, Memberships.{membership_in}, Parts.{stored_membership}}
+use Rattle.endpoint_membership.{specs.declared.stored.StoredFilter.{StoredFilter}, proofs.{Drained.{begun, given_so_far}, EndpointGroupOrder.{membership_order-total}, SetTogether.{absent_still, ascend_so_far, at_hand, membership_in-placed, one_more_set, others_stay}}}
 use Rattle.endpoint_membership.proofs.parts.StoredMemberships.insert_all.Goals as goal
 
 pub insert-requires : goal.insert-requires

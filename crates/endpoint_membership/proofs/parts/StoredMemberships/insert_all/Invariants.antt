@@ -1,9 +1,6 @@
-use Rattle.std.proofs.Common.{◌≡◌}
-use Rattle.std.specs.Option.{option_or}
+use Rattle.std.{proofs.Common.{◌≡◌}, specs.Option.{option_or}}
 use Rattle.amt_values.specs.Ascending.{IsAscending}
-use Rattle.endpoint_membership.specs.EndpointGroup.{EndpointGroup}
-use Rattle.endpoint_membership.specs.Membership.{membership_order}
-use Rattle.endpoint_membership.specs.Memberships.{membership_in}
+use Rattle.endpoint_membership.specs.{EndpointGroup.{EndpointGroup}, Membership.{membership_order}, Memberships.{membership_in}}
 use Rattle.endpoint_membership.proofs.parts.StoredMemberships.insert_all.Given as goal
 
 abbrev pub invariant-loop-membership : goal.invariant-loop-membership

@@ -1,7 +1,5 @@
 use Rattle.std.proofs.Common.{is_some, sym, ap, ◌∙◌}
-use Rattle.endpoint_membership.specs.Memberships.{is_live}
-use Rattle.endpoint_membership.specs.Parts.{stored_memberships}
-use Rattle.endpoint_membership.proofs.CountedParts.{is_live-count}
+use Rattle.endpoint_membership.{specs.{Memberships.{is_live}, Parts.{stored_memberships}}, proofs.CountedParts.{is_live-count}}
 use Rattle.endpoint_membership.proofs.parts.StoredMemberships.is_live.Goals as goal
 
 pub returns : goal.returns

@@ -1,7 +1,5 @@
 use Rattle.std.proofs.Common.{ap, ◌∙◌}
-use Rattle.endpoint_membership.specs.Limits.{live_count}
-use Rattle.endpoint_membership.specs.Parts.{stored_memberships}
-use Rattle.endpoint_membership.proofs.CountedParts.{live_count-counted}
+use Rattle.endpoint_membership.{specs.{Limits.{live_count}, Parts.{stored_memberships}}, proofs.CountedParts.{live_count-counted}}
 use Rattle.endpoint_membership.proofs.parts.StoredMemberships.live_count.Goals as goal
 
 pub returns : goal.returns

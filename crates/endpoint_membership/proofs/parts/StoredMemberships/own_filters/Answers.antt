@@ -1,15 +1,7 @@
-use Rattle.std.proofs.Common.{true, false, cond, List, ◌++◌, None, Some, sym, ap, subst, refl, ◌∙◌}
-use Rattle.std.specs.BTreeMap.{get}
-use Rattle.amt_values.specs.Order.{ip_order}
-use Rattle.amt_values.specs.Ascending.{IsAscending}
-use Rattle.endpoint_membership.specs.EndpointGroup.{EndpointGroup, same_endpoint, same_group}
-use Rattle.endpoint_membership.specs.Membership.{Membership, membership_order}
-use Rattle.endpoint_membership.specs.declared.after_report.RenewedFilter.{RenewedFilter}
-use Rattle.endpoint_membership.proofs.OwnFilters.{next_there, own_filter, own_filter-end, own_filter-more, own_filter-past, same_endpoint-ne, walked}
-use Rattle.endpoint_membership.proofs.PairsWalked.{memberships_of, seen-none, seen_memberships, stored_at}
-use Rattle.endpoint_membership.proofs.PartOrders.{pairs_compared}
-use Rattle.endpoint_membership.proofs.StoredView.{IsAscending-stored}
-use Rattle.endpoint_membership.proofs.parts.StoredMemberships.own_filters.Goals.{in-None, in-Some+then-ne}
+use Rattle.std.{proofs.Common.{true, false, cond, List, ◌++◌, None, Some, sym, ap, subst, refl, ◌∙◌}, specs.BTreeMap.{get}}
+use Rattle.amt_values.specs.{Order.{ip_order}, Ascending.{IsAscending}}
+use Rattle.endpoint_membership.specs.{EndpointGroup.{EndpointGroup, same_endpoint, same_group}, Membership.{Membership, membership_order}, declared.after_report.RenewedFilter.{RenewedFilter}}
+use Rattle.endpoint_membership.proofs.{OwnFilters.{next_there, own_filter, own_filter-end, own_filter-more, own_filter-past, same_endpoint-ne, walked}, PairsWalked.{memberships_of, seen-none, seen_memberships, stored_at}, PartOrders.{pairs_compared}, StoredView.{IsAscending-stored}, parts.StoredMemberships.own_filters.Goals.{in-None, in-Some+then-ne}}
 use Rattle.endpoint_membership.proofs.parts.StoredMemberships.own_filters.Goals as goal
 
 pub loop-at-preserved-in_ok-set_filter : goal.loop-at-preserved-in_ok-set_filter

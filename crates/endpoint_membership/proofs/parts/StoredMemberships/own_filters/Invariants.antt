@@ -1,9 +1,6 @@
-use Rattle.std.proofs.Common.{◌≡◌}
-use Rattle.std.specs.BTreeMap.{get}
-use Rattle.amt_values.specs.declared.address.Ip.{Ip}
-use Rattle.amt_values.specs.Order.{ip_order}
-use Rattle.endpoint_membership.proofs.OwnFilters.{own_filter}
-use Rattle.endpoint_membership.proofs.PairsWalked.{seen_memberships}
+use Rattle.std.{proofs.Common.{◌≡◌}, specs.BTreeMap.{get}}
+use Rattle.amt_values.specs.{declared.address.Ip.{Ip}, Order.{ip_order}}
+use Rattle.endpoint_membership.proofs.{OwnFilters.{own_filter}, PairsWalked.{seen_memberships}}
 use Rattle.endpoint_membership.proofs.parts.StoredMemberships.own_filters.Given as goal
 
 abbrev pub invariant-loop-at : goal.invariant-loop-at

@@ -1,6 +1,5 @@
 use Rattle.std.proofs.Common.{◌≡◌, not, map, filter}
-use Rattle.endpoint_membership.specs.Membership.{endpoint_group_of}
-use Rattle.endpoint_membership.specs.Stored.{is_known}
+use Rattle.endpoint_membership.specs.{Membership.{endpoint_group_of}, Stored.{is_known}}
 use Rattle.endpoint_membership.proofs.parts.StoredMemberships.parted.Given as goal
 
 abbrev pub invariant-loop-membership : goal.invariant-loop-membership

@@ -1,6 +1,5 @@
 use Rattle.std.proofs.Common.{List, ap, filter, length, ◌∙◌, arith}
-use Rattle.endpoint_membership.specs.Membership.{Membership, is_fresh}
-use Rattle.endpoint_membership.proofs.Expiry.{filter-drained, length-drained}
+use Rattle.endpoint_membership.{specs.Membership.{Membership, is_fresh}, proofs.Expiry.{filter-drained, length-drained}}
 use Rattle.endpoint_membership.proofs.parts.StoredMemberships.purge.Goals as goal
 
 pub loop-at-smaller : goal.loop-at-smaller

@@ -1,15 +1,7 @@
-use Rattle.std.proofs.Common.{false, refl, sym, subst, ap, ◌∙◌}
-use Rattle.std.specs.BTreeMap.{get}
+use Rattle.std.{proofs.Common.{false, refl, sym, subst, ap, ◌∙◌}, specs.{BTreeMap.{get}, List.{filter}, declared.cmp.Ordering.{Ordering}}}
 use Rattle.std.specs.BTreeSet as sorted
-use Rattle.std.specs.List.{filter}
-use Rattle.std.specs.declared.cmp.Ordering.{Ordering}
 use Rattle.amt_values.specs.Order.{endpoint_order}
-use Rattle.endpoint_membership.specs.EndpointGroup.{EndpointGroup}
-use Rattle.endpoint_membership.specs.Parts.{HasNumber, one_less, renewal_order}
-use Rattle.endpoint_membership.specs.Stored.{is_not_at}
-use Rattle.endpoint_membership.specs.declared.keys.LastRenewal.{LastRenewal}
-use Rattle.endpoint_membership.proofs.OneMembership.{AreAgreed-less, AreAgreed-same, rows-left, without-none}
-use Rattle.endpoint_membership.proofs.PartOrders.{renewal_at, renewals_compared}
+use Rattle.endpoint_membership.{specs.{EndpointGroup.{EndpointGroup}, Parts.{HasNumber, one_less, renewal_order}, Stored.{is_not_at}, declared.keys.LastRenewal.{LastRenewal}}, proofs.{OneMembership.{AreAgreed-less, AreAgreed-same, rows-left, without-none}, PartOrders.{renewal_at, renewals_compared}}}
 use Rattle.endpoint_membership.proofs.parts.StoredMemberships.remove.Goals as goal
 
 abbrev Order : Type 0

@@ -1,12 +1,6 @@
-use Rattle.std.proofs.Common.{◌++◌, ◌∷◌, [], None, Option, List, if◌then◌else◌, take, sym, ap, subst, ◌∙◌}
-use Rattle.std.proofs.lemmas.List.{take_more}
-use Rattle.amt_values.specs.Ascending.{IsAscending, has}
-use Rattle.amt_values.proofs.AscendingLaws.{IsAscending-filter}
-use Rattle.endpoint_membership.specs.EndpointGroup.{EndpointGroup, endpoint_group_order, same_endpoint_group}
-use Rattle.endpoint_membership.specs.Membership.{Membership, membership_order}
-use Rattle.endpoint_membership.specs.Memberships.{membership_in}
-use Rattle.endpoint_membership.specs.Stored.{is_not_at}
-use Rattle.endpoint_membership.proofs.SetTogether.{membership_in-removed, one_more_removed}
+use Rattle.std.proofs.{Common.{◌++◌, ◌∷◌, [], None, Option, List, if◌then◌else◌, take, sym, ap, subst, ◌∙◌}, lemmas.List.{take_more}}
+use Rattle.amt_values.{specs.Ascending.{IsAscending, has}, proofs.AscendingLaws.{IsAscending-filter}}
+use Rattle.endpoint_membership.{specs.{EndpointGroup.{EndpointGroup, endpoint_group_order, same_endpoint_group}, Membership.{Membership, membership_order}, Memberships.{membership_in}, Stored.{is_not_at}}, proofs.SetTogether.{membership_in-removed, one_more_removed}}
 use Rattle.endpoint_membership.proofs.parts.StoredMemberships.remove_all.Goals as goal
 
 pub loop-at-preserved : goal.loop-at-preserved

@@ -1,8 +1,6 @@
 use Rattle.std.proofs.Common.{◌≡◌, None, take, if◌then◌else◌}
 use Rattle.amt_values.specs.Ascending.{IsAscending, has}
-use Rattle.endpoint_membership.specs.EndpointGroup.{EndpointGroup, endpoint_group_order}
-use Rattle.endpoint_membership.specs.Membership.{membership_order}
-use Rattle.endpoint_membership.specs.Memberships.{membership_in}
+use Rattle.endpoint_membership.specs.{EndpointGroup.{EndpointGroup, endpoint_group_order}, Membership.{membership_order}, Memberships.{membership_in}}
 use Rattle.endpoint_membership.proofs.parts.StoredMemberships.remove_all.Given as goal
 
 abbrev pub invariant-loop-at : goal.invariant-loop-at

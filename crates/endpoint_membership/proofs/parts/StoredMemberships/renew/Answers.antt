@@ -1,10 +1,5 @@
-use Rattle.std.proofs.Common.{◌≡◌, List, true, is_some, sym, ap, subst, ◌∙◌}
-use Rattle.std.specs.List.{AllByRecursion}
-use Rattle.std.specs.Option.{option_or}
-use Rattle.endpoint_membership.specs.Membership.{Membership, endpoint_group_of}
-use Rattle.endpoint_membership.specs.Memberships.{membership_in}
-use Rattle.endpoint_membership.proofs.ReplacedFilters.{AreAgreed-put, ArePresent-stored, memberships_put}
-use Rattle.endpoint_membership.proofs.StoredView.{IsAscending-stored}
+use Rattle.std.{proofs.Common.{◌≡◌, List, true, is_some, sym, ap, subst, ◌∙◌}, specs.{List.{AllByRecursion}, Option.{option_or}}}
+use Rattle.endpoint_membership.{specs.{Membership.{Membership, endpoint_group_of}, Memberships.{membership_in}}, proofs.{ReplacedFilters.{AreAgreed-put, ArePresent-stored, memberships_put}, StoredView.{IsAscending-stored}}}
 use Rattle.endpoint_membership.proofs.parts.StoredMemberships.renew.Goals as goal
 
 pub returns-in_err-stage-clause-ascends : goal.returns-in_err-stage-clause-ascends

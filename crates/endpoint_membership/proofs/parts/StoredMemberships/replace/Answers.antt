@@ -1,13 +1,6 @@
-use Rattle.std.proofs.Common.{◌≡◌, true, not, filter, Option, None, if◌then◌else◌, List, sym, ap, subst, ◌∙◌}
-use Rattle.std.specs.List.{AllByRecursion}
-use Rattle.std.specs.Option.{option_or}
-use Rattle.amt_values.specs.Ascending.{IsAscending, has}
-use Rattle.amt_values.proofs.AscendingLaws.{IsAscending-filter}
-use Rattle.endpoint_membership.specs.EndpointGroup.{endpoint_group_order}
-use Rattle.endpoint_membership.specs.Membership.{Membership, endpoint_group_of, membership_order}
-use Rattle.endpoint_membership.specs.Memberships.{membership_in}
-use Rattle.endpoint_membership.specs.Stored.{is_known}
-use Rattle.endpoint_membership.proofs.SetTogether.{All-absent, All-passing, parted_again}
+use Rattle.std.{proofs.Common.{◌≡◌, true, not, filter, Option, None, if◌then◌else◌, List, sym, ap, subst, ◌∙◌}, specs.{List.{AllByRecursion}, Option.{option_or}}}
+use Rattle.amt_values.{specs.Ascending.{IsAscending, has}, proofs.AscendingLaws.{IsAscending-filter}}
+use Rattle.endpoint_membership.{specs.{EndpointGroup.{endpoint_group_order}, Membership.{Membership, endpoint_group_of, membership_order}, Memberships.{membership_in}, Stored.{is_known}}, proofs.SetTogether.{All-absent, All-passing, parted_again}}
 use Rattle.endpoint_membership.proofs.parts.StoredMemberships.replace.Goals as goal
 
 pub set_all-requires-clause-added : goal.set_all-requires-clause-added

@@ -1,7 +1,5 @@
 use Rattle.std.proofs.Common.{None, Some, map, sym, ap, ◌∙◌}
-use Rattle.endpoint_membership.specs.Memberships.{row_of}
-use Rattle.endpoint_membership.specs.Parts.{stored_membership}
-use Rattle.endpoint_membership.proofs.PairsWalked.{all_seen, rows-push, seen-none, stored_at}
+use Rattle.endpoint_membership.{specs.{Memberships.{row_of}, Parts.{stored_membership}}, proofs.PairsWalked.{all_seen, rows-push, seen-none, stored_at}}
 use Rattle.endpoint_membership.proofs.parts.StoredMemberships.show.Goals as goal
 
 pub loop-at-preserved-in-Ok : goal.loop-at-preserved-in-Ok

@@ -1,10 +1,6 @@
-use Rattle.std.proofs.Common.{None, cond, sym, ap, ◌∙◌}
-use Rattle.std.specs.BTreeMap.{is_at}
-use Rattle.std.specs.Map.{lookup}
-use Rattle.std.proofs.lemmas.Map.Steps.{set_value_same}
+use Rattle.std.{proofs.{Common.{None, cond, sym, ap, ◌∙◌}, lemmas.Map.Steps.{set_value_same}}, specs.{BTreeMap.{is_at}, Map.{lookup}}}
 use Rattle.amt_values.specs.Order.{endpoint_order}
-use Rattle.endpoint_membership.specs.EndpointGroup.{same_endpoint}
-use Rattle.endpoint_membership.proofs.CountedParts.{HasNumber-last, HasNumber-none}
+use Rattle.endpoint_membership.{specs.EndpointGroup.{same_endpoint}, proofs.CountedParts.{HasNumber-last, HasNumber-none}}
 use Rattle.endpoint_membership.proofs.parts.change.count_less.Goals as goal
 
 pub returns-in_default : goal.returns-in_default

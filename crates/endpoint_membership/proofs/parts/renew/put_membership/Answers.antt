@@ -1,12 +1,5 @@
-use Rattle.std.proofs.Common.{false, sym, ap, ◌∙◌}
-use Rattle.std.proofs.lemmas.Bool.{eqb-false, eqb-true, not-false, not-true}
-use Rattle.std.specs.BTreeSet.{contains}
-use Rattle.endpoint_membership.specs.Parts.{renewal_order}
-use Rattle.endpoint_membership.specs.declared.keys.LastRenewal.{LastRenewal}
-use Rattle.endpoint_membership.specs.declared.stored.StoredFilter.{StoredFilter}
-use Rattle.endpoint_membership.proofs.PartOrders.{renewal_at}
-use Rattle.endpoint_membership.proofs.RenewedTogether.{renewals_updated}
-use Rattle.endpoint_membership.proofs.ReplacedFilters.{old_renewal_out, same_renewal_stays}
+use Rattle.std.{proofs.{Common.{false, sym, ap, ◌∙◌}, lemmas.Bool.{eqb-false, eqb-true, not-false, not-true}}, specs.BTreeSet.{contains}}
+use Rattle.endpoint_membership.{specs.{Parts.{renewal_order}, declared.{keys.LastRenewal.{LastRenewal}, stored.StoredFilter.{StoredFilter}}}, proofs.{PartOrders.{renewal_at}, RenewedTogether.{renewals_updated}, ReplacedFilters.{old_renewal_out, same_renewal_stays}}}
 use Rattle.endpoint_membership.proofs.parts.renew.put_membership.Goals as goal
 
 pub returns-then-ne-clause-renewals : goal.returns-then-ne-clause-renewals

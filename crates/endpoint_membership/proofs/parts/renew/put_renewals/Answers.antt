@@ -1,10 +1,5 @@
-use Rattle.std.proofs.Common.{◌||◌, List, true, ◌++◌, ◌∷◌, [], take, sym, ap, ◌∙◌}
-use Rattle.std.specs.BTreeSet.{contains}
-use Rattle.std.proofs.lemmas.List.{take_more}
-use Rattle.endpoint_membership.specs.Membership.{Membership}
-use Rattle.endpoint_membership.specs.Parts.{is_renewal_in, renewal_order}
-use Rattle.endpoint_membership.specs.declared.keys.LastRenewal.{LastRenewal}
-use Rattle.endpoint_membership.proofs.RenewedTogether.{one_more_in, refused_in, renewals_updated}
+use Rattle.std.{proofs.{Common.{◌||◌, List, true, ◌++◌, ◌∷◌, [], take, sym, ap, ◌∙◌}, lemmas.List.{take_more}}, specs.BTreeSet.{contains}}
+use Rattle.endpoint_membership.{specs.{Membership.{Membership}, Parts.{is_renewal_in, renewal_order}, declared.keys.LastRenewal.{LastRenewal}}, proofs.RenewedTogether.{one_more_in, refused_in, renewals_updated}}
 use Rattle.endpoint_membership.proofs.parts.renew.put_renewals.Goals as goal
 
 pub loop-membership-preserved : goal.loop-membership-preserved

@@ -1,13 +1,6 @@
-use Rattle.std.proofs.Common.{List, option_map, sym, ap, subst, ◌∙◌}
-use Rattle.std.specs.Option.{option_or}
-use Rattle.std.specs.Vec.Iter.{into_iter_items}
-use Rattle.std.proofs.lemmas.Map.Keys.{sorted_tail}
+use Rattle.std.{proofs.{Common.{List, option_map, sym, ap, subst, ◌∙◌}, lemmas.Map.Keys.{sorted_tail}}, specs.{Option.{option_or}, Vec.Iter.{into_iter_items}}}
 use Rattle.amt_values.specs.Ascending.{IsAscending}
-use Rattle.endpoint_membership.specs.Filters.{filter_at}
-use Rattle.endpoint_membership.specs.Membership.{Membership, endpoint_group_of, membership_order}
-use Rattle.endpoint_membership.specs.Memberships.{membership_in}
-use Rattle.endpoint_membership.specs.Parts.{AreRenewalsOf, stored_filter}
-use Rattle.endpoint_membership.proofs.ReplacedFilters.{ArePresent, first_put, first_settled, same_found}
+use Rattle.endpoint_membership.{specs.{Filters.{filter_at}, Membership.{Membership, endpoint_group_of, membership_order}, Memberships.{membership_in}, Parts.{AreRenewalsOf, stored_filter}}, proofs.ReplacedFilters.{ArePresent, first_put, first_settled, same_found}}
 use Rattle.endpoint_membership.proofs.parts.renew.settle.Goals as goal
 
 pub put_membership-requires : goal.put_membership-requires

@@ -1,13 +1,6 @@
-use Rattle.std.proofs.Common.{◌≡◌, true, is_some, option_map}
-use Rattle.std.specs.List.{AllByRecursion}
-use Rattle.std.specs.Option.{option_or}
-use Rattle.std.specs.Vec.Iter.{into_iter_items}
+use Rattle.std.{proofs.Common.{◌≡◌, true, is_some, option_map}, specs.{List.{AllByRecursion}, Option.{option_or}, Vec.Iter.{into_iter_items}}}
 use Rattle.amt_values.specs.Ascending.{IsAscending}
-use Rattle.endpoint_membership.specs.EndpointGroup.{EndpointGroup}
-use Rattle.endpoint_membership.specs.Filters.{filter_at, pairs_of}
-use Rattle.endpoint_membership.specs.Membership.{endpoint_group_of, membership_order}
-use Rattle.endpoint_membership.specs.Memberships.{membership_in}
-use Rattle.endpoint_membership.specs.Parts.{AreRenewalsOf, stored_filter}
+use Rattle.endpoint_membership.specs.{EndpointGroup.{EndpointGroup}, Filters.{filter_at, pairs_of}, Membership.{endpoint_group_of, membership_order}, Memberships.{membership_in}, Parts.{AreRenewalsOf, stored_filter}}
 use Rattle.endpoint_membership.proofs.parts.renew.settle.Given as goal
 
 abbrev pub invariant-loop-membership : goal.invariant-loop-membership

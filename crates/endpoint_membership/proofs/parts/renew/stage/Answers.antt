@@ -1,6 +1,5 @@
 use Rattle.std.proofs.Common.{◌||◌, ap, ◌∙◌}
-use Rattle.endpoint_membership.specs.Parts.{is_renewal_in}
-use Rattle.endpoint_membership.proofs.RenewedTogether.{undone}
+use Rattle.endpoint_membership.{specs.Parts.{is_renewal_in}, proofs.RenewedTogether.{undone}}
 use Rattle.endpoint_membership.proofs.parts.renew.stage.Goals as goal
 
 pub returns-in-Ok-clause-ok : goal.returns-in-Ok-clause-ok

@@ -1,11 +1,5 @@
-use Rattle.std.proofs.Common.{not, ◌&&◌, List, true, false, ◌++◌, ◌∷◌, [], take, sym, ap, ◌∙◌}
-use Rattle.std.specs.BTreeSet.{BTreeSet, contains}
-use Rattle.std.proofs.lemmas.List.{take_more}
-use Rattle.endpoint_membership.specs.Membership.{Membership}
-use Rattle.endpoint_membership.specs.Parts.{is_renewal_in, is_stored, renewal_order}
-use Rattle.endpoint_membership.specs.declared.keys.LastRenewal.{LastRenewal}
-use Rattle.endpoint_membership.proofs.RenewedTogether.{one_more_out, renewals_updated, taken_out}
-use Rattle.endpoint_membership.proofs.parts.renew.take_renewals.Goals.{then-not-is_stored, else-not-is_stored}
+use Rattle.std.{proofs.{Common.{not, ◌&&◌, List, true, false, ◌++◌, ◌∷◌, [], take, sym, ap, ◌∙◌}, lemmas.List.{take_more}}, specs.BTreeSet.{BTreeSet, contains}}
+use Rattle.endpoint_membership.{specs.{Membership.{Membership}, Parts.{is_renewal_in, is_stored, renewal_order}, declared.keys.LastRenewal.{LastRenewal}}, proofs.{RenewedTogether.{one_more_out, renewals_updated, taken_out}, parts.renew.take_renewals.Goals.{then-not-is_stored, else-not-is_stored}}}
 use Rattle.endpoint_membership.proofs.parts.renew.take_renewals.Goals as goal
 
 pub loop-membership-preserved : goal.loop-membership-preserved

@@ -1,7 +1,5 @@
-use Rattle.std.proofs.Common.{◌≡◌, not, ◌&&◌, take}
-use Rattle.std.specs.BTreeSet.{contains}
-use Rattle.endpoint_membership.specs.Parts.{is_renewal_in, is_stored, renewal_order}
-use Rattle.endpoint_membership.specs.declared.keys.LastRenewal.{LastRenewal}
+use Rattle.std.{proofs.Common.{◌≡◌, not, ◌&&◌, take}, specs.BTreeSet.{contains}}
+use Rattle.endpoint_membership.specs.{Parts.{is_renewal_in, is_stored, renewal_order}, declared.keys.LastRenewal.{LastRenewal}}
 use Rattle.endpoint_membership.proofs.parts.renew.take_renewals.Given as goal
 
 abbrev pub invariant-loop-membership : goal.invariant-loop-membership

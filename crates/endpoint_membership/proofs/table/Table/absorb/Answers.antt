@@ -1,6 +1,5 @@
 use Rattle.std.proofs.Common.{[], ◌∷◌, ◌++◌, sym, subst}
-use Rattle.endpoint_membership.specs.Table.{Holds}
-use Rattle.endpoint_membership.specs.declared.change.Change.{Change}
+use Rattle.endpoint_membership.specs.{Table.{Holds}, declared.change.Change.{Change}}
 use Rattle.endpoint_membership.proofs.table.Table.absorb.Goals as goal
 
 pub returns-in-Clear-clause-stands : goal.returns-in-Clear-clause-stands

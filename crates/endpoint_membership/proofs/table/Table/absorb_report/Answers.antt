@@ -1,14 +1,6 @@
-use Rattle.std.proofs.Common.{List, None, if◌then◌else◌, sym, ap, subst, ◌∙◌}
-use Rattle.std.specs.Option.{option_or}
-use Rattle.amt_values.specs.Ascending.{IsAscending, has}
-use Rattle.amt_values.proofs.AscendingLaws.{IsAscending-filter}
-use Rattle.endpoint_membership.specs.EndpointGroup.{EndpointGroup, endpoint_group_order}
-use Rattle.endpoint_membership.specs.EndpointMemberships.{AreGone, AreOwn}
-use Rattle.endpoint_membership.specs.Membership.{is_fresh, membership_order}
-use Rattle.endpoint_membership.specs.Memberships.{membership_in}
-use Rattle.endpoint_membership.specs.Table.{Holds, TableValue}
-use Rattle.endpoint_membership.proofs.HoldsAfter.{Holds-report}
-use Rattle.endpoint_membership.proofs.ReportFits.{purged_is}
+use Rattle.std.{proofs.Common.{List, None, if◌then◌else◌, sym, ap, subst, ◌∙◌}, specs.Option.{option_or}}
+use Rattle.amt_values.{specs.Ascending.{IsAscending, has}, proofs.AscendingLaws.{IsAscending-filter}}
+use Rattle.endpoint_membership.{specs.{EndpointGroup.{EndpointGroup, endpoint_group_order}, EndpointMemberships.{AreGone, AreOwn}, Membership.{is_fresh, membership_order}, Memberships.{membership_in}, Table.{Holds, TableValue}}, proofs.{HoldsAfter.{Holds-report}, ReportFits.{purged_is}}}
 use Rattle.endpoint_membership.proofs.table.Table.absorb_report.Goals as goal
 
 pub invariant_of-self-2 : goal.invariant_of-self-2

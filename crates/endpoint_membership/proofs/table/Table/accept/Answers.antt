@@ -1,15 +1,7 @@
-use Rattle.std.proofs.Common.{◌≡◌, List, None, if◌then◌else◌, refl, sym, ap, subst, ◌∙◌}
-use Rattle.amt_values.specs.Ascending.{IsAscending, has}
-use Rattle.amt_values.proofs.AscendingLaws.{IsAscending-filter}
-use Rattle.endpoint_membership.specs.Membership.{is_fresh, membership_order}
-use Rattle.std.specs.Option.{option_or}
-use Rattle.endpoint_membership.specs.EndpointGroup.{EndpointGroup, endpoint_group_order}
-use Rattle.endpoint_membership.specs.Memberships.{membership_in}
-use Rattle.endpoint_membership.specs.Limits.{IsWithin}
-use Rattle.endpoint_membership.specs.EndpointMemberships.{AreGone, AreOwn}
-use Rattle.endpoint_membership.specs.Table.{Holds, IsWithinLimits, TableValue}
-use Rattle.endpoint_membership.proofs.HoldsAfter.{Holds-report, IsWithin-log, passed_is, unfit}
-use Rattle.endpoint_membership.proofs.ReportFits.{IsWithin-replaced, groups_fit, first_limit_found, limit_by_own, purged_is, replaced, sizes_fit}
+use Rattle.std.{proofs.Common.{◌≡◌, List, None, if◌then◌else◌, refl, sym, ap, subst, ◌∙◌}, specs.Option.{option_or}}
+use Rattle.amt_values.{specs.Ascending.{IsAscending, has}, proofs.AscendingLaws.{IsAscending-filter}}
+use Rattle.endpoint_membership.specs.{Membership.{is_fresh, membership_order}, EndpointGroup.{EndpointGroup, endpoint_group_order}, Memberships.{membership_in}, Limits.{IsWithin}, EndpointMemberships.{AreGone, AreOwn}}
+use Rattle.endpoint_membership.{specs.Table.{Holds, IsWithinLimits, TableValue}, proofs.{HoldsAfter.{Holds-report, IsWithin-log, passed_is, unfit}, ReportFits.{IsWithin-replaced, groups_fit, first_limit_found, limit_by_own, purged_is, replaced, sizes_fit}}}
 use Rattle.endpoint_membership.proofs.table.Table.accept.Goals as goal
 
 put_is : (c : goal.After-drop-gone-2) → c.purge.new.self ≡ replaced c.self.inside.lifetime_ms c.later-moment.result c.args.endpoint.now c.self.inside.rows c.in-Ok.after.memberships.items

@@ -1,11 +1,6 @@
 use Rattle.std.proofs.Common.{List, length, sym, ap, subst, ◌∙◌, arith}
-use Rattle.amt_values.specs.Order.{endpoint_order}
-use Rattle.amt_values.specs.EndpointValue.{EndpointValue}
-use Rattle.amt_values.specs.Ascending.{IsAscending, has}
-use Rattle.endpoint_membership.specs.Admission.{is_admitted}
-use Rattle.endpoint_membership.specs.Limits.{live_count}
-use Rattle.endpoint_membership.specs.Table.{Holds, TableValue}
-use Rattle.endpoint_membership.proofs.TargetsByLog.{Contains-has, IsAscending-targets, has-targets_of, length-targets, targets_are}
+use Rattle.amt_values.specs.{Order.{endpoint_order}, EndpointValue.{EndpointValue}, Ascending.{IsAscending, has}}
+use Rattle.endpoint_membership.{specs.{Admission.{is_admitted}, Limits.{live_count}, Table.{Holds, TableValue}}, proofs.TargetsByLog.{Contains-has, IsAscending-targets, has-targets_of, length-targets, targets_are}}
 use Rattle.endpoint_membership.proofs.table.Table.admitting_into.Goals as goal
 
 pub collect_targets-requires-clause-room : goal.collect_targets-requires-clause-room

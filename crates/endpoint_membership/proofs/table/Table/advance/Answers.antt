@@ -1,11 +1,6 @@
 use Rattle.std.proofs.Common.{◌∙◌, sym, subst}
-use Rattle.amt_values.specs.Ascending.{IsAscending}
-use Rattle.amt_values.proofs.AscendingLaws.{IsAscending-filter}
-use Rattle.endpoint_membership.specs.Membership.{is_fresh, membership_order}
-use Rattle.endpoint_membership.specs.Limits.{IsWithin}
-use Rattle.endpoint_membership.specs.Table.{Holds, IsWithinLimits, TableValue}
-use Rattle.endpoint_membership.proofs.HoldsAfter.{Holds-mark, no_later}
-use Rattle.endpoint_membership.proofs.WithinLimits.{IsWithin-filter}
+use Rattle.amt_values.{specs.Ascending.{IsAscending}, proofs.AscendingLaws.{IsAscending-filter}}
+use Rattle.endpoint_membership.{specs.{Membership.{is_fresh, membership_order}, Limits.{IsWithin}, Table.{Holds, IsWithinLimits, TableValue}}, proofs.{HoldsAfter.{Holds-mark, no_later}, WithinLimits.{IsWithin-filter}}}
 use Rattle.endpoint_membership.proofs.table.Table.advance.Goals as goal
 
 pub invariant_of-self : goal.invariant_of-self

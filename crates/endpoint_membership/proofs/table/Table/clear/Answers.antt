@@ -1,14 +1,6 @@
 use Rattle.std.proofs.Common.{sym, ap, subst, ◌∙◌}
-use Rattle.amt_values.specs.Ascending.{IsAscending}
-use Rattle.amt_values.proofs.AscendingLaws.{IsAscending-filter}
-use Rattle.endpoint_membership.specs.Stored.{is_of_another}
-use Rattle.endpoint_membership.specs.Membership.{is_fresh, membership_order}
-use Rattle.endpoint_membership.specs.Limits.{IsWithin}
-use Rattle.endpoint_membership.specs.Memberships.{is_live}
-use Rattle.endpoint_membership.specs.Table.{Holds, IsWithinLimits, TableValue}
-use Rattle.endpoint_membership.proofs.Clearings.{none_cleared}
-use Rattle.endpoint_membership.proofs.HoldsAfter.{Holds-clear, fresh_are}
-use Rattle.endpoint_membership.proofs.WithinLimits.{IsWithin-filter}
+use Rattle.amt_values.{specs.Ascending.{IsAscending}, proofs.AscendingLaws.{IsAscending-filter}}
+use Rattle.endpoint_membership.{specs.{Stored.{is_of_another}, Membership.{is_fresh, membership_order}, Limits.{IsWithin}, Memberships.{is_live}, Table.{Holds, IsWithinLimits, TableValue}}, proofs.{Clearings.{none_cleared}, HoldsAfter.{Holds-clear, fresh_are}, WithinLimits.{IsWithin-filter}}}
 use Rattle.endpoint_membership.proofs.table.Table.clear.Goals as goal
 
 pub invariant_of-self : goal.invariant_of-self

@@ -1,7 +1,5 @@
 use Rattle.std.proofs.Common.{sym, ap, subst, ◌∙◌, arith}
-use Rattle.endpoint_membership.specs.Limits.{live_count}
-use Rattle.endpoint_membership.specs.Table.{Holds, IsWithinLimits, TableValue}
-use Rattle.endpoint_membership.proofs.HoldsAfter.{rows_now}
+use Rattle.endpoint_membership.{specs.{Limits.{live_count}, Table.{Holds, IsWithinLimits, TableValue}}, proofs.HoldsAfter.{rows_now}}
 use Rattle.endpoint_membership.proofs.table.Table.live_endpoints.Goals as goal
 
 pub overflow_cast-result : goal.overflow_cast-result

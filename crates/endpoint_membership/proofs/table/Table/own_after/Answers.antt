@@ -1,6 +1,5 @@
 use Rattle.std.proofs.Common.{IfOk, subst}
-use Rattle.endpoint_membership.specs.EndpointMemberships.{AreGone, AreOwn}
-use Rattle.endpoint_membership.specs.Table.{TableValue}
+use Rattle.endpoint_membership.specs.{EndpointMemberships.{AreGone, AreOwn}, Table.{TableValue}}
 use Rattle.endpoint_membership.proofs.table.Table.own_after.Goals as goal
 
 pub returns-clause-own : goal.returns-clause-own

@@ -1,11 +1,5 @@
-use Rattle.std.proofs.Common.{◌≡◌, map, sym, ap, subst, ◌∙◌}
-use Rattle.std.proofs.lemmas.Result.{IfOk-weaker}
-use Rattle.endpoint_membership.specs.Limits.{AreFew}
-use Rattle.endpoint_membership.specs.Log.{latest}
-use Rattle.endpoint_membership.specs.Memberships.{row_of, rows_of}
-use Rattle.endpoint_membership.specs.Table.{ForLog, Holds, TableValue}
-use Rattle.endpoint_membership.proofs.FewRows.{AreFew-row_of}
-use Rattle.endpoint_membership.proofs.MembershipsByLog.{rows_are}
+use Rattle.std.proofs.{Common.{◌≡◌, map, sym, ap, subst, ◌∙◌}, lemmas.Result.{IfOk-weaker}}
+use Rattle.endpoint_membership.{specs.{Limits.{AreFew}, Log.{latest}, Memberships.{row_of, rows_of}, Table.{ForLog, Holds, TableValue}}, proofs.{FewRows.{AreFew-row_of}, MembershipsByLog.{rows_are}}}
 use Rattle.endpoint_membership.proofs.table.Table.rows.Goals as goal
 
 pub returns-clause-stands : goal.returns-clause-stands

@@ -1,7 +1,6 @@
 use Rattle.std.proofs.Common.{sym, subst}
 use Rattle.socket_merge.specs.Sockets.{SocketsValue}
-use Rattle.gateway_machine.specs.State.{AreOfSettings, HasHistory, IsAtMoment}
-use Rattle.gateway_machine.proofs.Onward.{same_sockets}
+use Rattle.gateway_machine.{specs.State.{AreOfSettings, HasHistory, IsAtMoment}, proofs.Onward.{same_sockets}}
 use Rattle.gateway_machine.proofs.gateway.Gateway.copied.Goals as goal
 
 pub invariant_of-result : goal.invariant_of-result

@@ -1,11 +1,6 @@
-use Rattle.std.proofs.Common.{refl, ◌∙◌, ◌+◌, arith}
-use Rattle.std.proofs.lemmas.Result.{err_from_is_err_and}
-use Rattle.amt_ports.specs.declared.end.End.TheVariants.{FeedFault, LinkFault}
-use Rattle.amt_ports.proofs.Waits.{no_waits, waits_then}
-use Rattle.amt_ports.proofs.EndCauses.{not_cause, other_end, same_cause}
-use Rattle.amt_ports.proofs.SoFar.{all_asked, none_asked, one_more, then_ends, then_nothing}
-use Rattle.gateway_serving.proofs.Few.{AreFew-most, GrowsBy-none, GrowsBy-then}
-use Rattle.gateway_serving.proofs.Hearing.{Hears-none, Hears-then}
+use Rattle.std.proofs.{Common.{refl, ◌∙◌, ◌+◌, arith}, lemmas.Result.{err_from_is_err_and}}
+use Rattle.amt_ports.{specs.declared.end.End.TheVariants.{FeedFault, LinkFault}, proofs.{Waits.{no_waits, waits_then}, EndCauses.{not_cause, other_end, same_cause}, SoFar.{all_asked, none_asked, one_more, then_ends, then_nothing}}}
+use Rattle.gateway_serving.proofs.{Few.{AreFew-most, GrowsBy-none, GrowsBy-then}, Hearing.{Hears-none, Hears-then}}
 use Rattle.gateway_serving.proofs.server.Server.hear.Goals as goal
 
 pub loop-init : goal.loop-init

@@ -1,9 +1,7 @@
 -- Each asking so far found a datagram.
 use Rattle.std.proofs.Common.{◌≡◌, length}
-use Rattle.amt_ports.specs.Devices.{WaitsBriefly, link_seen, out_seen}
-use Rattle.amt_ports.proofs.SoFar.{SoFar}
-use Rattle.gateway_serving.specs.Servers.{GrowsBy, Hears, at_work, latest_in}
-use Rattle.gateway_serving.specs.Turns.{from_link}
+use Rattle.amt_ports.{specs.Devices.{WaitsBriefly, link_seen, out_seen}, proofs.SoFar.{SoFar}}
+use Rattle.gateway_serving.specs.{Servers.{GrowsBy, Hears, at_work, latest_in}, Turns.{from_link}}
 use Rattle.gateway_serving.proofs.server.Server.hear.Given as goal
 
 abbrev pub invariant-loop : goal.invariant-loop

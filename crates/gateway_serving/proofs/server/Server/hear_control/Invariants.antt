@@ -1,9 +1,7 @@
 -- Each asking so far found a line.
 use Rattle.std.proofs.Common.{◌≡◌, length}
-use Rattle.amt_ports.specs.Devices.{WaitsBriefly, feed_seen, link_seen, out_seen}
-use Rattle.amt_ports.proofs.SoFar.{SoFar}
-use Rattle.gateway_serving.specs.Servers.{GrowsBy, HearsControl, at_control, at_work, family_in, latest_in}
-use Rattle.gateway_serving.specs.Turns.{from_control}
+use Rattle.amt_ports.{specs.Devices.{WaitsBriefly, feed_seen, link_seen, out_seen}, proofs.SoFar.{SoFar}}
+use Rattle.gateway_serving.specs.{Servers.{GrowsBy, HearsControl, at_control, at_work, family_in, latest_in}, Turns.{from_control}}
 use Rattle.gateway_serving.proofs.server.Server.hear_control.Given as goal
 
 abbrev pub invariant-loop : goal.invariant-loop

@@ -1,12 +1,6 @@
-use Rattle.std.proofs.Common.{[], ◌∷◌, take, refl, ap, subst, arith}
-use Rattle.std.proofs.lemmas.List.{length-take}
-use Rattle.amt_ports.specs.Arrivals.{IsShortFeedGot, feed_answer}
-use Rattle.amt_ports.specs.Told.{Answers}
-use Rattle.amt_ports.specs.declared.feed.FeedGot.{FeedGot}
-use Rattle.amt_ports.specs.declared.feed.FeedAnswer.TheVariants.{Nothing as NothingFed, Closed as FeedClosed}
-use Rattle.gateway_serving.specs.Turns.{a_line, no_line}
-use Rattle.gateway_serving.proofs.Few.{GrowsBy-none, GrowsBy-then}
-use Rattle.gateway_serving.proofs.ControlLines.{HearsControlLine-grows, HearsControl-failed, HearsControl-line, HearsControl-quiet}
+use Rattle.std.proofs.{Common.{[], ◌∷◌, take, refl, ap, subst, arith}, lemmas.List.{length-take}}
+use Rattle.amt_ports.specs.{Arrivals.{IsShortFeedGot, feed_answer}, Told.{Answers}, declared.feed.{FeedGot.{FeedGot}, FeedAnswer.TheVariants.{Nothing as NothingFed, Closed as FeedClosed}}}
+use Rattle.gateway_serving.{specs.Turns.{a_line, no_line}, proofs.{Few.{GrowsBy-none, GrowsBy-then}, ControlLines.{HearsControlLine-grows, HearsControl-failed, HearsControl-line, HearsControl-quiet}}}
 use Rattle.gateway_serving.proofs.server.Server.hear_control_next.Goals as goal
 
 pub returns-in-Ok-Packet-clause-lines : goal.returns-in-Ok-Packet-clause-lines

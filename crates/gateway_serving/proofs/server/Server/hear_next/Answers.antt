@@ -1,13 +1,6 @@
-use Rattle.std.proofs.Common.{[], ◌∷◌, take, refl, ap, subst, ◌∙◌, arith}
-use Rattle.std.proofs.lemmas.List.{length-take}
-use Rattle.amt_ports.specs.Arrivals.{IsShortGot, link_answer}
-use Rattle.amt_ports.specs.Told.{Answers}
-use Rattle.amt_ports.specs.declared.link.Got.{Got}
-use Rattle.amt_ports.specs.declared.link.LinkAnswer.TheVariants.{Datagram as DatagramCame, Nothing as NothingCame, Closed as LinkClosed}
-use Rattle.amt_ports.specs.Answers.{taken}
-use Rattle.amt_ports.proofs.EndCauses.{not_cause}
-use Rattle.gateway_serving.proofs.Few.{GrowsBy-none, GrowsBy-then}
-use Rattle.gateway_serving.proofs.Hearing.{HearsOne-grows, Hears-datagram, Hears-failed, Hears-quiet}
+use Rattle.std.proofs.{Common.{[], ◌∷◌, take, refl, ap, subst, ◌∙◌, arith}, lemmas.List.{length-take}}
+use Rattle.amt_ports.{specs.{Arrivals.{IsShortGot, link_answer}, Told.{Answers}, declared.link.{Got.{Got}, LinkAnswer.TheVariants.{Datagram as DatagramCame, Nothing as NothingCame, Closed as LinkClosed}}, Answers.{taken}}, proofs.EndCauses.{not_cause}}
+use Rattle.gateway_serving.proofs.{Few.{GrowsBy-none, GrowsBy-then}, Hearing.{HearsOne-grows, Hears-datagram, Hears-failed, Hears-quiet}}
 use Rattle.gateway_serving.proofs.server.Server.hear_next.Goals as goal
 
 pub returns-in-Ok-Datagram-clause-hears : goal.returns-in-Ok-Datagram-clause-hears

@@ -1,6 +1,5 @@
 use Rattle.std.proofs.Common.{◌≤◌, ◌^◌, ◌-◌, length, refl, rules, arith}
-use Rattle.gateway_serving.proofs.Beginning.{opens_so}
-use Rattle.gateway_serving.proofs.Few.{AreFew-most, GrowsBy-step}
+use Rattle.gateway_serving.proofs.{Beginning.{opens_so}, Few.{AreFew-most, GrowsBy-step}}
 use Rattle.gateway_serving.proofs.server.Server.open.Goals as goal
 
 pub returns-clause-opens : goal.returns-clause-opens

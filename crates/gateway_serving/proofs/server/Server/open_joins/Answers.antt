@@ -1,7 +1,5 @@
-use Rattle.std.proofs.Common.{[], length, refl, ◌∙◌, ◌+◌, arith}
-use Rattle.std.proofs.lemmas.Result.{err_from_is_err_and}
-use Rattle.gateway_serving.proofs.Beginning.{AreOpened-none, AreOpened-then, begins_all, begins_refused}
-use Rattle.gateway_serving.proofs.Few.{GrowsBy-none, GrowsBy-step, GrowsBy-then}
+use Rattle.std.proofs.{Common.{[], length, refl, ◌∙◌, ◌+◌, arith}, lemmas.Result.{err_from_is_err_and}}
+use Rattle.gateway_serving.proofs.{Beginning.{AreOpened-none, AreOpened-then, begins_all, begins_refused}, Few.{GrowsBy-none, GrowsBy-step, GrowsBy-then}}
 use Rattle.gateway_serving.proofs.server.Server.open_joins.Goals as goal
 
 pub loop-join-init : goal.loop-join-init

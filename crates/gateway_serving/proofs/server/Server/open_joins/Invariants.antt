@@ -1,8 +1,7 @@
 -- The joins so far were opened.
 use Rattle.std.proofs.Common.{◌≡◌}
 use Rattle.amt_ports.specs.Devices.{link_seen, out_seen}
-use Rattle.gateway_serving.specs.Servers.{GrowsBy, at_work, latest_in, settings_in}
-use Rattle.gateway_serving.proofs.Beginning.{AreOpened}
+use Rattle.gateway_serving.{specs.Servers.{GrowsBy, at_work, latest_in, settings_in}, proofs.Beginning.{AreOpened}}
 use Rattle.gateway_serving.proofs.server.Server.open_joins.Given as goal
 
 abbrev pub invariant-loop-join : goal.invariant-loop-join

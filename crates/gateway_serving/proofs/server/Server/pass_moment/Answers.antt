@@ -1,5 +1,4 @@
-use Rattle.std.proofs.Common.{refl, ◌∙◌}
-use Rattle.std.proofs.lemmas.Bool.{false≢true}
+use Rattle.std.proofs.{Common.{refl, ◌∙◌}, lemmas.Bool.{false≢true}}
 use Rattle.gateway_serving.proofs.Beginning.{passes_starved, passes_taken}
 use Rattle.gateway_serving.proofs.server.Server.pass_moment.Goals as goal
 

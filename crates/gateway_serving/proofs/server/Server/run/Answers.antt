@@ -1,7 +1,6 @@
 use Rattle.std.proofs.Common.{refl, ◌∙◌, arith}
 use Rattle.amt_ports.proofs.Waits.{no_waits, waits_then}
-use Rattle.gateway_serving.proofs.Few.{AreFew-most}
-use Rattle.gateway_serving.proofs.Running.{EndsIn-all, EndsIn-cut, IsRunning-none, IsRunning-then, RunsSo-all, RunsSo-cut}
+use Rattle.gateway_serving.proofs.{Few.{AreFew-most}, Running.{EndsIn-all, EndsIn-cut, IsRunning-none, IsRunning-then, RunsSo-all, RunsSo-cut}}
 use Rattle.gateway_serving.proofs.server.Server.run.Goals as goal
 
 pub loop-done-init : goal.loop-done-init

@@ -1,8 +1,7 @@
 -- Each turn so far was whole.
 use Rattle.std.proofs.Common.{◌≡◌, length}
 use Rattle.amt_ports.specs.Devices.{WaitsBriefly, feed_seen, link_seen, out_seen, words_seen}
-use Rattle.gateway_serving.specs.Devices.{devices_seen}
-use Rattle.gateway_serving.proofs.Running.{IsRunning}
+use Rattle.gateway_serving.{specs.Devices.{devices_seen}, proofs.Running.{IsRunning}}
 use Rattle.gateway_serving.proofs.server.Server.run.Given as goal
 
 abbrev pub invariant-loop-done : goal.invariant-loop-done

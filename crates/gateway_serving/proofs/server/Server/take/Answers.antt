@@ -1,12 +1,6 @@
-use Rattle.std.proofs.Common.{length, refl, ap, ◌∙◌, arith}
-use Rattle.std.proofs.Props.{props}
-use Rattle.std.proofs.lemmas.Bool.{false≢true}
-use Rattle.std.proofs.lemmas.List.{length_push}
-use Rattle.std.proofs.lemmas.Result.{err_from_is_err_and}
+use Rattle.std.proofs.{Common.{length, refl, ap, ◌∙◌, arith}, Props.{props}, lemmas.{Bool.{false≢true}, List.{length_push}, Result.{err_from_is_err_and}}}
 use Rattle.gateway_machine.specs.declared.settings.GatewaySettings.{GatewaySettings}
-use Rattle.gateway_serving.specs.Servers.{events_in}
-use Rattle.gateway_serving.proofs.Stepping.{Takes-step, at_next, by_all, few_sent}
-use Rattle.gateway_serving.proofs.Taking.{Takes-none}
+use Rattle.gateway_serving.{specs.Servers.{events_in}, proofs.{Stepping.{Takes-step, at_next, by_all, few_sent}, Taking.{Takes-none}}}
 use Rattle.gateway_serving.proofs.server.Server.take.Goals as goal
 
 pub returns-in_err-sends-clause-none : goal.returns-in_err-sends-clause-none

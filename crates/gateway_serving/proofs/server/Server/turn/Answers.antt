@@ -1,10 +1,6 @@
-use Rattle.std.proofs.Common.{◌∙◌, refl, arith}
-use Rattle.std.proofs.lemmas.Result.{err_from_is_err_and}
-use Rattle.amt_ports.specs.declared.end.End.TheVariants.{FeedFault, LinkFault, WordsFault}
-use Rattle.amt_ports.proofs.Waits.{no_waits, waits_then}
-use Rattle.amt_ports.proofs.EndCauses.{not_cause, same_cause}
-use Rattle.gateway_serving.proofs.Few.{AreFew-most, GrowsBy-none, GrowsBy-then}
-use Rattle.gateway_serving.proofs.Turning.{begun_other, ends_begun, ends_heard, ends_control, no_error, no_words_heard, no_words_in_lines}
+use Rattle.std.proofs.{Common.{◌∙◌, refl, arith}, lemmas.Result.{err_from_is_err_and}}
+use Rattle.amt_ports.{specs.declared.end.End.TheVariants.{FeedFault, LinkFault, WordsFault}, proofs.{Waits.{no_waits, waits_then}, EndCauses.{not_cause, same_cause}}}
+use Rattle.gateway_serving.proofs.{Few.{AreFew-most, GrowsBy-none, GrowsBy-then}, Turning.{begun_other, ends_begun, ends_heard, ends_control, no_error, no_words_heard, no_words_in_lines}}
 use Rattle.gateway_serving.proofs.server.Server.turn.Goals as goal
 
 pub begin_turn-requires : goal.begin_turn-requires

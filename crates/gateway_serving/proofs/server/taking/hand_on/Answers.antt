@@ -1,8 +1,6 @@
 use Rattle.std.proofs.Common.{refl, sym, ap, subst}
 use Rattle.amt_ports.specs.Devices.{out_seen}
-use Rattle.gateway_serving.specs.Sending.{delivery_to}
-use Rattle.gateway_serving.specs.Taking.{HasHandedOn}
-use Rattle.gateway_serving.proofs.Trying.{HasHandedOn-failed, HasHandedOn-none, HasHandedOn-taken, handed_to}
+use Rattle.gateway_serving.{specs.{Sending.{delivery_to}, Taking.{HasHandedOn}}, proofs.Trying.{HasHandedOn-failed, HasHandedOn-none, HasHandedOn-taken, handed_to}}
 use Rattle.gateway_serving.proofs.server.taking.hand_on.Goals as goal
 
 pub returns-in_default-clause-handed : goal.returns-in_default-clause-handed

@@ -1,11 +1,6 @@
 use Rattle.std.proofs.Common.{map, take, refl, ap, subst, ◌∙◌, arith}
 use Rattle.amt_ports.specs.Devices.{LinkSeen, link_seen}
-use Rattle.gateway_serving.specs.Sending.{to_peer}
-use Rattle.gateway_serving.specs.Taking.{HasSent}
-use Rattle.gateway_serving.specs.declared.counts.Counts.{Counts}
-use Rattle.gateway_serving.proofs.Taking.{Tallies-none}
-use Rattle.gateway_serving.proofs.Trying.{HasSent-failed, HasSent-none, HasSent-taken, Tallies-still, sends_more}
-use Rattle.gateway_serving.proofs.server.taking.send_all.Goals.{in-Ok, in-Err}
+use Rattle.gateway_serving.{specs.{Sending.{to_peer}, Taking.{HasSent}, declared.counts.Counts.{Counts}}, proofs.{Taking.{Tallies-none}, Trying.{HasSent-failed, HasSent-none, HasSent-taken, Tallies-still, sends_more}, server.taking.send_all.Goals.{in-Ok, in-Err}}}
 use Rattle.gateway_serving.proofs.server.taking.send_all.Goals as goal
 
 pub loop-send-init : goal.loop-send-init

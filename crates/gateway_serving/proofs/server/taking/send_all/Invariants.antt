@@ -1,9 +1,7 @@
 -- What was tried so far is the sends so far, and nothing else was counted.
 use Rattle.std.proofs.Common.{◌≡◌, ◌≤◌, ◌+◌, map, take}
 use Rattle.amt_ports.specs.Devices.{link_seen}
-use Rattle.gateway_serving.specs.Sending.{to_peer}
-use Rattle.gateway_serving.specs.Servers.{Tallies}
-use Rattle.gateway_serving.specs.Taking.{HasSent}
+use Rattle.gateway_serving.specs.{Sending.{to_peer}, Servers.{Tallies}, Taking.{HasSent}}
 use Rattle.gateway_serving.proofs.server.taking.send_all.Given as goal
 
 abbrev pub invariant-loop-send : goal.invariant-loop-send

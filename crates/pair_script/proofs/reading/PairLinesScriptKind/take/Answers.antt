@@ -1,13 +1,8 @@
 use Rattle.std.proofs.Common.{List, ◌∷◌, subst}
-use Rattle.amt_script.specs.declared.setting.Setting.{Setting}
-use Rattle.amt_script.proofs.Heard.{allowed_by_line}
-use Rattle.script_lines.specs.Lines.{fields}
-use Rattle.script_lines.specs.Reading.{FailsFirst}
-use Rattle.pair_script.specs.Fault.{FailsAfter, order_of_reasons}
-use Rattle.pair_script.specs.declared.script.PairGateway.{PairGateway}
-use Rattle.pair_script.specs.declared.script.PairItem.{PairItem}
+use Rattle.amt_script.{specs.declared.setting.Setting.{Setting}, proofs.Heard.{allowed_by_line}}
+use Rattle.script_lines.specs.{Lines.{fields}, Reading.{FailsFirst}}
+use Rattle.pair_script.{specs.{Fault.{FailsAfter, order_of_reasons}, declared.script.{PairGateway.{PairGateway}, PairItem.{PairItem}}}, proofs.Heard.{fails_after, heard_gateway, heard_item, heard_setting, says_after}}
 use Rattle.pair_script.specs.declared.statement.PairStatement.TheVariants as statements
-use Rattle.pair_script.proofs.Heard.{fails_after, heard_gateway, heard_item, heard_setting, says_after}
 use Rattle.pair_script.proofs.reading.PairLinesScriptKind.take.Goals as goal
 
 pub returns-in-Ok-clause-heard : goal.returns-in-Ok-clause-heard

@@ -1,8 +1,6 @@
-use Rattle.std.proofs.Common.{◌<◌, ◌^◌, ◌++◌, List, ℕ, ap, ◌∙◌, rules, arith}
-use Rattle.std.specs.List.{sum_by}
+use Rattle.std.{proofs.Common.{◌<◌, ◌^◌, ◌++◌, List, ℕ, ap, ◌∙◌, rules, arith}, specs.List.{sum_by}}
 use Rattle.amt_pair.specs.Schedule.{course_of}
-use Rattle.pair_script.specs.Texts.{downs_in, events_in, ups_in}
-use Rattle.pair_script.proofs.Steps.{downs_after, may_come, one_more, text_is, ups_after}
+use Rattle.pair_script.{specs.Texts.{downs_in, events_in, ups_in}, proofs.Steps.{downs_after, may_come, one_more, text_is, ups_after}}
 use Rattle.pair_script.proofs.replay.PairRun.take.Goals as goal
 
 pub step-requires : goal.step-requires

@@ -1,6 +1,5 @@
 use Rattle.amt_pair.specs.Schedule.{course_of}
-use Rattle.pair_script.specs.Texts.{events_in}
-use Rattle.pair_script.proofs.Steps.{on_any, shown_more}
+use Rattle.pair_script.{specs.Texts.{events_in}, proofs.Steps.{on_any, shown_more}}
 use Rattle.pair_script.proofs.replay.PairRunScriptRun.write_item.Goals as goal
 
 pub returns-in-Event-clause-begun : goal.returns-in-Event-clause-begun

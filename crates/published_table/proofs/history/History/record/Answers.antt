@@ -1,8 +1,6 @@
 use Rattle.std.proofs.Common.{ap, sym, subst, ◌∙◌, length, map}
 use Rattle.logbook.specs.Pages.{Named}
-use Rattle.published_table.specs.Lists.{BeginsWithEach}
-use Rattle.published_table.specs.Logs.{entries}
-use Rattle.published_table.proofs.HistoryGrows.{adds_moves}
+use Rattle.published_table.{specs.{Lists.{BeginsWithEach}, Logs.{entries}}, proofs.HistoryGrows.{adds_moves}}
 use Rattle.published_table.proofs.history.History.record.Goals as goal
 
 pub compare_exchange-found-requires : goal.compare_exchange-found-requires

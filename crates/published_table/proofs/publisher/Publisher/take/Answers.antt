@@ -1,13 +1,6 @@
-use Rattle.std.proofs.Common.{◌≡◌, List, [], ◌∷◌, ◌++◌, ◌<◌, ◌^◌, length, drop, map, refl, sym, ap, subst, ◌∙◌, arith}
-use Rattle.std.proofs.lemmas.List.{append_assoc, length-append}
+use Rattle.std.proofs.{Common.{◌≡◌, List, [], ◌∷◌, ◌++◌, ◌<◌, ◌^◌, length, drop, map, refl, sym, ap, subst, ◌∙◌, arith}, lemmas.List.{append_assoc, length-append}}
 use Rattle.endpoint_membership.specs.declared.change.Change.{Change}
-use Rattle.published_table.specs.Copies.{log_of}
-use Rattle.published_table.specs.Entries.{changes}
-use Rattle.published_table.specs.Lists.{BeginsWithEach}
-use Rattle.published_table.specs.Logs.{entries}
-use Rattle.published_table.specs.Terms.{Fits, FitsThroughout}
-use Rattle.published_table.proofs.Beginnings.{begins_by, each_further}
-use Rattle.published_table.proofs.CopiesFit.{FitsThroughout-next}
+use Rattle.published_table.{specs.{Copies.{log_of}, Entries.{changes}, Lists.{BeginsWithEach}, Logs.{entries}, Terms.{Fits, FitsThroughout}}, proofs.{Beginnings.{begins_by, each_further}, CopiesFit.{FitsThroughout-next}}}
 use Rattle.published_table.proofs.publisher.Publisher.take.Goals as goal
 
 pub invariant_of-self : goal.invariant_of-self

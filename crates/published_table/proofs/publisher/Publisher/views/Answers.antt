@@ -1,11 +1,6 @@
-use Rattle.std.proofs.Common.{[], ◌∷◌, length, sym, ap, subst, ◌∙◌, arith}
-use Rattle.std.specs.List.{All}
-use Rattle.std.proofs.lemmas.List.{length-append}
-use Rattle.std.proofs.lemmas.List.Elements.{All-push}
+use Rattle.std.{proofs.{Common.{[], ◌∷◌, length, sym, ap, subst, ◌∙◌, arith}, lemmas.List.{length-append, Elements.{All-push}}}, specs.List.{All}}
 use Rattle.logbook.specs.Pages.{Book}
-use Rattle.published_table.specs.Publishers.{book_of, reading_terms}
-use Rattle.published_table.specs.Views.{IsNew, views_of}
-use Rattle.published_table.specs.declared.terms.Terms.{Terms}
+use Rattle.published_table.specs.{Publishers.{book_of, reading_terms}, Views.{IsNew, views_of}, declared.terms.Terms.{Terms}}
 use Rattle.published_table.proofs.publisher.Publisher.views.Goals as goal
 
 pub loop-preserved : goal.loop-preserved

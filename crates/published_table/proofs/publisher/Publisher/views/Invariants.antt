@@ -1,7 +1,5 @@
-use Rattle.std.proofs.Common.{◌≡◌, length}
-use Rattle.std.specs.List.{All}
-use Rattle.published_table.specs.Publishers.{IsSamePublisher, ShowsAlike, book_of, reading_terms}
-use Rattle.published_table.specs.Views.{IsNew, views_of}
+use Rattle.std.{proofs.Common.{◌≡◌, length}, specs.List.{All}}
+use Rattle.published_table.specs.{Publishers.{IsSamePublisher, ShowsAlike, book_of, reading_terms}, Views.{IsNew, views_of}}
 use Rattle.published_table.proofs.publisher.Publisher.views.Given as goal
 
 abbrev pub invariant-loop : goal.invariant-loop

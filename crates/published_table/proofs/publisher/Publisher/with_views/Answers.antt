@@ -1,10 +1,6 @@
 use Rattle.std.proofs.Common.{List, drop, fold, sym, ap, ◌∙◌}
 use Rattle.left_right.specs.Sides.{view}
-use Rattle.published_table.specs.Copies.{state_of}
-use Rattle.published_table.specs.Entries.{with_entry}
-use Rattle.published_table.specs.declared.entry.Entry.{Entry}
-use Rattle.published_table.proofs.Cases.{ok_case}
-use Rattle.published_table.proofs.Publishing.{opened, shows_same}
+use Rattle.published_table.{specs.{Copies.{state_of}, Entries.{with_entry}, declared.entry.Entry.{Entry}}, proofs.{Cases.{ok_case}, Publishing.{opened, shows_same}}}
 use Rattle.published_table.proofs.publisher.Publisher.with_views.Goals as goal
 
 pub publish_as-writer-requires : goal.publish_as-writer-requires

@@ -1,9 +1,5 @@
 use Rattle.std.proofs.Common.{List, sym, subst}
-use Rattle.published_table.specs.History.{IsUnder}
-use Rattle.published_table.specs.Logs.{entries}
-use Rattle.published_table.specs.declared.past.Past.{Past}
-use Rattle.published_table.proofs.Beginnings.{IsUnder-last}
-use Rattle.published_table.proofs.Cases.{if_ok_so}
+use Rattle.published_table.{specs.{History.{IsUnder}, Logs.{entries}, declared.past.Past.{Past}}, proofs.{Beginnings.{IsUnder-last}, Cases.{if_ok_so}}}
 use Rattle.published_table.proofs.publisher.publishing.hand_all_over.Goals as goal
 
 pub hand_over-requires-clause-under : goal.hand_over-requires-clause-under

@@ -1,14 +1,6 @@
-use Rattle.std.proofs.Common.{◌≡◌, List, [], ◌∷◌, ◌++◌, drop, fold, sym, ap, subst, ◌∙◌}
-use Rattle.std.proofs.lemmas.List.{append_assoc, map-append}
+use Rattle.std.proofs.{Common.{◌≡◌, List, [], ◌∷◌, ◌++◌, drop, fold, sym, ap, subst, ◌∙◌}, lemmas.List.{append_assoc, map-append}}
 use Rattle.endpoint_membership.specs.declared.change.Change.{Change}
-use Rattle.published_table.specs.Copies.{log_of, state_of}
-use Rattle.published_table.specs.Entries.{IsVouched, changes, with_entry}
-use Rattle.published_table.specs.History.{IsUnder}
-use Rattle.published_table.specs.Logs.{entries}
-use Rattle.published_table.specs.declared.entry.Entry.{Entry}
-use Rattle.published_table.specs.declared.history.Bookmark.{Bookmark}
-use Rattle.published_table.specs.declared.table_copy.TableCopy.{TableCopy}
-use Rattle.published_table.proofs.Vouching.{IsVouched-next}
+use Rattle.published_table.{specs.{Copies.{log_of, state_of}, Entries.{IsVouched, changes, with_entry}, History.{IsUnder}, Logs.{entries}, declared.{entry.Entry.{Entry}, history.Bookmark.{Bookmark}, table_copy.TableCopy.{TableCopy}}}, proofs.Vouching.{IsVouched-next}}
 use Rattle.published_table.proofs.publisher.publishing.hand_over.Goals as goal
 
 pub loop-change-preserved : goal.loop-change-preserved

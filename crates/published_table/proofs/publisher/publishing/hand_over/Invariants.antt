@@ -1,6 +1,5 @@
 use Rattle.std.proofs.Common.{◌≡◌, ◌++◌, drop, fold}
-use Rattle.published_table.specs.Copies.{state_of}
-use Rattle.published_table.specs.Entries.{IsVouched, changes, with_entry}
+use Rattle.published_table.specs.{Copies.{state_of}, Entries.{IsVouched, changes, with_entry}}
 use Rattle.published_table.proofs.publisher.publishing.hand_over.Given as goal
 
 abbrev pub invariant-loop-change : goal.invariant-loop-change

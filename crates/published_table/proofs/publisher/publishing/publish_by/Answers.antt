@@ -1,9 +1,7 @@
 use Rattle.std.proofs.Common.{◌≡◌, List, drop, subst}
 use Rattle.left_right.specs.Sides.{view}
 use Rattle.endpoint_membership.specs.declared.change.Change.{Change}
-use Rattle.published_table.proofs.Cases.{err_case}
-use Rattle.published_table.proofs.Publishing.{IsPublisher, after_handing, may_publish, nothing_shown, published_or_not}
-use Rattle.published_table.proofs.publisher.publishing.publish_by.Goals.{in-Ok, in-Err}
+use Rattle.published_table.proofs.{Cases.{err_case}, Publishing.{IsPublisher, after_handing, may_publish, nothing_shown, published_or_not}, publisher.publishing.publish_by.Goals.{in-Ok, in-Err}}
 use Rattle.published_table.proofs.publisher.publishing.publish_by.Goals as goal
 
 pub publish_as-requires : goal.publish_as-requires

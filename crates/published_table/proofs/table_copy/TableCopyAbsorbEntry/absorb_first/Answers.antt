@@ -1,10 +1,6 @@
-use Rattle.std.proofs.Common.{List, [], ◌∷◌, length, sym, ap, subst, ◌∙◌, arith}
-use Rattle.std.proofs.Math.Logic.{∥∥₁_map}
-use Rattle.std.proofs.lemmas.List.{length-append}
-use Rattle.endpoint_membership.specs.Table.{Holds}
-use Rattle.endpoint_membership.specs.declared.change.Change.{Change}
-use Rattle.published_table.specs.Logs.{entries}
-use Rattle.published_table.specs.Terms.{settings_by}
+use Rattle.std.proofs.{Common.{List, [], ◌∷◌, length, sym, ap, subst, ◌∙◌, arith}, Math.Logic.{∥∥₁_map}, lemmas.List.{length-append}}
+use Rattle.endpoint_membership.specs.{Table.{Holds}, declared.change.Change.{Change}}
+use Rattle.published_table.specs.{Logs.{entries}, Terms.{settings_by}}
 use Rattle.published_table.proofs.table_copy.TableCopyAbsorbEntry.absorb_first.Goals as goal
 
 pub invariant_of-self-2 : goal.invariant_of-self-2

@@ -1,9 +1,6 @@
 use Rattle.std.proofs.Common.{[], ◌∷◌, ap, sym, subst, ◌∙◌, arith}
 use Rattle.logbook.specs.Pages.{Book}
-use Rattle.published_table.specs.History.{AreUnder}
-use Rattle.published_table.specs.Logs.{entries}
-use Rattle.published_table.specs.Told.{logs_told}
-use Rattle.published_table.proofs.Beginnings.{AreUnder-also, AreUnder-later, IsUnder-later}
+use Rattle.published_table.{specs.{History.{AreUnder}, Logs.{entries}, Told.{logs_told}}, proofs.Beginnings.{AreUnder-also, AreUnder-later, IsUnder-later}}
 use Rattle.published_table.proofs.view.Reader.learn.Goals as goal
 
 pub invariant_of-self : goal.invariant_of-self

@@ -1,11 +1,5 @@
-use Rattle.std.proofs.Common.{sym, subst}
-use Rattle.std.specs.Prelude.{Option}
-use Rattle.std.proofs.Math.Logic.{∥∥₁_elim}
-use Rattle.std.proofs.Props.{props}
-use Rattle.published_table.specs.Logs.{entries}
-use Rattle.published_table.specs.Terms.{settings_by}
-use Rattle.published_table.specs.Views.{Fills}
-use Rattle.published_table.specs.declared.view.reading.Wanted.{Wanted}
+use Rattle.std.{proofs.{Common.{sym, subst}, Math.Logic.{∥∥₁_elim}, Props.{props}}, specs.Prelude.{Option}}
+use Rattle.published_table.specs.{Logs.{entries}, Terms.{settings_by}, Views.{Fills}, declared.view.reading.Wanted.{Wanted}}
 use Rattle.published_table.proofs.view.reading.fill.Goals as goal
 
 pub returns-in-Some : goal.returns-in-Some

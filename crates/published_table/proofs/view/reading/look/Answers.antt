@@ -2,21 +2,9 @@ use Rattle.std.proofs.Common.{◌≡◌, ℕ, ◌≤◌, ◌<◌, ◌^◌, List,
 use Rattle.left_right.specs.Sides.{view}
 use Rattle.logbook.specs.Pages.{Book}
 use Rattle.amt_ports.specs.Causes.{Rose}
-use Rattle.endpoint_membership.specs.Limits.{live_count}
-use Rattle.endpoint_membership.specs.declared.change.Change.{Change}
-use Rattle.published_table.specs.Copies.{log_of, origin_of}
-use Rattle.published_table.specs.Lists.{AreAll, BeginsWith, BeginsWithEach}
-use Rattle.published_table.specs.Logs.{entries}
-use Rattle.published_table.specs.Terms.{FitsThroughout}
-use Rattle.published_table.specs.Told.{logs_told}
-use Rattle.published_table.specs.declared.past.Past.{Past}
-use Rattle.published_table.specs.declared.table_copy.TableCopy.{TableCopy}
-use Rattle.published_table.specs.declared.terms.Terms.{Terms}
-use Rattle.published_table.proofs.Beginnings.{begins_further}
-use Rattle.published_table.proofs.Cases.{OnSome-less, none_case, some_case}
-use Rattle.published_table.proofs.CopiesFit.{endpoints_fit}
-use Rattle.published_table.proofs.RuleKept.{looks}
-use Rattle.published_table.proofs.view.reading.look.Goals.{in-Ok, in-Err}
+use Rattle.endpoint_membership.specs.{Limits.{live_count}, declared.change.Change.{Change}}
+use Rattle.published_table.specs.{Copies.{log_of, origin_of}, Lists.{AreAll, BeginsWith, BeginsWithEach}, Logs.{entries}, Terms.{FitsThroughout}, Told.{logs_told}, declared.{past.Past.{Past}, table_copy.TableCopy.{TableCopy}}}
+use Rattle.published_table.{specs.declared.terms.Terms.{Terms}, proofs.{Beginnings.{begins_further}, Cases.{OnSome-less, none_case, some_case}, CopiesFit.{endpoints_fit}, RuleKept.{looks}, view.reading.look.Goals.{in-Ok, in-Err}}}
 use Rattle.published_table.proofs.view.reading.look.Goals as goal
 
 pub enter-requires : goal.enter-requires

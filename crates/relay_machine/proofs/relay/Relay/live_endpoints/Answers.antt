@@ -1,5 +1,4 @@
-use Rattle.relay_machine.specs.Accepted.{accepted_log}
-use Rattle.relay_machine.specs.Settings.{table_settings_of}
+use Rattle.relay_machine.specs.{Accepted.{accepted_log}, Settings.{table_settings_of}}
 use Rattle.relay_machine.proofs.relay.Relay.live_endpoints.Goals as goal
 
 pub returns : goal.returns

@@ -1,8 +1,6 @@
 use Rattle.std.proofs.Common.{ℕ, [], subst}
 use Rattle.endpoint_membership.specs.Table.{Holds}
-use Rattle.relay_machine.proofs.Limits.{always_within}
-use Rattle.relay_machine.proofs.Numbers.{AreLawful-settings}
-use Rattle.relay_machine.proofs.Onward.{RelayAt-new}
+use Rattle.relay_machine.proofs.{Limits.{always_within}, Numbers.{AreLawful-settings}, Onward.{RelayAt-new}}
 use Rattle.relay_machine.proofs.relay.Relay.new.Goals as goal
 
 pub returns-clause-stands : goal.returns-clause-stands

@@ -1,10 +1,6 @@
-use Rattle.std.proofs.Common.{ℕ, ap, ◌∙◌}
-use Rattle.std.proofs.lemmas.Result.{IfOk-weaker}
+use Rattle.std.proofs.{Common.{ℕ, ap, ◌∙◌}, lemmas.Result.{IfOk-weaker}}
 use Rattle.endpoint_membership.specs.Memberships.{rows_of}
-use Rattle.relay_machine.specs.Accepted.{accepted_log}
-use Rattle.relay_machine.specs.Answers.{settings_of}
-use Rattle.relay_machine.specs.Settings.{membership_interval_ms, table_settings_of}
-use Rattle.relay_machine.proofs.Onward.{AreFew-settings, latest-accepted}
+use Rattle.relay_machine.{specs.{Accepted.{accepted_log}, Answers.{settings_of}, Settings.{membership_interval_ms, table_settings_of}}, proofs.Onward.{AreFew-settings, latest-accepted}}
 use Rattle.relay_machine.proofs.relay.Relay.rows.Goals as goal
 
 pub returns-clause-stands : goal.returns-clause-stands

@@ -1,18 +1,8 @@
-use Rattle.std.proofs.Common.{◌≡◌, ◌≤◌, ℕ, max, ◌++◌, ◌∷◌, [], Option, refl, sym, subst, ap, ◌∙◌}
-use Rattle.std.proofs.Math.Logic.{∥∥₁_map}
-use Rattle.std.proofs.lemmas.Result.{IfOk-weaker}
+use Rattle.std.proofs.{Common.{◌≡◌, ◌≤◌, ℕ, max, ◌++◌, ◌∷◌, [], Option, refl, sym, subst, ap, ◌∙◌}, Math.Logic.{∥∥₁_map}, lemmas.Result.{IfOk-weaker}}
 use Rattle.amt_values.specs.Octets.{AreOctets}
-use Rattle.endpoint_membership.specs.Table.{Holds}
-use Rattle.endpoint_membership.specs.Targets.{TargetsValue}
-use Rattle.endpoint_membership.specs.declared.change.Change.{Change}
-use Rattle.relay_machine.specs.declared.event.Event.TheVariants.{Datagram, Packet}
-use Rattle.relay_machine.specs.Accepted.{accepted_log, with_change}
-use Rattle.relay_machine.specs.Answers.{settings_of}
-use Rattle.relay_machine.specs.Packets.{IsToCopy}
-use Rattle.relay_machine.specs.Settings.{table_settings_of}
-use Rattle.relay_machine.proofs.Acceptance.{torn-answered, torn_only-answered, updated-answered, updated_only-answered}
-use Rattle.relay_machine.proofs.Copies.{AreCopies-answered}
-use Rattle.relay_machine.proofs.Onward.{HasLog-answered, IsWithin-events, RelayAt-moment, RelayAt-payload, RelayAt-rotate, StandsFor-accepted, answered-after, same_relay}
+use Rattle.endpoint_membership.specs.{Table.{Holds}, Targets.{TargetsValue}, declared.change.Change.{Change}}
+use Rattle.relay_machine.specs.{declared.event.Event.TheVariants.{Datagram, Packet}, Accepted.{accepted_log, with_change}, Answers.{settings_of}, Packets.{IsToCopy}, Settings.{table_settings_of}}
+use Rattle.relay_machine.proofs.{Acceptance.{torn-answered, torn_only-answered, updated-answered, updated_only-answered}, Copies.{AreCopies-answered}, Onward.{HasLog-answered, IsWithin-events, RelayAt-moment, RelayAt-payload, RelayAt-rotate, StandsFor-accepted, answered-after, same_relay}}
 use Rattle.relay_machine.proofs.relay.Relay.step.Goals as goal
 
 pub invariant_of-self : goal.invariant_of-self

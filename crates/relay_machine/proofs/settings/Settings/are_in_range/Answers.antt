@@ -1,9 +1,5 @@
-use Rattle.std.proofs.Common.{◌≡◌, ◌<◌, ℕ, length, refl, subst, take, arith}
-use Rattle.std.specs.List.{All}
-use Rattle.relay_machine.specs.declared.number_key.NumberKey.{NumberKey}
-use Rattle.relay_machine.specs.declared.number_key.TheConstants.{NUMBER_KEYS}
-use Rattle.relay_machine.specs.Settings.{IsInKeyRange, number_at}
-use Rattle.relay_machine.proofs.Numbers.{All-keys, All-more}
+use Rattle.std.{proofs.Common.{◌≡◌, ◌<◌, ℕ, length, refl, subst, take, arith}, specs.List.{All}}
+use Rattle.relay_machine.{specs.{declared.number_key.{NumberKey.{NumberKey}, TheConstants.{NUMBER_KEYS}}, Settings.{IsInKeyRange, number_at}}, proofs.Numbers.{All-keys, All-more}}
 use Rattle.relay_machine.proofs.settings.Settings.are_in_range.Goals as goal
 
 pub returns : goal.returns

@@ -1,5 +1,4 @@
-use Rattle.std.proofs.Common.{take}
-use Rattle.std.specs.List.{All}
+use Rattle.std.{proofs.Common.{take}, specs.List.{All}}
 use Rattle.relay_machine.specs.Settings.{IsInKeyRange, number_at}
 use Rattle.relay_machine.proofs.settings.Settings.are_in_range.Given as goal
 

@@ -1,10 +1,8 @@
-use Rattle.std.proofs.Common.{◌≡◌, ℕ, List, length, ap, ◌∙◌, arith}
-use Rattle.std.proofs.lemmas.Result.{IfOk-weaker}
+use Rattle.std.proofs.{Common.{◌≡◌, ℕ, List, length, ap, ◌∙◌, arith}, lemmas.Result.{IfOk-weaker}}
 use Rattle.inner_datagrams.specs.Written.{written_inner4}
 use Rattle.igmp_records.specs.Query.{written_query4}
 use Rattle.source_filter.specs.declared.query.QueryFields.{QueryFields}
-use Rattle.relay_machine.specs.Queries.{all_systems, general_query}
-use Rattle.relay_machine.proofs.QuerySizes.{length-written_query4}
+use Rattle.relay_machine.{specs.Queries.{all_systems, general_query}, proofs.QuerySizes.{length-written_query4}}
 use Rattle.relay_machine.proofs.setup.Setup.igmp_query.Goals as goal
 
 pub write_inner4-requires : goal.write_inner4-requires

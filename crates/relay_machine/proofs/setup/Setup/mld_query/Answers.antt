@@ -1,5 +1,4 @@
-use Rattle.std.proofs.Common.{◌≡◌, ℕ, List, length, ap, ◌∙◌, arith}
-use Rattle.std.proofs.lemmas.Result.{IfOk-weaker}
+use Rattle.std.proofs.{Common.{◌≡◌, ℕ, List, length, ap, ◌∙◌, arith}, lemmas.Result.{IfOk-weaker}}
 use Rattle.inner_datagrams.specs.Written.{written_inner6}
 use Rattle.mld_records.specs.Query.{written_query6}
 use Rattle.source_filter.specs.declared.query.QueryFields.{QueryFields}

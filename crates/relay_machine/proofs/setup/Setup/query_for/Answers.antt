@@ -1,7 +1,6 @@
 use Rattle.std.proofs.Common.{false, true, ◌∙◌, arith}
-use Rattle.relay_machine.proofs.QuerySizes.{query_may_carry}
+use Rattle.relay_machine.proofs.{QuerySizes.{query_may_carry}, setup.Setup.query_for.Goals.{in-false+in_ok-inner-in-false, in-true+in_ok-inner-in-true}}
 use Rattle.relay_machine.proofs.setup.Setup.query_for.Goals as goal
-use Rattle.relay_machine.proofs.setup.Setup.query_for.Goals.{in-false+in_ok-inner-in-false, in-true+in_ok-inner-in-true}
 
 pub returns-clause-sendable : goal.returns-clause-sendable
 returns-clause-sendable c = elim c.if-v6.branch [

@@ -1,11 +1,7 @@
-use Rattle.std.proofs.Common.{[], arith, ap, sym, ◌∙◌, refl, subst}
-use Rattle.std.specs.Prelude.{Some}
+use Rattle.std.{proofs.Common.{[], arith, ap, sym, ◌∙◌, refl, subst}, specs.Prelude.{Some}}
 use Rattle.amt_ports.proofs.Told.{AppendsAll-none}
 use Rattle.relay_machine.specs.declared.event.Event.TheVariants.{Rotate}
-use Rattle.relay_serving.specs.Servers.{HasEvents, counts_in}
-use Rattle.relay_serving.specs.Turns.{is_due, renewed_after, words_due}
-use Rattle.relay_serving.proofs.Beginning.{begins, rotation-few, rotation-four}
-use Rattle.relay_serving.proofs.Events.{HasEvents-none, HasRefused-same, IsAsBefore-same, tally_took}
+use Rattle.relay_serving.{specs.{Servers.{HasEvents, counts_in}, Turns.{is_due, renewed_after, words_due}}, proofs.{Beginning.{begins, rotation-few, rotation-four}, Events.{HasEvents-none, HasRefused-same, IsAsBefore-same, tally_took}}}
 use Rattle.relay_serving.proofs.server.Server.begin_turn.Goals as goal
 
 pub returns-in-Err-clause-begins : goal.returns-in-Err-clause-begins

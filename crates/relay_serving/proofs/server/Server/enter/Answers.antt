@@ -1,21 +1,10 @@
-use Rattle.std.proofs.Common.{◌++◌, ◌∷◌, [], length, refl, sym, ap, subst, ◌∙◌, arith}
-use Rattle.std.specs.Prelude.{Some, None}
-use Rattle.std.proofs.lemmas.List.{append_assoc}
+use Rattle.std.{proofs.{Common.{◌++◌, ◌∷◌, [], length, refl, sym, ap, subst, ◌∙◌, arith}, lemmas.List.{append_assoc}}, specs.Prelude.{Some, None}}
 use Rattle.logbook.specs.Pages.{Book}
 use Rattle.replication_workers.specs.Dispatchers.{slots_of}
 use Rattle.published_table.specs.Publishers.{owing, published, reading_terms}
-use Rattle.relay_machine.specs.Answers.{settings_of}
-use Rattle.relay_machine.specs.Settings.{AreLawfulSettings}
-use Rattle.relay_machine.specs.declared.settings.Settings.{Settings}
-use Rattle.relay_serving.specs.Counting.{with_outcome}
-use Rattle.relay_serving.specs.Courses.{events_so_far, happenings_so_far}
-use Rattle.relay_serving.specs.GivenOut.{AreOfPublisher, terms_by}
-use Rattle.relay_serving.specs.Servers.{counts_in}
-use Rattle.relay_serving.proofs.Counting.{IsCounted-then, torn-few, updated-few}
-use Rattle.relay_serving.specs.Happenings.{Took}
-use Rattle.relay_serving.proofs.Entering.{at-next, entry-fits, given_out-other, log-next, none_due, published_log-few, shown-next}
-use Rattle.relay_serving.proofs.Happenings.{events-next}
-use Rattle.relay_serving.proofs.server.Server.enter.Goals.{in-Some, in-None}
+use Rattle.relay_machine.specs.{Answers.{settings_of}, Settings.{AreLawfulSettings}, declared.settings.Settings.{Settings}}
+use Rattle.relay_serving.specs.{Counting.{with_outcome}, Courses.{events_so_far, happenings_so_far}, GivenOut.{AreOfPublisher, terms_by}, Servers.{counts_in}, Happenings.{Took}}
+use Rattle.relay_serving.proofs.{Counting.{IsCounted-then, torn-few, updated-few}, Entering.{at-next, entry-fits, given_out-other, log-next, none_due, published_log-few, shown-next}, Happenings.{events-next}, server.Server.enter.Goals.{in-Some, in-None}}
 use Rattle.relay_serving.proofs.server.Server.enter.Goals as goal
 
 pub count-requires-clause-outcomes : goal.count-requires-clause-outcomes

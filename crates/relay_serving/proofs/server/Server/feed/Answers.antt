@@ -1,11 +1,6 @@
-use Rattle.std.proofs.Common.{refl, ◌∙◌, arith}
-use Rattle.std.proofs.lemmas.Result.{err_from_is_err_and}
-use Rattle.amt_ports.specs.declared.end.End.TheVariants.{FeedFault, LinkFault}
-use Rattle.amt_ports.proofs.EndCauses.{not_cause, other_end, same_cause}
-use Rattle.amt_ports.proofs.Waits.{no_waits, waits_then}
-use Rattle.amt_ports.proofs.SoFar.{all_asked, none_asked, one_more, then_ends, then_nothing}
-use Rattle.relay_serving.proofs.Events.{IsAsBefore-same}
-use Rattle.relay_serving.proofs.Hearing.{Feeds-none, feeds_on}
+use Rattle.std.proofs.{Common.{refl, ◌∙◌, arith}, lemmas.Result.{err_from_is_err_and}}
+use Rattle.amt_ports.{specs.declared.end.End.TheVariants.{FeedFault, LinkFault}, proofs.{EndCauses.{not_cause, other_end, same_cause}, Waits.{no_waits, waits_then}, SoFar.{all_asked, none_asked, one_more, then_ends, then_nothing}}}
+use Rattle.relay_serving.proofs.{Events.{IsAsBefore-same}, Hearing.{Feeds-none, feeds_on}}
 use Rattle.relay_serving.proofs.server.Server.feed.Goals as goal
 
 pub loop-init : goal.loop-init

@@ -1,9 +1,7 @@
 -- Each asking so far found a packet.
 use Rattle.std.proofs.Common.{◌≡◌, ◌≤◌, ◌+◌, length}
-use Rattle.amt_ports.specs.Devices.{WaitsBriefly, feed_seen}
-use Rattle.amt_ports.proofs.SoFar.{SoFar}
-use Rattle.relay_serving.specs.Servers.{FeedsBy, counts_in, tally_in}
-use Rattle.relay_serving.specs.Turns.{from_feed}
+use Rattle.amt_ports.{specs.Devices.{WaitsBriefly, feed_seen}, proofs.SoFar.{SoFar}}
+use Rattle.relay_serving.specs.{Servers.{FeedsBy, counts_in, tally_in}, Turns.{from_feed}}
 use Rattle.relay_serving.proofs.server.Server.feed.Given as goal
 
 abbrev pub invariant-loop : goal.invariant-loop

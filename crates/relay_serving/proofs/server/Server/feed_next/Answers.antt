@@ -1,17 +1,7 @@
-use Rattle.std.proofs.Common.{[], ◌∷◌, take, refl, ap, subst, arith}
-use Rattle.std.proofs.lemmas.List.{length-take}
-use Rattle.amt_ports.specs.Arrivals.{IsShortFeedGot, feed_answer}
-use Rattle.amt_ports.specs.Told.{Answers}
-use Rattle.amt_ports.specs.declared.feed.FeedAnswer.TheVariants.{Packet as PacketFed, Nothing as NothingFed, Closed as FeedClosed}
-use Rattle.amt_ports.specs.declared.feed.FeedGot.{FeedGot}
+use Rattle.std.proofs.{Common.{[], ◌∷◌, take, refl, ap, subst, arith}, lemmas.List.{length-take}}
+use Rattle.amt_ports.{specs.{Arrivals.{IsShortFeedGot, feed_answer}, Told.{Answers}, declared.feed.{FeedAnswer.TheVariants.{Packet as PacketFed, Nothing as NothingFed, Closed as FeedClosed}, FeedGot.{FeedGot}}, Answers.{refused, taken}, Devices.{feed_seen}}, proofs.EndCauses.{not_cause}}
 use Rattle.relay_machine.specs.declared.event.Event.TheVariants.{Packet}
-use Rattle.amt_ports.specs.Answers.{refused, taken}
-use Rattle.amt_ports.specs.Devices.{feed_seen}
-use Rattle.amt_ports.proofs.EndCauses.{not_cause}
-use Rattle.relay_serving.specs.Servers.{counts_in}
-use Rattle.relay_serving.specs.declared.counts.Counts.{Counts}
-use Rattle.relay_serving.proofs.Events.{HasRefused-none, IsAsBefore-same, IsStarved-then, tally_same, tally_starved, tally_took}
-use Rattle.relay_serving.proofs.Hearing.{Feeds-none, Feeds-packet, Feeds-quiet, Feeds-starved}
+use Rattle.relay_serving.{specs.{Servers.{counts_in}, declared.counts.Counts.{Counts}}, proofs.{Events.{HasRefused-none, IsAsBefore-same, IsStarved-then, tally_same, tally_starved, tally_took}, Hearing.{Feeds-none, Feeds-packet, Feeds-quiet, Feeds-starved}}}
 use Rattle.relay_serving.proofs.server.Server.feed_next.Goals as goal
 
 pub returns-in-Ok-clause-feeds : goal.returns-in-Ok-clause-feeds

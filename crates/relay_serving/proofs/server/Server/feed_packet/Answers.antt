@@ -1,18 +1,8 @@
 use Rattle.std.proofs.Common.{ℕ, [], ◌∷◌, ◌++◌, List, refl, sym, ap, subst, ◌∙◌}
 use Rattle.published_table.specs.Publishers.{book_of, published}
-use Rattle.relay_machine.specs.Answers.{RelayAt, outcome_of, settings_of}
-use Rattle.relay_machine.specs.Published.{published_log}
-use Rattle.relay_machine.specs.declared.event.Event.{Event}
-use Rattle.relay_machine.specs.declared.event.Event.TheVariants.{Packet}
+use Rattle.relay_machine.specs.{Answers.{RelayAt, outcome_of, settings_of}, Published.{published_log}, declared.event.Event.{Event, TheVariants.{Packet}}}
 use Rattle.replication_workers.specs.Dispatchers.{slots_of}
-use Rattle.relay_serving.specs.Courses.{events_so_far, happenings_so_far}
-use Rattle.relay_serving.specs.GivenOut.{starts_in}
-use Rattle.relay_serving.specs.Happenings.{Took}
-use Rattle.relay_serving.proofs.Counting.{IsCounted-then}
-use Rattle.relay_serving.proofs.Entering.{shown-next}
-use Rattle.relay_serving.proofs.Happenings.{events-next}
-use Rattle.relay_serving.proofs.GivenOut.{few-given, given_out-packet, of_publisher-put, starts_in-put}
-use Rattle.relay_serving.proofs.Packets.{RelayAt-packet, counted-packet, outcome-plain, published_log-packet}
+use Rattle.relay_serving.{specs.{Courses.{events_so_far, happenings_so_far}, GivenOut.{starts_in}, Happenings.{Took}}, proofs.{Counting.{IsCounted-then}, Entering.{shown-next}, Happenings.{events-next}, GivenOut.{few-given, given_out-packet, of_publisher-put, starts_in-put}, Packets.{RelayAt-packet, counted-packet, outcome-plain, published_log-packet}}}
 use Rattle.relay_serving.proofs.server.Server.feed_packet.Goals as goal
 
 pub send-requires-clause-few : goal.send-requires-clause-few

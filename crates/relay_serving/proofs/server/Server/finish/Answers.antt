@@ -1,15 +1,7 @@
-use Rattle.std.proofs.Common.{◌≡◌, ◌∙◌, count_by, length, reverse, refl, sym, ap, subst, arith}
-use Rattle.std.specs.List.{All}
-use Rattle.std.proofs.lemmas.List.{length-reverse, reverse-reverse}
-use Rattle.published_table.specs.Publishers.{book_of, published}
-use Rattle.published_table.specs.Views.{publisher_of, views_of}
-use Rattle.replication_workers.specs.Dispatchers.{is_threaded, slots_of}
-use Rattle.replication_workers.specs.SlotStates.{jobs_in_all}
-use Rattle.relay_serving.specs.Ending.{AreAsked}
-use Rattle.relay_serving.specs.Views.{is_apart}
-use Rattle.relay_serving.proofs.Ending.{inline_by}
-use Rattle.relay_serving.proofs.SlotsServed.{left_few, left_number, left_publisher}
-use Rattle.relay_serving.proofs.Starting.{All-reverse}
+use Rattle.std.{proofs.{Common.{◌≡◌, ◌∙◌, count_by, length, reverse, refl, sym, ap, subst, arith}, lemmas.List.{length-reverse, reverse-reverse}}, specs.List.{All}}
+use Rattle.published_table.specs.{Publishers.{book_of, published}, Views.{publisher_of, views_of}}
+use Rattle.replication_workers.specs.{Dispatchers.{is_threaded, slots_of}, SlotStates.{jobs_in_all}}
+use Rattle.relay_serving.{specs.{Ending.{AreAsked}, Views.{is_apart}}, proofs.{Ending.{inline_by}, SlotsServed.{left_few, left_number, left_publisher}, Starting.{All-reverse}}}
 use Rattle.relay_serving.proofs.server.Server.finish.Goals as goal
 
 pub turn_round-requires : goal.turn_round-requires

@@ -1,10 +1,6 @@
 use Rattle.std.proofs.Common.{◌∙◌, ap}
-use Rattle.relay_machine.specs.Answers.{outcome_of}
-use Rattle.relay_machine.specs.declared.event.Event.TheVariants.{Datagram}
-use Rattle.relay_serving.specs.Servers.{counts_in, events_in, first_in, settings_in}
-use Rattle.relay_serving.specs.declared.counts.Counts.{Counts}
-use Rattle.relay_serving.proofs.Counting.{IsCounted-answered, answers-few, datagram-room}
-use Rattle.relay_serving.proofs.Events.{HasRefused-none}
+use Rattle.relay_machine.specs.{Answers.{outcome_of}, declared.event.Event.TheVariants.{Datagram}}
+use Rattle.relay_serving.{specs.{Servers.{counts_in, events_in, first_in, settings_in}, declared.counts.Counts.{Counts}}, proofs.{Counting.{IsCounted-answered, answers-few, datagram-room}, Events.{HasRefused-none}}}
 use Rattle.relay_serving.proofs.server.Server.hear_datagram.Goals as goal
 
 pub send_answers-requires-clause-few : goal.send_answers-requires-clause-few

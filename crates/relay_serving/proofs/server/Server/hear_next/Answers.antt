@@ -1,15 +1,7 @@
-use Rattle.std.proofs.Common.{[], ◌∷◌, take, refl, ap, subst, ◌∙◌, arith}
-use Rattle.std.proofs.lemmas.List.{length-take}
-use Rattle.amt_ports.specs.Arrivals.{IsShortGot, link_answer}
-use Rattle.amt_ports.specs.Told.{Answers}
-use Rattle.amt_ports.specs.declared.link.Got.{Got}
-use Rattle.amt_ports.specs.declared.link.LinkAnswer.TheVariants.{Datagram as DatagramCame, Nothing as NothingCame, Closed as LinkClosed}
+use Rattle.std.proofs.{Common.{[], ◌∷◌, take, refl, ap, subst, ◌∙◌, arith}, lemmas.List.{length-take}}
+use Rattle.amt_ports.{specs.{Arrivals.{IsShortGot, link_answer}, Told.{Answers}, declared.link.{Got.{Got}, LinkAnswer.TheVariants.{Datagram as DatagramCame, Nothing as NothingCame, Closed as LinkClosed}}, Answers.{refused, taken}, Devices.{link_seen}}, proofs.EndCauses.{not_cause}}
 use Rattle.relay_machine.specs.declared.event.Event.TheVariants.{Datagram}
-use Rattle.amt_ports.specs.Answers.{refused, taken}
-use Rattle.amt_ports.specs.Devices.{link_seen}
-use Rattle.amt_ports.proofs.EndCauses.{not_cause}
-use Rattle.relay_serving.proofs.Events.{IsAsBefore-same, IsStarved-then, tally_same, tally_starved, tally_took}
-use Rattle.relay_serving.proofs.Hearing.{Hears-datagram, Hears-none, Hears-quiet, Hears-starved}
+use Rattle.relay_serving.proofs.{Events.{IsAsBefore-same, IsStarved-then, tally_same, tally_starved, tally_took}, Hearing.{Hears-datagram, Hears-none, Hears-quiet, Hears-starved}}
 use Rattle.relay_serving.proofs.server.Server.hear_next.Goals as goal
 
 pub returns-in-Ok-clause-hears : goal.returns-in-Ok-clause-hears

@@ -1,8 +1,6 @@
 use Rattle.std.proofs.Common.{true, ap, arith}
 use Rattle.relay_machine.specs.declared.event.Event.TheVariants.{Moment}
-use Rattle.relay_serving.specs.Servers.{counts_in}
-use Rattle.relay_serving.specs.declared.counts.Counts.{Counts}
-use Rattle.relay_serving.proofs.Events.{HasEvents-starved, HasRefused-none, HasRefused-starved, IsStarved-then, SendsAlike-starved, tally_took}
+use Rattle.relay_serving.{specs.{Servers.{counts_in}, declared.counts.Counts.{Counts}}, proofs.Events.{HasEvents-starved, HasRefused-none, HasRefused-starved, IsStarved-then, SendsAlike-starved, tally_took}}
 use Rattle.relay_serving.proofs.server.Server.pass_moment.Goals as goal
 
 pub returns-in-Ok-clause-few : goal.returns-in-Ok-clause-few

@@ -2,22 +2,9 @@ use Rattle.std.proofs.Common.{◌∙◌, ◌++◌, List, length, refl, sym, ap, 
 use Rattle.endpoint_membership.specs.declared.change.Change.{Change}
 use Rattle.logbook.specs.Pages.{Book}
 use Rattle.published_table.specs.Publishers.{published}
-use Rattle.relay_machine.specs.Answers.{RelayAt, settings_of}
-use Rattle.relay_machine.specs.Published.{published_log}
-use Rattle.relay_machine.specs.declared.event.Event.{Event}
+use Rattle.relay_machine.specs.{Answers.{RelayAt, settings_of}, Published.{published_log}, declared.event.Event.{Event}}
 use Rattle.replication_workers.specs.Dispatchers.{slots_of}
-use Rattle.relay_serving.specs.Counting.{IsCounted}
-use Rattle.relay_serving.specs.Courses.{events_so_far, happenings_so_far}
-use Rattle.relay_serving.specs.GivenOut.{AreOfPublisher}
-use Rattle.relay_serving.specs.Happenings.{Published}
-use Rattle.relay_serving.specs.Servers.{happenings_in}
-use Rattle.relay_serving.specs.Turns.{Done, Refused}
-use Rattle.relay_serving.specs.declared.counts.Counts.{Counts}
-use Rattle.relay_serving.proofs.Answering.{no_more}
-use Rattle.relay_serving.proofs.Counting.{IsCounted-late}
-use Rattle.relay_serving.proofs.Entering.{given_out-other}
-use Rattle.relay_serving.proofs.Events.{HasRefused-same}
-use Rattle.relay_serving.proofs.Happenings.{events-shown, published-shown}
+use Rattle.relay_serving.{specs.{Counting.{IsCounted}, Courses.{events_so_far, happenings_so_far}, GivenOut.{AreOfPublisher}, Happenings.{Published}, Servers.{happenings_in}, Turns.{Done, Refused}, declared.counts.Counts.{Counts}}, proofs.{Answering.{no_more}, Counting.{IsCounted-late}, Entering.{given_out-other}, Events.{HasRefused-same}, Happenings.{events-shown, published-shown}}}
 use Rattle.relay_serving.proofs.server.Server.publish.Goals as goal
 
 pub invariant_of-self : goal.invariant_of-self

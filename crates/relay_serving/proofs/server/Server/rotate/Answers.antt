@@ -1,18 +1,8 @@
-use Rattle.std.proofs.Common.{◌++◌, refl, sym, ap, subst, ◌∙◌}
-use Rattle.std.specs.Prelude.{None}
+use Rattle.std.{proofs.Common.{◌++◌, refl, sym, ap, subst, ◌∙◌}, specs.Prelude.{None}}
 use Rattle.published_table.specs.Publishers.{owing, published}
-use Rattle.relay_machine.specs.Answers.{settings_of}
-use Rattle.relay_machine.specs.Settings.{AreLawfulSettings}
-use Rattle.relay_machine.specs.declared.event.Event.TheVariants.{Rotate}
-use Rattle.relay_machine.specs.declared.outcome.Outcome.TheVariants.{Rotated}
-use Rattle.relay_machine.specs.declared.settings.Settings.{Settings}
+use Rattle.relay_machine.specs.{Answers.{settings_of}, Settings.{AreLawfulSettings}, declared.{event.Event.TheVariants.{Rotate}, outcome.Outcome.TheVariants.{Rotated}, settings.Settings.{Settings}}}
 use Rattle.replication_workers.specs.Dispatchers.{slots_of}
-use Rattle.relay_serving.specs.Courses.{events_so_far, happenings_so_far}
-use Rattle.relay_serving.specs.GivenOut.{terms_by}
-use Rattle.relay_serving.proofs.Counting.{IsCounted-then, secret-uncounted}
-use Rattle.relay_serving.specs.Happenings.{Took}
-use Rattle.relay_serving.proofs.Entering.{at-next, given_out-other, log-next, shown-next}
-use Rattle.relay_serving.proofs.Happenings.{events-next}
+use Rattle.relay_serving.{specs.{Courses.{events_so_far, happenings_so_far}, GivenOut.{terms_by}, Happenings.{Took}}, proofs.{Counting.{IsCounted-then, secret-uncounted}, Entering.{at-next, given_out-other, log-next, shown-next}, Happenings.{events-next}}}
 use Rattle.relay_serving.proofs.server.Server.rotate.Goals as goal
 
 pub invariant_of-self : goal.invariant_of-self

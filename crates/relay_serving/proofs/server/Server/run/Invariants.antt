@@ -1,8 +1,6 @@
 use Rattle.std.proofs.Common.{◌≡◌, length, None}
 use Rattle.amt_ports.specs.Devices.{WaitsBriefly, feed_seen, link_seen, words_seen}
-use Rattle.relay_serving.specs.Devices.{devices_seen}
-use Rattle.relay_serving.specs.Stages.{progress_in}
-use Rattle.relay_serving.proofs.Running.{IsRunning}
+use Rattle.relay_serving.{specs.{Devices.{devices_seen}, Stages.{progress_in}}, proofs.Running.{IsRunning}}
 use Rattle.relay_serving.proofs.server.Server.run.Given as goal
 
 abbrev pub invariant-loop-done : goal.invariant-loop-done

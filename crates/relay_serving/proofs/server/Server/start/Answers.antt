@@ -1,18 +1,9 @@
-use Rattle.std.proofs.Common.{◌∙◌, ℕ, List, [], ◌++◌, sym, ap, subst, refl}
+use Rattle.std.{proofs.Common.{◌∙◌, ℕ, List, [], ◌++◌, sym, ap, subst, refl}, specs.List.{All}}
 use Rattle.response_mac.specs.declared.secret.Secret.{Secret}
-use Rattle.relay_machine.specs.declared.settings.Settings.{Settings}
-use Rattle.relay_machine.specs.Answers.{RelayAt, settings_of}
-use Rattle.relay_machine.proofs.PublishedLog.{published_log-none}
-use Rattle.relay_machine.specs.Published.{published_log}
+use Rattle.relay_machine.{specs.{declared.settings.Settings.{Settings}, Answers.{RelayAt, settings_of}, Published.{published_log}}, proofs.PublishedLog.{published_log-none}}
 use Rattle.replication_workers.specs.Dispatchers.{slots_of}
-use Rattle.std.specs.List.{All}
-use Rattle.published_table.specs.Publishers.{book_of}
-use Rattle.published_table.specs.Views.{IsNew, views_of}
-use Rattle.relay_serving.proofs.Counting.{IsCounted-none}
-use Rattle.relay_serving.proofs.Starting.{none_given, of_publisher}
-use Rattle.relay_serving.specs.Courses.{happenings_so_far}
-use Rattle.relay_serving.specs.GivenOut.{AreGivenOut, terms_by}
-use Rattle.relay_serving.specs.Happenings.{Happening, events_among, published_events_among}
+use Rattle.published_table.specs.{Publishers.{book_of}, Views.{IsNew, views_of}}
+use Rattle.relay_serving.{proofs.{Counting.{IsCounted-none}, Starting.{none_given, of_publisher}}, specs.{Courses.{happenings_so_far}, GivenOut.{AreGivenOut, terms_by}, Happenings.{Happening, events_among, published_events_among}}}
 use Rattle.relay_serving.proofs.server.Server.start.Goals as goal
 
 pub start_slots-requires-clause-terms : goal.start_slots-requires-clause-terms

@@ -1,10 +1,6 @@
-use Rattle.std.proofs.Common.{arith, refl}
-use Rattle.std.proofs.lemmas.Result.{err_from_is_err_and}
-use Rattle.amt_ports.specs.declared.end.End.TheVariants.{LinkFault, WordsFault}
-use Rattle.amt_ports.proofs.EndCauses.{not_cause}
-use Rattle.amt_ports.proofs.Waits.{no_waits}
-use Rattle.relay_serving.proofs.Cuts.{no_error, no_words_fed}
-use Rattle.relay_serving.proofs.Ways.{ends_begun, ends_fed, ends_heard, packets-kept}
+use Rattle.std.proofs.{Common.{arith, refl}, lemmas.Result.{err_from_is_err_and}}
+use Rattle.amt_ports.{specs.declared.end.End.TheVariants.{LinkFault, WordsFault}, proofs.{EndCauses.{not_cause}, Waits.{no_waits}}}
+use Rattle.relay_serving.proofs.{Cuts.{no_error, no_words_fed}, Ways.{ends_begun, ends_fed, ends_heard, packets-kept}}
 use Rattle.relay_serving.proofs.server.Server.turn.Goals as goal
 
 pub returns-in_err-begin_turn-clause-turns : goal.returns-in_err-begin_turn-clause-turns

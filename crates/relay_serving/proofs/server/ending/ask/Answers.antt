@@ -1,6 +1,5 @@
 use Rattle.std.proofs.Common.{◌∙◌, sym}
-use Rattle.published_table.specs.Publishers.{published}
-use Rattle.published_table.specs.Views.{named, seen, told}
+use Rattle.published_table.specs.{Publishers.{published}, Views.{named, seen, told}}
 use Rattle.relay_serving.proofs.Ending.{reached_by}
 use Rattle.relay_serving.proofs.server.ending.ask.Goals as goal
 

@@ -1,11 +1,6 @@
-use Rattle.std.proofs.Common.{◌≡◌, ◌∙◌, ◌+◌, count_by, length, refl, sym, ap, arith}
-use Rattle.std.proofs.lemmas.List.Sums.{count_by-le-length}
-use Rattle.std.proofs.lemmas.Option.{MatchOption-at_none, MatchOption-at_some}
-use Rattle.published_table.specs.Publishers.{book_of, published}
-use Rattle.published_table.specs.Views.{publisher_of, views_of}
-use Rattle.relay_serving.specs.Views.{is_apart}
-use Rattle.relay_serving.proofs.Ending.{asked_all, asked_first, asked_more, at_most_one, counted_more, one_fewer}
-use Rattle.relay_serving.proofs.Starting.{all_but_last}
+use Rattle.std.proofs.{Common.{◌≡◌, ◌∙◌, ◌+◌, count_by, length, refl, sym, ap, arith}, lemmas.{List.Sums.{count_by-le-length}, Option.{MatchOption-at_none, MatchOption-at_some}}}
+use Rattle.published_table.specs.{Publishers.{book_of, published}, Views.{publisher_of, views_of}}
+use Rattle.relay_serving.{specs.Views.{is_apart}, proofs.{Ending.{asked_all, asked_first, asked_more, at_most_one, counted_more, one_fewer}, Starting.{all_but_last}}}
 use Rattle.relay_serving.proofs.server.ending.ask_each.Goals as goal
 
 pub loop-view-init : goal.loop-view-init

@@ -1,9 +1,7 @@
 -- The views that were asked, and those to come.
 use Rattle.std.proofs.Common.{◌≡◌, ◌≤◌, ◌+◌, All, count_by, length}
-use Rattle.published_table.specs.Publishers.{book_of, published}
-use Rattle.published_table.specs.Views.{publisher_of, room_of, views_of}
-use Rattle.relay_serving.specs.Views.{is_apart}
-use Rattle.relay_serving.proofs.Ending.{AskedSoFar}
+use Rattle.published_table.specs.{Publishers.{book_of, published}, Views.{publisher_of, room_of, views_of}}
+use Rattle.relay_serving.{specs.Views.{is_apart}, proofs.Ending.{AskedSoFar}}
 use Rattle.relay_serving.proofs.server.ending.ask_each.Given as goal
 
 abbrev pub invariant-loop-view : goal.invariant-loop-view

@@ -1,8 +1,6 @@
-use Rattle.std.proofs.Common.{◌++◌, ◌∙◌, length, reverse, sym, ap, append-nil, arith}
-use Rattle.std.proofs.lemmas.Option.{MatchOption-at_none, MatchOption-at_some}
+use Rattle.std.proofs.{Common.{◌++◌, ◌∙◌, length, reverse, sym, ap, append-nil, arith}, lemmas.Option.{MatchOption-at_none, MatchOption-at_some}}
 use Rattle.published_table.specs.Views.{views_of}
-use Rattle.relay_serving.proofs.Ending.{of_ok, one_fewer}
-use Rattle.relay_serving.proofs.Starting.{turned_on}
+use Rattle.relay_serving.proofs.{Ending.{of_ok, one_fewer}, Starting.{turned_on}}
 use Rattle.relay_serving.proofs.server.ending.turn_round.Goals as goal
 
 pub loop-view-init : goal.loop-view-init

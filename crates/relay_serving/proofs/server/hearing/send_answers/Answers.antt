@@ -1,11 +1,7 @@
 use Rattle.std.proofs.Common.{map, take, refl, ap, subst, ◌∙◌, arith}
 use Rattle.amt_ports.specs.Devices.{LinkSeen, link_seen}
 use Rattle.replication_workers.specs.Replication.{to_peer}
-use Rattle.relay_serving.specs.Counting.{HasAnswered}
-use Rattle.relay_serving.specs.declared.counts.Counts.{Counts}
-use Rattle.relay_serving.proofs.AnswerSends.{answered-failed, answered-sent, answers_more}
-use Rattle.relay_serving.proofs.Answering.{HasAnswered-none}
-use Rattle.relay_serving.proofs.server.hearing.send_answers.Goals.{in-Ok, in-Err}
+use Rattle.relay_serving.{specs.{Counting.{HasAnswered}, declared.counts.Counts.{Counts}}, proofs.{AnswerSends.{answered-failed, answered-sent, answers_more}, Answering.{HasAnswered-none}, server.hearing.send_answers.Goals.{in-Ok, in-Err}}}
 use Rattle.relay_serving.proofs.server.hearing.send_answers.Goals as goal
 
 pub loop-send-init : goal.loop-send-init

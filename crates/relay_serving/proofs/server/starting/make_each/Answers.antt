@@ -1,14 +1,8 @@
-use Rattle.std.proofs.Common.{◌≡◌, ◌++◌, ◌∷◌, [], ◌∙◌, length, map, reverse, refl, sym, ap, subst, append-nil, arith}
-use Rattle.std.proofs.lemmas.List.Elements.{All-nil, All-push}
-use Rattle.std.proofs.lemmas.Option.{MatchOption-at_none, MatchOption-at_some}
+use Rattle.std.proofs.{Common.{◌≡◌, ◌++◌, ◌∷◌, [], ◌∙◌, length, map, reverse, refl, sym, ap, subst, append-nil, arith}, lemmas.{List.Elements.{All-nil, All-push}, Option.{MatchOption-at_none, MatchOption-at_some}}}
 use Rattle.relay_machine.specs.declared.number_key.NumberKey.TheVariants.{Endpoints, PacketLimit}
 use Rattle.published_table.specs.Views.{terms_of}
-use Rattle.replication_workers.specs.Replicators.{out_of}
-use Rattle.replication_workers.proofs.Ready.{none_popped, popped}
-use Rattle.relay_serving.specs.GivenOut.{terms_by}
-use Rattle.relay_serving.specs.Starting.{AreStarts, IsStart}
-use Rattle.relay_serving.proofs.Ending.{one_fewer}
-use Rattle.relay_serving.proofs.Starting.{all_but_last, few_endpoints, is_start, made_from}
+use Rattle.replication_workers.{specs.Replicators.{out_of}, proofs.Ready.{none_popped, popped}}
+use Rattle.relay_serving.{specs.{GivenOut.{terms_by}, Starting.{AreStarts, IsStart}}, proofs.{Ending.{one_fewer}, Starting.{all_but_last, few_endpoints, is_start, made_from}}}
 use Rattle.relay_serving.proofs.server.starting.make_each.Goals as goal
 
 pub loop-out-init : goal.loop-out-init

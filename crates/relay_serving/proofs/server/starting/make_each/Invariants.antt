@@ -3,8 +3,7 @@ use Rattle.std.proofs.Common.{◌≡◌, ◌+◌, ◌++◌, All, length, map, re
 use Rattle.logbook.specs.Pages.{Book}
 use Rattle.published_table.specs.Views.{IsNew, views_of}
 use Rattle.replication_workers.specs.Replicators.{out_of}
-use Rattle.relay_serving.specs.GivenOut.{terms_by}
-use Rattle.relay_serving.specs.Starting.{AreReadBy, AreStarts}
+use Rattle.relay_serving.specs.{GivenOut.{terms_by}, Starting.{AreReadBy, AreStarts}}
 use Rattle.relay_serving.proofs.server.starting.make_each.Given as goal
 
 abbrev pub invariant-loop-out : goal.invariant-loop-out

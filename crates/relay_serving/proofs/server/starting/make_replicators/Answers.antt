@@ -1,7 +1,6 @@
 use Rattle.std.proofs.Common.{◌∙◌, ◌++◌, length, map, reverse, sym, ap, subst, arith}
 use Rattle.replication_workers.specs.Replicators.{out_of}
-use Rattle.relay_serving.specs.Starting.{AreStarts, IsStart}
-use Rattle.relay_serving.proofs.Starting.{All-reverse, as_many, of_no_err}
+use Rattle.relay_serving.{specs.Starting.{AreStarts, IsStart}, proofs.Starting.{All-reverse, as_many, of_no_err}}
 use Rattle.relay_serving.proofs.server.starting.make_replicators.Goals as goal
 
 pub unmake-requires : goal.unmake-requires

@@ -1,13 +1,6 @@
-use Rattle.std.proofs.Common.{◌≡◌, ◌∙◌, ℕ, length, map, sym, ap, subst}
-use Rattle.std.specs.Prelude.{OnOk}
-use Rattle.std.proofs.lemmas.List.{length-map}
-use Rattle.replication_workers.specs.Dispatchers.{slots_of}
-use Rattle.replication_workers.specs.Replicators.{out_of}
-use Rattle.replication_workers.specs.SlotStates.{new_slot}
-use Rattle.replication_workers.specs.Starting.{HaveStarted}
-use Rattle.relay_serving.specs.GivenOut.{starts_in}
-use Rattle.relay_serving.specs.Starting.{AreStarts}
-use Rattle.relay_serving.proofs.Starting.{if_ok_then, starts_of_new}
+use Rattle.std.{proofs.{Common.{◌≡◌, ◌∙◌, ℕ, length, map, sym, ap, subst}, lemmas.List.{length-map}}, specs.Prelude.{OnOk}}
+use Rattle.replication_workers.specs.{Dispatchers.{slots_of}, Replicators.{out_of}, SlotStates.{new_slot}, Starting.{HaveStarted}}
+use Rattle.relay_serving.{specs.{GivenOut.{starts_in}, Starting.{AreStarts}}, proofs.Starting.{if_ok_then, starts_of_new}}
 use Rattle.relay_serving.proofs.server.starting.start_slots.Goals as goal
 
 pub returns-in-Ok-clause-outs : goal.returns-in-Ok-clause-outs

@@ -1,5 +1,4 @@
-use Rattle.std.proofs.Common.{◌++◌, ◌∙◌, length, map, reverse, ap, arith}
-use Rattle.std.proofs.lemmas.List.{length-reverse, reverse-reverse}
+use Rattle.std.proofs.{Common.{◌++◌, ◌∙◌, length, map, reverse, ap, arith}, lemmas.List.{length-reverse, reverse-reverse}}
 use Rattle.replication_workers.specs.Replicators.{out_of}
 use Rattle.relay_serving.proofs.server.starting.take_back.Goals as goal
 

@@ -1,6 +1,4 @@
-use Rattle.std.proofs.Common.{◌++◌, ◌∙◌, reverse, refl, sym, ap, append-nil, arith}
-use Rattle.std.proofs.lemmas.List.{nil_from_length}
-use Rattle.std.proofs.lemmas.Option.{MatchOption-at_none, MatchOption-at_some}
+use Rattle.std.proofs.{Common.{◌++◌, ◌∙◌, reverse, refl, sym, ap, append-nil, arith}, lemmas.{List.{nil_from_length}, Option.{MatchOption-at_none, MatchOption-at_some}}}
 use Rattle.replication_workers.proofs.Ready.{popped}
 use Rattle.relay_serving.proofs.Starting.{turned_on}
 use Rattle.relay_serving.proofs.server.starting.turn_round.Goals as goal

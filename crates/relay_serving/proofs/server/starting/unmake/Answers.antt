@@ -1,8 +1,5 @@
-use Rattle.std.proofs.Common.{◌++◌, ◌∷◌, [], ◌∙◌, map, reverse, refl, sym, ap, append-nil, arith}
-use Rattle.std.proofs.lemmas.List.{nil_from_length}
-use Rattle.std.proofs.lemmas.Option.{MatchOption-at_none, MatchOption-at_some}
-use Rattle.replication_workers.specs.Replicators.{out_of}
-use Rattle.replication_workers.proofs.Ready.{popped}
+use Rattle.std.proofs.{Common.{◌++◌, ◌∷◌, [], ◌∙◌, map, reverse, refl, sym, ap, append-nil, arith}, lemmas.{List.{nil_from_length}, Option.{MatchOption-at_none, MatchOption-at_some}}}
+use Rattle.replication_workers.{specs.Replicators.{out_of}, proofs.Ready.{popped}}
 use Rattle.relay_serving.proofs.Starting.{turned_by}
 use Rattle.relay_serving.proofs.server.starting.unmake.Goals as goal
 

@@ -1,9 +1,6 @@
 use Rattle.std.proofs.Common.{◌∙◌, ap, map, subst, sym}
 use Rattle.published_table.specs.Views.{views_of}
-use Rattle.replication_workers.specs.KeptSlots.{AreThreaded, now_of, state_of}
-use Rattle.replication_workers.specs.Replicators.{out_of, view_of}
-use Rattle.replication_workers.specs.SlotStates.{HaveLeft}
-use Rattle.replication_workers.proofs.Giving.{held_alone}
+use Rattle.replication_workers.{specs.{KeptSlots.{AreThreaded, now_of, state_of}, Replicators.{out_of, view_of}, SlotStates.{HaveLeft}}, proofs.Giving.{held_alone}}
 use Rattle.replication_workers.proofs.dispatcher.Dispatcher.finish.Goals as goal
 
 pub finish_all-outs-requires-clause-fresh : goal.finish_all-outs-requires-clause-fresh

@@ -1,10 +1,5 @@
-use Rattle.std.proofs.Common.{◌≡◌, ◌<◌, ◌≤◌, ◌∙◌, [], if◌then◌else◌, length, length-set, map, refl, set, subst, sym, arith, lt_of_le_of_lt}
-use Rattle.std.proofs.lemmas.List.{length-map}
-use Rattle.replication_workers.specs.Dispatchers.{IsForSlot, slot_for}
-use Rattle.replication_workers.specs.Gathering.{HasRoom}
-use Rattle.replication_workers.specs.KeptSlots.{now_of, state_of}
-use Rattle.replication_workers.specs.SlotStates.{CopiedAt}
-use Rattle.replication_workers.proofs.Giving.{copied_at, few_at, few_then, held_alone, kind_at, kinds_then, runs_then, said_at, with_job-set}
+use Rattle.std.proofs.{Common.{◌≡◌, ◌<◌, ◌≤◌, ◌∙◌, [], if◌then◌else◌, length, length-set, map, refl, set, subst, sym, arith, lt_of_le_of_lt}, lemmas.List.{length-map}}
+use Rattle.replication_workers.{specs.{Dispatchers.{IsForSlot, slot_for}, Gathering.{HasRoom}, KeptSlots.{now_of, state_of}, SlotStates.{CopiedAt}}, proofs.Giving.{copied_at, few_at, few_then, held_alone, kind_at, kinds_then, runs_then, said_at, with_job-set}}
 use Rattle.replication_workers.proofs.dispatcher.Dispatcher.send.Goals as goal
 
 pub overflow_cast-len : goal.overflow_cast-len

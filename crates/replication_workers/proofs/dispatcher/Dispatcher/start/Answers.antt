@@ -1,9 +1,5 @@
 use Rattle.std.proofs.Common.{◌≡◌, ◌∙◌, IfErr, IfOk, OnOk, ap, length, map, refl, subst, sym, true≢false, arith}
-use Rattle.replication_workers.specs.Dispatchers.{is_threaded, slots_of}
-use Rattle.replication_workers.specs.Gathering.{HasRoom}
-use Rattle.replication_workers.specs.SlotStates.{new_slot}
-use Rattle.replication_workers.specs.Starting.{AllButOneBack, HaveStarted, OnFailed, OnMemory}
-use Rattle.replication_workers.proofs.Filling.{inline_runs, on_failed_also}
+use Rattle.replication_workers.{specs.{Dispatchers.{is_threaded, slots_of}, Gathering.{HasRoom}, SlotStates.{new_slot}, Starting.{AllButOneBack, HaveStarted, OnFailed, OnMemory}}, proofs.Filling.{inline_runs, on_failed_also}}
 use Rattle.replication_workers.proofs.dispatcher.Dispatcher.start.Goals as goal
 
 pub overflow_cast-len : goal.overflow_cast-len

@@ -1,6 +1,4 @@
-use Rattle.std.proofs.Common.{refl, sym, subst, arith}
-use Rattle.std.proofs.lemmas.List.{nil_from_length}
-use Rattle.std.proofs.lemmas.Option.{MatchOption-at_none, MatchOption-at_some}
+use Rattle.std.proofs.{Common.{refl, sym, subst, arith}, lemmas.{List.{nil_from_length}, Option.{MatchOption-at_none, MatchOption-at_some}}}
 use Rattle.replication_workers.proofs.Filling.{Keeping, all_kept, keeping_first, keeping_more}
 use Rattle.replication_workers.proofs.dispatcher.filling.keep_inline.Goals as goal
 

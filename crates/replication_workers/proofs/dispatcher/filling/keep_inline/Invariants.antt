@@ -1,6 +1,5 @@
 -- Slots of some replicators were added, and the others are to come.
-use Rattle.std.proofs.Common.{◌≤◌, ◌+◌, vec_capacity, vec_len}
-use Rattle.std.specs.Vec.Iter.{into_iter_items, into_iter_len}
+use Rattle.std.{proofs.Common.{◌≤◌, ◌+◌, vec_capacity, vec_len}, specs.Vec.Iter.{into_iter_items, into_iter_len}}
 use Rattle.replication_workers.proofs.Filling.{Keeping}
 use Rattle.replication_workers.proofs.dispatcher.filling.keep_inline.Given as goal
 

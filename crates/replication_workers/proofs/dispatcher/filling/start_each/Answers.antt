@@ -1,11 +1,6 @@
-use Rattle.std.proofs.Common.{◌≡◌, ◌∙◌, ℕ, suc, vec_len, refl, sym, ap, subst, arith, length}
-use Rattle.std.proofs.lemmas.List.{nil_from_length}
-use Rattle.std.proofs.lemmas.Option.{MatchOption-at_none, MatchOption-at_some}
+use Rattle.std.proofs.{Common.{◌≡◌, ◌∙◌, ℕ, suc, vec_len, refl, sym, ap, subst, arith, length}, lemmas.{List.{nil_from_length}, Option.{MatchOption-at_none, MatchOption-at_some}}}
 use Rattle.amt_ports.specs.Causes.{HasCause}
-use Rattle.replication_workers.specs.Slots.{from_the_end}
-use Rattle.replication_workers.specs.Starting.{HaveStarted}
-use Rattle.replication_workers.proofs.Filling.{all_started, none_started, one_refused, one_started, starting_first, starting_more}
-use Rattle.replication_workers.proofs.Ready.{from_the_end-last, popped}
+use Rattle.replication_workers.{specs.{Slots.{from_the_end}, Starting.{HaveStarted}}, proofs.{Filling.{all_started, none_started, one_refused, one_started, starting_first, starting_more}, Ready.{from_the_end-last, popped}}}
 use Rattle.replication_workers.proofs.dispatcher.filling.start_each.Goals as goal
 
 pub loop-one-init : goal.loop-one-init

@@ -1,8 +1,6 @@
 -- Workers over some replicators were started, and the others are to come.
 use Rattle.std.proofs.Common.{◌≡◌, ◌+◌, vec_capacity, vec_len}
-use Rattle.replication_workers.specs.Slots.{from_the_end}
-use Rattle.replication_workers.specs.Starting.{HaveStarted}
-use Rattle.replication_workers.proofs.Filling.{Starting}
+use Rattle.replication_workers.{specs.{Slots.{from_the_end}, Starting.{HaveStarted}}, proofs.Filling.{Starting}}
 use Rattle.replication_workers.proofs.dispatcher.filling.start_each.Given as goal
 
 abbrev pub invariant-loop-one : goal.invariant-loop-one

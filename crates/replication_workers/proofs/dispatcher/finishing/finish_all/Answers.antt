@@ -1,6 +1,4 @@
-use Rattle.std.proofs.Common.{◌∙◌, refl, sym, subst, arith}
-use Rattle.std.proofs.lemmas.List.{nil_from_length}
-use Rattle.std.proofs.lemmas.Option.{MatchOption-at_none, MatchOption-at_some}
+use Rattle.std.proofs.{Common.{◌∙◌, refl, sym, subst, arith}, lemmas.{List.{nil_from_length}, Option.{MatchOption-at_none, MatchOption-at_some}}}
 use Rattle.replication_workers.proofs.Ending.{Ending, ending_first, ending_more, few_with, have_left, jobs_are, next_runs, room_for_next, same_outs, same_views}
 use Rattle.replication_workers.proofs.dispatcher.finishing.finish_all.Goals as goal
 

@@ -1,6 +1,5 @@
 -- Some slots were ended, and the others are to come.
-use Rattle.std.proofs.Common.{◌≡◌}
-use Rattle.std.specs.Vec.Iter.{into_iter_items, into_iter_len}
+use Rattle.std.{proofs.Common.{◌≡◌}, specs.Vec.Iter.{into_iter_items, into_iter_len}}
 use Rattle.replication_workers.proofs.Ending.{Ending}
 use Rattle.replication_workers.proofs.dispatcher.finishing.finish_all.Given as goal
 

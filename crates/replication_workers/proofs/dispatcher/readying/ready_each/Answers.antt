@@ -1,8 +1,5 @@
-use Rattle.std.proofs.Common.{◌++◌, ◌∷◌, [], ◌∙◌, refl, sym, ap, length, append-nil, arith, length-append}
-use Rattle.std.proofs.lemmas.List.{nil_from_length}
-use Rattle.std.proofs.lemmas.Option.{MatchOption-at_none, MatchOption-at_some}
-use Rattle.replication_workers.specs.Slots.{from_the_end}
-use Rattle.replication_workers.proofs.Ready.{none_popped, popped, put_back, put_on}
+use Rattle.std.proofs.{Common.{◌++◌, ◌∷◌, [], ◌∙◌, refl, sym, ap, length, append-nil, arith, length-append}, lemmas.{List.{nil_from_length}, Option.{MatchOption-at_none, MatchOption-at_some}}}
+use Rattle.replication_workers.{specs.Slots.{from_the_end}, proofs.Ready.{none_popped, popped, put_back, put_on}}
 use Rattle.replication_workers.proofs.dispatcher.readying.ready_each.Goals as goal
 
 pub loop-replicator-init : goal.loop-replicator-init

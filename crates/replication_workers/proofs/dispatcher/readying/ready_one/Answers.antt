@@ -1,6 +1,5 @@
 use Rattle.std.proofs.Common.{◌++◌, ◌∷◌, [], ◌∙◌, ap, arith, length, length-append}
-use Rattle.replication_workers.specs.Slots.{from_the_end}
-use Rattle.replication_workers.proofs.Ready.{from_the_end-last}
+use Rattle.replication_workers.{specs.Slots.{from_the_end}, proofs.Ready.{from_the_end-last}}
 use Rattle.replication_workers.proofs.dispatcher.readying.ready_one.Goals as goal
 
 pub returns-in-Ok-clause-ready : goal.returns-in-Ok-clause-ready

@@ -1,8 +1,5 @@
-use Rattle.std.proofs.Common.{◌++◌, ◌∷◌, [], ◌∙◌, refl, sym, ap, append-nil, arith}
-use Rattle.std.proofs.lemmas.List.{nil_from_length}
-use Rattle.std.proofs.lemmas.Option.{MatchOption-at_none, MatchOption-at_some}
-use Rattle.replication_workers.specs.Slots.{from_the_end}
-use Rattle.replication_workers.proofs.Ready.{moved_back, popped}
+use Rattle.std.proofs.{Common.{◌++◌, ◌∷◌, [], ◌∙◌, refl, sym, ap, append-nil, arith}, lemmas.{List.{nil_from_length}, Option.{MatchOption-at_none, MatchOption-at_some}}}
+use Rattle.replication_workers.{specs.Slots.{from_the_end}, proofs.Ready.{moved_back, popped}}
 use Rattle.replication_workers.proofs.dispatcher.readying.unready.Goals as goal
 
 pub loop-one-init : goal.loop-one-init

@@ -1,14 +1,6 @@
-use Rattle.std.proofs.Common.{◌≡◌, ◌+◌, ◌≤◌, ◌^◌, ◌++◌, ◌∙◌, ap, length, map, subst, sym, arith, length-append}
-use Rattle.std.specs.List.{All}
+use Rattle.std.{proofs.Common.{◌≡◌, ◌+◌, ◌≤◌, ◌^◌, ◌++◌, ◌∙◌, ap, length, map, subst, sym, arith, length-append}, specs.List.{All}}
 use Rattle.published_table.specs.Views.{views_of}
-use Rattle.replication_workers.specs.Backs.{AreBack}
-use Rattle.replication_workers.specs.Gathering.{HasRoom}
-use Rattle.replication_workers.specs.KeptSlots.{IsRunBy, state_of}
-use Rattle.replication_workers.specs.Slots.{from_the_end}
-use Rattle.replication_workers.specs.SlotStates.{jobs_in_all, new_slot}
-use Rattle.replication_workers.proofs.Backs.{are_back}
-use Rattle.replication_workers.proofs.Filling.{filled_length, idle_with, runs_with, states_with}
-use Rattle.replication_workers.proofs.Ready.{length-from_the_end}
+use Rattle.replication_workers.{specs.{Backs.{AreBack}, Gathering.{HasRoom}, KeptSlots.{IsRunBy, state_of}, Slots.{from_the_end}, SlotStates.{jobs_in_all, new_slot}}, proofs.{Backs.{are_back}, Filling.{filled_length, idle_with, runs_with, states_with}, Ready.{length-from_the_end}}}
 use Rattle.replication_workers.proofs.dispatcher.starting.give_back.Goals as goal
 
 pub unready-requires : goal.unready-requires

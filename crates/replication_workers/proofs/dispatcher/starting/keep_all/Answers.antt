@@ -1,7 +1,5 @@
 use Rattle.std.proofs.Common.{◌∙◌, ap, length, map, subst, sym, arith}
-use Rattle.replication_workers.specs.Gathering.{HasRoom}
-use Rattle.replication_workers.specs.KeptSlots.{AreThreaded, now_of, state_of}
-use Rattle.replication_workers.proofs.Filling.{filled_few, filled_length, kept_alone}
+use Rattle.replication_workers.{specs.{Gathering.{HasRoom}, KeptSlots.{AreThreaded, now_of, state_of}}, proofs.Filling.{filled_few, filled_length, kept_alone}}
 use Rattle.replication_workers.proofs.dispatcher.starting.keep_all.Goals as goal
 
 pub keep_inline-requires : goal.keep_inline-requires

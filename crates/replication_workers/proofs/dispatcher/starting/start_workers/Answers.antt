@@ -1,11 +1,6 @@
 use Rattle.std.proofs.Common.{◌≤◌, ◌+◌, ◌∙◌, ap, length, map, refl, subst, sym, arith}
 use Rattle.amt_ports.specs.Causes.{HasCause, Rose}
-use Rattle.replication_workers.specs.Gathering.{HasRoom}
-use Rattle.replication_workers.specs.SlotStates.{new_slot}
-use Rattle.replication_workers.specs.Slots.{from_the_end}
-use Rattle.replication_workers.specs.Starting.{HasRefusedOne, HaveStarted}
-use Rattle.replication_workers.proofs.Filling.{filled_few, filled_idle, filled_length, less_room}
-use Rattle.replication_workers.proofs.Ready.{length-from_the_end}
+use Rattle.replication_workers.{specs.{Gathering.{HasRoom}, SlotStates.{new_slot}, Slots.{from_the_end}, Starting.{HasRefusedOne, HaveStarted}}, proofs.{Filling.{filled_few, filled_idle, filled_length, less_room}, Ready.{length-from_the_end}}}
 use Rattle.replication_workers.proofs.dispatcher.starting.start_workers.Goals as goal
 
 pub destroy_empty-requires : goal.destroy_empty-requires

@@ -1,9 +1,6 @@
 use Rattle.std.proofs.Common.{◌++◌, ap, sym, subst, ◌∙◌}
 use Rattle.crossbeam_channel.specs.Claims.{view}
-use Rattle.replication_workers.specs.declared.queue.End.{End}
-use Rattle.replication_workers.specs.Queue.{StopIsLast}
-use Rattle.replication_workers.proofs.Queues.{took_all}
-use Rattle.replication_workers.proofs.Steps.{merges, totals}
+use Rattle.replication_workers.{specs.{declared.queue.End.{End}, Queue.{StopIsLast}}, proofs.{Queues.{took_all}, Steps.{merges, totals}}}
 use Rattle.replication_workers.proofs.queue.ending.take_in.Goals as goal
 
 pub absorb-requires-clause-rule : goal.absorb-requires-clause-rule

@@ -1,11 +1,6 @@
 use Rattle.std.proofs.Common.{◌≡◌, ◌∙◌, sym, subst, List}
-use Rattle.crossbeam_channel.specs.Claims.{view}
-use Rattle.crossbeam_channel.specs.Ends.{ruled_capacity, sends_on}
-use Rattle.crossbeam_channel.specs.Fifo.{Pushes}
-use Rattle.replication_workers.specs.Queue.{QueueRule, settled, whole_end}
-use Rattle.replication_workers.specs.declared.queue.End.{End}
-use Rattle.replication_workers.specs.declared.queue.Item.{Item}
-use Rattle.replication_workers.proofs.Steps.{settles}
+use Rattle.crossbeam_channel.specs.{Claims.{view}, Ends.{ruled_capacity, sends_on}, Fifo.{Pushes}}
+use Rattle.replication_workers.{specs.{Queue.{QueueRule, settled, whole_end}, declared.queue.{End.{End}, Item.{Item}}}, proofs.Steps.{settles}}
 use Rattle.replication_workers.proofs.queue.making.settle.Goals as goal
 
 pub send_as-requires-clause-rule : goal.send_as-requires-clause-rule

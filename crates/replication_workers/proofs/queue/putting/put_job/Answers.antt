@@ -1,7 +1,6 @@
 use Rattle.std.proofs.Common.{ap}
 use Rattle.crossbeam_channel.specs.Claims.{view}
-use Rattle.replication_workers.specs.declared.queue.End.{End}
-use Rattle.replication_workers.proofs.Queues.{job_was_put, may_put_job, still_putting}
+use Rattle.replication_workers.{specs.declared.queue.End.{End}, proofs.Queues.{job_was_put, may_put_job, still_putting}}
 use Rattle.replication_workers.proofs.queue.putting.put_job.Goals as goal
 
 pub put-requires-clause-may : goal.put-requires-clause-may

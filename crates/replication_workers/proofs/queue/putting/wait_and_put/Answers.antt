@@ -1,9 +1,6 @@
 use Rattle.std.proofs.Common.{sym, subst}
 use Rattle.crossbeam_channel.specs.Claims.{view}
-use Rattle.replication_workers.specs.Queue.{MayPut}
-use Rattle.replication_workers.specs.declared.queue.End.{End}
-use Rattle.replication_workers.specs.declared.queue.Item.{Item}
-use Rattle.replication_workers.proofs.Steps.{puts}
+use Rattle.replication_workers.{specs.{Queue.{MayPut}, declared.queue.{End.{End}, Item.{Item}}}, proofs.Steps.{puts}}
 use Rattle.replication_workers.proofs.queue.putting.wait_and_put.Goals as goal
 
 pub send_as-requires-clause-rule : goal.send_as-requires-clause-rule

@@ -1,7 +1,6 @@
 -- An item that was handed back changed nothing.
 use Rattle.std.proofs.Common.{◌≡◌}
-use Rattle.crossbeam_channel.specs.Claims.{IsSeatAt, view}
-use Rattle.crossbeam_channel.specs.Ends.{sends_on}
+use Rattle.crossbeam_channel.specs.{Claims.{IsSeatAt, view}, Ends.{sends_on}}
 use Rattle.replication_workers.proofs.queue.putting.wait_and_put.Given as goal
 
 abbrev pub invariant-loop : goal.invariant-loop

@@ -1,11 +1,8 @@
 use Rattle.std.proofs.Common.{ℕ, List, refl, sym, ap, subst, ◌∙◌}
 use Rattle.amt_values.specs.declared.peer.Peer.{Peer}
-use Rattle.amt_messages.specs.Layout.{spelling_of}
-use Rattle.amt_messages.specs.declared.message.Message.TheVariants.{Multicast}
+use Rattle.amt_messages.specs.{Layout.{spelling_of}, declared.message.Message.TheVariants.{Multicast}}
 use Rattle.endpoint_membership.specs.Targets.{targets_of}
-use Rattle.published_table.specs.Terms.{settings_by}
-use Rattle.published_table.specs.Views.{seen, terms_of}
-use Rattle.published_table.specs.declared.view.View.{View}
+use Rattle.published_table.specs.{Terms.{settings_by}, Views.{seen, terms_of}, declared.view.View.{View}}
 use Rattle.amt_ports.specs.Tried.{HasTried}
 use Rattle.replication_workers.proofs.Copies.{copies_sent}
 use Rattle.replication_workers.proofs.replicator.Replicator.copy_to_targets.Goals as goal

@@ -1,7 +1,6 @@
 use Rattle.std.proofs.Common.{List, ap, subst, ◌∙◌}
 use Rattle.endpoint_membership.specs.declared.change.Change.{Change}
-use Rattle.published_table.specs.Lists.{BeginsWith, BeginsWithEach}
-use Rattle.published_table.specs.Views.{seen, terms_of}
+use Rattle.published_table.specs.{Lists.{BeginsWith, BeginsWithEach}, Views.{seen, terms_of}}
 use Rattle.replication_workers.proofs.Copies.{tried_since}
 use Rattle.replication_workers.proofs.replicator.Replicator.replicate.Goals as goal
 

@@ -1,6 +1,5 @@
 use Rattle.std.proofs.Common.{arith}
-use Rattle.replication_workers.proofs.Sending.{one_failed, one_sent}
-use Rattle.replication_workers.proofs.replicator.sending.send_all.Goals.{in-Err, in-Ok}
+use Rattle.replication_workers.proofs.{Sending.{one_failed, one_sent}, replicator.sending.send_all.Goals.{in-Err, in-Ok}}
 use Rattle.replication_workers.proofs.replicator.sending.send_all.Goals as goal
 
 pub loop-to-preserved : goal.loop-to-preserved

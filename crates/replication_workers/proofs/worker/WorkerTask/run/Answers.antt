@@ -1,11 +1,6 @@
 use Rattle.std.proofs.Common.{◌+◌, ℕ, ap, sym, subst, arith}
 use Rattle.crossbeam_channel.specs.Claims.{view}
-use Rattle.replication_workers.proofs.Handling.{Going, going_first, going_home, going_stop, going_then, room_for_job, same_publisher}
-use Rattle.replication_workers.proofs.Steps.{takes}
-use Rattle.replication_workers.specs.Queue.{HasTaken}
-use Rattle.replication_workers.specs.declared.queue.End.{End}
-use Rattle.replication_workers.specs.declared.queue.Item.{Item}
-use Rattle.replication_workers.specs.declared.worker.WorkerDone.{WorkerDone}
+use Rattle.replication_workers.{proofs.{Handling.{Going, going_first, going_home, going_stop, going_then, room_for_job, same_publisher}, Steps.{takes}}, specs.{Queue.{HasTaken}, declared.{queue.{End.{End}, Item.{Item}}, worker.WorkerDone.{WorkerDone}}}}
 use Rattle.replication_workers.proofs.worker.WorkerTask.run.Goals as goal
 
 pub loop-init : goal.loop-init

@@ -1,6 +1,5 @@
 -- What the worker took so far was handled.
-use Rattle.crossbeam_channel.specs.Claims.{IsSeatAt, view}
-use Rattle.crossbeam_channel.specs.Ends.{receives_on}
+use Rattle.crossbeam_channel.specs.{Claims.{IsSeatAt, view}, Ends.{receives_on}}
 use Rattle.replication_workers.proofs.Handling.{Going}
 use Rattle.replication_workers.proofs.worker.WorkerTask.run.Given as goal
 

@@ -1,7 +1,6 @@
 use Rattle.std.proofs.Math.Logic.{∥∥₁_map}
-use Rattle.serving_commands.proofs.GatewayRuns.{ran}
+use Rattle.serving_commands.proofs.{GatewayRuns.{ran}, Lending.{has_room}}
 use Rattle.serving_commands.proofs.gateway.running.run_by.Goals as goal
-use Rattle.serving_commands.proofs.Lending.{has_room}
 
 pub returns-in-Err-clause-refused : goal.returns-in-Err-clause-refused
 returns-in-Err-clause-refused g c =

@@ -1,11 +1,7 @@
-use Rattle.std.proofs.Common.{Ok, Err, inl, inr, refl, ap}
-use Rattle.std.proofs.Math.Logic.{∥∥₁_map}
-use Rattle.serving_commands.specs.declared.opening.live.OpenFault.{OpenFault}
-use Rattle.serving_commands.proofs.GatewayRuns.{ran_by}
+use Rattle.std.proofs.{Common.{Ok, Err, inl, inr, refl, ap}, Math.Logic.{∥∥₁_map}}
+use Rattle.serving_commands.{specs.{declared.opening.live.OpenFault.{OpenFault}, Kinds.{gateway_file}}, proofs.{GatewayRuns.{ran_by}, Deciding.{decided_on, decided_too, of_other}}}
 use Rattle.serving_commands.proofs.gateway.running.run_gateway.Goals as goal
 use Rattle.gateway_serving.proofs.Lawful.{lawful_config}
-use Rattle.serving_commands.proofs.Deciding.{decided_on, decided_too, of_other}
-use Rattle.serving_commands.specs.Kinds.{gateway_file}
 
 pub returns-in-Err-clause-unread : goal.returns-in-Err-clause-unread
 returns-in-Err-clause-unread g c = λ is. c.in-Err.ensures.failed (of_other c.in-Err.fault _ is)

@@ -1,8 +1,7 @@
 use Rattle.std.proofs.Math.Logic.{∥∥₁_map}
 use Rattle.published_table.specs.Views.{views_of}
-use Rattle.serving_commands.proofs.RelayRuns.{ran, refused}
+use Rattle.serving_commands.proofs.{RelayRuns.{ran, refused}, Lending.{has_room}}
 use Rattle.serving_commands.proofs.relay.running.run_by.Goals as goal
-use Rattle.serving_commands.proofs.Lending.{has_room}
 
 pub returns-in-Err-clause-refused : goal.returns-in-Err-clause-refused
 returns-in-Err-clause-refused g c =

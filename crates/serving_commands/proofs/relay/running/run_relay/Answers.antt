@@ -1,13 +1,7 @@
-use Rattle.std.proofs.Common.{Ok, Err, inl, inr, refl, sym, subst, ap}
-use Rattle.std.proofs.Math.Logic.{∥∥₁_map}
-use Rattle.serving_commands.specs.declared.opening.live.OpenFault.{OpenFault}
-use Rattle.relay_serving.specs.Plans.{IsLawfulPlan}
-use Rattle.relay_serving.specs.declared.plan.ServePlan.{ServePlan}
-use Rattle.serving_commands.proofs.RelayPlanning.{lawful_plan, lawful_settings}
-use Rattle.serving_commands.proofs.RelayRuns.{ran_by, refused_by}
+use Rattle.std.proofs.{Common.{Ok, Err, inl, inr, refl, sym, subst, ap}, Math.Logic.{∥∥₁_map}}
+use Rattle.serving_commands.{specs.{declared.opening.live.OpenFault.{OpenFault}, Kinds.{relay_file}}, proofs.{RelayPlanning.{lawful_plan, lawful_settings}, RelayRuns.{ran_by, refused_by}, Deciding.{decided_on, decided_too, of_other}}}
+use Rattle.relay_serving.specs.{Plans.{IsLawfulPlan}, declared.plan.ServePlan.{ServePlan}}
 use Rattle.serving_commands.proofs.relay.running.run_relay.Goals as goal
-use Rattle.serving_commands.proofs.Deciding.{decided_on, decided_too, of_other}
-use Rattle.serving_commands.specs.Kinds.{relay_file}
 
 pub returns-in-Err-clause-unread : goal.returns-in-Err-clause-unread
 returns-in-Err-clause-unread g c = λ is. c.in-Err.ensures.failed (of_other c.in-Err.fault _ is)

@@ -1,7 +1,6 @@
 use Rattle.std.proofs.Common.{ap, ◌∙◌}
 use Rattle.source_filter.proofs.Compared.{compared}
-use Rattle.socket_merge.specs.Kept.{is_blank, tally_at, tally_with}
-use Rattle.socket_merge.proofs.Tallies.{AreNeeded-put, HasTally-as, HasTally-put, some_with}
+use Rattle.socket_merge.{specs.Kept.{is_blank, tally_at, tally_with}, proofs.Tallies.{AreNeeded-put, HasTally-as, HasTally-put, some_with}}
 use Rattle.socket_merge.proofs.groups.Groups.add.Goals as goal
 
 pub invariant_of-self-2 : goal.invariant_of-self-2

@@ -1,18 +1,7 @@
-use Rattle.std.proofs.Common.{◌≡◌, List, ◌++◌, ◌∷◌, [], false, map, sym, ap, subst, ◌∙◌, rules}
-use Rattle.std.specs.BTreeMap.{insert_entry}
-use Rattle.std.specs.List.{All}
-use Rattle.std.specs.List.Sorted.{IsStrictlySortedBy}
-use Rattle.std.specs.Map.{keys_of}
-use Rattle.std.specs.Map.Iter.{deref_pair}
-use Rattle.std.specs.declared.cmp.Ordering.{Ordering}
-use Rattle.std.proofs.lemmas.List.{map-append}
-use Rattle.std.proofs.lemmas.Map.Iter.{iter_end, rest_so_far}
-use Rattle.amt_values.specs.Order.{ip_order}
-use Rattle.amt_values.specs.declared.address.Ip.{Ip}
+use Rattle.std.{proofs.{Common.{◌≡◌, List, ◌++◌, ◌∷◌, [], false, map, sym, ap, subst, ◌∙◌, rules}, lemmas.{List.{map-append}, Map.Iter.{iter_end, rest_so_far}}}, specs.{BTreeMap.{insert_entry}, List.{All, Sorted.{IsStrictlySortedBy}}, Map.{keys_of, Iter.{deref_pair}}, declared.cmp.Ordering.{Ordering}}}
+use Rattle.amt_values.specs.{Order.{ip_order}, declared.address.Ip.{Ip}}
 use Rattle.source_filter.proofs.Compared.{compared}
-use Rattle.socket_merge.specs.Kept.{is_blank}
-use Rattle.socket_merge.specs.declared.stored.Tally.{Tally}
-use Rattle.socket_merge.proofs.Tallies.{AreNeeded-put, All-at, inserted_last}
+use Rattle.socket_merge.{specs.{Kept.{is_blank}, declared.stored.Tally.{Tally}}, proofs.Tallies.{AreNeeded-put, All-at, inserted_last}}
 use Rattle.socket_merge.proofs.groups.Groups.copy.Goals as goal
 
 pub loop-group-init : goal.loop-group-init

@@ -1,6 +1,5 @@
 use Rattle.std.proofs.Common.{refl, rules}
-use Rattle.socket_merge.specs.Kept.{tally_fresh}
-use Rattle.socket_merge.proofs.Tallies.{AreNeeded-replaced, HasTallies-replaced, retained}
+use Rattle.socket_merge.{specs.Kept.{tally_fresh}, proofs.Tallies.{AreNeeded-replaced, HasTallies-replaced, retained}}
 use Rattle.source_filter.proofs.Compared.{compared}
 use Rattle.socket_merge.proofs.groups.Groups.drop_old.Goals as goal
 

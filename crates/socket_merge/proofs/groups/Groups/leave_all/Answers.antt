@@ -1,6 +1,5 @@
 use Rattle.std.proofs.Common.{refl, rules}
-use Rattle.socket_merge.specs.Kept.{tally_left}
-use Rattle.socket_merge.proofs.Tallies.{AreNeeded-replaced, HasTallies-replaced, retained}
+use Rattle.socket_merge.{specs.Kept.{tally_left}, proofs.Tallies.{AreNeeded-replaced, HasTallies-replaced, retained}}
 use Rattle.source_filter.proofs.Compared.{compared}
 use Rattle.socket_merge.proofs.groups.Groups.leave_all.Goals as goal
 

@@ -1,11 +1,6 @@
-use Rattle.std.proofs.Common.{◌≡◌, ◌+◌, ◌≤◌, ℕ, List, ◌++◌, ◌∷◌, [], map, sym, ap, ◌∙◌, rules, arith}
-use Rattle.std.specs.Map.Iter.{deref_pair}
-use Rattle.std.proofs.lemmas.List.{map-append}
-use Rattle.std.proofs.lemmas.Map.Iter.{rest_so_far}
+use Rattle.std.{proofs.{Common.{◌≡◌, ◌+◌, ◌≤◌, ℕ, List, ◌++◌, ◌∷◌, [], map, sym, ap, ◌∙◌, rules, arith}, lemmas.{List.{map-append}, Map.Iter.{rest_so_far}}}, specs.Map.Iter.{deref_pair}}
 use Rattle.amt_values.specs.declared.address.Ip.{Ip}
-use Rattle.socket_merge.specs.Kept.{octets_besides, octets_in}
-use Rattle.socket_merge.specs.declared.stored.Tally.{Tally}
-use Rattle.socket_merge.proofs.WalkedGroups.{octets_more, octets_room, same_group-ne}
+use Rattle.socket_merge.{specs.{Kept.{octets_besides, octets_in}, declared.stored.Tally.{Tally}}, proofs.WalkedGroups.{octets_more, octets_room, same_group-ne}}
 use Rattle.socket_merge.proofs.groups.Groups.octets_besides.Goals as goal
 
 pub overflow_add-octets : goal.overflow_add-octets

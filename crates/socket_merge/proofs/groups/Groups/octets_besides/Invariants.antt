@@ -1,5 +1,4 @@
-use Rattle.std.proofs.Common.{◌≡◌, map}
-use Rattle.std.specs.Map.Iter.{deref_pair}
+use Rattle.std.{proofs.Common.{◌≡◌, map}, specs.Map.Iter.{deref_pair}}
 use Rattle.socket_merge.specs.Kept.{octets_besides}
 use Rattle.socket_merge.proofs.groups.Groups.octets_besides.Given as goal
 

@@ -1,11 +1,7 @@
-use Rattle.std.proofs.Common.{◌≡◌, ◌++◌, ◌∷◌, [], map, sym, ap, ◌∙◌}
-use Rattle.std.specs.List.{flat_map}
-use Rattle.std.specs.Map.Iter.{deref_pair}
-use Rattle.std.proofs.lemmas.List.{map-append}
+use Rattle.std.{proofs.{Common.{◌≡◌, ◌++◌, ◌∷◌, [], map, sym, ap, ◌∙◌}, lemmas.List.{map-append}}, specs.{List.{flat_map}, Map.Iter.{deref_pair}}}
 use Rattle.group_records.specs.contracts.family.FamilyPartialEq as families
 use Rattle.group_records.specs.declared.family.Family.{Family}
-use Rattle.socket_merge.specs.Kept.{said_of}
-use Rattle.socket_merge.proofs.WalkedGroups.{nothing_said, other_family}
+use Rattle.socket_merge.{specs.Kept.{said_of}, proofs.WalkedGroups.{nothing_said, other_family}}
 use Rattle.socket_merge.proofs.groups.Groups.report.Goals as goal
 
 pub loop-group-preserved : goal.loop-group-preserved

@@ -1,6 +1,4 @@
-use Rattle.std.proofs.Common.{◌≡◌, map}
-use Rattle.std.specs.List.{flat_map}
-use Rattle.std.specs.Map.Iter.{deref_pair}
+use Rattle.std.{proofs.Common.{◌≡◌, map}, specs.{List.{flat_map}, Map.Iter.{deref_pair}}}
 use Rattle.socket_merge.specs.Kept.{said_of}
 use Rattle.socket_merge.proofs.groups.Groups.report.Given as goal
 

@@ -1,10 +1,7 @@
-use Rattle.std.proofs.Common.{◌≡◌, is_some, false, true≢false, List, MutBor, refl, sym, ap, ◌∙◌}
-use Rattle.std.specs.Option.{option_map}
+use Rattle.std.{proofs.Common.{◌≡◌, is_some, false, true≢false, List, MutBor, refl, sym, ap, ◌∙◌}, specs.Option.{option_map}}
 use Rattle.amt_values.specs.declared.address.Ip.{Ip}
 use Rattle.source_filter.proofs.Compared.{compared}
-use Rattle.socket_merge.specs.Kept.{is_blank, tally_at}
-use Rattle.socket_merge.specs.declared.stored.Tally.{Tally}
-use Rattle.socket_merge.proofs.Tallies.{AreNeeded-gone, AreNeeded-set, HasTally-as, HasTally-gone, HasTally-put, blank-missing}
+use Rattle.socket_merge.{specs.{Kept.{is_blank, tally_at}, declared.stored.Tally.{Tally}}, proofs.Tallies.{AreNeeded-gone, AreNeeded-set, HasTally-as, HasTally-gone, HasTally-put, blank-missing}}
 use Rattle.socket_merge.proofs.groups.Groups.set.Goals as goal
 
 pub invariant_of-self : goal.invariant_of-self

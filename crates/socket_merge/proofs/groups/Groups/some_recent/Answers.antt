@@ -1,12 +1,5 @@
-use Rattle.std.proofs.Common.{Bool, ap, ◌∙◌, rules, tests}
-use Rattle.std.specs.Map.{values_of}
-use Rattle.std.specs.Map.Iter.{deref}
-use Rattle.std.proofs.lemmas.Iterator.Consumers.{YieldsList-from_rest}
-use Rattle.std.proofs.lemmas.Iterator.Search.{any_from_yields_List}
-use Rattle.socket_merge.specs.FullReport.{is_recent}
-use Rattle.socket_merge.specs.Kept.{some_recent}
-use Rattle.socket_merge.specs.declared.stored.Tally.{Tally}
-use Rattle.socket_merge.proofs.Tallies.{list_any-values}
+use Rattle.std.{proofs.{Common.{Bool, ap, ◌∙◌, rules, tests}, lemmas.Iterator.{Consumers.{YieldsList-from_rest}, Search.{any_from_yields_List}}}, specs.Map.{values_of, Iter.{deref}}}
+use Rattle.socket_merge.{specs.{FullReport.{is_recent}, Kept.{some_recent}, declared.stored.Tally.{Tally}}, proofs.Tallies.{list_any-values}}
 use Rattle.socket_merge.proofs.groups.Groups.some_recent.Goals as goal
 
 pub returns : goal.returns

@@ -1,10 +1,7 @@
-use Rattle.std.proofs.Common.{Bor, List, sym, ap, ◌∙◌}
-use Rattle.std.specs.Option.{option_map}
+use Rattle.std.{proofs.Common.{Bor, List, sym, ap, ◌∙◌}, specs.Option.{option_map}}
 use Rattle.amt_values.specs.declared.address.Ip.{Ip}
 use Rattle.source_filter.proofs.Compared.{compared}
-use Rattle.socket_merge.specs.Kept.{blank, tally_at}
-use Rattle.socket_merge.specs.declared.stored.Tally.{Tally}
-use Rattle.socket_merge.proofs.Tallies.{blank-missing, tally_at-found}
+use Rattle.socket_merge.{specs.{Kept.{blank, tally_at}, declared.stored.Tally.{Tally}}, proofs.Tallies.{blank-missing, tally_at-found}}
 use Rattle.socket_merge.proofs.groups.Groups.tally.Goals as goal
 
 pub returns-in-Some : goal.returns-in-Some

@@ -1,11 +1,6 @@
-use Rattle.std.proofs.Common.{◌≡◌, ◌++◌, List, map, ap, ◌∙◌, rules}
-use Rattle.std.specs.Map.{values_of}
-use Rattle.std.specs.Map.Iter.{deref}
-use Rattle.std.proofs.lemmas.Map.Iter.{iter_end}
+use Rattle.std.{proofs.{Common.{◌≡◌, ◌++◌, List, map, ap, ◌∙◌, rules}, lemmas.Map.Iter.{iter_end}}, specs.Map.{values_of, Iter.{deref}}}
 use Rattle.amt_values.specs.declared.address.Ip.{Ip}
-use Rattle.socket_merge.specs.declared.stored.StoredSocket.{StoredSocket}
-use Rattle.socket_merge.specs.History.{Socket}
-use Rattle.socket_merge.proofs.NamedOnes.{groups-stored}
+use Rattle.socket_merge.{specs.{declared.stored.StoredSocket.{StoredSocket}, History.{Socket}}, proofs.NamedOnes.{groups-stored}}
 use Rattle.socket_merge.proofs.named.NamedSockets.append_groups.Goals as goal
 
 pub returns : goal.returns

@@ -1,5 +1,4 @@
-use Rattle.std.proofs.Common.{◌≡◌, ◌++◌, map}
-use Rattle.std.specs.Map.Iter.{deref}
+use Rattle.std.{proofs.Common.{◌≡◌, ◌++◌, map}, specs.Map.Iter.{deref}}
 use Rattle.socket_merge.specs.declared.stored.StoredSocket.{StoredSocket}
 use Rattle.socket_merge.proofs.named.NamedSockets.append_groups.Given as goal
 

@@ -1,13 +1,5 @@
-use Rattle.std.proofs.Common.{◌≡◌, ℕ, None, List, ◌++◌, ◌∷◌, map, sym, ap, subst, ◌∙◌, rules}
-use Rattle.std.specs.Global.{Vec}
-use Rattle.std.specs.List.{IsDistinct}
-use Rattle.std.specs.Map.{keys_of}
-use Rattle.std.specs.Map.Iter.{deref_pair}
-use Rattle.std.proofs.lemmas.Map.Iter.{rest_so_far}
-use Rattle.socket_merge.specs.History.{socket_named}
-use Rattle.socket_merge.specs.Kept.{socket_of}
-use Rattle.socket_merge.specs.declared.stored.StoredSocket.{StoredSocket}
-use Rattle.socket_merge.proofs.NamedOnes.{absent_so_far, same_key}
+use Rattle.std.{proofs.{Common.{◌≡◌, ℕ, None, List, ◌++◌, ◌∷◌, map, sym, ap, subst, ◌∙◌, rules}, lemmas.Map.Iter.{rest_so_far}}, specs.{Global.{Vec}, List.{IsDistinct}, Map.{keys_of, Iter.{deref_pair}}}}
+use Rattle.socket_merge.{specs.{History.{socket_named}, Kept.{socket_of}, declared.stored.StoredSocket.{StoredSocket}}, proofs.NamedOnes.{absent_so_far, same_key}}
 use Rattle.socket_merge.proofs.named.NamedSockets.copy.Goals as goal
 
 pub insert-requires : goal.insert-requires

@@ -1,5 +1,4 @@
-use Rattle.std.proofs.Common.{◌≡◌, map}
-use Rattle.std.specs.Map.Iter.{deref_pair}
+use Rattle.std.{proofs.Common.{◌≡◌, map}, specs.Map.Iter.{deref_pair}}
 use Rattle.socket_merge.specs.Kept.{socket_of}
 use Rattle.socket_merge.proofs.named.NamedSockets.copy.Given as goal
 

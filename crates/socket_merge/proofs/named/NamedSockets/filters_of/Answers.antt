@@ -1,9 +1,5 @@
-use Rattle.std.proofs.Common.{◌≡◌, map, ap, ◌∙◌, rules}
-use Rattle.std.specs.Map.{values_of}
-use Rattle.std.specs.Map.Iter.{deref}
-use Rattle.std.proofs.lemmas.Map.Iter.{iter_end}
-use Rattle.socket_merge.specs.Interface.{filters_on}
-use Rattle.socket_merge.proofs.NamedOnes.{filters_on-stored, filters_stored}
+use Rattle.std.{proofs.{Common.{◌≡◌, map, ap, ◌∙◌, rules}, lemmas.Map.Iter.{iter_end}}, specs.Map.{values_of, Iter.{deref}}}
+use Rattle.socket_merge.{specs.Interface.{filters_on}, proofs.NamedOnes.{filters_on-stored, filters_stored}}
 use Rattle.socket_merge.proofs.named.NamedSockets.filters_of.Goals as goal
 
 pub returns : goal.returns

@@ -1,5 +1,4 @@
-use Rattle.std.proofs.Common.{◌≡◌, map}
-use Rattle.std.specs.Map.Iter.{deref}
+use Rattle.std.{proofs.Common.{◌≡◌, map}, specs.Map.Iter.{deref}}
 use Rattle.socket_merge.proofs.NamedOnes.{filters_stored}
 use Rattle.socket_merge.proofs.named.NamedSockets.filters_of.Given as goal
 

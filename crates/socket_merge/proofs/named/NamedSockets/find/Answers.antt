@@ -1,11 +1,6 @@
-use Rattle.std.proofs.Common.{List, Some, Bor, ap, sym, refl, ◌∙◌}
-use Rattle.std.specs.Option.{option_map}
+use Rattle.std.{proofs.Common.{List, Some, Bor, ap, sym, refl, ◌∙◌}, specs.Option.{option_map}}
 use Rattle.amt_values.specs.declared.address.Ip.{Ip}
-use Rattle.socket_merge.specs.History.{Socket, same_name, socket_named}
-use Rattle.socket_merge.specs.Kept.{share_of}
-use Rattle.socket_merge.specs.declared.stored.Share.{Share}
-use Rattle.socket_merge.specs.declared.stored.StoredSocket.{StoredSocket}
-use Rattle.socket_merge.proofs.NamedOnes.{found-lookup}
+use Rattle.socket_merge.{specs.{History.{Socket, same_name, socket_named}, Kept.{share_of}, declared.stored.{Share.{Share}, StoredSocket.{StoredSocket}}}, proofs.NamedOnes.{found-lookup}}
 use Rattle.socket_merge.proofs.named.NamedSockets.find.Goals as goal
 
 abbrev found : Socket → Ip × Share

@@ -1,11 +1,6 @@
-use Rattle.std.proofs.Common.{ℕ, List, ◌∷◌, ◌++◌, [], None, ◌≡◌, map, ap, ◌∙◌}
-use Rattle.std.proofs.lemmas.List.{map-append}
-use Rattle.indexmap.specs.IndexMap.{get}
-use Rattle.indexmap.proofs.CallerLemmas.{insert_entry-new}
-use Rattle.socket_merge.specs.History.{Socket, same_name, socket_named}
-use Rattle.socket_merge.specs.Kept.{socket_of}
-use Rattle.socket_merge.specs.declared.stored.StoredSocket.{StoredSocket}
-use Rattle.socket_merge.proofs.NamedOnes.{absent-lookup, same_key}
+use Rattle.std.proofs.{Common.{ℕ, List, ◌∷◌, ◌++◌, [], None, ◌≡◌, map, ap, ◌∙◌}, lemmas.List.{map-append}}
+use Rattle.indexmap.{specs.IndexMap.{get}, proofs.CallerLemmas.{insert_entry-new}}
+use Rattle.socket_merge.{specs.{History.{Socket, same_name, socket_named}, Kept.{socket_of}, declared.stored.StoredSocket.{StoredSocket}}, proofs.NamedOnes.{absent-lookup, same_key}}
 use Rattle.socket_merge.proofs.named.NamedSockets.insert.Goals as goal
 
 pub returns-in-Ok-clause-ok : goal.returns-in-Ok-clause-ok

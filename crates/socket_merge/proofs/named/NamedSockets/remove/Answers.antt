@@ -1,10 +1,5 @@
-use Rattle.std.proofs.Common.{ℕ, List, map, sym, ap, ◌∙◌}
-use Rattle.std.specs.Global.{Vec}
-use Rattle.std.specs.Map.{lookup}
-use Rattle.socket_merge.specs.History.{same_name}
-use Rattle.socket_merge.specs.Kept.{socket_of}
-use Rattle.socket_merge.specs.declared.stored.StoredSocket.{StoredSocket}
-use Rattle.socket_merge.proofs.NamedOnes.{key_test, others, others-removed}
+use Rattle.std.{proofs.Common.{ℕ, List, map, sym, ap, ◌∙◌}, specs.{Global.{Vec}, Map.{lookup}}}
+use Rattle.socket_merge.{specs.{History.{same_name}, Kept.{socket_of}, declared.stored.StoredSocket.{StoredSocket}}, proofs.NamedOnes.{key_test, others, others-removed}}
 use Rattle.socket_merge.proofs.named.NamedSockets.remove.Goals as goal
 
 pub returns : goal.returns

@@ -1,11 +1,6 @@
-use Rattle.std.proofs.Common.{ℕ, MutBor, map, sym, ap, ◌∙◌}
-use Rattle.std.specs.Global.{Vec}
-use Rattle.std.specs.Option.{option_map}
+use Rattle.std.{proofs.Common.{ℕ, MutBor, map, sym, ap, ◌∙◌}, specs.{Global.{Vec}, Option.{option_map}}}
 use Rattle.indexmap.specs.IndexMap.{IndexMap}
-use Rattle.socket_merge.specs.History.{refiltered}
-use Rattle.socket_merge.specs.Kept.{socket_of}
-use Rattle.socket_merge.specs.declared.stored.StoredSocket.{StoredSocket}
-use Rattle.socket_merge.proofs.NamedOnes.{refiltered-none, refiltered-written}
+use Rattle.socket_merge.{specs.{History.{refiltered}, Kept.{socket_of}, declared.stored.StoredSocket.{StoredSocket}}, proofs.NamedOnes.{refiltered-none, refiltered-written}}
 use Rattle.socket_merge.proofs.named.NamedSockets.set_filter.Goals as goal
 
 pub returns-in_default : goal.returns-in_default

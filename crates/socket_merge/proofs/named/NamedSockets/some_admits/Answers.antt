@@ -1,10 +1,5 @@
-use Rattle.std.proofs.Common.{rules, tests, ap, ◌∙◌}
-use Rattle.std.specs.Map.{values_of}
-use Rattle.std.specs.Map.Iter.{deref}
-use Rattle.std.proofs.lemmas.Iterator.Consumers.{YieldsList-from_rest}
-use Rattle.std.proofs.lemmas.Iterator.Search.{any_from_yields_List}
-use Rattle.socket_merge.specs.Interface.{some_admits}
-use Rattle.socket_merge.proofs.NamedOnes.{admits_stored, some_admits-stored}
+use Rattle.std.{proofs.{Common.{rules, tests, ap, ◌∙◌}, lemmas.Iterator.{Consumers.{YieldsList-from_rest}, Search.{any_from_yields_List}}}, specs.Map.{values_of, Iter.{deref}}}
+use Rattle.socket_merge.{specs.Interface.{some_admits}, proofs.NamedOnes.{admits_stored, some_admits-stored}}
 use Rattle.socket_merge.proofs.named.NamedSockets.some_admits.Goals as goal
 
 pub returns : goal.returns

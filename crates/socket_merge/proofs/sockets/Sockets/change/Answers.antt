@@ -1,22 +1,8 @@
-use Rattle.std.proofs.Common.{◌≡◌, ℕ, ◌+◌, ◌-◌, max, List, Option, None, Some, sym, ap, subst, ◌∙◌, arith}
-use Rattle.std.specs.Option.{option_map}
-use Rattle.amt_values.specs.declared.address.Ip.{Ip}
-use Rattle.amt_values.specs.Conditions.{first_holding}
+use Rattle.std.{proofs.Common.{◌≡◌, ℕ, ◌+◌, ◌-◌, max, List, Option, None, Some, sym, ap, subst, ◌∙◌, arith}, specs.Option.{option_map}}
+use Rattle.amt_values.specs.{declared.address.Ip.{Ip}, Conditions.{first_holding}}
 use Rattle.source_filter.specs.Filter.{FilterValue}
-use Rattle.socket_merge.specs.History.{AcceptedCall, Change, Socket, socket_named, sockets_after, with_call}
-use Rattle.socket_merge.specs.Kept.{AreNeeded, HasTally, IsConsistent, share_of, tally_at, tally_changed}
-use Rattle.socket_merge.specs.Refusal.{refusal_of}
-use Rattle.socket_merge.specs.Sockets.{AreOfSocket, KeepsFarewells, SocketsHold, SocketsValue}
-use Rattle.socket_merge.specs.declared.fault.SocketFault.{SocketFault}
-use Rattle.socket_merge.specs.declared.fault.SocketFault.TheVariants.{NoSocket}
-use Rattle.socket_merge.specs.declared.stored.Share.{Share}
-use Rattle.socket_merge.specs.declared.stored.Tally.{Tally}
-use Rattle.socket_merge.proofs.Back.{IsSound-of}
-use Rattle.socket_merge.proofs.Calls.{IsChanged, MayChange-of, consistent_changed, holds_changed, limit_changed, refused_change, told_of, unknown_name, value_of}
-use Rattle.socket_merge.proofs.Keeping.{keeps_changed}
-use Rattle.socket_merge.proofs.Consistent.{HasRoom-of}
-use Rattle.socket_merge.proofs.Refused.{answers_accepted, answers_memory, answers_refused, limits_of, refusal-unknown}
-use Rattle.socket_merge.proofs.Limits.{within_limits}
+use Rattle.socket_merge.specs.{History.{AcceptedCall, Change, Socket, socket_named, sockets_after, with_call}, Kept.{AreNeeded, HasTally, IsConsistent, share_of, tally_at, tally_changed}, Refusal.{refusal_of}, Sockets.{AreOfSocket, KeepsFarewells, SocketsHold, SocketsValue}, declared.{fault.SocketFault.{SocketFault, TheVariants.{NoSocket}}, stored.{Share.{Share}, Tally.{Tally}}}}
+use Rattle.socket_merge.proofs.{Back.{IsSound-of}, Calls.{IsChanged, MayChange-of, consistent_changed, holds_changed, limit_changed, refused_change, told_of, unknown_name, value_of}, Keeping.{keeps_changed}, Consistent.{HasRoom-of}, Refused.{answers_accepted, answers_memory, answers_refused, limits_of, refusal-unknown}, Limits.{within_limits}}
 use Rattle.socket_merge.proofs.sockets.Sockets.change.Goals as goal
 
 pub returns-in_default-clause-refused : goal.returns-in_default-clause-refused

@@ -1,19 +1,9 @@
-use Rattle.std.proofs.Common.{◌≡◌, ◌≤◌, true, List, sym, ap, subst, ◌∙◌}
-use Rattle.std.specs.List.{All}
-use Rattle.std.specs.Result.{IfOk}
-use Rattle.std.proofs.lemmas.Result.{IfOk-weaker}
+use Rattle.std.{proofs.{Common.{◌≡◌, ◌≤◌, true, List, sym, ap, subst, ◌∙◌}, lemmas.Result.{IfOk-weaker}}, specs.{List.{All}, Result.{IfOk}}}
 use Rattle.amt_values.specs.Group.{is_forwardable}
 use Rattle.source_filter.specs.declared.record.Record.{Record}
-use Rattle.group_records.specs.Written.{IsOfFamily, report_length}
-use Rattle.group_records.specs.declared.family.Family.{Family}
-use Rattle.socket_merge.specs.Changes.{IsOneCallAfter, changes_between}
-use Rattle.socket_merge.specs.FullReport.{family_by}
-use Rattle.socket_merge.specs.History.{Socket}
-use Rattle.socket_merge.specs.Sockets.{SocketsValue}
-use Rattle.socket_merge.proofs.Changed.{changes-forwarded, changes-of_family}
-use Rattle.socket_merge.proofs.ShortChanges.{short-kept}
+use Rattle.group_records.specs.{Written.{IsOfFamily, report_length}, declared.family.Family.{Family}}
+use Rattle.socket_merge.{specs.{Changes.{IsOneCallAfter, changes_between}, FullReport.{family_by}, History.{Socket}, Sockets.{SocketsValue}}, proofs.{Changed.{changes-forwarded, changes-of_family}, ShortChanges.{short-kept}, sockets.Sockets.changes_since.Goals.{After-changes_between, then-v6, else-v6}}}
 use Rattle.socket_merge.proofs.sockets.Sockets.changes_since.Goals as goal
-use Rattle.socket_merge.proofs.sockets.Sockets.changes_since.Goals.{After-changes_between, then-v6, else-v6}
 
 family : (c : After-changes_between) → c.if-v6.family ≡ family_by c.args.v6
 family c = elim c.if-v6.branch [

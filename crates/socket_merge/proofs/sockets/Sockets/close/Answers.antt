@@ -1,10 +1,5 @@
 use Rattle.std.proofs.Common.{List, sym, subst, ◌∙◌, arith}
-use Rattle.socket_merge.specs.History.{AcceptedCall, Close, with_call}
-use Rattle.socket_merge.specs.Sockets.{KeepsFarewells, SocketsHold, SocketsValue}
-use Rattle.socket_merge.proofs.Back.{IsSound-of}
-use Rattle.socket_merge.proofs.Calls.{consistent_closed, holds_closed, value_of}
-use Rattle.socket_merge.proofs.Keeping.{keeps_closed}
-use Rattle.socket_merge.proofs.Limits.{fills_closed, within_limits}
+use Rattle.socket_merge.{specs.{History.{AcceptedCall, Close, with_call}, Sockets.{KeepsFarewells, SocketsHold, SocketsValue}}, proofs.{Back.{IsSound-of}, Calls.{consistent_closed, holds_closed, value_of}, Keeping.{keeps_closed}, Limits.{fills_closed, within_limits}}}
 use Rattle.socket_merge.proofs.sockets.Sockets.close.Goals as goal
 
 pub invariant_of-self : goal.invariant_of-self

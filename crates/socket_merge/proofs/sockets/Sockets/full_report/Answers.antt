@@ -1,23 +1,10 @@
-use Rattle.std.proofs.Common.{◌≡◌, ℕ, ◌≤◌, true, max, List, sym, ap, subst, ◌∙◌, arith}
-use Rattle.std.specs.List.{All, flat_map}
-use Rattle.std.specs.Result.{IfOk}
-use Rattle.std.proofs.lemmas.Result.{IfOk-weaker}
-use Rattle.amt_values.specs.Group.{is_forwardable}
-use Rattle.amt_values.specs.declared.address.Ip.{Ip}
+use Rattle.std.{proofs.{Common.{◌≡◌, ℕ, ◌≤◌, true, max, List, sym, ap, subst, ◌∙◌, arith}, lemmas.Result.{IfOk-weaker}}, specs.{List.{All, flat_map}, Result.{IfOk}}}
+use Rattle.amt_values.specs.{Group.{is_forwardable}, declared.address.Ip.{Ip}}
 use Rattle.source_filter.specs.declared.record.Record.{Record}
-use Rattle.group_records.specs.Written.{IsOfFamily, report_length}
-use Rattle.group_records.specs.declared.family.Family.{Family}
-use Rattle.socket_merge.specs.FullReport.{family_by, full_report_of}
-use Rattle.socket_merge.specs.History.{AcceptedCall, Socket, moment_read}
-use Rattle.socket_merge.specs.Kept.{octets_of, said_of}
-use Rattle.socket_merge.specs.Refusal.{raw_report_length}
-use Rattle.socket_merge.specs.Sockets.{SocketsHold, SocketsValue}
-use Rattle.socket_merge.specs.declared.stored.Tally.{Tally}
-use Rattle.socket_merge.proofs.Calls.{Stands-of}
-use Rattle.socket_merge.proofs.RawOctets.{octets-raw}
-use Rattle.socket_merge.proofs.Reports.{full_report-is, said-forwarded, said-of_family, said-short}
+use Rattle.group_records.specs.{Written.{IsOfFamily, report_length}, declared.family.Family.{Family}}
+use Rattle.socket_merge.specs.{FullReport.{family_by, full_report_of}, History.{AcceptedCall, Socket, moment_read}, Kept.{octets_of, said_of}, Refusal.{raw_report_length}, Sockets.{SocketsHold, SocketsValue}}
+use Rattle.socket_merge.{specs.declared.stored.Tally.{Tally}, proofs.{Calls.{Stands-of}, RawOctets.{octets-raw}, Reports.{full_report-is, said-forwarded, said-of_family, said-short}, sockets.Sockets.full_report.Goals.{After-report, then-v6, else-v6}}}
 use Rattle.socket_merge.proofs.sockets.Sockets.full_report.Goals as goal
-use Rattle.socket_merge.proofs.sockets.Sockets.full_report.Goals.{After-report, then-v6, else-v6}
 
 family : (c : After-report) → c.if-v6.family ≡ family_by c.args.v6
 family c = elim c.if-v6.branch [

@@ -1,10 +1,5 @@
 use Rattle.std.proofs.Common.{List, sym, subst, arith}
-use Rattle.socket_merge.specs.History.{AcceptedCall, LeaveAll, with_call}
-use Rattle.socket_merge.specs.Sockets.{KeepsFarewells, SocketsHold, SocketsValue}
-use Rattle.socket_merge.proofs.Back.{IsSound-of}
-use Rattle.socket_merge.proofs.Calls.{consistent_left, holds_left, value_of}
-use Rattle.socket_merge.proofs.Keeping.{keeps_left}
-use Rattle.socket_merge.proofs.Limits.{fills_left, within_limits}
+use Rattle.socket_merge.{specs.{History.{AcceptedCall, LeaveAll, with_call}, Sockets.{KeepsFarewells, SocketsHold, SocketsValue}}, proofs.{Back.{IsSound-of}, Calls.{consistent_left, holds_left, value_of}, Keeping.{keeps_left}, Limits.{fills_left, within_limits}}}
 use Rattle.socket_merge.proofs.sockets.Sockets.leave_all.Goals as goal
 
 pub invariant_of-self : goal.invariant_of-self

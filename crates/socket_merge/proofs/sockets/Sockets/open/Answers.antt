@@ -1,21 +1,8 @@
-use Rattle.std.proofs.Common.{◌≡◌, ℕ, ◌+◌, ◌-◌, Bool, false, is_some, List, [], ◌∷◌, ◌++◌, length, Option, None, sym, ap, subst, ◌∙◌, arith}
-use Rattle.std.specs.Option.{option_map}
-use Rattle.amt_values.specs.declared.address.Ip.{Ip}
-use Rattle.amt_values.specs.Conditions.{first_holding}
+use Rattle.std.{proofs.Common.{◌≡◌, ℕ, ◌+◌, ◌-◌, Bool, false, is_some, List, [], ◌∷◌, ◌++◌, length, Option, None, sym, ap, subst, ◌∙◌, arith}, specs.Option.{option_map}}
+use Rattle.amt_values.specs.{declared.address.Ip.{Ip}, Conditions.{first_holding}}
 use Rattle.source_filter.specs.Filter.{FilterValue}
-use Rattle.socket_merge.specs.History.{AcceptedCall, Open, Socket, socket_named}
-use Rattle.socket_merge.specs.Kept.{AreNeeded, HasTallies, HasTally, share_of, tally_at, tally_fresh, tally_with}
-use Rattle.socket_merge.specs.Refusal.{refusal_of}
-use Rattle.socket_merge.specs.Sockets.{SocketsHold, SocketsValue}
-use Rattle.socket_merge.specs.declared.fault.SocketFault.{SocketFault}
-use Rattle.socket_merge.specs.declared.fault.SocketFault.TheVariants.{Taken}
-use Rattle.socket_merge.specs.declared.stored.Share.{Share}
-use Rattle.socket_merge.specs.declared.stored.Tally.{Tally}
-use Rattle.socket_merge.proofs.Back.{IsSound-of}
-use Rattle.socket_merge.proofs.Calls.{IsOpened, absent_by, besides_short, consistent_opened, drops_old, holds_opened, limit_opened, refused_opening, taken_by}
-use Rattle.socket_merge.proofs.Consistent.{HasRoom-of}
-use Rattle.socket_merge.proofs.Refused.{answers_accepted, answers_memory, answers_refused, limits_of, refusal-taken}
-use Rattle.socket_merge.proofs.Limits.{within_limits}
+use Rattle.socket_merge.specs.{History.{AcceptedCall, Open, Socket, socket_named}, Kept.{AreNeeded, HasTallies, HasTally, share_of, tally_at, tally_fresh, tally_with}, Refusal.{refusal_of}, Sockets.{SocketsHold, SocketsValue}, declared.{fault.SocketFault.{SocketFault, TheVariants.{Taken}}, stored.{Share.{Share}, Tally.{Tally}}}}
+use Rattle.socket_merge.proofs.{Back.{IsSound-of}, Calls.{IsOpened, absent_by, besides_short, consistent_opened, drops_old, holds_opened, limit_opened, refused_opening, taken_by}, Consistent.{HasRoom-of}, Refused.{answers_accepted, answers_memory, answers_refused, limits_of, refusal-taken}, Limits.{within_limits}}
 use Rattle.socket_merge.proofs.sockets.Sockets.open.Goals as goal
 
 pub returns-then-is_some-clause-refused : goal.returns-then-is_some-clause-refused

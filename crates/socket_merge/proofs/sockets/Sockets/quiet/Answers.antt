@@ -1,10 +1,5 @@
 use Rattle.std.proofs.Common.{◌≡◌, ℕ, Bool, not, ◌&&◌, max, List, sym, ap, subst, ◌∙◌, arith}
-use Rattle.socket_merge.specs.FullReport.{is_quiet}
-use Rattle.socket_merge.specs.History.{AcceptedCall, moment_read}
-use Rattle.socket_merge.specs.Kept.{some_recent}
-use Rattle.socket_merge.specs.Sockets.{SocketsHold, SocketsValue}
-use Rattle.socket_merge.proofs.Calls.{Stands-of}
-use Rattle.socket_merge.proofs.Reports.{is_quiet-by}
+use Rattle.socket_merge.{specs.{FullReport.{is_quiet}, History.{AcceptedCall, moment_read}, Kept.{some_recent}, Sockets.{SocketsHold, SocketsValue}}, proofs.{Calls.{Stands-of}, Reports.{is_quiet-by}}}
 use Rattle.socket_merge.proofs.sockets.Sockets.quiet.Goals as goal
 
 pub returns-then-is_empty : goal.returns-then-is_empty

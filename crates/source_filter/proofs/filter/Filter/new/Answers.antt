@@ -1,7 +1,5 @@
 use Rattle.std.proofs.Common.{ap, ◌∙◌}
-use Rattle.source_filter.specs.Filter.{ascending_sources}
-use Rattle.source_filter.specs.Record.{lists}
-use Rattle.source_filter.proofs.FilterAfter.{lists-ascending}
+use Rattle.source_filter.{specs.{Filter.{ascending_sources}, Record.{lists}}, proofs.FilterAfter.{lists-ascending}}
 use Rattle.source_filter.proofs.filter.Filter.new.Goals as goal
 
 pub returns-clause-listed : goal.returns-clause-listed

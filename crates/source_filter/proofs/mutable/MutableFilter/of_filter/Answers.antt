@@ -1,9 +1,6 @@
 use Rattle.std.proofs.Common.{List, ap, ◌∙◌}
-use Rattle.amt_values.specs.declared.address.Ip.{Ip}
-use Rattle.amt_values.specs.Order.{ip_order}
-use Rattle.amt_values.specs.Ascending.{union}
-use Rattle.source_filter.specs.declared.mode.Mode.{Mode}
-use Rattle.source_filter.proofs.SourceSets.{listing, ascending_listed}
+use Rattle.amt_values.specs.{declared.address.Ip.{Ip}, Order.{ip_order}, Ascending.{union}}
+use Rattle.source_filter.{specs.declared.mode.Mode.{Mode}, proofs.SourceSets.{listing, ascending_listed}}
 use Rattle.source_filter.proofs.mutable.MutableFilter.of_filter.Goals as goal
 
 pub returns : goal.returns

@@ -1,9 +1,5 @@
-use Rattle.std.proofs.Common.{List, ◌++◌, sym, ap, subst, ◌∙◌, append-nil}
-use Rattle.std.specs.Map.Iter.{deref}
-use Rattle.std.proofs.lemmas.Map.Iter.{rest_all}
-use Rattle.amt_values.specs.declared.address.Ip.{Ip}
-use Rattle.amt_values.specs.Order.{ip_order}
-use Rattle.amt_values.specs.Ascending.{IsAscending}
+use Rattle.std.{proofs.{Common.{List, ◌++◌, sym, ap, subst, ◌∙◌, append-nil}, lemmas.Map.Iter.{rest_all}}, specs.Map.Iter.{deref}}
+use Rattle.amt_values.specs.{declared.address.Ip.{Ip}, Order.{ip_order}, Ascending.{IsAscending}}
 use Rattle.source_filter.specs.Filter.{FilterValue}
 use Rattle.source_filter.proofs.mutable.MutableFilter.sources.Goals as goal
 

@@ -1,11 +1,6 @@
-use Rattle.std.proofs.Common.{[], ◌∷◌, ◌+◌, ℕ, ap, length, ◌∙◌, sym, arith, length-append}
-use Rattle.std.proofs.Math.Logic.{∥∥₁_map}
-use Rattle.std.proofs.lemmas.List.Elements.{All-head}
-use Rattle.published_table.specs.Lists.{BeginsWith}
-use Rattle.published_table.specs.Views.{named, seen, told}
-use Rattle.replication_workers.specs.JobsSoFar.{jobs_listed}
-use Rattle.replication_workers.specs.Replicators.{view_of}
-use Rattle.replication_workers.proofs.Handling.{has_handled_then}
+use Rattle.std.proofs.{Common.{[], ◌∷◌, ◌+◌, ℕ, ap, length, ◌∙◌, sym, arith, length-append}, Math.Logic.{∥∥₁_map}, lemmas.List.Elements.{All-head}}
+use Rattle.published_table.specs.{Lists.{BeginsWith}, Views.{named, seen, told}}
+use Rattle.replication_workers.{specs.{JobsSoFar.{jobs_listed}, Replicators.{view_of}}, proofs.Handling.{has_handled_then}}
 use Rattle.replication_workers.proofs.dispatcher.inline_slot.InlineSlot.copy.Goals as goal
 
 pub replicate-copied-requires : goal.replicate-copied-requires

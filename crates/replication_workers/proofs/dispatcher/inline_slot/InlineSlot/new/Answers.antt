@@ -1,9 +1,5 @@
 use Rattle.std.proofs.Common.{[], sym, subst}
-use Rattle.replication_workers.specs.Backs.{IsBack}
-use Rattle.replication_workers.specs.Replicators.{out_of, view_of}
-use Rattle.replication_workers.specs.Workers.{HasHandled}
-use Rattle.replication_workers.proofs.Backs.{back_itself}
-use Rattle.replication_workers.proofs.Handling.{has_handled_none}
+use Rattle.replication_workers.{specs.{Backs.{IsBack}, Replicators.{out_of, view_of}, Workers.{HasHandled}}, proofs.{Backs.{back_itself}, Handling.{has_handled_none}}}
 use Rattle.replication_workers.proofs.dispatcher.inline_slot.InlineSlot.new.Goals as goal
 
 pub invariant_of-result-clause-has_handled : goal.invariant_of-result-clause-has_handled

@@ -1,8 +1,6 @@
 use Rattle.std.proofs.Common.{◌≡◌, ◌<◌, ◌^◌, ◌∙◌, ap, length, subst, sym, true≢false}
 use Rattle.published_table.specs.Views.{note_publisher, publisher_of}
-use Rattle.replication_workers.specs.KeptSlots.{is_threaded_slot, state_of}
-use Rattle.replication_workers.specs.Replicators.{view_of}
-use Rattle.replication_workers.proofs.Giving.{copied_inline, inline_next, threaded_next, threaded_runs}
+use Rattle.replication_workers.{specs.{KeptSlots.{is_threaded_slot, state_of}, Replicators.{view_of}}, proofs.Giving.{copied_inline, inline_next, threaded_next, threaded_runs}}
 use Rattle.replication_workers.proofs.dispatcher.kept.Kept.give.Goals as goal
 
 pub put-requires-clause-few : goal.put-requires-clause-few

@@ -1,9 +1,6 @@
 use Rattle.std.proofs.Common.{◌≡◌, ◌⊎◌, ◌∙◌, Contains, ap, false, inl, inr, subst, sym}
-use Rattle.amt_ports.specs.Causes.{next_count}
-use Rattle.amt_ports.specs.Tally.{with_call}
-use Rattle.serving_commands.specs.Sets.{fits_relay}
-use Rattle.serving_commands.specs.declared.opening.live.OpenFault.TheVariants.{Failed}
-use Rattle.serving_commands.proofs.Faults.{same_fault}
+use Rattle.amt_ports.specs.{Causes.{next_count}, Tally.{with_call}}
+use Rattle.serving_commands.{specs.{Sets.{fits_relay}, declared.opening.live.OpenFault.TheVariants.{Failed}}, proofs.Faults.{same_fault}}
 use Rattle.serving_commands.proofs.opening.memory.MemLiveLive.open_relay.Goals as goal
 
 pub returns-in-Err-clause-quiet : goal.returns-in-Err-clause-quiet

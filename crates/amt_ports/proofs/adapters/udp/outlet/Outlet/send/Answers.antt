@@ -1,8 +1,5 @@
 use Rattle.std.proofs.Common.{refl, subst, [], ◌∷◌}
-use Rattle.amt_ports.specs.Outlets.{once, tried, try_of, twice, waited}
-use Rattle.amt_ports.specs.Told.{AppendsAll}
-use Rattle.amt_ports.specs.declared.adapters.udp.outlet.Attempt.TheVariants.{Full}
-use Rattle.amt_ports.proofs.Told.{AppendsAll-then}
+use Rattle.amt_ports.{specs.{Outlets.{once, tried, try_of, twice, waited}, Told.{AppendsAll}, declared.adapters.udp.outlet.Attempt.TheVariants.{Full}}, proofs.Told.{AppendsAll-then}}
 use Rattle.amt_ports.proofs.adapters.udp.outlet.Outlet.send.Goals as goal
 
 pub returns-then-not-is_to_wait-clause-course : goal.returns-then-not-is_to_wait-clause-course
