@@ -1,4 +1,4 @@
-//! The lines of a datagram. It must not know where it stands.
+//! The lines of a datagram.
 
 ghost use Rattle.std.specs.Prelude.{◌≡◌, ◌≤◌, ◌++◌, codes, length, Ok, OnOk};
 ghost use Rattle.amt_messages.specs.Messages.{IsSendable};

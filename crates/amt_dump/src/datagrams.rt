@@ -1,4 +1,4 @@
-//! Datagrams, read from lines of hexadecimal digits. It must not know what they spell.
+//! Datagrams, read from lines of hexadecimal digits.
 
 ghost use Rattle.std.specs.{Prelude.{◌≤◌, length, IfOk, IfErr}, List.{AllByRecursion}};
 ghost use Rattle.script_lines.specs.Script.{Spells, IsErrorOf, RulesOutScripts, HasOneScript, HasOneFault};

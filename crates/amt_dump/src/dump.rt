@@ -1,4 +1,4 @@
-//! The text of lines of hexadecimal digits. It must not know what a datagram says.
+//! The text of lines of hexadecimal digits.
 
 ghost use Rattle.std.specs.{Prelude.{◌≡◌, ◌≤◌, ◌++◌, flat_map, length, IfOk, IfErr, OnOk}, List.{AllByRecursion, zip}, Str.Lines.{lines}};
 ghost use Rattle.script_lines.specs.Script.{Spells, IsErrorOf, RulesOutScripts, HasOneFault};

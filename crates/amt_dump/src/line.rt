@@ -1,4 +1,4 @@
-//! The lines of the text. It must not know what they say.
+//! The lines of the text.
 
 ghost use Rattle.std.specs.Prelude.{◌≡◌, ◌++◌, codes, decimal, OnOk};
 

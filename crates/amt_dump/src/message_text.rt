@@ -1,4 +1,4 @@
-//! The line of a message. It must not know what an inner datagram carries.
+//! The line of a message.
 
 ghost use Rattle.std.specs.Prelude.{◌≡◌, ◌≤◌, ◌++◌, codes, length, Err, Ok, OnOk};
 ghost use Rattle.amt_messages.specs.{Messages.{IsSendable}, declared.message.Message.TheVariants.{Advertisement, Discovery, Multicast, Query, Request, Teardown, Update}};

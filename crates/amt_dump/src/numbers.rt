@@ -1,4 +1,4 @@
-//! The numbers of the lines that say something. It must not know what they say.
+//! The numbers of the lines that say something.
 
 ghost use Rattle.std.specs.{Prelude.{◌≡◌, ◌≤◌, ◌++◌, length, IfOk, OnOk}, Str.Lines.{lines}};
 ghost use Rattle.amt_dump.specs.Lines.{number_that_says, numbers_that_say};

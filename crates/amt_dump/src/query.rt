@@ -1,4 +1,4 @@
-//! The query that the inner octets of a Query carry. It must not know the messages.
+//! The query that the inner octets of a Query carry.
 
 ghost use Rattle.std.specs.Prelude.{◌≡◌, ◌≤◌, ◌<◌, length, IfOk};
 ghost use Rattle.group_records.specs.Code.{code_count};

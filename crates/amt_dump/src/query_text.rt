@@ -1,4 +1,4 @@
-//! The lines of a query. It must not know how it is read.
+//! The lines of a query.
 
 ghost use Rattle.std.specs.Prelude.{◌≡◌, ◌≤◌, ◌<◌, ◌==◌, ◌++◌, length, Ok, OnOk};
 ghost use Rattle.amt_values.specs.Address.{number_of};

@@ -1,4 +1,4 @@
-//! The lines of a membership report. It must not know how it is read.
+//! The lines of a membership report.
 
 ghost use Rattle.std.specs.Prelude.{◌≡◌, ◌≤◌, ◌++◌, codes, length, Ok, OnOk};
 ghost use Rattle.relay_machine.specs.Updates.{report_in};

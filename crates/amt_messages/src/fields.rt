@@ -1,4 +1,4 @@
-//! Fields by their places. It must not know whether the octets are a message.
+//! Fields by their places.
 
 ghost use Rattle.std.specs.Prelude.{◌≡◌, ◌+◌, ◌<◌, ◌≤◌, ◌⊎◌, drop, take, length};
 ghost use Rattle.amt_messages.specs.{Layout.{gateway_at, has_flag}, Refusal.{relay_at}};

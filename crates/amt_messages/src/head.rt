@@ -1,4 +1,4 @@
-//! The octets of a head with a MAC and a nonce, and of a gateway. It must not know which message has them.
+//! The octets of a head with a MAC and a nonce, and of a gateway.
 
 ghost use Rattle.std.specs.Prelude.{◌≡◌, ◌∷◌, ◌++◌, length, IfOk, OnOk};
 ghost use Rattle.byteorder.specs.Endian.{big_bytes};

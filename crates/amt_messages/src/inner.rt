@@ -1,4 +1,4 @@
-//! The length that an IP datagram states in its header. It must not know what else the datagram says.
+//! The length that an IP datagram states in its header.
 
 ghost use Rattle.std.specs.Prelude.{◌≡◌, ◌≤◌, IfSome};
 ghost use Rattle.amt_messages.specs.StatedLength.{inner_length_of, ipv4_length, ipv6_length};

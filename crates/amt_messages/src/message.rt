@@ -1,4 +1,4 @@
-//! The messages as values. It must not know their octets, but for the drawings.
+//! The messages as values.
 
 use amt_values::{Bytes, Endpoint, Ip, Mac48};
 

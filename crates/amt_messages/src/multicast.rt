@@ -1,4 +1,4 @@
-//! Multicast Data of octets, and its octets. It must not know what packet it carries.
+//! Multicast Data of octets, and its octets.
 
 ghost use Rattle.std.specs.Prelude.{◌≡◌, ◌≤◌, length, Ok, IfOk};
 ghost use Rattle.amt_values.specs.Answer.{Gives};

@@ -1,4 +1,4 @@
-//! A Query of octets, and the octets of a Query. It must not know what its inner datagram carries.
+//! A Query of octets, and the octets of a Query.
 
 ghost use Rattle.std.specs.Prelude.{◌≡◌, ◌+◌, ◌≤◌, ◌++◌, length, Some, Ok, unwrap_or, IfOk, OnOk};
 ghost use Rattle.amt_values.specs.Answer.{Gives};

@@ -1,4 +1,4 @@
-//! Octets read as a message. It must not know who sent them, or what an inner datagram carries.
+//! Octets read as a message.
 
 ghost use Rattle.std.specs.Prelude.{◌≡◌, ◌≤◌, ◌↔◌, ◌⊎◌, length, IfOk, Ok, MatchResult, None};
 ghost use Rattle.amt_values.specs.Answer.{Gives};

@@ -1,4 +1,4 @@
-//! Why octets are no message. It must not know of their fields more than the type and the lengths.
+//! Why octets are no message.
 
 ghost use Rattle.std.specs.Prelude.{◌≡◌, ◌≤◌, ◌/◌, length, IfSome};
 ghost use Rattle.amt_values.specs.Conditions.{first_holding};

@@ -1,4 +1,4 @@
-//! A Teardown of octets, and the octets of a Teardown. It must not know whose tunnel ends.
+//! A Teardown of octets, and the octets of a Teardown.
 
 ghost use Rattle.std.specs.Prelude.{◌≡◌, ◌≤◌, length, IfOk};
 ghost use Rattle.amt_messages.specs.{declared.message.Message.TheVariants.{Teardown}, Layout.{IsCanonical, spelling_of}, Refusal.{teardown_at}};

@@ -1,4 +1,4 @@
-//! An Update of octets, and the octets of an Update. It must not know what its inner datagram carries.
+//! An Update of octets, and the octets of an Update.
 
 ghost use Rattle.std.specs.Prelude.{◌≡◌, ◌≤◌, length, Ok, IfOk};
 ghost use Rattle.amt_values.specs.Answer.{Gives};

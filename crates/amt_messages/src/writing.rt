@@ -1,4 +1,4 @@
-//! Messages written as octets. It must not know who they go to.
+//! Messages written as octets.
 
 ghost use Rattle.std.specs.Prelude.{◌≡◌, ◌≤◌, ℕ, List, length, IfOk};
 ghost use Rattle.amt_values.specs.Octets.{AreOctets};

@@ -1,4 +1,4 @@
-//! Datagrams that were sent and may be delivered. It must not know whether they are.
+//! Datagrams that were sent and may be delivered.
 
 ghost use Rattle.std.specs.Prelude.{◌≡◌, ◌++◌, [], map, IfOk, IsOk, OnOk, OnErr};
 ghost use Rattle.amt_pair.specs.Members.{kept_datagram};

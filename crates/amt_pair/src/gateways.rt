@@ -1,4 +1,4 @@
-//! The gateways of a pair. It must not know the relay.
+//! The gateways of a pair.
 
 ghost use Rattle.std.specs.{Prelude.{◌≡◌, ◌<◌, ◌≤◌, ◌+◌, ◌^◌, ◌||◌, IsTrue, vec_len, vec_capacity, ◌++◌, ◌∷◌, [], false, true, length, slice_index, map, All, List, IfOk, OnOk, OnErr, IfSome, IfNone}, List.{list_any}};
 ghost use Rattle.amt_values.specs.Endpoint.{endpoint_of};

@@ -1,4 +1,4 @@
-//! Items with numbers. It must not know what they are.
+//! Items with numbers.
 
 ghost use Rattle.std.specs.Prelude.{◌≡◌, [], ◌++◌, length, OnOk, OnErr, option_copied};
 ghost use Rattle.amt_pair.specs.Schedule.{numbered};

@@ -1,4 +1,4 @@
-//! What the types of settings, peers and events say of their numbers, for contracts. It must not know a pair.
+//! What the types of settings, peers and events say of their numbers, for contracts.
 
 ghost use Rattle.std.specs.Prelude.{◌<◌, ◌^◌, All};
 ghost use Rattle.amt_values.specs.Address.{IsAddress};

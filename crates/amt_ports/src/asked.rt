@@ -1,4 +1,4 @@
-//! How a device is asked in a turn. It must not know which device it is.
+//! How a device is asked in a turn.
 
 /// How often a device is asked in a turn, at most.
 pub const BURST: u32 = 64;

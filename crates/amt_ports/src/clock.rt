@@ -1,4 +1,4 @@
-//! What tells the time. It must not know any device.
+//! What tells the time.
 ghost use Rattle.std.specs.Prelude.{◌≤◌, ℕ, List, Option};
 ghost use Rattle.amt_ports.specs.Told.{Appends};
 

@@ -1,4 +1,4 @@
-//! Why a run ended. It must not know what is run.
+//! Why a run ended.
 
 /// Why a run ended.
 #[derive(Clone, Copy, Debug, PartialEq, Eq)]

@@ -1,4 +1,4 @@
-//! The answer of a device that failed, and the count that is its evidence. It must not know the devices.
+//! The answer of a device that failed, and the count that is its evidence.
 
 ghost use Rattle.std.specs.Prelude.{◌≡◌, ◌≤◌};
 ghost use Rattle.amt_ports.specs.Causes.{next_count};

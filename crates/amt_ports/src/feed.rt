@@ -1,4 +1,4 @@
-//! Where packets come from, one in a datagram. It must not know any device.
+//! Where packets come from, one in a datagram.
 ghost use Rattle.std.specs.Prelude.{◌≡◌, ◌≤◌, ℕ, max, List, Option, length, IfOk, OnErr};
 ghost use Rattle.amt_ports.specs.{Arrivals.{IsShortFeedGot, feed_answer}, Causes.{HasCause}, Told.{Answers}, declared.feed.FeedAnswer.{FeedAnswer as Answer, TheVariants.{Closed as ClosedFeed}}};
 

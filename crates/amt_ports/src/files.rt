@@ -1,4 +1,4 @@
-//! Files that are read whole. It must not know any device.
+//! Files that are read whole.
 ghost use Rattle.std.specs.Prelude.{◌≡◌, ◌<◌, ◌≤◌, ℕ, List, Option, length, IfOk, IfErr, IsErrOf};
 ghost use Rattle.amt_ports.specs.{Causes.{Rose}, Contents.{IsContent, IsLonger}};
 

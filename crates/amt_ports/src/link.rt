@@ -1,5 +1,4 @@
-//! What a UDP socket is to a machine: datagrams come in, and datagrams go out. It must not know any
-//! device.
+//! What a UDP socket is to a machine: datagrams come in, and datagrams go out.
 ghost use Rattle.std.specs.Prelude.{◌≡◌, ◌≤◌, ℕ, max, IsSome, List, Option, length, IfOk, OnOk, OnErr};
 ghost use Rattle.amt_ports.specs.{Arrivals.{IsShortGot, link_answer}, Causes.{HasCause}, Sends.{TriedSend, tried_send}, Told.{Answers, Appends}, declared.link.LinkAnswer.{LinkAnswer as Answer, TheVariants.{Closed as ClosedLink}}};
 

@@ -1,4 +1,4 @@
-//! Where datagrams are sent to. It must not know any device.
+//! Where datagrams are sent to.
 ghost use Rattle.std.specs.Prelude.{ℕ, IsSome, List, OnOk, Option};
 ghost use Rattle.amt_ports.specs.{Causes.{HasCause}, Sends.{TriedSend, tried_send}, Told.{Appends}};
 

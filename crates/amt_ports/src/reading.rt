@@ -1,4 +1,4 @@
-//! Reading an input to its end. It must not know what the bytes spell.
+//! Reading an input to its end.
 
 ghost use Rattle.std.specs.{Prelude.{◌≡◌, ◌≢◌, ◌+◌, ◌≤◌, ◌<◌, ◌^◌, ◌++◌, length, replicate, vec_len, OnOk, OnErr, IfOk, IfErr, IsErrOf}, Io.KnownBytes.{Keeps}};
 ghost use Rattle.amt_ports.specs.{Causes.{Rose}, Reading.{TakesAll, TakesAtMost, TakesMore, TakesNext}};

@@ -1,4 +1,4 @@
-//! Values that a device in memory gives one after the other. It must not know what they are.
+//! Values that a device in memory gives one after the other.
 ghost use Rattle.std.specs.Prelude.{◌≡◌, [], Some, drop};
 ghost use Rattle.amt_ports.specs.{Scripted.{head_or}, Told.{Appends}};
 

@@ -1,4 +1,4 @@
-//! What is written to. It must not know any device.
+//! What is written to.
 
 ghost use Rattle.std.specs.{Prelude.{◌<◌, ℕ, List, Option, length, IfOk}, Io.{WritesAtMost, KnownBytes.{WriteAppends}}};
 ghost use Rattle.amt_ports.specs.Causes.{HasCause};

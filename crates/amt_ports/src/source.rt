@@ -1,4 +1,4 @@
-//! What is read from. It must not know any device.
+//! What is read from.
 
 ghost use Rattle.std.specs.{Prelude.{ℕ, List, Option}, Io.{ReadsAtMost, KnownBytes.{ReadConsumes}}};
 ghost use Rattle.amt_ports.specs.Causes.{HasCause};

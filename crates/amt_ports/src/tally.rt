@@ -1,4 +1,4 @@
-//! The calls of a device in memory, and which of them fail. It must not know what they read or write.
+//! The calls of a device in memory, and which of them fail.
 
 ghost use Rattle.std.specs.Prelude.{◌≡◌, ◌≤◌, ◌↔◌, Contains, IsErr, OnOk, OnErr};
 ghost use Rattle.amt_ports.specs.{Causes.{HasCause, next_count}, Tally.{fresh_tally, with_call, with_fault}};

@@ -1,4 +1,4 @@
-//! Work that may run in a thread of its own, and what starts it. It must not know what the work is.
+//! Work that may run in a thread of its own, and what starts it.
 ghost use Rattle.std.specs.Prelude.{◌≡◌, ◌≤◌, ℕ, Option, IfOk, OnErr};
 ghost use Rattle.amt_ports.specs.{Causes.{HasCause, next_count}, Starts.{HasStarted}};
 

@@ -1,4 +1,4 @@
-//! The sends that a device in memory keeps. It must not know why one failed.
+//! The sends that a device in memory keeps.
 ghost use Rattle.std.specs.Prelude.{◌≡◌, [], Some, None, Contains, IsErr, IsSome, OnOk, OnErr};
 ghost use Rattle.amt_ports.specs.{Causes.{HasCause, next_count}, MemOut.{Shows}, Sends.{tried_send}, Tally.{with_call, with_fault}, Told.{Appends}};
 

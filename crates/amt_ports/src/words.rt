@@ -1,4 +1,4 @@
-//! Where random numbers come from. It must not know any device.
+//! Where random numbers come from.
 ghost use Rattle.std.specs.Prelude.{◌≡◌, ℕ, List, Option, IfOk, OnErr};
 ghost use Rattle.amt_ports.specs.{Causes.{HasCause}, Told.{Appends}};
 

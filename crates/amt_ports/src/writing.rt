@@ -1,4 +1,4 @@
-//! Writing all of a text. It must not know what the text says.
+//! Writing all of a text.
 
 ghost use Rattle.std.specs.{Prelude.{◌<◌, ℕ, length, take, OnOk, OnErr}, Io.KnownBytes.{Appends}};
 ghost use Rattle.amt_ports.specs.Causes.{HasCause};

@@ -1,4 +1,4 @@
-//! IP addresses, and the one number that stands for each in 16 octets. It must not know ports.
+//! IP addresses, and the one number that stands for each in 16 octets.
 
 ghost use Rattle.std.specs.Prelude.{◌≡◌, false};
 ghost use Rattle.amt_values.specs.Address.{IsAddress, is_mapped, number_of, address_of, has_ipv4_prefix};

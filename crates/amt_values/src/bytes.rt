@@ -1,4 +1,4 @@
-//! Octets that own their memory, and how many an input has at most. It must not know what they spell.
+//! Octets that own their memory, and how many an input has at most.
 
 use crate::items::Items;
 

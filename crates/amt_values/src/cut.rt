@@ -1,4 +1,4 @@
-//! The parts of a text around an octet. It must not know what the text is of.
+//! The parts of a text around an octet.
 
 ghost use Rattle.std.specs.Prelude.{◌≡◌, ◌≢◌, ◌∷◌, ◌++◌, ℕ, List, All, IfSome, IfNone};
 

@@ -1,4 +1,4 @@
-//! Tunnel endpoints and their one form. It must not know messages or memberships.
+//! Tunnel endpoints and their one form.
 
 ghost use Rattle.std.specs.Prelude.{◌≡◌, ◌↔◌, Some, IsNone, IfSome, true, false};
 

@@ -1,4 +1,4 @@
-//! Numbers in network byte order at a place of some octets. It must not know whose fields they are.
+//! Numbers in network byte order at a place of some octets.
 
 ghost use Rattle.std.specs.Prelude.{◌≡◌, ◌+◌, ◌≤◌, drop, length};
 ghost use Rattle.byteorder.specs.Endian.{big_number};

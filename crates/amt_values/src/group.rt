@@ -1,4 +1,4 @@
-//! Which multicast groups are forwarded. It must not know who wants them.
+//! Which multicast groups are forwarded.
 
 ghost use Rattle.std.specs.Prelude.{◌≡◌};
 ghost use Rattle.amt_values.specs.Group.{is_forwardable};

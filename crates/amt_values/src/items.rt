@@ -1,4 +1,4 @@
-//! A list that owns its memory. It must not know what its items are.
+//! A list that owns its memory.
 
 use std::alloc::{AllocError, Global};
 use std::fmt::{self, Display, Write};

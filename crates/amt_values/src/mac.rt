@@ -1,4 +1,4 @@
-//! The six octets of a response MAC. It must not know how they are computed.
+//! The six octets of a response MAC.
 
 /// A response MAC of 48 bits (RFC 7450, section 5.1.4.6), as its six octets stand in a message.
 #[derive(Clone, Copy, Debug, PartialEq, Eq)]

@@ -1,4 +1,4 @@
-//! Points in time. It must not know a clock.
+//! Points in time.
 
 ghost use Rattle.std.specs.Prelude.{◌≡◌, ◌<◌, ◌≤◌, ◌^◌, ◌↔◌, ℕ, max, IsNone, IfSome};
 

@@ -1,4 +1,4 @@
-//! Decimal numbers as text. It must not know what they count.
+//! Decimal numbers as text.
 
 ghost use Rattle.std.specs.{Prelude.{◌≡◌, ◌<◌, ◌≤◌, ◌^◌, ◌↔◌, ℕ, All, length, slice_index, IsTrue, IsFalse, ◌++◌, IfOk, IsErrOf, OnOk, OnErr, decimal}, Char.{IsAsciiDigit}};
 ghost use Rattle.amt_values.specs.Numeral.{IsNumeral, numeral_value};

@@ -1,4 +1,4 @@
-//! Addresses in 16 octets, in network order. It must not know where they stand in a message.
+//! Addresses in 16 octets, in network order.
 
 ghost use Rattle.std.specs.Prelude.{◌≡◌};
 ghost use Rattle.byteorder.specs.Endian.{big_number, big_bytes};

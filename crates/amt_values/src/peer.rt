@@ -1,4 +1,4 @@
-//! The other end of a UDP datagram. It must not know which peers may be endpoints.
+//! The other end of a UDP datagram.
 
 use crate::address::Ip;
 

@@ -1,4 +1,4 @@
-//! Addresses and peers as text. It must not know the lines that texts stand in.
+//! Addresses and peers as text.
 
 ghost use Rattle.std.specs.{Prelude.{◌≡◌, ◌<◌, ◌^◌, ◌↔◌, ◌≢◌, ◌++◌, ℕ, List, All, IsFalse, IfOk, IfSome, Some, codes, decimal}, Fmt.{DisplaysOnOk}};
 ghost use Rattle.amt_values.specs.{declared.{address.Ip.{Ip as IpValue, TheVariants.{V4, V6}}, peer.Peer.{Peer as PeerValue}}, Text.{v4_text, v6_text, ip_text, peer_text, IsPrintedIp, IsPrintedPeer, IsIpText, IsPeerText}};

@@ -1,4 +1,4 @@
-//! The name of a file, as an argument gives it. It must not know whether there is such a file.
+//! The name of a file, as an argument gives it.
 
 ghost use Rattle.std.specs.Prelude.{◌≡◌};
 

@@ -1,5 +1,4 @@
-//! The memberships of an endpoint after its report. It must not know the log, the limits or other
-//! endpoints.
+//! The memberships of an endpoint after its report.
 
 ghost use Rattle.std.specs.{Prelude.{◌≡◌, ◌≤◌, [], ◌∷◌, IfOk, OnOk, Some, if◌then◌else◌}, BTreeMap.{get, IsOrdered}, List.{filter_map}};
 ghost use Rattle.amt_values.specs.{declared.address.Ip.{Ip as Address}, Order.{ip_order}};

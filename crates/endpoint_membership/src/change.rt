@@ -1,4 +1,4 @@
-//! Entries of the log. It must not know what they mean.
+//! Entries of the log.
 
 use amt_values::{Endpoint, Moment};
 use source_filter::Records;

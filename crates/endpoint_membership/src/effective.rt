@@ -1,4 +1,4 @@
-//! Which records of a report make a difference. It must not know moments or memberships.
+//! Which records of a report make a difference.
 ghost use Rattle.std.specs.Prelude.{◌≡◌, ◌∷◌, List, IfOk, OnOk};
 ghost use Rattle.endpoint_membership.specs.Effective.{AreDecided, AreEnough, lent};
 ghost use Rattle.source_filter.specs.{Record.{is_full}, declared.record.Record.{Record as GroupRecord}};

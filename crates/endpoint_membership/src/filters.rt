@@ -1,5 +1,4 @@
 //! Filters, kept by group, so that those of a group's members stand together, and seen by endpoint.
-//! It must not know when a membership expires, or who is live.
 
 ghost use Rattle.std.specs.{Prelude.{◌≡◌, ◌<◌, ◌^◌, [], true, is_some, length, None, Some, OnOk, OnErr}, BTreeMap.{get, insert_entry, is_at}, Map.{remove_entry}, Option.{option_copied}};
 ghost use Rattle.endpoint_membership.specs.{EndpointGroup.{endpoint_group_order}, Filters.{AreOrdered, IsSetAt, filter_at, group_member_order, member_of, pair_of, pairs_of}, declared.keys.GroupMember.{GroupMember as Member}};

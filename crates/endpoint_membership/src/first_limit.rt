@@ -1,4 +1,4 @@
-//! The first limit that a report passes. It must not know the log, or how a report is applied.
+//! The first limit that a report passes.
 
 ghost use Rattle.std.specs.{Prelude.{◌≡◌, ◌<◌, ◌^◌, length}, List.{AllByRecursion, find, list_any}, Option.{option_copied}};
 ghost use Rattle.amt_values.specs.Conditions.{first_holding};

@@ -1,4 +1,4 @@
-//! The keys by which a table finds memberships. It must not know filters, reports or limits.
+//! The keys by which a table finds memberships.
 
 use amt_values::{Endpoint, Ip, Moment};
 use std::marker::Model;

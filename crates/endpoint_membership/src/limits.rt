@@ -1,4 +1,4 @@
-//! How much a table may keep, and what a report passes. It must not know how memberships are kept.
+//! How much a table may keep, and what a report passes.
 
 use amt_values::Ip;
 

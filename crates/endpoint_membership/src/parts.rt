@@ -1,9 +1,9 @@
-//! The memberships of a table, in parts that agree. It must not know the log, reports or limits.
+//! The memberships of a table, in parts that agree.
 //!
 //! ```text
 //! filters
-//!   by_group    group, endpoint            -> filter, renewed      who may get a packet to a group
-//!   pairs       endpoint, group                                    what memberships an endpoint has
+//! by_group    group, endpoint            -> filter, renewed      who may get a packet to a group
+//! pairs       endpoint, group                                    what memberships an endpoint has
 //! renewals      renewed, endpoint, group                           in the order in which they expire
 //! counts        endpoint                   -> its groups           who is live
 //! ```

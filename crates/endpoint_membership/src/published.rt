@@ -1,5 +1,4 @@
-//! What replicas are given of the accepted log, and why it is enough for them. It must not know what a
-//! replica is.
+//! What replicas are given of the accepted log, and why it is enough for them.
 ghost use Rattle.std.specs.Prelude.{ℕ, ◌≡◌, ◌≤◌, ◌<◌, false, List, [], ◌∷◌, ◌++◌, take};
 ghost use Rattle.amt_values.specs.EndpointValue.{EndpointValue};
 ghost use Rattle.endpoint_membership.specs.{Log.{latest}, Memberships.{is_live, memberships_at}, Published.{AnswerAlike, ClearingsLetNoTimePass, IsPublishedPart, clears_nothing, published_of, with_published}, declared.change.Change.{Change, TheVariants.{Clear}}};

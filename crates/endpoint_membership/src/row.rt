@@ -1,4 +1,4 @@
-//! Memberships as they are shown. It must not know how a table stores them.
+//! Memberships as they are shown.
 
 use amt_values::{Endpoint, Ip, Items};
 use source_filter::Filter;

@@ -1,5 +1,4 @@
-//! What a table keeps of a membership, and a membership on its way in. It must not know lists of them,
-//! reports or limits.
+//! What a table keeps of a membership, and a membership on its way in.
 
 ghost use Rattle.std.specs.Prelude.{◌≡◌, ◌+◌, ◌≤◌, nat_lt};
 ghost use Rattle.endpoint_membership.specs.{Membership.{endpoint_group_of}, Parts.{stored_filter}};

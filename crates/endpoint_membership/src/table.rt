@@ -1,4 +1,4 @@
-//! The membership table. It must not know messages, sockets or clocks.
+//! The membership table.
 
 ghost use Rattle.std.specs.{Prelude.{◌≡◌, ◌<◌, ◌≤◌, ◌↔◌, ◌+◌, ◌^◌, [], ◌∷◌, ◌++◌, max, true, false, length, Some, None, Contains, IfOk, OnOk, if◌then◌else◌}, List.{AllByRecursion, filter, find}};
 ghost use Rattle.amt_values.specs.{Order.{endpoint_order}, EndpointValue.{EndpointValue}, Ascending.{IsAscending}};

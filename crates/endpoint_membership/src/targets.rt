@@ -1,4 +1,4 @@
-//! Which endpoints get a copy of a packet. It must not know the log, or what a packet is.
+//! Which endpoints get a copy of a packet.
 
 ghost use Rattle.std.specs.Prelude.{◌≡◌, ◌<◌, ◌≤◌, [], ◌∷◌, ◌++◌, length, IfOk};
 

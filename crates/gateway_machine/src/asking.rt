@@ -1,4 +1,4 @@
-//! Discoveries and Requests. It must not know sockets.
+//! Discoveries and Requests.
 
 ghost use Rattle.std.specs.Prelude.{IfOk, IsOk};
 ghost use Rattle.gateway_machine.specs.{Answers.{ask, begin_with, discover, due_answer}, Outcomes.{IsAtRest}, Sends.{AreShort}, State.{IsReply}};

@@ -1,5 +1,5 @@
-//! What socket calls come to. A call is made on a copy of the sockets, which takes their place where the
-//! reply is whole. It must not know datagrams.
+//! What socket calls come to. A call is made on a copy of the sockets, which takes their place where the reply is
+//! whole.
 
 ghost use Rattle.std.specs.Prelude.{◌≡◌, ℕ, ◌≤◌, true, length, All, IfOk};
 ghost use Rattle.amt_values.specs.Group.{is_forwardable};

@@ -1,5 +1,4 @@
-//! What a gateway remembers of its exchange with relays, and how it goes on. It must not know messages
-//! or sockets.
+//! What a gateway remembers of its exchange with relays, and how it goes on.
 
 ghost use Rattle.std.specs.Prelude.{◌≡◌};
 ghost use Rattle.gateway_machine.specs.Exchange.{active, discovering, drawn, idle, moved, relay_named, requesting, retried, start, with_next_nonce};

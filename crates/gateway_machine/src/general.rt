@@ -1,4 +1,4 @@
-//! The General Query that a Query carries, as a gateway of one family reads it. It must not know states.
+//! The General Query that a Query carries, as a gateway of one family reads it.
 
 ghost use Rattle.std.specs.Prelude.{◌≡◌, ◌<◌, ◌≤◌, ◌==◌, false, length, IfOk};
 ghost use Rattle.amt_values.specs.Address.{number_of};

@@ -1,4 +1,4 @@
-//! What a moment comes to. It must not know messages.
+//! What a moment comes to.
 
 ghost use Rattle.std.specs.Prelude.{◌≡◌, ◌||◌, ◌≤◌, ◌<◌, ◌^◌, ◌↔◌, ℕ, List, max, nat_lt, IfOk, IfSome, IsOk};
 ghost use Rattle.socket_merge.specs.{Sockets.{ForHistory}, History.{AcceptedCall}};

@@ -1,4 +1,4 @@
-//! What Multicast Data comes to. It must not know Queries.
+//! What Multicast Data comes to.
 
 ghost use Rattle.std.specs.Prelude.{◌≡◌, ◌≤◌, length};
 ghost use Rattle.socket_merge.specs.Sockets.{ForHistory};

@@ -1,4 +1,4 @@
-//! The reports that a gateway sends, as messages to its relay. It must not know states or events.
+//! The reports that a gateway sends, as messages to its relay.
 
 ghost use Rattle.std.specs.Prelude.{◌≡◌, ◌≤◌, ◌++◌, length, map, Bool, All, IfOk, OnOk};
 ghost use Rattle.amt_messages.specs.Messages.{IsSendable};

@@ -1,4 +1,4 @@
-//! What a running gateway counts. It must not know where an event comes from.
+//! What a running gateway counts.
 ghost use Rattle.std.specs.Prelude.{◌≡◌};
 ghost use Rattle.gateway_serving.specs.Counting.{no_counts};
 

@@ -1,4 +1,4 @@
-//! What a run of a serving gateway comes to, in numbers. It must not know how it is run.
+//! What a run of a serving gateway comes to, in numbers.
 ghost use Rattle.std.specs.Prelude.{◌≡◌};
 ghost use Rattle.gateway_serving.specs.{Counting.{no_counts}, Reports.{report_of}};
 

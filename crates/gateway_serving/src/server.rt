@@ -1,5 +1,4 @@
-//! A running gateway: its machine, and what is kept of its run. It must not know where datagrams, lines and
-//! moments come from.
+//! A running gateway: its machine, and what is kept of its run.
 ghost use Rattle.std.specs.Prelude.{◌≡◌, ◌≤◌, ◌+◌, ◌*◌, length};
 ghost use Rattle.std.proofs.Props.{props};
 ghost use Rattle.gateway_machine.specs.Runs.{GatewayAt, settings_of};

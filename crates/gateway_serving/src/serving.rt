@@ -1,4 +1,4 @@
-//! A whole run of a gateway. It must not know which devices it is over.
+//! A whole run of a gateway.
 ghost use Rattle.std.specs.Prelude.{◌≡◌, ◌≤◌, length};
 ghost use Rattle.amt_ports.specs.Devices.{WaitsBriefly, feed_seen, link_seen, out_seen, words_seen};
 ghost use Rattle.gateway_serving.specs.{Devices.{devices_seen}, Serving.{Serves}, Settings.{AreTurns, IsLawfulConfig}};

@@ -1,4 +1,4 @@
-//! The codes of times, both ways. It must not know in which field a code stands.
+//! The codes of times, both ways.
 
 ghost use Rattle.std.specs.Prelude.{◌≡◌, ◌<◌, ◌≤◌, ◌^◌, ℕ, IfSome, Some};
 ghost use Rattle.group_records.specs.Code.{code_count, code_value, code_with, mantissa_bits, mantissa_of};

@@ -1,4 +1,4 @@
-//! What the two address families differ in. It must not know what a message says.
+//! What the two address families differ in.
 
 ghost use Rattle.std.specs.Prelude.{◌≡◌, ◌≤◌, length};
 ghost use Rattle.byteorder.specs.Endian.{big_number};

@@ -1,4 +1,4 @@
-//! A General Query is written here. It must not know how a query is read.
+//! A General Query is written here.
 
 ghost use Rattle.std.specs.Prelude.{◌≡◌, ◌≤◌, ◌%◌, ◌∷◌, ◌++◌, [], length, IfOk};
 ghost use Rattle.byteorder.specs.Endian.{big_bytes};

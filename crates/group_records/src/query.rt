@@ -1,4 +1,4 @@
-//! A query is read here. It must not know what is answered to one.
+//! A query is read here.
 
 ghost use Rattle.std.specs.Prelude.{◌≡◌, ◌≤◌, ◌%◌, [], ◌∷◌, length, IfOk, IfErr, Ok, Err, MatchResult, None, Some};
 ghost use Rattle.source_filter.specs.declared.{query.QueryRead.{QueryRead as QueryReadValue}, fault.ReportFault.{ReportFault as ReportFaultValue}};

@@ -1,4 +1,4 @@
-//! One group record is read here. It must not know the report's head or its sum.
+//! One group record is read here.
 
 ghost use Rattle.std.specs.Prelude.{◌≡◌, ◌≤◌, ◌*◌, ◌++◌, drop, length, map, slice_index, is_some, true, IfOk, OnOk, OnErr};
 ghost use Rattle.amt_values.specs.Conditions.{first_holding};

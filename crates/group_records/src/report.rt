@@ -1,4 +1,4 @@
-//! A membership report is read here. It must not know the datagram that carries it.
+//! A membership report is read here.
 
 ghost use Rattle.std.specs.Prelude.{◌≡◌, ◌≤◌, ◌%◌, [], ◌∷◌, List, length, IfOk, Ok, Err, MatchResult, None, Some, true};
 ghost use Rattle.amt_values.specs.{Answer.{Tells}, Conditions.{first_holding}};

@@ -1,4 +1,4 @@
-//! A membership report is written here. It must not know how a report is read.
+//! A membership report is written here.
 
 ghost use Rattle.std.specs.{Prelude.{◌≡◌, ◌≤◌, ◌<◌, ◌%◌, ◌∷◌, ◌++◌, length, take, drop, All, IfOk, OnOk}, List.{flat_map}};
 ghost use Rattle.byteorder.specs.Endian.{big_bytes};

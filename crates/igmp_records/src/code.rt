@@ -1,4 +1,4 @@
-//! The codes of times of IGMPv3. It must not know MLD.
+//! The codes of times of IGMPv3.
 
 ghost use Rattle.std.specs.Prelude.{◌≡◌, ◌<◌, ℕ, IfSome, Some};
 ghost use Rattle.igmp_records.specs.Code.{code_value};

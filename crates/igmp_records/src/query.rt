@@ -1,4 +1,4 @@
-//! Queries of IGMPv3, both ways. It must not know their layout or MLD.
+//! Queries of IGMPv3, both ways.
 
 ghost use Rattle.std.specs.Prelude.{◌≡◌, ◌≤◌, length, IfOk, IfErr, Ok, Err, MatchResult, None, Some};
 ghost use Rattle.source_filter.specs.declared.{query.QueryRead.{QueryRead as QueryReadValue}, fault.ReportFault.{ReportFault as ReportFaultValue}};

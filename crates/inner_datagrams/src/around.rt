@@ -1,4 +1,4 @@
-//! The checksum of a message around its own field. It must not know whose field it is.
+//! The checksum of a message around its own field.
 
 ghost use Rattle.std.specs.Prelude.{◌≡◌, ◌≤◌, ◌%◌, ◌∷◌, ◌++◌, length};
 ghost use Rattle.inner_datagrams.specs.Checksum.{ones_add, internet_sum_of};

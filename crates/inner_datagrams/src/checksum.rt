@@ -1,4 +1,4 @@
-//! The Internet checksum of octets, and whether it is right. It must not know what they carry.
+//! The Internet checksum of octets, and whether it is right.
 
 ghost use Rattle.std.specs.Prelude.{◌≡◌, ◌≤◌, ◌%◌, ◌↔◌, length};
 ghost use Rattle.inner_datagrams.specs.{Checksum.{internet_sum_of, has_right_sum}, Header.{with_zero_sum}};

@@ -1,4 +1,4 @@
-//! The source and the group of a native packet. It must not know what the packet carries.
+//! The source and the group of a native packet.
 
 ghost use Rattle.std.specs.Prelude.{◌≡◌, ◌≤◌, ◌∷◌, [], length, Err, IfNone, IfOk, MatchResult, None, Ok, Some};
 ghost use Rattle.amt_values.specs.Conditions.{first_holding, unless};

@@ -1,4 +1,4 @@
-//! What is read of an inner datagram, and its faults. It must not know how it is read.
+//! What is read of an inner datagram, and its faults.
 
 ghost use Rattle.std.specs.Prelude.{◌≡◌, ◌≤◌, ◌∷◌, [], length};
 ghost use Rattle.amt_values.specs.Conditions.{first_holding};

@@ -1,4 +1,4 @@
-//! IPv4 datagrams with IGMP are written here. It must not know what the payload says.
+//! IPv4 datagrams with IGMP are written here.
 
 ghost use Rattle.std.specs.Prelude.{◌≡◌, ◌≤◌, length, IfOk};
 ghost use Rattle.amt_values.specs.declared.address.Ip.TheVariants.{V4};

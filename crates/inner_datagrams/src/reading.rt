@@ -1,4 +1,4 @@
-//! An inner datagram of either version is read here. It must not know what the payload says.
+//! An inner datagram of either version is read here.
 
 ghost use Rattle.std.specs.Prelude.{◌≡◌, ◌≤◌, ℕ, List, length, IfOk, IsOkAnd, MatchResult, None, Some};
 ghost use Rattle.amt_values.specs.{declared.address.Ip.{Ip as IpValue}, Conditions.{unless}};

@@ -1,4 +1,4 @@
-//! The header of an IPv4 datagram is read here. It must not know IPv6 or the payload.
+//! The header of an IPv4 datagram is read here.
 
 ghost use Rattle.std.specs.Prelude.{◌≡◌, ◌≤◌, ◌∷◌, ◌++◌, [], length, IfOk};
 ghost use Rattle.amt_values.specs.Conditions.{first_holding, unless};

@@ -1,4 +1,4 @@
-//! The headers of an IPv6 datagram are read here. It must not know IPv4 or the payload.
+//! The headers of an IPv6 datagram are read here.
 
 ghost use Rattle.std.specs.Prelude.{◌≡◌, ◌≤◌, length, IfOk};
 ghost use Rattle.amt_values.specs.Conditions.{first_holding, unless};

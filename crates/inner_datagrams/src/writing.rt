@@ -1,4 +1,4 @@
-//! Headers and payload as one datagram. It must not know what either of them says.
+//! Headers and payload as one datagram.
 
 ghost use Rattle.std.specs.Prelude.{◌≡◌, ◌≤◌, ◌++◌, length, IfOk};
 

@@ -1,4 +1,4 @@
-//! A socket of the loopback that our sockets talk to. It must not know what they are.
+//! A socket of the loopback that our sockets talk to.
 ghost use Rattle.std.specs.Prelude.{◌≡◌, IfOk, vec_len};
 
 use amt_values::{Ip, Peer};

@@ -1,4 +1,4 @@
-//! The codes of times of MLDv2. It must not know IGMP.
+//! The codes of times of MLDv2.
 
 ghost use Rattle.std.specs.Prelude.{◌≡◌, ◌<◌, ℕ, IfSome, Some};
 ghost use Rattle.mld_records.specs.Code.{code_value};

@@ -1,4 +1,4 @@
-//! The pseudo-header of an MLD message. It must not know the message.
+//! The pseudo-header of an MLD message.
 
 ghost use Rattle.std.specs.Prelude.{◌≡◌};
 ghost use Rattle.mld_records.specs.PseudoHeader.{pseudo_header};

@@ -1,4 +1,4 @@
-//! Reports of MLDv2, both ways. It must not know their layout or IGMP.
+//! Reports of MLDv2, both ways.
 
 ghost use Rattle.std.specs.Prelude.{◌≡◌, ◌≤◌, List, length, IfOk, Ok, Err, MatchResult, None, Some};
 ghost use Rattle.source_filter.specs.{Record.{item_count}, declared.record.Record.{Record as RecordValue}, declared.fault.{ReadFault.TheVariants.{Memory}, ReportFault.{ReportFault as ReportFaultValue}}};

@@ -1,4 +1,4 @@
-//! The examples of the READMEs of relay_machine and gateway_machine. They must not know scripts.
+//! The examples of the READMEs of relay_machine and gateway_machine.
 
 use amt_values::{Bytes, Ip, Moment, Peer};
 use gateway_machine::{Gateway, GatewayEvent, GatewaySettings};

@@ -1,4 +1,4 @@
-//! Calls that no script shows: what a gateway is about and what it wants. It must not know how they are made.
+//! Calls that no script shows: what a gateway is about and what it wants.
 
 ghost use Rattle.std.specs.Prelude.{◌≡◌, ◌≤◌, false, length, IfOk};
 ghost use Rattle.gateway_machine.specs.{Events.{IsEventOf}, Runs.{settings_of}, declared.settings.GatewaySettings.{GatewaySettings as SettingsValue}};

@@ -1,4 +1,4 @@
-//! Calls that are to succeed, since there is enough memory. It must not know what they answer.
+//! Calls that are to succeed, since there is enough memory.
 
 use std::process::Abort;
 

@@ -1,5 +1,5 @@
-//! What no script shows: filters that list addresses of both families, and a copy of sockets beside the
-//! sockets that it was made of. It must not know scripts.
+//! What no script shows: filters that list addresses of both families, and a copy of sockets beside the sockets that
+//! it was made of.
 
 ghost use Rattle.std.specs.Prelude.{◌≡◌, true, All};
 ghost use Rattle.group_records.specs.{Written.{is_of_family}, declared.family.Family.TheVariants.{V4}};

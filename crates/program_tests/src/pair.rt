@@ -1,5 +1,4 @@
-//! Calls of a pair that no script shows: gateways that are refused. A script with such a gateway is none. It
-//! must not know what a pair keeps.
+//! Calls of a pair that no script shows: gateways that are refused. A script with such a gateway is none.
 
 use crate::memory::is_out_of_memory;
 use amt_pair::{Pair, PairEvent, PairFault, PairStep, Part};

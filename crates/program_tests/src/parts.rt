@@ -1,4 +1,4 @@
-//! What no command shows of the parts below the command. It must not know what any part keeps to itself.
+//! What no command shows of the parts below the command.
 
 mod devices;
 mod loads;

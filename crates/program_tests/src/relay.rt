@@ -1,5 +1,4 @@
-//! The entries that a relay gives out, event by event, for whoever keeps a copy of its memberships. It must not know
-//! scripts.
+//! The entries that a relay gives out, event by event, for whoever keeps a copy of its memberships.
 ghost use Rattle.std.specs.Prelude.{◌≤◌, IfOk, length};
 ghost use Rattle.relay_machine.specs.EventSize.{IsEvent};
 

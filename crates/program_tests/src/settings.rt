@@ -1,4 +1,4 @@
-//! What no script shows of a relay's settings. It must not know how they are read.
+//! What no script shows of a relay's settings.
 
 use amt_values::Ip;
 use igmp_records::{code_value4, value_code4};

@@ -1,5 +1,5 @@
-//! Lines that make socket calls, one by one. The reasons for which a call is none are those of scripts, which are cases;
-//! what else is none stands here. It must not know how they are read.
+//! Lines that make socket calls, one by one. The reasons for which a call is none are those of scripts, which are
+//! cases; what else is none stands here.
 
 use crate::memory::is_out_of_memory;
 use amt_values::Ip;

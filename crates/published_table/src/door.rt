@@ -1,5 +1,4 @@
-//! The door to a published value: the few lines through which every reading goes. It must not know
-//! what is published.
+//! The door to a published value: the few lines through which every reading goes.
 //!
 //! No contract says when a reading is handed back, by the reader or for its age; tests do. Nothing but
 //! this module counts one.

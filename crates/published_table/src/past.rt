@@ -1,4 +1,4 @@
-//! Logs of which no entry is kept: contracts see what they have. It must not know who publishes a log.
+//! Logs of which no entry is kept: contracts see what they have.
 ghost use Rattle.std.specs.Prelude.{◌≡◌, [], ◌∷◌, ◌++◌};
 ghost use Rattle.published_table.specs.Logs.{entries};
 

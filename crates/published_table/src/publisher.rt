@@ -1,4 +1,4 @@
-//! The publisher: the one that changes the published table. It must not know who reads it.
+//! The publisher: the one that changes the published table.
 ghost use Rattle.std.{specs.Prelude.{◌≡◌, ◌<◌, ◌^◌, [], ◌∷◌, ◌++◌, length, map, drop, fold}, proofs.Props.{props}};
 ghost use Rattle.left_right.specs.Sides.{view};
 ghost use Rattle.published_table.specs.{Copies.{log_of, origin_of, state_of}, Entries.{IsVouched, changes, with_entry}, History.{IsUnder}, Lists.{BeginsWithEach}, Logs.{entries}, Terms.{FitsThroughout}};

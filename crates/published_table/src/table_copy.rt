@@ -1,4 +1,4 @@
-//! One of the two copies of the published table. It must not know who reads it.
+//! One of the two copies of the published table.
 ghost use Rattle.std.specs.Prelude.{◌≡◌, ◌%◌, ◌^◌, [], length, IfOk};
 ghost use Rattle.endpoint_membership.specs.Table.{Holds};
 ghost use Rattle.published_table.specs.{Entries.{with_entry}, Logs.{entries}, Terms.{AreLawfulTerms, settings_by}};

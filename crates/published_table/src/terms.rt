@@ -1,4 +1,4 @@
-//! By what a log is read. It must not know logs.
+//! By what a log is read.
 
 use endpoint_membership::Limits;
 

@@ -1,4 +1,4 @@
-//! The numbers of a load. It must not know what they choose.
+//! The numbers of a load.
 
 ghost use Rattle.std.specs.Prelude.{◌≡◌, ◌/◌, ◌^◌};
 ghost use Rattle.relay_load.specs.Generator.{next_number};

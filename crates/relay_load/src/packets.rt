@@ -1,4 +1,4 @@
-//! The native packets of a load. It must not know the Updates before them.
+//! The native packets of a load.
 
 ghost use Rattle.std.specs.{Prelude.{◌≡◌, ◌++◌, map, OnOk}, List.{AllByRecursion}};
 ghost use Rattle.amt_script.specs.{Running.{IsItem}, declared.script.RelayItem.TheVariants.{Event as EventItem}};

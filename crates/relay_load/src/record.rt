@@ -1,4 +1,4 @@
-//! What four words choose of an Update, and the report of it. It must not know who sends it.
+//! What four words choose of an Update, and the report of it.
 
 ghost use Rattle.std.specs.Prelude.{◌≡◌, ◌<◌, ◌≤◌, length, IfOk};
 ghost use Rattle.relay_load.specs.{Generator.{number_after}, Reports.{group_at}, Updates.{chosen_exclude, chosen_group, chosen_nonce, chosen_port, record_with, load_report}};

@@ -1,4 +1,4 @@
-//! The datagrams that Updates carry, each written once. It must not know which of them is sent when.
+//! The datagrams that Updates carry, each written once.
 
 ghost use Rattle.std.specs.Prelude.{◌≡◌, ◌≤◌, ◌<◌, length, IfOk};
 ghost use Rattle.relay_load.specs.{Reports.{AreReports, AreReportsOf, group_at}, Updates.{load_report, record_with}};

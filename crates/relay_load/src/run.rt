@@ -1,4 +1,4 @@
-//! A relay's run over a script, of which the answers are counted. It must not know what the script is for.
+//! A relay's run over a script, of which the answers are counted.
 
 ghost use Rattle.std.specs.{Prelude.{◌≡◌, ◌<◌, ◌≤◌, ◌-◌, ◌^◌, ◌+◌, [], ◌∷◌, ◌++◌, List, IfOk, OnOk}, List.{AllByRecursion}};
 ghost use Rattle.relay_machine.specs.{Answers.{After, RelayAt, outcome_of}, EventSize.{IsEvent}, declared.settings.Settings.{Settings}};

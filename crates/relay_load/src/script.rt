@@ -1,4 +1,4 @@
-//! The relay script that a number makes. It must not know what a run over it comes to.
+//! The relay script that a number makes.
 
 ghost use Rattle.std.specs.Prelude.{◌≡◌, ◌≤◌, IfOk};
 ghost use Rattle.relay_machine.specs.Settings.{AreLawfulSettings};

@@ -1,4 +1,4 @@
-//! What a run comes to, and its text. It must not know a relay.
+//! What a run comes to, and its text.
 
 ghost use Rattle.std.specs.Prelude.{◌≡◌, IfOk};
 ghost use Rattle.relay_load.specs.Texts.{load_text};

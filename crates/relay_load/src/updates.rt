@@ -1,4 +1,4 @@
-//! The Updates of a load. It must not know how their words are drawn.
+//! The Updates of a load.
 
 ghost use Rattle.std.specs.{Prelude.{◌≡◌, ◌≤◌, ◌<◌, ◌++◌, map, IfOk, OnOk}, List.{AllByRecursion}};
 ghost use Rattle.amt_script.specs.{Running.{IsItem}, declared.script.RelayItem.TheVariants.{Event as EventItem}};

@@ -1,4 +1,4 @@
-//! What the steps of a relay hand out, all together. It must not know who reads it.
+//! What the steps of a relay hand out, all together.
 ghost use Rattle.std.specs.Prelude.{ℕ, ◌≡◌, List, [], ◌∷◌, ◌++◌, take};
 ghost use Rattle.response_mac.specs.declared.secret.Secret.{Secret};
 ghost use Rattle.endpoint_membership.specs.{Limits.{IsWithin}, Published.{AnswerAlike, IsPublishedPart}, Table.{memberships_now}, declared.change.Change.{Change}};

@@ -1,4 +1,4 @@
-//! What a running relay counts. It must not know where an event comes from.
+//! What a running relay counts.
 ghost use Rattle.std.specs.Prelude.{◌≡◌, ◌<◌, ◌^◌};
 ghost use Rattle.relay_serving.specs.Counting.{no_counts, with_late, with_outcome, with_packet, with_starved};
 

@@ -1,4 +1,4 @@
-//! What a run of a serving relay is told, and what it comes to. It must not know how it is run.
+//! What a run of a serving relay is told, and what it comes to.
 
 use amt_ports::End;
 use published_table::Views;

@@ -1,4 +1,4 @@
-//! How late it is, and when a new secret is due. It must not know how one is drawn.
+//! How late it is, and when a new secret is due.
 ghost use Rattle.std.specs.Prelude.{◌≡◌, ◌<◌, ◌^◌, None, Some, max};
 ghost use Rattle.relay_serving.specs.Turns.{is_due, renewed_after};
 

@@ -1,4 +1,4 @@
-//! How a secret is drawn. It must not know what it is for.
+//! How a secret is drawn.
 ghost use Rattle.std.specs.Prelude.{◌≡◌};
 ghost use Rattle.amt_ports.specs.Causes.{HasCause};
 ghost use Rattle.relay_serving.specs.{Drawing.{DrawsSecret, HasDrawn}, Events.{secret_by}};

@@ -1,5 +1,4 @@
-//! A running relay: its machine, the published table, and what copies packets by that. It must not know
-//! where datagrams, packets and moments come from.
+//! A running relay: its machine, the published table, and what copies packets by that.
 ghost use Rattle.std.{specs.Prelude.{◌≡◌, ◌++◌}, proofs.Props.{props}};
 ghost use Rattle.published_table.specs.Publishers.{book_of, owing, published, reading_terms};
 ghost use Rattle.relay_machine.specs.{Answers.{RelayAt, settings_of}, Published.{published_log}, Settings.{AreLawfulSettings}};

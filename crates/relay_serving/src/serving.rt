@@ -1,4 +1,4 @@
-//! A whole run of a relay. It must not know which devices it is over.
+//! A whole run of a relay.
 
 ghost use Rattle.std.specs.Prelude.{◌≡◌, ◌≤◌, ◌<◌, ◌+◌, ◌^◌, [], IfOk, length, max};
 ghost use Rattle.published_table.specs.Views.{room_of, views_of};

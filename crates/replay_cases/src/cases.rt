@@ -1,4 +1,4 @@
-//! The lines of a case. It must not know how a case is run.
+//! The lines of a case.
 
 mod arguments;
 mod escapes;

@@ -1,4 +1,4 @@
-//! The devices in memory that a case scripts. They must not know the command that they are opened for.
+//! The devices in memory that a case scripts.
 
 mod arrivals;
 mod starters;

@@ -1,4 +1,4 @@
-//! Which calls of streams, files and devices fail in a case. It must not know what they are for.
+//! Which calls of streams, files and devices fail in a case.
 
 use std::alloc::{AllocError, Global};
 

@@ -1,4 +1,4 @@
-//! The files that have cases. It must not know what a case says.
+//! The files that have cases.
 
 use std::alloc::{AllocError, Global};
 use std::rt::{Env, Files};

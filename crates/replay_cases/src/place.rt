@@ -1,4 +1,4 @@
-//! Where a case stands. It must not know what the case says.
+//! Where a case stands.
 
 use std::fmt;
 use std::fmt::{Display, Formatter};

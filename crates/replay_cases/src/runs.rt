@@ -1,4 +1,4 @@
-//! A case's run, in memory. It must not know the lines of a case.
+//! A case's run, in memory.
 
 mod compared;
 mod differences;

@@ -1,4 +1,4 @@
-//! The lines that script the devices of a case. They must not know any device.
+//! The lines that script the devices of a case.
 
 use amt_values::{Moment, Peer, parse_peer};
 

@@ -1,4 +1,4 @@
-//! What the devices of a case saw, as lines of a case. It must not know what was wanted of them.
+//! What the devices of a case saw, as lines of a case.
 
 use crate::devices::{Set, Sets, number_of};
 use amt_ports::{MemOut, Tried};

@@ -1,4 +1,4 @@
-//! How many cases there were. It must not know how they are run.
+//! How many cases there were.
 
 use std::process::ExitCode;
 

@@ -1,4 +1,4 @@
-//! The devices of a relay's turns. They must not know what a relay does with them.
+//! The devices of a relay's turns.
 ghost use Rattle.std.specs.Prelude.{◌≡◌, ◌≤◌, length, None};
 
 use crate::packets::{ENDPOINT, OTHER_UPDATE, UPDATE, packet};

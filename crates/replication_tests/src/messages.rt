@@ -1,5 +1,4 @@
-//! A packet and the message that carries it, and whether a link has tried that. It must not know who copies a
-//! packet.
+//! A packet and the message that carries it, and whether a link has tried that.
 ghost use Rattle.std.specs.Prelude.{◌≡◌};
 
 use crate::fixtures::moment;

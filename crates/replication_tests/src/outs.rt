@@ -1,5 +1,4 @@
-//! Links out in memory that may wait for each other, and what starts workers over them. It must not know what a worker
-//! does.
+//! Links out in memory that may wait for each other, and what starts workers over them.
 
 use amt_ports::{Failed, GivenBy, MemOut, OutLink, Starts, Tried};
 use amt_values::Peer;

@@ -1,4 +1,4 @@
-//! Packets in order, and the Updates by which an endpoint wants them. It must not know who copies a packet.
+//! Packets in order, and the Updates by which an endpoint wants them.
 
 use amt_ports::Tried;
 use amt_values::{Ip, Peer};

@@ -1,4 +1,4 @@
-//! Runs of a relay, whose workers copy its packets beside its turns. It must not know what a worker is.
+//! Runs of a relay, whose workers copy its packets beside its turns.
 
 use crate::devices::{Packets, Ticks, TwoUpdates};
 use crate::outs::{Starter, WaitingOut, outs_of};

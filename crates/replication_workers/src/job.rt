@@ -1,4 +1,4 @@
-//! A packet on its way to a replicator, and what became of it. It must not know what sends it.
+//! A packet on its way to a replicator, and what became of it.
 ghost use Rattle.std.specs.Prelude.{◌≤◌, length};
 
 use amt_values::{Bytes, Moment};

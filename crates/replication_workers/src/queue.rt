@@ -1,5 +1,4 @@
-//! The queue of one worker: jobs in the order in which they were put, and at last Stop. It must not know
-//! what a job is for.
+//! The queue of one worker: jobs in the order in which they were put, and at last Stop.
 
 use crate::job::Job;
 use atomic_table::{Join, Split};

@@ -1,4 +1,4 @@
-//! What copies a packet to those that want it. It must not know threads or queues.
+//! What copies a packet to those that want it.
 ghost use Rattle.std.specs.Prelude.{◌≤◌, ◌+◌, vec_capacity};
 ghost use Rattle.published_table.specs.Views.{terms_of};
 

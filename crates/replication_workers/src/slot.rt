@@ -1,4 +1,4 @@
-//! One started worker, with the putting end of its queue. It must not know how many there are.
+//! One started worker, with the putting end of its queue.
 ghost use Rattle.std.specs.Prelude.{◌≡◌, [], ◌∷◌, length, map};
 ghost use Rattle.crossbeam_channel.specs.{Claims.{IsSeatAt, view}, Ends.{receives_on, sends_on}};
 ghost use Rattle.published_table.specs.Views.{publisher_of};

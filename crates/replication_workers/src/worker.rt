@@ -1,4 +1,4 @@
-//! What takes jobs from a queue and copies their packets. It must not know who puts them.
+//! What takes jobs from a queue and copies their packets.
 ghost use Rattle.std.specs.Prelude.{◌≡◌, ◌≤◌, ◌<◌, ◌+◌, ◌^◌, [], ◌∷◌, map};
 ghost use Rattle.crossbeam_channel.specs.{Claims.{IsSeatAt, view}, Ends.{receives_on}};
 ghost use Rattle.published_table.specs.{Lists.{BeginsWith, BeginsWithEach}, Views.{named, note_publisher, publisher_of, seen, terms_of, told}};

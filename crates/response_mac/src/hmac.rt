@@ -1,4 +1,4 @@
-//! HMAC with SHA-256. It must not know what the key and the text are for.
+//! HMAC with SHA-256.
 
 ghost use Rattle.std.specs.Prelude.{◌≡◌, ◌-◌, ◌≤◌, ℕ, List, ◌++◌, length, map, replicate, bit_xor};
 ghost use Rattle.sha2.specs.Hashers.{Holds256};

@@ -1,4 +1,4 @@
-//! A secret as the key of the response MAC. It must not know which secrets a relay has.
+//! A secret as the key of the response MAC.
 
 ghost use Rattle.std.specs.Prelude.{◌≡◌, Some, codes};
 ghost use Rattle.response_mac.specs.ResponseMac.{mac_of};

@@ -1,4 +1,4 @@
-//! The response MAC of one secret. It must not know which secrets a relay has.
+//! The response MAC of one secret.
 
 ghost use Rattle.std.specs.Prelude.{◌≡◌};
 ghost use Rattle.response_mac.specs.ResponseMac.{authenticated_octets, leftmost_48_bits, mac_of};

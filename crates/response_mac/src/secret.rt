@@ -1,4 +1,4 @@
-//! One secret. It must not know what it is the key of.
+//! One secret.
 
 ghost use Rattle.std.specs.Prelude.{Some, codes};
 

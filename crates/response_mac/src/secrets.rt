@@ -1,4 +1,4 @@
-//! The secrets of a relay, and which MACs are good by them. It must not know where secrets come from.
+//! The secrets of a relay, and which MACs are good by them.
 
 ghost use Rattle.std.specs.Prelude.{◌≡◌, ◌↔◌, ◌≤◌, Some, List, [], ◌∷◌, ◌++◌, IsTrue};
 ghost use Rattle.response_mac.specs.{declared.secret.Secret.{Secret}, ResponseMac.{IsGood, is_good, mac_of, same_mac, secrets_after}};

@@ -1,4 +1,4 @@
-//! Addresses and peers, put at the end of a text. It must not know the lines that texts stand in.
+//! Addresses and peers, put at the end of a text.
 
 ghost use Rattle.std.specs.Prelude.{◌≡◌, ◌++◌, codes, decimal, OnOk};
 ghost use Rattle.amt_values.specs.Text.{ip_text, peer_text, v4_text};

@@ -1,4 +1,4 @@
-//! Devices in memory that answer what is listed. They must not know whose they are.
+//! Devices in memory that answer what is listed.
 ghost use Rattle.std.specs.Prelude.{◌≤◌, All, IfOk, length};
 ghost use Rattle.amt_ports.specs.Arrivals.{IsShortAnswer, IsShortFeedAnswer};
 

@@ -1,4 +1,4 @@
-//! Runs of a gateway over devices in memory. It must not know what a run is to show.
+//! Runs of a gateway over devices in memory.
 ghost use Rattle.gateway_serving.specs.Settings.{AreTurns, IsLawfulConfig};
 
 use crate::devices::{Answer, Devices, Script};

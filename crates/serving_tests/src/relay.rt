@@ -1,4 +1,4 @@
-//! Runs of a relay over devices in memory. It must not know what a run is to show.
+//! Runs of a relay over devices in memory.
 ghost use Rattle.relay_machine.specs.Settings.{AreLawfulSettings};
 ghost use Rattle.relay_serving.specs.Plans.{IsLawfulPlan};
 

@@ -1,5 +1,4 @@
-//! The records of what changed of each group. They must not know how sockets are opened or closed, or
-//! what is kept of groups that were left.
+//! The records of what changed of each group.
 
 ghost use Rattle.std.specs.Prelude.{◌≡◌, ◌++◌, IfOk, OnOk};
 ghost use Rattle.group_records.specs.Written.{is_of_family};

@@ -1,4 +1,4 @@
-//! The family of a group. It must not know sockets.
+//! The family of a group.
 
 ghost use Rattle.std.specs.Prelude.{◌≡◌};
 ghost use Rattle.socket_merge.specs.Refusal.{family_of};

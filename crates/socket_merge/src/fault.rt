@@ -1,4 +1,4 @@
-//! Why a socket call is refused. It must not know how sockets are kept.
+//! Why a socket call is refused.
 
 /// Why no socket was opened or changed: the first of these that holds.
 ///

@@ -1,4 +1,4 @@
-//! The tallies of groups. They must not know names or the filters of single sockets.
+//! The tallies of groups.
 
 ghost use Rattle.std.specs.Prelude.{◌≡◌, [], true, not, IfOk, OnOk, OnErr, nat_lt};
 ghost use Rattle.socket_merge.specs.Kept.{AreNeeded, HasRoom, HasTallies, HasTally, is_blank, tally_at, tally_changed, tally_fresh, tally_left, tally_with, tally_without};

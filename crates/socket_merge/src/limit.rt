@@ -1,4 +1,4 @@
-//! The first limit that a filter would pass. It must not know names or filters.
+//! The first limit that a filter would pass.
 
 ghost use Rattle.std.specs.Prelude.{◌≡◌, ◌+◌, ◌-◌, ◌≤◌};
 ghost use Rattle.amt_values.specs.Conditions.{first_holding};

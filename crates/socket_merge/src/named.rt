@@ -1,4 +1,4 @@
-//! Open sockets by name. They must not know moments, farewells or reports.
+//! Open sockets by name.
 
 ghost use Rattle.std.specs.{Prelude.{◌≡◌, ◌<◌, ◌^◌, List, [], ◌∷◌, ◌++◌, ◌&&◌, None, length, map, IfOk, OnOk, OnErr}, Option.{option_map}};
 ghost use Rattle.socket_merge.specs.{History.{Change, Close, Socket, sockets_after, socket_named}, FullReport.{is_empty}, Interface.{filters_on, same_group, some_admits}, Kept.{share_of}};

@@ -1,4 +1,4 @@
-//! The sockets of a host. They must not know messages, tunnels or clocks.
+//! The sockets of a host.
 
 ghost use Rattle.std.specs.Prelude.{◌≡◌, ℕ, ◌≤◌, ◌<◌, ◌^◌, ◌+◌, ◌↔◌, [], ◌∷◌, ◌++◌, true, false, None, length, All, IfOk, OnOk, OnErr, IsErr};
 ghost use Rattle.amt_values.specs.{Group.{is_forwardable}, declared.address.Ip.{Ip}};

@@ -1,4 +1,4 @@
-//! What is kept of a socket and of a group. It must not know names or reports.
+//! What is kept of a socket and of a group.
 
 ghost use Rattle.std.specs.Prelude.{◌≡◌};
 ghost use Rattle.source_filter.specs.Filter.{wants_any};

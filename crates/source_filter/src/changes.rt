@@ -1,4 +1,4 @@
-//! The records that tell of a change of a filter. It must not know sockets or moments.
+//! The records that tell of a change of a filter.
 
 ghost use Rattle.std.specs.Prelude.{◌≡◌, [], ◌∷◌, ◌++◌, IfOk, OnOk};
 ghost use Rattle.amt_values.specs.{Order.{ip_order}, Ascending.{IsAscending, difference}};

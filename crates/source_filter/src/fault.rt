@@ -1,4 +1,4 @@
-//! Why a payload is no report or no query. It must not know how one is read.
+//! Why a payload is no report or no query.
 
 /// Why a payload is no membership report, or no query: the first of these that holds.
 ///

@@ -1,4 +1,4 @@
-//! Filters of one group. It must not know lists of records, endpoints or moments.
+//! Filters of one group.
 
 ghost use Rattle.std.specs.Prelude.{◌≡◌, true, false, IfOk};
 ghost use Rattle.amt_values.specs.{Order.{ip_order}, declared.address.Ip.{Ip}, Ascending.{IsAscending}};

@@ -1,4 +1,4 @@
-//! Addresses that own their memory, and their ascending order. It must not know what they are sources of.
+//! Addresses that own their memory, and their ascending order.
 
 ghost use Rattle.std.specs.Prelude.{◌≡◌, IfOk};
 ghost use Rattle.amt_values.specs.{Order.{ip_order}, Ascending.{IsAscending, difference, has, intersection}};

@@ -1,4 +1,4 @@
-//! The one filter of an interface for all its sockets. It must not know records, names or moments.
+//! The one filter of an interface for all its sockets.
 
 ghost use Rattle.std.specs.{Prelude.{◌≡◌, [], ◌∷◌, ◌++◌, Some, IfOk, IfSome, OnOk}, List.{list_any}, Option.{option_to_list}};
 ghost use Rattle.amt_values.specs.{Order.{ip_order}, declared.address.Ip.{Ip}, Ascending.{IsAscending}};

@@ -1,4 +1,4 @@
-//! The filter modes. It must not know filters.
+//! The filter modes.
 
 /// Whether the sources of a list are the wanted ones or the unwanted ones (RFC 3376, section 3.1).
 #[derive(Clone, Copy, Debug, PartialEq, Eq)]

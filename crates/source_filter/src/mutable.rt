@@ -1,4 +1,4 @@
-//! A filter that records change in place. It must not know lists of records, endpoints or moments.
+//! A filter that records change in place.
 
 ghost use Rattle.std.specs.Prelude.{◌≡◌, IfOk, OnOk, OnErr};
 ghost use Rattle.amt_values.specs.{Order.{ip_order}, Ascending.{IsAscending, difference, union}};

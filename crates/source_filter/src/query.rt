@@ -1,4 +1,4 @@
-//! The fields of a query. It must not know how they are laid out.
+//! The fields of a query.
 
 use amt_values::Ip;
 

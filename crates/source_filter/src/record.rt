@@ -1,4 +1,4 @@
-//! Group records. It must not know filters.
+//! Group records.
 
 use crate::ips::Ips;
 use amt_values::Ip;

@@ -1,4 +1,4 @@
-//! Lists of group records, and copies. It must not know what the records are about.
+//! Lists of group records, and copies.
 
 ghost use Rattle.std.specs.Prelude.{◌≡◌, IfOk};
 

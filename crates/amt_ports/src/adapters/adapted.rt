@@ -1,4 +1,4 @@
-//! A device of std with its count of faults. It must not know whether it is read or written.
+//! A device of std with its count of faults.
 
 ghost use Rattle.std.specs.Prelude.{◌≡◌};
 

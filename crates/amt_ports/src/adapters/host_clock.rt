@@ -1,4 +1,4 @@
-//! The machine's clock. It must not know what is timed.
+//! The machine's clock.
 
 ghost use Rattle.std.specs.Prelude.{◌≡◌, ◌<◌, ◌≤◌, None};
 ghost use Rattle.amt_ports.specs.RealDevices.{readings_failed};

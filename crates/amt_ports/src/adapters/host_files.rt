@@ -1,4 +1,4 @@
-//! The file system. It must not know what files say.
+//! The file system.
 
 ghost use Rattle.std.specs.Prelude.{◌≡◌, None};
 ghost use Rattle.amt_ports.specs.RealDevices.{files_failed};

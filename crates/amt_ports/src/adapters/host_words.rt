@@ -1,4 +1,4 @@
-//! The machine's random numbers. It must not know what they are for.
+//! The machine's random numbers.
 
 ghost use Rattle.std.specs.Prelude.{◌≡◌, None};
 ghost use Rattle.amt_ports.specs.RealDevices.{drawings_failed};

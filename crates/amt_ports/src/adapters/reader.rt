@@ -1,4 +1,4 @@
-//! A std reader as a source. It must not know which reader.
+//! A std reader as a source.
 
 ghost use Rattle.std.specs.{Prelude.{◌≡◌, ◌≢◌, IfErr, OnOk, OnErr}, Io.{ReadsAtMost, KnownBytes.{ReadConsumes}}, IoError.{error_kind}};
 ghost use Rattle.amt_ports.specs.Causes.{HasCause, next_count};

@@ -1,4 +1,4 @@
-//! A std writer as a sink. It must not know which writer.
+//! A std writer as a sink.
 
 ghost use Rattle.std.specs.{Prelude.{◌≡◌, ◌≢◌, ◌<◌, length, IfOk, IfErr, OnOk, OnErr}, Io.{WritesAtMost, KnownBytes.{WriteAppends}}, IoError.{error_kind}};
 ghost use Rattle.amt_ports.specs.Causes.{HasCause, next_count};

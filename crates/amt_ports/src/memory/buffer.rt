@@ -1,4 +1,4 @@
-//! What devices in memory write to a buffer. It must not know the devices.
+//! What devices in memory write to a buffer.
 ghost use Rattle.std.specs.Prelude.{◌≡◌, ◌≤◌, length, take};
 
 // Copies the octets to the start of the buffer, and answers how many they are.

@@ -1,4 +1,4 @@
-//! A clock in memory, for tests and callers. It must not know the machine's clock.
+//! A clock in memory, for tests and callers.
 ghost use Rattle.std.specs.Prelude.{◌≡◌, ◌≤◌, [], Some, drop};
 ghost use Rattle.amt_ports.specs.{Scripted.{head_or, last_or}, Told.{Appends}};
 

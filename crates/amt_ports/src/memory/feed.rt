@@ -1,4 +1,4 @@
-//! Feeds in memory, for tests and callers. They must not know the real devices.
+//! Feeds in memory, for tests and callers.
 ghost use Rattle.std.specs.Prelude.{◌≡◌, ◌≤◌, ◌↔◌, [], Some, All, Contains, length, IsErr, IsOk, IfOk, OnOk, OnErr};
 ghost use Rattle.amt_ports.specs.{Arrivals.{IsShortFeedAnswer, IsShortFeedGot, feed_answer}, Causes.{HasCause, next_count}, Tally.{fresh_tally, with_call, with_fault}, Told.{Answers}, declared.feed.FeedAnswer.TheVariants.{Closed as ClosedFeed}};
 

@@ -1,4 +1,4 @@
-//! Files in memory, for tests and callers. They must not know the file system.
+//! Files in memory, for tests and callers.
 ghost use Rattle.std.specs.Prelude.{◌≡◌, ◌≤◌, ◌↔◌, ◌⊎◌, ℕ, [], List, Some, None, Contains, find, length, option_copied, IfOk, IfErr, IsErrOf};
 ghost use Rattle.amt_ports.specs.{Causes.{Rose, next_count}, Contents.{IsContent, IsLonger}, MemFiles.{SaysLength, content_named, has_name}, Tally.{fresh_tally, with_call, with_fault}};
 

@@ -1,4 +1,4 @@
-//! A link in memory, for tests and callers. It must not know the real devices.
+//! A link in memory, for tests and callers.
 ghost use Rattle.std.specs.Prelude.{◌≡◌, ◌≤◌, ◌↔◌, [], Some, All, Contains, length, IsErr, IsSome, IfOk, OnOk, OnErr};
 ghost use Rattle.amt_ports.specs.{Arrivals.{IsShortAnswer, IsShortGot, link_answer}, Causes.{HasCause, next_count}, MemOut.{Shows}, Sends.{tried_send}, Tally.{fresh_tally, with_call, with_fault}, Told.{Answers, Appends}, declared.link.LinkAnswer.TheVariants.{Closed as ClosedLink}};
 

@@ -1,4 +1,4 @@
-//! An out link in memory, for tests and callers. It must not know the real devices.
+//! An out link in memory, for tests and callers.
 ghost use Rattle.std.specs.Prelude.{◌≡◌, [], Some, Contains, IsErr, IsSome, OnOk, OnErr};
 ghost use Rattle.amt_ports.specs.{Causes.{HasCause, next_count}, MemOut.{Shows}, Sends.{tried_send}, Tally.{fresh_tally, with_call, with_fault}, Told.{Appends}};
 

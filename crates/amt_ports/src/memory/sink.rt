@@ -1,4 +1,4 @@
-//! A sink in memory, for tests and callers. It must not know the real devices.
+//! A sink in memory, for tests and callers.
 
 ghost use Rattle.std.specs.{Prelude.{◌≡◌, ◌<◌, [], length, Some, Contains, IsErr, IfOk, OnOk, OnErr}, Io.{WritesAtMost, KnownBytes.{WriteAppends}}};
 ghost use Rattle.amt_ports.specs.{Causes.{HasCause, next_count}, Tally.{fresh_tally, with_call, with_fault}};

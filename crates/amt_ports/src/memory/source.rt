@@ -1,4 +1,4 @@
-//! Sources in memory, for tests and callers. They must not know the real devices.
+//! Sources in memory, for tests and callers.
 
 ghost use Rattle.std.specs.{Prelude.{◌≡◌, ◌↔◌, [], min, length, take, drop, Some, Ok, Contains, IsErr, IfOk, OnOk, OnErr}, Io.{ReadsAtMost, KnownBytes.{ReadConsumes}}};
 ghost use Rattle.amt_ports.specs.{Causes.{HasCause, next_count}, Tally.{fresh_tally, with_call, with_fault}};

@@ -1,4 +1,4 @@
-//! Random words in memory, for tests and callers. They must not know the machine's random source.
+//! Random words in memory, for tests and callers.
 ghost use Rattle.std.specs.Prelude.{◌≡◌, ◌↔◌, [], Some, Ok, Contains, drop, IsErr, IfOk, OnOk, OnErr};
 ghost use Rattle.amt_ports.specs.{Causes.{HasCause, next_count}, Scripted.{head_or}, Tally.{fresh_tally, with_call, with_fault}, Told.{Appends}};
 

@@ -1,4 +1,4 @@
-//! A thread that gives what its task may give. It must not know who starts it.
+//! A thread that gives what its task may give.
 ghost use Rattle.std.specs.Prelude.{◌≡◌, IfOk};
 
 use crate::{Failed, Task};

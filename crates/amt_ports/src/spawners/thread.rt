@@ -1,4 +1,4 @@
-//! The spawner over std threads. It must not know what the tasks are.
+//! The spawner over std threads.
 ghost use Rattle.std.specs.Prelude.{◌≡◌, None};
 
 use super::promised::{GivenBy, Starts};

@@ -1,4 +1,4 @@
-//! One membership more, and one less. It must not know when a membership expires.
+//! One membership more, and one less.
 
 ghost use Rattle.std.specs.{Prelude.{◌≡◌, ◌<◌, ◌^◌, None, Some, OnOk, OnErr}, BTreeMap.{get, insert_entry, IsUnchanged}, List.{filter}, Map.{count_at}};
 ghost use Rattle.amt_values.specs.{Ascending.{placed}, Order.{endpoint_order}};

@@ -1,4 +1,4 @@
-//! Memberships that end: in time, or with their endpoint. It must not know filters.
+//! Memberships that end: in time, or with their endpoint.
 
 ghost use Rattle.std.specs.{Prelude.{◌≡◌, ◌≤◌, IfSome, IfNone, IsSome, None}, List.{filter}};
 ghost use Rattle.amt_values.specs.Ascending.{IsAscending};

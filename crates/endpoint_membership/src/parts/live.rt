@@ -1,4 +1,4 @@
-//! How many endpoints are live. It must not know limits.
+//! How many endpoints are live.
 
 ghost use Rattle.std.specs.{Prelude.{◌≡◌, ◌≤◌, is_some, if◌then◌else◌}, List.{filter}};
 ghost use Rattle.endpoint_membership.specs.{Limits.{live_count}, Memberships.{is_live, membership_in}, Parts.{stored_membership}, Stored.{ends_with, is_counted, is_of_another, only}};

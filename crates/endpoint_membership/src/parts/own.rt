@@ -1,4 +1,4 @@
-//! What an endpoint wants of each group before a report. It must not know the log or limits.
+//! What an endpoint wants of each group before a report.
 
 ghost use Rattle.std.specs.{Prelude.{◌≡◌, ◌≤◌, IfOk}, BTreeMap.{get}};
 ghost use Rattle.amt_values.specs.{declared.address.Ip.{Ip as Address}, Order.{ip_order}};

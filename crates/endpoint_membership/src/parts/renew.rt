@@ -1,4 +1,4 @@
-//! Memberships that are renewed, all or none. It must not know reports.
+//! Memberships that are renewed, all or none.
 
 ghost use Rattle.std.specs.{Prelude.{◌≡◌, [], true, not, ◌&&◌, ◌||◌, is_some, Some, option_map, OnOk, OnErr}, BTreeSet.{contains}, List.{AllByRecursion}, Option.{option_or}};
 ghost use Rattle.amt_values.specs.Ascending.{IsAscending};

@@ -1,4 +1,4 @@
-//! Memberships that are set and taken away together, or not at all. It must not know reports.
+//! Memberships that are set and taken away together, or not at all.
 
 ghost use Rattle.std.specs.{Prelude.{◌≡◌, None, true, not, is_some, map, IfOk, OnOk, OnErr, if◌then◌else◌}, List.{AllByRecursion, filter}, Option.{option_or}};
 ghost use Rattle.amt_values.specs.Ascending.{IsAscending, has};

@@ -1,4 +1,4 @@
-//! Memberships as they are shown. It must not know limits.
+//! Memberships as they are shown.
 
 ghost use Rattle.std.specs.Prelude.{◌≡◌, [], ◌∷◌, ◌++◌, map, IfOk, OnOk};
 ghost use Rattle.endpoint_membership.specs.{Memberships.{row_of}, Parts.{stored_membership}};

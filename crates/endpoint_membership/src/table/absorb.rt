@@ -1,4 +1,4 @@
-//! A table that follows another one's log, entry by entry. It must not know who accepts the entries.
+//! A table that follows another one's log, entry by entry.
 ghost use Rattle.std.specs.Prelude.{◌≡◌, [], ◌∷◌, ◌++◌, OnOk, OnErr};
 ghost use Rattle.endpoint_membership.specs.{Table.{ForLog, Holds}, declared.change.Change.TheVariants.{Reported}};
 

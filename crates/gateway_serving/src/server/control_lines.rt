@@ -1,4 +1,4 @@
-//! How a running gateway takes socket calls from its control feed. It must not know turns.
+//! How a running gateway takes socket calls from its control feed.
 ghost use Rattle.std.specs.Prelude.{◌≡◌, ◌≤◌, ◌-◌, ◌^◌, length, IsErrOf};
 ghost use Rattle.amt_ports.specs.{Bursts.{AreAsked, AskedSo, IsNext}, EndCauses.{IsCausedBy}, Devices.{WaitsBriefly, feed_seen, link_seen, out_seen}};
 ghost use Rattle.gateway_serving.specs.{Hearing.{HearsControlLine}, Servers.{AreFew, GrowsBy, HearsControl, at_control, at_work, family_in, latest_in}, Turns.{from_control}};

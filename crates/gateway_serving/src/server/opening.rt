@@ -1,5 +1,4 @@
-//! How a running gateway begins: its machine, its first moment, and the joins of its settings. It must not know
-//! turns.
+//! How a running gateway begins: its machine, its first moment, and the joins of its settings.
 ghost use Rattle.std.specs.Prelude.{◌≡◌, ◌≤◌, ◌<◌, ◌+◌, ◌^◌, [], ◌∷◌, All, IfOk, OnErr, OnOk, length, map};
 ghost use Rattle.amt_ports.specs.{Told.{Appends}, Devices.{link_seen, out_seen}};
 ghost use Rattle.gateway_machine.specs.Events.{IsEventOf};

@@ -1,5 +1,4 @@
-//! How a running gateway takes an event, sends what the machine says, and hands on a packet. It must not know where
-//! the event comes from.
+//! How a running gateway takes an event, sends what the machine says, and hands on a packet.
 ghost use Rattle.std.specs.Prelude.{◌≡◌, ◌≤◌, ◌<◌, ◌+◌, ◌^◌, [], ◌∷◌, length, map, IsOk, OnErr, OnOk};
 ghost use Rattle.gateway_machine.specs.{Events.{IsDraw, IsEventOf}, Outcomes.{NeedsNoMemory}, Runs.{answer_after}};
 ghost use Rattle.amt_ports.specs.Devices.{link_seen, out_seen};

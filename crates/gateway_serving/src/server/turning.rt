@@ -1,4 +1,4 @@
-//! One turn of a running gateway, and all of a run. It must not know how a gateway begins.
+//! One turn of a running gateway, and all of a run.
 ghost use Rattle.std.specs.Prelude.{◌≡◌, ◌≤◌, ◌-◌, ◌^◌, [], ◌∷◌, length};
 ghost use Rattle.amt_ports.specs.{EndCauses.{IsCausedBy}, Devices.{WaitsBriefly, feed_seen, link_seen, out_seen, words_seen}};
 ghost use Rattle.gateway_serving.specs.{Devices.{devices_seen}, Events.{nonce_of}, Servers.{AreFew, GrowsBy, Takes, Tallies, at_work, counts_in, latest_in}, Settings.{AreTurns}, Stages.{AreCausesOf, BeginsTurn, EndsIn, PassesMoment, RunsSo, TurnsSo}};

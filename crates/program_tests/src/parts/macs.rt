@@ -1,4 +1,4 @@
-//! What a MAC holds of a digest. It must not know endpoints or nonces.
+//! What a MAC holds of a digest.
 
 use amt_values::Mac48;
 use response_mac::{hmac_sha256, leftmost_48_bits};

@@ -1,4 +1,4 @@
-//! How a publisher and its views are made. It must not know what they are for.
+//! How a publisher and its views are made.
 ghost use Rattle.std.specs.Prelude.{◌≡◌, ◌≤◌, [], All, length, IfOk};
 ghost use Rattle.published_table.specs.{Publishers.{IsSamePublisher, ShowsAlike, book_of, owing, published, reading_terms}, Terms.{AreLawfulTerms}, Views.{IsNew, views_of}};
 

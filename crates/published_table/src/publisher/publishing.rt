@@ -1,4 +1,4 @@
-//! How a publisher shows what it owes. It must not know who reads it.
+//! How a publisher shows what it owes.
 ghost use Rattle.std.specs.Prelude.{◌≡◌, [], ◌++◌, drop, fold, map, IfOk, MatchResult};
 ghost use mathlib.Core.List.{IsPrefix};
 ghost use Rattle.published_table.specs.{Copies.{log_of, state_of}, Entries.{IsVouched, changes, with_entry}, History.{IsUnder}, Lists.{BeginsWithEach}, Logs.{entries}, Publishers.{HasPublished, IsSamePublisher, ShowsAlike}};

@@ -1,4 +1,4 @@
-//! What a publisher takes, and what is read of it. It must not know how it publishes.
+//! What a publisher takes, and what is read of it.
 ghost use Rattle.std.specs.Prelude.{◌≡◌, ◌<◌, ◌+◌, ◌^◌, [], ◌∷◌, ◌++◌, length, OnOk, OnErr};
 ghost use Rattle.published_table.specs.{Publishers.{IsSamePublisher, ShowsAlike, book_of, owing, published, reading_terms, spare}, Terms.{Fits}, Views.{named, note_publisher}};
 

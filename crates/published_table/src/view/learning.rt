@@ -1,4 +1,4 @@
-//! How a view is told of a log. It must not know how the table is read.
+//! How a view is told of a log.
 ghost use Rattle.std.specs.Prelude.{◌≡◌, ◌∷◌};
 ghost use Rattle.published_table.specs.{Logs.{entries}, Told.{logs_told}, Views.{handed, named, note_publisher, publisher_of, seen, terms_of, told}};
 

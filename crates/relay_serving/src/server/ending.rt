@@ -1,4 +1,4 @@
-//! How a running relay is ended. It must not know turns.
+//! How a running relay is ended.
 ghost use Rattle.std.specs.Prelude.{◌≡◌, ◌≤◌, ◌<◌, ◌+◌, ◌^◌, [], ◌∷◌, ◌++◌, All, cond, count_by, length, reverse};
 ghost use Rattle.published_table.specs.{Lists.{BeginsWith}, Publishers.{book_of, published}, Views.{publisher_of, room_of, seen, views_of}};
 ghost use Rattle.replication_workers.specs.Dispatchers.{AllRun};

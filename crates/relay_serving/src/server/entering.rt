@@ -1,4 +1,4 @@
-//! How a running relay takes an event. It must not know where the event comes from.
+//! How a running relay takes an event.
 ghost use Rattle.std.specs.Prelude.{◌≡◌, ◌≤◌, ◌<◌, ◌+◌, ◌^◌, [], ◌∷◌, IfOk, OnOk, OnErr, false};
 ghost use Rattle.relay_machine.specs.{Answers.{outcome_of, sends_of}, EventSize.{IsEvent}, declared.event.Event.TheVariants.{Rotate}};
 ghost use Rattle.relay_serving.specs.{Counting.{is_packet, with_outcome}, Servers.{HasEvents, IsAsBefore, IsStarved, counts_in, events_in, first_in, settings_in, tally_in}, Stages.{PassesMoment}};

@@ -1,4 +1,4 @@
-//! How a running relay takes packets from its feed. It must not know turns.
+//! How a running relay takes packets from its feed.
 ghost use Rattle.std.specs.Prelude.{◌≡◌, ◌≤◌, ◌<◌, ◌+◌, ◌^◌, [], ◌∷◌, length, IsErrOf, OnOk, OnErr};
 ghost use Rattle.relay_machine.specs.declared.event.Event.TheVariants.{Packet};
 ghost use Rattle.amt_ports.specs.{Bursts.{AreAsked, IsNext}, EndCauses.{IsCausedBy}, Devices.{WaitsBriefly, feed_seen}};

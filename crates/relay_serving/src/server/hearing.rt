@@ -1,4 +1,4 @@
-//! How a running relay hears its link. It must not know turns.
+//! How a running relay hears its link.
 ghost use Rattle.std.specs.Prelude.{◌≡◌, ◌≤◌, ◌<◌, ◌+◌, ◌^◌, [], ◌∷◌, length, map, IsErrOf, OnOk, OnErr};
 ghost use Rattle.relay_machine.specs.{Answers.{sends_of}, declared.event.Event.TheVariants.{Datagram}};
 ghost use Rattle.amt_ports.specs.{Bursts.{AreAsked, IsNext}, EndCauses.{IsCausedBy}, Devices.{WaitsBriefly, link_seen}};

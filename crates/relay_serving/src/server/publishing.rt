@@ -1,4 +1,4 @@
-//! How a running relay publishes what it owes. It must not know turns.
+//! How a running relay publishes what it owes.
 ghost use Rattle.std.specs.Prelude.{◌≢◌, ◌≤◌, ◌<◌, ◌+◌, ◌^◌, [], MatchResult, OnErr};
 ghost use Rattle.published_table.specs.Publishers.{HasPublished, IsSamePublisher, ShowsAlike, owing};
 ghost use Rattle.relay_serving.specs.Servers.{PublishesSo, tally_in};

@@ -1,4 +1,4 @@
-//! How a running relay is started. It must not know turns.
+//! How a running relay is started.
 ghost use Rattle.std.specs.Prelude.{◌≡◌, ◌≤◌, ◌<◌, ◌+◌, ◌++◌, [], All, length, IfErr, IfOk, OnErr, OnOk, map, reverse, true, false, vec_capacity};
 ghost use Rattle.logbook.specs.Pages.{Book};
 ghost use Rattle.amt_ports.specs.Causes.{Rose};

@@ -1,4 +1,4 @@
-//! One turn of a running relay, and all of a run. It must not know how a relay is started or ended.
+//! One turn of a running relay, and all of a run.
 ghost use Rattle.std.specs.Prelude.{◌≡◌, ◌≤◌, ◌<◌, ◌+◌, ◌^◌, [], length, None};
 ghost use Rattle.amt_ports.specs.{EndCauses.{IsCausedBy}, Devices.{WaitsBriefly, feed_seen, link_seen, words_seen}};
 ghost use Rattle.relay_serving.specs.{Counting.{no_counts}, Devices.{devices_seen}, Plans.{IsLawfulPlan}, Servers.{counts_in, happenings_in, tally_in}, Stages.{BeginsSo, progress_in}, Turning.{AreCausesOf, EndsIn, RunsSo, TurnsSo}};

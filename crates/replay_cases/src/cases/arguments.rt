@@ -1,4 +1,4 @@
-//! The arguments of a command line. It must not know which of them a command has.
+//! The arguments of a command line.
 
 use crate::cases::LineFault;
 use std::alloc::{AllocError, Global};

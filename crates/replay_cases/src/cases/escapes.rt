@@ -1,4 +1,4 @@
-//! Text with escapes, and repetitions of such text. It must not know which stream it is of.
+//! Text with escapes, and repetitions of such text.
 
 use crate::cases::LineFault;
 use amt_values::Bytes;

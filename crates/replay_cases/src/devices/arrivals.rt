@@ -1,4 +1,4 @@
-//! What comes to the link and to the feed of a case, turn by turn. It must not know who receives it.
+//! What comes to the link and to the feed of a case, turn by turn.
 ghost use Rattle.std.specs.Prelude.{◌≤◌, All, IfOk, IfSome, OnOk, length};
 ghost use Rattle.amt_ports.specs.Arrivals.{IsShortAnswer, IsShortFeedAnswer};
 

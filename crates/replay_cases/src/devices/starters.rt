@@ -1,4 +1,4 @@
-//! What starts the workers of a relay. It must not know what a worker does.
+//! What starts the workers of a relay.
 
 use amt_ports::{Failed, GivenBy, MemOut, Starts};
 use replication_workers::{Worker, WorkerDone, start_worker};

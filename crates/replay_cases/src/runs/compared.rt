@@ -1,4 +1,4 @@
-//! The lines of an output that a case compares. It must not know what they say.
+//! The lines of an output that a case compares.
 
 use amt_values::Bytes;
 use std::alloc::{AllocError, Global};

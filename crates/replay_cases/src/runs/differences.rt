@@ -1,4 +1,4 @@
-//! What is printed of a difference. It must not know what a run is.
+//! What is printed of a difference.
 
 use crate::place::Place;
 use std::alloc::{AllocError, Global};

@@ -1,4 +1,4 @@
-//! The order of what devices sent. It must not know a device.
+//! The order of what devices sent.
 
 use amt_values::Bytes;
 use std::alloc::{AllocError, Global};

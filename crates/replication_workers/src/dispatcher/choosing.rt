@@ -1,4 +1,4 @@
-//! Which slot a packet goes to. It must not know what a slot does.
+//! Which slot a packet goes to.
 ghost use Rattle.std.specs.Prelude.{◌≡◌, ◌≤◌, ◌<◌, length};
 ghost use Rattle.replication_workers.specs.Dispatchers.{slot_for};
 

@@ -1,4 +1,4 @@
-//! How all slots are ended. It must not know why.
+//! How all slots are ended.
 ghost use Rattle.std.specs.{Prelude.{◌≡◌, ◌≤◌, ◌^◌, false, length, map}, List.{All}};
 ghost use Rattle.published_table.specs.Views.{views_of};
 ghost use Rattle.replication_workers.specs.{Gathering.{HasRoom, IsFresh}, KeptSlots.{AreThreaded, IsRunBy, now_of, state_of}, Replicators.{out_of, view_of}, SlotStates.{HaveLeft, jobs_in_all}};

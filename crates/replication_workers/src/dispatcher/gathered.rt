@@ -1,4 +1,4 @@
-//! What slots left, one after another. It must not know slots.
+//! What slots left, one after another.
 ghost use Rattle.std.specs.Prelude.{◌≤◌, ◌+◌, ◌*◌};
 
 use published_table::Views;

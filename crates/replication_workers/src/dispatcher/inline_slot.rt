@@ -1,5 +1,4 @@
-//! A slot whose replicator the dispatcher keeps: it copies each job at once. It must not know how many
-//! slots there are.
+//! A slot whose replicator the dispatcher keeps: it copies each job at once.
 ghost use Rattle.std.specs.Prelude.{◌≡◌, ◌≤◌, ◌+◌, ◌*◌, length};
 ghost use Rattle.published_table.specs.Views.{publisher_of, terms_of};
 ghost use Rattle.replication_workers.specs.{Backs.{IsBack}, JobsSoFar.{jobs_listed}, Replicators.{limit_of, out_of, view_of}, Workers.{HasHandled}};

@@ -1,4 +1,4 @@
-//! One slot of a dispatcher: with a thread, or without. It must not know how many there are.
+//! One slot of a dispatcher: with a thread, or without.
 
 use crate::dispatcher::inline_slot::InlineSlot;
 use crate::slot::Slot;

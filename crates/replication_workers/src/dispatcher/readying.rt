@@ -1,5 +1,4 @@
-//! How slots are made ready to start, and taken apart where they aren't started. It must not know a
-//! spawner.
+//! How slots are made ready to start, and taken apart where they aren't started.
 ghost use Rattle.std.specs.Prelude.{◌≡◌, ◌≤◌, ◌<◌, ◌+◌, [], ◌∷◌, ◌++◌, length, vec_capacity, IfOk, OnErr, OnOk};
 ghost use Rattle.replication_workers.specs.Slots.{from_the_end};
 

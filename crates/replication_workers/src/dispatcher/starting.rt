@@ -1,4 +1,4 @@
-//! How a dispatcher is started. It must not know jobs.
+//! How a dispatcher is started.
 ghost use Rattle.std.specs.{Prelude.{◌≡◌, ◌≤◌, ◌+◌, [], true, false, length, map, vec_capacity, IfErr, IfOk, OnErr, OnOk}, List.{All}};
 ghost use Rattle.amt_ports.specs.Causes.{Rose};
 ghost use Rattle.published_table.specs.Views.{views_of};

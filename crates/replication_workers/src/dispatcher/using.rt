@@ -1,4 +1,4 @@
-//! How a dispatcher is given jobs, and ended. It must not know how it was started.
+//! How a dispatcher is given jobs, and ended.
 ghost use Rattle.std.specs.{Prelude.{◌≡◌, ◌<◌, ◌^◌, true, false, length, map}, List.{All}};
 ghost use Rattle.published_table.specs.Views.{views_of};
 ghost use Rattle.replication_workers.specs.{Dispatchers.{AllRun, IsForSlot, KeepsAllRun, held_by, is_threaded, slot_for, slots_of}, Replicators.{out_of, view_of}, SlotStates.{CopiedAt, HaveLeft, jobs_in_all, with_job}};

@@ -1,4 +1,4 @@
-//! How a queue ends. It must not know who ends it.
+//! How a queue ends.
 ghost use Rattle.std.specs.Prelude.{◌≡◌};
 ghost use Rattle.crossbeam_channel.specs.{Claims.{IsSeatAt, view}, Ends.{sends_on}};
 ghost use Rattle.replication_workers.specs.Queue.{HasEnded, HasStopped, jobs_of};

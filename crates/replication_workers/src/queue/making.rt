@@ -1,4 +1,4 @@
-//! How a queue is made. It must not know jobs.
+//! How a queue is made.
 ghost use Rattle.std.specs.Prelude.{◌≡◌, [], ◌∷◌, IfOk};
 ghost use Rattle.crossbeam_channel.specs.{Claims.{IsSeatAt, view}, Ends.{receives_on, ruled_capacity, sends_on}};
 ghost use Rattle.replication_workers.specs.{Queue.{IsPutting, IsTaking, jobs_of, settled, whole_end}, declared.queue.Item.TheVariants.{Home}};

@@ -1,4 +1,4 @@
-//! How items are put. It must not know what takes them.
+//! How items are put.
 ghost use Rattle.std.specs.Prelude.{◌≡◌, ◌<◌, ◌^◌, [], ◌∷◌, ◌++◌, length, MatchResult};
 ghost use Rattle.crossbeam_channel.specs.{Claims.{IsSeatAt, view}, Ends.{sends_on}};
 ghost use Rattle.replication_workers.specs.Queue.{HasStopped, IsOfHome, IsPutting, MayPut, jobs_of, with_put};

@@ -1,4 +1,4 @@
-//! How a replicator is made and taken apart. It must not know packets.
+//! How a replicator is made and taken apart.
 ghost use Rattle.std.specs.Prelude.{◌≡◌, ◌≤◌, ◌+◌, vec_capacity, IfOk, IfErr};
 ghost use Rattle.published_table.specs.Views.{terms_of};
 ghost use Rattle.replication_workers.specs.Replicators.{limit_of, out_of, view_of};

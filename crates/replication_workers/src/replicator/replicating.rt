@@ -1,4 +1,4 @@
-//! How a packet is copied. It must not know how a datagram is sent.
+//! How a packet is copied.
 ghost use Rattle.std.specs.Prelude.{◌≡◌, ◌≤◌, ◌+◌, [], ◌∷◌, Ok, length, MatchOption, IsErr, IfSome, map};
 ghost use Rattle.amt_messages.specs.{Layout.{spelling_of}, declared.message.Message.TheVariants.{Multicast}};
 ghost use Rattle.endpoint_membership.specs.Targets.{targets_of};

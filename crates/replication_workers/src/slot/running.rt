@@ -1,4 +1,4 @@
-//! How a slot is made, started, used and ended. It must not know how many there are.
+//! How a slot is made, started, used and ended.
 ghost use Rattle.std.specs.Prelude.{◌≡◌, ◌<◌, ◌^◌, [], ◌∷◌, ◌++◌, length, IfOk, MatchResult, OnErr};
 ghost use Rattle.amt_ports.specs.{Causes.{HasCause}, Starts.{HasStarted}};
 ghost use Rattle.published_table.specs.Views.{note_publisher, publisher_of};

@@ -1,4 +1,4 @@
-//! How a worker gets a thread of its own. It must not know what starts it, nor what its link is.
+//! How a worker gets a thread of its own.
 ghost use Rattle.std.specs.Prelude.{◌≡◌, IfOk};
 
 use super::{Worker, WorkerDone};

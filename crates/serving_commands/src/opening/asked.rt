@@ -1,4 +1,4 @@
-//! The openings that were asked for. It must not know what became of them.
+//! The openings that were asked for.
 ghost use Rattle.std.specs.Prelude.{◌≡◌, [], IsSome, None, OnErr, OnOk, Some};
 ghost use Rattle.amt_ports.specs.Told.{Appends};
 

@@ -1,4 +1,4 @@
-//! The devices of a run, as one value. It must not know who opens or uses them.
+//! The devices of a run, as one value.
 
 use replication_workers::Outs;
 

@@ -1,4 +1,4 @@
-//! The devices of the machine. It must not know what runs on them.
+//! The devices of the machine.
 ghost use Rattle.std.specs.Prelude.{◌≡◌, ◌≤◌, IfOk, IsErrOf, None, length};
 ghost use Rattle.amt_ports.specs.Causes.{Rose};
 

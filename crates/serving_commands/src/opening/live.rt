@@ -1,4 +1,4 @@
-//! What opens the devices of a run. It must not know what they are over.
+//! What opens the devices of a run.
 ghost use Rattle.std.specs.Prelude.{◌≡◌, ◌≤◌, ℕ, IfOk, IsErrOf, IsSome, List, OnErr, OnOk, Option, length};
 ghost use Rattle.amt_ports.specs.{Causes.{Rose}, Told.{Appends}};
 ghost use Rattle.serving_commands.specs.{Sets.{HasRoom, TakesFirst, less_room, more_room}, declared.opening.{asked.Opening.{Opening as Asked, TheVariants.{Relay as AskedRelay, Gateway as AskedGateway}}, devices.DeviceSet.{DeviceSet as Set, TheVariants.{Relay as RelaySet, Gateway as GatewaySet}}}};

@@ -1,4 +1,4 @@
-//! What is given back. It must not know what it was used for.
+//! What is given back.
 ghost use Rattle.std.specs.Prelude.{◌≡◌, ◌<◌, [], OnErr, OnOk};
 ghost use Rattle.serving_commands.specs.MemLive.{with_room, with_set};
 

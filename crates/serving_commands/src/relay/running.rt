@@ -1,4 +1,4 @@
-//! A relay is run on devices that are opened for it. It must not know what they are over.
+//! A relay is run on devices that are opened for it.
 ghost use Rattle.std.specs.Prelude.{◌≡◌, ◌⊎◌, ℕ, List, IfErr, IfOk, IsErrOf, OnErr, Some};
 ghost use Rattle.amt_ports.specs.Causes.{Rose};
 ghost use Rattle.serving_commands.specs.{RelayOpenings.{IsRefusedBy, opening_by}, RelayPlans.{AreTurns, AreWorkers}, RelayRunning.{Runs, RunsBy}, Kinds.{relay_file}, Lives.{tells}, Openings.{ComesFirst, IsRefused}, Reading.{Decides, TellsFault}};

@@ -1,4 +1,4 @@
-//! The octets of a report in which nothing is merged. They must not know names.
+//! The octets of a report in which nothing is merged.
 
 ghost use Rattle.std.specs.Prelude.{◌≡◌, ◌≤◌};
 ghost use Rattle.socket_merge.specs.Kept.{octets_besides, octets_in, raw_octets};

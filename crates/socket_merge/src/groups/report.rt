@@ -1,4 +1,4 @@
-//! What a full report says of each group. It must not know how sockets are opened or closed.
+//! What a full report says of each group.
 
 ghost use Rattle.std.specs.{Prelude.{◌≡◌, ◌++◌, nat_lt, [], ◌∷◌, IfOk, OnOk, if◌then◌else◌}, List.{flat_map}};
 ghost use Rattle.source_filter.specs.Merging.{merged};

@@ -1,4 +1,4 @@
-//! A UDP socket as a feed. It must not know what packets say.
+//! A UDP socket as a feed.
 
 ghost use Rattle.std.specs.Prelude.{◌≡◌, ◌≢◌, ◌≤◌, None, length, IfOk};
 ghost use Rattle.amt_ports.specs.{Arrivals.{IsShortFeedGot}, Causes.{HasCause}, RealDevices.{feed_failed}};

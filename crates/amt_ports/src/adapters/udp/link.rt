@@ -1,4 +1,4 @@
-//! A UDP socket as a link. It must not know what datagrams say.
+//! A UDP socket as a link.
 
 ghost use Rattle.std.specs.Prelude.{◌≡◌, ◌≢◌, ◌≤◌, true, None, Ok, length, IfOk};
 ghost use Rattle.amt_ports.specs.{Arrivals.{IsShortGot}, Causes.{HasCause}, RealDevices.{answers_may_wait, copies_may_wait, out_failed, receivings_failed, sends_failed}};

@@ -1,4 +1,4 @@
-//! Opening the sockets. It must not know what comes of them.
+//! Opening the sockets.
 
 use super::feed::UdpFeed;
 use super::link::UdpLink;

@@ -1,4 +1,4 @@
-//! What sockets are set to. It must not know what goes through them.
+//! What sockets are set to.
 
 ghost use Rattle.std.specs.Prelude.{◌≤ℤ◌, pos, IfOk};
 

@@ -1,4 +1,4 @@
-//! A worker's end, at the address and port of the listening socket. It must not know who else sends through it.
+//! A worker's end, at the address and port of the listening socket.
 
 ghost use Rattle.std.specs.Prelude.{◌≡◌, true, None, OnOk, OnErr};
 ghost use Rattle.amt_ports.specs.{Causes.{HasCause}, RealDevices.{copies_may_wait, out_failed}};

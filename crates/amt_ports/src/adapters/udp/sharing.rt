@@ -1,4 +1,4 @@
-//! Two sockets at one address and port. It must not know what goes through them.
+//! Two sockets at one address and port.
 
 use super::options::{checked, let_share};
 use libc::net::{AF_INET, AF_INET6, SOCK_CLOEXEC, SOCK_DGRAM, bind, getsockname, socket};

@@ -1,4 +1,4 @@
-//! Peers from and to std's socket addresses. It must not know any socket.
+//! Peers from and to std's socket addresses.
 
 ghost use Rattle.std.specs.{Prelude.{◌≡◌}, Net.Socket.{socket_ip, socket_port}};
 ghost use Rattle.amt_ports.specs.Peers.{IsStdAddress, source_ip, unmapped};

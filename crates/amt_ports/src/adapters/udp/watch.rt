@@ -1,4 +1,4 @@
-//! Receiving without leaving another socket's datagrams lying. It must not know what datagrams are.
+//! Receiving without leaving another socket's datagrams lying.
 
 ghost use Rattle.std.specs.Prelude.{◌≡◌, ◌≤◌, length, IfOk, IfSome};
 

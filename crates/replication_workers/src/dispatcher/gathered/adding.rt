@@ -1,4 +1,4 @@
-//! How what a slot left is added. It must not know slots.
+//! How what a slot left is added.
 ghost use Rattle.std.specs.Prelude.{◌≤◌, ◌+◌, ◌*◌, ◌^◌, ◌∷◌, [], IfOk};
 ghost use Rattle.replication_workers.specs.Gathering.{HasAdded, HasRoom, IsFresh, LeavesRoom};
 

@@ -1,4 +1,4 @@
-//! How a slot without a thread is made, used and ended. It must not know how many slots there are.
+//! How a slot without a thread is made, used and ended.
 ghost use Rattle.std.specs.Prelude.{◌≡◌, ◌<◌, ◌^◌, [], ◌∷◌, ◌++◌, length};
 ghost use Rattle.published_table.specs.Views.{note_publisher, publisher_of};
 ghost use Rattle.replication_workers.specs.{InlineSlots.{first_of, inline_state, jobs_done, replicator_now}, Replicators.{HasCopied, out_of, view_of}, SlotStates.{IsLeft}};

@@ -1,4 +1,4 @@
-//! How a slot is given a job, and ended. It must not know how many there are.
+//! How a slot is given a job, and ended.
 ghost use Rattle.std.specs.Prelude.{◌≡◌, ◌<◌, ◌^◌, false, length};
 ghost use Rattle.published_table.specs.Views.{note_publisher, publisher_of};
 ghost use Rattle.replication_workers.specs.{KeptSlots.{IsRunBy, KeepsRun, is_threaded_slot, now_of, state_of}, Replicators.{HasCopied, out_of, view_of}, SlotStates.{IsLeft, with_one_job}};
