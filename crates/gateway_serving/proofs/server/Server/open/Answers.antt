@@ -1,6 +1,10 @@
-use Rattle.std.proofs.Common.{◌≤◌, ◌^◌, ◌-◌, length, refl, rules, arith}
-use Rattle.gateway_serving.proofs.{Beginning.{opens_so}, Few.{AreFew-most, GrowsBy-step}}
+use Rattle.std.proofs.{lemmas.Bool.{false≢true}, Common.{◌≤◌, ◌^◌, ◌-◌, length, refl, rules, arith}}
+use Rattle.gateway_serving.proofs.{Beginning.{opens_so, rests_first}, Few.{AreFew-most, GrowsBy-step}}
 use Rattle.gateway_serving.proofs.server.Server.open.Goals as goal
+
+-- the first moment finds nothing due, so memory doesn't refuse it
+pub returns-in_err-take-clause-opens : goal.returns-in_err-take-clause-opens
+returns-in_err-take-clause-opens g c = absurd (false≢true (c.in_err-take.ensures.needs_none (rests_first _ _ _ _ c.requires.none)))
 
 pub returns-clause-opens : goal.returns-clause-opens
 returns-clause-opens g c =
