@@ -100,10 +100,10 @@ more_found lifetime moment endpoint xs membership group before after own ascends
     ∙ sym (one_more_filter lifetime moment endpoint xs membership group ascends)
 
 -- an insertion, by the order of addresses
-pub updated : (cmp : Ip → Ip → Ordering) (before after : BTreeMap Ip RenewedFilter) (key : Ip) (renewed_filter : Option RenewedFilter) → cmp ≡ ip_order → Updates cmp before after key renewed_filter
-    → (other : Ip) → get ip_order after other ≡ cond (same_group key other) renewed_filter (get ip_order before other)
-updated cmp before after key renewed_filter same updates =
-    subst (λ (order : Ip → Ip → Ordering). (other : Ip) → get order after other ≡ cond (is_at (order key) other) renewed_filter (get order before other)) same updates.0
+pub updated : {V : Type 0} (cmp : Ip → Ip → Ordering) (before after : BTreeMap Ip V) (key : Ip) (value : Option V) → cmp ≡ ip_order → Updates cmp before after key value
+    → (other : Ip) → get ip_order after other ≡ cond (same_group key other) value (get ip_order before other)
+updated cmp before after key value same updates =
+    subst (λ (order : Ip → Ip → Ordering). (other : Ip) → get order after other ≡ cond (is_at (order key) other) value (get order before other)) same updates.0
 
 set_by : (same : Bool) (group_record : Record) (moment : ℕ) (old before : Option RenewedFilter) → (same ≡ true → old ≡ before)
     → cond same (renewed_filter_after moment group_record old) before ≡ cond same (renewed_filter_after moment group_record before) before

@@ -2,7 +2,7 @@
 
 ghost use Rattle.std.specs.{Prelude.{◌≡◌, ◌≤◌, [], ◌∷◌, IfOk, OnOk, Some, if◌then◌else◌}, BTreeMap.{get, IsOrdered}, List.{filter_map}};
 ghost use Rattle.amt_values.specs.{declared.address.Ip.{Ip as Address}, Order.{ip_order}};
-ghost use Rattle.endpoint_membership.specs.{EndpointMemberships.{AreGone, AreOwn, gone_of_entry, membership_of_entry, renewed_filter_after_all}, Effective.{lent}, Log.{on_group}, EndpointGroup.{same_group}};
+ghost use Rattle.endpoint_membership.specs.{EndpointMemberships.{AreGone, AreOwn, gone_of_entry, membership_of_entry, renewed_filter_after_all}, Effective.{IsInOrder, lent}, Log.{on_group}, EndpointGroup.{same_group}};
 ghost use Rattle.source_filter.specs.Filter.{wants_any};
 
 use crate::effective::effective_records;
@@ -114,6 +114,7 @@ fn apply_records(
     records: &[Record],
     moment: Moment,
 ) -> Result<(), AllocError>
+    requires { (group : Address) → IsInOrder (get ip_order filters.old group) }
     ensures { OnOk result ((group : Address) → get ip_order filters.new group
         ≡ renewed_filter_after_all moment (on_group group records.now)
         (get ip_order filters.old group)) }

@@ -93,7 +93,7 @@ impl Gateway {
 
     /// The earliest moment at which something is due, if there is one: until then a moment is `Quiet`, and
     /// from then on it isn't. It changes with events, so a caller that sleeps asks again after each. It is never
-    /// before the latest moment that the gateway was told: where memory refused what was due, it is that one.
+    /// before the gateway's own moment, the latest that it took; where memory refused what was due, it has passed.
     pub fn due(&self) -> Option<Moment>
         ensures due { After self.now (λ settings first events. IsDueAt settings first events result) }
         ensures onward { After self.now (λ settings first events. IfSome result (λ due.

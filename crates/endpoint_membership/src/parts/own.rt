@@ -1,8 +1,8 @@
 //! What an endpoint wants of each group before a report.
 
 ghost use Rattle.std.specs.{Prelude.{◌≡◌, ◌≤◌, IfOk}, BTreeMap.{get}};
-ghost use Rattle.amt_values.specs.{declared.address.Ip.{Ip as Address}, Order.{ip_order}};
-ghost use Rattle.endpoint_membership.specs.{EndpointMemberships.{renewed_filter_of}, Membership.{is_fresh}, Memberships.{membership_in}, Stored.{only}};
+ghost use Rattle.amt_values.specs.{declared.address.Ip.{Ip as Address}, Order.{ip_order}, Ascending.{IsAscending}};
+ghost use Rattle.endpoint_membership.specs.{Effective.{IsInOrder}, EndpointMemberships.{renewed_filter_of}, Membership.{is_fresh}, Memberships.{membership_in}, Stored.{only}};
 
 use super::StoredMemberships;
 use crate::after_report::{RenewedFilter, set_filter};
@@ -15,9 +15,12 @@ use std::collections::BTreeMap;
 
 // The filter as records change it.
 fn renewed_filter_of(alloc: Global, stored: &StoredFilter) -> Result<RenewedFilter, AllocError>
-    ensures { IfOk result (λ renewed_filter. renewed_filter
+    ensures stored { IfOk result (λ renewed_filter. renewed_filter
         ≡ record { filter = stored.now.filter; renewed = stored.now.renewed }) }
+    ensures in_order { IsAscending ip_order stored.now.filter.sources }
 {
+    // Only this call says that the sources of a stored filter ascend.
+    let _ = stored.filter.sources();
     Ok(RenewedFilter {
         filter: MutableFilter::of_filter(alloc, &stored.filter)?,
         renewed: stored.renewed,
@@ -35,9 +38,11 @@ impl StoredMemberships {
         lifetime_ms: u64,
     ) -> Result<BTreeMap<Ip, RenewedFilter>, AllocError>
         requires { lifetime_ms ≤ 1000000000 }
-        ensures { IfOk result (λ filters. (group : Address)
+        ensures own { IfOk result (λ filters. (group : Address)
             → get ip_order filters group ≡ renewed_filter_of (only (is_fresh lifetime_ms moment)
             (membership_in self.now (record { endpoint = endpoint.now; group = group })))) }
+        ensures in_order { IfOk result (λ filters. (group : Address)
+            → IsInOrder (get ip_order filters group)) }
     {
         let least = EndpointGroup {
             endpoint: *endpoint,

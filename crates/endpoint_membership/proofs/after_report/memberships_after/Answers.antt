@@ -33,7 +33,7 @@ filters_are : (c : goal.After-memberships_of_filters) (group : Ip) → get ip_or
 filters_are c group =
     c.in_ok-apply_records.ensures group
     ∙ ap (λ (records : List Record). renewed_filter_after_all c.args.moment (on_group group records) (get ip_order c.in_ok-filters.filters group)) c.as_slice.ensures
-    ∙ ap (renewed_filter_after_all c.args.moment (on_group group c.args.records.now)) (c.in_ok-filters.ensures group)
+    ∙ ap (renewed_filter_after_all c.args.moment (on_group group c.args.records.now)) (c.in_ok-filters.ensures.own group)
 
 pub returns-clause-own : goal.returns-clause-own
 returns-clause-own c =

@@ -17,4 +17,4 @@ loop-place-preserved c =
     drop_more records before item within ∙ ap (λ (one : Record). one ∷ drop (before + 1) records) (sym c.index-records-place.is)
     ∙ ap (λ (from : ℕ). item ∷ drop from records) next in
     let kept = c.loop-place.invariant in
-    (subst (AreEnough (lent c.keep.new.kept.items)) (sym split) (c.in_ok-keep.ensures.enough (drop place records) kept.1 kept.0), c.in_ok-keep.ensures.decided kept.1)
+    (subst (AreEnough (lent c.keep.new.kept.items)) (sym split) (c.in_ok-keep.ensures.enough (drop place records) kept.1 kept.0), c.in_ok-keep.ensures.known kept.1)
