@@ -12,10 +12,10 @@ use std::alloc::Global;
 /// Runs a gateway over these devices (RFC 7450, section 4.1.2).
 ///
 /// It draws one word as the first nonce, takes one moment of the clock, and opens the joins of its configuration;
-/// where memory has no room for the gateway or for a join the run ends. Each turn then draws one word as the next nonce and takes one moment; takes
-/// what the link has, until it has nothing and at most 64 times; and takes the lines of the control feed in the
-/// same way. A line that makes no socket call is counted and changes nothing. What memory refuses in a turn is
-/// counted and isn't an event.
+/// where memory has no room for the gateway or for a join the run ends. Each turn then draws one word as the next
+/// nonce and takes one moment; takes what the link has, until it has nothing and at most 64 times; and takes the
+/// lines of the control feed in the same way. A line that makes no socket call is counted and changes nothing. What
+/// memory refuses in a turn is counted and isn't an event.
 pub fn serve_gateway<L: Link, F: Feed, O: OutLink, C: Clock, W: Words>(
     alloc: Global,
     config: &GatewayConfig,
