@@ -80,30 +80,51 @@ static void send_update(struct endpoints *all, int index) {
     send_from(all, index, update, sizeof update);
 }
 
-/* As many records as a datagram holds, TO_EX and TO_IN by turns of no source, on 60 groups over and over. */
-enum { RECORDS = 8000, GROUPS = 60, LONG = 44 + 8 * RECORDS };
+/* The longest reports: as many records as a datagram holds, of two kinds by turns, on so many groups over and over.
+ * A record lists this many sources, each another one.
+ */
+struct long_report {
+    const char *name;
+    uint8_t kinds[2];
+    uint32_t groups, sources;
+};
 
-/* An Update of the longest report, with the Query's MAC: each of its groups is joined and left many times. */
-static void send_long_update(struct endpoints *all, int index) {
-    static uint8_t update[LONG];
+enum { TO_IN = 3, TO_EX, ALLOW, BLOCK };
+
+static const struct long_report LONG_REPORTS[] = {
+    {"joined", {TO_EX, TO_IN}, 60, 0},
+    {"unchanged", {ALLOW, BLOCK}, 60, 0},
+    {"allowed", {ALLOW, ALLOW}, 60, 1},
+    {"left", {TO_IN, TO_IN}, 8000, 0},
+};
+
+enum { LONG_HEAD = 44, LONG_RECORDS = 64000 };
+
+/* An Update of such a report, with the Query's MAC. */
+static void send_long_update(struct endpoints *all, int index, const struct long_report *report) {
+    static uint8_t update[LONG_HEAD + LONG_RECORDS];
     static const uint8_t head[36] = {5, 0, 0, 0, 0, 0, 0, 0, 0, 0, 0, 0, 0x46, 0xc0, 0, 0, 0, 0, 0, 0, 1, 2, 0, 0, 10,
         0, 0, 2, 224, 0, 0, 22, 0x94, 4, 0, 0};
+    uint32_t size = 8 + 4 * report->sources, count = LONG_RECORDS / size, length = LONG_HEAD + size * count;
     memcpy(update, head, sizeof head);
     memcpy(update + 2, all->mac[index], 6);
     put32(update + 8, index);
-    put16(update + 14, LONG - 12);
+    put16(update + 14, length - 12);
     put16(update + 22, checksum(update + 12, 24));
-    memset(update + 36, 0, 8);
+    memset(update + 36, 0, length - 36);
     update[36] = 0x22;
-    put16(update + 42, RECORDS);
-    for (int at = 0; at < RECORDS; at++) {
-        uint8_t *record = update + 44 + 8 * at;
-        memset(record, 0, 4);
-        record[0] = at / GROUPS % 2 ? 3 : 4;
-        put32(record + 4, group_of(at % GROUPS));
+    put16(update + 42, count);
+    for (uint32_t at = 0; at < count; at++) {
+        uint8_t *record = update + LONG_HEAD + size * at;
+        record[0] = report->kinds[at / report->groups % 2];
+        put16(record + 2, report->sources);
+        put32(record + 4, group_of(at % report->groups));
+        for (uint32_t source = 0; source < report->sources; source++) {
+            put32(record + 8 + 4 * source, 0x0a000000 + at * report->sources + source);
+        }
     }
-    put16(update + 38, checksum(update + 36, LONG - 36));
-    send_from(all, index, update, sizeof update);
+    put16(update + 38, checksum(update + 36, length - 36));
+    send_from(all, index, update, length);
 }
 
 /* Waits for a Query at any socket, and gives its nonce; 0 with `none` where none came in time. */
@@ -182,12 +203,12 @@ static double update_all(struct endpoints *all) {
     return seconds_now() - begin;
 }
 
-/* So many long Updates of the first endpoint, one at a time. */
-static void update_at_length(struct endpoints *all, int count) {
+/* So many Updates of such a report of the first endpoint, one at a time. The barriers are those after `past`. */
+static void update_at_length(struct endpoints *all, const struct long_report *report, int count, int past) {
     for (int at = 0; at < count; at++) {
-        send_long_update(all, 0);
-        send_request(all, 0, BARRIER + LONG + at);
-        await(all, BARRIER + LONG + at);
+        send_long_update(all, 0, report);
+        send_request(all, 0, BARRIER + past + at);
+        await(all, BARRIER + past + at);
     }
 }
 

@@ -2,7 +2,7 @@
  *
  * usage: trial RELAY PROCESS shared|own COUNT COMMAND..
  *        trial - 0 shared COUNT COMMAND..     no relay: the receivers' addresses follow the words of the command
- *        trial RELAY PROCESS long 1 -         no command: an endpoint sends Updates of 8,000 records
+ *        trial RELAY PROCESS long 1 -         no command: an endpoint sends the longest Updates
  *
  * PROCESS is the relay's, whose processor time is measured while the command runs; without a relay it's the command's.
  * What is printed, besides what the command prints:
@@ -15,7 +15,13 @@
  *   lasted       seconds, from the start of the command until all was quiet
  *   updates      Updates a second: each endpoint has joined, and renews its membership once
  *   full         1 where the relay then has no room for more endpoints
- *   long         microseconds of processor time for each Update of 8,000 records, and a Request after it
+ *
+ * and of the longest Updates, microseconds of processor time for each, and a Request after it:
+ *
+ *   joined       8,000 records that join and leave 60 groups over and over
+ *   unchanged    8,000 records that allow and block no source, on 60 groups
+ *   allowed      5,333 records that allow a source each, on 60 groups
+ *   left         8,000 records that leave 8,000 groups, none of which was joined
  */
 #include "endpoints.h"
 #include <linux/sock_diag.h>
@@ -27,8 +33,8 @@ enum { BATCH = 64, HEAD = 8 };
 /* The trial is over where nothing has come for so many milliseconds, or so many seconds after the command. */
 enum { QUIET = 200, LIMIT_S = 5 };
 
-/* How many long Updates are sent. */
-enum { LONG_UPDATES = 500 };
+/* How many of the longest Updates of a kind are sent. */
+enum { LONG_UPDATES = 300 };
 
 struct counts {
     long arrived, other;
@@ -163,9 +169,11 @@ int main(int count, char **words) {
         printf("full %d\n", all.is_full);
     }
     if (!strcmp(words[3], "long")) {
-        double began = processor_of(relay);
-        update_at_length(&all, LONG_UPDATES);
-        printf("long %.0f\n", (processor_of(relay) - began) * 1e6 / LONG_UPDATES);
+        for (uint32_t at = 0; at < sizeof LONG_REPORTS / sizeof *LONG_REPORTS; at++) {
+            double began = processor_of(relay);
+            update_at_length(&all, &LONG_REPORTS[at], LONG_UPDATES, 0x10000 + at * LONG_UPDATES);
+            printf("%s %.0f\n", LONG_REPORTS[at].name, (processor_of(relay) - began) * 1e6 / LONG_UPDATES);
+        }
         return 0;
     }
     fflush(stdout);
