@@ -1,9 +1,9 @@
 #!/bin/sh
 # How fast a running relay is, over the loopback, with packets of 1,344 octets: lost packets at a quarter of the rate
 # of a bare `sendto` loop, copies a second at full rate, the processor time of a copy and Updates a second with 65,536
-# live endpoints, the processor time of an Update of 8,000 records, and what an idle relay takes. In the same run, each figure stands beside the bare loop and beside
-# the least that a relay can do, a loop of `recv` and `sendto` in C. All else on the machine disturbs them: the load is
-# printed, and `chrt -f 1 bench/relay.sh` gives every program of the trial the same advantage over it; but an idle relay
+# live endpoints, the processor time of the longest Updates, and what an idle relay takes. In the same run, each figure
+# stands beside the bare loop and beside the least that a relay can do, a loop of `recv` and `sendto` in C. All else on
+# the machine disturbs them: the load is printed, and `chrt -f 1 bench/relay.sh` gives every program of the trial the same advantage over it; but an idle relay
 # has none, since by a real-time policy its sleeps would end on time, which isn't how it runs.
 #
 # It builds no relay: `rt run` in crates/amt leaves the binary at crates/amt/out/amt. The programs of bench/relay are
@@ -178,12 +178,15 @@ endpoints() {
     fi
 }
 
-# One run of Updates of 8,000 records.
+# The longest Updates, by what they say of their groups: see trial.c.
+longest='joined unchanged allowed left refused'
+
+# One run of the longest Updates.
 long_updates() {
     serve "$relay" 0 long
     "$work/trial" "$link" "$process" long 1 - > "$work/figures"
     end
-    keep relay.long "$(figure long)"
+    for kind in $longest; do keep "relay.$kind" "$(figure "$kind")"; done
 }
 
 # idle COMMAND WORKERS: a trial in which nothing comes for three seconds, and hundredths of a processor that it took, by
@@ -247,8 +250,14 @@ show "least processor us a copy, $many, of 16" "$(least relay.many)" "$(least lo
 updates=$(median relay.updates %.0f)
 show "Updates/s, $many endpoints" "$updates" "$(median loop.updates %.0f)" '' '' 20000 "$updates >= 20000"
 if [ "$relay" != "$loop" ]; then
-    long=$(median relay.long %.0f)
-    show 'processor us an Update of 8,000 records' "$long" '' '' '' 1500 "$long <= 1500"
+    for kind in $longest; do
+        long=$(median "relay.$kind" %.0f)
+        case $kind in
+            joined | unchanged) show "processor us an Update, 60 groups $kind" "$long" '' '' '' 1500 "$long <= 1500" ;;
+            allowed) show 'processor us an Update, 5,333 sources allowed' "$long" '' '' '' ;;
+            *) show "processor us an Update, 8,000 groups $kind" "$long" '' '' '' ;;
+        esac
+    done
 fi
 idle "$loop" 0
 c=$idle

@@ -96,6 +96,7 @@ static const struct long_report LONG_REPORTS[] = {
     {"unchanged", {ALLOW, BLOCK}, 60, 0},
     {"allowed", {ALLOW, ALLOW}, 60, 1},
     {"left", {TO_IN, TO_IN}, 8000, 0},
+    {"refused", {TO_EX, TO_EX}, 8000, 0},
 };
 
 enum { LONG_HEAD = 44, LONG_RECORDS = 64000 };

@@ -22,6 +22,7 @@
  *   unchanged    8,000 records that allow and block no source, on 60 groups
  *   allowed      5,333 records that allow a source each, on 60 groups
  *   left         8,000 records that leave 8,000 groups, none of which was joined
+ *   refused      8,000 records that join 8,000 groups, more than the limit
  */
 #include "endpoints.h"
 #include <linux/sock_diag.h>
