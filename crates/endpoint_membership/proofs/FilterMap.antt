@@ -1,6 +1,6 @@
 -- The groups of one endpoint, as a map of filters and as memberships.
-use Rattle.std.proofs.{Common.{◌≡◌, ℕ, Bool, true, false, cond, ◌&&◌, List, [], ◌∷◌, ◌++◌, filter, Option, Some, None, refl, sym, ap, subst, ◌∙◌, append-nil}, lemmas.{Cmp.{eq_by_cmp_equiv, tied_itself}, List.Elements.{filter_map-append}, Map.{Keys.{sorted_head, sorted_tail}, Views.{tells_apart}}}}
-use Rattle.std.specs.{BTreeMap.{BTreeMap, Updates, get, is_at}, List.{AllByRecursion, cons_option, filter_map, Sorted.{IsStrictlySortedBy}}, Map.{keys_of, lookup}, Option.{option_or}, Ordering.{is_eq, ordering_reverse}, declared.cmp.Ordering.{Ordering, TheVariants.{Less}}}
+use Rattle.std.proofs.{Common.{◌≡◌, ℕ, Bool, true, false, cond, ◌&&◌, List, [], ◌∷◌, ◌++◌, filter, Option, Some, None, refl, sym, ap, subst, ◌∙◌, append-nil}, lemmas.{Cmp.{eq_by_cmp_equiv, tied_itself}, List.Elements.{filter-append, filter_map-append}, Map.Keys.{sorted_head, sorted_tail}}}
+use Rattle.std.{proofs.lemmas.Map.Views.{tells_apart}, specs.{BTreeMap.{BTreeMap, Updates, get, is_at}, List.{AllByRecursion, cons_option, filter_map, Sorted.{IsStrictlySortedBy}}, Map.{keys_of, lookup}, Option.{option_or}, Ordering.{is_eq, ordering_reverse}, declared.cmp.Ordering.{Ordering, TheVariants.{Less}}}}
 use Rattle.amt_values.{specs.{declared.address.Ip.{Ip}, Order.{ip_order}, EndpointValue.{EndpointValue}, Ascending.{IsAscending}}, proofs.Orders.{ip_order-exact, ip_order-total, endpoint_order-total}}
 use Rattle.source_filter.specs.{Filter.{FilterValue, wants_any}, declared.record.Record.{Record}}
 use Rattle.endpoint_membership.specs.{Membership.{Membership, is_fresh, membership_order, endpoint_group_of}, Stored.{only}, declared.after_report.RenewedFilter.{RenewedFilter}}
@@ -46,6 +46,18 @@ pub one_applied : (group : Ip) (group_record : Record) (moment : ℕ) (before af
     → after ≡ cond key (renewed_filter_after moment group_record before) before → after ≡ renewed_filter_after_all moment (on_group group (group_record ∷ [])) before
 one_applied group group_record moment before after true here is = rw (sym here) is
 one_applied group group_record moment before after false here is = rw (sym here) is
+
+renewed_filter_after_all-append : (moment : ℕ) (done more : List Record) (renewed_filter : Option RenewedFilter) → renewed_filter_after_all moment (done ++ more) renewed_filter ≡ renewed_filter_after_all moment more (renewed_filter_after_all moment done renewed_filter)
+renewed_filter_after_all-append moment [] more renewed_filter = refl
+renewed_filter_after_all-append moment (first ∷ done) more renewed_filter = renewed_filter_after_all-append moment done more (renewed_filter_after moment first renewed_filter)
+
+-- one record more
+pub more_applied : (group : Ip) (done : List Record) (group_record : Record) (moment : ℕ) (first before after : Option RenewedFilter) → before ≡ renewed_filter_after_all moment (on_group group done) first
+    → after ≡ renewed_filter_after_all moment (on_group group (group_record ∷ [])) before → after ≡ renewed_filter_after_all moment (on_group group (done ++ group_record ∷ [])) first
+more_applied group done group_record moment first before after so_far is =
+    is ∙ ap (renewed_filter_after_all moment (on_group group (group_record ∷ []))) so_far
+    ∙ sym (ap (λ (records : List Record). renewed_filter_after_all moment records first) (filter-append (λ (one : Record). same_group group one.group) done (group_record ∷ []))
+    ∙ renewed_filter_after_all-append moment (on_group group done) (on_group group (group_record ∷ [])) first)
 
 last_of : (P : Membership → Type 0) (xs : List Membership) (last : Membership) → AllByRecursion P (xs ++ last ∷ []) → P last
 last_of P [] last each = each.0

@@ -90,7 +90,28 @@ fn apply_record(
     set_filter(filters, group_record.group, first)
 }
 
+// A report of no more records is applied as it is: what later ones leave without effect is looked for in
+// longer ones alone, since that costs a look for each.
+const FEW_RECORDS: usize = 256;
+
 // Applies records in their order.
+fn apply_few(
+    alloc: Global,
+    filters: &mut BTreeMap<Ip, RenewedFilter>,
+    records: &[Record],
+    moment: Moment,
+) -> Result<(), AllocError>
+    ensures { OnOk result ((group : Address) → get ip_order filters.new group
+        ≡ renewed_filter_after_all moment (on_group group records.now)
+        (get ip_order filters.old group)) }
+{
+    for group_record in records {
+        apply_record(alloc, filters, group_record, moment)?;
+    }
+    Ok(())
+}
+
+// Applies these records in their order.
 fn apply_each(
     alloc: Global,
     filters: &mut BTreeMap<Ip, RenewedFilter>,
@@ -119,6 +140,9 @@ fn apply_records(
         ≡ renewed_filter_after_all moment (on_group group records.now)
         (get ip_order filters.old group)) }
 {
+    if records.len() <= FEW_RECORDS {
+        return apply_few(alloc, filters, records, moment);
+    }
     let effective = effective_records(alloc, records)?;
     apply_each(alloc, filters, effective, moment)
 }
