@@ -2,7 +2,7 @@
 use Rattle.std.{proofs.{Common.{◌≡◌, ◌<◌, ℕ, ◌+◌, max, List, [], ◌∷◌, ◌++◌, length, get_or, map, take, drop, refl, sym, ap, subst, ◌∙◌, append-nil, arith}, Math.Bool.{or-true}, lemmas.List.{drop_more, map-append, take-append-drop, take_all, take_more, Elements.{All-cons, All-nil}}}, specs.Prelude.{Option, Result, Ok, Err, nat_lt}}
 use Rattle.amt_config.specs.declared.config.Join.{Join}
 use Rattle.amt_ports.{specs.{Told.{Appends, AppendsAll}, Answers.{refused, taken}, Devices.{LinkSeen, OutSeen}, declared.end.End.TheVariants.{WordsFault}}, proofs.Told.{AppendsAll-none}}
-use Rattle.gateway_machine.specs.{Outcomes.{IsAtRest}, Runs.{answer_after, run_of}, declared.{event.GatewayEvent.TheVariants.{Moment, Nonce}, settings.GatewaySettings.{GatewaySettings}}}
+use Rattle.gateway_machine.specs.{Outcomes.{IsAtRest}, Runs.{answer_after, run_of}, declared.{event.GatewayEvent.{GatewayEvent, TheVariants.{Moment, Nonce}}, settings.GatewaySettings.{GatewaySettings}}}
 use Rattle.gateway_serving.specs.{Events.{moments_in, nonce_of}, Openings.{OpensSo}, Servers.{AtWork, IsAlike, Takes, Tallies, at_work, counts_in, events_in, first_in, latest_in, settings_in}, Settings.{opening_of}, Starving.{SendsAt}}
 use Rattle.gateway_serving.{specs.{Stages.{BeginsTurn, BeginsWith, PassesMoment}, declared.server.Server.{Server}}, proofs.{Starving.{SendsAt-same}, Taking.{Takes-from, Takes-then, Takes-to, Tallies-as, Tallies-none, Tallies-then, none_first, none_taken, seen_same}}}
 
