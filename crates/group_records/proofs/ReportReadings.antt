@@ -1,61 +1,98 @@
 -- From what was answered by the reading of a payload to what it says of the report.
-use Rattle.std.{proofs.{Common.{◌≡◌, ◌↔◌, ℕ, ◌≤◌, List, length, drop, slice_index, ◌++◌, false, Option, Some, None, Result, Ok, Err, refl, sym, subst, ap, ◌∙◌}, lemmas.Bool.{ltb-false, le-ltb}}, specs.Result.{IfOk, MatchResult}}
+use Rattle.std.{proofs.{Common.{◌≡◌, ◌↔◌, ℕ, ◌≤◌, inl, inr, List, length, drop, slice_index, false, ◌||◌, ◌&&◌, not, eqb, ltb, is_some, Option, Some, None, Result, Ok, Err, refl, sym, subst, ap, ◌∙◌, arith}, lemmas.Bool.{ltb-false, le-ltb}}, specs.Result.{IfOk, MatchResult}}
 use Rattle.amt_values.{specs.{Octets.{AreOctets}, Answer.{Tells}, Conditions.{Conditions, first_holding, unless}}, proofs.{NetworkOrder.{AreOctets-drop}, AnswerLaws.{answer_refused as refused_by}, ConditionLaws.{NoneHolds-of, first_holding-both_none, first_holding-later, first_holding-none, holds_not, skips_same, unless-ok}}}
-use Rattle.inner_datagrams.specs.Checksum.{IsRight}
-use Rattle.source_filter.specs.{declared.record.Record.{Record}, declared.fault.{ReportFault.{ReportFault}, ReadFault.{ReadFault}}}
-use Rattle.group_records.{specs.{declared.family.Family.{Family, TheVariants.{V4, V6}}, Family.{is_old_report, report_type}, Report.{IsReport, IsSomeReport}, Reading.{GivesRecords, all_record_faults, report_fault_in, first_report_fault, record_count, records_in, report_head_faults, report_of}}, proofs.RecordLists.{AreRecords-once, AreRecords-read}}
+use Rattle.source_filter.specs.{declared.record.{Record.{Record}, RecordKind.{RecordKind}}, declared.fault.{ReportFault.{ReportFault}, ReadFault.{ReadFault}}}
+use Rattle.group_records.{specs.{declared.family.Family.{Family, TheVariants.{V4, V6}}, Family.{group_end, older_kind, report_type}, Report.{IsCurrentReport, IsOlderReport, IsReport, IsSomeReport}, Reading.{GivesRecords, later_record_faults, older_kind_in, report_fault_in, first_report_fault, record_count, records_by, records_in, report_head_faults, report_of}}, proofs.RecordLists.{AreRecords-once, AreRecords-read}}
 
 -- what is wrong with the records of a payload
 abbrev walk_faults : Family → List ℕ → Conditions ReportFault
-walk_faults family payload = all_record_faults family 0 (record_count payload) (drop 8 payload)
+walk_faults family payload = later_record_faults (older_kind_in family payload) family payload
 
--- a report's head has no fault
-record IsReportHead (family : Family) (pseudo_header payload : List ℕ) : Type 0 where
-  whole : 8 ≤ length payload
-  kind : slice_index payload 0 ≡ report_type family
-  right_sum : IsRight (pseudo_header ++ payload)
+-- the type of a current report is none of an older one
+not_older : (family : Family) (kind : ℕ) → kind ≡ report_type family → older_kind family kind ≡ None
+not_older V4 kind same = rw same refl
+not_older V6 kind same = rw same refl
 
-report_head_faults-none : (family : Family) (pseudo_header payload : List ℕ) → first_holding (report_head_faults family pseudo_header payload) ≡ None
-    → IsReportHead family pseudo_header payload
-report_head_faults-none family pseudo_header payload none =
-    let all = NoneHolds-of (report_head_faults family pseudo_header payload) none in
-    record { whole = ltb-false (length payload) 8 all.0; kind = holds_not _ _ all.1.1.0; right_sum = holds_not _ _ all.1.1.1.0 }
+-- an older message is as long as the head of a current one
+past_eight : (family : Family) (count : ℕ) → group_end family ≤ count → 8 ≤ count
+past_eight V4 count whole = whole
+past_eight V6 count whole = omega (arith, whole)
 
--- the type of a report is none of an older one
-not_old : (family : Family) (kind : ℕ) → kind ≡ report_type family → is_old_report family kind ≡ false
-not_old V4 kind same = rw same refl
-not_old V6 kind same = rw same refl
+module _ (family : Family) (pseudo_header payload : List ℕ) where
+  abbrev IsFaultless : Conditions ReportFault → Type 0
+  IsFaultless conditions = first_holding conditions ≡ None
 
-none-report_head_faults : (family : Family) (pseudo_header payload : List ℕ) → IsReportHead family pseudo_header payload
-    → first_holding (report_head_faults family pseudo_header payload) ≡ None
-none-report_head_faults family pseudo_header payload head =
-    let long = le-ltb (length payload) 8 head.whole in
-    let young = not_old family (slice_index payload 0) head.kind in
-    first_holding-none (report_head_faults family pseudo_header payload)
-    (long, (young, (skips_same _ _ head.kind, (skips_same _ _ head.right_sum, tt))))
+  -- a payload without fault is a report of the records that stand in it, by what its type says
+  faultless_by : (older : Option RecordKind) → older_kind_in family payload ≡ older → AreOctets payload
+      → IsFaultless (report_head_faults family pseudo_header payload) → IsFaultless (later_record_faults older family payload)
+      → IsReport family pseudo_header (records_by older family payload) payload
+  faultless_by None same small head walk =
+      let all = NoneHolds-of (report_head_faults family pseudo_header payload) head in
+      let known = rw same at all.1.0 in
+      inl (record {
+        whole = ltb-false (length payload) 8 all.0;
+        kind = holds_not _ _ known;
+        right_sum = holds_not _ _ all.1.1.1.0;
+        carries = AreRecords-read family 0 (record_count payload) (drop 8 payload) (AreOctets-drop 8 payload small) walk;
+      })
+  faultless_by (Some kind) same small head walk =
+      let all = NoneHolds-of (report_head_faults family pseudo_header payload) head in
+      let long = rw same at all.1.1.0 in
+      inr (record {
+        kind = kind;
+        whole = ltb-false (length payload) (group_end family) long;
+        older = same;
+        right_sum = holds_not _ _ all.1.1.1.0;
+        one = refl;
+      })
 
--- a payload without fault is a report of the records that stand in it
-faultless_is_report : (family : Family) (pseudo_header payload : List ℕ) → AreOctets payload → first_report_fault family pseudo_header payload ≡ None
-    → IsReport family pseudo_header (records_in family payload) payload
-unfolding first_report_fault
-faultless_is_report family pseudo_header payload small none =
-    let both = first_holding-both_none (report_head_faults family pseudo_header payload) (walk_faults family payload) none in
-    let head = report_head_faults-none family pseudo_header payload both.0 in
-    record {
-      whole = head.whole;
-      kind = head.kind;
-      right_sum = head.right_sum;
-      carries = AreRecords-read family 0 (record_count payload) (drop 8 payload) (AreOctets-drop 8 payload small) both.1;
-    }
+  faultless_is_report : AreOctets payload → first_report_fault family pseudo_header payload ≡ None
+      → IsReport family pseudo_header (records_in family payload) payload
+  unfolding first_report_fault
+  faultless_is_report small none =
+      let both = first_holding-both_none (report_head_faults family pseudo_header payload) (walk_faults family payload) none in
+      faultless_by (older_kind_in family payload) refl small both.0 both.1
+
+  -- what is read of a payload whose type says this, and of which no part has a fault
+  read_by : (older : Option RecordKind) (records : List Record) → older_kind_in family payload ≡ older
+      → IsFaultless (report_head_faults family pseudo_header payload) → IsFaultless (later_record_faults older family payload)
+      → records_by older family payload ≡ records → report_of family pseudo_header payload ≡ Ok records
+  unfolding first_report_fault report_of
+  read_by older records same head walk known =
+      let none = first_holding-later (report_head_faults family pseudo_header payload) (walk_faults family payload) head
+      ∙ ap (λ (kind : Option RecordKind). first_holding (later_record_faults kind family payload)) same ∙ walk in
+      ap (λ (fault : Option ReportFault). unless fault (records_in family payload)) none
+      ∙ ap (λ (kind : Option RecordKind). Ok (records_by kind family payload)) same
+      ∙ ap (λ (rs : List Record). Ok rs) known
+
+  current_is_read : (records : List Record) → IsCurrentReport family pseudo_header records payload
+      → report_of family pseudo_header payload ≡ Ok records
+  current_is_read records report =
+      let same = not_older family (slice_index payload 0) report.kind in
+      let walk = AreRecords-once family 0 (record_count payload) records (drop 8 payload) report.carries in
+      let known : not (is_some (older_kind_in family payload) || eqb (slice_index payload 0) (report_type family)) ≡ false =
+      rw same (skips_same _ _ report.kind) in
+      let whole : (is_some (older_kind_in family payload) && ltb (length payload) (group_end family)) ≡ false = rw same refl in
+      let head = first_holding-none (report_head_faults family pseudo_header payload)
+      (le-ltb (length payload) 8 report.whole, (known, (whole, (skips_same _ _ report.right_sum, tt)))) in
+      read_by None records same head walk.0 walk.1
+
+  older_is_read : (records : List Record) → IsOlderReport family pseudo_header records payload
+      → report_of family pseudo_header payload ≡ Ok records
+  older_is_read records report =
+      let known : not (is_some (older_kind_in family payload) || eqb (slice_index payload 0) (report_type family)) ≡ false =
+      rw report.older refl in
+      let whole : (is_some (older_kind_in family payload) && ltb (length payload) (group_end family)) ≡ false =
+      rw report.older (le-ltb (length payload) (group_end family) report.whole) in
+      let long = le-ltb (length payload) 8 (past_eight family (length payload) report.whole) in
+      let head = first_holding-none (report_head_faults family pseudo_header payload)
+      (long, (known, (whole, (skips_same _ _ report.right_sum, tt)))) in
+      read_by (Some report.kind) records report.older head refl (sym report.one)
 
 report_is_read : (family : Family) (pseudo_header payload : List ℕ) (records : List Record) → IsReport family pseudo_header records payload
     → report_of family pseudo_header payload ≡ Ok records
-unfolding first_report_fault report_of
-report_is_read family pseudo_header payload records report =
-    let head = none-report_head_faults family pseudo_header payload (record { whole = report.whole; kind = report.kind; right_sum = report.right_sum }) in
-    let walk = AreRecords-once family 0 (record_count payload) records (drop 8 payload) report.carries in
-    let none = first_holding-later (report_head_faults family pseudo_header payload) (walk_faults family payload) head ∙ walk.0 in
-    ap (λ (fault : Option ReportFault). unless fault (records_in family payload)) none ∙ ap (λ (rs : List Record). Ok rs) walk.1
+report_is_read family pseudo_header payload records (inl report) = current_is_read family pseudo_header payload records report
+report_is_read family pseudo_header payload records (inr report) = older_is_read family pseudo_header payload records report
 
 read_is_report : (family : Family) (pseudo_header payload : List ℕ) (records : List Record) → AreOctets payload
     → report_of family pseudo_header payload ≡ Ok records → IsReport family pseudo_header records payload

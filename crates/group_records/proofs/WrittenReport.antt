@@ -1,5 +1,5 @@
 -- A written report is read back, and its length.
-use Rattle.std.proofs.Common.{◌≡◌, ℕ, ◌+◌, ◌*◌, ◌%◌, ◌^◌, ◌<◌, ◌≤◌, List, [], ◌∷◌, ◌++◌, length, take, get_or, length-append, map, true, Option, Some, refl, sym, subst, ap, ◌∙◌, arith}
+use Rattle.std.proofs.Common.{◌≡◌, ℕ, ◌+◌, ◌*◌, ◌%◌, ◌^◌, ◌<◌, ◌≤◌, inl, List, [], ◌∷◌, ◌++◌, length, take, get_or, length-append, map, true, Option, Some, refl, sym, subst, ap, ◌∙◌, arith}
 use Rattle.std.{proofs.{Math.Nat.{suc-mul}, lemmas.List.{append-nil, length-map, Elements.{All-cons, All-head, All-nil, All-tail}, Sums.{sum_by-cons, sum_by_more_le}}}, specs.List.{All, flat_map, sum_by}}
 use Rattle.byteorder.specs.{Endian.{big_bytes}, Numbers.{big_number-reads_back, length-bytes_high_first}}
 use Rattle.amt_values.specs.{Octets.{AreOctets}, Address.{number_of}, declared.address.Ip.{Ip, TheVariants.{V4 as Address4, V6 as Address6}}}
@@ -271,9 +271,9 @@ IsReport-written_report family pseudo_header records even small of_family fittin
     let few_records = short-few_records family records short in
     let carries = AreRecords-written family records of_family fitting (short-few_sources family records short) in
     let count = big_number-reads_back 2 (length records) (flat_map written_record records) (omega arith) in
-    record {
+    inl (record {
       whole = omega arith;
       kind = refl;
       right_sum = IsRight-written_report family pseudo_header records even small;
       carries = subst (λ (n : ℕ). AreRecords family n records (flat_map written_record records)) (sym count) carries;
-    }
+    })

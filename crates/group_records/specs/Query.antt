@@ -4,32 +4,23 @@ use Rattle.std.specs.Prelude.{◌≡◌, ℕ, ◌+◌, ◌*◌, ◌/◌, ◌%◌
 use Rattle.byteorder.specs.Endian.{big_bytes, big_number}
 use Rattle.amt_values.specs.Conditions.{Conditions, first_holding, unless}
 use Rattle.inner_datagrams.specs.Checksum.{internet_sum_of, IsRight}
-use Rattle.source_filter.specs.declared.{fault.ReportFault.{ReportFault, TheVariants.{Short, Kind, OldReport, Sum, RecordShort, SourceShort}}, query.{QueryFields.{QueryFields}, QueryRead.{QueryRead}}}
-use Rattle.group_records.specs.{declared.family.Family.{Family, TheVariants.{V4, V6}}, Family.{width, address_in}, Reading.{source_count, wrong_sum}}
+use Rattle.source_filter.specs.declared.{fault.ReportFault.{ReportFault, TheVariants.{Short, Kind, Sum, RecordShort, SourceShort}}, query.{QueryFields.{QueryFields}, QueryRead.{QueryRead}}}
+use Rattle.group_records.specs.{declared.family.Family.{Family, TheVariants.{V4, V6}}, Family.{width, address_in, group_end, group_number}, Reading.{source_count, wrong_sum}}
 
 -- the type of a membership query
 abbrev pub query_type : Family → ℕ
 query_type V4 = 0x11
 query_type V6 = 0x82
 
--- the octets before the group
-abbrev pub group_offset : Family → ℕ
-group_offset V4 = 4
-group_offset V6 = 8
-
 -- the time within which a listener answers, as its code
 abbrev pub max_code_of : Family → List ℕ → ℕ
 max_code_of V4 payload = slice_index payload 1
 max_code_of V6 payload = big_number 2 (drop 4 payload)
 
--- the group's address as a number
-abbrev pub group_number : Family → List ℕ → ℕ
-group_number family payload = big_number (width family) (drop (group_offset family) payload)
-
 -- what follows the group: four reserved bits, the flag S and the robustness variable of three bits,
 -- the interval's code, the number of sources, and the sources
 abbrev pub after_group : Family → List ℕ → List ℕ
-after_group family payload = drop (group_offset family + width family) payload
+after_group family payload = drop (group_end family) payload
 
 -- the octet with the flag and the robustness variable
 abbrev pub robustness_octet : Family → List ℕ → ℕ
@@ -49,7 +40,7 @@ query_source_count family payload = source_count (after_group family payload)
 
 -- the octets of a query without sources
 abbrev pub least_query_length : Family → ℕ
-least_query_length family = group_offset family + width family + 4
+least_query_length family = group_end family + 4
 
 -- and with as many as the payload states
 abbrev pub stated_query_length : Family → List ℕ → ℕ
@@ -132,12 +123,10 @@ first_query_fault family pseudo_header payload = first_holding (query_faults fam
 unfoldable pub query_of : Family → List ℕ → List ℕ → Result QueryRead ReportFault
 query_of family pseudo_header payload = unless (first_query_fault family pseudo_header payload) (query_values family payload)
 
--- a fault that a query may have: no older version of it is told apart, and it has no records but
--- one list of sources
+-- a fault that a query may have: it has no records but one list of sources
 abbrev pub IsQueryFault : ReportFault → Type 0
 IsQueryFault (Short need have) = ⊤
 IsQueryFault (Kind kind) = ⊤
-IsQueryFault (OldReport kind) = ⊥
 IsQueryFault (Sum wanted given) = ⊤
 IsQueryFault (RecordShort index) = ⊥
 IsQueryFault (SourceShort index) = index ≡ 0

@@ -3,8 +3,8 @@ use Rattle.std.specs.Prelude.{◌≡◌, ℕ, zero, suc, ◌+◌, ◌*◌, ◌==
 use Rattle.byteorder.specs.Endian.{big_number}
 use Rattle.amt_values.specs.{Answer.{Gives}, Conditions.{Conditions, first_holding, unless}}
 use Rattle.inner_datagrams.specs.Checksum.{internet_sum_of, has_right_sum}
-use Rattle.source_filter.specs.{declared.record.Record.{Record}, declared.fault.{ReportFault.{ReportFault, TheVariants.{Short, Kind, OldReport, Sum, RecordShort, SourceShort}}, ReadFault.{ReadFault, TheVariants.{Report, Memory}}}}
-use Rattle.group_records.specs.{declared.family.Family.{Family}, CarriedRecord.{CarriedRecord, known_records}, Family.{width, kind_of, report_type, is_old_report}}
+use Rattle.source_filter.specs.{declared.record.{Record.{Record}, RecordKind.{RecordKind}}, declared.fault.{ReportFault.{ReportFault, TheVariants.{Short, Kind, Sum, RecordShort, SourceShort}}, ReadFault.{ReadFault, TheVariants.{Report, Memory}}}}
+use Rattle.group_records.specs.{declared.family.Family.{Family}, CarriedRecord.{CarriedRecord, known_records}, Family.{width, group_end, kind_of, older_kind, report_type}, Report.{older_record}}
 
 -- so many numbers of so many octets each, one after another
 abbrev pub numbers_at : ℕ → ℕ → List ℕ → List ℕ
@@ -61,25 +61,42 @@ abbrev pub wrong_sum : List ℕ → List ℕ → Bool × ReportFault
 wrong_sum pseudo_header payload =
     (not (has_right_sum (pseudo_header ++ payload)), Sum (wanted_sum pseudo_header payload) (big_number 2 (drop 2 payload)))
 
--- the type of an older report, or one that is no report's (RFC 3376, section 4; RFC 3810, section 5)
-abbrev pub kind_faults : Family → ℕ → Conditions ReportFault
-kind_faults family kind = (is_old_report family kind, OldReport kind) ∷ (not (kind == report_type family), Kind kind) ∷ []
+-- what an older message says of its group, and nothing of another payload
+abbrev pub older_kind_in : Family → List ℕ → Option RecordKind
+older_kind_in family payload = older_kind family (slice_index payload 0)
 
--- what is wrong with a report's head: too few octets, an older type or another, a wrong sum
+-- a type that is no report's of any version (RFC 3376, section 4; RFC 3810, section 5)
+abbrev pub unknown_type : Family → List ℕ → Bool × ReportFault
+unknown_type family payload =
+    (not (is_some (older_kind_in family payload) || (slice_index payload 0 == report_type family)), Kind (slice_index payload 0))
+
+-- an older message without its whole group
+abbrev pub missing_group : Family → List ℕ → Bool × ReportFault
+missing_group family payload =
+    (is_some (older_kind_in family payload) && nat_lt (length payload) (group_end family), Short (group_end family) (length payload))
+
+-- what is wrong with a report's head: too few octets, another type, an older group that isn't all there, a wrong sum
 abbrev pub report_head_faults : Family → List ℕ → List ℕ → Conditions ReportFault
 report_head_faults family pseudo_header payload =
     (nat_lt (length payload) 8, Short 8 (length payload))
-    ∷ kind_faults family (slice_index payload 0)
-    ++ wrong_sum pseudo_header payload ∷ []
+    ∷ unknown_type family payload
+    ∷ missing_group family payload
+    ∷ wrong_sum pseudo_header payload
+    ∷ []
 
 -- how many records the head states (RFC 3376, section 4.2.3; RFC 3810, section 5.2.3)
 abbrev pub record_count : List ℕ → ℕ
 record_count payload = big_number 2 (drop 6 payload)
 
--- what is wrong with a report, in order: its head, and then one record after another
+-- what is wrong with its records, one after another; an older message has none that may be
+abbrev pub later_record_faults : Option RecordKind → Family → List ℕ → Conditions ReportFault
+later_record_faults None family payload = all_record_faults family 0 (record_count payload) (drop 8 payload)
+later_record_faults (Some older) family payload = []
+
+-- what is wrong with a report, in order: its head, and then its records
 abbrev pub report_faults : Family → List ℕ → List ℕ → Conditions ReportFault
 report_faults family pseudo_header payload =
-    report_head_faults family pseudo_header payload ++ all_record_faults family 0 (record_count payload) (drop 8 payload)
+    report_head_faults family pseudo_header payload ++ later_record_faults (older_kind_in family payload) family payload
 
 -- the first of these that holds
 unfoldable pub first_report_fault : Family → List ℕ → List ℕ → Option ReportFault
@@ -92,19 +109,29 @@ asks_memory family (suc count) bytes =
     nat_le (record_length family bytes) (length bytes)
     && (is_some (kind_of (slice_index bytes 0)) || asks_memory family count (drop (record_length family bytes) bytes))
 
+-- an older message's one record is always kept
+abbrev pub keeps_one : Option RecordKind → Family → List ℕ → Bool
+keeps_one None family payload = asks_memory family (record_count payload) (drop 8 payload)
+keeps_one (Some older) family payload = true
+
 -- the head has no fault, and a record is kept before one has
 pub record AsksMemory (family : Family) (pseudo_header payload : List ℕ) : Type 0 where
   pub head : first_holding (report_head_faults family pseudo_header payload) ≡ None
-  pub kept : asks_memory family (record_count payload) (drop 8 payload) ≡ true
+  pub kept : keeps_one (older_kind_in family payload) family payload ≡ true
 
 -- the known ones of so many records, unless there is a first fault
 unfoldable pub records_reading : Family → ℕ → List ℕ → Result (List Record) ReportFault
 records_reading family count bytes =
     unless (first_holding (all_record_faults family 0 count bytes)) (known_records family (carried_records_at family count bytes))
 
--- the known records that stand in a payload
+-- the known records that a payload carries, or the one that an older message stands for
+abbrev pub records_by : Option RecordKind → Family → List ℕ → List Record
+records_by None family payload = known_records family (carried_records_at family (record_count payload) (drop 8 payload))
+records_by (Some older) family payload = older_record family older payload ∷ []
+
+-- the records of a payload
 abbrev pub records_in : Family → List ℕ → List Record
-records_in family payload = known_records family (carried_records_at family (record_count payload) (drop 8 payload))
+records_in family payload = records_by (older_kind_in family payload) family payload
 
 -- the records of the report that the payload is, unless there is a first fault
 unfoldable pub report_of : Family → List ℕ → List ℕ → Result (List Record) ReportFault

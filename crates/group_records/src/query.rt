@@ -3,9 +3,9 @@
 ghost use Rattle.std.specs.Prelude.{◌≡◌, ◌≤◌, ◌%◌, [], ◌∷◌, length, IfOk, IfErr, Ok, Err, MatchResult, None, Some};
 ghost use Rattle.source_filter.specs.declared.{query.QueryRead.{QueryRead as QueryReadValue}, fault.ReportFault.{ReportFault as ReportFaultValue}};
 ghost use Rattle.amt_values.specs.Conditions.{first_holding};
-ghost use Rattle.group_records.specs.Query.{IsQuery, IsQueryFault, first_query_fault, group_offset, max_code_of, query_values, query_of, least_query_length, stated_query_length, query_type, missing_sources, robustness_in, suppresses};
+ghost use Rattle.group_records.specs.Query.{IsQuery, IsQueryFault, first_query_fault, max_code_of, query_values, query_of, least_query_length, stated_query_length, query_type, missing_sources, robustness_in, suppresses};
 
-use crate::family::{Family, first_address, width};
+use crate::family::{Family, first_address, group_end, group_offset, width};
 use crate::record::source_count;
 use crate::report::sum_fault;
 use amt_values::INPUT_LIMIT;
@@ -22,23 +22,12 @@ pub fn query_type(family: Family) -> u8
     }
 }
 
-// The octets before the group.
-fn group_offset(family: Family) -> usize
-    ensures value { result ≡ group_offset family }
-    ensures most { result ≤ 8 }
-{
-    match family {
-        Family::V4 => 4,
-        Family::V6 => 8,
-    }
-}
-
 // The octets of a query without sources.
 fn least_query_length(family: Family) -> usize
     ensures value { result ≡ least_query_length family }
     ensures most { result ≤ 28 }
 {
-    group_offset(family) + width(family) + 4
+    group_end(family) + 4
 }
 
 // The code of the time within which a listener answers.
@@ -75,7 +64,7 @@ fn query_values(family: Family, payload: &[u8]) -> QueryRead
     ensures { result ≡ query_values family payload.now }
 {
     let (_, group) = payload.split_at(group_offset(family));
-    let (_, after_group) = payload.split_at(group_offset(family) + width(family));
+    let (_, after_group) = payload.split_at(group_end(family));
     let flags = after_group[0];
     QueryRead {
         fields: QueryFields {
@@ -94,7 +83,7 @@ fn stated_query_length(family: Family, payload: &[u8]) -> usize
     requires { least_query_length family ≤ length payload.now }
     ensures { result ≡ stated_query_length family payload.now }
 {
-    let (_, after_group) = payload.split_at(group_offset(family) + width(family));
+    let (_, after_group) = payload.split_at(group_end(family));
     least_query_length(family) + usize::from(source_count(after_group)) * width(family)
 }
 

@@ -40,7 +40,6 @@ inner_text (inner.Extension kind) = codes "extension " ++ decimal kind
 abbrev pub report_text : ReportFault → List ℕ
 report_text (report.Short need have) = codes "short " ++ (decimal need ++ (codes " " ++ decimal have))
 report_text (report.Kind kind) = codes "kind " ++ decimal kind
-report_text (report.OldReport kind) = codes "old " ++ decimal kind
 report_text (report.Sum want have) = sums_text want have
 report_text (report.RecordShort index) = codes "record " ++ decimal index
 report_text (report.SourceShort index) = codes "sources " ++ decimal index

@@ -64,7 +64,6 @@ pub fn append_report_fault(text: &mut Bytes, fault: &ReportFault) -> Result<(), 
     match *fault {
         ReportFault::Short(need, have) => write!(text, "short {need} {have}"),
         ReportFault::Kind(kind) => write!(text, "kind {kind}"),
-        ReportFault::OldReport(kind) => write!(text, "old {kind}"),
         ReportFault::Sum(want, have) => append_sums(text, want, have),
         ReportFault::RecordShort(index) => write!(text, "record {index}"),
         ReportFault::SourceShort(index) => write!(text, "sources {index}"),

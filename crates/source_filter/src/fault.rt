@@ -2,19 +2,16 @@
 
 /// Why a payload is no membership report, or no query: the first of these that holds.
 ///
-/// The head comes first: `Short`, then the type, which is `OldReport` or `Kind`, then `Sum`. After it
-/// come the records, one by one, each with `RecordShort` and then `SourceShort`: missing sources of one
-/// record come before a missing head of the next. A query has no records but one list of sources. Record
-/// numbers are counted from 0.
+/// The head comes first: `Short`, then `Kind`, then `Short` again, where an older report hasn't its whole
+/// group, then `Sum`. After it come the records of a report of IGMPv3 or MLDv2, one by one, each with
+/// `RecordShort` and then `SourceShort`: missing sources of one record come before a missing head of the
+/// next. A query has no records but one list of sources. Record numbers are counted from 0.
 #[derive(Clone, Copy, Debug, PartialEq, Eq)]
 pub enum ReportFault {
     /// Fewer octets than needed: the octets needed, and those there.
     Short(u32, u32),
-    /// Of a report, a type that is neither a report's nor an older report's; of a query, any type
-    /// but a query's.
+    /// Of a report, a type that is no report's of any version; of a query, any type but a query's.
     Kind(u8),
-    /// A report of an older version of the protocol; never of a query.
-    OldReport(u8),
     /// A wrong checksum: the one wanted, and the one there.
     Sum(u16, u16),
     /// Fewer octets are left than the head of the record with this number has; never of a query.
