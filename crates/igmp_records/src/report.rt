@@ -1,4 +1,4 @@
-//! Reports of IGMPv3, both ways.
+//! Reports of IGMP, both ways.
 
 ghost use Rattle.std.specs.Prelude.{◌≡◌, ◌≤◌, List, length, IfOk, Ok, Err, MatchResult, None, Some};
 ghost use Rattle.source_filter.specs.{Record.{item_count}, declared.record.Record.{Record as RecordValue}, declared.fault.{ReadFault.TheVariants.{Memory}, ReportFault.{ReportFault as ReportFaultValue}}};
@@ -11,11 +11,11 @@ use group_records::{Family, REPORT_LIMIT, read_report, write_report};
 use source_filter::{ReadFault, Records};
 use std::alloc::{AllocError, Global};
 
-/// Reads a whole payload of at most 16 MiB as one IGMPv3 membership report (RFC 3376, section 4.2).
+/// Reads a whole payload of at most 16 MiB as one membership report (RFC 3376, section 4.2).
 ///
-/// The faults are tried in the order of `ReportFault`; the reports of IGMPv1 and IGMPv2 and the
-/// leave of IGMPv2 are old reports. Memory is asked for the records that are kept; running out may come
-/// before a later record's fault.
+/// A report of IGMPv1 or IGMPv2 is IS_EX of nothing on its group, a leave TO_IN of nothing (section 7.3.2). The
+/// faults are tried in the order of `ReportFault`. Memory is asked for the records that are kept; running
+/// out may come before a later record's fault.
 pub fn read_report4(alloc: Global, payload: &[u8]) -> Result<Records, ReadFault>
     requires { length payload.now ≤ INPUT_LIMIT }
 

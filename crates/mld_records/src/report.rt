@@ -1,4 +1,4 @@
-//! Reports of MLDv2, both ways.
+//! Reports of MLD, both ways.
 
 ghost use Rattle.std.specs.Prelude.{◌≡◌, ◌≤◌, List, length, IfOk, Ok, Err, MatchResult, None, Some};
 ghost use Rattle.source_filter.specs.{Record.{item_count}, declared.record.Record.{Record as RecordValue}, declared.fault.{ReadFault.TheVariants.{Memory}, ReportFault.{ReportFault as ReportFaultValue}}};
@@ -12,12 +12,13 @@ use group_records::{Family, REPORT_LIMIT, read_report, report_length, write_repo
 use source_filter::{ReadFault, Records};
 use std::alloc::{AllocError, Global};
 
-/// Reads a whole payload of at most 16 MiB, of a datagram between these two addresses, as one MLDv2
-/// membership report (RFC 3810, section 5.2).
+/// Reads a whole payload of at most 16 MiB, of a datagram between these two addresses, as one membership
+/// report (RFC 3810, section 5.2).
 ///
-/// The addresses and the payload's length are summed with it (RFC 8200, section 8.1). The faults are
-/// tried in the order of `ReportFault`; the report and the done of MLDv1 are old reports. Memory is
-/// asked for the records that are kept; running out may come before a later record's fault.
+/// A report of MLDv1 is IS_EX of nothing on its group, a done TO_IN of nothing (section 8.3.2). The addresses
+/// and the payload's length are summed with it (RFC 8200, section 8.1). The faults are tried in the order of
+/// `ReportFault`. Memory is asked for the records that are kept; running out may come before a later
+/// record's fault.
 pub fn read_report6(
     alloc: Global,
     source: u128,
