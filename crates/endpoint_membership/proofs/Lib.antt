@@ -39,5 +39,4 @@ pub mod RowsAdmit
 pub mod SetTogether
 pub mod StoredView
 pub mod TargetsByLog
-pub mod ThreeParts
 pub mod WithinLimits

@@ -1,8 +1,8 @@
 -- Counting live endpoints from membership to membership.
 use Rattle.std.proofs.{Common.{◌≡◌, ℕ, ◌+◌, Bool, true, false, ◌||◌, if◌then◌else◌, List, [], ◌∷◌, ◌++◌, filter, length, Option, Some, None, refl, sym, ap, subst, ◌∙◌, arith}, lemmas.{Cmp.{tied_itself}, List.{map-append}}}
 use Rattle.std.{proofs.lemmas.{List.Elements.{filter-append}, Map.Keys.{sorted_head, sorted_tail}}, specs.{List.{AllByRecursion}, Option.{option_or}, Ordering.{is_eq, ordering_then}, declared.cmp.Ordering.{Ordering, TheVariants.{Less, Equal, Greater}}}}
-use Rattle.amt_values.{specs.{Order.{ip_order, endpoint_order}, EndpointValue.{EndpointValue}, Ascending.{IsAscending, has, placed, ascending}}, proofs.{Orders.{endpoint_order-exact, endpoint_order-total}, AscendingLaws.{IsAscending-filter, IsAscending-placed, IsAscending-ascending, has-append, has-placed, has-ascending, same_ascending}}}
-use Rattle.endpoint_membership.{specs.{Membership.{Membership, membership_order}, Stored.{ends_with, last_of}, Limits.{live_count}, EndpointGroup.{same_endpoint}}, proofs.{LimitByOwn.{endpoints_of, length-placed_new}, AfterEntries.{same_back, same_endpoint-exact}}}
+use Rattle.amt_values.{specs.{Order.{ip_order, endpoint_order}, EndpointValue.{EndpointValue}, Ascending.{IsAscending, has}}, proofs.{Orders.{endpoint_order-exact, endpoint_order-total}, AscendingLaws.{IsAscending-filter, has-append}}}
+use Rattle.endpoint_membership.{specs.{Membership.{Membership, membership_order}, Stored.{ends_with, last_of}, Limits.{live_count}, EndpointGroup.{same_endpoint}}, proofs.{CountedLive.{count-more, endpoints_of}, AfterEntries.{same_back, same_endpoint-exact}}}
 
 pub last_of-push : (rows : List Membership) (membership : Membership) → last_of (rows ++ membership ∷ []) ≡ Some membership.endpoint
 last_of-push [] membership = refl
@@ -77,45 +77,19 @@ moved true b = sym (or_true b)
 moved false true = refl
 moved false false = refl
 
-known : (a b : Bool) → (a ≡ true → b ≡ true) → (a || b) ≡ b
-known true b given = sym (given refl)
-known false b given = refl
-
 members : (rows : List Membership) (membership : Membership) (one : EndpointValue) → has endpoint_order (endpoints_of (rows ++ membership ∷ [])) one ≡ (same_endpoint one membership.endpoint || has endpoint_order (endpoints_of rows) one)
 members rows membership one =
     ap (λ (all : List EndpointValue). has endpoint_order all one) (map-append (λ (each : Membership). each.endpoint) rows (membership ∷ []))
     ∙ has-append endpoint_order (endpoints_of rows) (membership.endpoint ∷ []) one
     ∙ moved (has endpoint_order (endpoints_of rows) one) (same_endpoint one membership.endpoint)
 
-counted_by : (seen : Bool) (rows : List Membership) (membership : Membership) → has endpoint_order (endpoints_of rows) membership.endpoint ≡ seen
-    → live_count (rows ++ membership ∷ []) ≡ live_count rows + (if seen then 0 else 1)
-counted_by true rows membership seen =
-    let all = endpoints_of (rows ++ membership ∷ []) in
-    let some = endpoints_of rows in
-    let same = same_ascending endpoint_order-total endpoint_order-exact (ascending endpoint_order all) (ascending endpoint_order some) (IsAscending-ascending endpoint_order-total all) (IsAscending-ascending endpoint_order-total some)
-    (λ one. has-ascending endpoint_order-total all one ∙ members rows membership one
-    ∙ known (same_endpoint one membership.endpoint) (has endpoint_order some one) (λ here. ap (has endpoint_order some) (same_endpoint-exact one membership.endpoint here) ∙ seen)
-    ∙ sym (has-ascending endpoint_order-total some one)) in
-    let whole = ap (λ (tunnels : List EndpointValue). length tunnels) same in
-    omega (arith, whole)
-counted_by false rows membership seen =
-    let all = endpoints_of (rows ++ membership ∷ []) in
-    let some = endpoints_of rows in
-    let same = same_ascending endpoint_order-total endpoint_order-exact (ascending endpoint_order all) (placed endpoint_order membership.endpoint (ascending endpoint_order some))
-    (IsAscending-ascending endpoint_order-total all) (IsAscending-placed endpoint_order-total membership.endpoint (ascending endpoint_order some) (IsAscending-ascending endpoint_order-total some))
-    (λ one. has-ascending endpoint_order-total all one ∙ members rows membership one
-    ∙ sym (has-placed endpoint_order-total membership.endpoint (ascending endpoint_order some) one
-    ∙ ap (λ (test : Bool). same_endpoint one membership.endpoint || test) (has-ascending endpoint_order-total some one))) in
-    let whole = ap (λ (tunnels : List EndpointValue). length tunnels) same in
-    let longer = length-placed_new membership.endpoint (ascending endpoint_order some) (has-ascending endpoint_order-total some membership.endpoint ∙ seen) in
-    omega (arith, whole, longer)
-
 -- one more membership makes one more live endpoint, unless the last membership is of the same endpoint
 pub live_count-push : (rows : List Membership) (membership : Membership) → IsAscending membership_order (rows ++ membership ∷ [])
     → live_count (rows ++ membership ∷ []) ≡ live_count rows + (if ends_with (last_of rows) membership.endpoint then 0 else 1)
 live_count-push rows membership ascends =
-    counted_by (ends_with (last_of rows) membership.endpoint) rows membership
+    count-more (ends_with (last_of rows) membership.endpoint) (endpoints_of (rows ++ membership ∷ [])) (endpoints_of rows) membership.endpoint
     (same_test (has endpoint_order (endpoints_of rows) membership.endpoint) (ends_with (last_of rows) membership.endpoint) (seen_last rows membership ascends) (last_seen rows membership.endpoint))
+    (members rows membership)
 
 pub filter-push_yes : (test : Membership → Bool) (rows : List Membership) (membership : Membership) → test membership ≡ true → filter test (rows ++ membership ∷ []) ≡ filter test rows ++ membership ∷ []
 filter-push_yes test rows membership passes = filter-append test rows (membership ∷ []) ∙ rw passes refl

@@ -1,7 +1,7 @@
 -- The membership of a pair in lists of memberships that ascend.
 use Rattle.std.proofs.{Common.{◌≡◌, Bool, true, false, cond, List, [], ◌∷◌, ◌++◌, filter, Option, Some, None, unwrap_or, refl, sym, ap, ◌∙◌}, lemmas.{Cmp.{tied_itself}, List.Folds.{find-append}}}
 use Rattle.std.{proofs.lemmas.Map.{Keys.{sorted_head, sorted_tail}, Views.{tells_apart}}, specs.{List.{AllByRecursion}, Option.{option_or}, Ordering.{is_eq, ordering_reverse}, declared.cmp.Ordering.{Ordering, TheVariants.{Less, Equal, Greater}}}}
-use Rattle.amt_values.specs.Ascending.{IsAscending}
+use Rattle.amt_values.{specs.{EndpointValue.{EndpointValue}, Ascending.{IsAscending}}, proofs.AscendingLaws.{IsAscending-filter}}
 use Rattle.endpoint_membership.{specs.{Membership.{Membership, membership_order, endpoint_group_of}, Stored.{only}, EndpointGroup.{EndpointGroup, endpoint_group_order, same_endpoint_group}, Memberships.{membership_in}}, proofs.EndpointGroupOrder.{membership_order-total, endpoint_group_order-exact, endpoint_group_order-total}}
 
 -- the pair comes before all of the memberships
@@ -102,3 +102,51 @@ same_rows (one ∷ xs) (other ∷ ys) first second same =
     let equal = same_first (membership_order one other) one other xs ys refl first second same in
     let following = same_rows xs ys (sorted_tail membership_order one xs first) (sorted_tail membership_order other ys second) (same_following one other xs ys first second equal same) in
     ap (λ (membership : Membership). membership ∷ xs) equal ∙ ap (λ (rest : List Membership). other ∷ rest) following
+
+-- one of two, by a test
+pub cond_by : {A : Type 0} (test : Bool) (one other is : A) → (test ≡ true → one ≡ is) → (test ≡ false → other ≡ is) → cond test one other ≡ is
+cond_by true one other is first second = first refl
+cond_by false one other is first second = second refl
+
+-- what a function of pairs gives is a membership of the pair
+abbrev pub GivesItsEndpointGroup : (EndpointGroup → Option Membership) → Type 0
+GivesItsEndpointGroup given = (endpoint_group : EndpointGroup) (membership : Membership) → given endpoint_group ≡ Some membership → endpoint_group_of membership ≡ endpoint_group
+
+its_by : (here : Bool) (at : EndpointGroup) (one other : Membership) (later : Option Membership) → (here ≡ true → at ≡ endpoint_group_of one) → cond here (Some one) later ≡ Some other
+    → (later ≡ Some other → endpoint_group_of other ≡ at) → endpoint_group_of other ≡ at
+its_by true at one other later same is rest = ap (λ (found : Option Membership). endpoint_group_of (unwrap_or found one)) (sym is) ∙ sym (same refl)
+its_by false at one other later same is rest = rest is
+
+-- what is found of a pair is of the pair
+pub GivesItsEndpointGroup-membership_in : (rows : List Membership) → GivesItsEndpointGroup (membership_in rows)
+GivesItsEndpointGroup-membership_in [] at membership is = cc
+GivesItsEndpointGroup-membership_in (first ∷ rest) at membership is =
+    its_by (same_endpoint_group at (endpoint_group_of first)) at first membership (membership_in rest at) (same_endpoint_group-exact at (endpoint_group_of first)) is (GivesItsEndpointGroup-membership_in rest at membership)
+
+only_where : (test : EndpointValue → Bool) (at : EndpointGroup) (found : Option Membership) → ((membership : Membership) → found ≡ Some membership → endpoint_group_of membership ≡ at)
+    → only (λ membership. test membership.endpoint) found ≡ cond (test at.endpoint) found None
+only_where test at None its = sym (cond_by (test at.endpoint) None None None (λ passes. refl) (λ fails. refl))
+only_where test at (Some membership) its = ap (λ (one : EndpointGroup). cond (test one.endpoint) (Some membership) None) (its membership refl)
+
+-- of the memberships of some endpoints, a pair has one where its endpoint is among them
+pub membership_in-where : (test : EndpointValue → Bool) (rows : List Membership) (at : EndpointGroup) → IsAscending membership_order rows
+    → membership_in (filter (λ membership. test membership.endpoint) rows) at ≡ cond (test at.endpoint) (membership_in rows at) None
+membership_in-where test rows at ascends =
+    membership_in-filter (λ membership. test membership.endpoint) rows at ascends ∙ only_where test at (membership_in rows at) (GivesItsEndpointGroup-membership_in rows at)
+
+where_same : (passes : Bool) (one other : Option Membership) → (passes ≡ true → one ≡ other) → cond passes one None ≡ cond passes other None
+where_same true one other same = same refl
+where_same false one other same = refl
+
+-- the memberships of some endpoints are the same where their pairs have the same memberships
+pub same_where : (test : EndpointValue → Bool) (one other : List Membership) → IsAscending membership_order one → IsAscending membership_order other
+    → ((at : EndpointGroup) → test at.endpoint ≡ true → membership_in one at ≡ membership_in other at) → filter (λ membership. test membership.endpoint) one ≡ filter (λ membership. test membership.endpoint) other
+same_where test one other first second same =
+    let its = λ (membership : Membership). test membership.endpoint in
+    same_rows (filter its one) (filter its other) (IsAscending-filter membership_order its one first) (IsAscending-filter membership_order its other second)
+    (λ at. membership_in-where test one at first ∙ where_same (test at.endpoint) (membership_in one at) (membership_in other at) (same at) ∙ sym (membership_in-where test other at second))
+
+-- a filter that all pass keeps all
+pub filter_all : (test : Membership → Bool) (rows : List Membership) → AllByRecursion (λ membership. test membership ≡ true) rows → filter test rows ≡ rows
+filter_all test [] each = refl
+filter_all test (membership ∷ rest) each = rw each.0 (ap (λ (more : List Membership). membership ∷ more) (filter_all test rest each.1))

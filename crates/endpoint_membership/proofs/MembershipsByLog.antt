@@ -3,11 +3,7 @@ use Rattle.std.{proofs.{Common.{◌≡◌, ℕ, ◌+◌, Bool, true, false, cond
 use Rattle.amt_values.{specs.{EndpointValue.{EndpointValue}, Ascending.{IsAscending, has, ascending}}, proofs.AscendingLaws.{IsAscending-ascending, has-append, has-ascending}}
 use Rattle.source_filter.specs.{Filter.{FilterValue, nothing}, declared.record.Record.{Record}}
 use Rattle.endpoint_membership.specs.{declared.change.Change.{Change, TheVariants.{Reported, Clear, Mark}}, Membership.{Membership, membership_order, endpoint_group_of}, Log.{is_empty, latest, leaving, live_chain, on_group, records_at, renewed_at}, EndpointGroup.{EndpointGroup, endpoint_group_order, same_endpoint, same_group, same_endpoint_group}}
-use Rattle.endpoint_membership.{specs.{Memberships.{membership_of, endpoint_groups_in, endpoint_groups_of, membership_in, membership_at, memberships_at}, Table.{AreMembershipsAt}}, proofs.{MembershipIn.{AreAfter, same_endpoint_group-exact, same_rows}, EndpointGroupOrder.{endpoint_group_order-total, same_endpoint_group-is}, MembershipAt.{membership_at-is}, FilterByRecords.{filter_by_records}}}
-
--- what a function of pairs gives is a membership of the pair
-abbrev pub GivesItsEndpointGroup : (EndpointGroup → Option Membership) → Type 0
-GivesItsEndpointGroup given = (endpoint_group : EndpointGroup) (membership : Membership) → given endpoint_group ≡ Some membership → endpoint_group_of membership ≡ endpoint_group
+use Rattle.endpoint_membership.{specs.{Memberships.{membership_of, endpoint_groups_in, endpoint_groups_of, membership_in, membership_at, memberships_at}, Table.{AreMembershipsAt}}, proofs.{MembershipIn.{AreAfter, GivesItsEndpointGroup, same_endpoint_group-exact, same_rows}, EndpointGroupOrder.{endpoint_group_order-total, same_endpoint_group-is}, MembershipAt.{membership_at-is}, FilterByRecords.{filter_by_records}}}
 
 pub membership_by : (test : Bool) (one other : Membership) → cond test (Some one) None ≡ Some other → one ≡ other
 membership_by true one other same = ap (λ (found : Option Membership). unwrap_or found one) same

@@ -6,7 +6,7 @@ use Rattle.amt_values.specs.contracts.endpoint.EndpointPartialEq as endpoints
 use Rattle.source_filter.specs.Filter.{nothing}
 use Rattle.endpoint_membership.specs.{EndpointGroup.{EndpointGroup, endpoint_group_order, same_endpoint, same_endpoint_group, same_group}, Filters.{AreOrdered, FiltersValue, pairs_of}, EndpointMemberships.{renewed_filter_of}, Membership.{Membership, endpoint_group_of, is_fresh, membership_order}}
 use Rattle.endpoint_membership.{specs.{Memberships.{membership_in}, Parts.{stored_membership, stored_memberships}, Stored.{only}, declared.{after_report.RenewedFilter.{RenewedFilter}, stored.StoredFilter.{StoredFilter}}}, proofs.{AfterEntries.{IsAscending-prefix}, EndpointGroupOrder.{same_endpoint_group-is}}}
-use Rattle.endpoint_membership.proofs.{FilterMap.{more_found}, KeptFilters.{each_key}, KeysTogether.{all_back, find-none, find-wider, in_range-shares, least_number, others, same-ne}, MembershipIn.{membership_in-append}, PairsWalked.{GivesItsEndpointGroup-membership_in, has-pairs_of, memberships_of, memberships_of-all, seen-push, seen_memberships}}
+use Rattle.endpoint_membership.proofs.{FilterMap.{more_found}, KeptFilters.{each_key}, KeysTogether.{all_back, find-none, find-wider, in_range-shares, least_number, others, same-ne}, MembershipIn.{GivesItsEndpointGroup-membership_in, membership_in-append}, PairsWalked.{has-pairs_of, memberships_of, memberships_of-all, seen-push, seen_memberships}}
 
 abbrev pair : EndpointValue → Ip → EndpointGroup
 pair endpoint group = record { endpoint = endpoint; group = group }

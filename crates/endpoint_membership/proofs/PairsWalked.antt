@@ -1,10 +1,10 @@
 -- Memberships that are found one after another, by the pairs of filters in their order.
-use Rattle.std.proofs.{Common.{◌≡◌, ℕ, ◌+◌, Bor, Bool, true, false, cond, is_some, List, [], ◌∷◌, ◌++◌, map, filter, Option, Some, None, unwrap_or, if◌then◌else◌, refl, sym, ap, subst, append_assoc, ◌∙◌}, lemmas.List.{append-nil, map-append}}
+use Rattle.std.proofs.{Common.{◌≡◌, ℕ, ◌+◌, Bor, Bool, true, false, cond, is_some, List, [], ◌∷◌, ◌++◌, map, filter, Option, Some, None, if◌then◌else◌, refl, sym, ap, subst, append_assoc, ◌∙◌}, lemmas.List.{append-nil, map-append}}
 use Rattle.std.{proofs.lemmas.{List.Elements.{filter-append, filter_map-append}, Map.{Iter.{rest_so_far}, Made.{is_some-lookup}}}, specs.{List.{cons_option, filter_map}, BTreeMap.{is_at}, Iterator.{Yields}, Map.Iter.{TakesFirst, deref}}}
 use Rattle.amt_values.specs.{EndpointValue.{EndpointValue}, Ascending.{IsAscending, has}}
-use Rattle.endpoint_membership.specs.{EndpointGroup.{EndpointGroup, endpoint_group_order, same_endpoint_group}, Filters.{AreOrdered, FiltersValue, filter_at, pairs_of}, Limits.{live_count}, Membership.{Membership, endpoint_group_of, membership_order}}
+use Rattle.endpoint_membership.specs.{EndpointGroup.{EndpointGroup, endpoint_group_order}, Filters.{AreOrdered, FiltersValue, filter_at, pairs_of}, Limits.{live_count}, Membership.{Membership, membership_order}}
 use Rattle.endpoint_membership.{specs.{Memberships.{membership_in, row_of}, Parts.{stored_memberships}, Stored.{ends_with, last_of, only}, declared.{row.Row.{Row}, stored.StoredFilter.{StoredFilter}}}, proofs.AfterEntries.{IsAscending-prefix}}
-use Rattle.endpoint_membership.proofs.{LiveEndpoints.{filter-push_yes, last_of-push, more_live}, MembershipIn.{same_endpoint_group-exact, same_rows}, MembershipsByLog.{GivesItsEndpointGroup, IsAscending-filter_map, membership_in-filter_map}, StoredView.{IsAscending-stored, membership_in-stored, membership_with}}
+use Rattle.endpoint_membership.proofs.{LiveEndpoints.{filter-push_yes, last_of-push, more_live}, MembershipIn.{GivesItsEndpointGroup-membership_in, same_rows}, MembershipsByLog.{IsAscending-filter_map, membership_in-filter_map}, StoredView.{IsAscending-stored, membership_in-stored, membership_with}}
 
 -- the memberships of these pairs
 abbrev pub memberships_of : List Membership → List EndpointGroup → List Membership
@@ -13,17 +13,6 @@ memberships_of rows pairs = filter_map (membership_in rows) pairs
 -- those of the pairs that a walk has seen
 abbrev pub seen_memberships : List Membership → List (Bor EndpointGroup) → List Membership
 seen_memberships rows seen = memberships_of rows (map deref seen)
-
-its_by : (here : Bool) (at : EndpointGroup) (one other : Membership) (later : Option Membership) → (here ≡ true → at ≡ endpoint_group_of one) → cond here (Some one) later ≡ Some other
-    → (later ≡ Some other → endpoint_group_of other ≡ at) → endpoint_group_of other ≡ at
-its_by true at one other later same is rest = ap (λ (found : Option Membership). endpoint_group_of (unwrap_or found one)) (sym is) ∙ sym (same refl)
-its_by false at one other later same is rest = rest is
-
--- what is found of a pair is of the pair
-pub GivesItsEndpointGroup-membership_in : (rows : List Membership) → GivesItsEndpointGroup (membership_in rows)
-GivesItsEndpointGroup-membership_in [] at membership is = cc
-GivesItsEndpointGroup-membership_in (first ∷ rest) at membership is =
-    its_by (same_endpoint_group at (endpoint_group_of first)) at first membership (membership_in rest at) (same_endpoint_group-exact at (endpoint_group_of first)) is (GivesItsEndpointGroup-membership_in rest at membership)
 
 some_with : (at : EndpointGroup) (found : Option StoredFilter) → is_some (membership_with at found) ≡ is_some found
 some_with at None = refl

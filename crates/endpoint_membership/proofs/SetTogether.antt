@@ -3,7 +3,7 @@ use Rattle.std.proofs.{Common.{◌≡◌, Bool, true, false, not, cond, List, []
 use Rattle.std.{proofs.lemmas.Map.Keys.{sorted_head, sorted_tail}, specs.{List.{AllByRecursion}, Option.{option_or}, Ordering.{is_eq, match_ordering, ordering_reverse}, declared.cmp.Ordering.{Ordering, TheVariants.{Less, Equal, Greater}}}}
 use Rattle.amt_values.specs.Ascending.{IsAscending, has, placed}
 use Rattle.endpoint_membership.specs.{EndpointGroup.{EndpointGroup, endpoint_group_order, same_endpoint_group}, Membership.{Membership, endpoint_group_of, membership_order}, Memberships.{membership_in}, Stored.{is_known, is_not_at, only}, declared.stored.StoredFilter.{StoredFilter}}
-use Rattle.endpoint_membership.proofs.{AfterEntries.{IsAscending-prefix, prefix_of}, EndpointGroupOrder.{endpoint_group_order-total}, LiveEndpoints.{last_in}, MembershipIn.{membership_in-append, membership_in-filter, same_endpoint_group-exact, same_rows}, StoredView.{membership_with}, WithinLimits.{its_endpoint_group}}
+use Rattle.endpoint_membership.proofs.{AfterEntries.{IsAscending-prefix, prefix_of}, EndpointGroupOrder.{endpoint_group_order-total}, LiveEndpoints.{last_in}, MembershipIn.{GivesItsEndpointGroup-membership_in, membership_in-append, membership_in-filter, same_endpoint_group-exact, same_rows}, StoredView.{membership_with}}
 
 some_is_none : (membership : Membership) → Some membership ≡ None → ⊥
 some_is_none membership is = true≢false (ap is_some is)
@@ -62,7 +62,7 @@ only_elsewhere key at (Some membership) its = by (same_endpoint_group at key) re
 -- one membership less
 pub membership_in-removed : (key : EndpointGroup) (rows : List Membership) (at : EndpointGroup) → IsAscending membership_order rows
     → membership_in (filter (is_not_at key) rows) at ≡ (if same_endpoint_group at key then None else membership_in rows at)
-membership_in-removed key rows at ascends = membership_in-filter (is_not_at key) rows at ascends ∙ only_elsewhere key at (membership_in rows at) (λ membership found. its_endpoint_group rows at membership found)
+membership_in-removed key rows at ascends = membership_in-filter (is_not_at key) rows at ascends ∙ only_elsewhere key at (membership_in rows at) (λ membership found. sym (GivesItsEndpointGroup-membership_in rows at membership found))
 
 -- one of several memberships more
 pub one_more_set : (done : List Membership) (membership : Membership) (old : Option Membership) (at : EndpointGroup) → IsAscending membership_order (done ++ membership ∷ [])

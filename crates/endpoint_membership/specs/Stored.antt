@@ -1,7 +1,7 @@
 -- The memberships of a table as the ascending list that its calls are proved by. No public contract says
 -- these words.
-use Rattle.std.specs.{Prelude.{ℕ, not, Bool, false, ◌&&◌, List, [], ◌∷◌, map, take, drop, is_some, Option, Some, None, if◌then◌else◌}, List.{filter, prefix_len}, Option.{option_or}, Ordering.{is_lt}}
-use Rattle.amt_values.specs.{declared.address.Ip.{Ip}, Order.{endpoint_order}, EndpointValue.{EndpointValue}}
+use Rattle.std.specs.{Prelude.{ℕ, not, Bool, false, ◌&&◌, List, [], ◌∷◌, map, is_some, Option, Some, None, if◌then◌else◌}, List.{filter}, Option.{option_or}}
+use Rattle.amt_values.specs.{declared.address.Ip.{Ip}, EndpointValue.{EndpointValue}}
 use Rattle.source_filter.specs.Filter.{admits}
 use Rattle.endpoint_membership.specs.{EndpointGroup.{EndpointGroup, same_endpoint, same_endpoint_group, same_group}, Membership.{Membership, endpoint_group_of, is_fresh}, Memberships.{membership_in}}
 
@@ -21,30 +21,6 @@ is_known rows membership = is_some (membership_in rows (endpoint_group_of member
 -- a membership of another endpoint
 abbrev pub is_of_another : EndpointValue → Membership → Bool
 is_of_another endpoint membership = not (same_endpoint membership.endpoint endpoint)
-
--- its endpoint comes before this one
-abbrev pub is_before : EndpointValue → Membership → Bool
-is_before endpoint membership = is_lt (endpoint_order membership.endpoint endpoint)
-
--- its endpoint comes after this one
-abbrev pub is_after : EndpointValue → Membership → Bool
-is_after endpoint membership = is_lt (endpoint_order endpoint membership.endpoint)
-
--- the number of memberships before the endpoint's
-abbrev pub start_of : EndpointValue → List Membership → ℕ
-start_of endpoint rows = prefix_len (is_before endpoint) rows
-
--- the number of memberships before those of later endpoints
-abbrev pub end_of : EndpointValue → List Membership → ℕ
-end_of endpoint rows = prefix_len (λ membership. not (is_after endpoint membership)) rows
-
--- the memberships of earlier endpoints
-abbrev pub earlier : EndpointValue → List Membership → List Membership
-earlier endpoint rows = take (start_of endpoint rows) rows
-
--- the memberships of later endpoints
-abbrev pub later : EndpointValue → List Membership → List Membership
-later endpoint rows = drop (end_of endpoint rows) rows
 
 -- a membership of another endpoint that counts at the moment
 abbrev pub is_counted : ℕ → ℕ → EndpointValue → Membership → Bool
