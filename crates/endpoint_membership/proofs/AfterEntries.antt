@@ -1,9 +1,9 @@
 -- What entries do to memberships that stand for a log.
-use Rattle.std.proofs.{Common.{◌≡◌, ℕ, ◌≤◌, Bool, true, false, cond, not, ◌&&◌, List, [], ◌∷◌, ◌++◌, filter, Option, None, refl, sym, ap, ◌∙◌}, lemmas.Cmp.{eq_by_cmp_equiv}}
+use Rattle.std.proofs.{Common.{◌≡◌, ℕ, ◌≤◌, Bool, true, false, cond, not, List, [], ◌∷◌, ◌++◌, filter, Option, None, refl, sym, ap, ◌∙◌}, lemmas.Cmp.{eq_by_cmp_equiv}}
 use Rattle.std.{proofs.lemmas.Map.Views.{tells_apart}, specs.{List.{AllByRecursion, Sorted.{IsStrictlySortedBy}}, declared.cmp.Ordering.TheVariants.{Less}}}
 use Rattle.amt_values.{specs.{EndpointValue.{EndpointValue}, Ascending.{IsAscending}}, proofs.{Orders.{endpoint_order-exact, endpoint_order-total}, AscendingLaws.{IsAscending-filter}}}
-use Rattle.endpoint_membership.specs.{declared.change.Change.{Change, TheVariants.{Clear}}, Membership.{Membership, is_fresh, membership_order, endpoint_group_of}, Stored.{is_of_another, only}, Log.{latest, records_at}, EndpointMemberships.{AreOf}, EndpointGroup.{EndpointGroup, same_endpoint, same_group}}
-use Rattle.endpoint_membership.{specs.{Memberships.{membership_in, membership_at}, Table.{AreMembershipsAt}}, proofs.{MembershipIn.{cond_by, membership_in-filter, membership_in-where}, EndpointGroupOrder.{same_endpoint_group-is}, MembershipAt.{membership_at-clear, membership_at-later, membership_at-other}}}
+use Rattle.endpoint_membership.specs.{declared.change.Change.{Change, TheVariants.{Clear}}, Membership.{Membership, is_fresh, membership_order}, Stored.{is_of_another, only}, Log.{latest, records_at}, EndpointMemberships.{AreOf}, EndpointGroup.{EndpointGroup, same_endpoint}}
+use Rattle.endpoint_membership.{specs.{Memberships.{membership_in, membership_at}, Table.{AreMembershipsAt}}, proofs.{MembershipIn.{filter_all, membership_in-filter, membership_in-where}, MembershipAt.{membership_at-clear, membership_at-later, membership_at-other}}}
 
 -- as time passes, the memberships that are still fresh last
 pub AreMembershipsAt-later : (lifetime moment later : ℕ) (past : List Change) (rows : List Membership) → moment ≤ later → AreMembershipsAt lifetime moment past rows
@@ -32,7 +32,7 @@ pub AreMembershipsAt-clear : (lifetime at : ℕ) (endpoint : EndpointValue) (pas
 AreMembershipsAt-clear lifetime at endpoint past rows are =
     let moment = latest (Clear endpoint at ∷ past) in record {
       ascend = IsAscending-filter membership_order (is_of_another endpoint) rows are.ascend;
-      each = λ endpoint_group. membership_in-where (λ one. not (same_endpoint one endpoint)) rows endpoint_group are.ascend
+      each = λ endpoint_group. membership_in-where (λ one. not (same_endpoint one.endpoint endpoint)) rows endpoint_group are.ascend
           ∙ ap (λ (found : Option Membership). cond (not (same_endpoint endpoint_group.endpoint endpoint)) found None) (are.each endpoint_group)
           ∙ cleared_by (same_endpoint endpoint_group.endpoint endpoint) (membership_at lifetime moment past endpoint_group) (membership_at lifetime moment (Clear endpoint at ∷ past) endpoint_group)
           (membership_at-clear lifetime at endpoint past endpoint_group)
@@ -46,12 +46,10 @@ pub same_endpoint-exact : (one other : EndpointValue) → same_endpoint one othe
 same_endpoint-exact one other same = tells_apart endpoint_order-exact one other same
 
 -- a pair of another endpoint has no membership among the endpoint's
-pub membership_in-of : (endpoint : EndpointValue) (rows : List Membership) (endpoint_group : EndpointGroup) → AreOf endpoint rows → same_endpoint endpoint_group.endpoint endpoint ≡ false → membership_in rows endpoint_group ≡ None
-membership_in-of endpoint [] endpoint_group of apart = refl
-membership_in-of endpoint (membership ∷ rest) endpoint_group of apart =
-    let elsewhere = same_endpoint_group-is endpoint_group (endpoint_group_of membership)
-    ∙ ap (λ (test : Bool). test && same_group endpoint_group.group membership.group) (ap (same_endpoint endpoint_group.endpoint) (same_endpoint-exact membership.endpoint endpoint of.0) ∙ apart) in
-    rw elsewhere (membership_in-of endpoint rest endpoint_group of.1 apart)
+pub membership_in-of : (endpoint : EndpointValue) (rows : List Membership) (at : EndpointGroup) → IsAscending membership_order rows → AreOf endpoint rows → same_endpoint at.endpoint endpoint ≡ false → membership_in rows at ≡ None
+membership_in-of endpoint rows at ascends of apart =
+    ap (λ (all : List Membership). membership_in all at) (sym (filter_all (λ (membership : Membership). same_endpoint membership.endpoint endpoint) rows of))
+    ∙ membership_in-where (λ (one : EndpointGroup). same_endpoint one.endpoint endpoint) rows at ascends ∙ ap (λ (here : Bool). cond here (membership_in rows at) None) apart
 
 -- what holds of all holds of the first ones
 pub prefix_of : (P : Membership → Type 0) (xs ys : List Membership) → AllByRecursion P (xs ++ ys) → AllByRecursion P xs

@@ -67,7 +67,7 @@ alike_cleared lifetime endpoint_group endpoint at past none =
       | inr apart ↦ membership_at-other lifetime moment (Clear endpoint at) past endpoint_group (rw apart refl) ∙ sym marked
     ])
 
-reverse-around : (log later : List Change) (entry : Change) → reverse (log ++ entry ∷ later) ≡ reverse later ++ entry ∷ reverse log
+pub reverse-around : (log later : List Change) (entry : Change) → reverse (log ++ entry ∷ later) ≡ reverse later ++ entry ∷ reverse log
 reverse-around log later entry =
     reverse-append log (entry ∷ later)
     ∙ ap (λ (newer : List Change). newer ++ reverse log) (reverse-append (entry ∷ []) later)

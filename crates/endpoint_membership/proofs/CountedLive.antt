@@ -1,7 +1,7 @@
 -- Counting live endpoints without one that is named.
 use Rattle.std.{proofs.{Common.{◌≡◌, ℕ, ◌+◌, ◌-◌, ◌≤◌, Bool, true, false, not, cond, ◌&&◌, ◌||◌, List, [], ◌∷◌, filter, length, map, if◌then◌else◌, refl, sym, ap, ◌∙◌, arith}, lemmas.{Bool.{or_parts}, Cmp.{tied_itself}}}, specs.{Ordering.{eq_by_cmp, is_eq, match_ordering}, declared.cmp.Ordering.{Ordering, TheVariants.{Less, Equal, Greater}}}}
 use Rattle.amt_values.{specs.{EndpointValue.{EndpointValue}, Order.{endpoint_order}, Ascending.{ascending, has, placed}}, proofs.{Orders.{endpoint_order-exact, endpoint_order-total}, AscendingLaws.{IsAscending-ascending, IsAscending-placed, has-ascending, has-filter, has-placed, same_ascending}}}
-use Rattle.endpoint_membership.{specs.{EndpointGroup.{same_endpoint}, Limits.{live_count}, Membership.{Membership, is_fresh}, Memberships.{is_live}, Stored.{is_counted, is_of_another}}, proofs.{AfterEntries.{same_back, same_endpoint-exact}}}
+use Rattle.endpoint_membership.{specs.{EndpointGroup.{same_endpoint}, Limits.{live_count}, Membership.{Membership, is_fresh}, Memberships.{is_live}, Stored.{is_counted, is_of_another}}, proofs.{AfterEntries.{same_endpoint-exact}, CountedParts.{is_live-has}}}
 
 abbrev pub endpoints_of : List Membership → List EndpointValue
 endpoints_of rows = map (λ (membership : Membership). membership.endpoint) rows
@@ -19,7 +19,7 @@ length-placed_new one (next ∷ others) none =
     let both = or_parts (eq_by_cmp endpoint_order one next) (has endpoint_order others one) none in
     longer_by (endpoint_order one next) one next others refl both.0 (length-placed_new one others both.1)
 
-known : (same listed : Bool) → (same ≡ true → listed ≡ true) → (same || listed) ≡ listed
+pub known : (same listed : Bool) → (same ≡ true → listed ≡ true) → (same || listed) ≡ listed
 known true listed given = sym (given refl)
 known false listed given = refl
 
@@ -41,12 +41,6 @@ count-more false all some one seen members =
     ∙ sym (has-placed endpoint_order-total one others each ∙ ap (λ (listed : Bool). same_endpoint each one || listed) (has-ascending endpoint_order-total some each)))) in
     let longer = length-placed_new one others (has-ascending endpoint_order-total some one ∙ seen) in
     omega arith
-
-is_one_of : (rows : List Membership) (endpoint : EndpointValue) → has endpoint_order (endpoints_of rows) endpoint ≡ is_live endpoint rows
-is_one_of [] endpoint = refl
-is_one_of (membership ∷ rest) endpoint =
-    ap (λ (test : Bool). test || has endpoint_order (endpoints_of rest) endpoint) (same_back endpoint membership.endpoint)
-    ∙ ap (λ (test : Bool). same_endpoint membership.endpoint endpoint || test) (is_one_of rest endpoint)
 
 endpoints_by : (keeps : Bool) (membership : Membership) (rest : List Membership) (others : List EndpointValue) → endpoints_of rest ≡ others
     → endpoints_of (cond keeps (membership ∷ rest) rest) ≡ cond keeps (membership.endpoint ∷ others) others
@@ -86,7 +80,7 @@ besides_by true endpoint rows is =
     let all = endpoints_of rows in
     count-more false all (endpoints_of (filter (is_of_another endpoint) rows)) endpoint
     (has-others endpoint rows endpoint ∙ left_out (same_endpoint endpoint endpoint) (has endpoint_order all endpoint) (ap is_eq (tied_itself endpoint_order-total endpoint)))
-    (λ one. put_back (same_endpoint one endpoint) (has endpoint_order all one) (λ here. ap (has endpoint_order all) (same_endpoint-exact one endpoint here) ∙ is_one_of rows endpoint ∙ is)
+    (λ one. put_back (same_endpoint one endpoint) (has endpoint_order all one) (λ here. ap (has endpoint_order all) (same_endpoint-exact one endpoint here) ∙ sym (is_live-has endpoint rows) ∙ is)
     ∙ ap (λ (listed : Bool). same_endpoint one endpoint || listed) (sym (has-others endpoint rows one)))
 besides_by false endpoint rows is = let same = ap live_count (others_left endpoint rows is) in omega arith
 

@@ -89,10 +89,6 @@ fresh_are settings table log at moment is holds =
 pub rows_now : (settings : TableSettings) (table : TableValue) (log : List Change) → Holds settings table log → table.rows ≡ memberships_now settings log
 rows_now settings table log holds = rows_are settings.lifetime (latest log) log table.rows holds.rows
 
-pub IsAscending-none : IsAscending membership_order []
-unfolding IsStrictlySortedBy
-IsAscending-none = tt
-
 module _ (settings : TableSettings) (table : TableValue) (log : List Change) (endpoint : EndpointValue) (records : List Record) (at moment : ℕ) (own : List Membership) (some : 0 < table.lifetime)
     (is : moment ≡ max table.moment at) (owned : AreOwn table.lifetime moment endpoint records table.rows own) (holds : Holds settings table log) where
   abbrev last : ℕ

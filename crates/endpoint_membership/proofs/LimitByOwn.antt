@@ -46,10 +46,10 @@ limit_by_own lifetime moment limits endpoint records rows own =
 pub first_limit_is : (lifetime moment : ℕ) (limits : Limits) (endpoint : EndpointValue) (records : List Record) (rows own after : List Membership) → IsAscending membership_order rows → IsAscending membership_order own → AreOf endpoint own
     → AreAfterReport lifetime moment endpoint rows own after → first_limit limits endpoint records after ≡ limit_by_own lifetime moment limits endpoint records rows own
 first_limit_is lifetime moment limits endpoint records rows own after ascends ascend of are =
-    let mine : filter (is_of endpoint) after ≡ own = same_where (λ (one : EndpointValue). same_endpoint one endpoint) after own are.ascend ascend
+    let mine : filter (is_of endpoint) after ≡ own = same_where (λ (one : EndpointGroup). same_endpoint one.endpoint endpoint) after own are.ascend ascend
     (λ at same. are.each at ∙ ap (λ (here : Bool). cond here (membership_in own at) (only (is_fresh lifetime moment) (membership_in rows at))) same) ∙ filter_all (is_of endpoint) own of in
     let others : filter (is_of_another endpoint) after ≡ filter (is_counted lifetime moment endpoint) rows =
-    same_where (λ (one : EndpointValue). not (same_endpoint one endpoint)) after (filter (is_fresh lifetime moment) rows) are.ascend (IsAscending-filter membership_order (is_fresh lifetime moment) rows ascends)
+    same_where (λ (one : EndpointGroup). not (same_endpoint one.endpoint endpoint)) after (filter (is_fresh lifetime moment) rows) are.ascend (IsAscending-filter membership_order (is_fresh lifetime moment) rows ascends)
     (λ at apart. are.each at ∙ other_by (same_endpoint at.endpoint endpoint) (membership_in own at) (only (is_fresh lifetime moment) (membership_in rows at)) apart
     ∙ sym (membership_in-filter (is_fresh lifetime moment) rows at ascends)) ∙ sym (counted_are lifetime moment endpoint rows) in
     let groups : group_count endpoint after ≡ length own = sym (length-filter (is_of endpoint) after) ∙ ap (λ (all : List Membership). length all) mine in

@@ -1,33 +1,18 @@
 -- What the memberships of an endpoint after its report may be, whatever log the memberships before stood for.
-use Rattle.std.proofs.Common.{◌≡◌, ℕ, ◌+◌, ◌≤◌, ◌<◌, ◌^◌, Bool, true, false, cond, ◌||◌, if◌then◌else◌, List, [], ◌∷◌, filter, length, map, Option, Some, None, is_some, sum_by, unwrap_or, true≢false, refl, sym, ap, subst, ◌∙◌, arith}
-use Rattle.std.{proofs.lemmas.{Bool.{lt-ltb}, Cmp.{tied_itself}, Map.Views.{tells_apart}}, specs.{List.{AllByRecursion, list_any}, Option.{option_or}, Ordering.{is_eq}}}
-use Rattle.amt_values.{specs.{declared.address.Ip.{Ip}, Order.{ip_order}, EndpointValue.{EndpointValue}, Ascending.{IsAscending, has}}, proofs.{Orders.{endpoint_order-exact, endpoint_order-total}, AscendingLaws.{IsAscending-filter}}}
-use Rattle.source_filter.specs.{Filter.{FilterValue, wants_any}, Record.{item_count}, declared.record.Record.{Record}}
-use Rattle.endpoint_membership.specs.{Membership.{Membership, is_fresh, membership_order, endpoint_group_of}, declared.{limits.Limits.{Limits}, after_report.RenewedFilter.{RenewedFilter}}, Stored.{only}}
+use Rattle.std.proofs.Common.{◌≡◌, ℕ, ◌+◌, ◌≤◌, ◌<◌, ◌^◌, Bool, true, false, cond, ◌||◌, if◌then◌else◌, List, [], ◌∷◌, ◌++◌, filter, length, length-append, map, Option, Some, None, is_some, sum_by, true≢false, refl, sym, ap, subst, ◌∙◌, arith}
+use Rattle.std.{proofs.lemmas.{Bool.{lt-ltb, or_left, or_right}, Cmp.{eq_by_cmp_equiv, tied_itself}, List.{length-map, Sums.{length-filter}}, Map.{Keys.{IsDistinct-from_sorted}, Made.{length-le_from_is_member}, Views.{tells_apart}}}, specs.{List.{AllByRecursion}, Option.{option_or}, Ordering.{is_eq}}}
+use Rattle.amt_values.{specs.{declared.address.Ip.{Ip}, EndpointValue.{EndpointValue}, Ascending.{IsAscending, has}}, proofs.{Orders.{endpoint_order-exact, endpoint_order-total}, AscendingLaws.{IsAscending-filter, has-append}}}
+use Rattle.source_filter.specs.{Filter.{FilterValue, filter_after_all, wants_any}, Record.{item_count}, declared.record.Record.{Record}}
+use Rattle.endpoint_membership.specs.{Membership.{Membership, is_fresh, membership_order, endpoint_group_of}, declared.limits.Limits.{Limits}, Stored.{only}}
 use Rattle.endpoint_membership.specs.{Limits.{IsWithin, first_limit, group_count, size}, EndpointMemberships.{AreGone, AreOf, AreOwn, filter_or_nothing, membership_of_renewed, renewed_filter_after_all, renewed_filter_of}, Log.{on_group}}
-use Rattle.endpoint_membership.{specs.{EndpointGroup.{EndpointGroup, endpoint_group_order, same_endpoint, same_group}, Memberships.{membership_in}, Table.{AreLawful}}, proofs.ReportBounds.{All-at, All-from_membership_in, few_groups, sources-filter_after_all, sum_by-on_group}}
-use Rattle.endpoint_membership.proofs.{MembershipsByLog.{membership_by}, MembershipIn.{GivesItsEndpointGroup-membership_in, cond_by, membership_in-filter}, AfterReport.{AreAfterReport, renewed_filter_after_all-is}, AfterEntries.{membership_in-of}, WithinLimits.{IsWithin-filter, IsWithin-report, on_none}}
+use Rattle.endpoint_membership.{specs.{EndpointGroup.{EndpointGroup, endpoint_group_order, same_endpoint}, Memberships.{endpoint_groups_of, membership_in}, Table.{AreLawful}}, proofs.ReportBounds.{All-at, sources-filter_after_all, sum_by-on_group}}
+use Rattle.endpoint_membership.proofs.{EndpointGroupOrder.{endpoint_group_order-total}, MembershipsByLog.{membership_by, on_group-none}, MembershipIn.{has-pairs, All-from_membership_in, IsAscending-pairs, GivesItsEndpointGroup-membership_in, cond_by, membership_in-filter, membership_in-where}, AfterReport.{AreAfterReport, renewed_filter_after_all-is}, AfterEntries.{membership_in-of}, WithinLimits.{IsWithin-filter, IsWithin-report, on_none}}
 
 abbrev endpoint_group : EndpointValue → Ip → EndpointGroup
 endpoint_group endpoint group = record { endpoint = endpoint; group = group }
 
 abbrev made : EndpointValue → Ip → FilterValue → ℕ → Membership
 made endpoint group filter renewed = record { endpoint = endpoint; group = group; filter = filter; renewed = renewed }
-
--- the membership of a filter has its filter and its renewal
-record IsRowOf (endpoint : EndpointValue) (group : Ip) (renewed_filter : Option RenewedFilter) (membership : Membership) : Type 0 where
-  filter : membership.filter ≡ filter_or_nothing renewed_filter
-  renewed : (one : RenewedFilter) → renewed_filter ≡ Some one → membership.renewed ≡ one.renewed
-  some : is_some renewed_filter ≡ true
-
-row_is : (endpoint : EndpointValue) (group : Ip) (renewed_filter : Option RenewedFilter) (membership : Membership) → membership_of_renewed endpoint group renewed_filter ≡ Some membership → IsRowOf endpoint group renewed_filter membership
-row_is endpoint group None membership found = cc
-row_is endpoint group (Some renewed_filter) membership found =
-    let is = membership_by (wants_any renewed_filter.filter) (made endpoint group renewed_filter.filter renewed_filter.renewed) membership found in record {
-      filter = ap (λ (one : Membership). one.filter) (sym is);
-      renewed = λ one same. ap (λ (each : Membership). each.renewed) (sym is) ∙ ap (λ (each : Option RenewedFilter). (unwrap_or each one).renewed) same;
-      some = refl;
-    }
 
 -- the membership of an old membership's filter is the old membership
 old_row : (endpoint : EndpointValue) (group : Ip) (found : Option Membership) (membership : Membership) → ((one : Membership) → found ≡ Some one → endpoint_group endpoint group ≡ endpoint_group_of one)
@@ -38,17 +23,14 @@ old_row endpoint group (Some one) membership its row =
     ap Some (ap (λ (at : EndpointGroup). made at.endpoint at.group one.filter one.renewed) (sym here)
     ∙ membership_by (wants_any one.filter) (made endpoint group one.filter one.renewed) membership row)
 
-passes_by : (passes : Bool) (one membership : Membership) (test : Membership → Bool) → test one ≡ passes → cond passes (Some one) None ≡ Some membership → test membership ≡ true
-passes_by true one membership test is passed = ap test (sym (membership_by true one membership passed)) ∙ is
-passes_by false one membership test is passed = cc
+parts_by : (passes : Bool) (one membership : Membership) (test : Membership → Bool) → test one ≡ passes → cond passes (Some one) None ≡ Some membership → (Some one ≡ Some membership) × (test membership ≡ true)
+parts_by true one membership test is passed = (passed, ap test (sym (membership_by true one membership passed)) ∙ is)
+parts_by false one membership test is passed = cc
 
-passes_only : (test : Membership → Bool) (found : Option Membership) (membership : Membership) → only test found ≡ Some membership → test membership ≡ true
-passes_only test None membership passed = cc
-passes_only test (Some one) membership passed = passes_by (test one) one membership test refl passed
-
-only_found : (test : Membership → Bool) (found : Option Membership) (membership : Membership) → only test found ≡ Some membership → found ≡ Some membership
-only_found test None membership passed = passed
-only_found test (Some one) membership passed = ap Some (membership_by (test one) one membership passed)
+-- what is found and passes was found, and passes
+only_parts : (test : Membership → Bool) (found : Option Membership) (membership : Membership) → only test found ≡ Some membership → (found ≡ Some membership) × (test membership ≡ true)
+only_parts test None membership passed = cc
+only_parts test (Some one) membership passed = parts_by (test one) one membership test refl passed
 
 -- the memberships that the filters of these memberships make of a pair, old or reported
 record IsOwnRow (lifetime moment : ℕ) (endpoint : EndpointValue) (records : List Record) (found : Option Membership) (group : Ip) (membership : Membership) : Type 0 where
@@ -60,23 +42,21 @@ own_row_by : (lifetime moment : ℕ) (endpoint : EndpointValue) (records : List 
     → on ≡ on_group group records → membership_of_renewed endpoint group (renewed_filter_after_all moment on (renewed_filter_of (only (is_fresh lifetime moment) (membership_in rows (endpoint_group endpoint group))))) ≡ Some membership
     → IsOwnRow lifetime moment endpoint records (only (is_fresh lifetime moment) (membership_in rows (endpoint_group endpoint group))) group membership
 own_row_by lifetime moment endpoint records rows group membership [] some on row =
-    let found = only (is_fresh lifetime moment) (membership_in rows (endpoint_group endpoint group)) in
-    let its : (one : Membership) → found ≡ Some one → endpoint_group endpoint group ≡ endpoint_group_of one =
-    λ one given. sym (GivesItsEndpointGroup-membership_in rows (endpoint_group endpoint group) one (only_found (is_fresh lifetime moment) (membership_in rows (endpoint_group endpoint group)) one given)) in
-    let old = old_row endpoint group found membership its row in
-    let sizes = ap (λ (sources : List Ip). length sources) (ap (λ (filter : FilterValue). filter.sources) (row_is endpoint group (renewed_filter_of found) membership row).filter) in record {
-      fresh = passes_only (is_fresh lifetime moment) (membership_in rows (endpoint_group endpoint group)) membership old;
+    let found = membership_in rows (endpoint_group endpoint group) in
+    let old = old_row endpoint group (only (is_fresh lifetime moment) found) membership
+    (λ one given. sym (GivesItsEndpointGroup-membership_in rows (endpoint_group endpoint group) one (only_parts (is_fresh lifetime moment) found one given).0)) row in
+    let sizes = ap (λ (one : Option Membership). length (filter_or_nothing (renewed_filter_of one)).sources) old in record {
+      fresh = (only_parts (is_fresh lifetime moment) found membership old).1;
       size = omega arith;
       old = λ none. old;
     }
 own_row_by lifetime moment endpoint records rows group membership (first ∷ later) some on row =
-    let found = only (is_fresh lifetime moment) (membership_in rows (endpoint_group endpoint group)) in
-    let is = renewed_filter_after_all-is moment first later (renewed_filter_of found) in
-    let row_is_of = row_is endpoint group (renewed_filter_after_all moment (first ∷ later) (renewed_filter_of found)) membership row in
-    let renewed = row_is_of.renewed _ is in
-    let filter = row_is_of.filter ∙ ap filter_or_nothing is in
-    let sizes = ap (λ (sources : List Ip). length sources) (ap (λ (one : FilterValue). one.sources) filter) in
-    let most = sources-filter_after_all (filter_or_nothing (renewed_filter_of found)) (first ∷ later) in
+    let found = renewed_filter_of (only (is_fresh lifetime moment) (membership_in rows (endpoint_group endpoint group))) in
+    let filter = filter_after_all (filter_or_nothing found) (first ∷ later) in
+    let is = membership_by (wants_any filter) (made endpoint group filter moment) membership (sym (ap (membership_of_renewed endpoint group) (renewed_filter_after_all-is moment first later found)) ∙ row) in
+    let renewed = ap (λ (one : Membership). one.renewed) is in
+    let sizes = ap (λ (one : Membership). length one.filter.sources) is in
+    let most = sources-filter_after_all (filter_or_nothing found) (first ∷ later) in
     let same = ap (sum_by (λ (one : Record). length one.sources)) on in record {
       fresh = lt-ltb _ _ (omega arith);
       size = omega arith;
@@ -108,7 +88,7 @@ renewed_size : (limits : Limits) (test : Membership → Bool) (rows : List Membe
     → length (filter_or_nothing (renewed_filter_of found)).sources ≤ limits.sources
 renewed_size limits test rows at within None is = omega arith
 renewed_size limits test rows at within (Some membership) is =
-    All-at (λ (one : Membership). size one ≤ limits.sources) rows at membership within.sources (only_found test (membership_in rows at) membership (sym is))
+    All-at (λ (one : Membership). size one ≤ limits.sources) rows at membership within.sources (only_parts test (membership_in rows at) membership (sym is)).0
 
 -- no membership of the endpoint has more sources than an old one and the report together
 pub own_sizes : (limits : Limits) (lifetime moment : ℕ) (endpoint : EndpointValue) (records : List Record) (rows own : List Membership) → 0 < lifetime → AreOwn lifetime moment endpoint records rows own
@@ -124,26 +104,40 @@ own_sizes limits lifetime moment endpoint records rows own some owned within =
     let most = row.size in
     omega arith)
 
-is_some-found : (found : Option Membership) (membership : Membership) → found ≡ Some membership → is_some found ≡ true
-is_some-found None membership found = cc
-is_some-found (Some one) membership found = refl
+given_by : (X : Type 0) (found : Option Membership) → is_some found ≡ true → ((membership : Membership) → found ≡ Some membership → X) → X
+given_by X None some given = cc
+given_by X (Some membership) some given = given membership refl
 
-has-groups : (records : List Record) (group : Ip) → has ip_order (map (λ (one : Record). one.group) records) group ≡ list_any (λ one. same_group group one.group) records
-has-groups [] group = refl
-has-groups (first ∷ later) group = ap (λ (more : Bool). same_group group first.group || more) (has-groups later group)
+either_by : (reported was : Bool) → (reported ≡ false → was ≡ true) → (was || reported) ≡ true
+either_by true was old = or_right was true refl
+either_by false was old = or_left was false (old refl)
 
-reported_or_old : (reported : Bool) (old : Bool) → (reported ≡ false → old ≡ true) → (reported || old) ≡ true
-reported_or_old true old either = refl
-reported_or_old false old either = either refl
-
--- each group of the endpoint stood before or is reported
+-- each pair of the endpoint had a membership before or is reported
 pub own_few : (lifetime moment : ℕ) (endpoint : EndpointValue) (records : List Record) (rows own : List Membership) → 0 < lifetime → IsAscending membership_order rows → AreOwn lifetime moment endpoint records rows own
     → length own ≤ group_count endpoint rows + length records
 own_few lifetime moment endpoint records rows own some ascends owned =
-    few_groups endpoint records rows own ascends owned.ascends owned.of
-    (λ group membership found. reported_or_old (has ip_order (map (λ (one : Record). one.group) records) group) (is_some (membership_in rows (endpoint_group endpoint group)))
-    (λ silent. is_some-found (membership_in rows (endpoint_group endpoint group)) membership (only_found (is_fresh lifetime moment) (membership_in rows (endpoint_group endpoint group)) membership
-    ((own_row lifetime moment endpoint records rows own group membership some owned found).old (on_none group records (sym (has-groups records group) ∙ silent))))))
+    let mine = filter (λ (one : Membership). same_endpoint one.endpoint endpoint) rows in
+    let was = map endpoint_group_of mine in
+    let reported = endpoint_groups_of endpoint records in
+    let fewer = length-le_from_is_member (eq_by_cmp_equiv endpoint_group_order-total) (map endpoint_group_of own) (was ++ reported)
+    (IsDistinct-from_sorted endpoint_group_order (map endpoint_group_of own) (IsAscending-pairs own owned.ascends))
+    (λ at listed. has-append endpoint_group_order was reported at ∙ given_by ((has endpoint_group_order was at || has endpoint_group_order reported at) ≡ true) (membership_in own at) (sym (has-pairs own at) ∙ listed)
+    (λ membership found. either_by (has endpoint_group_order reported at) (has endpoint_group_order was at)
+    (λ quiet. let exact = own_endpoint_group endpoint own at membership owned.of found in
+    let here : same_endpoint at.endpoint endpoint ≡ true = ap (λ (one : EndpointGroup). same_endpoint one.endpoint endpoint) exact ∙ ap is_eq (tied_itself endpoint_order-total endpoint) in
+    let row = own_row lifetime moment endpoint records rows own at.group membership some owned (ap (membership_in own) (sym exact) ∙ found) in
+    has-pairs mine at ∙ ap is_some (membership_in-where (λ (one : EndpointGroup). same_endpoint one.endpoint endpoint) rows at ascends
+    ∙ ap (λ (test : Bool). cond test (membership_in rows at) None) here ∙ ap (membership_in rows) exact
+    ∙ (only_parts (is_fresh lifetime moment) (membership_in rows (endpoint_group endpoint at.group)) membership (row.old (on_group-none endpoint records at here quiet))).0)))) in
+    omega (
+      arith,
+      fewer,
+      length-append was reported,
+      length-map mine endpoint_group_of,
+      length-filter (λ (one : Membership). same_endpoint one.endpoint endpoint) rows,
+      length-map own endpoint_group_of,
+      length-map records (λ (one : Record). endpoint_group endpoint one.group),
+    )
 
 -- what is left of a pair of the endpoint at a moment, where its memberships were replaced
 left_own : (test : Membership → Bool) (here : Bool) (own old : Option Membership) → (here ≡ true → own ≡ None) → (own ≡ None → here ≡ false → only test old ≡ None) → only test (if here then None else option_or own old) ≡ only test own
@@ -175,7 +169,7 @@ AreAfterReport-set lifetime moment endpoint records rows own now gone some ascen
           (λ none out. ap (λ (one : EndpointGroup). only test (membership_in rows one)) exact ∙ left.all at.group (ap (membership_in own) (sym exact) ∙ none) (ap (has endpoint_group_order gone) (sym exact) ∙ out))
           ∙ own_fresh lifetime moment endpoint records rows own at some owned))
           (λ apart. sym (left_other test (has endpoint_group_order gone at) (membership_in own at) (membership_in rows at)
-          (not_gone (has endpoint_group_order gone at) (same_endpoint at.endpoint endpoint) apart (left.of at)) (membership_in-of endpoint own at owned.of apart))));
+          (not_gone (has endpoint_group_order gone at) (same_endpoint at.endpoint endpoint) apart (left.of at)) (membership_in-of endpoint own at owned.ascends owned.of apart))));
     }
 
 -- memberships within the limits stay so by a report that passes none
