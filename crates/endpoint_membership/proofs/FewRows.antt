@@ -39,7 +39,8 @@ All-more : (endpoint : EndpointValue) (endpoints : List EndpointValue) (rows : L
 All-more endpoint endpoints [] each = tt
 All-more endpoint endpoints (membership ∷ rest) each = (or_right (same_endpoint membership.endpoint endpoint) _ each.0, All-more endpoint endpoints rest each.1)
 
-All-own : (rows : List Membership) → AllByRecursion (λ membership. has endpoint_order (endpoints_of rows) membership.endpoint ≡ true) rows
+-- the endpoint of each membership is among those of all
+pub All-own : (rows : List Membership) → AllByRecursion (λ membership. has endpoint_order (endpoints_of rows) membership.endpoint ≡ true) rows
 All-own [] = tt
 All-own (membership ∷ rest) =
     (rw ((eq_by_cmp_equiv endpoint_order-total).refl membership.endpoint) refl, All-more membership.endpoint (endpoints_of rest) rest (All-own rest))

@@ -1,9 +1,14 @@
 -- What holds of all memberships holds of the one that is found; and how many sources a report can bring.
-use Rattle.std.proofs.{Common.{◌≡◌, ℕ, ◌+◌, ◌≤◌, Bool, true, false, cond, not, List, [], ◌∷◌, ◌++◌, length, filter, Option, Some, sum_by, unwrap_or, refl, sym, ap, subst, arith, length-append}, lemmas.{List.{Filters.{length-filter_both, sum_by-filter_both}, Sums.{sum_by-cons}}}}
+use Rattle.std.proofs.{Common.{◌≡◌, ℕ, ◌+◌, ◌≤◌, Bool, true, false, cond, not, List, [], ◌∷◌, ◌++◌, length, filter, Option, Some, None, is_some, sum_by, unwrap_or, refl, sym, ap, subst, arith, length-append}, lemmas.{List.{Filters.{length-filter_both, sum_by-filter_both}, Sums.{sum_by-cons}}}}
 use Rattle.std.specs.List.{AllByRecursion, find}
 use Rattle.amt_values.{specs.{declared.address.Ip.{Ip}, Order.{ip_order}, Ascending.{has, ascending}}, proofs.AscendingLaws.{length-ascending}}
 use Rattle.source_filter.specs.{Filter.{FilterValue, filter_after, filter_after_all, sources_after}, declared.mode.Mode.{Mode, TheVariants.{Include, Exclude}}, declared.record.{Record.{Record}, RecordKind.{RecordKind, TheVariants.{Allow, Block}}}}
 use Rattle.endpoint_membership.specs.{EndpointGroup.{EndpointGroup, same_endpoint_group, same_group}, Log.{on_group}, Membership.{endpoint_group_of, Membership}, Memberships.{membership_in}}
+
+-- what follows from a membership that is there
+pub given_by : (X : Type 0) (found : Option Membership) → is_some found ≡ true → ((membership : Membership) → found ≡ Some membership → X) → X
+given_by X None some given = cc
+given_by X (Some membership) some given = given membership refl
 
 found_here : (P : Membership → Type 0) (passes : Bool) (one membership : Membership) (later : Option Membership) → P one → (Some membership ≡ later → P membership) → Some membership ≡ cond passes (Some one) later → P membership
 found_here P true one membership later first rest found = subst P (sym (ap (λ (each : Option Membership). unwrap_or each one) found)) first

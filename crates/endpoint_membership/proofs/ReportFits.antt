@@ -5,7 +5,7 @@ use Rattle.amt_values.{specs.{declared.address.Ip.{Ip}, EndpointValue.{EndpointV
 use Rattle.source_filter.specs.{Filter.{FilterValue, filter_after_all, wants_any}, Record.{item_count}, declared.record.Record.{Record}}
 use Rattle.endpoint_membership.specs.{Membership.{Membership, is_fresh, membership_order, endpoint_group_of}, declared.limits.Limits.{Limits}, Stored.{only}}
 use Rattle.endpoint_membership.specs.{Limits.{IsWithin, first_limit, group_count, size}, EndpointMemberships.{AreGone, AreOf, AreOwn, filter_or_nothing, membership_of_renewed, renewed_filter_after_all, renewed_filter_of}, Log.{on_group}}
-use Rattle.endpoint_membership.{specs.{EndpointGroup.{EndpointGroup, endpoint_group_order, same_endpoint}, Memberships.{endpoint_groups_of, membership_in}, Table.{AreLawful}}, proofs.ReportBounds.{All-at, sources-filter_after_all, sum_by-on_group}}
+use Rattle.endpoint_membership.{specs.{EndpointGroup.{EndpointGroup, endpoint_group_order, same_endpoint}, Memberships.{endpoint_groups_of, membership_in}, Table.{AreLawful}}, proofs.ReportBounds.{All-at, given_by, sources-filter_after_all, sum_by-on_group}}
 use Rattle.endpoint_membership.proofs.{EndpointGroupOrder.{endpoint_group_order-total}, MembershipsByLog.{membership_by, on_group-none}, MembershipIn.{has-pairs, All-from_membership_in, IsAscending-pairs, GivesItsEndpointGroup-membership_in, cond_by, membership_in-filter, membership_in-where}, AfterReport.{AreAfterReport, renewed_filter_after_all-is}, AfterEntries.{membership_in-of}, WithinLimits.{IsWithin-filter, IsWithin-report, on_none}}
 
 abbrev endpoint_group : EndpointValue → Ip → EndpointGroup
@@ -103,10 +103,6 @@ own_sizes limits lifetime moment endpoint records rows own some owned within =
     let added = sum_by-on_group at.group records in
     let most = row.size in
     omega arith)
-
-given_by : (X : Type 0) (found : Option Membership) → is_some found ≡ true → ((membership : Membership) → found ≡ Some membership → X) → X
-given_by X None some given = cc
-given_by X (Some membership) some given = given membership refl
 
 either_by : (reported was : Bool) → (reported ≡ false → was ≡ true) → (was || reported) ≡ true
 either_by true was old = or_right was true refl

@@ -3,14 +3,11 @@ use Rattle.std.proofs.{Common.{◌≡◌, Bool, true, false, not, cond, List, []
 use Rattle.std.specs.{List.{AllByRecursion}, Option.{option_or}, Ordering.{is_eq}, declared.cmp.Ordering.TheVariants.{Less}}
 use Rattle.amt_values.specs.Ascending.{IsAscending, has}
 use Rattle.endpoint_membership.specs.{EndpointGroup.{EndpointGroup, endpoint_group_order, same_endpoint_group}, Filters.{IsSetAt}, Membership.{Membership, endpoint_group_of, membership_order}, Memberships.{membership_in}, Stored.{is_known, only}}
-use Rattle.endpoint_membership.proofs.{KeysTogether.{All-passing}, MembershipIn.{has-pairs, AreAfter, membership_in-filter, same_endpoint_group-exact, same_rows}, SetAt.{same_back}}
+use Rattle.endpoint_membership.proofs.{KeysTogether.{All-passing}, MembershipIn.{AreAfter, GivesItsEndpointGroup-membership_in, has-pairs, membership_in-filter, same_rows}, ReportBounds.{All-at}, SetAt.{same_back}}
 
 -- no pair of the memberships has one
 abbrev pub AreAbsent : List Membership → List Membership → Type 0
 AreAbsent old memberships = AllByRecursion (λ membership. membership_in old (endpoint_group_of membership) ≡ None) memberships
-
-some_is_none : (membership : Membership) → Some membership ≡ None → ⊥
-some_is_none membership is = true≢false (ap is_some is)
 
 -- no later membership is of a pair that was just set
 pub absent_still : (membership : Membership) (rest before after : List Membership) → AreAfter (endpoint_group_of membership) rest → IsSetAt (endpoint_group_of membership) (Some membership) before after
@@ -22,7 +19,7 @@ absent_still membership (next ∷ rest) before after later set absent = (
 )
 
 elsewhere : (here : Bool) (membership : Membership) (later : Option Membership) → cond here (Some membership) later ≡ None → (here ≡ false) × (later ≡ None)
-elsewhere true membership later none = absurd (some_is_none membership none)
+elsewhere true membership later none = cc
 elsewhere false membership later none = (refl, none)
 
 -- a pair of none of the memberships has what it had
@@ -68,17 +65,10 @@ parted_again test rows old at ascends = rw (membership_in-filter test rows at as
     by None = refl
     by (Some membership) = either (test membership) membership
 
-absent_one : (old : List Membership) (here : Bool) (first membership : Membership) (found : Option Membership) (at : EndpointGroup) → same_endpoint_group at (endpoint_group_of first) ≡ here
-    → membership_in old (endpoint_group_of first) ≡ None → (found ≡ Some membership → membership_in old at ≡ None) → cond here (Some first) found ≡ Some membership → membership_in old at ≡ None
-absent_one old true first membership found at same none more is = ap (membership_in old) (same_endpoint_group-exact at (endpoint_group_of first) same) ∙ none
-absent_one old false first membership found at same none more is = more is
-
 -- what holds of each pair's membership before
-absent_at : (old rows : List Membership) (at : EndpointGroup) (membership : Membership) → AllByRecursion (λ one. membership_in old (endpoint_group_of one) ≡ None) rows → membership_in rows at ≡ Some membership
-    → membership_in old at ≡ None
-absent_at old [] at membership each found = absurd (some_is_none membership (sym found))
-absent_at old (first ∷ rows) at membership each found =
-    absent_one old (same_endpoint_group at (endpoint_group_of first)) first membership (membership_in rows at) at refl each.0 (λ more. absent_at old rows at membership each.1 more) found
+absent_at : (old rows : List Membership) (at : EndpointGroup) (membership : Membership) → AreAbsent old rows → membership_in rows at ≡ Some membership → membership_in old at ≡ None
+absent_at old rows at membership absent found =
+    ap (membership_in old) (sym (GivesItsEndpointGroup-membership_in rows at membership found)) ∙ All-at (λ (one : Membership). membership_in old (endpoint_group_of one) ≡ None) rows at membership absent found
 
 undone_by : (added now old : List Membership) (at : EndpointGroup) (found : Option Membership) → membership_in added at ≡ found → AllByRecursion (λ membership. membership_in old (endpoint_group_of membership) ≡ None) added
     → (membership_in added at ≡ None → membership_in now at ≡ membership_in old at) → cond (is_some found) None (membership_in now at) ≡ membership_in old at

@@ -5,7 +5,7 @@ use Rattle.amt_values.{specs.{declared.address.Ip.{Ip}, Order.{endpoint_order}, 
 use Rattle.source_filter.specs.{Filter.{admits}, declared.record.Record.{Record}}
 use Rattle.endpoint_membership.specs.{declared.change.Change.{Change, TheVariants.{Reported, Clear, Mark}}, Membership.{Membership, is_fresh, endpoint_group_of}, Admission.{is_admitted}, Stored.{AreTargets, is_target, only}, Limits.{live_count}, Log.{latest}}
 use Rattle.endpoint_membership.specs.{EndpointGroup.{EndpointGroup, endpoint_group_order, same_endpoint, same_group, same_endpoint_group}, Memberships.{endpoint_groups_in, endpoint_groups_of, membership_in, membership_at}, Table.{AreMembershipsAt, Holds, TableValue, TableSettings}}
-use Rattle.endpoint_membership.{specs.Targets.{endpoints_in, targets_of}, proofs.{MembershipsByLog.{bare}, CountedRows.{length-within}, CountedLive.{endpoints_of}, EndpointGroupOrder.{same_endpoint_group-is}, RowsAdmit.{admits-none, admits-row}, MembershipAt.{membership_at-later}}}
+use Rattle.endpoint_membership.{specs.Targets.{endpoints_in, targets_of}, proofs.{MembershipsByLog.{bare}, CountedRows.{length-within}, CountedLive.{endpoints_of}, FewRows.{All-own}, MembershipIn.{GivesItsEndpointGroup-membership_in}, ReportBounds.{All-at, given_by}, EndpointGroupOrder.{same_endpoint_group-is}, RowsAdmit.{admits-none, admits-row}, MembershipAt.{membership_at-later}}}
 
 abbrev at : EndpointValue → Ip → EndpointGroup
 at endpoint group = record { endpoint = endpoint; group = group }
@@ -14,17 +14,11 @@ some_by : (test : Membership → Bool) (found : Option Membership) → is_some (
 some_by test None some = some
 some_by test (Some membership) some = refl
 
-listed_by : (here on : Bool) (membership : Membership) (later : Option Membership) (more : Bool) → (is_some later ≡ true → more ≡ true) → is_some (cond (here && on) (Some membership) later) ≡ true → (here || more) ≡ true
-listed_by true on membership later more onward some = refl
-listed_by false on membership later more onward some = onward some
-
 -- the endpoint of a membership is among those of all
 listed : (rows : List Membership) (endpoint_group : EndpointGroup) → is_some (membership_in rows endpoint_group) ≡ true → has endpoint_order (endpoints_of rows) endpoint_group.endpoint ≡ true
-listed [] endpoint_group some = some
-listed (membership ∷ rest) endpoint_group some =
-    listed_by (same_endpoint endpoint_group.endpoint membership.endpoint) (same_group endpoint_group.group membership.group) membership (membership_in rest endpoint_group)
-    (has endpoint_order (endpoints_of rest) endpoint_group.endpoint) (listed rest endpoint_group)
-    (ap (λ (here : Bool). is_some (cond here (Some membership) (membership_in rest endpoint_group))) (sym (same_endpoint_group-is endpoint_group (endpoint_group_of membership))) ∙ some)
+listed rows endpoint_group some = given_by (has endpoint_order (endpoints_of rows) endpoint_group.endpoint ≡ true) (membership_in rows endpoint_group) some
+    (λ membership found. ap (λ (one : EndpointGroup). has endpoint_order (endpoints_of rows) one.endpoint) (sym (GivesItsEndpointGroup-membership_in rows endpoint_group membership found))
+    ∙ All-at (λ (one : Membership). has endpoint_order (endpoints_of rows) one.endpoint ≡ true) rows endpoint_group membership (All-own rows) found)
 
 -- targets are at most the live endpoints
 pub length-targets : (lifetime moment : ℕ) (group source : Ip) (rows : List Membership) (endpoints : List EndpointValue) → AreTargets lifetime moment group source rows endpoints → length endpoints ≤ live_count rows
